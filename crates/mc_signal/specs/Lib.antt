@@ -1,0 +1,5 @@
+pub mod Codecs
+pub mod Choice
+pub mod Empty
+pub mod Own
+pub mod Same

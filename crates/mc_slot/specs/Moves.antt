@@ -1,0 +1,108 @@
+-- What a slot may send and what it takes, and what it is and keeps after that, as functions.
+use Rattle.std.specs.Prelude.{Option, Some, None, Bool, true, false, if◌then◌else◌, List, [], ◌∷◌}
+use Rattle.std.specs.Option.{option_and_then}
+use Rattle.mc_signal.specs.declared.Descriptor.{Descriptor}
+use Rattle.mc_signal.specs.declared.Medium.{Medium}
+use Rattle.mc_signal.specs.declared.Medium.TheVariants.{Audio, Video}
+use Rattle.mc_signal.specs.declared.Signal.{Signal}
+use Rattle.mc_signal.specs.declared.Signal.TheVariants.{Open, Oack, Close, Closeack, Describe, Select}
+use Rattle.mc_slot.specs.declared.Slot.{Slot}
+use Rattle.mc_slot.specs.declared.State.{State}
+use Rattle.mc_slot.specs.declared.State.TheVariants.{Closed, Opening, Opened, Flowing, Closing}
+
+-- a closed slot, which keeps nothing
+abbrev pub closed_slot : Medium → Bool → Slot
+closed_slot medium initiator = record { state = Closed; medium = medium; initiator = initiator; sent = None; got = None; sel_out = None; sel_in = None }
+
+-- a slot that enters a state and keeps nothing
+abbrev pub cleared : Slot → State → Slot
+cleared slot state = record slot { state = state; sent = None; got = None; sel_out = None; sel_in = None }
+
+-- the slot in another state, keeping what it kept
+abbrev pub moved : Slot → State → Slot
+moved slot state = record slot { state = state }
+
+-- opened by the other side, and keeping its descriptor
+abbrev pub opened_by : Slot → Descriptor → Slot
+opened_by slot d = record (cleared slot Opened) { got = Some d }
+
+abbrev pub is_same_medium : Medium → Medium → Bool
+is_same_medium Audio Audio = true
+is_same_medium Video Video = true
+is_same_medium m n = false
+
+-- an open is of the slot's medium
+abbrev pub fits_medium : Slot → Signal → Bool
+fits_medium slot (Open medium d) = is_same_medium medium slot.medium
+fits_medium slot signal = true
+
+-- what a taking gives: the answer, where one is due, and the slot after it
+pub record Took : Type 0 where
+  pub answer : Option Signal
+  pub after : Slot
+
+-- takes the signal, owes no answer
+abbrev pub silent : Slot → Option Took
+silent after = Some record { answer = None; after = after }
+
+-- takes the signal and owes a closeack
+abbrev pub acked : Slot → Option Took
+acked after = Some record { answer = Some Closeack; after = after }
+
+-- the slot after sending in this state, if the signal may be sent
+abbrev pub sent_in : State → Slot → Signal → Option Slot
+sent_in Closed slot (Open medium d) = Some (record (cleared slot Opening) { sent = Some d })
+sent_in Opening slot Close = Some (moved slot Closing)
+sent_in Opened slot (Oack d) = Some (record (moved slot Flowing) { sent = Some d })
+sent_in Opened slot Close = Some (moved slot Closing)
+sent_in Flowing slot (Describe d) = Some (record slot { sent = Some d })
+sent_in Flowing slot (Select s) = Some (record slot { sel_out = Some s })
+sent_in Flowing slot Close = Some (moved slot Closing)
+sent_in state slot signal = None
+
+-- what a taking in this state gives, if the signal is lawful
+abbrev pub taken_in : State → Slot → Signal → Option Took
+taken_in Closed slot (Open medium d) = silent (opened_by slot d)
+taken_in Opening slot (Open medium d) = silent (if slot.initiator then slot else opened_by slot d)
+taken_in Opening slot (Oack d) = silent (record (moved slot Flowing) { got = Some d })
+taken_in Opening slot Close = acked (cleared slot Closed)
+taken_in Opened slot Close = acked (cleared slot Closed)
+taken_in Flowing slot (Describe d) = silent (record slot { got = Some d })
+taken_in Flowing slot (Select s) = silent (record slot { sel_in = Some s })
+taken_in Flowing slot Close = acked (cleared slot Closed)
+taken_in Closing slot (Open medium d) = silent slot
+taken_in Closing slot (Oack d) = silent slot
+taken_in Closing slot (Describe d) = silent slot
+taken_in Closing slot (Select s) = silent slot
+taken_in Closing slot Close = acked slot
+taken_in Closing slot Closeack = silent (cleared slot Closed)
+taken_in state slot signal = None
+
+-- the slot after sending, if the signal may be sent
+abbrev pub sent : Slot → Signal → Option Slot
+sent slot signal = if fits_medium slot signal then sent_in slot.state slot signal else None
+
+-- what a taking gives, if the signal is lawful
+abbrev pub taken : Slot → Signal → Option Took
+taken slot signal = if fits_medium slot signal then taken_in slot.state slot signal else None
+
+-- whether the signal is an open of the slot's medium
+abbrev pub is_open_for : Slot → Signal → Bool
+is_open_for slot (Open medium d) = is_same_medium medium slot.medium
+is_open_for slot signal = false
+
+-- opened or flowing
+abbrev pub is_live : State → Bool
+is_live Opened = true
+is_live Flowing = true
+is_live state = false
+
+-- the slot after sending signals one after another, if each of them may be sent
+abbrev pub sent_all : Slot → List Signal → Option Slot
+sent_all slot [] = Some slot
+sent_all slot (signal ∷ signals) = option_and_then (λ next. sent_all next signals) (sent slot signal)
+
+-- the answer of a taking, as a list
+abbrev pub answered : Option Signal → List Signal
+answered None = []
+answered (Some signal) = signal ∷ []

@@ -1,0 +1,13 @@
+//! Laws of the slot, over its definitions alone: each function's contract is the law's sentence.
+
+ghost use Rattle.mc_slot.specs.MoveTable.{SendsByTable, TakesByTable};
+
+/// What a slot may send, as a function, is what the table of the slot says case by case.
+pub fn sends_by_table()
+    ensures { SendsByTable }
+{}
+
+/// What a slot takes, as a function, is what the table of the slot says case by case.
+pub fn takes_by_table()
+    ensures { TakesByTable }
+{}
