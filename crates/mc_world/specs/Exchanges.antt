@@ -1,0 +1,97 @@
+-- Worked exchanges of two phones, computed by the definitions alone. alice can do with the codecs 0 and 1, bob with 1.
+use Rattle.std.specs.Prelude.{◌≡◌, ℕ, ◌≤◌, true, false, List, [], ◌∷◌, replicate}
+use Rattle.std.proofs.Common.{arith}
+use Rattle.std.proofs.lemmas.Grind.{common_steps}
+use Rattle.mc_signal.specs.Codecs.{AreCodecs, AreDistinct, IsBlankFrom}
+use Rattle.mc_signal.specs.declared.codec_list.CodecList.{CodecList}
+use Rattle.mc_signal.specs.declared.Medium.TheVariants.{Audio}
+use Rattle.mc_slot.specs.declared.Goal.{Goal}
+use Rattle.mc_slot.specs.declared.Goal.TheVariants.{Open as ToOpen, Hold as ToHold}
+use Rattle.mc_slot.specs.declared.State.{State}
+use Rattle.mc_world.specs.Boxes.{first_box}
+use Rattle.mc_world.specs.PathTable.{PathHolds, path_state}
+use Rattle.mc_world.specs.Paths.{PathEnds, paths}
+use Rattle.mc_world.specs.Settles.{IsSettled}
+use Rattle.mc_world.specs.Steps.{after}
+use Rattle.mc_world.specs.Worlds.{WorldState, first_world}
+use Rattle.mc_world.specs.declared.event.Change.TheVariants.{End as NewEnd}
+use Rattle.mc_world.specs.declared.event.Event.{Event}
+use Rattle.mc_world.specs.declared.event.Event.TheVariants.{Take, Set, Retry}
+use Rattle.mc_world.specs.declared.event.Kind.TheVariants.{Device}
+use Rattle.mc_world.specs.declared.event.Turn.{Turn}
+
+abbrev pub both_entries : List ℕ
+both_entries = 0 ∷ 1 ∷ replicate 6 0
+
+abbrev pub one_entries : List ℕ
+one_entries = 1 ∷ replicate 7 0
+
+pub both_short : 2 ≤ 8
+both_short = omega arith
+
+pub both_known : AreCodecs 2 both_entries
+both_known k below = grind (arith, common_steps)
+
+pub both_distinct : AreDistinct 2 both_entries
+both_distinct j k less below = grind (arith, common_steps)
+
+pub both_blank : IsBlankFrom 2 both_entries
+both_blank k above = grind (arith, common_steps)
+
+pub one_short : 1 ≤ 8
+one_short = omega arith
+
+pub one_known : AreCodecs 1 one_entries
+one_known k below = grind (arith, common_steps)
+
+pub one_distinct : AreDistinct 1 one_entries
+one_distinct j k less below = grind arith
+
+pub one_blank : IsBlankFrom 1 one_entries
+one_blank k above = grind (arith, common_steps)
+
+abbrev pub both_codecs : CodecList
+both_codecs = record { len = 2; at = both_entries; short = both_short; known = both_known; distinct = both_distinct; blank = both_blank }
+
+abbrev pub one_codec : CodecList
+one_codec = record { len = 1; at = one_entries; short = one_short; known = one_known; distinct = one_distinct; blank = one_blank }
+
+abbrev pub two_phones : WorldState
+two_phones = first_world
+    (first_box Device 0 both_codecs both_codecs 1 (record { origin = 0; medium = Audio; initiator = true } ∷ [])
+    ∷ first_box Device 1 one_codec one_codec 1 (record { origin = 1; medium = Audio; initiator = false } ∷ [])
+    ∷ [])
+    (record { from = 0; to = 1; tunnels = record { medium = Audio; from = 0; to = 0 } ∷ [] } ∷ [])
+
+abbrev pub alice : Event → Turn
+alice event = record { who = 0; event = event }
+
+abbrev pub bob : Event → Turn
+bob event = record { who = 1; event = event }
+
+abbrev pub sets : Goal → Event
+sets goal = Set (NewEnd 0 goal)
+
+abbrev pub takes : Event
+takes = Take 0
+
+abbrev pub path : PathEnds
+path = record { low = 0; high = 1 }
+
+-- alice opens, and bob holds
+abbrev pub opens_held : List Turn
+opens_held = alice (sets ToOpen) ∷ bob (sets ToHold) ∷ bob takes ∷ alice takes ∷ bob takes ∷ alice takes ∷ []
+
+-- alice opens, bob refuses, and refuses again
+abbrev pub opens_closed : List Turn
+opens_closed = alice (sets ToOpen) ∷ bob takes ∷ alice takes ∷ bob takes ∷ alice (Retry 0) ∷ bob takes ∷ alice takes ∷ bob takes ∷ []
+
+abbrev pub nobody : List Turn
+nobody = []
+
+-- the turns settle the batch, and leave the one path in this state, with its two slots as the line says
+pub record Ends (batch turns : List Turn) (answer : State) : Type 0 where
+  pub settled : IsSettled two_phones batch turns (after two_phones turns)
+  pub paths : paths (after two_phones turns) ≡ path ∷ []
+  pub state : path_state (after two_phones turns) path ≡ answer
+  pub holds : PathHolds (after two_phones turns) path

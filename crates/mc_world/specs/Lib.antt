@@ -1,0 +1,9 @@
+pub mod BoxEvents
+pub mod Boxes
+pub mod PathTable
+pub mod Paths
+pub mod Settles
+pub mod Sound
+pub mod Steps
+pub mod Worlds
+pub mod Exchanges

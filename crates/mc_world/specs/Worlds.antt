@@ -1,0 +1,131 @@
+-- A world as clauses see it: boxes, channels and lanes, and the numbers of its slots.
+use Rattle.std.specs.Prelude.{ℕ, ◌+◌, ◌-◌, ◌*◌, ◌/◌, ◌%◌, ◌==◌, ◌&&◌, Bool, if◌then◌else◌, List, [], ◌∷◌, ◌++◌, length, replicate, position, slice_index_or, Option, Some, None}
+use Rattle.std.specs.List.{flat_map}
+use Rattle.mc_signal.specs.declared.Descriptor.{Descriptor}
+use Rattle.mc_signal.specs.declared.Medium.{Medium}
+use Rattle.mc_signal.specs.declared.Medium.TheVariants.{Audio}
+use Rattle.mc_signal.specs.declared.Sender.{Sender}
+use Rattle.mc_signal.specs.declared.Signal.{Signal}
+use Rattle.mc_signal.specs.declared.Tagged.{Tagged}
+use Rattle.mc_slot.specs.declared.Slot.{Slot}
+use Rattle.mc_slot.specs.declared.SlotGoal.{SlotGoal}
+use Rattle.mc_world.specs.Boxes.{BoxState, no_box, slot_at, goal_at, own, sender}
+use Rattle.mc_world.specs.declared.network.Tunnel.{Tunnel}
+
+-- a channel: the numbers of its two boxes, the initiator's first, and its tunnels
+pub record ChannelState : Type 0 where
+  pub from : ℕ
+  pub to : ℕ
+  pub tunnels : List Tunnel
+
+-- boxes, channels, and for each channel and direction a lane of the signals under way. Lane 2k leads to the initiator's end of channel k, and lane 2k + 1 to the other
+pub record WorldState : Type 0 where
+  pub boxes : List BoxState
+  pub channels : List ChannelState
+  pub lanes : List (List Tagged)
+
+-- ---- tunnels and the numbers of slots
+
+-- a tunnel: its channel, its number within the channel, its medium, and the boxes and local numbers of its two slots, the initiator's first
+pub record Joint : Type 0 where
+  pub channel : ℕ
+  pub within : ℕ
+  pub medium : Medium
+  pub from : ℕ × ℕ
+  pub to : ℕ × ℕ
+
+-- these tunnels of a channel, numbered within it from a number on
+abbrev pub joints_within : ℕ → ℕ → ChannelState → List Tunnel → List Joint
+joints_within channel within ends [] = []
+joints_within channel within ends (tunnel ∷ tunnels) =
+    record { channel = channel; within = within; medium = tunnel.medium; from = (ends.from, tunnel.from); to = (ends.to, tunnel.to) }
+    ∷ joints_within channel (within + 1) ends tunnels
+
+-- the tunnels of these channels, numbered from a number on
+abbrev pub joints_from : ℕ → List ChannelState → List Joint
+joints_from channel [] = []
+joints_from channel (ends ∷ channels) = joints_within channel 0 ends ends.tunnels ++ joints_from (channel + 1) channels
+
+-- all tunnels, counted over all channels in their order
+abbrev pub joints : WorldState → List Joint
+joints world = joints_from 0 world.channels
+
+abbrev pub places_of : Joint → List (ℕ × ℕ)
+places_of joint = joint.from ∷ joint.to ∷ []
+
+-- the box and local number of each slot, by the slot's number: tunnel t has the slots 2t, on the initiator's side, and 2t + 1
+abbrev pub places : WorldState → List (ℕ × ℕ)
+places world = flat_map places_of (joints world)
+
+abbrev pub slot_count : WorldState → ℕ
+slot_count world = length (places world)
+
+abbrev pub place : WorldState → ℕ → ℕ × ℕ
+place world s = slice_index_or (places world) s (0, 0)
+
+abbrev pub is_place : ℕ × ℕ → ℕ × ℕ → Bool
+is_place p q = p.0 == q.0 && p.1 == q.1
+
+-- the number of a box's slot
+abbrev pub number : WorldState → ℕ → ℕ → Option ℕ
+number world who local = position (is_place (who, local)) (places world)
+
+-- the slot at the other end of a slot's tunnel
+abbrev pub far : ℕ → ℕ
+far s = if s % 2 == 0 then s + 1 else s - 1
+
+abbrev pub no_joint : Joint
+no_joint = record { channel = 0; within = 0; medium = Audio; from = (0, 0); to = (0, 0) }
+
+-- the tunnel of a slot
+abbrev pub joint_of : WorldState → ℕ → Joint
+joint_of world s = slice_index_or (joints world) (s / 2) no_joint
+
+-- ---- what a slot has
+
+abbrev pub box_at : WorldState → ℕ → BoxState
+box_at world who = slice_index_or world.boxes who no_box
+
+abbrev pub slot_of : WorldState → ℕ → Slot
+slot_of world s = slot_at (box_at world (place world s).0) (place world s).1
+
+abbrev pub goal_of : WorldState → ℕ → SlotGoal
+goal_of world s = goal_at (box_at world (place world s).0) (place world s).1
+
+abbrev pub own_descriptor : WorldState → ℕ → Descriptor
+own_descriptor world s = own (box_at world (place world s).0) (place world s).1
+
+abbrev pub own_sender : WorldState → ℕ → Sender
+own_sender world s = sender (box_at world (place world s).0) (place world s).1
+
+-- ---- lanes
+
+-- the lane that leads to a slot
+abbrev pub lane_of : WorldState → ℕ → ℕ
+lane_of world s = 2 * (joint_of world s).channel + s % 2
+
+abbrev pub lane_to : WorldState → ℕ → List Tagged
+lane_to world s = slice_index_or world.lanes (lane_of world s) []
+
+-- what a lane has for one of its tunnels, in order
+abbrev pub for_tunnel : ℕ → List Tagged → List Signal
+for_tunnel tunnel [] = []
+for_tunnel tunnel (tagged ∷ rest) = if tagged.tunnel == tunnel then tagged.signal ∷ for_tunnel tunnel rest else for_tunnel tunnel rest
+
+-- the signals under way to a slot
+abbrev pub list_to : WorldState → ℕ → List Signal
+list_to world s = for_tunnel (joint_of world s).within (lane_to world s)
+
+abbrev pub front_for : ℕ → List Tagged → Option Signal
+front_for tunnel [] = None
+front_for tunnel (tagged ∷ rest) = if tagged.tunnel == tunnel then Some tagged.signal else None
+
+-- the signal that a slot can take now: the front of its lane, where that is for its tunnel
+abbrev pub front : WorldState → ℕ → Option Signal
+front world s = front_for (joint_of world s).within (lane_to world s)
+
+-- ---- a world as new
+
+-- nothing is under way
+abbrev pub first_world : List BoxState → List ChannelState → WorldState
+first_world boxes channels = record { boxes = boxes; channels = channels; lanes = replicate (2 * length channels) [] }

@@ -1,0 +1,10 @@
+//! Boxes, the channels between them, and the signals under way: the world in which a call is settled.
+#![tactic(auto)]
+
+mod event;
+mod media_box;
+mod network;
+
+pub use event::{BoxShape, Change, Event, Kind, MediaChange, Shape, Turn};
+pub use media_box::{MediaBox, Setup, SlotMedia, SlotSetup};
+pub use network::{Channel, Tunnel, World};
