@@ -1,0 +1,83 @@
+// A source over bytes in memory, some of whose calls fail.
+ghost use Rattle.std.specs.Prelude.{◌≡◌, ◌<◌, ◌≤◌, ◌+◌, ◌-◌, ◌^◌, ◌↔◌, IsErr, IfOk, Some, drop, length, min, take, vec_len};
+ghost use Rattle.std.specs.Io.{ReadsAtMost};
+ghost use Rattle.std.specs.Io.KnownBytes.{ReadConsumes};
+ghost use Rattle.mc_top.specs.Causes.{HasCause};
+ghost use Rattle.mc_top.specs.Bytes.{Fails};
+
+use crate::io::{Failed, Source};
+
+/// Gives its bytes from `at` on, at most `per_call` in a call. The calls whose numbers, from 1, stand in
+/// `failing` fail.
+#[derive(Drop)]
+pub struct MemSource {
+    pub bytes: Vec<u8>,
+    pub at: usize,
+    pub per_call: usize,
+    pub failing: Vec<u64>,
+    pub calls: u64,
+    pub failed: u64,
+    pub ghost gives: { 0 < per_call },
+    pub ghost within: { at ≤ vec_len bytes },
+}
+
+impl MemSource {
+    pub fn new(bytes: Vec<u8>, per_call: usize, failing: Vec<u64>) -> MemSource
+        requires { 0 < per_call }
+        ensures bytes { result.bytes ≡ bytes }
+        ensures at { result.at ≡ 0 }
+        ensures per_call { result.per_call ≡ per_call }
+        ensures failing { result.failing ≡ failing }
+        ensures calls { result.calls ≡ 0 }
+        ensures failed { result.failed ≡ 0 }
+    {
+        MemSource {
+            bytes,
+            at: 0,
+            per_call,
+            failing,
+            calls: 0,
+            failed: 0,
+        }
+    }
+}
+
+impl Source for MemSource {
+    ghost left = { λ s. Some (drop s.at s.bytes.items) };
+
+    ghost faults = { λ s. s.failed };
+
+    fn read(&mut self, buf: &mut [u8]) -> Result<usize, Failed>
+        // as in the trait
+        ensures bound { ReadsAtMost result buf.new }
+        ensures bytes { ReadConsumes (Some (drop self.old.at self.old.bytes.items)) (Some (drop self.new.at self.new.bytes.items)) result buf.new }
+        ensures cause { HasCause self.old.failed self.new.failed result }
+
+        // A call fails exactly where its number is in the list.
+        ensures fails { IsErr result ↔ Fails self.old.failing.items self.old.calls }
+        ensures given { IfOk result (λ count. count ≤ self.old.per_call) }
+        ensures calls { self.new.calls ≡ min (self.old.calls + 1) (2 ^ 64 - 1) }
+        ensures rest { (self.new.bytes.items ≡ self.old.bytes.items) × (self.new.per_call ≡ self.old.per_call) × (self.new.failing ≡ self.old.failing) }
+    {
+        if self.calls < u64::MAX {
+            self.calls += 1;
+            if self.failing.contains(&self.calls) {
+                self.failed = self.failed.saturating_add(1);
+                return Err(Failed);
+            }
+        }
+        let count = copy_front(&self.bytes[self.at..], buf, self.per_call);
+        self.at += count;
+        Ok(count)
+    }
+}
+
+// Copies bytes from the front of `from` to the front of `to`, at most `most`, and says how many.
+fn copy_front(from: &[u8], to: &mut [u8], most: usize) -> usize
+    ensures count { result ≡ min (min (length from.now) (length to.old)) most }
+    ensures copied { take result to.new ≡ take result from.now }
+{
+    let count = from.len().min(to.len()).min(most);
+    to[..count].copy_from_slice(&from[..count]);
+    count
+}

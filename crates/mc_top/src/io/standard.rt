@@ -1,0 +1,68 @@
+// The readers and writers of std as a source and a sink. They tell no bytes.
+ghost use Rattle.std.specs.Prelude.{◌≡◌, None};
+
+use crate::io::{Failed, Sink, Source};
+use std::io::{Read, Write};
+
+/// A reader, and how often it has failed.
+#[derive(Drop)]
+pub struct StdSource<R: Read> {
+    reader: R,
+    failed: u64,
+}
+
+impl<R: Read> StdSource<R> {
+    pub fn new(reader: R) -> StdSource<R> {
+        StdSource { reader, failed: 0 }
+    }
+}
+
+impl<R: Read> Source for StdSource<R> {
+    ghost left = { λ s. R.remaining s.reader };
+
+    ghost faults = { λ s. s.failed };
+
+    fn read(&mut self, buf: &mut [u8]) -> Result<usize, Failed> {
+        match self.reader.read(buf) {
+            Ok(count) => Ok(count),
+            Err(_) => {
+                self.failed = self.failed.saturating_add(1);
+                Err(Failed)
+            }
+        }
+    }
+}
+
+/// A writer, and how often it has failed.
+#[derive(Drop)]
+pub struct StdSink<W: Write> {
+    writer: W,
+    failed: u64,
+}
+
+impl<W: Write> StdSink<W> {
+    pub fn new(writer: W) -> StdSink<W> {
+        StdSink { writer, failed: 0 }
+    }
+}
+
+impl<W: Write> Sink for StdSink<W> {
+    ghost written = { λ s. W.contents s.writer };
+
+    ghost faults = { λ s. s.failed };
+
+    fn write(&mut self, piece: &[u8]) -> Result<usize, Failed> {
+        match self.writer.write(piece) {
+            Ok(count) => {
+                if count == 0 && !piece.is_empty() {
+                    self.failed = self.failed.saturating_add(1);
+                }
+                Ok(count)
+            }
+            Err(_) => {
+                self.failed = self.failed.saturating_add(1);
+                Err(Failed)
+            }
+        }
+    }
+}

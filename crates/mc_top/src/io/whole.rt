@@ -1,0 +1,84 @@
+// A whole text read, a whole output written.
+ghost use Rattle.std.specs.Prelude.{◌≡◌, ◌+◌, ◌^◌, ◌<◌, ◌≤◌, ℕ, List, take, length, vec_len, IfOk, IfSome, OnOk, OnErr, IsErrOf};
+ghost use Rattle.std.specs.Io.KnownBytes.{Appends, Consumes, IsAtEnd};
+ghost use Rattle.mc_top.specs.Causes.{HasCause, Rose};
+ghost use Rattle.mc_top.specs.Bytes.{AppendsPart, ConsumesAtMost};
+ghost use Rattle.mc_top.specs.declared.io.whole.ReadFault.TheVariants.{Failed, NoMemory};
+
+use crate::io::{Failed, Sink, Source};
+use std::alloc::{AllocError, AllocFailed, Global};
+
+/// Why a text isn't had.
+#[derive(Debug, Drop)]
+pub enum ReadFault {
+    Failed,
+    NoMemory(AllocError),
+}
+
+impl From<AllocError> for ReadFault {
+    ghost from_gives = { λ e f. f ≡ NoMemory e };
+
+    fn from(e: AllocError) -> Self {
+        ReadFault::NoMemory(e)
+    }
+}
+
+impl From<Failed> for ReadFault {
+    ghost from_gives = { λ _ f. f ≡ Failed };
+
+    fn from(_: Failed) -> Self {
+        ReadFault::Failed
+    }
+}
+
+const CHUNK: usize = 4096;
+
+/// All bytes that the source has left, or the first of them up to one more than the limit.
+pub fn read_up_to<S: Source>(
+    alloc: Global,
+    source: &mut S,
+    limit: usize,
+) -> Result<Vec<u8>, ReadFault>
+    requires { limit < 2 ^ 32 }
+
+    ensures text { IfOk result (λ text. IfSome (S.left source.old) (λ left. text.items ≡ take (limit + 1) left)) }
+    ensures capped { IfOk result (λ text. vec_len text ≤ limit + 1) }
+    ensures consumed { IfOk result (λ text. Consumes (S.left source.old) (S.left source.new) text.items) }
+    ensures at_end { IfOk result (λ text. vec_len text ≤ limit → IsAtEnd (S.left source.new)) }
+
+    // No more is taken from the source, also where it fails.
+    ensures at_most { ConsumesAtMost (S.left source.old) (S.left source.new) (limit + 1) }
+
+    ensures faults { S.faults source.old ≤ S.faults source.new }
+    ensures failed { IsErrOf result ReadFault.Failed → Rose (S.faults source.old) (S.faults source.new) }
+{
+    let mut text = Vec::new(alloc);
+    let mut chunk = [0; CHUNK];
+    while text.len() <= limit {
+        let room = CHUNK.min(limit + 1 - text.len());
+        text.reserve(room)?;
+        let count = source.read(&mut chunk[..room])?;
+        if count == 0 {
+            break;
+        }
+        text.extend_from_slice(&chunk[..count]).unwrap();
+    }
+    Ok(text)
+}
+
+/// Writes all these bytes.
+pub fn write_whole<K: Sink>(sink: &mut K, bytes: &[u8]) -> Result<(), Failed>
+    ensures ok { OnOk result (Appends (K.written sink.old) (K.written sink.new) bytes.now) }
+    ensures err { OnErr result (AppendsPart (K.written sink.old) (K.written sink.new) bytes.now) }
+    ensures cause { HasCause (K.faults sink.old) (K.faults sink.new) result }
+{
+    let mut at = 0;
+    while at < bytes.len() {
+        let count = sink.write(&bytes[at..])?;
+        if count == 0 {
+            return Err(Failed);
+        }
+        at += count;
+    }
+    Ok(())
+}

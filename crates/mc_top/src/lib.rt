@@ -1,0 +1,4 @@
+//! The top call of the program: it reads a text, settles its calls, and prints their paths.
+#![tactic(auto)]
+
+pub mod io;
