@@ -2,3 +2,6 @@
 #![tactic(auto)]
 
 pub mod io;
+mod script;
+
+pub use script::{Command, JournalLine, Keyword, Section};
