@@ -1,1 +1,2 @@
-pub mod Exchanges
+mod Exchanges
+mod NewLanes

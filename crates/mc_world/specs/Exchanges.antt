@@ -1,19 +1,22 @@
 -- Worked exchanges of two phones, computed by the definitions alone. alice can do with the codecs 0 and 1, bob with 1.
-use Rattle.std.specs.Prelude.{◌≡◌, ℕ, ◌≤◌, true, false, List, [], ◌∷◌, replicate}
+use Rattle.std.specs.Prelude.{◌≡◌, ℕ, ◌≤◌, true, false, List, [], ◌∷◌, ◌++◌, replicate, Option, Some, None, IsSome, IsTrue}
+use Rattle.std.specs.Option.{option_and_then}
 use Rattle.std.proofs.Common.{arith}
 use Rattle.std.proofs.lemmas.Grind.{common_steps}
 use Rattle.mc_signal.specs.Codecs.{AreCodecs, AreDistinct, IsBlankFrom}
 use Rattle.mc_signal.specs.declared.codec_list.CodecList.{CodecList}
 use Rattle.mc_signal.specs.declared.Medium.TheVariants.{Audio}
 use Rattle.mc_slot.specs.declared.Goal.{Goal}
-use Rattle.mc_slot.specs.declared.Goal.TheVariants.{Open as ToOpen, Hold as ToHold}
+use Rattle.mc_slot.specs.declared.Goal.TheVariants.{Open as ToOpen, Close as ToClose, Hold as ToHold}
+use Rattle.mc_slot.specs.declared.Slot.{Slot}
 use Rattle.mc_slot.specs.declared.State.{State}
+use Rattle.mc_slot.specs.declared.State.TheVariants.{Closed, Flowing}
 use Rattle.mc_world.specs.Boxes.{first_box}
-use Rattle.mc_world.specs.PathTable.{PathHolds, path_state}
-use Rattle.mc_world.specs.Paths.{PathEnds, paths}
-use Rattle.mc_world.specs.Settles.{IsSettled}
-use Rattle.mc_world.specs.Steps.{after}
-use Rattle.mc_world.specs.Worlds.{WorldState, first_world}
+use Rattle.mc_world.specs.PathTable.{path_state, low_hears, high_hears}
+use Rattle.mc_world.specs.Paths.{PathEnds, paths, has_ring}
+use Rattle.mc_world.specs.Settles.{rests}
+use Rattle.mc_world.specs.Steps.{run, after}
+use Rattle.mc_world.specs.Worlds.{WorldState, first_world, slot_of}
 use Rattle.mc_world.specs.declared.event.Change.TheVariants.{End as NewEnd}
 use Rattle.mc_world.specs.declared.event.Event.{Event}
 use Rattle.mc_world.specs.declared.event.Event.TheVariants.{Take, Set, Retry}
@@ -82,16 +85,44 @@ path = record { low = 0; high = 1 }
 abbrev pub opens_held : List Turn
 opens_held = alice (sets ToOpen) ∷ bob (sets ToHold) ∷ bob takes ∷ alice takes ∷ bob takes ∷ alice takes ∷ []
 
--- alice opens, bob refuses, and refuses again
+-- alice opens, and bob, who was left closed, refuses; he refuses the retry too
 abbrev pub opens_closed : List Turn
 opens_closed = alice (sets ToOpen) ∷ bob takes ∷ alice takes ∷ bob takes ∷ alice (Retry 0) ∷ bob takes ∷ alice takes ∷ bob takes ∷ []
 
-abbrev pub nobody : List Turn
-nobody = []
+-- both hold from the start
+abbrev pub holds_held : List Turn
+holds_held = alice (sets ToHold) ∷ bob (sets ToHold) ∷ []
 
--- the turns settle the batch, and leave the one path in this state, with its two slots as the line says
-pub record Ends (batch turns : List Turn) (answer : State) : Type 0 where
-  pub settled : IsSettled two_phones batch turns (after two_phones turns)
-  pub paths : paths (after two_phones turns) ≡ path ∷ []
-  pub state : path_state (after two_phones turns) path ≡ answer
-  pub holds : PathHolds (after two_phones turns) path
+-- alice holds after the media have flowed
+abbrev pub flows_held : List Turn
+flows_held = opens_held ++ alice (sets ToHold) ∷ []
+
+-- alice opens and closes before bob has taken anything
+abbrev pub opens_and_closes : List Turn
+opens_and_closes = alice (sets ToOpen) ∷ alice (sets ToClose) ∷ bob (sets ToHold) ∷ bob takes ∷ alice takes ∷ alice takes ∷ bob takes ∷ alice takes ∷ []
+
+-- the codec of the selector that a slot last got
+abbrev pub selected : Slot → Option ℕ
+selected slot = option_and_then (λ selector. selector.codec) slot.sel_in
+
+-- the turns are a run of the two phones that comes to rest. Their one path is in this state, and so are its two slots; where it flows its ends hear these codecs, and the selectors that they got say so
+pub record ComesTo (turns : List Turn) (state : State) (low high : Option ℕ) : Type 0 where
+  pub runs : IsSome (run two_phones turns)
+  pub at_rest : IsTrue (rests (after two_phones turns))
+  pub no_ring : has_ring (after two_phones turns) ≡ false
+  pub one_path : paths (after two_phones turns) ≡ path ∷ []
+  pub answer : path_state (after two_phones turns) path ≡ state
+  pub low_state : (slot_of (after two_phones turns) path.low).state ≡ state
+  pub high_state : (slot_of (after two_phones turns) path.high).state ≡ state
+  pub low_selected : selected (slot_of (after two_phones turns) path.low) ≡ low
+  pub high_selected : selected (slot_of (after two_phones turns) path.high) ≡ high
+  pub low_hears : state ≡ Flowing → low_hears (after two_phones turns) path ≡ low
+  pub high_hears : state ≡ Flowing → high_hears (after two_phones turns) path ≡ high
+
+pub record WorkedExchanges : Type 0 where
+  pub nothing : ComesTo [] Closed None None
+  pub opens_held : ComesTo opens_held Flowing (Some 1) (Some 1)
+  pub opens_closed : ComesTo opens_closed Closed None None
+  pub holds_held : ComesTo holds_held Closed None None
+  pub flows_held : ComesTo flows_held Flowing (Some 1) (Some 1)
+  pub opens_and_closes : ComesTo opens_and_closes Closed None None

@@ -3,6 +3,7 @@ pub mod Boxes
 pub mod PathTable
 pub mod Paths
 pub mod Settles
+pub mod Setups
 pub mod Sound
 pub mod Steps
 pub mod Worlds

@@ -37,7 +37,7 @@ is_command event = false
 
 -- the commands of one box among turns, in order
 abbrev pub commands_of : ℕ → List Turn → List Turn
-commands_of who turns = filter (λ turn. turn.who == who && is_command turn.event) turns
+commands_of who turns = filter (λ turn. is_command turn.event && turn.who == who) turns
 
 abbrev pub is_retry_at : ℕ → Event → Bool
 is_retry_at local (Retry slot) = slot == local
@@ -45,7 +45,7 @@ is_retry_at local event = false
 
 -- the turn is the retry of this slot of this box
 abbrev pub is_retry_of : ℕ → ℕ → Turn → Bool
-is_retry_of who local turn = turn.who == who && is_retry_at local turn.event
+is_retry_of who local turn = is_retry_at local turn.event && turn.who == who
 
 abbrev pub takes_or_retries : Event → Bool
 takes_or_retries (Take local) = true

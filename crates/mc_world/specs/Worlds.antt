@@ -26,36 +26,39 @@ pub record WorldState : Type 0 where
 
 -- ---- tunnels and the numbers of slots
 
--- a tunnel: its channel, its number within the channel, its medium, and the boxes and local numbers of its two slots, the initiator's first
+-- a tunnel by its channel, its number within the channel, and its medium
 pub record Joint : Type 0 where
   pub channel : ℕ
   pub within : ℕ
   pub medium : Medium
-  pub from : ℕ × ℕ
-  pub to : ℕ × ℕ
 
 -- these tunnels of a channel, numbered within it from a number on
-abbrev pub joints_within : ℕ → ℕ → ChannelState → List Tunnel → List Joint
-joints_within channel within ends [] = []
-joints_within channel within ends (tunnel ∷ tunnels) =
-    record { channel = channel; within = within; medium = tunnel.medium; from = (ends.from, tunnel.from); to = (ends.to, tunnel.to) }
-    ∷ joints_within channel (within + 1) ends tunnels
+abbrev pub joints_within : ℕ → ℕ → List Tunnel → List Joint
+joints_within channel within [] = []
+joints_within channel within (tunnel ∷ tunnels) = record { channel = channel; within = within; medium = tunnel.medium } ∷ joints_within channel (within + 1) tunnels
 
 -- the tunnels of these channels, numbered from a number on
 abbrev pub joints_from : ℕ → List ChannelState → List Joint
 joints_from channel [] = []
-joints_from channel (ends ∷ channels) = joints_within channel 0 ends ends.tunnels ++ joints_from (channel + 1) channels
+joints_from channel (ends ∷ channels) = joints_within channel 0 ends.tunnels ++ joints_from (channel + 1) channels
 
 -- all tunnels, counted over all channels in their order
 abbrev pub joints : WorldState → List Joint
 joints world = joints_from 0 world.channels
 
-abbrev pub places_of : Joint → List (ℕ × ℕ)
-places_of joint = joint.from ∷ joint.to ∷ []
+-- the box and local number of each slot of a tunnel
+abbrev pub places_of : ChannelState → Tunnel → List (ℕ × ℕ)
+places_of ends tunnel = (ends.from, tunnel.from) ∷ (ends.to, tunnel.to) ∷ []
+
+abbrev pub places_within : ChannelState → List (ℕ × ℕ)
+places_within ends = flat_map (places_of ends) ends.tunnels
+
+abbrev pub places_among : List ChannelState → List (ℕ × ℕ)
+places_among channels = flat_map places_within channels
 
 -- the box and local number of each slot, by the slot's number: tunnel t has the slots 2t, on the initiator's side, and 2t + 1
 abbrev pub places : WorldState → List (ℕ × ℕ)
-places world = flat_map places_of (joints world)
+places world = places_among world.channels
 
 abbrev pub slot_count : WorldState → ℕ
 slot_count world = length (places world)
@@ -75,7 +78,7 @@ abbrev pub far : ℕ → ℕ
 far s = if s % 2 == 0 then s + 1 else s - 1
 
 abbrev pub no_joint : Joint
-no_joint = record { channel = 0; within = 0; medium = Audio; from = (0, 0); to = (0, 0) }
+no_joint = record { channel = 0; within = 0; medium = Audio }
 
 -- the tunnel of a slot
 abbrev pub joint_of : WorldState → ℕ → Joint
