@@ -5,6 +5,7 @@ ghost use Rattle.std.specs.Prelude.{◌≡◌, ◌↔◌, IsTrue};
 ghost use Rattle.mc_signal.specs.Choice.{codecs_of, shared_codec, selector_of, Answers};
 
 mod codec_list;
+pub mod laws;
 
 pub use codec_list::{CodecList, ListFull};
 
