@@ -6,6 +6,8 @@ ghost use Rattle.mc_signal.specs.Choice.{codecs_of, shared_codec, selector_of, A
 
 mod codec_list;
 pub mod laws;
+#[cfg(test)]
+mod tests;
 
 pub use codec_list::{CodecList, ListFull};
 
