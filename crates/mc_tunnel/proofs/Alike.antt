@@ -13,6 +13,7 @@ use Rattle.mc_slot.specs.declared.State.TheVariants.{Closed, Opening, Opened, Fl
 use Rattle.mc_tunnel.proofs.Steps.{resent, took_flowing, took_resent}
 use Rattle.mc_tunnel.proofs.Walks.{walked}
 
+-- the pairs of states that are alike
 abbrev AlikeIn : State → State → Type 0
 AlikeIn Closed Opening = Unit {0}
 AlikeIn Opened Opening = Unit {0}
@@ -27,15 +28,19 @@ pub record Alike (a b : Slot) : Type 0 where
   pub side : a.initiator ≡ b.initiator
   pub states : AlikeIn a.state b.state
 
+-- a close brings alike slots to one and the same slot
 alike_close : (a b : Slot) (took : Took) → taken a Close ≡ Some took → Alike a b → taken b Close ≡ Some took
 alike_close a b took goes alike = grind (arith)
 
+-- what the first of two alike slots takes, the second takes too
 alike_takes : (a b : Slot) (signal : Signal) (took : Took) → taken a signal ≡ Some took → Alike a b → close_of signal ≡ 0 → IsSome (taken b signal)
 alike_takes a b signal took goes alike none = grind (arith)
 
+-- and after that they are alike again
 alike_after : (a b : Slot) (signal : Signal) (took other_took : Took) → taken a signal ≡ Some took → Alike a b → close_of signal ≡ 0 → taken b signal ≡ Some other_took → Alike took.after other_took.after
 alike_after a b signal took other_took goes alike none f = record { medium = grind (arith); side = grind (arith); states = grind (arith) }
 
+-- what is there can be named
 some_of : (o : Option Took) → IsSome o → (took : Took) × (o ≡ Some took)
 some_of None i = absurd (cc)
 some_of (Some took) i = (took, refl)
@@ -76,6 +81,7 @@ pub record FlowsOn (a : Slot) (signals : List Signal) (out : Slot) (d : Option D
   pub chosen : out.sel_out ≡ a.sel_out
   pub other : outlook (resent a d s) signals ≡ Some (resent out d s)
 
+-- taking a list without a close keeps a slot flowing, whatever it sent
 pub out_flowing : (signals : List Signal) (a out : Slot) (d : Option Descriptor) (s : Option Selector) → outlook a signals ≡ Some out → a.state ≡ Flowing → closes signals ≡ 0
     → FlowsOn a signals out d s
 out_flowing [] a out d s goes is none = let same : a ≡ out = cc in
@@ -94,9 +100,11 @@ IsActive Opened = Unit {0}
 IsActive Flowing = Unit {0}
 IsActive state = ⊥
 
+-- a slot that is active stays so where it takes no close
 took_active : (a : Slot) (signal : Signal) (took : Took) → taken a signal ≡ Some took → IsActive a.state → close_of signal ≡ 0 → IsActive took.after.state
 took_active a signal took goes is none = grind (arith)
 
+-- and so over a list without a close
 pub out_active : (signals : List Signal) (a out : Slot) → outlook a signals ≡ Some out → IsActive a.state → closes signals ≡ 0 → IsActive out.state
 out_active [] a out goes is none = let same : a ≡ out = cc in subst (λ (x : Slot). IsActive x.state) same is
 out_active (signal ∷ signals) a out goes is none =
@@ -107,6 +115,7 @@ out_active (signal ∷ signals) a out goes is none =
 opened_takes : (a : Slot) (signal : Signal) (took : Took) → taken a signal ≡ Some took → a.state ≡ Opened → close_of signal ≡ 1
 opened_takes a signal took goes is = grind (arith)
 
+-- to an opened slot nothing but a close is under way
 pub out_opened : (signals : List Signal) (a out : Slot) → outlook a signals ≡ Some out → a.state ≡ Opened → closes signals ≡ 0 → signals ≡ []
 out_opened [] a out goes is none = refl
 out_opened (signal ∷ signals) a out goes is none = let walk = walked a signal signals out goes in absurd (omega (arith, opened_takes a signal walk.took walk.first is))
@@ -116,9 +125,11 @@ pub data Opens : List Signal → Type 0 where
   nothing : Opens []
   one : (m : Medium) (d : Descriptor) → Opens (Open m d ∷ [])
 
+-- a closed slot becomes opened by what it takes
 closed_takes : (a : Slot) (signal : Signal) (took : Took) → taken a signal ≡ Some took → a.state ≡ Closed → took.after.state ≡ Opened
 closed_takes a signal took goes is = grind (arith)
 
+-- and that is an open
 closed_opens : (a : Slot) (signal : Signal) (took : Took) → taken a signal ≡ Some took → a.state ≡ Closed → Opens (signal ∷ [])
 closed_opens a (Open m d) took goes is = one m d
 closed_opens a (Oack d) took goes is = absurd (grind (arith))
@@ -127,6 +138,7 @@ closed_opens a Closeack took goes is = absurd (grind (arith))
 closed_opens a (Describe d) took goes is = absurd (grind (arith))
 closed_opens a (Select s) took goes is = absurd (grind (arith))
 
+-- to a closed slot nothing is under way, or one open
 pub out_closed : (signals : List Signal) (a out : Slot) → outlook a signals ≡ Some out → a.state ≡ Closed → closes signals ≡ 0 → Opens signals
 out_closed [] a out goes is none = nothing
 out_closed (signal ∷ signals) a out goes is none =

@@ -10,12 +10,15 @@ use Rattle.mc_slot.specs.Tunnel.{Kept}
 use Rattle.mc_slot.specs.declared.Slot.{Slot}
 use Rattle.mc_slot.specs.declared.State.TheVariants.{Flowing, Closing}
 
+-- a taking keeps the medium
 pub took_medium : (a : Slot) (signal : Signal) (took : Took) → taken a signal ≡ Some took → took.after.medium ≡ a.medium
 took_medium a signal took goes = grind (arith)
 
+-- a taking keeps the side
 pub took_side : (a : Slot) (signal : Signal) (took : Took) → taken a signal ≡ Some took → took.after.initiator ≡ a.initiator
 took_side a signal took goes = grind (arith)
 
+-- after a taking the slot keeps what its new state allows
 pub took_kept : (a : Slot) (signal : Signal) (took : Took) → taken a signal ≡ Some took → Kept a → Kept took.after
 took_kept a signal took goes k = grind (arith)
 
@@ -42,6 +45,7 @@ pub took_flowing : (a : Slot) (signal : Signal) (took : Took) → taken a signal
     → (took.after.state ≡ Flowing) × (took.after.sent ≡ a.sent) × (took.after.sel_out ≡ a.sel_out)
 took_flowing a signal took goes is none = grind (arith)
 
+-- a flowing slot that sent other things takes the same, and then differs in the same
 pub took_resent : (a : Slot) (signal : Signal) (took : Took) (d : Option Descriptor) (s : Option Selector) → taken a signal ≡ Some took → a.state ≡ Flowing → close_of signal ≡ 0
     → taken (resent a d s) signal ≡ Some record { answer = None; after = resent took.after d s }
 took_resent a signal took d s goes is none = grind (arith)

@@ -19,11 +19,13 @@ pub record Met (o p : Option Slot) : Type 0 where
   pub second_is : p ≡ Some second
   pub agree : Agree first second
 
+-- two outlooks that meet are there
 pub met : (o p : Option Slot) → Meet o p → Met o p
 met None p both = absurd both
 met (Some x) None both = absurd both
 met (Some x) (Some y) both = record { first = x; second = y; first_is = refl; second_is = refl; agree = both }
 
+-- outlooks that are there meet where they agree
 pub meet_of : (o p : Option Slot) (x y : Slot) → o ≡ Some x → p ≡ Some y → Agree x y → Meet o p
 meet_of o p x y ox py agree = rw (ox, py) agree
 
@@ -33,30 +35,36 @@ record Unanswered (a : Slot) (signal : Signal) (answer : Option Signal) (after :
   no_close : close_of signal ≡ 0
   count : ack_of signal + waits after.state ≡ waits a.state
 
+-- a close is answered by a closeack
 record Answered (a : Slot) (signal : Signal) (answer : Option Signal) (after : Slot) : Type 0 where
   some : answer ≡ Some Closeack
   one_close : close_of signal ≡ 1
   no_ack : ack_of signal ≡ 0
   count : waits after.state ≡ waits a.state
 
+-- each taking is one or the other
 answer_in : (a : Slot) (signal : Signal) (answer : Option Signal) (after : Slot) → taken a signal ≡ Some record { answer = answer; after = after }
     → (Unanswered a signal answer after) ⊎ (Answered a signal answer after)
-answer_in a (Open both d) answer after goes = inl (record { none = grind (arith); no_close = refl; count = grind (arith) })
+answer_in a (Open medium d) answer after goes = inl (record { none = grind (arith); no_close = refl; count = grind (arith) })
 answer_in a (Oack d) answer after goes = inl (record { none = grind (arith); no_close = refl; count = grind (arith) })
 answer_in a Close answer after goes = inr (record { some = grind (arith); one_close = refl; no_ack = refl; count = grind (arith) })
 answer_in a Closeack answer after goes = inl (record { none = grind (arith); no_close = refl; count = grind (arith) })
 answer_in a (Describe d) answer after goes = inl (record { none = grind (arith); no_close = refl; count = grind (arith) })
 answer_in a (Select s) answer after goes = inl (record { none = grind (arith); no_close = refl; count = grind (arith) })
 
+-- only a closing slot waits
 pub waiting : (a : Slot) → 1 ≤ waits a.state → a.state ≡ Closing
 waiting a h = grind (arith)
 
+-- a slot waits for one closeack at most
 pub at_most_one : (a : Slot) → waits a.state ≤ 1
 at_most_one a = grind (arith)
 
+-- what agrees with a closing slot agrees with it closed
 agree_closed : (x b : Slot) → Agree x b → b.state ≡ Closing → Agree x (cleared b Closed)
 agree_closed x b agree is = grind (arith)
 
+-- a taking without an answer keeps a tunnel sound
 take_silent : (a : Slot) (signal : Signal) (to_a : List Signal) (b : Slot) (to_b : List Signal) (answer : Option Signal) (after : Slot)
     → TunnelSound a (signal ∷ to_a) b to_b → taken a signal ≡ Some record { answer = answer; after = after }
     → Unanswered a signal answer after → TunnelSound after to_a b to_b
@@ -70,6 +78,7 @@ take_silent a signal to_a b to_b answer after s goes counted = record {
   second_kept = s.second_kept;
 }
 
+-- a taking that is answered keeps a tunnel sound
 take_answering : (a : Slot) (signal : Signal) (to_a : List Signal) (b : Slot) (to_b : List Signal) (answer : Option Signal) (after : Slot)
     → TunnelSound a (signal ∷ to_a) b to_b → taken a signal ≡ Some record { answer = answer; after = after }
     → Answered a signal answer after → TunnelSound after to_a b (to_b ++ Closeack ∷ [])
@@ -94,6 +103,7 @@ take_answering a signal to_a b to_b answer after s goes counted =
       second_kept = s.second_kept;
     }
 
+-- each taking keeps a tunnel sound
 pub take_keeps : (a : Slot) (signal : Signal) (to_a : List Signal) (b : Slot) (to_b : List Signal) (answer : Option Signal) (after : Slot)
     → TunnelSound a (signal ∷ to_a) b to_b → taken a signal ≡ Some record { answer = answer; after = after }
     → TunnelSound after to_a b (to_b ++ answered answer)
