@@ -5,6 +5,9 @@ ghost use Rattle.std.specs.Prelude.{◌≡◌, ◌↔◌, IsTrue};
 ghost use Rattle.mc_signal.specs.Choice.{codecs_of, shared_codec, selector_of, Answers};
 
 mod codec_list;
+pub mod laws;
+#[cfg(test)]
+mod tests;
 
 pub use codec_list::{CodecList, ListFull};
 

@@ -1,0 +1,6 @@
+pub mod Alike
+pub mod Props
+pub mod Sending
+pub mod Steps
+pub mod Taking
+pub mod Walks

@@ -1,0 +1,3 @@
+pub mod EndPays
+pub mod EndRests
+pub mod Weighing
