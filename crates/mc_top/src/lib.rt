@@ -3,5 +3,7 @@
 
 pub mod io;
 mod script;
+mod words;
 
 pub use script::{Command, JournalLine, Keyword, Section};
+pub use words::Mode;

@@ -1,2 +1,3 @@
 mod Exchanges
 mod NewLanes
+mod TwoPhones
