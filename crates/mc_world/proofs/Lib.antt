@@ -1,3 +1,3 @@
 mod Exchanges
 mod NewLanes
-mod TwoPhones
+pub mod TwoPhones
