@@ -1,1 +1,3 @@
+mod Cuts
 mod Pieces
+mod Places

@@ -2,6 +2,13 @@
 #![tactic(auto)]
 
 pub mod io;
+mod lines;
+mod name_list;
+mod names;
 mod script;
+mod spelling;
 
+pub use lines::{Words, next_line};
+pub use names::Names;
 pub use script::{Command, JournalLine, Keyword, Section};
+pub use spelling::is_name;
