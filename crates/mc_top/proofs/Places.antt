@@ -40,10 +40,6 @@ none_passes p xs none = by (ltb (position_or_len p xs) (length xs)) refl
     by true e = absurd (let here : Some (position_or_len p xs) ≡ None = (rw e at none) in cc)
     by false e = all_fail p xs e
 
--- a box without slots
-pub few_slots-push : (slots : List (List (List ℕ))) → ((who : ℕ) → length (slice_index_or slots who []) ≤ 64) → (who : ℕ) → length (slice_index_or (slots ++ [] ∷ []) who []) ≤ 64
-few_slots-push slots few who = let here : length (slice_index_or slots who []) ≤ 64 = few who in grind (arith, common_steps)
-
 -- ---- names in their places
 
 pub found_again : (names : List (List ℕ)) (i : ℕ) → i < length names → AreNames names → position (bytes_eq (slice_index_or names i [])) names ≡ Some i
