@@ -1,3 +1,4 @@
 mod Cuts
 mod Pieces
 mod Places
+mod Unfit

@@ -5,10 +5,12 @@ pub mod io;
 mod lines;
 mod name_list;
 mod names;
+mod reader;
 mod script;
 mod spelling;
 
 pub use lines::{Words, next_line};
 pub use names::Names;
-pub use script::{Command, JournalLine, Keyword, Section};
+pub use reader::{Reader, TextFault};
+pub use script::{Command, JournalLine, Keyword, Section, keyword_of};
 pub use spelling::is_name;

@@ -1,10 +1,11 @@
 // The names of a text, and the numbers that they have.
 
 ghost use Rattle.std.specs.Prelude.{◌≡◌, ◌<◌, ◌≤◌, [], length, IfSome, OnOk, OnErr, IsTrue, Some, None, slice_index_or};
-ghost use Rattle.mc_top.specs.NameLists.{place_of, no_names, slots_of, with_codec, with_box, with_slot};
+ghost use Rattle.mc_top.specs.NameLists.{place_of, is_new, no_names, slots_of, with_codec, with_box, with_slot};
 ghost use Rattle.mc_top.specs.Spelling.{is_name};
 
 use crate::name_list::NameList;
+use crate::spelling::is_name;
 use std::alloc::{AllocError, Global};
 use std::marker::Model;
 
@@ -53,6 +54,20 @@ impl Names {
         ensures { result ≡ place_of self.now.boxes name.now }
     {
         self.boxes.find(name).map(|number| number as u32)
+    }
+
+    /// Whether this is a name, and of no codec yet.
+    pub fn is_new_codec(&self, name: &[u8]) -> bool
+        ensures { result ≡ is_new self.now.codecs name.now }
+    {
+        is_name(name) && self.find_codec(name).is_none()
+    }
+
+    /// Whether this is a name, and of no box yet.
+    pub fn is_new_box(&self, name: &[u8]) -> bool
+        ensures { result ≡ is_new self.now.boxes name.now }
+    {
+        is_name(name) && self.find_box(name).is_none()
     }
 
     /// How many codecs there are.
