@@ -1,1 +1,4 @@
+mod Cuts
 mod Pieces
+mod Places
+mod Unfit

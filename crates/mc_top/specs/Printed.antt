@@ -1,5 +1,5 @@
 -- What is printed at the settles of a journal.
-use Rattle.std.specs.Prelude.{ℕ, ◌+◌, List, [], ◌∷◌, ◌++◌, codes, slice_index_or, Option, Some, None}
+use Rattle.std.specs.Prelude.{ℕ, ◌+◌, ◌<◌, length, List, [], ◌∷◌, ◌++◌, codes, slice_index_or, Option, Some, None}
 use Rattle.std.specs.Fmt.{decimal}
 use Rattle.std.specs.List.{flat_map, join_with_byte}
 use Rattle.mc_signal.specs.declared.Medium.{Medium}
@@ -30,6 +30,11 @@ state_word state = codes "closed"
 abbrev pub medium_word : Medium → List ℕ
 medium_word Audio = codes "audio"
 medium_word Video = codes "video"
+
+-- the codec, if there is one, has a name
+abbrev pub IsNamed : NameLists → Option ℕ → Type 0
+IsNamed names None = Unit {0}
+IsNamed names (Some codec) = codec < length names.codecs
 
 abbrev pub codec_word : NameLists → Option ℕ → List ℕ
 codec_word names None = codes "none"

@@ -2,8 +2,18 @@
 #![tactic(auto)]
 
 pub mod io;
+mod lines;
+mod name_list;
+mod names;
+mod print;
+mod reader;
 mod script;
+mod spelling;
 mod words;
 
-pub use script::{Command, JournalLine, Keyword, Section};
-pub use words::Mode;
+pub use lines::{Words, next_line};
+pub use names::Names;
+pub use reader::{Reader, TextFault};
+pub use script::{Command, JournalLine, Keyword, Section, keyword_of};
+pub use spelling::is_name;
+pub use words::{Mode, read_mode};
