@@ -1,4 +1,5 @@
 mod Cuts
 mod Pieces
+mod Spaced
 mod Places
 mod Unfit

@@ -10,13 +10,12 @@ use mc_slot::{Goal, State};
 use std::alloc::{AllocError, Global};
 
 // Appends words with single spaces between them, and a line end.
-fn put_line(words: &[&[u8]], out: &mut Vec<u8>) -> Result<(), AllocError>
-    ensures { OnOk result (out.new.items ≡ out.old.items ++ line_of (map (λ word. word.now) words.now)) }
+fn put_line(first: &[u8], others: &[&[u8]], out: &mut Vec<u8>) -> Result<(), AllocError>
+    ensures { OnOk result (out.new.items ≡ out.old.items ++ line_of (first.now ∷ map (λ word. word.now) others.now)) }
 {
-    for (i, word) in words.iter().enumerate() {
-        if i > 0 {
-            out.push(b' ')?;
-        }
+    out.extend_from_slice(first)?;
+    for word in others {
+        out.push(b' ')?;
         out.extend_from_slice(word)?;
     }
     out.push(b'\n')?;
