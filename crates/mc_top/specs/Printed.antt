@@ -1,7 +1,9 @@
 -- What is printed at the settles of a journal.
-use Rattle.std.specs.Prelude.{ℕ, ◌+◌, ◌<◌, length, List, [], ◌∷◌, ◌++◌, codes, slice_index_or, Option, Some, None}
+use Rattle.std.specs.Prelude.{◌≡◌, ℕ, ◌+◌, ◌<◌, length, List, [], ◌∷◌, ◌++◌, codes, slice_index_or, Option, Some, None}
 use Rattle.std.specs.Fmt.{decimal}
 use Rattle.std.specs.List.{flat_map, join_with_byte}
+use Rattle.std.specs.Option.{option_and_then}
+use Rattle.mc_signal.specs.declared.Selector.{Selector}
 use Rattle.mc_signal.specs.declared.Medium.{Medium}
 use Rattle.mc_signal.specs.declared.Medium.TheVariants.{Audio, Video}
 use Rattle.mc_slot.specs.declared.Goal.{Goal}
@@ -10,7 +12,7 @@ use Rattle.mc_slot.specs.declared.State.{State}
 use Rattle.mc_slot.specs.declared.State.TheVariants.{Flowing}
 use Rattle.mc_world.specs.PathTable.{path_state, low_hears, high_hears}
 use Rattle.mc_world.specs.Paths.{PathEnds, paths, end_goal}
-use Rattle.mc_world.specs.Worlds.{WorldState, joint_of, place}
+use Rattle.mc_world.specs.Worlds.{WorldState, joint_of, place, slot_count}
 use Rattle.mc_top.specs.Journals.{replayed}
 use Rattle.mc_top.specs.NameLists.{NameLists, slots_of}
 use Rattle.mc_top.specs.declared.script.JournalLine.{JournalLine}
@@ -35,6 +37,10 @@ medium_word Video = codes "video"
 abbrev pub IsNamed : NameLists → Option ℕ → Type 0
 IsNamed names None = Unit {0}
 IsNamed names (Some codec) = codec < length names.codecs
+
+-- the codec of a selector, if there is a selector and it names one
+abbrev pub selected : Option Selector → Option ℕ
+selected selector = option_and_then (λ chosen. chosen.codec) selector
 
 abbrev pub codec_word : NameLists → Option ℕ → List ℕ
 codec_word names None = codes "none"
@@ -88,3 +94,18 @@ abbrev pub printed : NameLists → ℕ → WorldState → List JournalLine → L
 printed names number world [] = []
 printed names number world (Made turn ∷ journal) = printed names number (replayed world turn) journal
 printed names number world (Settled ∷ journal) = settle_text names number world ++ printed names (number + 1) world journal
+
+-- ---- what can be printed
+
+-- a slot, its box, and the slot within the box have names
+pub record HasName (names : NameLists) (world : WorldState) (s : ℕ) : Type 0 where
+  pub within : s < slot_count world
+  pub box : (place world s).0 < length names.boxes
+  pub slot : (place world s).1 < length (slots_of names (place world s).0)
+
+-- the ends of a path have names, and where it flows the codecs that are heard have names
+pub record HasNames (names : NameLists) (world : WorldState) (path : PathEnds) : Type 0 where
+  pub low : HasName names world path.low
+  pub high : HasName names world path.high
+  pub low_codec : path_state world path ≡ Flowing → IsNamed names (low_hears world path)
+  pub high_codec : path_state world path ≡ Flowing → IsNamed names (high_hears world path)
