@@ -1,4 +1,5 @@
 mod Cuts
+mod Marks
 mod Pieces
 mod Spaced
 mod Places
