@@ -1,3 +1,4 @@
+mod CodecLists
 mod Cuts
 mod Pieces
 mod Places

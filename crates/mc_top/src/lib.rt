@@ -1,6 +1,7 @@
 //! The top call of the program: it reads a text, settles its calls, and prints their paths.
 #![tactic(auto)]
 
+mod codec_words;
 pub mod io;
 mod lines;
 mod name_list;
