@@ -1,5 +1,8 @@
 mod CodecLists
 mod Cuts
+mod Kept
 mod Pieces
 mod Places
+mod Saying
+mod Steps
 mod Unfit

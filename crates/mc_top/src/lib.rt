@@ -9,9 +9,11 @@ mod names;
 mod reader;
 mod script;
 mod spelling;
+mod text;
 
 pub use lines::{Words, next_line};
 pub use names::Names;
-pub use reader::{Reader, TextFault};
+pub use reader::{Parts, Reader, TextFault};
 pub use script::{Command, JournalLine, Keyword, Section, keyword_of};
 pub use spelling::is_name;
+pub use text::read_text;

@@ -1,16 +1,18 @@
 // The lines of a text, one after the other, and what they declare.
 
-ghost use Rattle.std.specs.Prelude.{◌≡◌, ◌≢◌, ◌∷◌, [], ◌&&◌, IsTrue, IsFalse, nat_lt, length, Some, None, IfOk, IfSome, IfNone, alloc_error};
-ghost use Rattle.mc_top.specs.Forms.{nothing, opens_codecs, opens_boxes, codec_limit, version_after, codec_after, device_after, joined, channel_after, begin_after, settle_after};
+ghost use Rattle.std.specs.Prelude.{◌≡◌, ◌≢◌, ◌∷◌, [], ◌&&◌, IsTrue, IsFalse, nat_lt, length, Some, None, IfOk, OnOk, IsErrOf, map, IfSome, IfNone, alloc_error};
+ghost use Rattle.mc_top.specs.Forms.{nothing, opens_codecs, opens_boxes, codec_limit, version_after, codec_after, device_after, joined, channel_after, begin_after, settle_after, words_after, line_after, is_commands};
+ghost use Rattle.mc_signal.specs.Choice.{codecs_of};
+ghost use Rattle.mc_top.specs.Lines.{lines};
 ghost use Rattle.mc_top.specs.NameLists.{is_new};
-ghost use Rattle.mc_top.specs.Readings.{Reads};
+ghost use Rattle.mc_top.specs.Readings.{Reads, reading};
 ghost use Rattle.mc_top.specs.Shapes.{IsInForm, CanJoin, audio_channel};
 ghost use Rattle.mc_top.specs.declared.reader.TextFault.TheVariants.{NoMemory};
 
 use crate::codec_words::listed;
-use crate::lines::Words;
+use crate::lines::{Words, next_line};
 use crate::names::Names;
-use crate::script::{Command, Section};
+use crate::script::{Command, Keyword, Section, keyword_of};
 use crate::spelling::is_name;
 use mc_signal::{CodecList, Medium};
 use mc_world::{Channel, Tunnel};
@@ -215,6 +217,82 @@ impl Reader {
         self.commands.push(Command::Settle)?;
         Ok(())
     }
+
+    /// Reads a line by its words.
+    fn read_words<'a>(&mut self, mut words: Words<'a>) -> Result<(), TextFault>
+        requires { IsInForm self.old }
+        ensures { Reads result self.new (words_after self.old words.entry) }
+    {
+        let Some(first) = words.next_word() else {
+            return Err(TextFault::Form);
+        };
+        match keyword_of(first) {
+            Some(Keyword::Media) => self.read_version(words),
+            Some(Keyword::Codec) => self.read_codec(words),
+            Some(Keyword::Dev) => self.read_device(words),
+            Some(Keyword::Chan) => self.read_channel(words),
+            Some(Keyword::Begin) => self.read_begin(words),
+            Some(Keyword::Settle) => self.read_settle(words),
+            None => Err(TextFault::Form),
+        }
+    }
+
+    /// Reads the next line of a text. After want of memory nothing is said of the reader.
+    pub fn read_line(&mut self, line: &[u8]) -> Result<(), TextFault>
+        requires { IsInForm self.old }
+        ensures ok { OnOk result (line_after self.old line.now ≡ Some self.new) }
+        ensures in_form { OnOk result (IsInForm self.new) }
+        ensures form { IsErrOf result TextFault.Form → line_after self.old line.now ≡ None }
+    {
+        self.read_words(Words::of(line))
+    }
+
+    /// Reads lines, one after the other.
+    pub fn read_lines(&mut self, text: &[u8]) -> Result<(), TextFault>
+        requires { IsInForm self.old }
+        ensures ok { OnOk result (reading self.old (lines text.now) ≡ Some self.new) }
+        ensures in_form { OnOk result (IsInForm self.new) }
+        ensures form { IsErrOf result TextFault.Form → reading self.old (lines text.now) ≡ None }
+    {
+        let mut rest = text;
+        while !rest.is_empty() {
+            let (line, others) = next_line(rest);
+            self.read_line(line)?;
+            rest = others;
+        }
+        Ok(())
+    }
+
+    /// Whether the commands have begun.
+    pub fn has_begun(&self) -> bool
+        ensures { result ≡ is_commands self.now.section }
+    {
+        self.section.is_commands()
+    }
+
+    /// What was declared.
+    pub fn into_parts(self) -> Parts
+        ensures names { result.names ≡ self.names }
+        ensures lists { map codecs_of result.lists.items ≡ self.lists }
+        ensures channels { result.channels.items ≡ self.channels }
+        ensures commands { result.commands.items ≡ self.commands }
+    {
+        Parts {
+            names: self.names,
+            lists: self.lists,
+            channels: self.channels,
+            commands: self.commands,
+        }
+    }
+}
+
+/// What the lines of a text declare: names, a list of codecs for each box, channels and commands.
+#[derive(Drop)]
+pub struct Parts {
+    pub names: Names,
+    pub lists: Vec<CodecList>,
+    pub channels: Vec<Channel>,
+    pub commands: Vec<Command>,
 }
 
 /// A channel of one audio tunnel between the first slots of two boxes.
