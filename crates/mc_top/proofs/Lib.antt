@@ -1,6 +1,12 @@
+mod CodecLists
 mod Cuts
+mod Ending
+mod FirstNets
+mod Kept
 mod Marks
 mod Pieces
-mod Spaced
 mod Places
+mod Saying
+mod Spaced
+mod Steps
 mod Unfit

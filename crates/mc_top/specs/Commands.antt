@@ -1,5 +1,5 @@
 -- The commands of a script, and the batch of each settle.
-use Rattle.std.specs.Prelude.{◌≡◌, List, [], ◌∷◌, ◌++◌, length, replicate}
+use Rattle.std.specs.Prelude.{List, [], ◌∷◌, ◌++◌}
 use Rattle.mc_world.specs.declared.event.Turn.{Turn}
 use Rattle.mc_top.specs.declared.script.Command.{Command}
 use Rattle.mc_top.specs.declared.script.Command.TheVariants.{Stimulus, Settle}
@@ -13,7 +13,3 @@ batches_after waiting (Settle ∷ commands) = waiting ∷ batches_after [] comma
 -- the commands before each settle, since the last one
 abbrev pub batches : List Command → List (List Turn)
 batches commands = batches_after [] commands
-
--- every command is a settle
-abbrev pub AreSettles : List Command → Type 0
-AreSettles commands = commands ≡ replicate (length commands) Settle

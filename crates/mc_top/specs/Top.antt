@@ -25,8 +25,7 @@ pub record Delivers (status due : ℕ) (old new : Option (List ℕ)) (output : L
   pub part : status ≢ due → (status ≡ 5) × AppendsPart old new output
 
 -- the text was read to its end, or to the byte past the limit
-pub record ReadsWhole (old new : Option (List ℕ)) : Type 0 where
-  pub text : List ℕ
+pub record ReadsWhole (old new : Option (List ℕ)) (text : List ℕ) : Type 0 where
   pub consumed : Consumes old new text
   pub within : length text ≤ 1048577
   pub at_end : length text ≤ text_limit → IsAtEnd new

@@ -51,7 +51,8 @@ impl Names {
 
     /// The number of a box.
     pub fn find_box(&self, name: &[u8]) -> Option<u32>
-        ensures { result ≡ place_of self.now.boxes name.now }
+        ensures place { result ≡ place_of self.now.boxes name.now }
+        ensures within { IfSome result (λ who. who < length self.now.boxes) }
     {
         self.boxes.find(name).map(|number| number as u32)
     }

@@ -1,9 +1,10 @@
 // A script, settle by settle.
-ghost use Rattle.std.specs.Prelude.{◌≡◌, ◌≤◌, length, IfOk};
+ghost use Rattle.std.specs.Prelude.{◌≡◌, IfOk};
 ghost use Rattle.mc_world.specs.TwoPhones.{IsIdle, the_path};
-ghost use Rattle.mc_top.specs.Commands.{batches, AreSettles};
+ghost use Rattle.mc_top.specs.Commands.{batches};
 ghost use Rattle.mc_top.specs.Journals.{IsJournal, HoldsAtSettles};
 ghost use Rattle.mc_top.specs.Printed.{printed, HasNames};
+ghost use Rattle.mc_top.specs.Shapes.{AreSettles};
 
 use crate::names::Names;
 use crate::print::print_settle;
@@ -29,7 +30,6 @@ pub fn run_script(
     requires idle { IsIdle world.now }
     requires named { HasNames names.now world.now the_path }
     requires settles { AreSettles commands.now }
-    requires few { length commands.now ≤ 4096 }
     ensures settled { IfOk result (λ run. IsJournal world.now (batches commands.now) run.journal.items) }
     ensures holds { IfOk result (λ run. HoldsAtSettles world.now run.journal.items) }
     ensures output { IfOk result (λ run. run.output.items ≡ printed names.now 1 world.now run.journal.items) }

@@ -9,9 +9,12 @@ use Rattle.mc_world.specs.Setups.{world_of_devices}
 use Rattle.mc_world.specs.Sound.{IsSound}
 use Rattle.mc_world.specs.Worlds.{ChannelState, WorldState}
 
--- one audio channel of one tunnel, from one box to another
+-- an audio channel of one tunnel, between the first slots of two boxes
+abbrev pub audio_channel : ℕ → ℕ → ChannelState
+audio_channel from to = record { from = from; to = to; tunnels = record { medium = Audio; from = 0; to = 0 } ∷ [] }
+
 abbrev pub one_channel : ℕ → ℕ → List ChannelState
-one_channel from to = record { from = from; to = to; tunnels = record { medium = Audio; from = 0; to = 0 } ∷ [] } ∷ []
+one_channel from to = audio_channel from to ∷ []
 
 -- it leads from the one of two boxes to the other, either way
 abbrev pub JoinsTwo : List ChannelState → Type 0
