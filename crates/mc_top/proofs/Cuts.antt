@@ -1,8 +1,7 @@
 -- Bytes that are cut at the first of those that pass a test.
-use Rattle.std.proofs.Common.{◌≡◌, ℕ, suc, ◌+◌, ◌<◌, ◌≤◌, Bool, true, false, List, [], ◌∷◌, length, take, drop, Option, Some, None, refl, sym, ap, ◌∙◌, arith, position}
-use Rattle.std.proofs.lemmas.Grind.{common_steps}
+use Rattle.std.proofs.Common.{◌≡◌, ℕ, suc, ◌+◌, ◌<◌, ◌≤◌, Bool, true, false, List, [], ◌∷◌, length, take, drop, Some, None, refl, arith, position}
 use Rattle.std.specs.List.{slice_split, onto_first, position_or_len}
-use Rattle.mc_top.specs.Lines.{has_bytes, without_empty_last, is_line_end, lines}
+use Rattle.mc_top.specs.Lines.{is_line_end, lines}
 
 one_suc : (n : ℕ) → 1 + n ≡ suc n
 one_suc n = omega arith

@@ -1,5 +1,5 @@
 -- Reading lines one after the other finds what a text says.
-use Rattle.std.proofs.Common.{◌≡◌, ◌≢◌, ℕ, zero, suc, ◌<◌, ◌≤◌, List, [], ◌∷◌, length, take, fold, slice_index_or, Option, Some, None, IsSome, subst, true, false, refl, sym, ap, ◌∙◌, arith}
+use Rattle.std.proofs.Common.{◌≡◌, ℕ, zero, suc, ◌<◌, ◌≤◌, List, [], ◌∷◌, length, take, fold, slice_index_or, Option, Some, None, IsSome, subst, true, false, refl, sym, ◌∙◌, arith}
 use Rattle.std.specs.Option.{unwrap_or}
 use Rattle.mc_top.specs.Forms.{Declared, nothing, line_after, Says, text_limit, is_commands}
 use Rattle.mc_top.specs.Lines.{lines}

@@ -1,10 +1,9 @@
 -- One line more is read.
-use Rattle.std.proofs.Common.{◌≡◌, ◌∷◌, ℕ, List, Option, Some, None, Result, Ok, Err, OnOk, refl, sym, ap, ◌∙◌}
+use Rattle.std.proofs.Common.{◌≡◌, ◌∷◌, ℕ, List, Some, None, Result, Ok, Err, OnOk, refl}
 use Rattle.mc_top.specs.Forms.{Declared, line_after}
 use Rattle.mc_top.specs.Readings.{Reads, reading}
 use Rattle.mc_top.specs.Shapes.{IsInForm}
 use Rattle.mc_top.specs.declared.reader.TextFault.{TextFault}
-use Rattle.mc_top.specs.declared.reader.TextFault.TheVariants.{Form, NoMemory}
 use Rattle.mc_top.proofs.Kept.{line_kept}
 
 pub reads_in_form : (result : Result (Unit {0}) TextFault) (d now : Declared) (line : List ℕ) → Reads result now (line_after d line) → IsInForm d → OnOk result (IsInForm now)

@@ -1,5 +1,5 @@
 -- A line that has a word too few or too many declares nothing.
-use Rattle.std.proofs.Common.{◌≡◌, ◌≢◌, ℕ, List, [], ◌∷◌, length, drop, Option, Some, None, refl, arith}
+use Rattle.std.proofs.Common.{◌≡◌, ◌≢◌, ℕ, List, [], ◌∷◌, length, drop, Some, None, refl}
 use Rattle.std.specs.List.{slice_get}
 use Rattle.mc_top.specs.Forms.{Declared, version_after, codec_after, channel_after, begin_after, settle_after}
 

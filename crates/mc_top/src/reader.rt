@@ -238,7 +238,7 @@ impl Reader {
         }
     }
 
-    /// Reads the next line of a text. After want of memory nothing is said of the reader.
+    /// Reads the next line of a text. After an error nothing is said of the reader.
     pub fn read_line(&mut self, line: &[u8]) -> Result<(), TextFault>
         requires { IsInForm self.old }
         ensures ok { OnOk result (line_after self.old line.now ≡ Some self.new) }
@@ -248,7 +248,7 @@ impl Reader {
         self.read_words(Words::of(line))
     }
 
-    /// Reads lines, one after the other.
+    /// Reads the lines of a text, one after the other. After an error nothing is said of the reader.
     pub fn read_lines(&mut self, text: &[u8]) -> Result<(), TextFault>
         requires { IsInForm self.old }
         ensures ok { OnOk result (reading self.old (lines text.now) ≡ Some self.new) }

@@ -1,4 +1,4 @@
-use Rattle.std.proofs.Common.{◌≡◌, ◌==◌, ◌∷◌, drop, refl}
+use Rattle.std.proofs.Common.{◌==◌}
 use Rattle.std.proofs.lemmas.List.{drop-drop}
 use Rattle.mc_top.proofs.Cuts.{cut_at, uncut}
 use Rattle.mc_top.proofs.lines.cut.Goals as goal

@@ -1,4 +1,4 @@
-use Rattle.std.proofs.Common.{◌≡◌, ◌∷◌, [], length, ap, arith}
+use Rattle.std.proofs.Common.{length, ap, arith}
 use Rattle.mc_top.proofs.Unfit.{five_words, read_word, no_word}
 use Rattle.mc_top.proofs.reader.channel_words.Goals as goal
 

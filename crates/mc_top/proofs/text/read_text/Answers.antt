@@ -1,5 +1,4 @@
-use Rattle.std.proofs.Common.{◌≡◌, false, true, sym, ◌∙◌, arith}
-use Rattle.mc_top.specs.Forms.{is_commands}
+use Rattle.std.proofs.Common.{sym, ◌∙◌, arith}
 use Rattle.mc_top.proofs.Saying.{says, not_said, not_begun}
 use Rattle.mc_top.proofs.text.read_text.Goals as goal
 

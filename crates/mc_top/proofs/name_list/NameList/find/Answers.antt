@@ -1,4 +1,4 @@
-use Rattle.std.proofs.Common.{sym, ◌∙◌, ap}
+use Rattle.std.proofs.Common.{sym, ◌∙◌}
 use Rattle.std.specs.Str.{bytes_eq}
 use Rattle.mc_top.proofs.Places.{position-map}
 use Rattle.mc_top.proofs.name_list.NameList.find.Goals as goal

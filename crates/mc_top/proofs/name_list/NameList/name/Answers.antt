@@ -1,5 +1,4 @@
-use Rattle.std.proofs.Common.{◌≡◌, ◌<◌, Some, [], length, sym, ap, ◌∙◌, arith, rules, map, slice_index_or, List, ℕ}
-use Rattle.std.proofs.lemmas.Grind.{common_steps}
+use Rattle.std.proofs.Common.{◌≡◌, [], sym, arith, slice_index_or}
 use Rattle.mc_top.specs.NameLists.{AreNames}
 use Rattle.mc_top.proofs.Places.{found_again, got}
 use Rattle.mc_top.proofs.name_list.NameList.name.Goals as goal

@@ -1,4 +1,4 @@
-use Rattle.std.proofs.Common.{◌≡◌, ℕ, None, false, List, ◌++◌, ◌∷◌, [], position, sym, ◌∙◌, ap, arith, rules, cond, refl, map}
+use Rattle.std.proofs.Common.{◌≡◌, ℕ, None, false, List, ◌++◌, ◌∷◌, [], position, sym, ◌∙◌, ap, refl, map}
 use Rattle.std.specs.Str.{bytes_eq}
 use Rattle.std.specs.List.{list_any}
 use Rattle.std.proofs.lemmas.List.{map_push}

@@ -1,4 +1,3 @@
-use Rattle.mc_top.specs.Forms.{line_after}
 use Rattle.mc_top.proofs.Steps.{reads_in_form}
 use Rattle.mc_top.proofs.reader.Reader.read_line.Goals as goal
 
