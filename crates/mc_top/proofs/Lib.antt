@@ -9,4 +9,5 @@ mod Places
 mod Saying
 mod Spaced
 mod Steps
+mod Told
 mod Unfit

@@ -176,7 +176,6 @@ pub fn media_top<R: Threads + Sync, S: Source, K: Sink, G: Gate + Sync>(
         → ¬ Rose (S.faults source.old) (S.faults source.new) → ¬ Rose (K.faults sink.old) (K.faults sink.new)
         → (result.status ≡ 0) ⊎ (result.status ≡ 3) }
 {
-    let _ = (rt, gate);
     let Some(mode) = read_mode(&words) else {
         return deliver(sink, FAULTY_WORDS, b"usage\n", Vec::new(alloc));
     };
