@@ -27,6 +27,6 @@ ends_worked mode text net old new status due journal output declared settled hol
     delivered = rw (is, printed_by mode net journal) at delivered;
   };
   refused = λ one. absurd (omega arith);
-  stopped = λ ended. elim ended [ | inl three ↦ absurd (omega arith) | inr four ↦ absurd (omega arith) ];
+  stopped = λ ended. elim ended [ inl three ↦ absurd (omega arith) | inr four ↦ absurd (omega arith) ];
   no_journal = λ some. absurd (some none);
 }

@@ -16,11 +16,14 @@ mod text;
 mod top;
 mod words;
 
-pub use net::{Net, make_net};
 pub use names::Names;
+pub use net::{Net, make_net};
 pub use reader::{Parts, Reader, TextFault};
 pub use run::{Run, run_script};
 pub use script::{Command, JournalLine};
 pub use text::read_text;
 pub use top::{Done, media_top};
 pub use words::{Mode, read_mode};
+
+#[cfg(test)]
+mod tests;

@@ -82,12 +82,7 @@ fn place_word(alloc: Global, names: &Names, who: u32, local: u8) -> Result<Vec<u
 }
 
 // The word `box/slot` for a slot, by its number.
-fn slot_word(
-    alloc: Global,
-    names: &Names,
-    world: &World,
-    slot: u32,
-) -> Result<Vec<u8>, AllocError>
+fn slot_word(alloc: Global, names: &Names, world: &World, slot: u32) -> Result<Vec<u8>, AllocError>
     requires { HasName names.now world.now slot }
     ensures { IfOk result (λ word. word.items ≡ slot_word names.now world.now slot) }
 {

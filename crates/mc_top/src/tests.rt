@@ -1,0 +1,161 @@
+// Whole calls over sources and sinks in memory: what is written, and the status.
+ghost use Rattle.std.specs.Prelude.{◌<◌};
+
+use crate::io::{MemSink, MemSource, OpenGate};
+use crate::{Done, media_top};
+use std::alloc::{AllocError, Global};
+use std::test::Fail;
+use std::thread::Threads;
+
+const ROOM: usize = 1048576;
+
+const TEXT_LIMIT: usize = 1048576;
+
+const PHONES: &str =
+    "media 1\ncodec g711\ncodec g729\ndev alice g711 g729\ndev bob g729\nchan audio alice a bob a\nbegin\n";
+
+const CLOSED: &str = "settle 1\npath alice/a bob/a close close closed audio\n";
+
+const FAULT: &str = "fault 19 line 1\n";
+
+fn words_of(alloc: Global, words: &[&str]) -> Result<Vec<String>, AllocError> {
+    let mut made = Vec::new(alloc);
+    for word in words {
+        made.push(String::from_str(alloc, word)?)?;
+    }
+    Ok(made)
+}
+
+// A call with the word `run`, and what it wrote.
+fn run<R: Threads + Sync>(
+    rt: &R,
+    alloc: Global,
+    source: &mut MemSource,
+    write_per_call: usize,
+    failing: Vec<u64>,
+) -> Result<(Done, Vec<u8>), AllocError>
+    requires { 0 < write_per_call }
+{
+    let mut sink = MemSink::new(alloc, ROOM, write_per_call, failing)?;
+    let words = words_of(alloc, &["run"])?;
+    let done = media_top(rt, alloc, words, source, &mut sink, &OpenGate);
+    let written = Vec::from_slice(alloc, &sink.bytes)?;
+    Ok((done, written))
+}
+
+#[test]
+fn texts_and_what_they_print(rt: HostRuntime) -> Result<(), Fail> {
+    let alloc = rt.alloc();
+    let table: [(&str, &str, &str, u8); 14] = [
+        (PHONES, "", "", 0),
+        (PHONES, "settle\n", CLOSED, 0),
+        (PHONES, "settle", CLOSED, 0),
+        (
+            PHONES,
+            "settle\nsettle\n",
+            "settle 1\npath alice/a bob/a close close closed audio\nsettle 2\npath alice/a bob/a close close closed audio\n",
+            0,
+        ),
+        (
+            "media 1\ndev b\ndev a\nchan audio a x b y\nbegin\n",
+            "settle\n",
+            "settle 1\npath a/x b/y close close closed audio\n",
+            0,
+        ),
+        ("", "", FAULT, 1),
+        (PHONES, "settle now\n", FAULT, 1),
+        (PHONES, "\nsettle\n", FAULT, 1),
+        ("media  1\n", "", FAULT, 1),
+        ("media 1\ncodec g711\ncodec g711\n", "", FAULT, 1),
+        ("media 1\ncodec g711\ndev a g711 g711\n", "", FAULT, 1),
+        (
+            "media 1\ndev a\ndev b\ndev c\nchan audio a x b y\nbegin\n",
+            "settle\n",
+            FAULT,
+            1,
+        ),
+        (
+            "media 1\ndev a\ndev b\nchan audio a x a y\nbegin\n",
+            "settle\n",
+            FAULT,
+            1,
+        ),
+        (
+            "media 1\ndev a\ndev b\nchan audio a x b y\n",
+            "settle\n",
+            FAULT,
+            1,
+        ),
+    ];
+    for (network, script, printed, status) in table {
+        let mut bytes = Vec::from_slice(alloc, network.as_bytes())?;
+        bytes.extend_from_slice(script.as_bytes())?;
+        let mut source = MemSource::new(bytes, 64, Vec::new(alloc));
+        let (done, written) = run(&rt, alloc, &mut source, 10, Vec::new(alloc))?;
+        assert_eq!(rt; done.status, status, "at {network}{script}");
+        assert_eq!(rt;
+            written.as_slice(),
+            printed.as_bytes(),
+            "at {network}{script}"
+        );
+    }
+    Ok(())
+}
+
+#[test]
+fn other_words_are_no_command(rt: HostRuntime) -> Result<(), Fail> {
+    let alloc = rt.alloc();
+    let table: [&[&str]; 5] = [&["fly"], &[], &["run", "run"], &["Run"], &["--", "run"]];
+    for words in table {
+        let bytes = Vec::from_slice(alloc, PHONES.as_bytes())?;
+        let mut source = MemSource::new(bytes, 64, Vec::new(alloc));
+        let mut sink = MemSink::new(alloc, ROOM, 64, Vec::new(alloc))?;
+        let words = words_of(alloc, words)?;
+        let done = media_top(&rt, alloc, words, &mut source, &mut sink, &OpenGate);
+        assert_eq!(rt; done.status, 2);
+        assert_eq!(rt; sink.bytes.as_slice(), b"usage\n".as_slice());
+        assert_eq!(rt; source.calls, 0);
+    }
+    Ok(())
+}
+
+#[test]
+fn the_second_read_fails(rt: HostRuntime) -> Result<(), Fail> {
+    let alloc = rt.alloc();
+    let bytes = Vec::from_slice(alloc, PHONES.as_bytes())?;
+    let mut source = MemSource::new(bytes, 64, vec![in alloc; 2]?);
+    let (done, written) = run(&rt, alloc, &mut source, 64, Vec::new(alloc))?;
+    assert_eq!(rt; done.status, 4);
+    assert!(rt; written.is_empty());
+    Ok(())
+}
+
+#[test]
+fn the_second_write_fails(rt: HostRuntime) -> Result<(), Fail> {
+    let alloc = rt.alloc();
+    let mut bytes = Vec::from_slice(alloc, PHONES.as_bytes())?;
+    bytes.extend_from_slice(b"settle\n")?;
+    let mut source = MemSource::new(bytes, 64, Vec::new(alloc));
+    let (done, written) = run(&rt, alloc, &mut source, 10, vec![in alloc; 2]?)?;
+    assert_eq!(rt; done.status, 5);
+    assert_eq!(rt; done.due, 0);
+    assert_eq!(rt; done.journal.len(), 1);
+    assert_eq!(rt; written.as_slice(), b"settle 1\np".as_slice());
+    Ok(())
+}
+
+#[test]
+fn a_text_past_the_limit_is_refused(rt: HostRuntime) -> Result<(), Fail> {
+    let alloc = rt.alloc();
+    let mut bytes = Vec::from_slice(alloc, PHONES.as_bytes())?;
+    bytes.reserve(2 * TEXT_LIMIT)?;
+    while bytes.len() < TEXT_LIMIT + 1000 {
+        bytes.extend_from_slice(b"settle\n")?;
+    }
+    let mut source = MemSource::new(bytes, 4096, Vec::new(alloc));
+    let (done, written) = run(&rt, alloc, &mut source, 64, Vec::new(alloc))?;
+    assert_eq!(rt; done.status, 1);
+    assert_eq!(rt; written.as_slice(), FAULT.as_bytes());
+    assert_eq!(rt; source.at, TEXT_LIMIT + 1);
+    Ok(())
+}
