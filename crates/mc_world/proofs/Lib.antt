@@ -1,2 +1,3 @@
+mod BoxSound
 mod Exchanges
 mod NewLanes

@@ -1,8 +1,8 @@
 // The turn of an end: what it sends by its goal, after something that concerns it.
 
-ghost use Rattle.std.specs.Prelude.{◌≡◌, ◌≤◌, Some, IsSome, IsTrue, map};
-ghost use Rattle.mc_slot.specs.EndTurn.{due, due_live, owes};
-ghost use Rattle.mc_slot.specs.Moves.{is_live, sent_all};
+ghost use Rattle.std.specs.Prelude.{◌≡◌, ◌+◌, ◌≤◌, ◌++◌, Some, IsSome, IsTrue, map};
+ghost use Rattle.mc_slot.specs.EndTurn.{due, due_live, owes, pushed_by};
+ghost use Rattle.mc_slot.specs.Moves.{answered, is_live, sent_all};
 ghost use Rattle.mc_slot.specs.Sending.{sends_of, pair_of};
 
 use mc_signal::{Descriptor, Sender, Signal, choose};
@@ -90,4 +90,33 @@ pub fn owes(slot: &Slot, goal: Goal) -> bool
     ensures { result ≡ owes goal slot.now }
 {
     goal == Goal::Open && slot.state == State::Closed
+}
+
+/// Whether a taken signal pushes the goal: a closeack that made the slot closed does.
+pub fn pushes(s: &Signal, after: State) -> bool
+    ensures { result ≡ pushed_by s.now after }
+{
+    matches!((s, after), (Signal::Closeack, State::Closed))
+}
+
+/// What a slot answers.
+pub fn answering(no: u8, answer: Option<Signal>) -> Sends
+    ensures sends { sends_of result ≡ map (pair_of no) (answered answer) }
+    ensures few { result.len ≤ 1 }
+{
+    let mut sends = Sends::none();
+    if let Some(answer) = answer {
+        sends.push(no, answer);
+    }
+    sends
+}
+
+/// Adds what was sent after that.
+pub fn append(sends: &mut Sends, more: &Sends)
+    requires { sends.old.len + more.now.len ≤ 4 }
+    ensures { sends_of sends.new ≡ sends_of sends.old ++ sends_of more.now }
+{
+    for sending in &more.at[..more.len as usize] {
+        sends.push(sending.0, sending.1);
+    }
 }

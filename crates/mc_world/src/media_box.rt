@@ -1,10 +1,12 @@
 // A box: its slots, and the goal of each.
 
-ghost use Rattle.std.specs.Prelude.{◌≡◌, ◌<◌, length, map, IfOk};
-ghost use Rattle.mc_world.specs.Boxes.{first_box, first_slot, first_goal, first_media, goal_at};
+ghost use Rattle.std.specs.Prelude.{◌≡◌, ◌^◌, ◌<◌, ◌≤◌, if◌then◌else◌, length, map, IfOk};
+ghost use Rattle.mc_signal.specs.Empty.{no_codecs};
+ghost use Rattle.mc_signal.specs.Own.{address_of};
+ghost use Rattle.mc_world.specs.Boxes.{first_box, first_slot, first_goal, first_media, goal_at, own, sender};
 
 use crate::event::Kind;
-use mc_signal::{CodecList, Medium};
+use mc_signal::{CodecList, Descriptor, Medium, Sender};
 use mc_slot::{Goal, Slot, SlotGoal};
 use std::alloc::{AllocError, Global};
 use std::marker::Model;
@@ -52,16 +54,22 @@ pub struct MediaBox {
 }
 
 impl Model for MediaBox {
-    ghost use Rattle.mc_world.specs.Boxes.{BoxState, IsBox};
+    ghost use Rattle.mc_world.specs.Boxes.{BoxState};
 
     ghost Value = { BoxState };
 
-    ghost view = { λ b. record { kind = b.kind; number = b.number; receives = b.codecs; sends = b.sends; slots = b.slots.items; goals = b.goals.items; media = b.media.items } };
+    ghost use Rattle.mc_world.specs.BoxSound.{state_of, IsSoundBox};
+
+    ghost view = { state_of };
+
+    ghost invariant = { λ b. IsSoundBox (state_of b) };
 }
 
 impl MediaBox {
     /// A new box: its slots are closed, its goals are close, and it hears and talks on every slot.
     pub fn new(alloc: Global, setup: Setup) -> Result<MediaBox, AllocError>
+        requires few { length setup.slots.items ≤ 64 }
+        requires address { address_of setup.number < 2 ^ 32 }
         ensures { IfOk result (λ made. made ≡ first_box setup.kind setup.number setup.codecs setup.sends setup.first_version setup.slots.items) }
     {
         Ok(MediaBox {
@@ -98,11 +106,73 @@ impl MediaBox {
 
     /// The goal of a slot.
     pub fn goal(&self, local: u8) -> SlotGoal
-        requires { local < length self.now.goals }
+        requires { local < length self.now.slots }
         ensures { result ≡ goal_at self.now local }
     {
         self.goals[local as usize]
     }
+
+    /// The newest descriptor of a slot.
+    pub fn own(&self, local: u8) -> Descriptor
+        requires { local < length self.now.slots }
+        ensures { result ≡ own self.now local }
+    {
+        let media = &self.media[local as usize];
+        match self.kind {
+            Kind::Device => Descriptor {
+                origin: media.origin,
+                version: media.version,
+                addr: self.number + 1,
+                port: 5000 + local as u16,
+                codecs: only_if(media.hears, self.codecs),
+            },
+            Kind::Feature => Descriptor {
+                origin: media.origin,
+                version: 1,
+                addr: 0,
+                port: 0,
+                codecs: CodecList::none(),
+            },
+        }
+    }
+
+    // The goal of a slot, which is an end's.
+    fn end_goal(&self, local: u8) -> Goal
+        requires { local < length self.now.slots }
+        ensures { goal_at self.now local ≡ SlotGoal.End result }
+    {
+        match self.goals[local as usize] {
+            SlotGoal::End(goal) => goal,
+            SlotGoal::Link(_) => unreachable!(),
+        }
+    }
+
+    /// What a slot can send.
+    pub fn sender(&self, local: u8) -> Sender
+        requires { local < length self.now.slots }
+        ensures { result ≡ sender self.now local }
+    {
+        let media = &self.media[local as usize];
+        match self.kind {
+            Kind::Device => Sender {
+                addr: self.number + 1,
+                port: 5000 + local as u16,
+                codecs: only_if(media.talks, self.sends),
+            },
+            Kind::Feature => Sender {
+                addr: 0,
+                port: 0,
+                codecs: CodecList::none(),
+            },
+        }
+    }
+}
+
+// The codecs, where a media flag is on.
+fn only_if(on: bool, codecs: CodecList) -> CodecList
+    ensures { result ≡ (if on then codecs else no_codecs) }
+{
+    if on { codecs } else { CodecList::none() }
 }
 
 fn first_slots(alloc: Global, setups: &[SlotSetup]) -> Result<Vec<Slot>, AllocError>
