@@ -1,3 +1,4 @@
 mod BoxSound
+mod BoxTurns
 mod Exchanges
 mod NewLanes

@@ -5,9 +5,10 @@ ghost use Rattle.mc_signal.specs.Empty.{no_codecs};
 ghost use Rattle.mc_signal.specs.Own.{address_of};
 ghost use Rattle.mc_world.specs.Boxes.{first_box, first_slot, first_goal, first_media, goal_at, own, sender};
 
-use crate::event::Kind;
-use mc_signal::{CodecList, Descriptor, Medium, Sender};
-use mc_slot::{Goal, Slot, SlotGoal};
+use crate::event::{Event, Kind};
+use crate::goal::{answering, append, end_turn, pushes};
+use mc_signal::{CodecList, Descriptor, Medium, Sender, Signal};
+use mc_slot::{Goal, Sends, Slot, SlotGoal};
 use std::alloc::{AllocError, Global};
 use std::marker::Model;
 
@@ -66,6 +67,12 @@ impl Model for MediaBox {
 }
 
 impl MediaBox {
+    ghost use Rattle.std.specs.Prelude.{Some, None, IsSome};
+    ghost use Rattle.mc_slot.specs.Moves.{taken};
+    ghost use Rattle.mc_slot.specs.Sending.{sends_of};
+    ghost use Rattle.mc_world.specs.Boxes.{slot_at};
+    ghost use Rattle.mc_world.specs.BoxEvents.{box_event};
+
     /// A new box: its slots are closed, its goals are close, and it hears and talks on every slot.
     pub fn new(alloc: Global, setup: Setup) -> Result<MediaBox, AllocError>
         requires few { length setup.slots.items ≤ 64 }
@@ -134,6 +141,23 @@ impl MediaBox {
                 codecs: CodecList::none(),
             },
         }
+    }
+
+    /// A slot takes a signal that is lawful for it, and its goal has its turn. What is sent is at most an
+    /// answer and two signals more.
+    pub fn take(&mut self, slot: u8, s: Signal) -> Sends
+        requires here { slot < length self.old.slots }
+        requires lawful { IsSome (taken (slot_at self.old slot) s) }
+        ensures { box_event self.old (Event.Take slot) (Some s) ≡ Some record { sent = sends_of result; after = self.new } }
+    {
+        let goal = self.end_goal(slot);
+        let own = self.own(slot);
+        let me = self.sender(slot);
+        let here = &mut self.slots[slot as usize];
+        let mut sends = answering(slot, here.take(s));
+        let turn = end_turn(here, slot, goal, pushes(&s, here.state), own, &me);
+        append(&mut sends, &turn);
+        sends
     }
 
     // The goal of a slot, which is an end's.
