@@ -20,7 +20,7 @@ use Rattle.mc_world.specs.Boxes.{BoxState, no_slot, slot_at, goal_at, media_at, 
 use Rattle.mc_world.specs.BoxEvents.{goal_turn, box_event}
 use Rattle.mc_world.specs.BoxSound.{IsSoundBox}
 use Rattle.mc_world.specs.declared.event.Event.TheVariants.{Take}
-use Rattle.mc_world.proofs.BoxSound.{own_put, sender_put, put_sound}
+use Rattle.mc_world.proofs.BoxSound.{own_put, sender_put, put, put_sound}
 use Rattle.mc_tunnel.proofs.Steps.{took_kept}
 use Rattle.mc_turn.proofs.EndRests.{rests_kept}
 
@@ -92,3 +92,11 @@ pub take_sound : (box : BoxState) (local : ℕ) (signal : Signal) (goal : Goal) 
     → sent_all after (due goal after (pushed_by signal after.state) (own box local) (sender box local)) ≡ Some last → IsSoundBox (with_slot box local last)
 take_sound box local signal goal answer after last sound here goal_is takes goes =
     turn_sound box local goal (pushed_by signal after.state) after last sound here goal_is (took_kept (slot_at box local) signal _ takes (sound.kept local)) goes
+
+-- and where an end gets another goal and is pushed
+pub set_sound : (box : BoxState) (local : ℕ) (goal : Goal) (last : Slot) → IsSoundBox box → local < length box.slots
+    → sent_all (slot_at box local) (due goal (slot_at box local) true (own box local) (sender box local)) ≡ Some last → IsSoundBox (put box local last (End goal))
+set_sound box local goal last sound here goes =
+    put_sound box local last goal sound here
+    (all_kept (due goal (slot_at box local) true (own box local) (sender box local)) (slot_at box local) last goes (sound.kept local))
+    (rests_kept (slot_at box local).state goal (slot_at box local) last true (own box local) (sender box local) refl (sound.kept local) goes)

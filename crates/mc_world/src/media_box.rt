@@ -2,11 +2,11 @@
 
 ghost use Rattle.std.specs.Prelude.{◌≡◌, ◌^◌, ◌<◌, ◌≤◌, if◌then◌else◌, length, map, IfOk};
 ghost use Rattle.mc_signal.specs.Empty.{no_codecs};
-ghost use Rattle.mc_signal.specs.Own.{address_of};
+ghost use Rattle.mc_signal.specs.Own.{address_of, port_of};
 ghost use Rattle.mc_world.specs.Boxes.{first_box, first_slot, first_goal, first_media, goal_at, own, sender};
 
-use crate::event::{Event, Kind};
-use crate::goal::{answering, append, end_turn, pushes};
+use crate::event::{Change, Event, Kind};
+use crate::goal::{answering, append, end_turn, owes, pushes};
 use mc_signal::{CodecList, Descriptor, Medium, Sender, Signal};
 use mc_slot::{Goal, Sends, Slot, SlotGoal};
 use std::alloc::{AllocError, Global};
@@ -67,11 +67,11 @@ impl Model for MediaBox {
 }
 
 impl MediaBox {
-    ghost use Rattle.std.specs.Prelude.{Some, None, IsSome};
+    ghost use Rattle.std.specs.Prelude.{Some, None, IsSome, IsTrue};
     ghost use Rattle.mc_slot.specs.Moves.{taken};
     ghost use Rattle.mc_slot.specs.Sending.{sends_of};
-    ghost use Rattle.mc_world.specs.Boxes.{slot_at};
-    ghost use Rattle.mc_world.specs.BoxEvents.{box_event};
+    ghost use Rattle.mc_world.specs.Boxes.{owes_at, slot_at};
+    ghost use Rattle.mc_world.specs.BoxEvents.{box_event, is_enabled, retry_step, set_end_step};
 
     /// A new box: its slots are closed, its goals are close, and it hears and talks on every slot.
     pub fn new(alloc: Global, setup: Setup) -> Result<MediaBox, AllocError>
@@ -130,7 +130,7 @@ impl MediaBox {
                 origin: media.origin,
                 version: media.version,
                 addr: self.number + 1,
-                port: 5000 + local as u16,
+                port: port_of(local),
                 codecs: only_if(media.hears, self.codecs),
             },
             Kind::Feature => Descriptor {
@@ -140,6 +140,38 @@ impl MediaBox {
                 port: 0,
                 codecs: CodecList::none(),
             },
+        }
+    }
+
+    /// What a slot can send.
+    pub fn sender(&self, local: u8) -> Sender
+        requires { local < length self.now.slots }
+        ensures { result ≡ sender self.now local }
+    {
+        let media = &self.media[local as usize];
+        match self.kind {
+            Kind::Device => Sender {
+                addr: self.number + 1,
+                port: port_of(local),
+                codecs: only_if(media.talks, self.sends),
+            },
+            Kind::Feature => Sender {
+                addr: 0,
+                port: 0,
+                codecs: CodecList::none(),
+            },
+        }
+    }
+
+    /// Whether an event can happen now. A Take also needs a lawful signal that comes to its slot.
+    pub fn enabled(&self, e: &Event) -> bool
+        ensures { result ≡ is_enabled self.now e.now }
+    {
+        let count = self.slots.len();
+        match *e {
+            Event::Take(local) | Event::Set(Change::End(local, _)) => (local as usize) < count,
+            Event::Retry(local) => (local as usize) < count && self.owes(local),
+            _ => false,
         }
     }
 
@@ -160,6 +192,52 @@ impl MediaBox {
         sends
     }
 
+    /// An enabled event that takes no signal happens, and the goal that it concerns has its turn.
+    pub fn act(&mut self, e: Event) -> Sends
+        requires { IsSome (box_event self.old e None) }
+        ensures { box_event self.old e None ≡ Some record { sent = sends_of result; after = self.new } }
+    {
+        match e {
+            Event::Set(Change::End(local, goal)) => self.set_end(local, goal),
+            Event::Retry(local) => self.retry(local),
+            _ => unreachable!(),
+        }
+    }
+
+    // The slot gets the goal, which has its turn unless it was the goal already.
+    fn set_end(&mut self, local: u8, goal: Goal) -> Sends
+        requires { local < length self.old.slots }
+        ensures { set_end_step self.old local goal ≡ Some record { sent = sends_of result; after = self.new } }
+    {
+        if self.goals[local as usize] == SlotGoal::End(goal) {
+            return Sends::none();
+        }
+        let own = self.own(local);
+        let me = self.sender(local);
+        self.goals[local as usize] = SlotGoal::End(goal);
+        end_turn(&mut self.slots[local as usize], local, goal, true, own, &me)
+    }
+
+    // A slot that owes a retry is pushed.
+    fn retry(&mut self, local: u8) -> Sends
+        requires here { local < length self.old.slots }
+        requires owed { IsTrue (owes_at self.old local) }
+        ensures { retry_step self.old local ≡ Some record { sent = sends_of result; after = self.new } }
+    {
+        let goal = self.end_goal(local);
+        let own = self.own(local);
+        let me = self.sender(local);
+        end_turn(&mut self.slots[local as usize], local, goal, true, own, &me)
+    }
+
+    // Whether a slot owes a retry.
+    fn owes(&self, local: u8) -> bool
+        requires { local < length self.now.slots }
+        ensures { result ≡ owes_at self.now local }
+    {
+        owes(&self.slots[local as usize], self.end_goal(local))
+    }
+
     // The goal of a slot, which is an end's.
     fn end_goal(&self, local: u8) -> Goal
         requires { local < length self.now.slots }
@@ -170,26 +248,13 @@ impl MediaBox {
             SlotGoal::Link(_) => unreachable!(),
         }
     }
+}
 
-    /// What a slot can send.
-    pub fn sender(&self, local: u8) -> Sender
-        requires { local < length self.now.slots }
-        ensures { result ≡ sender self.now local }
-    {
-        let media = &self.media[local as usize];
-        match self.kind {
-            Kind::Device => Sender {
-                addr: self.number + 1,
-                port: 5000 + local as u16,
-                codecs: only_if(media.talks, self.sends),
-            },
-            Kind::Feature => Sender {
-                addr: 0,
-                port: 0,
-                codecs: CodecList::none(),
-            },
-        }
-    }
+// The port of a device's slot.
+fn port_of(local: u8) -> u16
+    ensures { result ≡ port_of local }
+{
+    5000 + local as u16
 }
 
 // The codecs, where a media flag is on.
