@@ -1,1 +1,13 @@
+mod CodecLists
+mod Cuts
+mod Ending
+mod FirstNets
+mod Kept
+mod Marks
 mod Pieces
+mod Places
+mod Saying
+mod Spaced
+mod Steps
+mod Told
+mod Unfit

@@ -1,12 +1,12 @@
 -- The form of a text, as rules that are asked of every line with what the lines before it declared.
-use Rattle.std.specs.Prelude.{ℕ, ◌≡◌, ◌<◌, ◌≤◌, ◌+◌, ◌==◌, ◌&&◌, ◌||◌, not, Bool, true, false, if◌then◌else◌, codes, fold, length, map, nat_le, nat_lt, slice_index_or, take, IsSome, List, [], ◌∷◌, ◌++◌, Option, Some, None}
+use Rattle.std.specs.Prelude.{ℕ, ◌≡◌, ◌<◌, ◌≤◌, ◌==◌, ◌&&◌, ◌||◌, not, Bool, true, false, if◌then◌else◌, codes, fold, length, map, nat_le, nat_lt, slice_index_or, take, IsSome, List, [], ◌∷◌, ◌++◌, Option, Some, None}
 use Rattle.std.specs.List.{list_all, list_any}
-use Rattle.std.specs.Option.{is_none, is_some, option_and_then, unwrap_or}
+use Rattle.std.specs.Option.{is_some, unwrap_or}
 use Rattle.std.specs.Str.{bytes_eq}
 use Rattle.mc_signal.specs.declared.Medium.TheVariants.{Audio}
 use Rattle.mc_world.specs.Worlds.{ChannelState}
 use Rattle.mc_top.specs.Lines.{lines, words}
-use Rattle.mc_top.specs.NameLists.{NameLists, no_names, place_of, slots_of, with_codec, with_box, with_slot}
+use Rattle.mc_top.specs.NameLists.{NameLists, no_names, is_new, place_of, slots_of, with_codec, with_box, with_slot}
 use Rattle.mc_top.specs.Spelling.{is_name}
 use Rattle.mc_top.specs.declared.script.Command.{Command}
 use Rattle.mc_top.specs.declared.script.Command.TheVariants.{Settle}
@@ -77,10 +77,6 @@ is_commands other = false
 abbrev pub version_after : Declared → List (List ℕ) → Option Declared
 version_after d (number ∷ []) = if_kept (is_start d.section && bytes_eq number (codes "1")) (record d { section = section.Version })
 version_after d others = None
-
--- a name that its list hasn't got yet
-abbrev pub is_new : List (List ℕ) → List ℕ → Bool
-is_new names name = is_name name && is_none (place_of names name)
 
 -- `codec NAME`: a new name, one of at most 64
 abbrev pub codec_after : Declared → List (List ℕ) → Option Declared

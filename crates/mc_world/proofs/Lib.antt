@@ -2,3 +2,4 @@ mod BoxSound
 mod BoxTurns
 mod Exchanges
 mod NewLanes
+pub mod TwoPhones

@@ -7,5 +7,6 @@ pub mod Settles
 pub mod Setups
 pub mod Sound
 pub mod Steps
+pub mod TwoPhones
 pub mod Worlds
 pub mod Exchanges

@@ -1,8 +1,15 @@
 //! Laws of the world, over its definitions alone: each function's contract is the law's sentence.
 
 ghost use Rattle.mc_world.specs.Exchanges.{WorkedExchanges};
+ghost use Rattle.mc_world.specs.TwoPhones.{TwoPhonesAreIdle};
 
 /// The definitions give the worked exchanges of two phones what a telephony engineer expects of them.
 pub fn worked_exchanges()
     ensures { WorkedExchanges }
+{}
+
+/// The first world of two devices and one audio channel between them is sound, and a settle without commands
+/// leaves it as it is: one path, closed, as its two end goals say.
+pub fn two_phones_are_idle()
+    ensures { TwoPhonesAreIdle }
 {}

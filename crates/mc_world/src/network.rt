@@ -1,10 +1,12 @@
 // Channels, and the world that they join.
 
 ghost use Rattle.std.specs.Prelude.{◌≡◌, ◌<◌, ◌*◌, ◌++◌, [], map, replicate, IfOk, OnOk};
-ghost use Rattle.mc_world.specs.Worlds.{first_world, slot_count, place, places_among, places_within};
+ghost use Rattle.mc_world.specs.Sound.{IsNumbered};
+ghost use Rattle.mc_world.specs.Worlds.{first_world, slot_count, place, slot_of, goal_of, places_among, places_within};
 
 use crate::media_box::MediaBox;
 use mc_signal::{Medium, Tagged};
+use mc_slot::{Slot, SlotGoal};
 use std::alloc::{AllocError, Global};
 use std::marker::Model;
 
@@ -95,6 +97,28 @@ impl World {
         ensures { result ≡ place self.now slot }
     {
         self.places[slot as usize]
+    }
+}
+
+impl World {
+    /// A slot, by its number.
+    pub fn slot(&self, slot: u32) -> Slot
+        requires numbered { IsNumbered self.now }
+        requires slot { slot < slot_count self.now }
+        ensures { result ≡ slot_of self.now slot }
+    {
+        let (who, local) = self.place(slot);
+        self.boxes[who as usize].slots()[local as usize]
+    }
+
+    /// The goal of a slot, by its number.
+    pub fn goal(&self, slot: u32) -> SlotGoal
+        requires numbered { IsNumbered self.now }
+        requires slot { slot < slot_count self.now }
+        ensures { result ≡ goal_of self.now slot }
+    {
+        let (who, local) = self.place(slot);
+        self.boxes[who as usize].goal(local)
     }
 }
 

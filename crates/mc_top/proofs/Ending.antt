@@ -1,0 +1,32 @@
+-- How a run ends.
+use Rattle.std.proofs.Common.{◌≡◌, ◌⊎◌, ℕ, List, [], inl, inr, refl, arith, Some}
+use Rattle.std.specs.declared.option.Option.{Option}
+use Rattle.mc_top.specs.Commands.{batches}
+use Rattle.mc_top.specs.Journals.{IsJournal, HoldsAtSettles}
+use Rattle.mc_top.specs.Modes.{output_of}
+use Rattle.mc_top.specs.Nets.{NetState, Declares}
+use Rattle.mc_top.specs.Printed.{printed}
+use Rattle.mc_top.specs.Top.{Delivers, Ends, Settles}
+use Rattle.mc_top.specs.declared.script.JournalLine.{JournalLine}
+use Rattle.mc_top.specs.declared.words.Mode.{Mode}
+use Rattle.mc_top.specs.declared.words.Mode.TheVariants.{Run}
+
+-- what a mode prints is what the settles print
+printed_by : (mode : Mode) (net : NetState) (journal : List JournalLine) → printed net.names 1 net.world journal ≡ output_of mode net journal
+printed_by Run net journal = refl
+
+-- the work was done, and what it printed was delivered
+pub ends_worked : (mode : Mode) (text : List ℕ) (net : NetState) (old new : Option (List ℕ)) (status due : ℕ) (journal : List JournalLine) (output : List ℕ)
+    → Declares text net → IsJournal net.world (batches net.commands) journal → HoldsAtSettles net.world journal
+    → output ≡ printed net.names 1 net.world journal → due ≡ 0 → Delivers status 0 old new output → Ends mode (Some text) old new status due journal
+ends_worked mode text net old new status due journal output declared settled holds is none delivered = record {
+  worked = λ zero. record {
+    net = net;
+    declared = declared;
+    settles = record { settled = settled; holds = holds };
+    delivered = rw (is, printed_by mode net journal) at delivered;
+  };
+  refused = λ one. absurd (omega arith);
+  stopped = λ ended. elim ended [ | inl three ↦ absurd (omega arith) | inr four ↦ absurd (omega arith) ];
+  no_journal = λ some. absurd (some none);
+}

@@ -1,0 +1,100 @@
+-- What the lines of a text have declared makes a network of two phones.
+use Rattle.std.proofs.Common.{◌≡◌, ◌≢◌, ◌<◌, ◌⊎◌, ◌==◌, ℕ, zero, suc, Bool, List, [], ◌∷◌, length, map, refl, sym, ap, ◌∙◌, subst, inl, inr, arith, slice_index_or, Result, Ok, Err, IfOk}
+use Rattle.std.proofs.lemmas.List.{length-map}
+use Rattle.mc_signal.specs.Choice.{codecs_of}
+use Rattle.mc_signal.specs.declared.codec_list.CodecList.{CodecList}
+use Rattle.mc_world.specs.Boxes.{BoxState}
+use Rattle.mc_world.specs.Setups.{world_of_devices}
+use Rattle.mc_world.specs.TwoPhones.{IsIdle, JoinsTwo, audio_channel, one_channel, the_path}
+use Rattle.mc_world.specs.Worlds.{ChannelState, WorldState, first_world}
+use Rattle.mc_world.proofs.TwoPhones.{two_phones_are_idle}
+use Rattle.mc_top.specs.Forms.{Declared}
+use Rattle.mc_top.specs.NameLists.{NameLists, slots_of}
+use Rattle.mc_top.specs.Nets.{initiator, two_devices}
+use Rattle.mc_top.specs.Printed.{HasName, HasNames}
+use Rattle.mc_top.specs.Shapes.{HasChannel}
+
+-- two different numbers below two
+apart_below_two : (from to : ℕ) → from < 2 → to < 2 → from ≢ to → JoinsTwo (audio_channel from to ∷ [])
+apart_below_two zero zero below to_below apart = absurd (apart refl)
+apart_below_two zero (suc zero) below to_below apart = inl refl
+apart_below_two zero (suc (suc to)) below to_below apart = absurd (omega arith)
+apart_below_two (suc zero) zero below to_below apart = inr refl
+apart_below_two (suc zero) (suc zero) below to_below apart = absurd (apart refl)
+apart_below_two (suc zero) (suc (suc to)) below to_below apart = absurd (omega arith)
+apart_below_two (suc (suc from)) to below to_below apart = absurd (omega arith)
+
+-- the channel joins the two boxes
+pub joins_two : (d : Declared) → HasChannel d → JoinsTwo d.channels
+joins_two d has = rw has.channels (apart_below_two has.from has.to has.from_box has.to_box has.apart)
+
+-- two lists
+pub record AreTwo (lists : List CodecList) : Type 0 where
+  pub first : CodecList
+  pub second : CodecList
+  pub are : lists ≡ first ∷ second ∷ []
+
+pub are_two : (lists : List CodecList) → length lists ≡ 2 → AreTwo lists
+are_two [] two = absurd cc
+are_two (a ∷ []) two = absurd (omega arith)
+are_two (a ∷ b ∷ []) two = record { first = a; second = b; are = refl }
+are_two (a ∷ b ∷ c ∷ more) two = absurd (omega arith)
+
+-- two devices and their channel are their first world
+devices_are : (channels : List ChannelState) (a b : CodecList) → JoinsTwo channels
+    → first_world (two_devices (initiator channels) (a ∷ b ∷ [])) channels ≡ world_of_devices channels (a ∷ b ∷ [])
+devices_are channels a b (inl forth) = rw forth refl
+devices_are channels a b (inr back) = rw back refl
+
+pub first_world_is : (channels : List ChannelState) (lists : List CodecList) (boxes : List BoxState) (world : WorldState) → JoinsTwo channels → length lists ≡ 2
+    → boxes ≡ two_devices (initiator channels) lists → world ≡ first_world boxes channels → world ≡ world_of_devices channels lists
+first_world_is channels lists boxes world joins two are is =
+    let t = are_two lists two in
+    rw (is, are, t.are) (devices_are channels t.first t.second joins)
+
+-- there is a channel
+pub some_channel : (channels : List ChannelState) → JoinsTwo channels → 0 < length channels
+some_channel channels (inl forth) = rw forth (omega arith)
+some_channel channels (inr back) = rw back (omega arith)
+
+names_of_two : (names : NameLists) (channels : List ChannelState) (a b : CodecList) → JoinsTwo channels → length names.boxes ≡ 2
+    → ((who : ℕ) → who < 2 → length (slots_of names who) ≡ 1) → HasNames names (world_of_devices channels (a ∷ b ∷ [])) the_path
+names_of_two names channels a b (inl forth) boxes slots =
+    let zero_has : length (slots_of names 0) ≡ 1 = slots 0 (omega arith) in
+    let one_has : length (slots_of names 1) ≡ 1 = slots 1 (omega arith) in
+    rw forth (record {
+      low = record { within = omega arith; box = omega arith; slot = omega arith };
+      high = record { within = omega arith; box = omega arith; slot = omega arith };
+      low_codec = λ flows. absurd cc;
+      high_codec = λ flows. absurd cc;
+    })
+names_of_two names channels a b (inr back) boxes slots =
+    let zero_has : length (slots_of names 0) ≡ 1 = slots 0 (omega arith) in
+    let one_has : length (slots_of names 1) ≡ 1 = slots 1 (omega arith) in
+    rw back (record {
+      low = record { within = omega arith; box = omega arith; slot = omega arith };
+      high = record { within = omega arith; box = omega arith; slot = omega arith };
+      low_codec = λ flows. absurd cc;
+      high_codec = λ flows. absurd cc;
+    })
+
+-- as many lists as boxes
+pub two_lists : (d : Declared) (lists : List CodecList) → HasChannel d → map codecs_of lists ≡ d.lists → length lists ≡ 2
+two_lists d lists has same = sym (length-map lists codecs_of) ∙ ap (λ (l : List (List ℕ)). length l) same ∙ has.lists
+
+-- what was declared makes a world that is at rest
+pub net_is_idle : (d : Declared) (lists : List CodecList) (channels : List ChannelState) (world : WorldState) → HasChannel d → map codecs_of lists ≡ d.lists
+    → channels ≡ d.channels → world ≡ world_of_devices channels lists → IsIdle world
+net_is_idle d lists channels world has same joined is = rw (is, joined) (two_phones_are_idle d.channels lists (joins_two d has) (two_lists d lists has same))
+
+-- and whose two slots have names
+pub net_has_names : (d : Declared) (names : NameLists) (lists : List CodecList) (channels : List ChannelState) (world : WorldState) → HasChannel d → map codecs_of lists ≡ d.lists
+    → names ≡ d.names → channels ≡ d.channels → world ≡ world_of_devices channels lists → HasNames names world the_path
+net_has_names d names lists channels world has same named joined is =
+    let t = are_two lists (two_lists d lists has same) in
+    rw (is, joined, named, t.are) (names_of_two d.names d.channels t.first t.second (joins_two d has) has.boxes has.slots)
+
+-- a fact for an Ok, from another one
+pub if_ok : {T E : Type 0} (result : Result T E) (P Q : T → Type 0) → ((x : T) → P x → Q x) → IfOk result P → IfOk result Q
+if_ok (Ok x) P Q leads holds = leads x holds
+if_ok (Err e) P Q leads holds = tt

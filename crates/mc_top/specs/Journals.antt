@@ -1,0 +1,36 @@
+-- A journal: the turns of every settle, in order, each settle with its mark behind it.
+use Rattle.std.specs.Prelude.{◌≡◌, List, [], ◌∷◌, ◌++◌, map}
+use Rattle.std.specs.Option.{unwrap_or}
+use Rattle.mc_world.specs.PathTable.{PathHolds}
+use Rattle.mc_world.specs.Paths.{PathEnds, paths}
+use Rattle.mc_world.specs.Settles.{IsSettled}
+use Rattle.mc_world.specs.Steps.{step}
+use Rattle.mc_world.specs.Worlds.{WorldState}
+use Rattle.mc_world.specs.declared.event.Turn.{Turn}
+use Rattle.mc_top.specs.declared.script.JournalLine.{JournalLine}
+use Rattle.mc_top.specs.declared.script.JournalLine.TheVariants.{Turn as Made, Settled}
+
+-- the turns of a settle, as lines
+abbrev pub lines_for : List Turn → List JournalLine
+lines_for turns = map Made turns ++ Settled ∷ []
+
+-- the journal is one settled segment for each batch, in order, all of them one run from a world
+abbrev pub IsJournal : WorldState → List (List Turn) → List JournalLine → Type 0
+IsJournal world [] journal = journal ≡ []
+IsJournal world (batch ∷ batches) journal =
+    (turns : List Turn) × (last : WorldState) × (rest : List JournalLine)
+    × (journal ≡ lines_for turns ++ rest) × IsSettled world batch turns last × IsJournal last batches rest
+
+-- the world after a turn of a journal
+abbrev pub replayed : WorldState → Turn → WorldState
+replayed world turn = unwrap_or (step world turn) world
+
+abbrev pub AllHold : WorldState → List PathEnds → Type 0
+AllHold world [] = Unit {0}
+AllHold world (path ∷ others) = PathHolds world path × AllHold world others
+
+-- at each settle the two end slots of every path are in the path's state, and where it flows they have each other's newest descriptor and the choice for it
+abbrev pub HoldsAtSettles : WorldState → List JournalLine → Type 0
+HoldsAtSettles world [] = Unit {0}
+HoldsAtSettles world (Made turn ∷ journal) = HoldsAtSettles (replayed world turn) journal
+HoldsAtSettles world (Settled ∷ journal) = AllHold world (paths world) × HoldsAtSettles world journal

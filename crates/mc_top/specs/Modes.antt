@@ -1,0 +1,25 @@
+-- What the words of the command line ask for, and what a mode prints.
+use Rattle.std.specs.Prelude.{◌≡◌, ℕ, List, [], ◌∷◌, codes, map, string_bytes, String}
+use Rattle.std.specs.declared.alloc.Global.{Global}
+use Rattle.std.specs.declared.option.Option.{Option}
+use Rattle.mc_top.specs.Nets.{NetState}
+use Rattle.mc_top.specs.Printed.{printed}
+use Rattle.mc_top.specs.declared.script.JournalLine.{JournalLine}
+use Rattle.mc_top.specs.declared.words.Mode.{Mode}
+use Rattle.mc_top.specs.declared.words.Mode.TheVariants.{Run}
+
+-- the words of a mode
+abbrev pub spelt : Mode → List (List ℕ)
+spelt Run = codes "run" ∷ []
+
+-- the words are those of a mode
+abbrev pub IsCommand : List (String Global) → Mode → Type 0
+IsCommand words mode = map string_bytes words ≡ spelt mode
+
+-- the text that a mode works on, where it is told: what the source has left
+abbrev pub text_for : Mode → Option (List ℕ) → Option (List ℕ)
+text_for Run left = left
+
+-- what a mode prints for a journal of the network
+abbrev pub output_of : Mode → NetState → List JournalLine → List ℕ
+output_of Run net journal = printed net.names 1 net.world journal

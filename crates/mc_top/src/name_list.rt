@@ -1,0 +1,85 @@
+// A list of names without repeats.
+
+ghost use Rattle.std.specs.Prelude.{◌≡◌, ◌<◌, [], length, OnOk, OnErr, IsTrue, Some, None, slice_index_or};
+ghost use Rattle.std.specs.List.{slice_get};
+ghost use Rattle.std.specs.Option.{option_copied};
+ghost use Rattle.mc_top.specs.NameLists.{place_of, with_name};
+ghost use Rattle.mc_top.specs.Spelling.{is_name};
+
+use indexmap::IndexSet;
+use std::alloc::{AllocError, Global};
+use std::marker::Model;
+
+/// Names in the order in which they were added, none of them twice.
+#[derive(Drop)]
+pub struct NameList {
+    alloc: Global,
+    names: IndexSet<Vec<u8>>,
+}
+
+impl Model for NameList {
+    ghost use Rattle.std.specs.Prelude.{List, ℕ, map};
+
+    ghost Value = { List (List ℕ) };
+
+    ghost use Rattle.mc_top.specs.NameLists.{AreNames};
+
+    ghost view = { λ list. map (λ name. name.items) list.names.keys };
+
+    ghost invariant = { λ list. AreNames (map (λ name. name.items) list.names.keys) };
+}
+
+impl NameList {
+    /// The list without names.
+    pub fn new(alloc: Global) -> NameList
+        ensures { result ≡ [] }
+    {
+        NameList {
+            alloc,
+            names: IndexSet::new(alloc),
+        }
+    }
+
+    /// How many names there are.
+    pub fn len(&self) -> usize
+        ensures { result ≡ length self.now }
+    {
+        self.names.len()
+    }
+
+    /// The number of a name.
+    pub fn find(&self, name: &[u8]) -> Option<usize>
+        ensures { result ≡ place_of self.now name.now }
+    {
+        self.names.get_index_of(name)
+    }
+
+    fn get(&self, number: usize) -> Option<&[u8]>
+        ensures { option_copied result ≡ slice_get self.now number }
+    {
+        self.names.get_index(number).map(|name| name.as_slice())
+    }
+
+    /// The name that has a number.
+    pub fn name(&self, number: usize) -> &[u8]
+        requires { number < length self.now }
+        ensures name { result.now ≡ slice_index_or self.now number [] }
+        ensures found { place_of self.now result.now ≡ Some number }
+        ensures spelt { IsTrue (is_name result.now) }
+    {
+        let _ = &self.names;
+        self.get(number).unwrap()
+    }
+
+    /// Adds a new name last.
+    pub fn push(&mut self, name: &[u8]) -> Result<(), AllocError>
+        requires name { IsTrue (is_name name.now) }
+        requires new { place_of self.old name.now ≡ None }
+        ensures added { OnOk result (self.new ≡ with_name self.old name.now) }
+        ensures unchanged { OnErr result (self.new ≡ self.old) }
+    {
+        let owned = Vec::from_slice(self.alloc, name)?;
+        self.names.insert(owned)?;
+        Ok(())
+    }
+}
