@@ -30,6 +30,7 @@ fn one_device(
     initiator: bool,
     codecs: CodecList,
 ) -> Result<MediaBox, AllocError>
+    requires { number < 2 }
     ensures { IfOk result (λ made. made ≡ one_device number initiator codecs) }
 {
     let slot = SlotSetup {

@@ -1,3 +1,5 @@
+mod BoxSound
+mod BoxTurns
 mod Exchanges
 mod NewLanes
 pub mod TwoPhones

@@ -1,6 +1,6 @@
 -- One event of one box: what it sends, and what it is after that. An event that has no case isn't enabled.
 use Rattle.std.specs.Prelude.{ℕ, Bool, true, if◌then◌else◌, List, [], ◌++◌, map, Option, Some, None}
-use Rattle.std.specs.Option.{option_map, option_and_then}
+use Rattle.std.specs.Option.{is_some, option_map, option_and_then}
 use Rattle.mc_signal.specs.declared.Signal.{Signal}
 use Rattle.mc_slot.specs.EndTurn.{due, pushed_by}
 use Rattle.mc_slot.specs.Moves.{taken, sent_all, answered}
@@ -59,3 +59,8 @@ box_event box (Take local) (Some signal) = if is_slot box local then take_step b
 box_event box (Set (NewEnd local goal)) None = if is_slot box local then set_end_step box local goal else None
 box_event box (Retry local) None = if is_slot box local then retry_step box local else None
 box_event box event signal = None
+
+-- whether an event can happen to a box, where a Take has a lawful signal to take
+abbrev pub is_enabled : BoxState → Event → Bool
+is_enabled box (Take local) = is_slot box local
+is_enabled box event = is_some (box_event box event None)

@@ -2,10 +2,12 @@
 #![tactic(auto)]
 
 mod event;
+mod goal;
 pub mod laws;
 mod media_box;
 mod network;
 
 pub use event::{BoxShape, Change, Event, Kind, MediaChange, Shape, Turn};
+pub use goal::{end_turn, owes};
 pub use media_box::{MediaBox, Setup, SlotMedia, SlotSetup};
 pub use network::{Channel, Tunnel, World};
