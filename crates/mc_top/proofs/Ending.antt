@@ -1,12 +1,12 @@
 -- How a run ends.
-use Rattle.std.proofs.Common.{◌≡◌, ◌⊎◌, ℕ, List, [], inl, inr, refl, arith, Some}
+use Rattle.std.proofs.Common.{◌≡◌, ℕ, List, inl, inr, refl, arith, Some}
 use Rattle.std.specs.declared.option.Option.{Option}
 use Rattle.mc_top.specs.Commands.{batches}
 use Rattle.mc_top.specs.Journals.{IsJournal, HoldsAtSettles}
 use Rattle.mc_top.specs.Modes.{output_of}
 use Rattle.mc_top.specs.Nets.{NetState, Declares}
 use Rattle.mc_top.specs.Printed.{printed}
-use Rattle.mc_top.specs.Top.{Delivers, Ends, Settles}
+use Rattle.mc_top.specs.Top.{Delivers, Ends}
 use Rattle.mc_top.specs.declared.script.JournalLine.{JournalLine}
 use Rattle.mc_top.specs.declared.words.Mode.{Mode}
 use Rattle.mc_top.specs.declared.words.Mode.TheVariants.{Run}

@@ -1,17 +1,17 @@
 -- What the lines of a text have declared makes a network of two phones.
-use Rattle.std.proofs.Common.{◌≡◌, ◌≢◌, ◌<◌, ◌⊎◌, ◌==◌, ℕ, zero, suc, Bool, List, [], ◌∷◌, length, map, refl, sym, ap, ◌∙◌, subst, inl, inr, arith, slice_index_or, Result, Ok, Err, IfOk}
+use Rattle.std.proofs.Common.{◌≡◌, ◌≢◌, ◌<◌, ℕ, zero, suc, List, [], ◌∷◌, length, map, refl, sym, ap, ◌∙◌, inl, inr, arith, Result, Ok, Err, IfOk}
 use Rattle.std.proofs.lemmas.List.{length-map}
 use Rattle.mc_signal.specs.Choice.{codecs_of}
 use Rattle.mc_signal.specs.declared.codec_list.CodecList.{CodecList}
 use Rattle.mc_world.specs.Boxes.{BoxState}
 use Rattle.mc_world.specs.Setups.{world_of_devices}
-use Rattle.mc_world.specs.TwoPhones.{IsIdle, JoinsTwo, audio_channel, one_channel, the_path}
+use Rattle.mc_world.specs.TwoPhones.{IsIdle, JoinsTwo, audio_channel, the_path}
 use Rattle.mc_world.specs.Worlds.{ChannelState, WorldState, first_world}
 use Rattle.mc_world.proofs.TwoPhones.{two_phones_are_idle}
 use Rattle.mc_top.specs.Forms.{Declared}
 use Rattle.mc_top.specs.NameLists.{NameLists, slots_of}
 use Rattle.mc_top.specs.Nets.{initiator, two_devices}
-use Rattle.mc_top.specs.Printed.{HasName, HasNames}
+use Rattle.mc_top.specs.Printed.{HasNames}
 use Rattle.mc_top.specs.Shapes.{HasChannel}
 
 -- two different numbers below two

@@ -1,18 +1,16 @@
 -- Every line keeps what is known of all that is declared.
-use Rattle.std.proofs.Common.{◌≡◌, ◌≢◌, ◌==◌, ℕ, zero, suc, ◌+◌, ◌<◌, ◌≤◌, Bool, true, false, ◌&&◌, not, nat_lt, codes, List, [], ◌∷◌, ◌++◌, length, map, Option, Some, None, slice_index_or, slice_set, IsTrue, inl, inr, refl, sym, ap, subst, ◌∙◌, arith, rules, length-append}
+use Rattle.std.proofs.Common.{◌≡◌, ◌≢◌, ◌==◌, ℕ, zero, suc, ◌<◌, Bool, true, false, ◌&&◌, not, nat_lt, codes, List, [], ◌∷◌, ◌++◌, length, map, Option, Some, None, slice_index_or, slice_set, inl, inr, refl, sym, subst, ◌∙◌, arith, length-append}
 use Rattle.std.proofs.lemmas.Grind.{common_steps}
 use Rattle.std.specs.List.{All, list_all}
-use Rattle.std.specs.Option.{is_some}
 use Rattle.std.specs.Str.{bytes_eq}
 use Rattle.std.proofs.lemmas.Bool.{cases_eq}
 use Rattle.std.proofs.lemmas.List.{get_or-set_same, get_or-set_other}
 use Rattle.std.proofs.lemmas.List.Elements.{All-push}
 use Rattle.std.proofs.Math.ListN.{length-set}
-use Rattle.mc_top.specs.Forms.{Declared, nothing, if_kept, is_start, opens_codecs, opens_boxes, is_boxes, is_channels, is_commands, version_after, codec_after, device_after, channel_after, joined, joined_by, begin_after, settle_after, is_codec, codec_of, are_codecs, codec_limit, command_limit, keyword_of, kind_after, words_after, line_after}
+use Rattle.mc_top.specs.Forms.{Declared, if_kept, is_start, opens_codecs, opens_boxes, is_boxes, is_channels, is_commands, version_after, codec_after, device_after, channel_after, joined, joined_by, begin_after, settle_after, is_codec, codec_of, are_codecs, codec_limit, command_limit, keyword_of, kind_after, words_after, line_after}
 use Rattle.mc_top.specs.Lines.{words}
-use Rattle.mc_top.specs.NameLists.{NameLists, is_new, place_of, slots_of, with_codec, with_box, with_slot}
-use Rattle.mc_world.specs.TwoPhones.{audio_channel}
-use Rattle.mc_top.specs.Shapes.{HasNoBoxes, HasBoxes, HasChannel, HasNoCommands, HasCommands, AreSettles, FitsSection, IsInForm}
+use Rattle.mc_top.specs.NameLists.{NameLists, is_new, place_of, slots_of, with_codec, with_box}
+use Rattle.mc_top.specs.Shapes.{HasNoBoxes, HasBoxes, HasChannel, HasNoCommands, HasCommands, FitsSection, IsInForm}
 use Rattle.mc_top.specs.Spelling.{is_name}
 use Rattle.mc_top.specs.declared.script.Command.TheVariants.{Settle}
 use Rattle.mc_top.specs.declared.script.Keyword.{Keyword}

@@ -1,19 +1,17 @@
 -- Scripts of settles alone, in a world that a settle leaves as it is.
-use Rattle.std.proofs.Common.{◌≡◌, ◌<◌, ℕ, zero, suc, List, [], ◌∷◌, ◌++◌, ◌+◌, length, refl, sym, ap, subst, append_assoc}
+use Rattle.std.proofs.Common.{◌≡◌, ℕ, zero, suc, List, [], ◌∷◌, ◌++◌, ◌+◌, length, refl, sym, ap, subst, append_assoc}
 use Rattle.std.proofs.Math.ListN.{replicate}
 use Rattle.std.proofs.lemmas.List.Elements.{recursion_from_All}
 use Rattle.std.specs.List.{AllByRecursion}
-use Rattle.mc_world.specs.Settles.{IsSettled}
 use Rattle.mc_world.specs.TwoPhones.{IsIdle}
 use Rattle.mc_world.specs.Worlds.{WorldState}
-use Rattle.mc_world.specs.declared.event.Turn.{Turn}
 use Rattle.mc_top.specs.Commands.{batches}
-use Rattle.mc_top.specs.Journals.{IsJournal, HoldsAtSettles, AllHold}
+use Rattle.mc_top.specs.Journals.{IsJournal, HoldsAtSettles}
 use Rattle.mc_top.specs.Shapes.{AreSettles}
 use Rattle.mc_top.specs.NameLists.{NameLists}
 use Rattle.mc_top.specs.Printed.{printed, settle_text}
 use Rattle.mc_top.specs.declared.script.Command.{Command}
-use Rattle.mc_top.specs.declared.script.Command.TheVariants.{Stimulus, Settle}
+use Rattle.mc_top.specs.declared.script.Command.TheVariants.{Settle}
 use Rattle.mc_top.specs.declared.script.JournalLine.{JournalLine}
 use Rattle.mc_top.specs.declared.script.JournalLine.TheVariants.{Settled}
 

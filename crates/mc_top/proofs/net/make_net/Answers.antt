@@ -1,4 +1,4 @@
-use Rattle.mc_top.proofs.FirstNets.{joins_two, net_has_names, net_is_idle, two_lists}
+use Rattle.mc_top.proofs.FirstNets.{net_has_names, net_is_idle}
 use Rattle.mc_top.proofs.net.make_net.Goals as goal
 
 pub returns-clause-idle : goal.returns-clause-idle
