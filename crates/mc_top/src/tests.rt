@@ -2,14 +2,13 @@
 ghost use Rattle.std.specs.Prelude.{◌<◌};
 
 use crate::io::{MemSink, MemSource, OpenGate};
+use crate::text::TEXT_LIMIT;
 use crate::{Done, media_top};
 use std::alloc::{AllocError, Global};
 use std::test::Fail;
 use std::thread::Threads;
 
 const ROOM: usize = 1048576;
-
-const TEXT_LIMIT: usize = 1048576;
 
 const PHONES: &str =
     "media 1\ncodec g711\ncodec g729\ndev alice g711 g729\ndev bob g729\nchan audio alice a bob a\nbegin\n";

@@ -7,7 +7,8 @@ ghost use Rattle.mc_top.specs.Shapes.{HasCommands};
 use crate::reader::{Reader, TextFault};
 use std::alloc::Global;
 
-const TEXT_LIMIT: usize = 1048576;
+/// The greatest length of a text, in bytes.
+pub const TEXT_LIMIT: usize = 1048576;
 
 /// Reads a whole text, or finds that it isn't of the form.
 pub fn read_text(alloc: Global, text: &[u8]) -> Result<Reader, TextFault>

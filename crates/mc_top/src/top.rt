@@ -12,6 +12,7 @@ use crate::net::make_net;
 use crate::reader::TextFault;
 use crate::run::{Run, run_script};
 use crate::script::JournalLine;
+use crate::text::TEXT_LIMIT;
 use crate::words::{Mode, read_mode};
 use std::alloc::{AllocError, Global};
 use std::thread::Threads;
@@ -39,9 +40,6 @@ const NO_MEMORY: u8 = 3;
 const READ_FAULT: u8 = 4;
 
 const WRITE_FAULT: u8 = 5;
-
-/// The greatest length of a text, in bytes.
-const TEXT_LIMIT: usize = 1048576;
 
 // The text that a mode works on, or its first bytes up to one more than the limit.
 fn text_of<S: Source>(alloc: Global, mode: Mode, source: &mut S) -> Result<Vec<u8>, ReadFault>
