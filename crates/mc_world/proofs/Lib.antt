@@ -1,5 +1,9 @@
+pub mod Acting
 mod BoxSound
 mod BoxTurns
 mod Exchanges
+pub mod Joints
+pub mod LanesKept
 mod NewLanes
+pub mod Numbers
 pub mod TwoPhones
