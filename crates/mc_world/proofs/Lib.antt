@@ -1,3 +1,5 @@
+pub mod ActedBoxes
+pub mod ActedWorlds
 pub mod Acting
 mod BoxSound
 mod BoxTurns
