@@ -8,4 +8,5 @@ pub mod Joints
 pub mod LanesKept
 mod NewLanes
 pub mod Numbers
+pub mod StepForms
 pub mod TwoPhones

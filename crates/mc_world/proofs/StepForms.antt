@@ -1,0 +1,265 @@
+-- A step of a sound world is one slot that acts, or changes nothing.
+use Rattle.std.proofs.Common.{◌≡◌, ◌<◌, ◌*◌, ◌++◌, ◌⊎◌, inl, inr, if◌then◌else◌, nat_lt, ℕ, Bool, true, false, Option, Some, None, List, [], ◌∷◌, map, length, drop, append_assoc, refl, ap, sym, ◌∙◌, subst, arith}
+use Rattle.std.specs.Option.{option_map, option_and_then, unwrap_or}
+use Rattle.std.proofs.Math.ListN.{get_or, set, length-set}
+use Rattle.std.proofs.lemmas.Grind.{common_steps}
+use Rattle.std.proofs.lemmas.List.{append-nil, get_or-set_same, get_or-set_other, map-append, set-get_or, set-set}
+use Rattle.mc_signal.specs.declared.Descriptor.{Descriptor}
+use Rattle.mc_signal.specs.declared.Sender.{Sender}
+use Rattle.mc_signal.specs.declared.Signal.{Signal}
+use Rattle.mc_signal.specs.declared.Tagged.{Tagged}
+use Rattle.mc_slot.specs.EndTurn.{due, pushed_by, IsAtRest}
+use Rattle.mc_slot.specs.Moves.{answered, sent_all, taken, Took}
+use Rattle.mc_slot.specs.Same.{is_same_goal}
+use Rattle.mc_slot.specs.Sending.{pair_of}
+use Rattle.mc_slot.specs.Tunnel.{Kept, TunnelSound}
+use Rattle.mc_slot.specs.declared.Goal.{Goal}
+use Rattle.mc_slot.specs.declared.Goal.TheVariants.{Close as ToClose}
+use Rattle.mc_slot.specs.declared.Slot.{Slot}
+use Rattle.mc_slot.specs.declared.SlotGoal.{SlotGoal}
+use Rattle.mc_slot.specs.declared.SlotGoal.TheVariants.{End, Link}
+use Rattle.mc_world.specs.BoxEvents.{BoxStep, answering, box_event, goal_turn, retry_step, set_end_step, take_step}
+use Rattle.mc_world.specs.Boxes.{BoxState, IsBox, goal_at, is_slot, media_at, no_slot, own, owes_at, sender, slot_at, with_goal, with_slot}
+use Rattle.mc_world.specs.Sound.{IsNumbered, IsSound, RestsBy}
+use Rattle.mc_world.specs.Steps.{made, popped, pushed, sent_out, step, step_by, take_at, with_box, with_lane}
+use Rattle.mc_world.specs.Worlds.{WorldState, box_at, far, for_tunnel, front, goal_of, joint_of, lane_of, lane_to, list_to, number, own_descriptor, own_sender, place, slot_count, slot_of}
+use Rattle.mc_world.specs.declared.event.Change.{Change}
+use Rattle.mc_world.specs.declared.event.Change.TheVariants.{End as NewEnd, Link as NewLink}
+use Rattle.mc_world.specs.declared.event.Event.{Event}
+use Rattle.mc_world.specs.declared.event.Event.TheVariants.{Take, Set, Media, Tell, Retry, Shift}
+use Rattle.mc_world.specs.declared.event.Turn.{Turn}
+use Rattle.mc_tunnel.proofs.Steps.{took_kept}
+use Rattle.mc_turn.proofs.EndRests.{rests_kept}
+use Rattle.mc_world.proofs.ActedBoxes.{put_at}
+use Rattle.mc_world.proofs.ActedWorlds.{Acts, acted_at, acted_world, far_inside}
+use Rattle.mc_world.proofs.Acting.{Acted, sends, takes}
+use Rattle.mc_world.proofs.BoxSound.{own_put, sender_put, put}
+use Rattle.mc_world.proofs.LanesKept.{Fronts, front_next, far_lane, lane_in, tagged_for}
+
+-- ---- options
+
+map_some : {A B : Type 0} (f : A → B) (o : Option A) (y : B) → option_map f o ≡ Some y → (x : A) × (o ≡ Some x) × (f x ≡ y)
+map_some f None y is = absurd (cc)
+map_some f (Some x) y is = (x, refl, cc)
+
+then_some : {A B : Type 0} (f : A → Option B) (o : Option A) (y : B) → option_and_then f o ≡ Some y → (x : A) × (o ≡ Some x) × (f x ≡ Some y)
+then_some f None y is = absurd (cc)
+then_some f (Some x) y is = (x, refl, is)
+
+if_some : {A : Type 0} (b : Bool) (o : Option A) (y : A) → (if b then o else None) ≡ Some y → (b ≡ true) × (o ≡ Some y)
+if_some true o y is = (refl, is)
+if_some false o y is = absurd (cc)
+
+-- ---- what is sent goes to the end of one lane
+
+sent_next : (world : WorldState) (who local s : ℕ) (signal : Signal) (signals : List Signal) → number world who local ≡ Some s
+    → sent_out world who (map (pair_of local) (signal ∷ signals)) ≡ sent_out (pushed world signal (far s)) who (map (pair_of local) signals)
+sent_next world who local s signal signals is =
+    ap (λ (o : Option ℕ). sent_out (unwrap_or (option_map (λ (t : ℕ). pushed world signal (far t)) o) world) who (map (pair_of local) signals)) is
+
+-- two pushes at one lane are one
+pushed_twice : (lanes : List (List Tagged)) (lane : ℕ) (tagged : Tagged) (more : List Tagged) → lane < length lanes
+    → set (set lanes lane (get_or lanes lane [] ++ tagged ∷ [])) lane (get_or (set lanes lane (get_or lanes lane [] ++ tagged ∷ [])) lane [] ++ more)
+    ≡ set lanes lane (get_or lanes lane [] ++ tagged ∷ more)
+pushed_twice lanes lane tagged more inside =
+    rw (get_or-set_same lanes lane (get_or lanes lane [] ++ tagged ∷ []) [] inside, set-set lanes lane (get_or lanes lane [] ++ tagged ∷ []) ((get_or lanes lane [] ++ tagged ∷ []) ++ more), append_assoc (get_or lanes lane []) (tagged ∷ []) more) refl
+
+pub sent_is : (signals : List Signal) (world : WorldState) (who local s : ℕ) → number world who local ≡ Some s → lane_of world (far s) < length world.lanes
+    → sent_out world who (map (pair_of local) signals)
+    ≡ with_lane world (lane_of world (far s)) (lane_to world (far s) ++ map (tagged_for (joint_of world (far s)).within) signals)
+sent_is [] world who local s is inside =
+    sym (ap (λ (lanes : List (List Tagged)). record world { lanes = lanes })
+    (ap (λ (lane : List Tagged). set world.lanes (lane_of world (far s)) lane) (append-nil (lane_to world (far s))) ∙ set-get_or world.lanes (lane_of world (far s)) []))
+sent_is (signal ∷ signals) world who local s is inside =
+    sent_next world who local s signal signals is
+    ∙ (sent_is signals (pushed world signal (far s)) who local s is (rw (length-set world.lanes (lane_of world (far s)) (lane_to world (far s) ++ tagged_for (joint_of world (far s)).within signal ∷ [])) inside)
+    ∙ ap (λ (lanes : List (List Tagged)). record world { lanes = lanes })
+    (pushed_twice world.lanes (lane_of world (far s)) (tagged_for (joint_of world (far s)).within signal) (map (tagged_for (joint_of world (far s)).within) signals) inside))
+
+-- ---- an end's turn
+
+pub record TurnForm (box : BoxState) (local : ℕ) (goal : Goal) (pushed : Bool) (slot : Slot) (mine : Descriptor) (me : Sender) (turn : BoxStep) : Type 0 where
+  pub last : Slot
+  pub goes : sent_all slot (due goal slot pushed mine me) ≡ Some last
+  pub is : record { sent = map (pair_of local) (due goal slot pushed mine me); after = with_slot box local last } ≡ turn
+
+pub turn_form : (box : BoxState) (local : ℕ) (goal : Goal) (pushed : Bool) (slot : Slot) (mine : Descriptor) (me : Sender) (turn : BoxStep)
+    → goal_at box local ≡ End goal → slot_at box local ≡ slot → own box local ≡ mine → sender box local ≡ me → goal_turn box local pushed ≡ Some turn
+    → TurnForm box local goal pushed slot mine me turn
+turn_form box local goal pushed slot mine me turn goal_is slot_is own_is sender_is goes =
+    let is : option_map (λ (after : Slot). record { sent = map (pair_of local) (due goal slot pushed mine me); after = with_slot box local after }) (sent_all slot (due goal slot pushed mine me)) ≡ Some turn =
+    rw (goal_is, slot_is, own_is, sender_is) at goes in
+    let parts = map_some (λ (after : Slot). record { sent = map (pair_of local) (due goal slot pushed mine me); after = with_slot box local after }) (sent_all slot (due goal slot pushed mine me)) turn is in
+    record { last = parts.0; goes = parts.1; is = parts.2 }
+
+-- ---- a box's step is its slot's
+
+-- the box's slot takes its front or nothing, sends, and rests
+pub record BoxForm (box : BoxState) (local : ℕ) (turn : BoxStep) (to_slot left : List Signal) : Type 0 where
+  pub last : Slot
+  pub aim : Goal
+  pub signals : List Signal
+  pub is : turn ≡ record { sent = map (pair_of local) signals; after = put box local last (End aim) }
+  pub acted : Acted (slot_at box local) to_slot signals last left
+  pub rests : IsAtRest aim last (own box local) (sender box local)
+
+-- a slot is replaced, under the goal that it has
+same_goal : (box : BoxState) (local : ℕ) (last : Slot) (goal : Goal) → goal_at box local ≡ End goal → with_slot box local last ≡ put box local last (End goal)
+same_goal box local last goal is =
+    let same : box.goals ≡ set box.goals local (End goal) = sym (ap (λ (g : SlotGoal). set box.goals local g) (sym is) ∙ set-get_or box.goals local (End ToClose)) in
+    ap (λ (goals : List SlotGoal). record box { slots = set box.slots local last; goals = goals }) same
+
+-- an answer and a turn are one list
+take_is : (box : BoxState) (local : ℕ) (goal : Goal) (answer : Option Signal) (after last : Slot) (signals : List Signal) (turn step : BoxStep)
+    → goal_at box local ≡ End goal → record { sent = map (pair_of local) signals; after = with_slot (with_slot box local after) local last } ≡ turn → answering local answer turn ≡ step
+    → step ≡ record { sent = map (pair_of local) (answered answer ++ signals); after = put box local last (End goal) }
+take_is box local goal answer after last signals turn step goal_is turn_is step_is =
+    sym step_is
+    ∙ (ap (answering local answer) (sym turn_is)
+    ∙ (ap (λ (sent : List (ℕ × Signal)). record { sent = sent; after = with_slot (with_slot box local after) local last }) (sym (map-append (pair_of local) (answered answer) signals))
+    ∙ ap (λ (b : BoxState). record { sent = map (pair_of local) (answered answer ++ signals); after = b })
+    (ap (λ (slots : List Slot). record box { slots = slots }) (set-set box.slots local after last) ∙ same_goal box local last goal goal_is)))
+
+-- a taking, from the turn that it leads to
+took_form : (box : BoxState) (local : ℕ) (signal : Signal) (goal : Goal) (took : Took) (turn step : BoxStep) (rest : List Signal)
+    → local < length box.slots → Kept (slot_at box local) → goal_at box local ≡ End goal → taken (slot_at box local) signal ≡ Some took
+    → goal_turn (with_slot box local took.after) local (pushed_by signal took.after.state) ≡ Some turn → answering local took.answer turn ≡ step
+    → BoxForm box local step (signal ∷ rest) rest
+took_form box local signal goal took turn step rest inside kept goal_is goes turn_is step_is =
+    let form = turn_form (with_slot box local took.after) local goal (pushed_by signal took.after.state) took.after (own box local) (sender box local) turn
+    goal_is (get_or-set_same box.slots local took.after no_slot inside)
+    (own_put box.kind box (set box.slots local took.after) box.goals (media_at box local) local)
+    (sender_put box.kind box (set box.slots local took.after) box.goals (media_at box local) local) turn_is in
+    record {
+      last = form.last;
+      aim = goal;
+      signals = answered took.answer ++ due goal took.after (pushed_by signal took.after.state) (own box local) (sender box local);
+      is = take_is box local goal took.answer took.after form.last (due goal took.after (pushed_by signal took.after.state) (own box local) (sender box local)) turn step goal_is form.is step_is;
+      acted = takes took.after (due goal took.after (pushed_by signal took.after.state) (own box local) (sender box local)) took.answer goes form.goes;
+      rests = rests_kept took.after.state goal took.after form.last (pushed_by signal took.after.state) (own box local) (sender box local) refl (took_kept (slot_at box local) signal took goes kept) form.goes;
+    }
+
+pub take_form : (box : BoxState) (local : ℕ) (signal : Signal) (goal : Goal) (step : BoxStep) (rest : List Signal)
+    → local < length box.slots → Kept (slot_at box local) → goal_at box local ≡ End goal → take_step box local signal ≡ Some step → BoxForm box local step (signal ∷ rest) rest
+take_form box local signal goal step rest inside kept goal_is goes =
+    let one = then_some (λ (took : Took). option_map (answering local took.answer) (goal_turn (with_slot box local took.after) local (pushed_by signal took.after.state))) (taken (slot_at box local) signal) step goes in
+    let two = map_some (answering local one.0.answer) (goal_turn (with_slot box local one.0.after) local (pushed_by signal one.0.after.state)) step one.2 in
+    took_form box local signal goal one.0 two.0 step rest inside kept goal_is one.1 two.1 two.2
+
+-- a push of a goal that is there
+pub push_form : (box : BoxState) (local : ℕ) (goal : Goal) (step : BoxStep) (to_slot : List Signal)
+    → Kept (slot_at box local) → goal_at box local ≡ End goal → goal_turn box local true ≡ Some step → BoxForm box local step to_slot to_slot
+push_form box local goal step to_slot kept goal_is goes =
+    let form = turn_form box local goal true (slot_at box local) (own box local) (sender box local) step goal_is refl refl refl goes in
+    record {
+      last = form.last;
+      aim = goal;
+      signals = due goal (slot_at box local) true (own box local) (sender box local);
+      is = sym form.is ∙ ap (λ (b : BoxState). record { sent = map (pair_of local) (due goal (slot_at box local) true (own box local) (sender box local)); after = b }) (same_goal box local form.last goal goal_is);
+      acted = sends form.goes;
+      rests = rests_kept (slot_at box local).state goal (slot_at box local) form.last true (own box local) (sender box local) refl kept form.goes;
+    }
+
+-- a push of a new goal
+new_form : (box : BoxState) (local : ℕ) (goal : Goal) (step : BoxStep) (to_slot : List Signal) → IsBox box → local < length box.slots
+    → Kept (slot_at box local) → goal_turn (with_goal box local (End goal)) local true ≡ Some step → BoxForm box local step to_slot to_slot
+new_form box local goal step to_slot whole inside kept goes =
+    let form = turn_form (with_goal box local (End goal)) local goal true (slot_at box local) (own box local) (sender box local) step
+    (get_or-set_same box.goals local (End goal) (End ToClose) (subst (λ (n : ℕ). local < n) (sym whole.goals) inside)) refl
+    (own_put box.kind box box.slots (set box.goals local (End goal)) (media_at box local) local)
+    (sender_put box.kind box box.slots (set box.goals local (End goal)) (media_at box local) local) goes in
+    record {
+      last = form.last;
+      aim = goal;
+      signals = due goal (slot_at box local) true (own box local) (sender box local);
+      is = sym form.is;
+      acted = sends form.goes;
+      rests = rests_kept (slot_at box local).state goal (slot_at box local) form.last true (own box local) (sender box local) refl kept form.goes;
+    }
+
+-- a goal is set: nothing changes, or the slot is pushed
+set_by : (same : Bool) (box : BoxState) (local : ℕ) (goal : Goal) (step : BoxStep) (to_slot : List Signal) → IsBox box → local < length box.slots → Kept (slot_at box local)
+    → (if same then Some (record { sent = []; after = box }) else goal_turn (with_goal box local (End goal)) local true) ≡ Some step
+    → (record { sent = []; after = box } ≡ step) ⊎ BoxForm box local step to_slot to_slot
+set_by true box local goal step to_slot whole inside kept goes = inl (cc)
+set_by false box local goal step to_slot whole inside kept goes = inr (new_form box local goal step to_slot whole inside kept goes)
+
+pub set_form : (box : BoxState) (local : ℕ) (goal : Goal) (step : BoxStep) (to_slot : List Signal) → IsBox box → local < length box.slots → Kept (slot_at box local)
+    → set_end_step box local goal ≡ Some step → (record { sent = []; after = box } ≡ step) ⊎ BoxForm box local step to_slot to_slot
+set_form box local goal step to_slot whole inside kept goes = set_by (is_same_goal (goal_at box local) (End goal)) box local goal step to_slot whole inside kept goes
+
+-- ---- a world's step is its slot's
+
+-- slot s acts, and the next world is the one after that
+pub record StepForm (world next : WorldState) : Type 0 where
+  pub s : ℕ
+  pub last : Slot
+  pub aim : Goal
+  pub left : List Tagged
+  pub signals : List Signal
+  pub is : next ≡ acted_world world s last aim left signals
+  pub acts : Acts world s last aim left signals
+
+-- what a box sends and is after that, in the world
+made_is : (world : WorldState) (who local s : ℕ) (left : List Tagged) (box : BoxState) (signals : List Signal) → IsNumbered world → s < slot_count world → number world who local ≡ Some s
+    → made (with_lane world (lane_of world s) left) who (record { sent = map (pair_of local) signals; after = box })
+    ≡ record world {
+      boxes = set world.boxes who box;
+      lanes = set (set world.lanes (lane_of world s) left) (lane_of world (far s)) (lane_to world (far s) ++ map (tagged_for (joint_of world (far s)).within) signals);
+    }
+made_is world who local s left box signals numbered inside is =
+    let there : lane_of world (far s) < length (set world.lanes (lane_of world s) left) =
+    rw (length-set world.lanes (lane_of world s) left) (subst (λ (n : ℕ). lane_of world (far s) < n) (sym numbered.lanes) (lane_in world (far s) (far_inside world s inside))) in
+    sent_is signals (with_box (with_lane world (lane_of world s) left) who box) who local s is there
+    ∙ ap (λ (lane : List Tagged). record world {
+      boxes = set world.boxes who box;
+      lanes = set (set world.lanes (lane_of world s) left) (lane_of world (far s)) (lane ++ map (tagged_for (joint_of world (far s)).within) signals);
+    }) (get_or-set_other world.lanes (lane_of world s) (lane_of world (far s)) left [] (λ same. far_lane world s (sym same)))
+
+-- from the box's step to the world's
+form_of : (world next : WorldState) (s : ℕ) (left : List Tagged) (step : BoxStep) → IsNumbered world → s < slot_count world
+    → ((other : ℕ) → (other ≡ (joint_of world s).within → ⊥) → for_tunnel other left ≡ for_tunnel other (lane_to world s))
+    → BoxForm (box_at world (place world s).0) (place world s).1 step (list_to world s) (for_tunnel (joint_of world s).within left)
+    → made (with_lane world (lane_of world s) left) (place world s).0 step ≡ next
+    → StepForm world next
+form_of world next s left step numbered inside others form goes = record {
+  s = s;
+  last = form.last;
+  aim = form.aim;
+  left = left;
+  signals = form.signals;
+  is = sym goes ∙ (ap (made (with_lane world (lane_of world s) left) (place world s).0) form.is
+      ∙ made_is world (place world s).0 (place world s).1 s left (put (box_at world (place world s).0) (place world s).1 form.last (End form.aim)) form.signals numbered inside (numbered.once s inside));
+  acts = record { inside = inside; acted = form.acted; others = others; rests = form.rests };
+}
+
+-- each goal is an end's
+pub end_goal : (goal : SlotGoal) (world : WorldState) (s : ℕ) → RestsBy goal world s → (aim : Goal) × (goal ≡ End aim)
+end_goal (End aim) world s rests = (aim, refl)
+end_goal (Link partner) world s rests = absurd rests
+
+-- a Take
+take_at_form : (world next : WorldState) (s : ℕ) → IsSound world → s < slot_count world → take_at world (place world s).0 (place world s).1 s ≡ Some next → StepForm world next
+take_at_form world next s sound inside goes =
+    let one = then_some (λ (signal : Signal). option_map (made (popped world s) (place world s).0) (box_event (box_at world (place world s).0) (Take (place world s).1) (Some signal))) (front world s) next goes in
+    let two = map_some (made (popped world s) (place world s).0) (box_event (box_at world (place world s).0) (Take (place world s).1) (Some one.0)) next one.2 in
+    let three = if_some (is_slot (box_at world (place world s).0) (place world s).1) (take_step (box_at world (place world s).0) (place world s).1 one.0) two.0 two.1 in
+    let aim = end_goal (goal_of world s) world s (sound.goals s inside) in
+    let fronts : Fronts (joint_of world s).within one.0 (lane_to world s) = front_next (joint_of world s).within one.0 (lane_to world s) one.1 in
+    let form = take_form (box_at world (place world s).0) (place world s).1 one.0 aim.0 two.0 (for_tunnel (joint_of world s).within (drop 1 (lane_to world s)))
+    (sound.numbered.slots s inside) (sound.tunnels s inside).first_kept aim.1 three.1 in
+    form_of world next s (drop 1 (lane_to world s)) two.0 sound.numbered inside fronts.others
+    (subst (λ (l : List Signal). BoxForm (box_at world (place world s).0) (place world s).1 two.0 l (for_tunnel (joint_of world s).within (drop 1 (lane_to world s)))) (sym fronts.next) form)
+    two.2
+
+-- a lane that is put back where it was
+lane_back : (world : WorldState) (lane : ℕ) → with_lane world lane (get_or world.lanes lane []) ≡ world
+lane_back world lane = ap (λ (lanes : List (List Tagged)). record world { lanes = lanes }) (set-get_or world.lanes lane [])
+
+-- a step without a taking
+push_at_form : (world next : WorldState) (s : ℕ) (step : BoxStep) → IsNumbered world → s < slot_count world
+    → BoxForm (box_at world (place world s).0) (place world s).1 step (list_to world s) (list_to world s)
+    → made world (place world s).0 step ≡ next → StepForm world next
+push_at_form world next s step numbered inside form goes =
+    form_of world next s (lane_to world s) step numbered inside (λ other apart. refl) form
+    (ap (λ (w : WorldState). made w (place world s).0 step) (lane_back world (lane_of world s)) ∙ goes)
