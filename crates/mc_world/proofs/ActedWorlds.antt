@@ -1,5 +1,5 @@
 -- A sound world in which one slot acts, and comes to rest, stays sound.
-use Rattle.std.proofs.Common.{◌≡◌, ◌≢◌, ◌<◌, ◌*◌, ◌%◌, ◌==◌, ◌++◌, ◌⊎◌, inl, inr, not, Bool, true, false, ℕ, Some, List, [], map, length, refl, ap, sym, ◌∙◌, subst, arith}
+use Rattle.std.proofs.Common.{◌≡◌, ◌≢◌, ◌<◌, ◌++◌, inl, inr, ℕ, Some, List, [], map, length, ap, sym, ◌∙◌, subst}
 use Rattle.std.proofs.Math.ListN.{get_or, set, length-set}
 use Rattle.std.proofs.lemmas.Bool.{cases_eq}
 use Rattle.mc_signal.specs.declared.Descriptor.{Descriptor}
@@ -14,12 +14,12 @@ use Rattle.mc_slot.specs.declared.SlotGoal.{SlotGoal}
 use Rattle.mc_slot.specs.declared.SlotGoal.TheVariants.{End, Link}
 use Rattle.mc_world.specs.Boxes.{BoxState, IsBox, no_box, no_media}
 use Rattle.mc_world.specs.Sound.{IsNumbered, IsSound, RestsBy}
-use Rattle.mc_world.specs.Worlds.{WorldState, Joint, box_at, far, for_tunnel, goal_of, joint_of, lane_of, lane_to, list_to, number, own_descriptor, own_sender, place, slot_count, slot_of}
+use Rattle.mc_world.specs.Worlds.{WorldState, box_at, far, for_tunnel, goal_of, joint_of, lane_of, lane_to, list_to, number, own_descriptor, own_sender, place, slot_count, slot_of}
 use Rattle.mc_world.specs.declared.media_box.SlotMedia.{SlotMedia}
 use Rattle.mc_world.proofs.ActedBoxes.{SameMake, SameSlot, NewSlot, put_at, make_kept, slot_here, slot_else}
 use Rattle.mc_world.proofs.Acting.{Acted, act_keeps, other_side}
 use Rattle.mc_world.proofs.Joints.{two_each}
-use Rattle.mc_world.proofs.LanesKept.{tagged_for, changed_first, changed_second, changed_other, far_joint, far_lane, lane_apart, lane_in, sent_another, sent_own}
+use Rattle.mc_world.proofs.LanesKept.{tagged_for, changed_first, changed_second, changed_other, far_lane, lane_apart, lane_in, sent_another, sent_own}
 use Rattle.mc_world.proofs.Numbers.{far_back, far_in, far_other}
 
 -- the world after slot s, which is a box's slot by its local number, has become another slot with a goal, its lane has become another, and signals have gone to the end of its far slot's lane

@@ -1,7 +1,6 @@
 -- The tunnels of a world's channels: how many slots they have, and that channel and number within it tell them apart.
 use Rattle.std.proofs.Common.{◌≡◌, ◌<◌, ◌≤◌, ◌+◌, ◌-◌, ◌*◌, ◌⊎◌, inl, inr, ℕ, zero, suc, List, [], ◌∷◌, ◌++◌, length, length-append, zero-add, refl, ap, sym, ◌∙◌, arith}
 use Rattle.std.proofs.lemmas.Bool.{cases_lt}
-use Rattle.std.proofs.lemmas.Grind.{common_steps}
 use Rattle.std.proofs.lemmas.List.{get_or_append_left, get_or-append_right}
 use Rattle.std.proofs.Math.ListN.{get_or}
 use Rattle.std.specs.List.{flat_map}
@@ -21,10 +20,14 @@ within_slots ends (tunnel ∷ tunnels) = omega (arith, within_slots ends tunnels
 -- so slots are two for each tunnel
 pub two_each : (channels : List ChannelState) (first : ℕ) → length (places_among channels) ≡ 2 * length (joints_from first channels)
 two_each [] first = refl
-two_each (ends ∷ channels) first = omega (arith,
-    length-append (places_within ends) (places_among channels),
-    length-append (joints_within first 0 ends.tunnels) (joints_from (first + 1) channels),
-    within_slots ends ends.tunnels, within_count ends.tunnels first 0, two_each channels (first + 1))
+two_each (ends ∷ channels) first = omega (
+  arith,
+  length-append (places_within ends) (places_among channels),
+  length-append (joints_within first 0 ends.tunnels) (joints_from (first + 1) channels),
+  within_slots ends ends.tunnels,
+  within_count ends.tunnels first 0,
+  two_each channels (first + 1),
+)
 
 -- a tunnel of one channel is known by its number
 record Numbered (joint : Joint) (channel within : ℕ) : Type 0 where
@@ -62,11 +65,14 @@ first_or_later ends channels first i inside =
           let numbers : Numbered (get_or here i no_joint) first (0 + i) = within_numbers ends.tunnels first 0 i below in
           inl (record { below = below; numbers = record { channel_is = ap (λ (j : Joint). j.channel) same ∙ numbers.channel_is; within_is = ap (λ (j : Joint). j.within) same ∙ (numbers.within_is ∙ zero-add i) } })
       | inr above ↦
-          inr (i - length ends.tunnels, record {
-            sum = omega arith;
-            below = omega arith;
-            same = get_or-append_right here there (length ends.tunnels) i no_joint count above;
-          })
+          inr (
+            i - length ends.tunnels,
+            record {
+              sum = omega arith;
+              below = omega arith;
+              same = get_or-append_right here there (length ends.tunnels) i no_joint count above;
+            },
+          )
     ]
 
 -- the channel of a tunnel is one of those

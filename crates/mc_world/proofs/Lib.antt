@@ -9,4 +9,5 @@ pub mod LanesKept
 mod NewLanes
 pub mod Numbers
 pub mod StepForms
+pub mod StepKeeps
 pub mod TwoPhones

@@ -1,9 +1,8 @@
 -- The numbers of slots: the far slot of each, and the tunnel that the two share.
-use Rattle.std.proofs.Common.{◌≡◌, ◌≢◌, ◌<◌, ◌≤◌, ◌+◌, ◌*◌, ◌/◌, ◌%◌, ℕ, zero, suc, List, [], ◌∷◌, ◌++◌, length, Some, refl, ap, sym, ◌∙◌, subst, arith}
+use Rattle.std.proofs.Common.{◌≡◌, ◌≢◌, ◌<◌, ◌+◌, ◌*◌, ◌/◌, ◌%◌, ◌==◌, ◌&&◌, true, ℕ, Some, arith}
 use Rattle.std.proofs.lemmas.Grind.{common_steps}
-use Rattle.std.proofs.Math.ListN.{get_or}
-use Rattle.std.specs.List.{flat_map}
-use Rattle.mc_world.specs.Worlds.{ChannelState, Joint, far}
+use Rattle.std.proofs.lemmas.List.Quantifiers.{position-Some}
+use Rattle.mc_world.specs.Worlds.{WorldState, far, is_place, number, place, places, slot_count}
 
 -- far slots are each other's
 pub far_back : (s : ℕ) → far (far s) ≡ s
@@ -29,5 +28,16 @@ far_in s n below = grind (arith, common_steps)
 pub by_half : (s t : ℕ) → s / 2 ≡ t / 2 → s % 2 ≡ t % 2 → s ≡ t
 by_half s t half side = omega arith
 
+-- two slots for each tunnel
 pub half_in : (s n : ℕ) → s < 2 * n → s / 2 < n
 half_in s n below = omega arith
+
+both_parts : (a b c d : ℕ) → (a == b && c == d) ≡ true → (b ≡ a) × (d ≡ c)
+both_parts a b c d is = grind (arith, common_steps)
+
+-- a slot's number is found by its place
+pub number_is : (world : WorldState) (who local s : ℕ) → number world who local ≡ Some s → (s < slot_count world) × ((place world s).0 ≡ who) × ((place world s).1 ≡ local)
+number_is world who local s is =
+    let found = position-Some (is_place (who, local)) (places world) s (0, 0) is in
+    let parts = both_parts who (place world s).0 local (place world s).1 found.1 in
+    (found.0, parts.0, parts.1)

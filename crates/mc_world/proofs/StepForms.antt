@@ -1,8 +1,7 @@
 -- A step of a sound world is one slot that acts, or changes nothing.
-use Rattle.std.proofs.Common.{◌≡◌, ◌<◌, ◌*◌, ◌++◌, ◌⊎◌, inl, inr, if◌then◌else◌, nat_lt, ℕ, Bool, true, false, Option, Some, None, List, [], ◌∷◌, map, length, drop, append_assoc, refl, ap, sym, ◌∙◌, subst, arith}
+use Rattle.std.proofs.Common.{◌≡◌, ◌<◌, ◌++◌, ◌⊎◌, inl, inr, if◌then◌else◌, ℕ, Bool, true, false, Option, Some, None, List, [], ◌∷◌, map, length, drop, append_assoc, refl, ap, sym, ◌∙◌, subst}
 use Rattle.std.specs.Option.{option_map, option_and_then, unwrap_or}
 use Rattle.std.proofs.Math.ListN.{get_or, set, length-set}
-use Rattle.std.proofs.lemmas.Grind.{common_steps}
 use Rattle.std.proofs.lemmas.List.{append-nil, get_or-set_same, get_or-set_other, map-append, set-get_or, set-set}
 use Rattle.mc_signal.specs.declared.Descriptor.{Descriptor}
 use Rattle.mc_signal.specs.declared.Sender.{Sender}
@@ -12,41 +11,36 @@ use Rattle.mc_slot.specs.EndTurn.{due, pushed_by, IsAtRest}
 use Rattle.mc_slot.specs.Moves.{answered, sent_all, taken, Took}
 use Rattle.mc_slot.specs.Same.{is_same_goal}
 use Rattle.mc_slot.specs.Sending.{pair_of}
-use Rattle.mc_slot.specs.Tunnel.{Kept, TunnelSound}
+use Rattle.mc_slot.specs.Tunnel.{Kept}
 use Rattle.mc_slot.specs.declared.Goal.{Goal}
 use Rattle.mc_slot.specs.declared.Goal.TheVariants.{Close as ToClose}
 use Rattle.mc_slot.specs.declared.Slot.{Slot}
 use Rattle.mc_slot.specs.declared.SlotGoal.{SlotGoal}
 use Rattle.mc_slot.specs.declared.SlotGoal.TheVariants.{End, Link}
-use Rattle.mc_world.specs.BoxEvents.{BoxStep, answering, box_event, goal_turn, retry_step, set_end_step, take_step}
-use Rattle.mc_world.specs.Boxes.{BoxState, IsBox, goal_at, is_slot, media_at, no_slot, own, owes_at, sender, slot_at, with_goal, with_slot}
+use Rattle.mc_world.specs.BoxEvents.{BoxStep, answering, box_event, goal_turn, set_end_step, take_step}
+use Rattle.mc_world.specs.Boxes.{BoxState, IsBox, goal_at, is_slot, media_at, no_slot, own, sender, slot_at, with_goal, with_slot}
 use Rattle.mc_world.specs.Sound.{IsNumbered, IsSound, RestsBy}
-use Rattle.mc_world.specs.Steps.{made, popped, pushed, sent_out, step, step_by, take_at, with_box, with_lane}
-use Rattle.mc_world.specs.Worlds.{WorldState, box_at, far, for_tunnel, front, goal_of, joint_of, lane_of, lane_to, list_to, number, own_descriptor, own_sender, place, slot_count, slot_of}
-use Rattle.mc_world.specs.declared.event.Change.{Change}
-use Rattle.mc_world.specs.declared.event.Change.TheVariants.{End as NewEnd, Link as NewLink}
-use Rattle.mc_world.specs.declared.event.Event.{Event}
-use Rattle.mc_world.specs.declared.event.Event.TheVariants.{Take, Set, Media, Tell, Retry, Shift}
-use Rattle.mc_world.specs.declared.event.Turn.{Turn}
+use Rattle.mc_world.specs.Steps.{made, popped, pushed, sent_out, step, take_at, with_box, with_lane}
+use Rattle.mc_world.specs.Worlds.{WorldState, box_at, far, for_tunnel, front, goal_of, joint_of, lane_of, lane_to, list_to, number, place, slot_count}
+use Rattle.mc_world.specs.declared.event.Event.TheVariants.{Take}
 use Rattle.mc_tunnel.proofs.Steps.{took_kept}
 use Rattle.mc_turn.proofs.EndRests.{rests_kept}
-use Rattle.mc_world.proofs.ActedBoxes.{put_at}
-use Rattle.mc_world.proofs.ActedWorlds.{Acts, acted_at, acted_world, far_inside}
+use Rattle.mc_world.proofs.ActedWorlds.{Acts, acted_world, far_inside}
 use Rattle.mc_world.proofs.Acting.{Acted, sends, takes}
 use Rattle.mc_world.proofs.BoxSound.{own_put, sender_put, put}
 use Rattle.mc_world.proofs.LanesKept.{Fronts, front_next, far_lane, lane_in, tagged_for}
 
 -- ---- options
 
-map_some : {A B : Type 0} (f : A → B) (o : Option A) (y : B) → option_map f o ≡ Some y → (x : A) × (o ≡ Some x) × (f x ≡ y)
+pub map_some : {A B : Type 0} (f : A → B) (o : Option A) (y : B) → option_map f o ≡ Some y → (x : A) × (o ≡ Some x) × (f x ≡ y)
 map_some f None y is = absurd (cc)
 map_some f (Some x) y is = (x, refl, cc)
 
-then_some : {A B : Type 0} (f : A → Option B) (o : Option A) (y : B) → option_and_then f o ≡ Some y → (x : A) × (o ≡ Some x) × (f x ≡ Some y)
+pub then_some : {A B : Type 0} (f : A → Option B) (o : Option A) (y : B) → option_and_then f o ≡ Some y → (x : A) × (o ≡ Some x) × (f x ≡ Some y)
 then_some f None y is = absurd (cc)
 then_some f (Some x) y is = (x, refl, is)
 
-if_some : {A : Type 0} (b : Bool) (o : Option A) (y : A) → (if b then o else None) ≡ Some y → (b ≡ true) × (o ≡ Some y)
+pub if_some : {A : Type 0} (b : Bool) (o : Option A) (y : A) → (if b then o else None) ≡ Some y → (b ≡ true) × (o ≡ Some y)
 if_some true o y is = (refl, is)
 if_some false o y is = absurd (cc)
 
@@ -239,7 +233,7 @@ end_goal (End aim) world s rests = (aim, refl)
 end_goal (Link partner) world s rests = absurd rests
 
 -- a Take
-take_at_form : (world next : WorldState) (s : ℕ) → IsSound world → s < slot_count world → take_at world (place world s).0 (place world s).1 s ≡ Some next → StepForm world next
+pub take_at_form : (world next : WorldState) (s : ℕ) → IsSound world → s < slot_count world → take_at world (place world s).0 (place world s).1 s ≡ Some next → StepForm world next
 take_at_form world next s sound inside goes =
     let one = then_some (λ (signal : Signal). option_map (made (popped world s) (place world s).0) (box_event (box_at world (place world s).0) (Take (place world s).1) (Some signal))) (front world s) next goes in
     let two = map_some (made (popped world s) (place world s).0) (box_event (box_at world (place world s).0) (Take (place world s).1) (Some one.0)) next one.2 in
@@ -257,7 +251,7 @@ lane_back : (world : WorldState) (lane : ℕ) → with_lane world lane (get_or w
 lane_back world lane = ap (λ (lanes : List (List Tagged)). record world { lanes = lanes }) (set-get_or world.lanes lane [])
 
 -- a step without a taking
-push_at_form : (world next : WorldState) (s : ℕ) (step : BoxStep) → IsNumbered world → s < slot_count world
+pub push_at_form : (world next : WorldState) (s : ℕ) (step : BoxStep) → IsNumbered world → s < slot_count world
     → BoxForm (box_at world (place world s).0) (place world s).1 step (list_to world s) (list_to world s)
     → made world (place world s).0 step ≡ next → StepForm world next
 push_at_form world next s step numbered inside form goes =
