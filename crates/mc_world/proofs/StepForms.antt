@@ -21,7 +21,7 @@ use Rattle.mc_world.specs.BoxEvents.{BoxStep, answering, box_event, goal_turn, s
 use Rattle.mc_world.specs.Boxes.{BoxState, IsBox, goal_at, is_slot, media_at, no_slot, own, sender, slot_at, with_goal, with_slot}
 use Rattle.mc_world.specs.Sound.{IsNumbered, IsSound, RestsBy}
 use Rattle.mc_world.specs.Steps.{made, popped, pushed, sent_out, step, take_at, with_box, with_lane}
-use Rattle.mc_world.specs.Worlds.{WorldState, box_at, far, for_tunnel, front, goal_of, joint_of, lane_of, lane_to, list_to, number, place, slot_count}
+use Rattle.mc_world.specs.Worlds.{WorldState, box_at, far, for_tunnel, front, goal_of, joint_of, lane_of, lane_to, list_to, number, own_descriptor, own_sender, place, slot_count}
 use Rattle.mc_world.specs.declared.event.Event.TheVariants.{Take}
 use Rattle.mc_tunnel.proofs.Steps.{took_kept}
 use Rattle.mc_turn.proofs.EndRests.{rests_kept}
@@ -184,15 +184,16 @@ set_form box local goal step to_slot whole inside kept goes = set_by (is_same_go
 
 -- ---- a world's step is its slot's
 
--- slot s acts, and the next world is the one after that
+-- slot s, an end's, acts and rests, and the next world is the one after that
 pub record StepForm (world next : WorldState) : Type 0 where
   pub s : ℕ
   pub last : Slot
   pub aim : Goal
   pub left : List Tagged
   pub signals : List Signal
-  pub is : next ≡ acted_world world s last aim left signals
-  pub acts : Acts world s last aim left signals
+  pub is : next ≡ acted_world world s last (End aim) left signals
+  pub acts : Acts world s last left signals
+  pub rests : IsAtRest aim last (own_descriptor world s) (own_sender world s)
 
 -- what a box sends and is after that, in the world
 made_is : (world : WorldState) (who local s : ℕ) (left : List Tagged) (box : BoxState) (signals : List Signal) → IsNumbered world → s < slot_count world → number world who local ≡ Some s
@@ -224,7 +225,8 @@ form_of world next s left step numbered inside others form goes = record {
   signals = form.signals;
   is = sym goes ∙ (ap (made (with_lane world (lane_of world s) left) (place world s).0) form.is
       ∙ made_is world (place world s).0 (place world s).1 s left (put (box_at world (place world s).0) (place world s).1 form.last (End form.aim)) form.signals numbered inside (numbered.once s inside));
-  acts = record { inside = inside; acted = form.acted; others = others; rests = form.rests };
+  acts = record { inside = inside; acted = form.acted; others = others };
+  rests = form.rests;
 }
 
 -- each goal is an end's

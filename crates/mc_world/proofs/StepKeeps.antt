@@ -119,7 +119,7 @@ step_form world next turn sound goes =
 
 form_sound : (world next : WorldState) → IsSound world → StepForm world next → IsSound next
 form_sound world next sound form =
-    subst (λ (w : WorldState). IsSound w) (sym form.is) (acted_sound world form.s form.last form.aim form.left form.signals sound form.acts)
+    subst (λ (w : WorldState). IsSound w) (sym form.is) (acted_sound world form.s form.last form.aim form.left form.signals sound form.acts form.rests)
 
 pub step_keeps_sound : StepKeepsSound
 step_keeps_sound world next turn sound goes = elim (step_form world next turn sound goes) [
