@@ -10,4 +10,5 @@ mod NewLanes
 pub mod Numbers
 pub mod StepForms
 pub mod StepKeeps
+pub mod TurnGoes
 pub mod TwoPhones
