@@ -1,5 +1,5 @@
 -- One slot of a world acts: the tunnels stay sound, the numbers stay, and where its goal comes to rest all goals are at rest.
-use Rattle.std.proofs.Common.{◌≡◌, ◌≢◌, ◌<◌, ◌++◌, inl, inr, ℕ, Some, List, [], map, length, ap, sym, ◌∙◌, subst}
+use Rattle.std.proofs.Common.{◌≡◌, ◌≢◌, ◌<◌, ◌++◌, ◌⊎◌, inl, inr, ℕ, Some, List, [], map, length, drop, ap, sym, ◌∙◌, subst}
 use Rattle.std.proofs.Math.ListN.{get_or, set, length-set}
 use Rattle.std.proofs.lemmas.Bool.{cases_eq}
 use Rattle.mc_signal.specs.declared.Descriptor.{Descriptor}
@@ -42,6 +42,7 @@ pub record Acts (world : WorldState) (s : ℕ) (last : Slot) (left : List Tagged
   pub inside : s < slot_count world
   pub acted : Acted (slot_of world s) (list_to world s) signals last (for_tunnel (joint_of world s).within left)
   pub others : (other : ℕ) → other ≢ (joint_of world s).within → for_tunnel other left ≡ for_tunnel other (lane_to world s)
+  pub lane : (left ≡ lane_to world s) ⊎ (left ≡ drop 1 (lane_to world s))
 
 -- ---- numbers
 

@@ -9,6 +9,7 @@ pub mod LanesKept
 mod NewLanes
 pub mod Numbers
 pub mod StepForms
+pub mod StepGoes
 pub mod StepKeeps
 pub mod TurnGoes
 pub mod TwoPhones

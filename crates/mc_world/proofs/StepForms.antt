@@ -214,10 +214,11 @@ made_is world who local s left box signals numbered inside is =
 -- from the box's step to the world's
 form_of : (world next : WorldState) (s : ℕ) (left : List Tagged) (step : BoxStep) → IsNumbered world → s < slot_count world
     → ((other : ℕ) → (other ≡ (joint_of world s).within → ⊥) → for_tunnel other left ≡ for_tunnel other (lane_to world s))
+    → (left ≡ lane_to world s) ⊎ (left ≡ drop 1 (lane_to world s))
     → BoxForm (box_at world (place world s).0) (place world s).1 step (list_to world s) (for_tunnel (joint_of world s).within left)
     → made (with_lane world (lane_of world s) left) (place world s).0 step ≡ next
     → StepForm world next
-form_of world next s left step numbered inside others form goes = record {
+form_of world next s left step numbered inside others lane form goes = record {
   s = s;
   last = form.last;
   aim = form.aim;
@@ -225,7 +226,7 @@ form_of world next s left step numbered inside others form goes = record {
   signals = form.signals;
   is = sym goes ∙ (ap (made (with_lane world (lane_of world s) left) (place world s).0) form.is
       ∙ made_is world (place world s).0 (place world s).1 s left (put (box_at world (place world s).0) (place world s).1 form.last (End form.aim)) form.signals numbered inside (numbered.once s inside));
-  acts = record { inside = inside; acted = form.acted; others = others };
+  acts = record { inside = inside; acted = form.acted; others = others; lane = lane };
   rests = form.rests;
 }
 
@@ -244,7 +245,7 @@ take_at_form world next s sound inside goes =
     let fronts : Fronts (joint_of world s).within one.0 (lane_to world s) = front_next (joint_of world s).within one.0 (lane_to world s) one.1 in
     let form = take_form (box_at world (place world s).0) (place world s).1 one.0 aim.0 two.0 (for_tunnel (joint_of world s).within (drop 1 (lane_to world s)))
     (sound.numbered.slots s inside) (sound.tunnels s inside).first_kept aim.1 three.1 in
-    form_of world next s (drop 1 (lane_to world s)) two.0 sound.numbered inside fronts.others
+    form_of world next s (drop 1 (lane_to world s)) two.0 sound.numbered inside fronts.others (inr refl)
     (subst (λ (l : List Signal). BoxForm (box_at world (place world s).0) (place world s).1 two.0 l (for_tunnel (joint_of world s).within (drop 1 (lane_to world s)))) (sym fronts.next) form)
     two.2
 
@@ -257,5 +258,5 @@ pub push_at_form : (world next : WorldState) (s : ℕ) (step : BoxStep) → IsNu
     → BoxForm (box_at world (place world s).0) (place world s).1 step (list_to world s) (list_to world s)
     → made world (place world s).0 step ≡ next → StepForm world next
 push_at_form world next s step numbered inside form goes =
-    form_of world next s (lane_to world s) step numbered inside (λ other apart. refl) form
+    form_of world next s (lane_to world s) step numbered inside (λ other apart. refl) (inl refl) form
     (ap (λ (w : WorldState). made w (place world s).0 step) (lane_back world (lane_of world s)) ∙ goes)

@@ -6,6 +6,7 @@ pub mod Paths
 pub mod Settles
 pub mod Setups
 pub mod Sound
+pub mod Served
 pub mod StepLaws
 pub mod Steps
 pub mod TwoPhones

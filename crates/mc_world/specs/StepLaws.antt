@@ -1,10 +1,14 @@
--- Laws of steps and runs: a sound world stays sound, and its slots may take what is under way to them.
-use Rattle.std.specs.Prelude.{◌≡◌, ◌<◌, ℕ, List, Some, IsSome}
+-- Laws of steps and runs: a sound world stays sound, its slots may take what is under way to them, and something can be taken as long as anything is under way.
+use Rattle.std.specs.Prelude.{◌≡◌, ◌<◌, ℕ, false, List, Some, IsSome}
 use Rattle.mc_signal.specs.declared.Signal.{Signal}
 use Rattle.mc_slot.specs.Moves.{taken}
+use Rattle.mc_world.specs.Boxes.{BoxState}
+use Rattle.mc_world.specs.Served.{LanesServed}
+use Rattle.mc_world.specs.Settles.{is_quiet}
 use Rattle.mc_world.specs.Sound.{IsSound}
 use Rattle.mc_world.specs.Steps.{run, step}
-use Rattle.mc_world.specs.Worlds.{WorldState, front, slot_count, slot_of}
+use Rattle.mc_world.specs.Worlds.{ChannelState, WorldState, first_world, front, place, slot_count, slot_of}
+use Rattle.mc_world.specs.declared.event.Event.TheVariants.{Take}
 use Rattle.mc_world.specs.declared.event.Turn.{Turn}
 
 -- each enabled turn of a sound world leads to a sound world
@@ -18,3 +22,23 @@ RunKeepsSound = (world next : WorldState) (turns : List Turn) → IsSound world 
 -- a signal at the front of a slot's lane, which is for the slot, is one that it may take
 abbrev pub FrontIsTaken : Type 0
 FrontIsTaken = (world : WorldState) (s : ℕ) (signal : Signal) → IsSound world → s < slot_count world → front world s ≡ Some signal → IsSome (taken (slot_of world s) signal)
+
+-- the Take of a slot, by its number
+abbrev pub take_of : WorldState → ℕ → Turn
+take_of world s = record { who = (place world s).0; event = Take (place world s).1 }
+
+-- that Take is enabled where there is such a signal
+abbrev pub FrontStepGoes : Type 0
+FrontStepGoes = (world : WorldState) (s : ℕ) (signal : Signal) → IsSound world → s < slot_count world → front world s ≡ Some signal → IsSome (step world (take_of world s))
+
+-- steps keep each signal on the lane of its slot
+abbrev pub StepKeepsServed : Type 0
+StepKeepsServed = (world next : WorldState) (turn : Turn) → IsSound world → LanesServed world → step world turn ≡ Some next → LanesServed next
+
+-- in a world as new nothing is under way
+abbrev pub FirstIsServed : Type 0
+FirstIsServed = (boxes : List BoxState) (channels : List ChannelState) → LanesServed (first_world boxes channels)
+
+-- as long as something is under way, some slot can take its front
+abbrev pub UnderWayGoes : Type 0
+UnderWayGoes = (world : WorldState) → IsSound world → LanesServed world → is_quiet world ≡ false → (s : ℕ) × (s < slot_count world) × IsSome (step world (take_of world s))

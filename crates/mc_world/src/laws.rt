@@ -1,7 +1,7 @@
 //! Laws of the world, over its definitions alone: each function's contract is the law's sentence.
 
 ghost use Rattle.mc_world.specs.Exchanges.{WorkedExchanges};
-ghost use Rattle.mc_world.specs.StepLaws.{StepKeepsSound, RunKeepsSound, FrontIsTaken};
+ghost use Rattle.mc_world.specs.StepLaws.{StepKeepsSound, RunKeepsSound, FrontIsTaken, FrontStepGoes, StepKeepsServed, FirstIsServed, UnderWayGoes};
 ghost use Rattle.mc_world.specs.TwoPhones.{TwoPhonesAreIdle};
 
 /// The definitions give the worked exchanges of two phones what a telephony engineer expects of them.
@@ -28,4 +28,24 @@ pub fn run_keeps_sound()
 /// In a sound world, a signal at the front of a lane is one that its slot may take: no answer for unlawful signals is needed.
 pub fn front_is_taken()
     ensures { FrontIsTaken }
+{}
+
+/// In a sound world, a Take is enabled at each slot that has its signal at the front of its lane.
+pub fn front_step_goes()
+    ensures { FrontStepGoes }
+{}
+
+/// A turn keeps each signal under way on the lane of the slot that it is for.
+pub fn step_keeps_served()
+    ensures { StepKeepsServed }
+{}
+
+/// A world as new has nothing under way.
+pub fn first_is_served()
+    ensures { FirstIsServed }
+{}
+
+/// A sound world is never stuck: as long as a signal is under way, some slot can take one.
+pub fn under_way_goes()
+    ensures { UnderWayGoes }
 {}
