@@ -4,6 +4,7 @@ pub mod Acting
 mod BoxSound
 mod BoxTurns
 mod Exchanges
+pub mod Firsts
 pub mod Joints
 pub mod LanesKept
 mod NewLanes

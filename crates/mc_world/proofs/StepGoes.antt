@@ -126,7 +126,7 @@ step_keeps_served world next turn sound served goes = elim (step_form world next
   | inr form ↦ form_served world next sound served form
 ]
 
-none_under_way : (n lane : ℕ) → get_or (replicate n (let nothing : List Tagged = [] in nothing)) lane [] ≡ []
+pub none_under_way : (n lane : ℕ) → get_or (replicate n (let nothing : List Tagged = [] in nothing)) lane [] ≡ []
 none_under_way zero lane = refl
 none_under_way (suc n) zero = refl
 none_under_way (suc n) (suc lane) = none_under_way n lane

@@ -1,12 +1,17 @@
 -- Laws of steps and runs: a sound world stays sound, its slots may take what is under way to them, and something can be taken as long as anything is under way.
-use Rattle.std.specs.Prelude.{◌≡◌, ◌<◌, ℕ, false, List, Some, IsSome}
+use Rattle.std.specs.Prelude.{◌≡◌, ◌<◌, ℕ, false, List, length, slice_index_or, Some, IsSome}
+use Rattle.mc_signal.specs.declared.codec_list.CodecList.{CodecList}
 use Rattle.mc_signal.specs.declared.Signal.{Signal}
-use Rattle.mc_slot.specs.Moves.{taken}
-use Rattle.mc_world.specs.Boxes.{BoxState}
+use Rattle.mc_slot.specs.Moves.{closed_slot, taken}
+use Rattle.mc_slot.specs.declared.Goal.TheVariants.{Close as ToClose}
+use Rattle.mc_slot.specs.declared.SlotGoal.TheVariants.{End}
+use Rattle.mc_world.specs.Boxes.{BoxState, goal_at, no_box, slot_at}
 use Rattle.mc_world.specs.Served.{LanesServed}
 use Rattle.mc_world.specs.Settles.{is_quiet}
-use Rattle.mc_world.specs.Sound.{IsSound}
+use Rattle.mc_world.specs.Setups.{world_of_devices}
+use Rattle.mc_world.specs.Sound.{IsNumbered, IsSound}
 use Rattle.mc_world.specs.Steps.{run, step}
+use Rattle.mc_world.specs.TwoPhones.{JoinsTwo}
 use Rattle.mc_world.specs.Worlds.{ChannelState, WorldState, first_world, front, place, slot_count, slot_of}
 use Rattle.mc_world.specs.declared.event.Event.TheVariants.{Take}
 use Rattle.mc_world.specs.declared.event.Turn.{Turn}
@@ -42,3 +47,22 @@ FirstIsServed = (boxes : List BoxState) (channels : List ChannelState) → Lanes
 -- as long as something is under way, some slot can take its front
 abbrev pub UnderWayGoes : Type 0
 UnderWayGoes = (world : WorldState) → IsSound world → LanesServed world → is_quiet world ≡ false → (s : ℕ) × (s < slot_count world) × IsSome (step world (take_of world s))
+
+-- runs keep a world sound, with each signal on the lane of its slot
+abbrev pub RunKeepsServed : Type 0
+RunKeepsServed = (world next : WorldState) (turns : List Turn) → IsSound world → LanesServed world → run world turns ≡ Some next → IsSound next × LanesServed next
+
+-- a box as new: its slots are closed and keep nothing, and its goals are close
+pub record IsNewBox (box : BoxState) : Type 0 where
+  pub slots : (local : ℕ) → slot_at box local ≡ closed_slot (slot_at box local).medium (slot_at box local).initiator
+  pub goals : (local : ℕ) → goal_at box local ≡ End ToClose
+
+-- a world of new boxes, of any number of them and of channels, is sound where all is numbered as it should be
+abbrev pub FirstIsSound : Type 0
+FirstIsSound = (boxes : List BoxState) (channels : List ChannelState) → ((who : ℕ) → who < length boxes → IsNewBox (slice_index_or boxes who no_box))
+    → IsNumbered (first_world boxes channels) → IsSound (first_world boxes channels)
+
+-- each run of two phones leads to a sound world that isn't stuck
+abbrev pub TwoPhonesStaySound : Type 0
+TwoPhonesStaySound = (channels : List ChannelState) (lists : List CodecList) (turns : List Turn) (next : WorldState) → JoinsTwo channels → length lists ≡ 2
+    → run (world_of_devices channels lists) turns ≡ Some next → IsSound next × LanesServed next

@@ -1,7 +1,7 @@
 //! Laws of the world, over its definitions alone: each function's contract is the law's sentence.
 
 ghost use Rattle.mc_world.specs.Exchanges.{WorkedExchanges};
-ghost use Rattle.mc_world.specs.StepLaws.{StepKeepsSound, RunKeepsSound, FrontIsTaken, FrontStepGoes, StepKeepsServed, FirstIsServed, UnderWayGoes};
+ghost use Rattle.mc_world.specs.StepLaws.{StepKeepsSound, RunKeepsSound, FrontIsTaken, FrontStepGoes, StepKeepsServed, FirstIsServed, UnderWayGoes, RunKeepsServed, FirstIsSound, TwoPhonesStaySound};
 ghost use Rattle.mc_world.specs.TwoPhones.{TwoPhonesAreIdle};
 
 /// The definitions give the worked exchanges of two phones what a telephony engineer expects of them.
@@ -48,4 +48,19 @@ pub fn first_is_served()
 /// A sound world is never stuck: as long as a signal is under way, some slot can take one.
 pub fn under_way_goes()
     ensures { UnderWayGoes }
+{}
+
+/// A run keeps a world sound, with each signal on the lane of its slot.
+pub fn run_keeps_served()
+    ensures { RunKeepsServed }
+{}
+
+/// A world of new boxes is sound where tunnels join their slots, whatever the number of boxes and channels.
+pub fn first_is_sound()
+    ensures { FirstIsSound }
+{}
+
+/// Each run of two phones leads to a sound world, in which each signal is on the lane of its slot: it isn't stuck.
+pub fn two_phones_stay_sound()
+    ensures { TwoPhonesStaySound }
 {}

@@ -1,0 +1,5 @@
+use Rattle.mc_world.proofs.Firsts.{first_is_sound}
+use Rattle.mc_world.proofs.laws.first_is_sound.Goals as goal
+
+pub returns : goal.returns
+returns c = first_is_sound
