@@ -12,5 +12,6 @@ pub mod Numbers
 pub mod StepForms
 pub mod StepGoes
 pub mod StepKeeps
+pub mod TakeForms
 pub mod TurnGoes
 pub mod TwoPhones
