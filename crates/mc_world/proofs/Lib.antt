@@ -6,6 +6,7 @@ mod BoxTurns
 mod Exchanges
 pub mod Firsts
 pub mod Joints
+pub mod LaneSums
 pub mod LanesKept
 pub mod Lowers
 mod NewLanes

@@ -13,7 +13,7 @@ use Rattle.mc_slot.specs.declared.SlotGoal.TheVariants.{End, Link}
 use Rattle.mc_slot.specs.declared.State.{State}
 use Rattle.mc_turn.specs.Weights.{weight, weights, stored_end}
 use Rattle.mc_turn.proofs.EndPays.{end_pays}
-use Rattle.mc_world.specs.Measures.{MeasureBound, TakeLowers, TakesEnd, is_take, measure, measure_at, stored_of}
+use Rattle.mc_world.specs.Measures.{MeasureBound, TakeLowers, TakesEnd, is_take, measure, measure_at, stored_of, total, under_way}
 use Rattle.mc_world.specs.Sound.{IsNumbered, IsSound, RestsBy}
 use Rattle.mc_world.specs.Steps.{run, step}
 use Rattle.mc_world.specs.Worlds.{WorldState, far, for_tunnel, goal_of, joint_of, lane_to, list_to, own_descriptor, own_sender, slot_count, slot_of}
@@ -21,6 +21,7 @@ use Rattle.mc_world.specs.declared.event.Event.{Event}
 use Rattle.mc_world.specs.declared.event.Event.TheVariants.{Take, Set, Media, Tell, Retry, Shift}
 use Rattle.mc_world.specs.declared.event.Turn.{Turn}
 use Rattle.mc_world.proofs.ActedWorlds.{acted_world, elsewhere, far_inside, here, list_else, list_far, list_here}
+use Rattle.mc_world.proofs.LaneSums.{lists_most}
 use Rattle.mc_world.proofs.LanesKept.{Fronts}
 use Rattle.mc_world.proofs.Numbers.{far_other}
 use Rattle.mc_world.proofs.StepForms.{then_some}
@@ -154,8 +155,13 @@ stored_most (Link partner) state = omega arith
 part_most : (weight count stored : ℕ) → weight ≤ 8 * count → stored ≤ 1 → weight + 8 * stored ≤ 8 * count + 8
 part_most weight count stored light few = omega arith
 
+bound_sum : (sum lists lanes slots : ℕ) → sum ≤ 8 * (lists + slots) → lists ≤ lanes → sum ≤ 8 * (lanes + slots)
+bound_sum sum lists lanes slots most fewer = omega arith
+
 pub measure_bound : MeasureBound
 measure_bound world sound =
-    total_most (measure_at world) (λ s. length (list_to world s)) 8 (slot_count world)
+    bound_sum (measure world) (total (λ (s : ℕ). length (list_to world s)) (slot_count world)) (under_way world) (slot_count world)
+    (total_most (measure_at world) (λ s. length (list_to world s)) 8 (slot_count world)
     (λ s within. part_most (weights 2 (list_to world s)) (length (list_to world s)) (stored_of (goal_of world s) (slot_of world s).state)
-    (weights_most (list_to world s)) (stored_most (goal_of world s) (slot_of world s).state))
+    (weights_most (list_to world s)) (stored_most (goal_of world s) (slot_of world s).state)))
+    (lists_most world sound.numbered)

@@ -1,6 +1,6 @@
 -- A number that each Take of a world lowers, so that Takes alone come to an end.
 use Rattle.std.specs.Prelude.{◌≡◌, ◌≤◌, ◌<◌, ◌+◌, ◌*◌, ℕ, zero, suc, Bool, true, false, List, length, IsTrue, Some}
-use Rattle.std.specs.List.{list_all}
+use Rattle.std.specs.List.{list_all, sum_by}
 use Rattle.mc_slot.specs.declared.SlotGoal.{SlotGoal}
 use Rattle.mc_slot.specs.declared.SlotGoal.TheVariants.{End, Link}
 use Rattle.mc_slot.specs.declared.State.{State}
@@ -30,9 +30,9 @@ measure_at world s = weights 2 (list_to world s) + 8 * stored_of (goal_of world 
 abbrev pub measure : WorldState → ℕ
 measure world = total (measure_at world) (slot_count world)
 
--- the number of the signals under way to all slots
+-- the number of the signals under way, on all lanes
 abbrev pub under_way : WorldState → ℕ
-under_way world = total (λ s. length (list_to world s)) (slot_count world)
+under_way world = sum_by length world.lanes
 
 -- a Take of a sound world lowers the measure
 abbrev pub TakeLowers : Type 0
