@@ -21,16 +21,19 @@ on_lane leads within lane = if leads then length (for_tunnel within lane) else 0
 abbrev mark : Bool → ℕ → Tagged → ℕ
 mark leads within tagged = if leads && tagged.tunnel == within then 1 else 0
 
+-- the next signal of a lane counts where it is for the slot
 next_on_lane : (leads here : Bool) (within : ℕ) (tagged : Tagged) (lane : List Tagged) → (tagged.tunnel == within) ≡ here
     → on_lane leads within (tagged ∷ lane) ≡ mark leads within tagged + on_lane leads within lane
 next_on_lane true true within tagged lane is = grind (arith, common_steps)
 next_on_lane true false within tagged lane is = grind (arith, common_steps)
 next_on_lane false here within tagged lane is = omega arith
 
+-- an empty lane has nothing for any slot
 none_on_lane : (leads : Bool) (within : ℕ) → on_lane leads within [] ≤ 0
 none_on_lane true within = omega arith
 none_on_lane false within = omega arith
 
+-- a signal counts once at most for a slot
 mark_most : (leads here : Bool) (within : ℕ) (tagged : Tagged) → (tagged.tunnel == within) ≡ here → mark leads within tagged ≤ 1
 mark_most leads here within tagged is = grind (arith, common_steps)
 
@@ -58,9 +61,11 @@ lane_total lane_at within k j (tagged ∷ lane) apart =
 
 -- ---- all lanes
 
+-- a slot's own lane has the slot's list
 on_own : (lane_at within : ℕ) (lane : List Tagged) → on_lane (lane_at == lane_at) within lane ≡ length (for_tunnel within lane)
 on_own lane_at within lane = grind (arith, common_steps)
 
+-- the lanes by their numbers, or as they stand
 lengths_sum : (lanes : List (List Tagged)) → total (λ (j : ℕ). length (get_or lanes j [])) (length lanes) ≡ sum_by length lanes
 lengths_sum [] = refl
 lengths_sum (lane ∷ lanes) =

@@ -56,6 +56,7 @@ at_here world s last goal left signals numbered inside =
     at_by (acted_world world s last goal left signals) s (for_tunnel (joint_of world s).within left) goal last
     (list_here world s last goal left signals numbered inside) new.goal new.slot
 
+-- what is stored besides makes no difference
 sum_with : (first stored more sum : ℕ) → sum ≡ first + more → sum + stored ≡ first + stored + more
 sum_with first stored more sum is = omega arith
 
@@ -69,6 +70,7 @@ at_far world s last goal left signals numbered inside =
     ∙ sum_with (weights 2 (list_to world (far s))) (8 * stored_of (goal_of world (far s)) (slot_of world (far s)).state) (weights 2 signals) (weights 2 (list_to world (far s) ++ signals))
     (weights-append 2 (list_to world (far s)) signals)
 
+-- of the sums over all slots, with what the far slot had taken away on both sides
 change_sum : (new old here_new here_old far_new far_old kept more : ℕ) → new + (here_old + far_old) ≡ old + (here_new + far_new) → here_new ≡ kept → far_new ≡ far_old + more
     → new + here_old ≡ old + kept + more
 change_sum new old here_new here_old far_new far_old kept more change here_is far_is = omega arith
@@ -94,9 +96,11 @@ at_front : (world : WorldState) (s : ℕ) (signal : Signal) (rest : List Signal)
     → measure_at world s ≡ weight 2 signal + weights 2 rest + 8 * stored_end goal (slot_of world s).state
 at_front world s signal rest goal fronts aims = at_by world s (signal ∷ rest) (End goal) (slot_of world s) fronts aims refl
 
+-- the front outweighs what is sent for it
 lowers_sum : (new old here front rest before after more : ℕ) → new + here ≡ old + (rest + 8 * after) + more → here ≡ front + rest + 8 * before → 1 + 1 * more + 8 * after ≤ front + 8 * before → new < old
 lowers_sum new old here front rest before after more change here_is pays = omega arith
 
+-- the world after a taking measures less
 acted_lowers : (world : WorldState) (s : ℕ) (signal : Signal) (goal : Goal) (answer : Option Signal) (middle last : Slot) → IsSound world → s < slot_count world
     → Fronts (joint_of world s).within signal (lane_to world s) → goal_of world s ≡ End goal → taken (slot_of world s) signal ≡ Some record { answer = answer; after = middle }
     → sent_all middle (due goal middle (pushed_by signal middle.state) (own_descriptor world s) (own_sender world s)) ≡ Some last
@@ -110,11 +114,13 @@ acted_lowers world s signal goal answer middle last sound inside fronts aims tak
     (at_front world s signal rest goal fronts.next aims)
     (end_pays goal (slot_of world s) middle last (own_descriptor world s) (own_sender world s) signal answer 2 1 (sound.tunnels s inside).first_kept quiet takes turns (omega arith) (omega arith))
 
+-- so does the next world of a Take
 form_lowers : (world next : WorldState) → IsSound world → TakeForm world next → measure next < measure world
 form_lowers world next sound form =
     subst (λ (w : WorldState). measure w < measure world) (sym form.is)
     (acted_lowers world form.s form.signal form.goal form.answer form.middle form.last sound form.inside form.fronts form.aims form.takes form.turns)
 
+-- each Take lowers the measure
 pub take_lowers : TakeLowers
 take_lowers world next who local sound goes = form_lowers world next sound (take_of_form world next who local sound goes)
 
@@ -129,10 +135,12 @@ turn_lowers (Tell word) world next who sound is goes = absurd (cc)
 turn_lowers (Retry local) world next who sound is goes = absurd (cc)
 turn_lowers Shift world next who sound is goes = absurd (cc)
 
+-- a test of two holds where both do
 both_true : (first second : Bool) → (first && second) ≡ true → (first ≡ true) × (second ≡ true)
 both_true true second is = (refl, is)
 both_true false second is = absurd (cc)
 
+-- one turn after another
 takes_by : (turns : List Turn) (world next : WorldState) → IsSound world → list_all (λ turn. is_take turn.event) turns ≡ true → run world turns ≡ Some next → length turns + measure next ≤ measure world
 takes_by [] world next sound all goes = let same : world ≡ next = cc in subst (λ (w : WorldState). 0 + measure w ≤ measure world) same (omega arith)
 takes_by (turn ∷ turns) world next sound all goes =
@@ -142,6 +150,7 @@ takes_by (turn ∷ turns) world next sound all goes =
     let later : length turns + measure next ≤ measure one.0 = takes_by turns one.0 next (step_keeps_sound world one.0 turn sound one.1) parts.1 one.2 in
     omega (arith, lower, later)
 
+-- a run of Takes is no longer than the measure
 pub takes_end : TakesEnd
 takes_end world next turns sound all goes = takes_by turns world next sound all goes
 
@@ -152,12 +161,15 @@ stored_most : (goal : SlotGoal) (state : State) → stored_of goal state ≤ 1
 stored_most (End goal) state = grind (arith, common_steps)
 stored_most (Link partner) state = omega arith
 
+-- what one slot has is at most 8 for each signal to it, and 8
 part_most : (weight count stored : ℕ) → weight ≤ 8 * count → stored ≤ 1 → weight + 8 * stored ≤ 8 * count + 8
 part_most weight count stored light few = omega arith
 
+-- the lists are no longer than the lanes
 bound_sum : (sum lists lanes slots : ℕ) → sum ≤ 8 * (lists + slots) → lists ≤ lanes → sum ≤ 8 * (lanes + slots)
 bound_sum sum lists lanes slots most fewer = omega arith
 
+-- the measure is at most 8 for each signal under way and each slot
 pub measure_bound : MeasureBound
 measure_bound world sound =
     bound_sum (measure world) (total (λ (s : ℕ). length (list_to world s)) (slot_count world)) (under_way world) (slot_count world)

@@ -57,6 +57,7 @@ took_box box local signal goal took turn step inside goal_is goes turn_is step_i
       is = take_is box local goal took.answer took.after form.last (due goal took.after (pushed_by signal took.after.state) (own box local) (sender box local)) turn step goal_is form.is step_is;
     }
 
+-- from what the box does when it takes a signal
 take_box : (box : BoxState) (local : ℕ) (signal : Signal) (goal : Goal) (step : BoxStep)
     → local < length box.slots → goal_at box local ≡ End goal → take_step box local signal ≡ Some step → TakeBox box local signal goal step
 take_box box local signal goal step inside goal_is goes =
@@ -105,6 +106,7 @@ take_world world next s signal goal step numbered inside fronts aims form goes =
       (sends_of world s goal signal form.answer form.middle) numbered inside (numbered.once s inside));
 }
 
+-- the Take of a slot, by its place
 take_place : (world next : WorldState) (s : ℕ) → IsSound world → s < slot_count world → take_at world (place world s).0 (place world s).1 s ≡ Some next → TakeForm world next
 take_place world next s sound inside goes =
     let one = then_some (λ (signal : Signal). option_map (made (popped world s) (place world s).0) (box_event (box_at world (place world s).0) (Take (place world s).1) (Some signal))) (front world s) next goes in
