@@ -64,12 +64,12 @@ place_apart world s t numbered one two who local =
 
 -- ---- slots
 
-here : (world : WorldState) (s : ℕ) (last : Slot) (goal : SlotGoal) → IsNumbered world → s < slot_count world
+pub here : (world : WorldState) (s : ℕ) (last : Slot) (goal : SlotGoal) → IsNumbered world → s < slot_count world
     → NewSlot (get_or (put_at world.boxes (place world s).0 (place world s).1 last goal) (place world s).0 no_box) (box_at world (place world s).0) (place world s).1 last goal
 here world s last goal numbered inside =
     slot_here world.boxes (place world s).0 (place world s).1 last goal (numbered.placed s inside) (numbered.whole (place world s).0 (numbered.placed s inside)) (numbered.slots s inside)
 
-elsewhere : (world : WorldState) (s t : ℕ) (last : Slot) (goal : SlotGoal) → IsNumbered world → s < slot_count world → t < slot_count world → t ≢ s
+pub elsewhere : (world : WorldState) (s t : ℕ) (last : Slot) (goal : SlotGoal) → IsNumbered world → s < slot_count world → t < slot_count world → t ≢ s
     → SameSlot (get_or (put_at world.boxes (place world s).0 (place world s).1 last goal) (place world t).0 no_box) (box_at world (place world t).0) (place world t).1
 elsewhere world s t last goal numbered inside within apart =
     slot_else world.boxes (place world s).0 (place world s).1 last goal (place world t).0 (place world t).1 (numbered.placed s inside)
@@ -82,14 +82,14 @@ make world s last goal v numbered inside = make_kept world.boxes (place world s)
 -- ---- lists
 
 -- the list to the slot that acts
-list_here : (world : WorldState) (s : ℕ) (last : Slot) (goal : SlotGoal) (left : List Tagged) (signals : List Signal) → IsNumbered world → s < slot_count world
+pub list_here : (world : WorldState) (s : ℕ) (last : Slot) (goal : SlotGoal) (left : List Tagged) (signals : List Signal) → IsNumbered world → s < slot_count world
     → list_to (acted_world world s last goal left signals) s ≡ for_tunnel (joint_of world s).within left
 list_here world s last goal left signals numbered inside =
     ap (for_tunnel (joint_of world s).within) (changed_first world.lanes (lane_of world s) (lane_of world (far s)) left (lane_to world (far s) ++ map (tagged_for (joint_of world (far s)).within) signals)
     (far_lane world s) (subst (λ (n : ℕ). lane_of world s < n) (sym numbered.lanes) (lane_in world s inside)))
 
 -- the list to its far slot
-list_far : (world : WorldState) (s : ℕ) (last : Slot) (goal : SlotGoal) (left : List Tagged) (signals : List Signal) → IsNumbered world → s < slot_count world
+pub list_far : (world : WorldState) (s : ℕ) (last : Slot) (goal : SlotGoal) (left : List Tagged) (signals : List Signal) → IsNumbered world → s < slot_count world
     → list_to (acted_world world s last goal left signals) (far s) ≡ list_to world (far s) ++ signals
 list_far world s last goal left signals numbered inside =
     ap (for_tunnel (joint_of world (far s)).within) (changed_second world.lanes (lane_of world s) (lane_of world (far s)) left (lane_to world (far s) ++ map (tagged_for (joint_of world (far s)).within) signals)
@@ -97,7 +97,7 @@ list_far world s last goal left signals numbered inside =
     ∙ sent_own (joint_of world (far s)).within (lane_to world (far s)) signals
 
 -- the list to each other slot, which may be on one of the two lanes
-list_else : (world : WorldState) (s t : ℕ) (last : Slot) (goal : SlotGoal) (left : List Tagged) (signals : List Signal) → IsNumbered world → s < slot_count world → t < slot_count world
+pub list_else : (world : WorldState) (s t : ℕ) (last : Slot) (goal : SlotGoal) (left : List Tagged) (signals : List Signal) → IsNumbered world → s < slot_count world → t < slot_count world
     → t ≢ s → t ≢ far s → ((other : ℕ) → other ≢ (joint_of world s).within → for_tunnel other left ≡ for_tunnel other (lane_to world s))
     → list_to (acted_world world s last goal left signals) t ≡ list_to world t
 list_else world s t last goal left signals numbered inside within apart beyond others =

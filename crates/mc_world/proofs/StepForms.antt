@@ -104,7 +104,7 @@ same_goal box local last goal is =
     ap (λ (goals : List SlotGoal). record box { slots = set box.slots local last; goals = goals }) same
 
 -- an answer and a turn are one list
-take_is : (box : BoxState) (local : ℕ) (goal : Goal) (answer : Option Signal) (after last : Slot) (signals : List Signal) (turn step : BoxStep)
+pub take_is : (box : BoxState) (local : ℕ) (goal : Goal) (answer : Option Signal) (after last : Slot) (signals : List Signal) (turn step : BoxStep)
     → goal_at box local ≡ End goal → record { sent = map (pair_of local) signals; after = with_slot (with_slot box local after) local last } ≡ turn → answering local answer turn ≡ step
     → step ≡ record { sent = map (pair_of local) (answered answer ++ signals); after = put box local last (End goal) }
 take_is box local goal answer after last signals turn step goal_is turn_is step_is =
@@ -196,7 +196,7 @@ pub record StepForm (world next : WorldState) : Type 0 where
   pub rests : IsAtRest aim last (own_descriptor world s) (own_sender world s)
 
 -- what a box sends and is after that, in the world
-made_is : (world : WorldState) (who local s : ℕ) (left : List Tagged) (box : BoxState) (signals : List Signal) → IsNumbered world → s < slot_count world → number world who local ≡ Some s
+pub made_is : (world : WorldState) (who local s : ℕ) (left : List Tagged) (box : BoxState) (signals : List Signal) → IsNumbered world → s < slot_count world → number world who local ≡ Some s
     → made (with_lane world (lane_of world s) left) who (record { sent = map (pair_of local) signals; after = box })
     ≡ record world {
       boxes = set world.boxes who box;

@@ -32,7 +32,7 @@ box_inside world who is = grind (arith, common_steps)
 -- ---- a Take
 
 -- by the place in place of the box's and the local number
-take_there : (world next : WorldState) (who local s : ℕ) → (place world s).0 ≡ who → (place world s).1 ≡ local
+pub take_there : (world next : WorldState) (who local s : ℕ) → (place world s).0 ≡ who → (place world s).1 ≡ local
     → take_at world who local s ≡ Some next → take_at world (place world s).0 (place world s).1 s ≡ Some next
 take_there world next who local s who_is local_is goes = rw (who_is, local_is) goes
 

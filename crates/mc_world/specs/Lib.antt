@@ -12,3 +12,4 @@ pub mod Steps
 pub mod TwoPhones
 pub mod Worlds
 pub mod Exchanges
+pub mod Measures

@@ -1,6 +1,7 @@
 //! Laws of the world, over its definitions alone: each function's contract is the law's sentence.
 
 ghost use Rattle.mc_world.specs.Exchanges.{WorkedExchanges};
+ghost use Rattle.mc_world.specs.Measures.{TakeLowers, TakesEnd, MeasureBound};
 ghost use Rattle.mc_world.specs.StepLaws.{StepKeepsSound, RunKeepsSound, FrontIsTaken, FrontStepGoes, StepKeepsServed, FirstIsServed, UnderWayGoes, RunKeepsServed, FirstIsSound, TwoPhonesStaySound};
 ghost use Rattle.mc_world.specs.TwoPhones.{TwoPhonesAreIdle};
 
@@ -63,4 +64,19 @@ pub fn first_is_sound()
 /// Each run of two phones leads to a sound world, in which each signal is on the lane of its slot: it isn't stuck.
 pub fn two_phones_stay_sound()
     ensures { TwoPhonesStaySound }
+{}
+
+/// In a sound world each Take lowers the measure: what is still to come of all slots.
+pub fn take_lowers()
+    ensures { TakeLowers }
+{}
+
+/// A run of Takes alone, from a sound world, ends: it has at most as many turns as the measure.
+pub fn takes_end()
+    ensures { TakesEnd }
+{}
+
+/// The measure of a sound world is at most 8 for each signal under way and each slot.
+pub fn measure_bound()
+    ensures { MeasureBound }
 {}
