@@ -10,3 +10,4 @@ pub mod Steps
 pub mod TwoPhones
 pub mod Worlds
 pub mod Exchanges
+pub mod Tables
