@@ -1,6 +1,7 @@
 pub mod BoxEvents
 pub mod BoxSound
 pub mod Boxes
+pub mod Lanes
 pub mod PathTable
 pub mod Paths
 pub mod Settles

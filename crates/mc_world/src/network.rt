@@ -7,11 +7,14 @@ ghost use Rattle.mc_world.specs.Sound.{IsNumbered};
 ghost use Rattle.mc_world.specs.Tables.{channel_of};
 ghost use Rattle.mc_world.specs.Worlds.{first_world, slot_count, place, is_place, number, far, joint_of, lane_of, front, front_for, slot_of, goal_of, places_among, places_within, joints_from, joints_within};
 
+mod step;
+
 use crate::media_box::MediaBox;
 use mc_signal::{Medium, Signal, Tagged};
 use mc_slot::{Slot, SlotGoal};
 use std::alloc::{AllocError, Global};
 use std::marker::Model;
+pub use step::StepFault;
 
 /// A tunnel of a channel: its medium, and the local numbers of its two slots, the initiator's first.
 #[derive(Clone, Copy, PartialEq, Eq, Debug)]

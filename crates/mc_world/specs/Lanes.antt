@@ -1,0 +1,36 @@
+-- Lanes as they change, and what a step answers.
+use Rattle.std.specs.Prelude.{◌≡◌, ℕ, ◌+◌, ◌≤◌, List, map, Vec, vec_len, vec_capacity, HoldsAt, Option, Some, None, IsSome, Result, Ok, Err}
+use Rattle.std.specs.declared.alloc.Global.{Global}
+use Rattle.mc_signal.specs.declared.Signal.{Signal}
+use Rattle.mc_signal.specs.declared.Tagged.{Tagged}
+use Rattle.mc_world.specs.Worlds.{WorldState}
+use Rattle.mc_world.specs.declared.event.Change.TheVariants.{End as NewEnd}
+use Rattle.mc_world.specs.declared.event.Event.{Event}
+use Rattle.mc_world.specs.declared.event.Event.TheVariants.{Set, Retry}
+use Rattle.mc_world.specs.declared.network.step.StepFault.{StepFault}
+use Rattle.mc_world.specs.declared.network.step.StepFault.TheVariants.{NotEnabled, NoMemory, VersionEnd}
+
+-- the signals of each lane
+abbrev pub signals_of : List (Vec Tagged Global) → List (List Tagged)
+signals_of lanes = map (λ lane. lane.items) lanes
+
+-- a lane has room for what one event sends
+abbrev pub HasRoom : List (Vec Tagged Global) → ℕ → Type 0
+HasRoom lanes lane = HoldsAt (λ vec. vec_len vec + 4 ≤ vec_capacity vec) lanes lane
+
+-- a sending, as it stands in the lane
+abbrev pub tagged : ℕ → ℕ × Signal → Tagged
+tagged tunnel sending = record { tunnel = tunnel; signal = sending.1 }
+
+-- the slot that an event other than a Take concerns
+abbrev pub acts_at : Event → Option ℕ
+acts_at (Set (NewEnd local goal)) = Some local
+acts_at (Retry local) = Some local
+acts_at event = None
+
+-- what a step answers, from the world after it, if it is enabled
+abbrev pub Answers : WorldState → WorldState → Option WorldState → Result (Unit {0}) StepFault → Type 0
+Answers old new after (Ok done) = after ≡ Some new
+Answers old new after (Err NotEnabled) = (after ≡ None) × (new ≡ old)
+Answers old new after (Err (NoMemory e)) = IsSome after × (new ≡ old)
+Answers old new after (Err VersionEnd) = ⊥
