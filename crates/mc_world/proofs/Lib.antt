@@ -6,5 +6,8 @@ mod Joints
 mod LaneChanges
 mod NewLanes
 mod NoPrograms
+mod Sendings
 mod Tables
+mod TurnsGo
 pub mod TwoPhones
+mod WorldSteps

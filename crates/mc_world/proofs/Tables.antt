@@ -4,11 +4,12 @@ use Rattle.std.specs.List.{list_all}
 use Rattle.std.specs.Vec.{vec_len}
 use Rattle.std.specs.declared.alloc.Global.{Global}
 use Rattle.std.proofs.lemmas.Grind.{common_steps}
-use Rattle.std.proofs.lemmas.List.{length-map}
+use Rattle.std.proofs.lemmas.List.{get_or_read, length-map}
 use Rattle.mc_signal.specs.declared.Tagged.{Tagged}
+use Rattle.mc_world.specs.Boxes.{BoxState, no_box}
 use Rattle.mc_world.specs.Settles.{is_empty}
 use Rattle.mc_world.specs.Tables.{HasTables, channel_of, world_of}
-use Rattle.mc_world.specs.Worlds.{joint_of, joints_from, lane_of, slot_count}
+use Rattle.mc_world.specs.Worlds.{WorldState, box_at, joint_of, joints_from, lane_of, slot_count}
 use Rattle.mc_world.specs.declared.network.World.TheInside.{Inside}
 use Rattle.mc_world.proofs.Joints.{in_table, slot_has_channel, tunnel_is_there}
 
@@ -48,3 +49,9 @@ none_here (tagged ∷ rest) count is = grind (arith, common_steps)
 pub all_empty : (lanes : List (Vec Tagged Global)) → list_all (λ lane. vec_len lane == 0) lanes ≡ list_all is_empty (map (λ (lane : Vec Tagged Global). lane.items) lanes)
 all_empty [] = refl
 all_empty (lane ∷ lanes) = rw (none_here lane.items lane.len (sym lane.ok.0), all_empty lanes) refl
+
+-- ---- a box that is read
+
+pub box_read : (inside : Inside) (world : WorldState) (who : ℕ) (read : BoxState) → world_of inside ≡ world → who < length world.boxes → read ≡ get_or inside.boxes.items who read
+    → read ≡ box_at world who
+box_read inside world who read is here reads = rw (← is) (get_or_read inside.boxes.items who read (rw (← is) at here) reads no_box)

@@ -1,5 +1,5 @@
 -- Lanes as they change, and what a step answers.
-use Rattle.std.specs.Prelude.{◌≡◌, ℕ, ◌+◌, ◌≤◌, List, map, Vec, vec_len, vec_capacity, HoldsAt, Option, Some, None, IsSome, Result, Ok, Err}
+use Rattle.std.specs.Prelude.{◌≡◌, ℕ, ◌+◌, ◌≤◌, List, [], ◌++◌, drop, map, slice_index_or, slice_set, Vec, vec_len, vec_capacity, HoldsAt, Option, Some, None, IsSome, Result, Ok, Err}
 use Rattle.std.specs.declared.alloc.Global.{Global}
 use Rattle.mc_signal.specs.declared.Signal.{Signal}
 use Rattle.mc_signal.specs.declared.Tagged.{Tagged}
@@ -7,6 +7,7 @@ use Rattle.mc_world.specs.Worlds.{WorldState}
 use Rattle.mc_world.specs.declared.event.Change.TheVariants.{End as NewEnd}
 use Rattle.mc_world.specs.declared.event.Event.{Event}
 use Rattle.mc_world.specs.declared.event.Event.TheVariants.{Set, Retry}
+use Rattle.mc_world.specs.declared.lanes.Route.{Route}
 use Rattle.mc_world.specs.declared.network.step.StepFault.{StepFault}
 use Rattle.mc_world.specs.declared.network.step.StepFault.TheVariants.{NotEnabled, NoMemory, VersionEnd}
 
@@ -21,6 +22,14 @@ HasRoom lanes lane = HoldsAt (λ vec. vec_len vec + 4 ≤ vec_capacity vec) lane
 -- a sending, as it stands in the lane
 abbrev pub tagged : ℕ → ℕ × Signal → Tagged
 tagged tunnel sending = record { tunnel = tunnel; signal = sending.1 }
+
+-- the front leaves a lane
+abbrev pub without_front : List (List Tagged) → ℕ → List (List Tagged)
+without_front lanes lane = slice_set lanes lane (drop 1 (slice_index_or lanes lane []))
+
+-- sendings go to the end of the lane that leads away
+abbrev pub after_sending : List (List Tagged) → Route → List (ℕ × Signal) → List (List Tagged)
+after_sending lanes route sendings = slice_set lanes route.from (slice_index_or lanes route.from [] ++ map (tagged route.tunnel) sendings)
 
 -- the slot that an event other than a Take concerns
 abbrev pub acts_at : Event → Option ℕ

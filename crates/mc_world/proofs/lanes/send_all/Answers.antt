@@ -6,5 +6,5 @@ use Rattle.mc_world.proofs.lanes.send_all.Goals as goal
 
 pub returns : goal.returns
 returns c =
-    signals_added c.args.lanes.now c.args.lane c.index-lanes-lane.result c.push_all.new.lane (map (tagged c.args.tunnel) (sends_of c.args.sends.now))
-    c.requires.here c.push_all.ensures
+    signals_added c.args.lanes.now c.args.route.from c.index-lanes-route.result c.push_all.new.lane (map (tagged c.args.route.tunnel) (sends_of c.args.sends.now))
+    c.requires.from c.push_all.ensures
