@@ -14,7 +14,8 @@ use Rattle.mc_slot.specs.declared.SlotGoal.TheVariants.{End, Link}
 use Rattle.mc_slot.specs.Same.{is_same_goal}
 use Rattle.mc_world.specs.BoxEvents.{BoxStep, answering, box_event, goal_turn, retry_step, set_end_step, take_step, turn_by}
 use Rattle.mc_world.specs.Boxes.{BoxState, goal_at, is_slot, owes_at, slot_at, with_goal, with_slot}
-use Rattle.mc_world.specs.Lanes.{acts_at, tagged}
+use Rattle.mc_world.specs.Lanes.{tagged}
+use Rattle.mc_world.specs.StepAnswers.{acts_at}
 use Rattle.mc_world.specs.Steps.{sent_out, pushed, with_lane}
 use Rattle.mc_world.specs.Worlds.{WorldState, far, joint_of, lane_of, lane_to, number}
 use Rattle.mc_world.specs.declared.event.Event.{Event}

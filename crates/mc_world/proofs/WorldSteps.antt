@@ -15,7 +15,8 @@ use Rattle.mc_slot.specs.declared.SlotGoal.{SlotGoal}
 use Rattle.mc_slot.specs.declared.SlotGoal.TheVariants.{End, Link}
 use Rattle.mc_world.specs.BoxEvents.{BoxStep, box_event, is_enabled}
 use Rattle.mc_world.specs.Boxes.{BoxState, goal_at, is_slot, own, sender, slot_at}
-use Rattle.mc_world.specs.Lanes.{acts_at, after_sending, without_front}
+use Rattle.mc_world.specs.Lanes.{after_sending, without_front}
+use Rattle.mc_world.specs.StepAnswers.{acts_at}
 use Rattle.mc_world.specs.Sound.{IsNumbered, IsSound, RestsBy}
 use Rattle.mc_world.specs.Steps.{made, popped, step_by, with_box}
 use Rattle.mc_world.specs.Worlds.{WorldState, box_at, far, for_tunnel, front, front_for, goal_of, is_place, joint_of, lane_of, lane_to, list_to, number, place, places, slot_count, slot_of}

@@ -1,15 +1,9 @@
--- Lanes as they change, and what a step answers.
-use Rattle.std.specs.Prelude.{◌≡◌, ℕ, ◌+◌, ◌≤◌, List, [], ◌++◌, drop, map, slice_index_or, slice_set, Vec, vec_len, vec_capacity, HoldsAt, Option, Some, None, IsSome, Result, Ok, Err}
+-- Lanes as they change.
+use Rattle.std.specs.Prelude.{ℕ, ◌+◌, ◌≤◌, List, [], ◌++◌, drop, map, slice_index_or, slice_set, Vec, vec_len, vec_capacity, HoldsAt}
 use Rattle.std.specs.declared.alloc.Global.{Global}
 use Rattle.mc_signal.specs.declared.Signal.{Signal}
 use Rattle.mc_signal.specs.declared.Tagged.{Tagged}
-use Rattle.mc_world.specs.Worlds.{WorldState}
-use Rattle.mc_world.specs.declared.event.Change.TheVariants.{End as NewEnd}
-use Rattle.mc_world.specs.declared.event.Event.{Event}
-use Rattle.mc_world.specs.declared.event.Event.TheVariants.{Set, Retry}
 use Rattle.mc_world.specs.declared.lanes.Route.{Route}
-use Rattle.mc_world.specs.declared.network.step.StepFault.{StepFault}
-use Rattle.mc_world.specs.declared.network.step.StepFault.TheVariants.{NotEnabled, NoMemory, VersionEnd}
 
 -- the signals of each lane
 abbrev pub signals_of : List (Vec Tagged Global) → List (List Tagged)
@@ -30,16 +24,3 @@ without_front lanes lane = slice_set lanes lane (drop 1 (slice_index_or lanes la
 -- sendings go to the end of the lane that leads away
 abbrev pub after_sending : List (List Tagged) → Route → List (ℕ × Signal) → List (List Tagged)
 after_sending lanes route sendings = slice_set lanes route.from (slice_index_or lanes route.from [] ++ map (tagged route.tunnel) sendings)
-
--- the slot that an event other than a Take concerns
-abbrev pub acts_at : Event → Option ℕ
-acts_at (Set (NewEnd local goal)) = Some local
-acts_at (Retry local) = Some local
-acts_at event = None
-
--- what a step answers, from the world after it, if it is enabled
-abbrev pub Answers : WorldState → WorldState → Option WorldState → Result (Unit {0}) StepFault → Type 0
-Answers old new after (Ok done) = after ≡ Some new
-Answers old new after (Err NotEnabled) = (after ≡ None) × (new ≡ old)
-Answers old new after (Err (NoMemory e)) = IsSome after × (new ≡ old)
-Answers old new after (Err VersionEnd) = ⊥

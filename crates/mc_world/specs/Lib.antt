@@ -7,6 +7,7 @@ pub mod Paths
 pub mod Settles
 pub mod Setups
 pub mod Sound
+pub mod StepAnswers
 pub mod Steps
 pub mod TwoPhones
 pub mod Worlds

@@ -23,6 +23,7 @@ pub fn make_room(lanes: &mut [Vec<Tagged>], lane: usize) -> Result<(), AllocErro
     ensures room { OnOk result (HasRoom lanes.new lane) }
 {
     let lane = &mut lanes[lane];
+    // as much as `Sends` holds
     lane.reserve(4)
 }
 

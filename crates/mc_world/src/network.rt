@@ -68,7 +68,7 @@ impl Model for World {
 }
 
 impl World {
-    /// A world as new: nothing is under way.
+    /// A world as new: nothing is under way. There are few enough tunnels for their slots to have numbers.
     pub fn new(
         alloc: Global,
         boxes: Vec<MediaBox>,

@@ -1,8 +1,8 @@
 // One step of a world.
 
 ghost use Rattle.std.specs.Prelude.{◌≡◌, ◌≢◌, ◌↔◌, ◌<◌, Some, None, length, OnOk, OnErr};
-ghost use Rattle.mc_world.specs.Lanes.{acts_at, Answers};
 ghost use Rattle.mc_world.specs.Sound.{IsNumbered, IsSound};
+ghost use Rattle.mc_world.specs.StepAnswers.{acts_at, Answers};
 ghost use Rattle.mc_world.specs.Steps.{step, step_by};
 ghost use Rattle.mc_world.specs.declared.network.step.StepFault.TheVariants.{NoMemory};
 ghost use Rattle.mc_world.specs.Worlds.{slot_count, far, joint_of, lane_of};
