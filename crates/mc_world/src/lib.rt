@@ -3,6 +3,7 @@
 
 mod event;
 mod goal;
+mod lanes;
 pub mod laws;
 mod media_box;
 mod network;
@@ -10,4 +11,4 @@ mod network;
 pub use event::{BoxShape, Change, Event, Kind, MediaChange, Shape, Turn};
 pub use goal::{end_turn, owes};
 pub use media_box::{MediaBox, Setup, SlotMedia, SlotSetup};
-pub use network::{Channel, Tunnel, World};
+pub use network::{Channel, StepFault, Tunnel, World};

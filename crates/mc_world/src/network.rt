@@ -1,14 +1,20 @@
 // Channels, and the world that they join.
 
-ghost use Rattle.std.specs.Prelude.{◌≡◌, ◌<◌, ◌*◌, ◌++◌, [], map, replicate, IfOk, OnOk};
+ghost use Rattle.std.specs.Prelude.{◌≡◌, ◌+◌, ◌<◌, ◌≤◌, ◌*◌, ◌^◌, ◌++◌, if◌then◌else◌, [], map, length, replicate, position, slice_index_or, vec_len, ◌==◌, All, IfOk, OnOk};
+ghost use Rattle.std.specs.List.{list_all};
+ghost use Rattle.mc_world.specs.Settles.{is_quiet, rests};
 ghost use Rattle.mc_world.specs.Sound.{IsNumbered};
-ghost use Rattle.mc_world.specs.Worlds.{first_world, slot_count, place, slot_of, goal_of, places_among, places_within};
+ghost use Rattle.mc_world.specs.Tables.{channel_of};
+ghost use Rattle.mc_world.specs.Worlds.{first_world, slot_count, place, is_place, number, far, joint_of, lane_of, front, front_for, slot_of, goal_of, places_among, places_within, joints_from, joints_within};
+
+mod step;
 
 use crate::media_box::MediaBox;
-use mc_signal::{Medium, Tagged};
+use mc_signal::{Medium, Signal, Tagged};
 use mc_slot::{Slot, SlotGoal};
 use std::alloc::{AllocError, Global};
 use std::marker::Model;
+pub use step::StepFault;
 
 /// A tunnel of a channel: its medium, and the local numbers of its two slots, the initiator's first.
 #[derive(Clone, Copy, PartialEq, Eq, Debug)]
@@ -45,35 +51,42 @@ pub struct World {
     lanes: Vec<Vec<Tagged>>,
     // the box and local number of each slot
     places: Vec<(u32, u8)>,
+    // the channel of each tunnel, and its number within the channel
+    joints: Vec<(u32, u8)>,
 }
 
 impl Model for World {
-    ghost use Rattle.std.specs.Prelude.{◌≡◌, map};
-    ghost use Rattle.mc_world.specs.Worlds.{WorldState, places_among};
+    ghost use Rattle.mc_world.specs.Worlds.{WorldState};
 
     ghost Value = { WorldState };
 
-    ghost view = { λ w. record { boxes = w.boxes.items; channels = w.channels.items; lanes = map (λ lane. lane.items) w.lanes.items } };
+    ghost use Rattle.mc_world.specs.Tables.{world_of, HasTables};
 
-    ghost invariant = { λ w. w.places.items ≡ places_among w.channels.items };
+    ghost view = { world_of };
+
+    ghost invariant = { HasTables };
 }
 
 impl World {
-    /// A world as new: nothing is under way.
+    /// A world as new: nothing is under way. There are few enough tunnels for their slots to have numbers.
     pub fn new(
         alloc: Global,
         boxes: Vec<MediaBox>,
         channels: Vec<Channel>,
     ) -> Result<World, AllocError>
+        requires channels { length channels.items ≤ 2 ^ 28 }
+        requires tunnels { All (λ channel. length channel.tunnels ≤ 8) channels.items }
         ensures { IfOk result (λ world. world ≡ first_world boxes.items channels.items) }
     {
         let lanes = empty_lanes(alloc, channels.len())?;
         let places = places_among(alloc, &channels)?;
+        let joints = joints_among(alloc, &channels)?;
         Ok(World {
             boxes,
             channels,
             lanes,
             places,
+            joints,
         })
     }
 
@@ -122,6 +135,104 @@ impl World {
     }
 }
 
+impl World {
+    /// The slot at the other end of a slot's tunnel.
+    pub fn far(&self, slot: u32) -> u32
+        requires { slot < slot_count self.now }
+        ensures { result ≡ far slot }
+    {
+        if slot.is_multiple_of(2) {
+            slot + 1
+        } else {
+            slot - 1
+        }
+    }
+
+    /// The number of a box's slot.
+    pub fn number(&self, who: u32, local: u8) -> Option<u32>
+        ensures { result ≡ number self.now who local }
+    {
+        let found = place_number(&self.places, who, local)?;
+        Some(found as u32)
+    }
+
+    /// The channel of a slot, and the number of the slot's tunnel within it.
+    pub fn channel(&self, slot: u32) -> (u32, u8)
+        requires { slot < slot_count self.now }
+        ensures channel { result ≡ channel_of (joint_of self.now slot) }
+        ensures there { result.0 < length self.now.channels }
+    {
+        self.joints[slot as usize / 2]
+    }
+
+    /// The signals under way in a channel, to its initiator or to the other end.
+    pub fn lane(&self, channel: u32, to_initiator: bool) -> &[Tagged]
+        requires { channel < length self.now.channels }
+        ensures { result.now ≡ slice_index_or self.now.lanes (2 * channel + (if to_initiator then 0 else 1)) [] }
+    {
+        &self.lanes[2 * channel as usize + usize::from(!to_initiator)]
+    }
+
+    /// The signal that a slot can take now: the front of its lane, where that is for its tunnel.
+    pub fn front(&self, slot: u32) -> Option<Signal>
+        requires { slot < slot_count self.now }
+        ensures { result ≡ front self.now slot }
+    {
+        let (channel, within) = self.channel(slot);
+        front_for(self.lane(channel, slot.is_multiple_of(2)), within)
+    }
+
+    /// Whether nothing is under way.
+    pub fn quiet(&self) -> bool
+        ensures { result ≡ is_quiet self.now }
+    {
+        are_empty(&self.lanes)
+    }
+
+    /// Whether nothing is under way, and no program can go on.
+    pub fn rests(&self) -> bool
+        ensures { result ≡ rests self.now }
+    {
+        // no box has a program yet
+        self.quiet()
+    }
+
+    // The lane that leads to a slot.
+    fn lane_to(&self, slot: u32) -> usize
+        requires { slot < slot_count self.now }
+        ensures { result ≡ lane_of self.now slot }
+    {
+        let (channel, _) = self.channel(slot);
+        2 * channel as usize + slot as usize % 2
+    }
+}
+
+// Where the place of a box's slot stands among places.
+fn place_number(places: &[(u32, u8)], who: u32, local: u8) -> Option<usize>
+    ensures { result ≡ position (is_place (who, local)) places.now }
+{
+    places
+        .iter()
+        .position(|place| who == place.0 && local == place.1)
+}
+
+// The front of a lane, where that is for the tunnel.
+fn front_for(lane: &[Tagged], tunnel: u8) -> Option<Signal>
+    ensures { result ≡ front_for tunnel lane.now }
+{
+    match lane.first() {
+        Some(first) if first.tunnel == tunnel => Some(first.signal),
+        _ => None,
+    }
+}
+
+// Whether each of these lanes is empty.
+fn are_empty(lanes: &[Vec<Tagged>]) -> bool
+    ensures { result ≡ list_all (λ lane. vec_len lane == 0) lanes.now }
+{
+    lanes.iter().all(|lane| lane.is_empty())
+}
+
 // Two lanes for each channel, with nothing in them.
 fn empty_lanes(alloc: Global, channels: usize) -> Result<Vec<Vec<Tagged>>, AllocError>
     ensures { IfOk result (λ lanes. map (λ lane. lane.items) lanes.items ≡ replicate (2 * channels) []) }
@@ -152,6 +263,35 @@ fn add_places(channel: &Channel, places: &mut Vec<(u32, u8)>) -> Result<(), Allo
     for tunnel in &channel.tunnels {
         places.push((channel.from, tunnel.from))?;
         places.push((channel.to, tunnel.to))?;
+    }
+    Ok(())
+}
+
+// The channel of each tunnel of these channels, and its number within the channel.
+fn joints_among(alloc: Global, channels: &[Channel]) -> Result<Vec<(u32, u8)>, AllocError>
+    requires channels { length channels.now ≤ 2 ^ 28 }
+    requires tunnels { All (λ channel. length channel.tunnels ≤ 8) channels.now }
+    ensures { IfOk result (λ joints. joints.items ≡ map channel_of (joints_from 0 channels.now)) }
+{
+    let mut joints = Vec::new(alloc);
+    for number in 0..channels.len() {
+        let channel = &channels[number];
+        add_joints(number as u32, &channel.tunnels, &mut joints)?;
+    }
+    Ok(joints)
+}
+
+// Adds the tunnels of a channel.
+fn add_joints(
+    channel: u32,
+    tunnels: &[Tunnel],
+    joints: &mut Vec<(u32, u8)>,
+) -> Result<(), AllocError>
+    requires { length tunnels.now ≤ 8 }
+    ensures { OnOk result (joints.new.items ≡ joints.old.items ++ map channel_of (joints_within channel 0 tunnels.now)) }
+{
+    for within in 0..tunnels.len() {
+        joints.push((channel, within as u8))?;
     }
     Ok(())
 }

@@ -1,0 +1,60 @@
+-- The signals of lanes, where one of them changes.
+use Rattle.std.proofs.Common.{◌≡◌, ℕ, ◌<◌, zero, suc, List, [], ◌∷◌, ◌++◌, drop, length, get_or, Vec, refl, sym, subst, ◌∙◌, arith}
+use Rattle.std.proofs.Math.ListN.{set}
+use Rattle.std.specs.declared.alloc.Global.{Global}
+use Rattle.std.specs.Vec.{with_items}
+use Rattle.std.proofs.lemmas.List.{map-set, set-get_or, with_items_is}
+use Rattle.mc_signal.specs.declared.Tagged.{Tagged}
+use Rattle.mc_world.specs.Lanes.{HasRoom, signals_of}
+
+abbrev Lane : Type 0
+Lane = Vec Tagged Global
+
+-- what is read is there
+pub signals_at : (lanes : List Lane) (k : ℕ) (d : Lane) → k < length lanes → get_or (signals_of lanes) k [] ≡ (get_or lanes k d).items
+signals_at [] k d here = absurd (omega arith)
+signals_at (lane ∷ lanes) zero d here = refl
+signals_at (lane ∷ lanes) (suc k) d here = signals_at lanes k d (omega arith)
+
+-- a lane is written
+pub signals_of-set : (lanes : List Lane) (k : ℕ) (lane : Lane) → signals_of (set lanes k lane) ≡ set (signals_of lanes) k lane.items
+signals_of-set lanes k lane = map-set (λ (l : Lane). l.items) lanes k lane
+
+-- a lane keeps its signals
+pub signals_stay : (lanes : List Lane) (k : ℕ) (d new : Lane) → k < length lanes → new.items ≡ (get_or lanes k d).items → signals_of (set lanes k new) ≡ signals_of lanes
+signals_stay lanes k d new here same = rw (signals_of-set lanes k new, same, ← signals_at lanes k d here) (set-get_or (signals_of lanes) k [])
+
+-- the front of a lane goes
+pub signals_popped : (lanes : List Lane) (k : ℕ) (d new : Lane) → k < length lanes → new.items ≡ drop 1 (get_or lanes k d).items
+    → signals_of (set lanes k new) ≡ set (signals_of lanes) k (drop 1 (get_or (signals_of lanes) k []))
+signals_popped lanes k d new here popped = rw (signals_of-set lanes k new, popped, signals_at lanes k d here) refl
+
+-- signals go to the end of a lane
+pub signals_added : (lanes : List Lane) (k : ℕ) (d new : Lane) (more : List Tagged) → k < length lanes → new.items ≡ (get_or lanes k d).items ++ more
+    → signals_of (set lanes k new) ≡ set (signals_of lanes) k (get_or (signals_of lanes) k [] ++ more)
+signals_added lanes k d new more here added = rw (signals_of-set lanes k new, added, signals_at lanes k d here) refl
+
+-- ---- a vector of lanes that is written as a slice
+
+-- as long as the vector, the slice is what the vector has then
+refilled : (lanes : Vec Lane Global) (new : List Lane) → length new ≡ length lanes.items → (with_items lanes new).items ≡ new
+refilled lanes new long = with_items_is lanes new (long ∙ sym lanes.ok.0)
+
+-- a slice with the same signals
+pub signals_kept : (lanes : Vec Lane Global) (first made : List Lane) → first ≡ lanes.items → length made ≡ length first → signals_of made ≡ signals_of first
+    → signals_of (with_items lanes made).items ≡ signals_of lanes.items
+signals_kept lanes first made is long same = rw (refilled lanes made (rw is at long), same, is) refl
+
+-- and its room
+pub room_kept : (lanes : Vec Lane Global) (first made second : List Lane) (k : ℕ) → first ≡ lanes.items → length made ≡ length first → second ≡ (with_items lanes made).items
+    → HasRoom made k → HasRoom second k
+room_kept lanes first made second k is long again room = subst (λ (l : List Lane). HasRoom l k) (sym (again ∙ refilled lanes made (rw is at long))) room
+
+-- and then one with others
+pub signals_written : (lanes : Vec Lane Global) (first made second last : List Lane) (out : List (List Tagged) → List (List Tagged)) → first ≡ lanes.items
+    → length made ≡ length first → signals_of made ≡ signals_of first → second ≡ (with_items lanes made).items → length last ≡ length second → signals_of last ≡ out (signals_of second)
+    → signals_of (with_items (with_items lanes made) last).items ≡ out (signals_of lanes.items)
+signals_written lanes first made second last out is long same again last_long written =
+    let there : (with_items (with_items lanes made) last).items ≡ last = refilled (with_items lanes made) last (rw again at last_long) in
+    let second_is : signals_of second ≡ signals_of lanes.items = rw again (signals_kept lanes first made is long same) in
+    rw (there, written, second_is) refl

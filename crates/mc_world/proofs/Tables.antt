@@ -1,0 +1,57 @@
+-- What a world's tables and lanes have for a slot.
+use Rattle.std.proofs.Common.{◌≡◌, ◌==◌, ℕ, ◌/◌, ◌%◌, ◌<◌, Bool, true, false, if◌then◌else◌, IsTrue, ◌↔◌, List, [], ◌∷◌, map, length, get_or, Vec, refl, sym, arith}
+use Rattle.std.specs.List.{list_all}
+use Rattle.std.specs.Vec.{vec_len}
+use Rattle.std.specs.declared.alloc.Global.{Global}
+use Rattle.std.proofs.lemmas.Grind.{common_steps}
+use Rattle.std.proofs.lemmas.List.{get_or_read, length-map}
+use Rattle.mc_signal.specs.declared.Tagged.{Tagged}
+use Rattle.mc_world.specs.Boxes.{BoxState, no_box}
+use Rattle.mc_world.specs.Settles.{is_empty}
+use Rattle.mc_world.specs.Tables.{HasTables, channel_of, world_of}
+use Rattle.mc_world.specs.Worlds.{WorldState, box_at, joint_of, joints_from, lane_of, slot_count}
+use Rattle.mc_world.specs.declared.network.World.TheInside.{Inside}
+use Rattle.mc_world.proofs.JointTables.{in_table, slot_has_channel, tunnel_is_there}
+
+-- ---- the channel of a slot
+
+-- its place in the table
+pub joint_below : (inside : Inside) (s : ℕ) → HasTables inside → s < slot_count (world_of inside) → s / 2 < length inside.joints.items
+joint_below inside s has below = rw (has.joints, length-map (joints_from 0 inside.channels.items) channel_of) (tunnel_is_there inside.channels.items s below)
+
+-- what is read there
+pub joint_read : (inside : Inside) (s : ℕ) (read : ℕ × ℕ) → HasTables inside → s < slot_count (world_of inside) → read ≡ get_or inside.joints.items (s / 2) read
+    → read ≡ channel_of (joint_of (world_of inside) s)
+joint_read inside s read has below is =
+    in_table (joints_from 0 inside.channels.items) (s / 2) read (tunnel_is_there inside.channels.items s below) (rw has.joints at is)
+
+pub channel_below : (inside : Inside) (s : ℕ) → s < slot_count (world_of inside) → (joint_of (world_of inside) s).channel < length (world_of inside).channels
+channel_below inside s below = slot_has_channel inside.channels.items s below
+
+-- ---- the lane to a slot
+
+pub lane_below : (inside : Inside) (s : ℕ) → HasTables inside → s < slot_count (world_of inside) → lane_of (world_of inside) s < length inside.lanes.items
+lane_below inside s has below =
+    let there = channel_below inside s below in
+    rw has.lanes (omega arith)
+
+-- which of the two lanes of its channel it is
+pub side_lane : (s : ℕ) (even : Bool) → (IsTrue even ↔ (s % 2 ≡ 0)) → (if even then 0 else 1) ≡ s % 2
+side_lane s true is = sym (is.0 refl)
+side_lane s false is = grind arith
+
+-- ---- empty lanes
+
+none_here : (lane : List Tagged) (count : ℕ) → length lane ≡ count → (count == 0) ≡ is_empty lane
+none_here [] count is = rw (← is) refl
+none_here (tagged ∷ rest) count is = grind (arith, common_steps)
+
+pub all_empty : (lanes : List (Vec Tagged Global)) → list_all (λ lane. vec_len lane == 0) lanes ≡ list_all is_empty (map (λ (lane : Vec Tagged Global). lane.items) lanes)
+all_empty [] = refl
+all_empty (lane ∷ lanes) = rw (none_here lane.items lane.len (sym lane.ok.0), all_empty lanes) refl
+
+-- ---- a box that is read
+
+pub box_read : (inside : Inside) (world : WorldState) (who : ℕ) (read : BoxState) → world_of inside ≡ world → who < length world.boxes → read ≡ get_or inside.boxes.items who read
+    → read ≡ box_at world who
+box_read inside world who read is here reads = rw (← is) (get_or_read inside.boxes.items who read (rw (← is) at here) reads no_box)

@@ -1,0 +1,18 @@
+-- The tables that a world keeps beside its boxes and channels.
+use Rattle.std.specs.Prelude.{◌≡◌, ℕ, ◌*◌, ◌^◌, ◌≤◌, length, map}
+use Rattle.mc_world.specs.Worlds.{Joint, WorldState, joints_from, places_among}
+use Rattle.mc_world.specs.declared.network.World.TheInside.{Inside}
+
+abbrev pub world_of : Inside → WorldState
+world_of inside = record { boxes = inside.boxes.items; channels = inside.channels.items; lanes = map (λ lane. lane.items) inside.lanes.items }
+
+-- the channel of a tunnel, and its number within the channel
+abbrev pub channel_of : Joint → ℕ × ℕ
+channel_of joint = (joint.channel, joint.within)
+
+-- places and channels are found by number, numbers of slots fit, and each channel has its two lanes
+pub record HasTables (inside : Inside) : Type 0 where
+  pub places : inside.places.items ≡ places_among inside.channels.items
+  pub joints : inside.joints.items ≡ map channel_of (joints_from 0 inside.channels.items)
+  pub few : length inside.places.items ≤ 2 ^ 32
+  pub lanes : length inside.lanes.items ≡ 2 * length inside.channels.items
