@@ -1,5 +1,5 @@
 -- The steps of a world, from what its boxes and lanes do.
-use Rattle.std.proofs.Common.{◌≡◌, ℕ, ◌<◌, true, false, Option, Some, None, IsSome, List, [], ◌∷◌, drop, length, refl, ap, sym, subst, ◌∙◌, arith}
+use Rattle.std.proofs.Common.{◌≡◌, ℕ, ◌<◌, true, false, Option, Some, None, IsSome, List, [], ◌∷◌, drop, length, nat_lt, refl, ap, sym, subst, ◌∙◌, arith}
 use Rattle.std.proofs.Math.ListN.{set, length-set}
 use Rattle.std.proofs.lemmas.Grind.{common_steps}
 use Rattle.std.proofs.lemmas.List.Quantifiers.{position-Some}
@@ -18,7 +18,9 @@ use Rattle.mc_world.specs.Boxes.{BoxState, goal_at, is_slot, own, sender, slot_a
 use Rattle.mc_world.specs.Lanes.{after_sending, without_front}
 use Rattle.mc_world.specs.StepAnswers.{acts_at}
 use Rattle.mc_world.specs.Sound.{IsNumbered, IsSound, RestsBy}
-use Rattle.mc_world.specs.Steps.{made, popped, step_by, with_box}
+use Rattle.mc_world.specs.Served.{LanesServed}
+use Rattle.mc_world.specs.Steps.{made, popped, step, step_by, with_box}
+use Rattle.mc_world.specs.declared.event.Turn.{Turn}
 use Rattle.mc_world.specs.Worlds.{WorldState, box_at, far, for_tunnel, front, front_for, goal_of, is_place, joint_of, lane_of, lane_to, list_to, number, place, places, slot_count, slot_of}
 use Rattle.mc_world.specs.declared.event.Change.TheVariants.{End as NewEnd, Link as NewLink}
 use Rattle.mc_world.specs.declared.event.Event.{Event}
@@ -28,6 +30,8 @@ use Rattle.mc_tunnel.proofs.Steps.{took_kept}
 use Rattle.mc_world.proofs.BoxTurns.{take_made}
 use Rattle.mc_world.proofs.FarSlots.{far_joint}
 use Rattle.mc_world.proofs.Sendings.{AllFrom, acted, sent_out_is, took_from}
+use Rattle.mc_world.proofs.StepGoes.{step_keeps_served}
+use Rattle.mc_world.proofs.StepKeeps.{step_keeps_sound}
 use Rattle.mc_world.proofs.TurnsGo.{turn_goes}
 
 -- ---- slots and their numbers
@@ -212,3 +216,14 @@ pub act_is : (world : WorldState) (who local s : ℕ) (event : Event) (step : Bo
 act_is world who local s event step route is at goes leads =
     rw (act_by world who local event at, goes)
     (ap (λ (w : WorldState). Some w) (made_is world who local s step route is leads.from leads.tunnel leads.there ((acted (box_at world who) event local step at goes).1)))
+
+-- ---- a sound world after a step of one of its boxes
+
+below_is : (a b : ℕ) → a < b → nat_lt a b ≡ true
+below_is a b below = grind arith
+
+pub stays_sound : (world next : WorldState) (who : ℕ) (event : Event) → IsSound world → LanesServed world → who < length world.boxes → step_by world who event ≡ Some next → IsSound next × LanesServed next
+stays_sound world next who event sound served here goes =
+    let there : nat_lt who (length world.boxes) ≡ true = below_is who (length world.boxes) here in
+    let stepped : step world (record { who = who; event = event }) ≡ Some next = rw there goes in
+    (step_keeps_sound world next (record { who = who; event = event }) sound stepped, step_keeps_served world next (record { who = who; event = event }) sound served stepped)

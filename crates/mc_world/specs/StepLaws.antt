@@ -57,9 +57,13 @@ pub record IsNewBox (box : BoxState) : Type 0 where
   pub slots : (local : ℕ) → slot_at box local ≡ closed_slot (slot_at box local).medium (slot_at box local).initiator
   pub goals : (local : ℕ) → goal_at box local ≡ End ToClose
 
+-- all of them
+abbrev pub AreNew : List BoxState → Type 0
+AreNew boxes = (who : ℕ) → who < length boxes → IsNewBox (slice_index_or boxes who no_box)
+
 -- a world of new boxes, of any number of them and of channels, is sound where all is numbered as it should be
 abbrev pub FirstIsSound : Type 0
-FirstIsSound = (boxes : List BoxState) (channels : List ChannelState) → ((who : ℕ) → who < length boxes → IsNewBox (slice_index_or boxes who no_box))
+FirstIsSound = (boxes : List BoxState) (channels : List ChannelState) → AreNew boxes
     → IsNumbered (first_world boxes channels) → IsSound (first_world boxes channels)
 
 -- each run of two phones leads to a sound world that isn't stuck

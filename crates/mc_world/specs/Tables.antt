@@ -1,5 +1,7 @@
--- The tables that a world keeps beside its boxes and channels.
+-- What a world keeps: the tables beside its boxes and channels, and that it is sound.
 use Rattle.std.specs.Prelude.{◌≡◌, ℕ, ◌*◌, ◌^◌, ◌≤◌, length, map}
+use Rattle.mc_world.specs.Served.{LanesServed}
+use Rattle.mc_world.specs.Sound.{IsSound}
 use Rattle.mc_world.specs.Worlds.{Joint, WorldState, joints_from, places_among}
 use Rattle.mc_world.specs.declared.network.World.TheInside.{Inside}
 
@@ -10,9 +12,11 @@ world_of inside = record { boxes = inside.boxes.items; channels = inside.channel
 abbrev pub channel_of : Joint → ℕ × ℕ
 channel_of joint = (joint.channel, joint.within)
 
--- places and channels are found by number, numbers of slots fit, and each channel has its two lanes
+-- places and channels are found by number, numbers of slots fit, each channel has its two lanes, and the world is sound with each signal on the lane of its slot
 pub record HasTables (inside : Inside) : Type 0 where
   pub places : inside.places.items ≡ places_among inside.channels.items
   pub joints : inside.joints.items ≡ map channel_of (joints_from 0 inside.channels.items)
   pub few : length inside.places.items ≤ 2 ^ 32
   pub lanes : length inside.lanes.items ≡ 2 * length inside.channels.items
+  pub sound : IsSound (world_of inside)
+  pub served : LanesServed (world_of inside)

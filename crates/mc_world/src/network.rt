@@ -4,6 +4,7 @@ ghost use Rattle.std.specs.Prelude.{◌≡◌, ◌+◌, ◌<◌, ◌≤◌, ◌*
 ghost use Rattle.std.specs.List.{list_all};
 ghost use Rattle.mc_world.specs.Settles.{is_quiet, rests};
 ghost use Rattle.mc_world.specs.Sound.{IsNumbered};
+ghost use Rattle.mc_world.specs.StepLaws.{AreNew};
 ghost use Rattle.mc_world.specs.Tables.{channel_of};
 ghost use Rattle.mc_world.specs.Worlds.{first_world, slot_count, place, is_place, number, far, joint_of, lane_of, front, front_for, slot_of, goal_of, places_among, places_within, joints_from, joints_within};
 
@@ -40,7 +41,8 @@ impl Model for Channel {
     ghost view = { λ c. record { from = c.from; to = c.to; tunnels = c.tunnels.items } };
 }
 
-/// Boxes, the channels between them, and the signals under way.
+/// Boxes, the channels between them, and the signals under way. Every world is sound: each signal at the front
+/// of a lane is one that its slot may take, and no step leads out of that.
 ///
 /// Tunnels are counted over all channels in their order: tunnel `t` has the slots `2t`, on the initiator's
 /// side, and `2t + 1`.
@@ -68,7 +70,8 @@ impl Model for World {
 }
 
 impl World {
-    /// A world as new: nothing is under way. There are few enough tunnels for their slots to have numbers.
+    /// A world as new: nothing is under way. The boxes are new, and the channels join each of their slots once,
+    /// with the numbers of the rules; there are few enough tunnels for their slots to have numbers.
     pub fn new(
         alloc: Global,
         boxes: Vec<MediaBox>,
@@ -76,6 +79,8 @@ impl World {
     ) -> Result<World, AllocError>
         requires channels { length channels.items ≤ 2 ^ 28 }
         requires tunnels { All (λ channel. length channel.tunnels ≤ 8) channels.items }
+        requires fresh { AreNew boxes.items }
+        requires numbered { IsNumbered (first_world boxes.items channels.items) }
         ensures { IfOk result (λ world. world ≡ first_world boxes.items channels.items) }
     {
         let lanes = empty_lanes(alloc, channels.len())?;
@@ -116,8 +121,7 @@ impl World {
 impl World {
     /// A slot, by its number.
     pub fn slot(&self, slot: u32) -> Slot
-        requires numbered { IsNumbered self.now }
-        requires slot { slot < slot_count self.now }
+        requires { slot < slot_count self.now }
         ensures { result ≡ slot_of self.now slot }
     {
         let (who, local) = self.place(slot);
@@ -126,8 +130,7 @@ impl World {
 
     /// The goal of a slot, by its number.
     pub fn goal(&self, slot: u32) -> SlotGoal
-        requires numbered { IsNumbered self.now }
-        requires slot { slot < slot_count self.now }
+        requires { slot < slot_count self.now }
         ensures { result ≡ goal_of self.now slot }
     {
         let (who, local) = self.place(slot);

@@ -33,7 +33,6 @@ impl From<AllocError> for StepFault {
 impl World {
     /// One event of one box, where it's enabled. What the box sends is under way then.
     pub fn step(&mut self, who: u32, event: Event) -> Result<(), StepFault>
-        requires sound { IsSound self.old }
         ensures ok { OnOk result (step self.old (record { who = who; event = event }) ≡ Some self.new) }
         ensures not_enabled { (result ≡ Err StepFault.NotEnabled) ↔ (step self.old (record { who = who; event = event }) ≡ None) }
         ensures unchanged { OnErr result (self.new ≡ self.old) }

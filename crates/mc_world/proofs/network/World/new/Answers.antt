@@ -1,10 +1,21 @@
-use Rattle.std.proofs.Common.{◌≡◌, ◌*◌, ◌≤◌, ap, length, List, Vec, ◌∙◌, sym, rules, arith}
+use Rattle.std.proofs.Common.{◌≡◌, ◌*◌, ◌≤◌, ap, [], length, List, Vec, ◌∙◌, subst, sym, rules, arith}
+use Rattle.std.proofs.Math.ListN.{replicate}
 use Rattle.std.proofs.lemmas.List.{length-map, length-replicate}
 use Rattle.std.specs.declared.alloc.Global.{Global}
 use Rattle.mc_signal.specs.declared.Tagged.{Tagged}
-use Rattle.mc_world.specs.Worlds.{places_among}
+use Rattle.mc_world.specs.Boxes.{BoxState}
+use Rattle.mc_world.specs.Lanes.{signals_of}
+use Rattle.mc_world.specs.Served.{LanesServed}
+use Rattle.mc_world.specs.Sound.{IsSound}
+use Rattle.mc_world.specs.Worlds.{ChannelState, WorldState, first_world, places_among}
+use Rattle.mc_world.proofs.Firsts.{first_is_sound}
+use Rattle.mc_world.proofs.StepGoes.{first_is_served}
 use Rattle.mc_world.proofs.JointTables.{few_slots}
 use Rattle.mc_world.proofs.network.World.new.Goals as goal
+
+-- a world, by its parts
+abbrev world_with : List BoxState → List ChannelState → List (List Tagged) → WorldState
+world_with boxes channels lanes = record { boxes = boxes; channels = channels; lanes = lanes }
 
 pub invariant_of-result : goal.invariant_of-result
 invariant_of-result c =
@@ -12,9 +23,14 @@ invariant_of-result c =
     let places : c.in_ok-places.places.items ≡ places_among c.args.channels.items = search rules in
     let lanes : length c.in_ok-lanes.lanes.items ≡ 2 * c.len.result =
     sym (length-map c.in_ok-lanes.lanes.items (λ (lane : Vec Tagged Global). lane.items)) ∙ ap (λ (l : List (List Tagged)). length l) c.in_ok-lanes.ensures ∙ length-replicate (2 * c.len.result) _ in
+    let none : signals_of c.in_ok-lanes.lanes.items ≡ replicate (2 * length c.args.channels.items) [] = rw (c.len.ensures, c.args.channels.ok.0) at c.in_ok-lanes.ensures in
+    let first : first_world c.args.boxes.items c.args.channels.items ≡ world_with c.args.boxes.items c.args.channels.items (signals_of c.in_ok-lanes.lanes.items) =
+    ap (world_with c.args.boxes.items c.args.channels.items) (sym none) in
     record {
       places = places;
       joints = search rules;
       few = rw places (omega arith);
       lanes = omega arith;
+      sound = subst (λ (world : WorldState). IsSound world) first (first_is_sound c.args.boxes.items c.args.channels.items c.requires.fresh c.requires.numbered);
+      served = subst (λ (world : WorldState). LanesServed world) first (first_is_served c.args.boxes.items c.args.channels.items);
     }
