@@ -1,6 +1,7 @@
 -- How a run ends.
-use Rattle.std.proofs.Common.{◌≡◌, ℕ, List, inl, inr, refl, arith, Some}
+use Rattle.std.proofs.Common.{◌≡◌, ℕ, List, [], inl, inr, refl, arith, None, Some}
 use Rattle.std.specs.declared.option.Option.{Option}
+use Rattle.std.specs.Io.KnownBytes.{Keeps}
 use Rattle.mc_top.specs.Commands.{batches}
 use Rattle.mc_top.specs.Journals.{IsJournal, HoldsAtSettles}
 use Rattle.mc_top.specs.Modes.{output_of}
@@ -29,4 +30,18 @@ ends_worked mode text net old new status due journal output declared settled hol
   refused = λ one. absurd (omega arith);
   stopped = λ ended. elim ended [ inl three ↦ absurd (omega arith) | inr four ↦ absurd (omega arith) ];
   no_journal = λ some. absurd (some none);
+}
+
+keeps_same : (old : Option (List ℕ)) → Keeps old old
+keeps_same None = tt
+keeps_same (Some bytes) = refl
+
+-- memory ran out, and nothing was written
+pub ends_stopped : (mode : Mode) (text : List ℕ) (old : Option (List ℕ)) (status due : ℕ) (journal : List JournalLine)
+    → status ≡ 3 → due ≡ 3 → journal ≡ [] → Ends mode (Some text) old old status due journal
+ends_stopped mode text old status due journal three due_three none = record {
+  worked = λ zero. absurd (omega arith);
+  refused = λ one. absurd (omega arith);
+  stopped = λ ended. (omega arith, keeps_same old);
+  no_journal = λ some. none;
 }

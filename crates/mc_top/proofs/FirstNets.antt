@@ -1,9 +1,15 @@
 -- What the lines of a text have declared makes a network of two phones.
-use Rattle.std.proofs.Common.{◌≡◌, ◌≢◌, ◌<◌, ℕ, zero, suc, List, [], ◌∷◌, length, map, refl, sym, ap, ◌∙◌, inl, inr, arith, Result, Ok, Err, IfOk}
+use Rattle.std.proofs.Common.{◌≡◌, ◌≢◌, ◌<◌, ℕ, zero, suc, if◌then◌else◌, ◌==◌, List, [], ◌∷◌, length, map, refl, sym, ap, subst, ◌∙◌, inl, inr, arith, slice_index_or, Result, Ok, Err, IfOk}
 use Rattle.std.proofs.lemmas.List.{length-map}
 use Rattle.mc_signal.specs.Choice.{codecs_of}
+use Rattle.mc_signal.specs.Empty.{no_codecs}
+use Rattle.mc_signal.specs.declared.Medium.TheVariants.{Audio}
 use Rattle.mc_signal.specs.declared.codec_list.CodecList.{CodecList}
 use Rattle.mc_world.specs.Boxes.{BoxState}
+use Rattle.mc_world.specs.Sound.{IsNumbered}
+use Rattle.mc_world.specs.StepLaws.{AreNew}
+use Rattle.mc_world.specs.declared.event.Kind.TheVariants.{Device}
+use Rattle.mc_world.proofs.Firsts.{first_is_new}
 use Rattle.mc_world.specs.Setups.{world_of_devices}
 use Rattle.mc_world.specs.TwoPhones.{IsIdle, JoinsTwo, audio_channel, the_path}
 use Rattle.mc_world.specs.Worlds.{ChannelState, WorldState, first_world}
@@ -51,6 +57,19 @@ pub first_world_is : (channels : List ChannelState) (lists : List CodecList) (bo
 first_world_is channels lists boxes world joins two are is =
     let t = are_two lists two in
     rw (is, are, t.are) (devices_are channels t.first t.second joins)
+
+-- both devices are new
+pub devices_are_new : (from : ℕ) (lists : List CodecList) → AreNew (two_devices from lists)
+devices_are_new from lists zero below = first_is_new Device 0 (slice_index_or lists 0 no_codecs) (slice_index_or lists 0 no_codecs) 1 (record { origin = if from == 0 then 0 else 1; medium = Audio; initiator = from == 0 } ∷ [])
+devices_are_new from lists (suc zero) below = first_is_new Device 1 (slice_index_or lists 1 no_codecs) (slice_index_or lists 1 no_codecs) 1 (record { origin = if from == 1 then 0 else 1; medium = Audio; initiator = from == 1 } ∷ [])
+devices_are_new from lists (suc (suc who)) below = absurd (omega arith)
+
+-- and their slots are numbered as they should be
+pub devices_are_numbered : (channels : List ChannelState) (lists : List CodecList) → JoinsTwo channels → length lists ≡ 2 → IsNumbered (first_world (two_devices (initiator channels) lists) channels)
+devices_are_numbered channels lists joins two =
+    let t = are_two lists two in
+    rw t.are (subst (λ (world : WorldState). IsNumbered world) (sym (devices_are channels t.first t.second joins))
+    (two_phones_are_idle channels (t.first ∷ t.second ∷ []) joins (omega arith)).sound.numbered)
 
 -- there is a channel
 pub some_channel : (channels : List ChannelState) → JoinsTwo channels → 0 < length channels

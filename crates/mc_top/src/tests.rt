@@ -2,8 +2,11 @@
 ghost use Rattle.std.specs.Prelude.{◌<◌};
 
 use crate::io::{MemSink, MemSource, OpenGate};
+use crate::net::make_net;
 use crate::text::TEXT_LIMIT;
 use crate::{Done, media_top};
+use mc_slot::{Goal, State};
+use mc_world::{Change, Event};
 use std::alloc::{AllocError, Global};
 use std::test::Fail;
 use std::thread::Threads;
@@ -155,5 +158,32 @@ fn a_text_past_the_limit_is_refused(rt: HostRuntime) -> Result<(), Fail> {
     assert_eq!(rt; done.status, 1);
     assert_eq!(rt; written.as_slice(), FAULT.as_bytes());
     assert_eq!(rt; source.at, TEXT_LIMIT + 1);
+    Ok(())
+}
+
+#[test]
+fn two_phones_come_to_flow(rt: HostRuntime) -> Result<(), Fail> {
+    let alloc = rt.alloc();
+    let text = Vec::from_slice(alloc, PHONES.as_bytes())?;
+    let mut net = make_net(alloc, &text)?;
+    let turns = [
+        (0, Event::Set(Change::End(0, Goal::Open))),
+        (1, Event::Set(Change::End(0, Goal::Hold))),
+        (1, Event::Take(0)),
+        (0, Event::Take(0)),
+        (1, Event::Take(0)),
+        (0, Event::Take(0)),
+    ];
+    for (who, event) in turns {
+        net.world.step(who, event)?;
+    }
+    assert!(rt; net.world.quiet());
+    assert!(rt; net.world.step(0, Event::Take(0)).is_err());
+    assert_eq!(rt; net.world.slot_count(), 2);
+    for slot in 0..2 {
+        let end = net.world.slot(slot);
+        assert_eq!(rt; end.state, State::Flowing);
+        assert_eq!(rt; end.sel_in.and_then(|selector| selector.codec), Some(1));
+    }
     Ok(())
 }

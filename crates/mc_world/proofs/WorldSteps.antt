@@ -20,7 +20,6 @@ use Rattle.mc_world.specs.StepAnswers.{acts_at}
 use Rattle.mc_world.specs.Sound.{IsNumbered, IsSound, RestsBy}
 use Rattle.mc_world.specs.Served.{LanesServed}
 use Rattle.mc_world.specs.Steps.{made, popped, step, step_by, with_box}
-use Rattle.mc_world.specs.declared.event.Turn.{Turn}
 use Rattle.mc_world.specs.Worlds.{WorldState, box_at, far, for_tunnel, front, front_for, goal_of, is_place, joint_of, lane_of, lane_to, list_to, number, place, places, slot_count, slot_of}
 use Rattle.mc_world.specs.declared.event.Change.TheVariants.{End as NewEnd, Link as NewLink}
 use Rattle.mc_world.specs.declared.event.Event.{Event}

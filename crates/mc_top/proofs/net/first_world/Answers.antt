@@ -1,11 +1,18 @@
 use Rattle.std.proofs.Common.{◌≡◌}
 use Rattle.mc_world.specs.Setups.{world_of_devices}
 use Rattle.mc_world.specs.Worlds.{WorldState, first_world}
-use Rattle.mc_top.proofs.FirstNets.{first_world_is, if_ok, some_channel}
+use Rattle.mc_top.proofs.FirstNets.{devices_are_new, devices_are_numbered, first_world_is, if_ok, some_channel}
 use Rattle.mc_top.proofs.net.first_world.Goals as goal
 
 pub initiator-requires : goal.initiator-requires
 initiator-requires c = rw c.deref.ensures.value (some_channel c.args.channels.items c.requires.joins)
+
+pub new-requires-clause-fresh : goal.new-requires-clause-fresh
+new-requires-clause-fresh c = rw c.in_ok-boxes.ensures (devices_are_new c.initiator.result c.args.lists.now)
+
+pub new-requires-clause-numbered : goal.new-requires-clause-numbered
+new-requires-clause-numbered c =
+    rw (c.in_ok-boxes.ensures, c.initiator.ensures, c.deref.ensures.value) (devices_are_numbered c.args.channels.items c.args.lists.now c.requires.joins c.requires.two)
 
 pub returns : goal.returns
 returns c =
