@@ -13,7 +13,7 @@ within_count [] channel within = refl
 within_count (tunnel ∷ tunnels) channel within = ap suc (within_count tunnels channel (within + 1))
 
 -- and each of them has two slots
-within_slots : (ends : ChannelState) (tunnels : List Tunnel) → length (flat_map (places_of ends) tunnels) ≡ 2 * length tunnels
+pub within_slots : (ends : ChannelState) (tunnels : List Tunnel) → length (flat_map (places_of ends) tunnels) ≡ 2 * length tunnels
 within_slots ends [] = refl
 within_slots ends (tunnel ∷ tunnels) = omega (arith, within_slots ends tunnels)
 

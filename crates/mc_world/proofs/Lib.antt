@@ -4,7 +4,6 @@ pub mod Acting
 mod BoxSound
 mod BoxTurns
 mod Exchanges
-mod FarSlots
 pub mod Firsts
 mod JointTables
 pub mod Joints
@@ -23,6 +22,5 @@ pub mod Sums
 mod Tables
 pub mod TakeForms
 pub mod TurnGoes
-mod TurnsGo
 pub mod TwoPhones
 mod WorldSteps

@@ -27,11 +27,11 @@ use Rattle.mc_world.specs.declared.event.Event.TheVariants.{Take, Set, Media, Te
 use Rattle.mc_world.specs.declared.lanes.Route.{Route}
 use Rattle.mc_tunnel.proofs.Steps.{took_kept}
 use Rattle.mc_world.proofs.BoxTurns.{take_made}
-use Rattle.mc_world.proofs.FarSlots.{far_joint}
+use Rattle.mc_world.proofs.LanesKept.{far_joint}
 use Rattle.mc_world.proofs.Sendings.{AllFrom, acted, sent_out_is, took_from}
 use Rattle.mc_world.proofs.StepGoes.{step_keeps_served}
 use Rattle.mc_world.proofs.StepKeeps.{step_keeps_sound}
-use Rattle.mc_world.proofs.TurnsGo.{turn_goes}
+use Rattle.mc_world.proofs.TurnGoes.{turn_goes}
 
 -- ---- slots and their numbers
 

@@ -1,10 +1,11 @@
 use Rattle.std.proofs.Common.{◌<◌, ◌+◌, ◌*◌, ◌%◌, length, arith}
 use Rattle.mc_world.specs.Worlds.{far, joint_of}
-use Rattle.mc_world.proofs.FarSlots.{far_below, far_joint}
+use Rattle.mc_world.proofs.ActedWorlds.{far_inside}
+use Rattle.mc_world.proofs.LanesKept.{far_joint}
 use Rattle.mc_world.proofs.network.World.route.Goals as goal
 
 pub lane_to-requires-2 : goal.lane_to-requires-2
-lane_to-requires-2 c = rw c.far.ensures (far_below c.args.self.now c.args.slot c.requires.slot)
+lane_to-requires-2 c = rw c.far.ensures (far_inside c.args.self.now c.args.slot c.requires.slot)
 
 -- the channel of the slot is there
 there : (c : goal.After-lane_to-2) → 2 * (joint_of c.args.self.now c.args.slot).channel + 1 < length c.args.self.now.lanes
