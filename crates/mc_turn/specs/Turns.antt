@@ -19,3 +19,7 @@ abbrev pub EndSendsTwo : Type 0
 EndSendsTwo = (goal : Goal) (slot after : Slot) (own : Descriptor) (me : Sender) (signal : Signal) (answer : Option Signal)
     → Kept slot → IsAtRest goal slot own me → taken slot signal ≡ Some record { answer = answer; after = after }
     → length (answered answer) + length (due goal after (pushed_by signal after.state) own me) ≤ 2
+
+-- any turn of an end sends at most two signals
+abbrev pub TurnSendsTwo : Type 0
+TurnSendsTwo = (goal : Goal) (slot : Slot) (pushed : Bool) (own : Descriptor) (me : Sender) → length (due goal slot pushed own me) ≤ 2
