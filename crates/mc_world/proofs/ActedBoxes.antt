@@ -76,7 +76,7 @@ put_make box local slot goal = record {
 }
 
 -- the box at the place
-box_there : (boxes : List BoxState) (who local : ℕ) (slot : Slot) (goal : SlotGoal) (v : ℕ) → who < length boxes → v ≡ who
+pub box_there : (boxes : List BoxState) (who local : ℕ) (slot : Slot) (goal : SlotGoal) (v : ℕ) → who < length boxes → v ≡ who
     → get_or (put_at boxes who local slot goal) v no_box ≡ put (get_or boxes v no_box) local slot goal
 box_there boxes who local slot goal v inside same =
     subst (λ (u : ℕ). get_or (put_at boxes who local slot goal) u no_box ≡ put (get_or boxes u no_box) local slot goal) (sym same)

@@ -41,7 +41,7 @@ all_kept (signal ∷ signals) slot after goes kept =
     all_kept signals one.0 after one.2 (sent_kept slot signal one.0 one.1 kept)
 
 -- the step of an end's turn
-turn_made : (box : BoxState) (local : ℕ) (goal : Goal) (pushed : Bool) (slot : Slot) (mine : Descriptor) (me : Sender) (last : Slot)
+pub turn_made : (box : BoxState) (local : ℕ) (goal : Goal) (pushed : Bool) (slot : Slot) (mine : Descriptor) (me : Sender) (last : Slot)
     → goal_at box local ≡ End goal → slot_at box local ≡ slot → own box local ≡ mine → sender box local ≡ me
     → sent_all slot (due goal slot pushed mine me) ≡ Some last
     → goal_turn box local pushed ≡ Some (record { sent = map (pair_of local) (due goal slot pushed mine me); after = with_slot box local last })

@@ -1,8 +1,9 @@
 pub mod ActedBoxes
 pub mod ActedWorlds
 pub mod Acting
-mod BoxSound
-mod BoxTurns
+pub mod BoxSound
+pub mod BoxTurns
+pub mod CommandsGo
 mod Exchanges
 pub mod Firsts
 mod JointTables
@@ -12,9 +13,11 @@ pub mod LaneSums
 pub mod LanesKept
 pub mod Lowers
 mod NewLanes
-mod NoPrograms
+pub mod NoPrograms
 pub mod Numbers
+pub mod Rings
 mod Sendings
+pub mod ShapesKept
 pub mod StepForms
 pub mod StepGoes
 pub mod StepKeeps

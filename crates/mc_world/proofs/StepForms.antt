@@ -98,7 +98,7 @@ pub record BoxForm (box : BoxState) (local : ℕ) (turn : BoxStep) (to_slot left
   pub rests : IsAtRest aim last (own box local) (sender box local)
 
 -- a slot is replaced, under the goal that it has
-same_goal : (box : BoxState) (local : ℕ) (last : Slot) (goal : Goal) → goal_at box local ≡ End goal → with_slot box local last ≡ put box local last (End goal)
+pub same_goal : (box : BoxState) (local : ℕ) (last : Slot) (goal : Goal) → goal_at box local ≡ End goal → with_slot box local last ≡ put box local last (End goal)
 same_goal box local last goal is =
     let same : box.goals ≡ set box.goals local (End goal) = sym (ap (λ (g : SlotGoal). set box.goals local g) (sym is) ∙ set-get_or box.goals local (End ToClose)) in
     ap (λ (goals : List SlotGoal). record box { slots = set box.slots local last; goals = goals }) same
@@ -250,7 +250,7 @@ take_at_form world next s sound inside goes =
     two.2
 
 -- a lane that is put back where it was
-lane_back : (world : WorldState) (lane : ℕ) → with_lane world lane (get_or world.lanes lane []) ≡ world
+pub lane_back : (world : WorldState) (lane : ℕ) → with_lane world lane (get_or world.lanes lane []) ≡ world
 lane_back world lane = ap (λ (lanes : List (List Tagged)). record world { lanes = lanes }) (set-get_or world.lanes lane [])
 
 -- a step without a taking

@@ -30,7 +30,7 @@ use Rattle.mc_world.proofs.TurnGoes.{turn_goes}
 
 -- ---- a front is taken
 
-some_of : {A : Type 0} (o : Option A) → IsSome o → (x : A) × (o ≡ Some x)
+pub some_of : {A : Type 0} (o : Option A) → IsSome o → (x : A) × (o ≡ Some x)
 some_of None is = absurd (cc)
 some_of (Some x) is = (x, refl)
 
@@ -41,7 +41,7 @@ take_goes : (world : WorldState) (s : ℕ) (signal : Signal) (turn : BoxStep) �
     → IsSome (step world (take_of world s))
 take_goes world s signal turn below numbered fronts goes = rw (below, numbered, fronts, goes) refl
 
-below_test : (a b : ℕ) → a < b → nat_lt a b ≡ true
+pub below_test : (a b : ℕ) → a < b → nat_lt a b ≡ true
 below_test a b below = grind (arith, common_steps)
 
 -- from what the slot takes and sends
@@ -138,11 +138,11 @@ first_is_served boxes channels lane =
 -- ---- something goes
 
 -- a lane that isn't empty
-record Waits (lanes : List (List Tagged)) : Type 0 where
-  lane : ℕ
-  tagged : Tagged
-  rest : List Tagged
-  is : get_or lanes lane [] ≡ tagged ∷ rest
+pub record Waits (lanes : List (List Tagged)) : Type 0 where
+  pub lane : ℕ
+  pub tagged : Tagged
+  pub rest : List Tagged
+  pub is : get_or lanes lane [] ≡ tagged ∷ rest
 
 waits_by : (lane : List Tagged) (lanes : List (List Tagged)) → (list_all is_empty lanes ≡ false → Waits lanes) → list_all is_empty (lane ∷ lanes) ≡ false → Waits (lane ∷ lanes)
 waits_by [] lanes later some =
@@ -151,7 +151,7 @@ waits_by [] lanes later some =
     record { lane = suc found.lane; tagged = found.tagged; rest = found.rest; is = found.is }
 waits_by (tagged ∷ rest) lanes later some = record { lane = 0; tagged = tagged; rest = rest; is = refl }
 
-waits_some : (lanes : List (List Tagged)) → list_all is_empty lanes ≡ false → Waits lanes
+pub waits_some : (lanes : List (List Tagged)) → list_all is_empty lanes ≡ false → Waits lanes
 waits_some [] some = absurd (cc)
 waits_some (lane ∷ lanes) some = waits_by lane lanes (waits_some lanes) some
 
@@ -159,7 +159,7 @@ front_there : (tunnel : ℕ) (tagged : Tagged) (rest : List Tagged) → tunnel �
 front_there tunnel tagged rest is = grind (arith, common_steps)
 
 -- the signal at a lane's front is at the front for its slot
-served_front : (world : WorldState) (lane s : ℕ) (tagged : Tagged) (rest : List Tagged) → get_or world.lanes lane [] ≡ tagged ∷ rest → IsFor world lane tagged s → front world s ≡ Some tagged.signal
+pub served_front : (world : WorldState) (lane s : ℕ) (tagged : Tagged) (rest : List Tagged) → get_or world.lanes lane [] ≡ tagged ∷ rest → IsFor world lane tagged s → front world s ≡ Some tagged.signal
 served_front world lane s tagged rest is served =
     ap (λ (k : ℕ). front_for (joint_of world s).within (get_or world.lanes k [])) served.leads
     ∙ (ap (front_for (joint_of world s).within) is ∙ front_there (joint_of world s).within tagged rest served.within)

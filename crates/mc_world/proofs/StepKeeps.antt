@@ -23,10 +23,10 @@ use Rattle.mc_world.proofs.Numbers.{number_is}
 use Rattle.mc_world.proofs.StepForms.{StepForm, end_goal, if_some, map_some, then_some, push_at_form, push_form, set_form, take_at_form}
 
 -- a local number of a box is below its slots' number
-slot_inside : (box : BoxState) (local : ℕ) → is_slot box local ≡ true → local < length box.slots
+pub slot_inside : (box : BoxState) (local : ℕ) → is_slot box local ≡ true → local < length box.slots
 slot_inside box local is = grind (arith, common_steps)
 
-box_inside : (world : WorldState) (who : ℕ) → nat_lt who (length world.boxes) ≡ true → who < length world.boxes
+pub box_inside : (world : WorldState) (who : ℕ) → nat_lt who (length world.boxes) ≡ true → who < length world.boxes
 box_inside world who is = grind (arith, common_steps)
 
 -- ---- a Take

@@ -8,6 +8,7 @@ pub mod PathTable
 pub mod Paths
 pub mod Served
 pub mod Settles
+pub mod Shapes
 pub mod Setups
 pub mod Sound
 pub mod StepAnswers

@@ -2,6 +2,7 @@
 
 ghost use Rattle.mc_world.specs.Exchanges.{WorkedExchanges};
 ghost use Rattle.mc_world.specs.Measures.{TakeLowers, TakesEnd, MeasureBound};
+ghost use Rattle.mc_world.specs.Shapes.{StepKeepsShape, RunKeepsShape, CommandGoes, RetryGoes};
 ghost use Rattle.mc_world.specs.StepLaws.{StepKeepsSound, RunKeepsSound, FrontIsTaken, FrontStepGoes, StepKeepsServed, FirstIsServed, UnderWayGoes, RunKeepsServed, FirstIsSound, TwoPhonesStaySound};
 ghost use Rattle.mc_world.specs.TwoPhones.{TwoPhonesAreIdle};
 
@@ -79,4 +80,24 @@ pub fn takes_end()
 /// The measure of a sound world is at most 8 for each signal under way and each slot.
 pub fn measure_bound()
     ensures { MeasureBound }
+{}
+
+/// A turn changes neither the channels nor the shapes of the boxes.
+pub fn step_keeps_shape()
+    ensures { StepKeepsShape }
+{}
+
+/// Nor does a run.
+pub fn run_keeps_shape()
+    ensures { RunKeepsShape }
+{}
+
+/// In a sound world, a command that the shape of its box allows can happen at any time.
+pub fn command_goes()
+    ensures { CommandGoes }
+{}
+
+/// In a sound world, a retry that is owed can happen.
+pub fn retry_goes()
+    ensures { RetryGoes }
 {}

@@ -7,8 +7,10 @@ mod lanes;
 pub mod laws;
 mod media_box;
 mod network;
+mod settled;
 
 pub use event::{BoxShape, Change, Event, Kind, MediaChange, Shape, Turn};
 pub use goal::{end_turn, owes};
 pub use media_box::{MediaBox, Setup, SlotMedia, SlotSetup};
 pub use network::{Channel, StepFault, Tunnel, World};
+pub use settled::Settled;

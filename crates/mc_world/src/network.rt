@@ -3,7 +3,8 @@
 ghost use Rattle.std.specs.Prelude.{◌≡◌, ◌+◌, ◌<◌, ◌≤◌, ◌*◌, ◌^◌, ◌++◌, if◌then◌else◌, [], map, length, replicate, position, slice_index_or, vec_len, ◌==◌, All, IfOk, OnOk};
 ghost use Rattle.std.specs.List.{list_all};
 ghost use Rattle.mc_world.specs.Settles.{is_quiet, rests};
-ghost use Rattle.mc_world.specs.Sound.{IsNumbered};
+ghost use Rattle.mc_world.specs.Served.{LanesServed};
+ghost use Rattle.mc_world.specs.Sound.{IsNumbered, IsSound};
 ghost use Rattle.mc_world.specs.StepLaws.{AreNew};
 ghost use Rattle.mc_world.specs.Tables.{channel_of};
 ghost use Rattle.mc_world.specs.Worlds.{first_world, slot_count, place, is_place, number, far, joint_of, lane_of, front, front_for, slot_of, goal_of, places_among, places_within, joints_from, joints_within};
@@ -95,6 +96,15 @@ impl World {
         })
     }
 
+    /// What every world keeps, for a caller to rest on: it is sound, each signal under way is on the lane of its slot, and the numbers of slots fit.
+    pub fn keeps(&self)
+        ensures sound { IsSound self.now }
+        ensures served { LanesServed self.now }
+        ensures few { slot_count self.now ≤ 2 ^ 32 }
+    {
+        let _ = self.places.len();
+    }
+
     /// The boxes, in the order of their numbers.
     pub fn boxes(&self) -> &[MediaBox]
         ensures { result.now ≡ self.now.boxes }
@@ -116,9 +126,7 @@ impl World {
     {
         self.places[slot as usize]
     }
-}
 
-impl World {
     /// A slot, by its number.
     pub fn slot(&self, slot: u32) -> Slot
         requires { slot < slot_count self.now }
@@ -136,9 +144,7 @@ impl World {
         let (who, local) = self.place(slot);
         self.boxes[who as usize].goal(local)
     }
-}
 
-impl World {
     /// The slot at the other end of a slot's tunnel.
     pub fn far(&self, slot: u32) -> u32
         requires { slot < slot_count self.now }

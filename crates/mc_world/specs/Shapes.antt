@@ -1,0 +1,56 @@
+-- What no step changes: the channels of a world, and the shapes of its boxes. Which commands a shape allows.
+use Rattle.std.specs.Prelude.{◌≡◌, ◌<◌, ℕ, ◌&&◌, Bool, false, List, length, nat_lt, Some, IsSome, IsTrue}
+use Rattle.mc_world.specs.Boxes.{BoxState, goal_owes, is_slot}
+use Rattle.mc_world.specs.Sound.{IsSound}
+use Rattle.mc_world.specs.Steps.{run, step}
+use Rattle.mc_world.specs.Worlds.{WorldState, box_at, goal_of, place, slot_count, slot_of}
+use Rattle.mc_world.specs.declared.event.Change.TheVariants.{End as NewEnd}
+use Rattle.mc_world.specs.declared.event.Event.{Event}
+use Rattle.mc_world.specs.declared.event.Event.TheVariants.{Set, Retry}
+use Rattle.mc_world.specs.declared.event.Turn.{Turn}
+
+-- a box of the same kind and number, with the same lists of codecs and as many slots
+pub record IsAlike (new old : BoxState) : Type 0 where
+  pub kind : new.kind ≡ old.kind
+  pub number : new.number ≡ old.number
+  pub receives : new.receives ≡ old.receives
+  pub sends : new.sends ≡ old.sends
+  pub slots : length new.slots ≡ length old.slots
+
+-- a world of the same channels and of as many boxes, each alike
+pub record HasShape (new old : WorldState) : Type 0 where
+  pub channels : new.channels ≡ old.channels
+  pub boxes : length new.boxes ≡ length old.boxes
+  pub alike : (who : ℕ) → IsAlike (box_at new who) (box_at old who)
+
+-- a turn changes no shape
+abbrev pub StepKeepsShape : Type 0
+StepKeepsShape = (world next : WorldState) (turn : Turn) → IsSound world → step world turn ≡ Some next → HasShape next world
+
+-- nor does a run
+abbrev pub RunKeepsShape : Type 0
+RunKeepsShape = (world next : WorldState) (turns : List Turn) → IsSound world → run world turns ≡ Some next → HasShape next world
+
+abbrev pub allows : BoxState → Event → Bool
+allows box (Set (NewEnd local goal)) = is_slot box local
+allows box event = false
+
+-- a command for a box that is there, and for a slot that it has
+abbrev pub is_allowed : WorldState → Turn → Bool
+is_allowed world turn = nat_lt turn.who (length world.boxes) && allows (box_at world turn.who) turn.event
+
+-- such a command can happen at any time
+abbrev pub CommandGoes : Type 0
+CommandGoes = (world : WorldState) (turn : Turn) → IsSound world → IsTrue (is_allowed world turn) → IsSome (step world turn)
+
+-- whether a slot owes a retry, by its number
+abbrev pub owes_of : WorldState → ℕ → Bool
+owes_of world s = goal_owes (goal_of world s) (slot_of world s)
+
+-- the retry of a slot, by its number
+abbrev pub retry_of : WorldState → ℕ → Turn
+retry_of world s = record { who = (place world s).0; event = Retry (place world s).1 }
+
+-- it can happen where it is owed
+abbrev pub RetryGoes : Type 0
+RetryGoes = (world : WorldState) (s : ℕ) → IsSound world → s < slot_count world → IsTrue (owes_of world s) → IsSome (step world (retry_of world s))
