@@ -1,0 +1,9 @@
+pub mod CleanEnds
+pub mod CleanPaths
+pub mod CleanSteps
+pub mod CleanTunnels
+pub mod Quiet
+pub mod SettledHold
+pub mod Shown
+pub mod TableHolds
+pub mod Tunnels

@@ -1,0 +1,152 @@
+-- After a settled segment each path is as the path table says: each owed Retry has come, and opened its slot.
+use Rattle.std.proofs.Common.{◌≡◌, ◌≢◌, ◌<◌, ◌≤◌, ◌+◌, ◌*◌, ◌++◌, ◌⊎◌, inl, inr, if◌then◌else◌, ℕ, Bool, true, false, Option, Some, IsTrue, List, [], ◌∷◌, All, get_or, length, take, drop, count_by, refl, ap, sym, ◌∙◌, subst, arith}
+use Rattle.std.specs.List.{list_all}
+use Rattle.std.specs.Option.{option_and_then, unwrap_or}
+use Rattle.std.proofs.lemmas.Grind.{common_steps}
+use Rattle.std.proofs.lemmas.List.{take-append-drop}
+use Rattle.mc_slot.specs.declared.Goal.{Goal}
+use Rattle.mc_slot.specs.declared.Goal.TheVariants.{Open as ToOpen, Close as ToClose}
+use Rattle.mc_slot.specs.declared.Slot.{Slot}
+use Rattle.mc_slot.specs.declared.SlotGoal.{SlotGoal}
+use Rattle.mc_slot.specs.declared.SlotGoal.TheVariants.{End, Link}
+use Rattle.mc_slot.specs.declared.State.{State}
+use Rattle.mc_slot.specs.declared.State.TheVariants.{Closed, Opening, Opened, Flowing, Closing}
+use Rattle.mc_world.specs.Boxes.{goal_owes}
+use Rattle.mc_world.specs.Paths.{end_goal, end_goal_of, paths}
+use Rattle.mc_world.specs.Settles.{IsLastRest, is_quiet, is_retry_of, owes_retry, takes_or_retries}
+use Rattle.mc_world.specs.Shapes.{owes_of}
+use Rattle.mc_world.specs.Sound.{IsSound}
+use Rattle.mc_world.specs.Steps.{after, run, step}
+use Rattle.mc_world.specs.Worlds.{WorldState, box_at, far, goal_of, place, slot_count, slot_of}
+use Rattle.mc_world.specs.declared.event.Turn.{Turn}
+use Rattle.mc_world.proofs.ActedWorlds.{far_inside}
+use Rattle.mc_world.proofs.NoPrograms.{quiet_rests}
+use Rattle.mc_world.proofs.ShapesKept.{run_keeps_shape}
+use Rattle.mc_world.proofs.StepForms.{then_some}
+use Rattle.mc_world.proofs.StepGoes.{below_test}
+use Rattle.mc_world.proofs.StepKeeps.{run_keeps_sound}
+use Rattle.mc_path.specs.PathLaws.{SettledPathsHold}
+use Rattle.mc_path.proofs.CleanPaths.{goals_before, quiet_clean, same_count}
+use Rattle.mc_path.proofs.CleanTunnels.{CleanTunnel, run_opens}
+use Rattle.mc_path.proofs.Quiet.{low_in, quiet_paths}
+use Rattle.mc_path.proofs.TableHolds.{OwesNone, table_holds}
+use Rattle.mc_path.proofs.Tunnels.{each_path, far_of_low}
+
+-- ---- two parts of a run
+
+-- the first turn, and the others
+run_next : (world : WorldState) (turn : Turn) (turns : List Turn) (next : WorldState) → step world turn ≡ Some next → run world (turn ∷ turns) ≡ run next turns
+run_next world turn turns next goes = ap (λ (o : Option WorldState). option_and_then (λ (w : WorldState). run w turns) o) goes
+
+-- a run of turns and more turns is a run of the first, and one of the others from the world that they leave
+run_split : (first second : List Turn) (world last : WorldState) → run world (first ++ second) ≡ Some last
+    → (middle : WorldState) × (run world first ≡ Some middle) × (run middle second ≡ Some last)
+run_split [] second world last goes = (world, refl, goes)
+run_split (turn ∷ first) second world last goes =
+    let one = then_some (λ (w : WorldState). run w (first ++ second)) (step world turn) last goes in
+    let later = run_split first second one.0 last one.2 in
+    (later.0, run_next world turn first one.0 one.1 ∙ later.1, later.2)
+
+-- with the world that the first turns leave by its name
+run_halves : (first second : List Turn) (world last : WorldState) → run world (first ++ second) ≡ Some last
+    → (run world first ≡ Some (after world first)) × (run (after world first) second ≡ Some last)
+run_halves first second world last goes =
+    let parts = run_split first second world last goes in
+    let same : after world first ≡ parts.0 = ap (λ (o : Option WorldState). unwrap_or o world) parts.1 in
+    (parts.1 ∙ ap (λ (w : WorldState). Some w) (sym same), subst (λ (w : WorldState). run w second ≡ Some last) (sym same) parts.2)
+
+-- ---- a slot that is to open
+
+-- an end that is to open owes a retry where it is closed
+owes_closed : (goal : SlotGoal) (slot : Slot) → end_goal_of goal ≡ ToOpen → slot.state ≡ Closed → goal_owes goal slot ≡ true
+owes_closed (End goal) slot aims is = grind (arith, common_steps)
+owes_closed (Link partner) slot aims is = absurd (cc)
+
+-- and none owes one where it isn't
+owes_begun : (goal : SlotGoal) (slot : Slot) → slot.state ≢ Closed → goal_owes goal slot ≡ false
+owes_begun (End goal) slot begun = grind (arith, common_steps)
+owes_begun (Link partner) slot begun = refl
+
+-- a state is closed or another
+closed_or_not : (state : State) → (state ≢ Closed) ⊎ (state ≡ Closed)
+closed_or_not Closed = inr refl
+closed_or_not Opening = inl (λ is. cc)
+closed_or_not Opened = inl (λ is. cc)
+closed_or_not Flowing = inl (λ is. cc)
+closed_or_not Closing = inl (λ is. cc)
+
+-- a slot that owes a retry owes it by its box and its local number
+owes_by_place : (world : WorldState) (t : ℕ) → IsSound world → t < slot_count world → owes_of world t ≡ true → owes_retry world (place world t).0 (place world t).1 ≡ true
+owes_by_place world t sound within owed =
+    rw (
+      below_test (place world t).0 (length world.boxes) (sound.numbered.placed t within),
+      below_test (place world t).1 (length (box_at world (place world t).0).slots) (sound.numbered.slots t within),
+    ) owed
+
+-- where a retry was owed, one came
+some_retry : (owed : Bool) (count : ℕ) → count ≡ (if owed then 1 else 0) → owed ≡ true → 1 ≤ count
+some_retry true count is owes = omega arith
+some_retry false count is owes = absurd (cc)
+
+-- it isn't closed, or its Retry is to come
+begun_or_retried : (world : WorldState) (turns : List Turn) (t : ℕ) → IsSound world → t < slot_count world → end_goal world t ≡ ToOpen
+    → ((who local : ℕ) → count_by (is_retry_of who local) turns ≡ (if owes_retry world who local then 1 else 0))
+    → ((slot_of world t).state ≢ Closed) ⊎ (1 ≤ count_by (is_retry_of (place world t).0 (place world t).1) turns)
+begun_or_retried world turns t sound within aims retries = elim (closed_or_not (slot_of world t).state) [
+  | inl begun ↦ inl begun
+  | inr closed ↦
+      inr (some_retry (owes_retry world (place world t).0 (place world t).1) (count_by (is_retry_of (place world t).0 (place world t).1) turns)
+      (retries (place world t).0 (place world t).1)
+      (owes_by_place world t sound within (owes_closed (goal_of world t) (slot_of world t) aims closed)))
+]
+
+-- to open isn't to close
+to_open : (goal : Goal) → goal ≡ ToOpen → goal ≢ ToClose
+to_open goal opens closes = cc
+
+-- once each Retry has come that was owed when nothing was under way, an end that is to open owes none, unless the other end closes
+owes_none : (world last : WorldState) (turns : List Turn) (t : ℕ) → IsSound world → IsTrue (is_quiet world)
+    → list_all (λ turn. takes_or_retries turn.event) turns ≡ true → run world turns ≡ Some last
+    → ((who local : ℕ) → count_by (is_retry_of who local) turns ≡ (if owes_retry world who local then 1 else 0))
+    → t < slot_count last → end_goal last t ≡ ToOpen → end_goal last (far t) ≢ ToClose → owes_of last t ≡ false
+owes_none world last turns t sound quiet all goes retries inside opens far_stays =
+    let within : t < slot_count world = subst (λ (n : ℕ). t < n) (same_count last world (run_keeps_shape world last turns sound goes)) inside in
+    let aims : end_goal world t ≡ ToOpen = sym (goals_before world last turns t sound within all goes) ∙ opens in
+    let clean : CleanTunnel world t = quiet_clean world t quiet (to_open (end_goal world t) aims)
+    (λ is. far_stays (goals_before world last turns (far t) sound (far_inside world t within) all goes ∙ is)) in
+    owes_begun (goal_of last t) (slot_of last t) (run_opens turns world last t sound within all goes clean (begun_or_retried world turns t sound within aims retries))
+
+-- ---- paths
+
+-- the lower slot of a tunnel is the far slot of the other
+far_of_high : (t : ℕ) → far (2 * t + 1) ≡ 2 * t
+far_of_high t = grind (arith, common_steps)
+
+-- from the last rest on, to the end
+rest_owes_none : (world last : WorldState) (turns : List Turn) → IsSound world → IsTrue (is_quiet world)
+    → list_all (λ turn. takes_or_retries turn.event) turns ≡ true → run world turns ≡ Some last
+    → ((who local : ℕ) → count_by (is_retry_of who local) turns ≡ (if owes_retry world who local then 1 else 0))
+    → All (OwesNone last) (paths last)
+rest_owes_none world last turns sound quiet all goes retries =
+    each_path last (OwesNone last) (run_keeps_sound world last turns sound goes) (λ t inside. record {
+      low = λ opens stays. owes_none world last turns (2 * t) sound quiet all goes retries (low_in t (slot_count last) inside) opens
+          (subst (λ (x : ℕ). end_goal last x ≢ ToClose) (sym (far_of_low t)) stays);
+      high = λ opens stays. owes_none world last turns (2 * t + 1) sound quiet all goes retries inside opens
+          (subst (λ (x : ℕ). end_goal last x ≢ ToClose) (sym (far_of_high t)) stays);
+    })
+
+-- the last rest begins where the turns of its moment lead
+settled_owes_none : (world last : WorldState) (batch turns : List Turn) (moment : ℕ) → IsSound world → run world turns ≡ Some last → IsLastRest world batch turns moment
+    → All (OwesNone last) (paths last)
+settled_owes_none world last batch turns moment sound goes rest =
+    let halves = run_halves (take moment turns) (drop moment turns) world last (ap (run world) (take-append-drop moment turns) ∙ goes) in
+    rest_owes_none (after world (take moment turns)) last (drop moment turns)
+    (run_keeps_sound world (after world (take moment turns)) (take moment turns) sound halves.0)
+    (quiet_rests (after world (take moment turns)) ∙ rest.at_rest) rest.besides halves.1 rest.retries
+
+-- so each path is as the path table says
+pub settled_paths_hold : SettledPathsHold
+settled_paths_hold world last batch turns sound settled k path below =
+    let quiet = quiet_paths last (run_keeps_sound world last turns sound settled.runs) (quiet_rests last ∙ settled.at_rest) in
+    table_holds last (get_or (paths last) k path) (quiet k path below)
+    (settled_owes_none world last batch turns settled.moment sound settled.runs settled.last_rest k path below)

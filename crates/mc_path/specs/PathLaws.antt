@@ -1,0 +1,55 @@
+-- Laws of paths: what each path of a quiet world is, and that after a settle it is as the path table says.
+use Rattle.std.specs.Prelude.{◌≡◌, ◌≢◌, ◌⊎◌, ℕ, ◌+◌, false, List, IsTrue, Some}
+use Rattle.std.specs.List.{All, list_all}
+use Rattle.mc_slot.specs.Outlook.{acks, closes}
+use Rattle.mc_slot.specs.declared.Goal.TheVariants.{Open as ToOpen, Close as ToClose}
+use Rattle.mc_slot.specs.declared.State.{State}
+use Rattle.mc_slot.specs.declared.State.TheVariants.{Closed, Flowing, Closing}
+use Rattle.mc_world.specs.PathTable.{Hears, PathHolds}
+use Rattle.mc_world.specs.Paths.{PathEnds, end_goal, paths}
+use Rattle.mc_world.specs.Settles.{IsSettled, is_quiet, takes_or_retries}
+use Rattle.mc_world.specs.Shapes.{owes_of}
+use Rattle.mc_world.specs.Sound.{IsSound}
+use Rattle.mc_world.specs.Steps.{run}
+use Rattle.mc_world.specs.Worlds.{WorldState, list_to, own_descriptor, own_sender, slot_of}
+use Rattle.mc_world.specs.declared.event.Turn.{Turn}
+
+-- both end slots of a path are in a state
+pub record AreIn (world : WorldState) (path : PathEnds) (state : State) : Type 0 where
+  pub low : (slot_of world path.low).state ≡ state
+  pub high : (slot_of world path.high).state ≡ state
+
+-- each end of a path last got the other's newest descriptor, and the choice for its own
+pub record HearEachOther (world : WorldState) (path : PathEnds) : Type 0 where
+  pub low : Hears (slot_of world path.low) (own_descriptor world path.low) (own_descriptor world path.high) (own_sender world path.high)
+  pub high : Hears (slot_of world path.high) (own_descriptor world path.high) (own_descriptor world path.low) (own_sender world path.low)
+
+-- what a path is where nothing is under way: closed, or flowing with ends that hear each other; closed where an end closes, and flowing where one opens and owes no retry
+pub record IsQuietPath (world : WorldState) (path : PathEnds) : Type 0 where
+  pub alike : AreIn world path Closed ⊎ (AreIn world path Flowing × HearEachOther world path)
+  pub low_closes : end_goal world path.low ≡ ToClose → AreIn world path Closed
+  pub high_closes : end_goal world path.high ≡ ToClose → AreIn world path Closed
+  pub low_opens : end_goal world path.low ≡ ToOpen → owes_of world path.low ≡ false → AreIn world path Flowing
+  pub high_opens : end_goal world path.high ≡ ToOpen → owes_of world path.high ≡ false → AreIn world path Flowing
+
+-- each path of a quiet sound world
+abbrev pub QuietPaths : Type 0
+QuietPaths = (world : WorldState) → IsSound world → IsTrue (is_quiet world) → All (IsQuietPath world) (paths world)
+
+-- no close and no closeack comes to a slot, and it waits for none
+pub record IsClean (world : WorldState) (s : ℕ) : Type 0 where
+  pub none : closes (list_to world s) + acks (list_to world s) ≡ 0
+  pub state : (slot_of world s).state ≢ Closing
+
+-- the ends of a path are clean, unless one of them closes
+abbrev pub IsCleanPath : WorldState → PathEnds → Type 0
+IsCleanPath world path = end_goal world path.low ≢ ToClose → end_goal world path.high ≢ ToClose → IsClean world path.low × IsClean world path.high
+
+-- after a moment at which nothing was under way, while only Takes and Retries come, no close is ever under way on a path without an end that closes
+abbrev pub CleanPaths : Type 0
+CleanPaths = (world next : WorldState) (turns : List Turn) → IsSound world → IsTrue (is_quiet world)
+    → IsTrue (list_all (λ turn. takes_or_retries turn.event) turns) → run world turns ≡ Some next → All (IsCleanPath next) (paths next)
+
+-- after each settled segment, whatever the order of its turns, each path is as the path table says
+abbrev pub SettledPathsHold : Type 0
+SettledPathsHold = (world last : WorldState) (batch turns : List Turn) → IsSound world → IsSettled world batch turns last → All (PathHolds last) (paths last)

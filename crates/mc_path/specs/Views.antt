@@ -1,0 +1,59 @@
+-- What is shown of a path.
+use Rattle.std.specs.Prelude.{ℕ, ◌+◌, zero, suc, Bool, true, false, length, Option}
+use Rattle.std.specs.Option.{option_and_then, option_map, unwrap_or}
+use Rattle.mc_signal.specs.declared.Selector.{Selector}
+use Rattle.mc_slot.specs.declared.SlotGoal.{SlotGoal}
+use Rattle.mc_slot.specs.declared.SlotGoal.TheVariants.{End, Link}
+use Rattle.mc_slot.specs.declared.State.{State}
+use Rattle.mc_slot.specs.declared.State.TheVariants.{Flowing}
+use Rattle.mc_view.specs.declared.EndView.{EndView}
+use Rattle.mc_view.specs.declared.PathView.{PathView}
+use Rattle.mc_world.specs.Paths.{PathEnds, end_goal}
+use Rattle.mc_world.specs.Worlds.{WorldState, box_at, far, goal_of, joint_of, joints, number, own_descriptor, own_sender, place, slot_of}
+use Rattle.mc_world.specs.declared.event.Kind.{Kind}
+use Rattle.mc_world.specs.declared.event.Kind.TheVariants.{Device, Feature}
+
+abbrev pub is_flowing : State → Bool
+is_flowing Flowing = true
+is_flowing state = false
+
+abbrev pub is_device : Kind → Bool
+is_device Device = true
+is_device Feature = false
+
+-- the codec of a selector, if there is a selector and it names one
+abbrev pub selected : Option Selector → Option ℕ
+selected selector = option_and_then (λ chosen. chosen.codec) selector
+
+-- an end, by its slot's number: it hears the codec of the selector that it last got
+abbrev pub end_view : WorldState → ℕ → EndView
+end_view world s = record {
+  slot = s;
+  who = (place world s).0;
+  local = (place world s).1;
+  goal = end_goal world s;
+  own = own_descriptor world s;
+  hears = selected (slot_of world s).sel_in;
+  sends = (own_sender world s).codecs;
+  device = is_device (box_at world (place world s).0).kind;
+}
+
+-- the tunnels that a walk goes over from the far side of a tunnel, until it comes to an end
+abbrev pub crossed_by : (ℕ → ℕ) → WorldState → SlotGoal → ℕ → ℕ
+crossed_by further world (End goal) s = 0
+crossed_by further world (Link partner) s = unwrap_or (option_map further (number world (place world s).0 partner)) 0
+
+-- the tunnels that a walk goes over from a slot, within so many
+abbrev pub crossed : WorldState → ℕ → ℕ → ℕ
+crossed world zero s = 0
+crossed world (suc most) s = 1 + crossed_by (crossed world most) world (goal_of world (far s)) (far s)
+
+-- a path, by its two end slots: it flows where its lower end does
+abbrev pub view_of : WorldState → PathEnds → PathView
+view_of world path = record {
+  low = end_view world path.low;
+  high = end_view world path.high;
+  flowing = is_flowing (slot_of world path.low).state;
+  medium = (joint_of world path.low).medium;
+  tunnels = crossed world (length (joints world)) path.low;
+}
