@@ -1,0 +1,14 @@
+use Rattle.mc_world.specs.Measures.{measure}
+use Rattle.mc_world.specs.Sound.{IsSound}
+use Rattle.mc_seq.proofs.Taking.{GoesOn}
+use Rattle.mc_seq.proofs.settling.take_all.Given as goal
+
+-- whatever Takes come, they go on from here
+abbrev pub invariant-loop-slot : goal.invariant-loop-slot
+invariant-loop-slot l = record {
+  sound : IsSound l.settled.world;
+  takes : GoesOn l.initial.settled.world l.initial.settled.turns.items l.settled.world l.settled.turns.items;
+}
+
+abbrev pub decreases-loop-slot : goal.decreases-loop-slot
+decreases-loop-slot l = measure l.settled.world

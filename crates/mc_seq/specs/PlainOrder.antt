@@ -1,0 +1,57 @@
+-- The plain order of a settle: the commands, then Takes of the lowest slot, then the owed retries, then Takes again.
+use Rattle.std.specs.Prelude.{◌≡◌, ◌<◌, ℕ, zero, suc, if◌then◌else◌, List, [], ◌∷◌, ◌++◌, Some, None, IsSome, IsTrue}
+use Rattle.mc_world.specs.Settles.{IsSettled, is_quiet}
+use Rattle.mc_world.specs.Shapes.{owes_of, retry_of}
+use Rattle.mc_world.specs.Sound.{IsSound}
+use Rattle.mc_world.specs.StepLaws.{take_of}
+use Rattle.mc_world.specs.Steps.{run, step}
+use Rattle.mc_world.specs.Worlds.{WorldState, front, slot_count}
+use Rattle.mc_world.specs.declared.event.Turn.{Turn}
+
+-- slot s can take its front, and no slot below it can
+pub record IsLowest (world : WorldState) (s : ℕ) : Type 0 where
+  pub inside : s < slot_count world
+  pub can : IsSome (front world s)
+  pub least : (t : ℕ) → t < s → front world t ≡ None
+
+-- the turns are Takes, each of the lowest slot that can take, until nothing is under way
+abbrev pub TakesUp : WorldState → List Turn → WorldState → Type 0
+TakesUp world [] last = (world ≡ last) × IsTrue (is_quiet world)
+TakesUp world (turn ∷ turns) last =
+    (s : ℕ) × (next : WorldState) × IsLowest world s × (turn ≡ take_of world s) × (step world turn ≡ Some next) × TakesUp next turns last
+
+-- such turns lead from one world to another, and are written down after what was written before
+pub record TookAll (world : WorldState) (before : List Turn) (last : WorldState) (after : List Turn) : Type 0 where
+  pub turns : List Turn
+  pub takes : TakesUp world turns last
+  pub logged : after ≡ before ++ turns
+
+-- the retry of a slot, if it owes one
+abbrev pub owed_at : WorldState → ℕ → List Turn
+owed_at world s = if owes_of world s then retry_of world s ∷ [] else []
+
+-- the retries that the slots below a number owe, the lowest first
+abbrev pub owed_below : WorldState → ℕ → List Turn
+owed_below world zero = []
+owed_below world (suc s) = owed_below world s ++ owed_at world s
+
+-- all owed retries, the lowest slot first
+abbrev pub owed_retries : WorldState → List Turn
+owed_retries world = owed_below world (slot_count world)
+
+-- the turns settle a batch in the plain order, and leave the world last
+pub record IsPlain (world : WorldState) (batch turns : List Turn) (last : WorldState) : Type 0 where
+  pub commanded : WorldState
+  pub rested : WorldState
+  pub retried : WorldState
+  pub first : List Turn
+  pub others : List Turn
+  pub are : turns ≡ batch ++ (first ++ (owed_retries rested ++ others))
+  pub commands : run world batch ≡ Some commanded
+  pub takes : TakesUp commanded first rested
+  pub retries : run rested (owed_retries rested) ≡ Some retried
+  pub ends : TakesUp retried others last
+
+-- such turns are a settled segment
+abbrev pub PlainOrderSettles : Type 0
+PlainOrderSettles = (world last : WorldState) (batch turns : List Turn) → IsSound world → IsPlain world batch turns last → IsSettled world batch turns last
