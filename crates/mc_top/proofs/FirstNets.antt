@@ -1,6 +1,7 @@
 -- What the lines of a text have declared makes a network of two phones.
 use Rattle.std.proofs.Common.{◌≡◌, ◌≢◌, ◌<◌, ℕ, zero, suc, if◌then◌else◌, ◌==◌, List, [], ◌∷◌, length, map, refl, sym, ap, subst, ◌∙◌, inl, inr, arith, slice_index_or, Result, Ok, Err, IfOk}
 use Rattle.std.proofs.lemmas.List.{length-map}
+use Rattle.std.specs.List.{All}
 use Rattle.mc_signal.specs.Choice.{codecs_of}
 use Rattle.mc_signal.specs.Empty.{no_codecs}
 use Rattle.mc_signal.specs.declared.Medium.TheVariants.{Audio}
@@ -11,13 +12,13 @@ use Rattle.mc_world.specs.StepLaws.{AreNew}
 use Rattle.mc_world.specs.declared.event.Kind.TheVariants.{Device}
 use Rattle.mc_world.proofs.Firsts.{first_is_new}
 use Rattle.mc_world.specs.Setups.{world_of_devices}
-use Rattle.mc_world.specs.TwoPhones.{IsIdle, JoinsTwo, audio_channel, the_path}
-use Rattle.mc_world.specs.Worlds.{ChannelState, WorldState, first_world}
+use Rattle.mc_world.specs.TwoPhones.{JoinsTwo, audio_channel, one_channel}
+use Rattle.mc_world.specs.Worlds.{ChannelState, WorldState, box_at, first_world}
 use Rattle.mc_world.proofs.TwoPhones.{two_phones_are_idle}
 use Rattle.mc_top.specs.Forms.{Declared}
 use Rattle.mc_top.specs.NameLists.{NameLists, slots_of}
 use Rattle.mc_top.specs.Nets.{initiator, two_devices}
-use Rattle.mc_top.specs.Printed.{HasNames}
+use Rattle.mc_top.specs.Printed.{NamesAll}
 use Rattle.mc_top.specs.Shapes.{HasChannel}
 
 -- two different numbers below two
@@ -76,42 +77,73 @@ pub some_channel : (channels : List ChannelState) → JoinsTwo channels → 0 < 
 some_channel channels (inl forth) = rw forth (omega arith)
 some_channel channels (inr back) = rw back (omega arith)
 
+-- the codecs of a box that isn't there
+no_box_codecs : (names : NameLists) → All (λ codec. codec < length names.codecs) (codecs_of no_codecs)
+no_box_codecs names k e within = absurd (omega arith)
+
+names_of_forth : (names : NameLists) (a b : CodecList) → length names.boxes ≡ 2 → ((who : ℕ) → who < 2 → length (slots_of names who) ≡ 1)
+    → All (λ codec. codec < length names.codecs) (codecs_of a) → All (λ codec. codec < length names.codecs) (codecs_of b)
+    → NamesAll names (world_of_devices (one_channel 0 1) (a ∷ b ∷ []))
+names_of_forth names a b boxes slots one two = record {
+  boxes = boxes;
+  slots = λ who below. names_slots who below;
+  codecs = λ who. names_codecs who;
+}
+  where
+    names_slots : (who : ℕ) → who < 2 → length (slots_of names who) ≡ length (box_at (world_of_devices (one_channel 0 1) (a ∷ b ∷ [])) who).slots
+    names_slots zero below = slots 0 (omega arith)
+    names_slots (suc zero) below = slots 1 (omega arith)
+    names_slots (suc (suc who)) below = absurd (omega arith)
+
+    names_codecs : (who : ℕ) → All (λ codec. codec < length names.codecs) (codecs_of (box_at (world_of_devices (one_channel 0 1) (a ∷ b ∷ [])) who).receives)
+    names_codecs zero = one
+    names_codecs (suc zero) = two
+    names_codecs (suc (suc who)) = no_box_codecs names
+
+names_of_back : (names : NameLists) (a b : CodecList) → length names.boxes ≡ 2 → ((who : ℕ) → who < 2 → length (slots_of names who) ≡ 1)
+    → All (λ codec. codec < length names.codecs) (codecs_of a) → All (λ codec. codec < length names.codecs) (codecs_of b)
+    → NamesAll names (world_of_devices (one_channel 1 0) (a ∷ b ∷ []))
+names_of_back names a b boxes slots one two = record {
+  boxes = boxes;
+  slots = λ who below. names_slots who below;
+  codecs = λ who. names_codecs who;
+}
+  where
+    names_slots : (who : ℕ) → who < 2 → length (slots_of names who) ≡ length (box_at (world_of_devices (one_channel 1 0) (a ∷ b ∷ [])) who).slots
+    names_slots zero below = slots 0 (omega arith)
+    names_slots (suc zero) below = slots 1 (omega arith)
+    names_slots (suc (suc who)) below = absurd (omega arith)
+
+    names_codecs : (who : ℕ) → All (λ codec. codec < length names.codecs) (codecs_of (box_at (world_of_devices (one_channel 1 0) (a ∷ b ∷ [])) who).receives)
+    names_codecs zero = one
+    names_codecs (suc zero) = two
+    names_codecs (suc (suc who)) = no_box_codecs names
+
 names_of_two : (names : NameLists) (channels : List ChannelState) (a b : CodecList) → JoinsTwo channels → length names.boxes ≡ 2
-    → ((who : ℕ) → who < 2 → length (slots_of names who) ≡ 1) → HasNames names (world_of_devices channels (a ∷ b ∷ [])) the_path
-names_of_two names channels a b (inl forth) boxes slots =
-    let zero_has : length (slots_of names 0) ≡ 1 = slots 0 (omega arith) in
-    let one_has : length (slots_of names 1) ≡ 1 = slots 1 (omega arith) in
-    rw forth (record {
-      low = record { within = omega arith; box = omega arith; slot = omega arith };
-      high = record { within = omega arith; box = omega arith; slot = omega arith };
-      low_codec = λ flows. absurd cc;
-      high_codec = λ flows. absurd cc;
-    })
-names_of_two names channels a b (inr back) boxes slots =
-    let zero_has : length (slots_of names 0) ≡ 1 = slots 0 (omega arith) in
-    let one_has : length (slots_of names 1) ≡ 1 = slots 1 (omega arith) in
-    rw back (record {
-      low = record { within = omega arith; box = omega arith; slot = omega arith };
-      high = record { within = omega arith; box = omega arith; slot = omega arith };
-      low_codec = λ flows. absurd cc;
-      high_codec = λ flows. absurd cc;
-    })
+    → ((who : ℕ) → who < 2 → length (slots_of names who) ≡ 1)
+    → All (λ codec. codec < length names.codecs) (codecs_of a) → All (λ codec. codec < length names.codecs) (codecs_of b)
+    → NamesAll names (world_of_devices channels (a ∷ b ∷ []))
+names_of_two names channels a b (inl forth) boxes slots one two = rw forth (names_of_forth names a b boxes slots one two)
+names_of_two names channels a b (inr back) boxes slots one two = rw back (names_of_back names a b boxes slots one two)
 
 -- as many lists as boxes
 pub two_lists : (d : Declared) (lists : List CodecList) → HasChannel d → map codecs_of lists ≡ d.lists → length lists ≡ 2
 two_lists d lists has same = sym (length-map lists codecs_of) ∙ ap (λ (l : List (List ℕ)). length l) same ∙ has.lists
 
--- what was declared makes a world that is at rest
-pub net_is_idle : (d : Declared) (lists : List CodecList) (channels : List ChannelState) (world : WorldState) → HasChannel d → map codecs_of lists ≡ d.lists
-    → channels ≡ d.channels → world ≡ world_of_devices channels lists → IsIdle world
-net_is_idle d lists channels world has same joined is = rw (is, joined) (two_phones_are_idle d.channels lists (joins_two d has) (two_lists d lists has same))
+-- each of two lists of codecs, from both
+known_first : (names : NameLists) (lists : List (List ℕ)) (a b : List ℕ) → a ∷ b ∷ [] ≡ lists → All (All (λ codec. codec < length names.codecs)) lists
+    → All (λ codec. codec < length names.codecs) a × All (λ codec. codec < length names.codecs) b
+known_first names lists a b same known =
+    let all : All (All (λ codec. codec < length names.codecs)) (a ∷ b ∷ []) = subst (λ (l : List (List ℕ)). All (All (λ codec. codec < length names.codecs)) l) (sym same) known in
+    (all 0 a (omega arith), all 1 b (omega arith))
 
--- and whose two slots have names
+-- what was declared makes a world all of which has names
 pub net_has_names : (d : Declared) (names : NameLists) (lists : List CodecList) (channels : List ChannelState) (world : WorldState) → HasChannel d → map codecs_of lists ≡ d.lists
-    → names ≡ d.names → channels ≡ d.channels → world ≡ world_of_devices channels lists → HasNames names world the_path
+    → names ≡ d.names → channels ≡ d.channels → world ≡ world_of_devices channels lists → NamesAll names world
 net_has_names d names lists channels world has same named joined is =
     let t = are_two lists (two_lists d lists has same) in
-    rw (is, joined, named, t.are) (names_of_two d.names d.channels t.first t.second (joins_two d has) has.boxes has.slots)
+    let known = known_first d.names d.lists (codecs_of t.first) (codecs_of t.second) (rw t.are at same) has.known in
+    rw (is, joined, named, t.are) (names_of_two d.names d.channels t.first t.second (joins_two d has) has.boxes has.slots known.0 known.1)
 
 -- a fact for an Ok, from another one
 pub if_ok : {T E : Type 0} (result : Result T E) (P Q : T → Type 0) → ((x : T) → P x → Q x) → IfOk result P → IfOk result Q

@@ -7,11 +7,13 @@ use Rattle.std.proofs.lemmas.Bool.{cases_eq}
 use Rattle.std.proofs.lemmas.List.{get_or-set_same, get_or-set_other}
 use Rattle.std.proofs.lemmas.List.Elements.{All-push}
 use Rattle.std.proofs.Math.ListN.{length-set}
-use Rattle.mc_top.specs.Forms.{Declared, if_kept, is_start, opens_codecs, opens_boxes, is_boxes, is_channels, is_commands, version_after, codec_after, device_after, channel_after, joined, joined_by, begin_after, settle_after, is_codec, codec_of, are_codecs, codec_limit, command_limit, keyword_of, kind_after, words_after, line_after}
+use Rattle.mc_slot.specs.declared.Goal.{Goal}
+use Rattle.mc_top.specs.Forms.{Declared, goal_named, if_kept, is_start, opens_codecs, opens_boxes, is_boxes, is_channels, is_commands, version_after, codec_after, device_after, channel_after, joined, joined_by, begin_after, set_after, set_at, set_by, set_of, settle_after, takes_command, with_command, is_codec, codec_of, are_codecs, codec_limit, command_limit, keyword_of, kind_after, words_after, line_after}
 use Rattle.mc_top.specs.Lines.{words}
 use Rattle.mc_top.specs.NameLists.{NameLists, is_new, place_of, slots_of, with_codec, with_box}
-use Rattle.mc_top.specs.Shapes.{HasNoBoxes, HasBoxes, HasChannel, HasNoCommands, HasCommands, FitsSection, IsInForm}
+use Rattle.mc_top.specs.Shapes.{HasNoBoxes, HasBoxes, HasChannel, HasNoCommands, HasCommands, IsNamedCommand, FitsSection, IsInForm}
 use Rattle.mc_top.specs.Spelling.{is_name}
+use Rattle.mc_top.specs.declared.script.Command.{Command}
 use Rattle.mc_top.specs.declared.script.Command.TheVariants.{Settle}
 use Rattle.mc_top.specs.declared.script.Keyword.{Keyword}
 use Rattle.mc_top.specs.declared.script.Keyword.TheVariants as keyword
@@ -222,7 +224,7 @@ begin_kept d end [] e form =
     let has = begin_has d.section d k.0 form in
     subst IsInForm k.1 (record {
       channel = same_channel d after refl refl refl has.channel;
-      commands = record { settles = rw has.commands (λ k e within. absurd (omega arith)); few = rw has.commands (omega arith) };
+      commands = record { named = rw has.commands (λ k e within. absurd (omega arith)); few = rw has.commands (omega arith) };
     })
 
 fits_commands : (s : Section) (d : Declared) → is_commands s ≡ true → HasCommands d → FitsSection s d
@@ -233,17 +235,50 @@ fits_commands section.Boxes d e has = absurd (cc)
 fits_commands section.Channels d e has = absurd (cc)
 fits_commands section.Commands d e has = has
 
+-- a command of a named slot, where one may come
+command_kept : (d : Declared) (command : Command) → takes_command d ≡ true → IsNamedCommand d.names command → IsInForm d → IsInForm (with_command d command)
+command_kept d command takes named form =
+    let after = with_command d command in
+    let has = commands_have d.section d (grind (arith, takes)) form in
+    let room : length d.commands < command_limit = grind (arith, takes) in
+    fits_commands d.section after (grind (arith, takes)) (record {
+      channel = same_channel d after refl refl refl has.channel;
+      commands = record { named = All-push (IsNamedCommand d.names) d.commands command has.commands.named named; few = omega (arith, length-append d.commands (command ∷ [])) };
+    })
+
+found_in : (names : List (List ℕ)) (word : List ℕ) (place : ℕ) → place_of names word ≡ Some place → place < length names
+found_in names word place found = grind (arith, common_steps)
+
+set_at_kept : (d end : Declared) (who : ℕ) (slot : List ℕ) (local : Option ℕ) (goal : Option Goal) → takes_command d ≡ true → who < length d.names.boxes
+    → place_of (slots_of d.names who) slot ≡ local → set_at d who local goal ≡ Some end → IsInForm d → IsInForm end
+set_at_kept d end who slot None goal takes box found e form = absurd (cc)
+set_at_kept d end who slot (Some local) None takes box found e form = absurd (cc)
+set_at_kept d end who slot (Some local) (Some goal) takes box found e form =
+    let is : with_command d (set_of who local goal) ≡ end = cc in
+    subst IsInForm is (command_kept d (set_of who local goal) takes (record { box = box; slot = found_in (slots_of d.names who) slot local found }) form)
+
+set_by_kept : (d end : Declared) (name : List ℕ) (who : Option ℕ) (slot : List ℕ) (goal : Option Goal) → takes_command d ≡ true
+    → place_of d.names.boxes name ≡ who → set_by d who slot goal ≡ Some end → IsInForm d → IsInForm end
+set_by_kept d end name None slot goal takes found e form = absurd (cc)
+set_by_kept d end name (Some who) slot goal takes found e form =
+    set_at_kept d end who slot (place_of (slots_of d.names who) slot) goal takes (found_in d.names.boxes name who found) refl e form
+
+set_kept-three : (d end : Declared) (name slot goal : List ℕ) (rules : Bool) → takes_command d ≡ rules → set_after d (name ∷ slot ∷ goal ∷ []) ≡ Some end → IsInForm d → IsInForm end
+set_kept-three d end name slot goal false kept e form = absurd (let none : None ≡ Some end = (rw kept at e) in cc)
+set_kept-three d end name slot goal true kept e form = set_by_kept d end name (place_of d.names.boxes name) slot (goal_named goal) kept refl (rw kept at e) form
+
+set_kept : (d end : Declared) (words : List (List ℕ)) → set_after d words ≡ Some end → IsInForm d → IsInForm end
+set_kept d end [] e form = absurd (cc)
+set_kept d end (a ∷ []) e form = absurd (cc)
+set_kept d end (a ∷ b ∷ []) e form = absurd (cc)
+set_kept d end (name ∷ slot ∷ goal ∷ []) e form = set_kept-three d end name slot goal (takes_command d) refl e form
+set_kept d end (a ∷ b ∷ c ∷ f ∷ more) e form = absurd (cc)
+
 settle_kept : (d end : Declared) (words : List (List ℕ)) → settle_after d words ≡ Some end → IsInForm d → IsInForm end
 settle_kept d end (a ∷ more) e form = absurd (cc)
 settle_kept d end [] e form =
-    let after = record d { commands = d.commands ++ Settle ∷ [] } in
-    let k = if_kept-some (is_commands d.section && nat_lt (length d.commands) command_limit) after end e in
-    let has = commands_have d.section d (grind (arith, k.0)) form in
-    let room : length d.commands < command_limit = grind (arith, k.0) in
-    subst IsInForm k.1 (fits_commands d.section after (grind (arith, k.0)) (record {
-      channel = same_channel d after refl refl refl has.channel;
-      commands = record { settles = All-push (λ command. command ≡ Settle) d.commands Settle has.commands.settles refl; few = omega (arith, length-append d.commands (Settle ∷ [])) };
-    }))
+    let k = if_kept-some (takes_command d) (with_command d Settle) end e in
+    subst IsInForm k.1 (command_kept d Settle k.0 tt form)
 
 kind_kept : (d end : Declared) (kind : Option Keyword) (others : List (List ℕ)) → kind_after d kind others ≡ Some end → IsInForm d → IsInForm end
 kind_kept d end None others e form = absurd (cc)
@@ -252,6 +287,7 @@ kind_kept d end (Some keyword.Codec) others e form = codec_kept d end others e f
 kind_kept d end (Some keyword.Dev) others e form = device_kept d end others e form
 kind_kept d end (Some keyword.Chan) others e form = channel_kept d end others e form
 kind_kept d end (Some keyword.Begin) others e form = begin_kept d end others e form
+kind_kept d end (Some keyword.Set) others e form = set_kept d end others e form
 kind_kept d end (Some keyword.Settle) others e form = settle_kept d end others e form
 
 words_kept : (d end : Declared) (words : List (List ℕ)) → words_after d words ≡ Some end → IsInForm d → IsInForm end

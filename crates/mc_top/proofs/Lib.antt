@@ -3,7 +3,7 @@ mod Cuts
 mod Ending
 mod FirstNets
 mod Kept
-mod Marks
+pub mod Running
 mod Pieces
 mod Places
 mod Saying
@@ -11,3 +11,4 @@ mod Spaced
 mod Steps
 mod Told
 mod Unfit
+mod Viewing

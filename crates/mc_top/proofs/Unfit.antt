@@ -1,7 +1,7 @@
 -- A line that has a word too few or too many declares nothing.
 use Rattle.std.proofs.Common.{◌≡◌, ◌≢◌, ℕ, List, [], ◌∷◌, length, drop, Some, None, refl}
 use Rattle.std.specs.List.{slice_get}
-use Rattle.mc_top.specs.Forms.{Declared, version_after, codec_after, channel_after, begin_after, settle_after}
+use Rattle.mc_top.specs.Forms.{Declared, version_after, codec_after, channel_after, begin_after, set_after, settle_after}
 
 pub version_after_unfit : (d : Declared) (words : List (List ℕ)) → length words ≢ 1 → version_after d words ≡ None
 version_after_unfit d [] unfit = refl
@@ -25,6 +25,13 @@ channel_after_unfit d (a ∷ b ∷ c ∷ e ∷ f ∷ g ∷ more) unfit = refl
 pub begin_after_unfit : (d : Declared) (words : List (List ℕ)) → length words ≢ 0 → begin_after d words ≡ None
 begin_after_unfit d [] unfit = absurd (unfit refl)
 begin_after_unfit d (a ∷ more) unfit = refl
+
+pub set_after_unfit : (d : Declared) (words : List (List ℕ)) → length words ≢ 3 → set_after d words ≡ None
+set_after_unfit d [] unfit = refl
+set_after_unfit d (a ∷ []) unfit = refl
+set_after_unfit d (a ∷ b ∷ []) unfit = refl
+set_after_unfit d (a ∷ b ∷ c ∷ []) unfit = absurd (unfit refl)
+set_after_unfit d (a ∷ b ∷ c ∷ e ∷ more) unfit = refl
 
 pub settle_after_unfit : (d : Declared) (words : List (List ℕ)) → length words ≢ 0 → settle_after d words ≡ None
 settle_after_unfit d [] unfit = absurd (unfit refl)
@@ -54,3 +61,11 @@ five_words all second third fourth fifth rest a b c e f one two three four last 
     let later = read_word fourth fifth e four.word four.rest in
     let end = read_word fifth rest f last.word last.rest in
     cc (first, next, middle, later, end)
+
+pub three_words : (all second third rest : List (List ℕ)) (a b c : List ℕ)
+    → IsRead all a second → IsRead second b third → IsRead third c rest → all ≡ a ∷ b ∷ c ∷ rest
+three_words all second third rest a b c one two three =
+    let first = read_word all second a one.word one.rest in
+    let next = read_word second third b two.word two.rest in
+    let last = read_word third rest c three.word three.rest in
+    cc (first, next, last)

@@ -4,12 +4,16 @@ use Rattle.std.specs.List.{list_all, list_any}
 use Rattle.std.specs.Option.{is_some, unwrap_or}
 use Rattle.std.specs.Str.{bytes_eq}
 use Rattle.mc_signal.specs.declared.Medium.TheVariants.{Audio}
+use Rattle.mc_slot.specs.declared.Goal.{Goal}
+use Rattle.mc_slot.specs.declared.Goal.TheVariants.{Open as ToOpen, Close as ToClose, Hold as ToHold}
 use Rattle.mc_world.specs.Worlds.{ChannelState}
+use Rattle.mc_world.specs.declared.event.Change.TheVariants.{End as NewEnd}
+use Rattle.mc_world.specs.declared.event.Event.TheVariants.{Set}
 use Rattle.mc_top.specs.Lines.{lines, words}
 use Rattle.mc_top.specs.NameLists.{NameLists, no_names, is_new, place_of, slots_of, with_codec, with_box, with_slot}
 use Rattle.mc_top.specs.Spelling.{is_name}
 use Rattle.mc_top.specs.declared.script.Command.{Command}
-use Rattle.mc_top.specs.declared.script.Command.TheVariants.{Settle}
+use Rattle.mc_top.specs.declared.script.Command.TheVariants.{Stimulus, Settle}
 use Rattle.mc_top.specs.declared.script.Keyword.{Keyword}
 use Rattle.mc_top.specs.declared.script.Keyword.TheVariants as keyword
 use Rattle.mc_top.specs.declared.script.Section.{Section}
@@ -138,9 +142,42 @@ abbrev pub begin_after : Declared → List (List ℕ) → Option Declared
 begin_after d [] = if_kept (is_channels d.section) (record d { section = section.Commands })
 begin_after d others = None
 
--- `settle`: one of at most 4,096 commands
+-- a command may come: one of at most 4,096
+abbrev pub takes_command : Declared → Bool
+takes_command d = is_commands d.section && nat_lt (length d.commands) command_limit
+
+abbrev pub with_command : Declared → Command → Declared
+with_command d command = record d { commands = d.commands ++ command ∷ [] }
+
+-- the goal that a word names
+abbrev pub goal_named : List ℕ → Option Goal
+goal_named word =
+    if bytes_eq word (codes "open") then Some ToOpen
+    else (if bytes_eq word (codes "close") then Some ToClose
+    else (if bytes_eq word (codes "hold") then Some ToHold
+    else None))
+
+-- the command that sets the goal of a box's slot
+abbrev pub set_of : ℕ → ℕ → Goal → Command
+set_of who local goal = Stimulus (record { who = who; event = Set (NewEnd local goal) })
+
+abbrev pub set_at : Declared → ℕ → Option ℕ → Option Goal → Option Declared
+set_at d who (Some local) (Some goal) = Some (with_command d (set_of who local goal))
+set_at d who local goal = None
+
+-- a declared box, the name of one of its slots, and a goal
+abbrev pub set_by : Declared → Option ℕ → List ℕ → Option Goal → Option Declared
+set_by d (Some who) slot goal = set_at d who (place_of (slots_of d.names who) slot) goal
+set_by d None slot goal = None
+
+-- `set BOX SLOT GOAL`: a declared box, one of its slots, and `open`, `close` or `hold`
+abbrev pub set_after : Declared → List (List ℕ) → Option Declared
+set_after d (who ∷ slot ∷ goal ∷ []) = if takes_command d then set_by d (place_of d.names.boxes who) slot (goal_named goal) else None
+set_after d others = None
+
+-- `settle`
 abbrev pub settle_after : Declared → List (List ℕ) → Option Declared
-settle_after d [] = if_kept (is_commands d.section && nat_lt (length d.commands) command_limit) (record d { commands = d.commands ++ Settle ∷ [] })
+settle_after d [] = if_kept (takes_command d) (with_command d Settle)
 settle_after d others = None
 
 -- ---- any line
@@ -153,8 +190,9 @@ keyword_of word =
     else (if bytes_eq word (codes "dev") then Some keyword.Dev
     else (if bytes_eq word (codes "chan") then Some keyword.Chan
     else (if bytes_eq word (codes "begin") then Some keyword.Begin
+    else (if bytes_eq word (codes "set") then Some keyword.Set
     else (if bytes_eq word (codes "settle") then Some keyword.Settle
-    else None)))))
+    else None))))))
 
 abbrev pub kind_after : Declared → Option Keyword → List (List ℕ) → Option Declared
 kind_after d (Some keyword.Media) others = version_after d others
@@ -162,6 +200,7 @@ kind_after d (Some keyword.Codec) others = codec_after d others
 kind_after d (Some keyword.Dev) others = device_after d others
 kind_after d (Some keyword.Chan) others = channel_after d others
 kind_after d (Some keyword.Begin) others = begin_after d others
+kind_after d (Some keyword.Set) others = set_after d others
 kind_after d (Some keyword.Settle) others = settle_after d others
 kind_after d None others = None
 

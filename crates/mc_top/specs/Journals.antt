@@ -1,8 +1,9 @@
 -- A journal: the turns of every settle, in order, each settle with its mark behind it.
 use Rattle.std.specs.Prelude.{◌≡◌, List, [], ◌∷◌, ◌++◌, map}
+use Rattle.std.specs.List.{All}
 use Rattle.std.specs.Option.{unwrap_or}
 use Rattle.mc_world.specs.PathTable.{PathHolds}
-use Rattle.mc_world.specs.Paths.{PathEnds, paths}
+use Rattle.mc_world.specs.Paths.{paths}
 use Rattle.mc_world.specs.Settles.{IsSettled}
 use Rattle.mc_world.specs.Steps.{step}
 use Rattle.mc_world.specs.Worlds.{WorldState}
@@ -25,12 +26,8 @@ IsJournal world (batch ∷ batches) journal =
 abbrev pub replayed : WorldState → Turn → WorldState
 replayed world turn = unwrap_or (step world turn) world
 
-abbrev pub AllHold : WorldState → List PathEnds → Type 0
-AllHold world [] = Unit {0}
-AllHold world (path ∷ others) = PathHolds world path × AllHold world others
-
 -- at each settle the two end slots of every path are in the path's state, and where it flows they have each other's newest descriptor and the choice for it
 abbrev pub HoldsAtSettles : WorldState → List JournalLine → Type 0
 HoldsAtSettles world [] = Unit {0}
 HoldsAtSettles world (Made turn ∷ journal) = HoldsAtSettles (replayed world turn) journal
-HoldsAtSettles world (Settled ∷ journal) = AllHold world (paths world) × HoldsAtSettles world journal
+HoldsAtSettles world (Settled ∷ journal) = All (PathHolds world) (paths world) × HoldsAtSettles world journal

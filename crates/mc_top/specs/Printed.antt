@@ -1,8 +1,9 @@
 -- What is printed at the settles of a journal.
 use Rattle.std.specs.Prelude.{◌≡◌, ℕ, ◌+◌, ◌<◌, length, List, [], ◌∷◌, ◌++◌, codes, slice_index_or, Option, Some, None}
 use Rattle.std.specs.Fmt.{decimal}
-use Rattle.std.specs.List.{flat_map, join_with_byte}
+use Rattle.std.specs.List.{All, flat_map, join_with_byte}
 use Rattle.std.specs.Option.{option_and_then}
+use Rattle.mc_signal.specs.Choice.{codecs_of}
 use Rattle.mc_signal.specs.declared.Selector.{Selector}
 use Rattle.mc_signal.specs.declared.Medium.{Medium}
 use Rattle.mc_signal.specs.declared.Medium.TheVariants.{Audio, Video}
@@ -12,7 +13,7 @@ use Rattle.mc_slot.specs.declared.State.{State}
 use Rattle.mc_slot.specs.declared.State.TheVariants.{Flowing}
 use Rattle.mc_world.specs.PathTable.{path_state, low_hears, high_hears}
 use Rattle.mc_world.specs.Paths.{PathEnds, paths, end_goal}
-use Rattle.mc_world.specs.Worlds.{WorldState, joint_of, place, slot_count}
+use Rattle.mc_world.specs.Worlds.{WorldState, box_at, joint_of, place}
 use Rattle.mc_top.specs.Journals.{replayed}
 use Rattle.mc_top.specs.NameLists.{NameLists, slots_of}
 use Rattle.mc_top.specs.declared.script.JournalLine.{JournalLine}
@@ -97,15 +98,8 @@ printed names number world (Settled ∷ journal) = settle_text names number worl
 
 -- ---- what can be printed
 
--- a slot, its box, and the slot within the box have names
-pub record HasName (names : NameLists) (world : WorldState) (s : ℕ) : Type 0 where
-  pub within : s < slot_count world
-  pub box : (place world s).0 < length names.boxes
-  pub slot : (place world s).1 < length (slots_of names (place world s).0)
-
--- the ends of a path have names, and where it flows the codecs that are heard have names
-pub record HasNames (names : NameLists) (world : WorldState) (path : PathEnds) : Type 0 where
-  pub low : HasName names world path.low
-  pub high : HasName names world path.high
-  pub low_codec : path_state world path ≡ Flowing → IsNamed names (low_hears world path)
-  pub high_codec : path_state world path ≡ Flowing → IsNamed names (high_hears world path)
+-- all of a world has names: its boxes, their slots, and the codecs that they receive
+pub record NamesAll (names : NameLists) (world : WorldState) : Type 0 where
+  pub boxes : length names.boxes ≡ length world.boxes
+  pub slots : (who : ℕ) → who < length world.boxes → length (slots_of names who) ≡ length (box_at world who).slots
+  pub codecs : (who : ℕ) → All (λ codec. codec < length names.codecs) (codecs_of (box_at world who).receives)

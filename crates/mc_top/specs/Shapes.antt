@@ -2,11 +2,14 @@
 use Rattle.std.specs.Prelude.{ℕ, ◌≡◌, ◌≢◌, ◌<◌, ◌≤◌, List, [], ◌∷◌, length, IsTrue}
 use Rattle.std.specs.List.{All}
 use Rattle.mc_world.specs.TwoPhones.{audio_channel}
+use Rattle.mc_world.specs.declared.event.Change.TheVariants.{End as NewEnd}
+use Rattle.mc_world.specs.declared.event.Event.{Event}
+use Rattle.mc_world.specs.declared.event.Event.TheVariants.{Set}
 use Rattle.mc_top.specs.Forms.{Declared, command_limit}
-use Rattle.mc_top.specs.NameLists.{slots_of}
+use Rattle.mc_top.specs.NameLists.{NameLists, slots_of}
 use Rattle.mc_top.specs.Spelling.{is_name}
 use Rattle.mc_top.specs.declared.script.Command.{Command}
-use Rattle.mc_top.specs.declared.script.Command.TheVariants.{Settle}
+use Rattle.mc_top.specs.declared.script.Command.TheVariants.{Stimulus, Settle}
 use Rattle.mc_top.specs.declared.script.Section.{Section}
 use Rattle.mc_top.specs.declared.script.Section.TheVariants as section
 
@@ -41,15 +44,28 @@ pub record HasChannel (d : Declared) : Type 0 where
   pub lists : length d.lists ≡ 2
   pub known : All (All (λ codec. codec < length d.names.codecs)) d.lists
 
--- every command is a settle, and they are not too many
-pub record AreSettles (commands : List Command) : Type 0 where
-  pub settles : All (λ command. command ≡ Settle) commands
+-- a box that has a name sets the goal of a slot that has one
+pub record IsNamedAt (names : NameLists) (who local : ℕ) : Type 0 where
+  pub box : who < length names.boxes
+  pub slot : local < length (slots_of names who)
+
+abbrev pub IsNamedSet : NameLists → ℕ → Event → Type 0
+IsNamedSet names who (Set (NewEnd local goal)) = IsNamedAt names who local
+IsNamedSet names who event = ⊥
+
+abbrev pub IsNamedCommand : NameLists → Command → Type 0
+IsNamedCommand names (Stimulus turn) = IsNamedSet names turn.who turn.event
+IsNamedCommand names Settle = Unit {0}
+
+-- every command is a settle or sets a goal of a named slot, and they are not too many
+pub record AreCommands (names : NameLists) (commands : List Command) : Type 0 where
+  pub named : All (IsNamedCommand names) commands
   pub few : length commands ≤ command_limit
 
--- a channel that can be settled
+-- a channel, and commands for its slots
 pub record HasCommands (d : Declared) : Type 0 where
   pub channel : HasChannel d
-  pub commands : AreSettles d.commands
+  pub commands : AreCommands d.names d.commands
 
 pub record HasNoCommands (d : Declared) : Type 0 where
   pub channel : HasChannel d

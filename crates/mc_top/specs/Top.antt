@@ -30,7 +30,7 @@ pub record ReadsWhole (old new : Option (List ℕ)) (text : List ℕ) : Type 0 w
   pub within : length text ≤ 1048577
   pub at_end : length text ≤ text_limit → IsAtEnd new
 
--- The headline. The journal is one settled segment for each settle, in order, all of them one run from the network's first world; at each settle every path's two end slots are as the path table says
+-- The journal is one settled segment for each settle, in order, all of them one run from the network's first world: the interleaving of the boxes. At each settle the two end slots of every path are in the state that the path table gives, and where it flows each has the other's newest descriptor and the choice for its own
 pub record Settles (net : NetState) (journal : List JournalLine) : Type 0 where
   pub settled : IsJournal net.world (batches net.commands) journal
   pub holds : HoldsAtSettles net.world journal
@@ -43,7 +43,9 @@ ToldDeclares told net = IfSome told (λ text. Declares text net)
 abbrev pub ToldRefused : Option (List ℕ) → Type 0
 ToldRefused told = IfSome told (λ text. (d : Declared) → ¬ Says text d)
 
--- a mode did its work: it settled the network that the text declares, and delivered what it prints for the journal
+-- A mode did its work: it settled the network that the text declares, and delivered what it prints for the worlds that replaying the journal gives.
+--
+-- The headline, for every network, script and interleaving of the boxes: each path line that is printed after a settle is the table's answer for its two end goals, closed where an end closes, flowing where one opens and none closes, either of the two for hold against hold; and a flowing line's media are those of the two ends' newest descriptors
 pub record Worked (mode : Mode) (told old new : Option (List ℕ)) (status : ℕ) (journal : List JournalLine) : Type 0 where
   pub net : NetState
   pub declared : ToldDeclares told net

@@ -57,6 +57,16 @@ impl Names {
         self.boxes.find(name).map(|number| number as u32)
     }
 
+    /// The number of a slot of a box.
+    pub fn find_slot(&self, who: u32, name: &[u8]) -> Option<u8>
+        requires { who < length self.now.boxes }
+        ensures place { result ≡ place_of (slots_of self.now who) name.now }
+        ensures within { IfSome result (λ slot. slot < length (slots_of self.now who)) }
+    {
+        let slots = &self.slots[who as usize];
+        slots.find(name).map(|number| number as u8)
+    }
+
     /// Whether this is a name, and of no codec yet.
     pub fn is_new_codec(&self, name: &[u8]) -> bool
         ensures { result ≡ is_new self.now.codecs name.now }

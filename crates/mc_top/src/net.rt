@@ -1,11 +1,11 @@
 // The network that a text declares.
 ghost use Rattle.std.specs.Prelude.{◌≡◌, ◌<◌, IfOk, IsErrOf, length};
 ghost use Rattle.mc_world.specs.Setups.{world_of_devices};
-ghost use Rattle.mc_world.specs.TwoPhones.{IsIdle, JoinsTwo, the_path};
+ghost use Rattle.mc_world.specs.TwoPhones.{JoinsTwo};
 ghost use Rattle.mc_top.specs.Forms.{Declared, Says};
 ghost use Rattle.mc_top.specs.Nets.{Declares, net_of, initiator, one_device, two_devices};
-ghost use Rattle.mc_top.specs.Printed.{HasNames};
-ghost use Rattle.mc_top.specs.Shapes.{AreSettles, HasCommands};
+ghost use Rattle.mc_top.specs.Printed.{NamesAll};
+ghost use Rattle.mc_top.specs.Shapes.{AreCommands, HasCommands};
 
 use crate::names::Names;
 use crate::reader::{Parts, Reader, TextFault};
@@ -94,9 +94,8 @@ fn first_world(
 /// Reads a text, and makes the network that it declares.
 pub fn make_net(alloc: Global, text: &[u8]) -> Result<Net, TextFault>
     ensures declares { IfOk result (λ net. Declares text.now (net_of net)) }
-    ensures idle { IfOk result (λ net. IsIdle net.world) }
-    ensures named { IfOk result (λ net. HasNames net.names net.world the_path) }
-    ensures settles { IfOk result (λ net. AreSettles net.commands.items) }
+    ensures named { IfOk result (λ net. NamesAll net.names net.world) }
+    ensures commands { IfOk result (λ net. AreCommands net.names net.commands.items) }
     ensures form { IsErrOf result TextFault.Form → (d : Declared) → ¬ Says text.now d }
 {
     let Parts {

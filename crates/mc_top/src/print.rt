@@ -1,20 +1,12 @@
 // What is printed at a settle.
-ghost use Rattle.std.specs.Prelude.{◌≡◌, ◌<◌, ◌++◌, [], ◌∷◌, codes, length, map, IfOk, OnOk, Some, None, slice_index_or};
-ghost use Rattle.std.specs.Fmt.{decimal};
-ghost use Rattle.mc_top.specs.Printed.{selected};
-ghost use Rattle.mc_slot.specs.declared.State.TheVariants.{Flowing};
-ghost use Rattle.mc_world.specs.PathTable.{PathHolds, path_state};
-ghost use Rattle.mc_world.specs.Paths.{end_goal};
-ghost use Rattle.mc_world.specs.Sound.{IsNumbered};
-ghost use Rattle.mc_world.specs.TwoPhones.{IsIdle, the_path};
-ghost use Rattle.mc_world.specs.Worlds.{slot_count};
-ghost use Rattle.mc_top.specs.Printed.{line_of, goal_word, state_word, medium_word, codec_word, place_word, slot_word, path_line, hears_lines, path_text, settle_text, IsNamed, HasName, HasNames};
-ghost use Rattle.mc_top.specs.NameLists.{slots_of};
+ghost use Rattle.std.specs.Prelude.{◌≡◌, ◌++◌, [], ◌∷◌, codes, map, take, All, IfOk, OnOk};
+ghost use Rattle.mc_top.specs.Printed.{line_of, goal_word, medium_word, codec_word, IsNamed};
+ghost use Rattle.mc_top.specs.Shown.{end_word, flow_word, hearing_line, view_line, view_text, views_text, IsNamedEnd, IsNamedView};
 
 use crate::names::Names;
-use mc_signal::{Medium, Selector};
-use mc_slot::{Goal, SlotGoal, State};
-use mc_world::World;
+use mc_signal::Medium;
+use mc_slot::Goal;
+use mc_view::{EndView, PathView};
 use std::alloc::{AllocError, Global};
 
 // Appends words with single spaces between them, and a line end.
@@ -40,13 +32,10 @@ fn goal_word(goal: Goal) -> &'static [u8]
     }
 }
 
-fn state_word(state: State) -> &'static [u8]
-    ensures { result.now ≡ state_word state }
+fn flow_word(flowing: bool) -> &'static [u8]
+    ensures { result.now ≡ flow_word flowing }
 {
-    match state {
-        State::Flowing => b"flowing",
-        _ => b"closed",
-    }
+    if flowing { b"flowing" } else { b"closed" }
 }
 
 fn medium_word(medium: Medium) -> &'static [u8]
@@ -69,136 +58,88 @@ fn codec_word<'a>(names: &'a Names, codec: Option<u8>) -> &'a [u8]
     }
 }
 
-// The word `box/slot` for a slot.
-fn place_word(alloc: Global, names: &Names, who: u32, local: u8) -> Result<Vec<u8>, AllocError>
-    requires who { who < length names.now.boxes }
-    requires local { local < length (slots_of names.now who) }
-    ensures { IfOk result (λ word. word.items ≡ place_word names.now (who, local)) }
+// The word `box/slot` for an end.
+fn end_word(alloc: Global, names: &Names, end: &EndView) -> Result<Vec<u8>, AllocError>
+    requires { IsNamedEnd names.now end.now }
+    ensures { IfOk result (λ word. word.items ≡ end_word names.now end.now) }
 {
-    let mut word = Vec::from_slice(alloc, names.box_name(who))?;
+    let mut word = Vec::from_slice(alloc, names.box_name(end.who))?;
     word.push(b'/')?;
-    word.extend_from_slice(names.slot_name(who, local))?;
+    word.extend_from_slice(names.slot_name(end.who, end.local))?;
     Ok(word)
 }
 
-// The word `box/slot` for a slot, by its number.
-fn slot_word(alloc: Global, names: &Names, world: &World, slot: u32) -> Result<Vec<u8>, AllocError>
-    requires { HasName names.now world.now slot }
-    ensures { IfOk result (λ word. word.items ≡ slot_word names.now world.now slot) }
-{
-    let (who, local) = world.place(slot);
-    place_word(alloc, names, who, local)
-}
-
-// The goal of an end slot.
-fn end_goal(world: &World, slot: u32) -> Goal
-    requires numbered { IsNumbered world.now }
-    requires slot { slot < slot_count world.now }
-    ensures { result ≡ end_goal world.now slot }
-{
-    match world.goal(slot) {
-        SlotGoal::End(goal) => goal,
-        SlotGoal::Link(_) => Goal::Close,
-    }
-}
-
-// Appends what an end hears, by the selector that it got.
-fn put_hears(
-    names: &Names,
-    slot: &[u8],
-    selector: Option<Selector>,
-    out: &mut Vec<u8>,
-) -> Result<(), AllocError>
-    requires { IsNamed names.now (selected selector) }
-    ensures { OnOk result (out.new.items ≡ out.old.items ++ line_of (codes "hears" ∷ slot.now ∷ codec_word names.now (selected selector) ∷ [])) }
-{
-    let codec = selector.and_then(|selector| selector.codec);
-    put_line(b"hears", &[slot, codec_word(names, codec)], out)
-}
-
 // Appends the line of a path: its two ends, their goals, its state and its medium.
-fn put_path_line(
+fn put_path(
     alloc: Global,
     names: &Names,
-    world: &World,
-    low: u32,
-    high: u32,
+    view: &PathView,
     out: &mut Vec<u8>,
 ) -> Result<(), AllocError>
-    requires numbered { IsNumbered world.now }
-    requires named { HasNames names.now world.now (record { low = low; high = high }) }
-    requires holds { PathHolds world.now (record { low = low; high = high }) }
-    ensures { OnOk result (out.new.items ≡ out.old.items ++ path_line names.now world.now (record { low = low; high = high })) }
+    requires { IsNamedView names.now view.now }
+    ensures { OnOk result (out.new.items ≡ out.old.items ++ view_line names.now view.now) }
 {
-    let low_word = slot_word(alloc, names, world, low)?;
-    let high_word = slot_word(alloc, names, world, high)?;
-    let slot = world.slot(low);
+    let low = end_word(alloc, names, &view.low)?;
+    let high = end_word(alloc, names, &view.high)?;
     let words = [
-        low_word.as_slice(),
-        high_word.as_slice(),
-        goal_word(end_goal(world, low)),
-        goal_word(end_goal(world, high)),
-        state_word(slot.state),
-        medium_word(slot.medium),
+        low.as_slice(),
+        high.as_slice(),
+        goal_word(view.low.goal),
+        goal_word(view.high.goal),
+        flow_word(view.flowing),
+        medium_word(view.medium),
     ];
     put_line(b"path", &words, out)
 }
 
-// Appends who hears what on a flowing path.
-fn put_hears_lines(
+// Appends what an end hears.
+fn put_hears(
     alloc: Global,
     names: &Names,
-    world: &World,
-    low: u32,
-    high: u32,
+    end: &EndView,
     out: &mut Vec<u8>,
 ) -> Result<(), AllocError>
-    requires numbered { IsNumbered world.now }
-    requires named { HasNames names.now world.now (record { low = low; high = high }) }
-    requires holds { PathHolds world.now (record { low = low; high = high }) }
-    requires flowing { path_state world.now (record { low = low; high = high }) ≡ Flowing }
-    ensures { OnOk result (out.new.items ≡ out.old.items ++ hears_lines Flowing names.now world.now (record { low = low; high = high })) }
+    requires { IsNamedEnd names.now end.now }
+    ensures { OnOk result (out.new.items ≡ out.old.items ++ hearing_line names.now end.now) }
 {
-    let low_word = slot_word(alloc, names, world, low)?;
-    put_hears(names, &low_word, world.slot(low).sel_in, out)?;
-    let high_word = slot_word(alloc, names, world, high)?;
-    put_hears(names, &high_word, world.slot(high).sel_in, out)
+    let word = end_word(alloc, names, end)?;
+    put_line(b"hears", &[&word, codec_word(names, end.hears)], out)
 }
 
-// Appends the lines of a path, by its two end slots.
-fn print_path(
+// Appends the lines of a path: its own, and where it flows who hears what.
+fn put_view(
     alloc: Global,
     names: &Names,
-    world: &World,
-    low: u32,
-    high: u32,
+    view: &PathView,
     out: &mut Vec<u8>,
 ) -> Result<(), AllocError>
-    requires numbered { IsNumbered world.now }
-    requires named { HasNames names.now world.now (record { low = low; high = high }) }
-    requires holds { PathHolds world.now (record { low = low; high = high }) }
-    ensures { OnOk result (out.new.items ≡ out.old.items ++ path_text names.now world.now (record { low = low; high = high })) }
+    requires { IsNamedView names.now view.now }
+    ensures { OnOk result (out.new.items ≡ out.old.items ++ view_text names.now view.now) }
 {
-    put_path_line(alloc, names, world, low, high, out)?;
-    match world.slot(low).state {
-        State::Flowing => put_hears_lines(alloc, names, world, low, high, out),
-        _ => Ok(()),
+    put_path(alloc, names, view, out)?;
+    if !view.flowing {
+        return Ok(());
     }
+    put_hears(alloc, names, &view.low, out)?;
+    put_hears(alloc, names, &view.high, out)
 }
 
-/// Appends the lines of a settle: its number, and the one path of a world of two phones.
+/// Appends the lines of a settle: its number, and each path that is shown, in their order. Boxes, slots and heard
+/// codecs have names.
 pub fn print_settle(
     alloc: Global,
     names: &Names,
     number: u32,
-    world: &World,
+    views: &[PathView],
     out: &mut Vec<u8>,
 ) -> Result<(), AllocError>
-    requires idle { IsIdle world.now }
-    requires named { HasNames names.now world.now the_path }
-    ensures { OnOk result (out.new.items ≡ out.old.items ++ settle_text names.now number world.now) }
+    requires { All (IsNamedView names.now) views.now }
+    ensures { OnOk result (out.new.items ≡ out.old.items ++ views_text names.now number views.now) }
 {
     let word = format!(in alloc; "{number}")?;
     put_line(b"settle", &[word.as_bytes()], out)?;
-    print_path(alloc, names, world, 0, 1, out)
+    for view in views {
+        put_view(alloc, names, view, out)?;
+    }
+    Ok(())
 }

@@ -1,22 +1,23 @@
 // The lines of a text, one after the other, and what they declare.
 
 ghost use Rattle.std.specs.Prelude.{◌≡◌, ◌≢◌, ◌∷◌, [], ◌&&◌, IsTrue, IsFalse, nat_lt, length, Some, None, IfOk, OnOk, IsErrOf, map, IfSome, IfNone, alloc_error};
-ghost use Rattle.mc_top.specs.Forms.{nothing, opens_codecs, opens_boxes, codec_limit, version_after, codec_after, device_after, joined, channel_after, begin_after, settle_after, words_after, line_after, is_commands};
+ghost use Rattle.mc_top.specs.Forms.{nothing, opens_codecs, opens_boxes, codec_limit, version_after, codec_after, device_after, joined, channel_after, begin_after, set_after, settle_after, set_of, takes_command, with_command, words_after, line_after, is_commands};
 ghost use Rattle.mc_signal.specs.Choice.{codecs_of};
 ghost use Rattle.mc_top.specs.Lines.{lines};
 ghost use Rattle.mc_top.specs.NameLists.{is_new};
 ghost use Rattle.mc_top.specs.Readings.{Reads, reading};
 ghost use Rattle.mc_world.specs.TwoPhones.{audio_channel};
-ghost use Rattle.mc_top.specs.Shapes.{IsInForm, CanJoin};
+ghost use Rattle.mc_top.specs.Shapes.{IsInForm, IsNamedAt, CanJoin};
 ghost use Rattle.mc_top.specs.declared.reader.TextFault.TheVariants.{NoMemory};
 
 use crate::codec_words::listed;
 use crate::lines::{Words, next_line};
 use crate::names::Names;
-use crate::script::{Command, Keyword, Section, keyword_of};
+use crate::script::{Command, Keyword, Section, goal_named, keyword_of};
 use crate::spelling::is_name;
 use mc_signal::{CodecList, Medium};
-use mc_world::{Channel, Tunnel};
+use mc_slot::Goal;
+use mc_world::{Change, Channel, Event, Tunnel, Turn};
 use std::alloc::{AllocError, AllocFailed, Global};
 use std::marker::Model;
 
@@ -54,6 +55,14 @@ struct ChannelEnds<'a> {
     slot: &'a [u8],
     to: u32,
     far_slot: &'a [u8],
+}
+
+/// A new goal for a slot, by its box and its local number there.
+#[derive(Drop)]
+struct NewGoal {
+    who: u32,
+    local: u8,
+    goal: Goal,
 }
 
 /// What the lines of a text so far have declared.
@@ -208,11 +217,46 @@ impl Reader {
         Ok(())
     }
 
+    /// Whether a command may come next.
+    fn takes_command(&self) -> bool
+        ensures { result ≡ takes_command self.now }
+    {
+        self.section.is_commands() && self.commands.len() < COMMAND_LIMIT
+    }
+
+    /// The goal that a `set` line sets, and the slot whose goal it is.
+    #[tactic(auto, using(crate::proofs::Unfit::set_after_unfit))]
+    fn new_goal<'a>(&self, words: Words<'a>) -> Option<NewGoal>
+        ensures none { IfNone result (set_after self.now words.entry ≡ None) }
+        ensures set { IfSome result (λ it. set_after self.now words.entry ≡ Some (with_command self.now (set_of it.who it.local it.goal))) }
+        ensures named { IfSome result (λ it. IsNamedAt self.now.names it.who it.local) }
+    {
+        let words = set_words(words)?;
+        if !self.takes_command() {
+            return None;
+        }
+        let who = self.names.find_box(words.who)?;
+        let local = self.names.find_slot(who, words.slot)?;
+        let goal = goal_named(words.goal)?;
+        Some(NewGoal { who, local, goal })
+    }
+
+    fn read_set<'a>(&mut self, words: Words<'a>) -> Result<(), TextFault>
+        ensures { Reads result self.new (set_after self.old words.entry) }
+    {
+        let Some(NewGoal { who, local, goal }) = self.new_goal(words) else {
+            return Err(TextFault::Form);
+        };
+        let event = Event::Set(Change::End(local, goal));
+        self.commands.push(Command::Stimulus(Turn { who, event }))?;
+        Ok(())
+    }
+
     #[tactic(auto, using(crate::proofs::Unfit::settle_after_unfit))]
     fn read_settle<'a>(&mut self, words: Words<'a>) -> Result<(), TextFault>
         ensures { Reads result self.new (settle_after self.old words.entry) }
     {
-        if !is_empty(words) || !self.section.is_commands() || COMMAND_LIMIT <= self.commands.len() {
+        if !is_empty(words) || !self.takes_command() {
             return Err(TextFault::Form);
         }
         self.commands.push(Command::Settle)?;
@@ -233,6 +277,7 @@ impl Reader {
             Some(Keyword::Dev) => self.read_device(words),
             Some(Keyword::Chan) => self.read_channel(words),
             Some(Keyword::Begin) => self.read_begin(words),
+            Some(Keyword::Set) => self.read_set(words),
             Some(Keyword::Settle) => self.read_settle(words),
             None => Err(TextFault::Form),
         }
@@ -334,6 +379,30 @@ fn channel_words<'a>(mut words: Words<'a>) -> Option<ChannelWords<'a>>
     };
     match words.next_word() {
         None => Some(five),
+        Some(_) => None,
+    }
+}
+
+/// The words of a `set` line behind the first.
+#[derive(Drop)]
+struct SetWords<'a> {
+    who: &'a [u8],
+    slot: &'a [u8],
+    goal: &'a [u8],
+}
+
+/// The three words of these, if they are three.
+fn set_words<'a>(mut words: Words<'a>) -> Option<SetWords<'a>>
+    ensures some { IfSome result (λ it. words.entry ≡ it.who.now ∷ it.slot.now ∷ it.goal.now ∷ []) }
+    ensures none { IfNone result (length words.entry ≢ 3) }
+{
+    let three = SetWords {
+        who: words.next_word()?,
+        slot: words.next_word()?,
+        goal: words.next_word()?,
+    };
+    match words.next_word() {
+        None => Some(three),
         Some(_) => None,
     }
 }

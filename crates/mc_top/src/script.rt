@@ -1,8 +1,9 @@
 // The lines of a text, by their first words, and the commands among them.
 
 ghost use Rattle.std.specs.Prelude.{◌≡◌};
-ghost use Rattle.mc_top.specs.Forms.{keyword_of, is_start, opens_codecs, opens_boxes, is_boxes, is_channels, is_commands};
+ghost use Rattle.mc_top.specs.Forms.{keyword_of, goal_named, is_start, opens_codecs, opens_boxes, is_boxes, is_channels, is_commands};
 
+use mc_slot::Goal;
 use mc_world::Turn;
 
 /// The word that opens a line.
@@ -13,6 +14,7 @@ pub enum Keyword {
     Dev,
     Chan,
     Begin,
+    Set,
     Settle,
 }
 
@@ -30,8 +32,25 @@ pub fn keyword_of(word: &[u8]) -> Option<Keyword>
         Some(Keyword::Chan)
     } else if word == b"begin".as_slice() {
         Some(Keyword::Begin)
+    } else if word == b"set".as_slice() {
+        Some(Keyword::Set)
     } else if word == b"settle".as_slice() {
         Some(Keyword::Settle)
+    } else {
+        None
+    }
+}
+
+/// The goal that a word names.
+pub fn goal_named(word: &[u8]) -> Option<Goal>
+    ensures { result ≡ goal_named word.now }
+{
+    if word == b"open".as_slice() {
+        Some(Goal::Open)
+    } else if word == b"close".as_slice() {
+        Some(Goal::Close)
+    } else if word == b"hold".as_slice() {
+        Some(Goal::Hold)
     } else {
         None
     }

@@ -2,11 +2,8 @@
 ghost use Rattle.std.specs.Prelude.{◌<◌};
 
 use crate::io::{MemSink, MemSource, OpenGate};
-use crate::net::make_net;
 use crate::text::TEXT_LIMIT;
 use crate::{Done, media_top};
-use mc_slot::{Goal, State};
-use mc_world::{Change, Event};
 use std::alloc::{AllocError, Global};
 use std::test::Fail;
 use std::thread::Threads;
@@ -15,6 +12,13 @@ const ROOM: usize = 1048576;
 
 const PHONES: &str =
     "media 1\ncodec g711\ncodec g729\ndev alice g711 g729\ndev bob g729\nchan audio alice a bob a\nbegin\n";
+
+// As above, but that alice has one codec alone, which bob has not.
+const ONE_CODEC: &str =
+    "media 1\ncodec g711\ncodec g729\ndev alice g711\ndev bob g729\nchan audio alice a bob a\nbegin\n";
+
+const FLOWING: &str =
+    "settle 1\npath alice/a bob/a open hold flowing audio\nhears alice/a g729\nhears bob/a g729\n";
 
 const CLOSED: &str = "settle 1\npath alice/a bob/a close close closed audio\n";
 
@@ -45,56 +49,123 @@ fn run<R: Threads + Sync>(
     Ok((done, written))
 }
 
+// A call with the word `run` on a text in two parts, read and written in small pieces.
+fn run_text<R: Threads + Sync>(
+    rt: &R,
+    alloc: Global,
+    network: &str,
+    script: &str,
+) -> Result<(Done, Vec<u8>), AllocError> {
+    let mut bytes = Vec::from_slice(alloc, network.as_bytes())?;
+    bytes.extend_from_slice(script.as_bytes())?;
+    let mut source = MemSource::new(bytes, 64, Vec::new(alloc));
+    run(rt, alloc, &mut source, 10, Vec::new(alloc))
+}
+
 #[test]
-fn texts_and_what_they_print(rt: HostRuntime) -> Result<(), Fail> {
+fn texts_of_the_form(rt: HostRuntime) -> Result<(), Fail> {
     let alloc = rt.alloc();
-    let table: [(&str, &str, &str, u8); 14] = [
-        (PHONES, "", "", 0),
-        (PHONES, "settle\n", CLOSED, 0),
-        (PHONES, "settle", CLOSED, 0),
-        (
-            PHONES,
-            "settle\nsettle\n",
-            "settle 1\npath alice/a bob/a close close closed audio\nsettle 2\npath alice/a bob/a close close closed audio\n",
-            0,
-        ),
+    let table = [
+        (PHONES, "", ""),
+        (PHONES, "set alice a open\n", ""),
+        (PHONES, "settle\n", CLOSED),
+        (PHONES, "settle", CLOSED),
         (
             "media 1\ndev b\ndev a\nchan audio a x b y\nbegin\n",
             "settle\n",
             "settle 1\npath a/x b/y close close closed audio\n",
-            0,
         ),
-        ("", "", FAULT, 1),
-        (PHONES, "settle now\n", FAULT, 1),
-        (PHONES, "\nsettle\n", FAULT, 1),
-        ("media  1\n", "", FAULT, 1),
-        ("media 1\ncodec g711\ncodec g711\n", "", FAULT, 1),
-        ("media 1\ncodec g711\ndev a g711 g711\n", "", FAULT, 1),
+    ];
+    for (network, script, printed) in table {
+        let (done, written) = run_text(&rt, alloc, network, script)?;
+        assert_eq!(rt; done.status, 0, "at {network}{script}");
+        assert_eq!(rt;
+            written.as_slice(),
+            printed.as_bytes(),
+            "at {network}{script}"
+        );
+    }
+    Ok(())
+}
+
+#[test]
+fn texts_that_are_refused(rt: HostRuntime) -> Result<(), Fail> {
+    let alloc = rt.alloc();
+    let table = [
+        ("", ""),
+        (PHONES, "settle now\n"),
+        (PHONES, "\nsettle\n"),
+        (PHONES, "set alice a\n"),
+        (PHONES, "set alice a open now\n"),
+        (PHONES, "set carol a open\n"),
+        (PHONES, "set alice b open\n"),
+        (PHONES, "set alice a opens\n"),
+        (PHONES, "set  alice a open\n"),
+        ("media 1\nset a x open\n", ""),
+        ("media  1\n", ""),
+        ("media 1\ncodec g711\ncodec g711\n", ""),
+        ("media 1\ncodec g711\ndev a g711 g711\n", ""),
         (
             "media 1\ndev a\ndev b\ndev c\nchan audio a x b y\nbegin\n",
             "settle\n",
-            FAULT,
-            1,
         ),
         (
             "media 1\ndev a\ndev b\nchan audio a x a y\nbegin\n",
             "settle\n",
-            FAULT,
-            1,
+        ),
+        ("media 1\ndev a\ndev b\nchan audio a x b y\n", "settle\n"),
+    ];
+    for (network, script) in table {
+        let (done, written) = run_text(&rt, alloc, network, script)?;
+        assert_eq!(rt; done.status, 1, "at {network}{script}");
+        assert_eq!(rt;
+            written.as_slice(),
+            FAULT.as_bytes(),
+            "at {network}{script}"
+        );
+    }
+    Ok(())
+}
+
+#[test]
+fn calls_and_what_they_print(rt: HostRuntime) -> Result<(), Fail> {
+    let alloc = rt.alloc();
+    let table = [
+        (
+            PHONES,
+            "set alice a open\nset bob a hold\nsettle\n",
+            FLOWING,
+        ),
+        (PHONES, "set alice a open\nset bob a hold\nsettle", FLOWING),
+        (
+            ONE_CODEC,
+            "set alice a open\nset bob a open\nsettle\n",
+            "settle 1\npath alice/a bob/a open open flowing audio\nhears alice/a none\nhears bob/a none\n",
         ),
         (
-            "media 1\ndev a\ndev b\nchan audio a x b y\n",
-            "settle\n",
-            FAULT,
-            1,
+            PHONES,
+            "set alice a open\nsettle\n",
+            "settle 1\npath alice/a bob/a open close closed audio\n",
+        ),
+        (
+            PHONES,
+            "set alice a hold\nset bob a hold\nsettle\n",
+            "settle 1\npath alice/a bob/a hold hold closed audio\n",
+        ),
+        (
+            PHONES,
+            "set alice a open\nset alice a close\nset bob a hold\nsettle\n",
+            "settle 1\npath alice/a bob/a close hold closed audio\n",
+        ),
+        (
+            PHONES,
+            "set alice a open\nset bob a hold\nsettle\nset alice a hold\nsettle\n",
+            "settle 1\npath alice/a bob/a open hold flowing audio\nhears alice/a g729\nhears bob/a g729\nsettle 2\npath alice/a bob/a hold hold flowing audio\nhears alice/a g729\nhears bob/a g729\n",
         ),
     ];
-    for (network, script, printed, status) in table {
-        let mut bytes = Vec::from_slice(alloc, network.as_bytes())?;
-        bytes.extend_from_slice(script.as_bytes())?;
-        let mut source = MemSource::new(bytes, 64, Vec::new(alloc));
-        let (done, written) = run(&rt, alloc, &mut source, 10, Vec::new(alloc))?;
-        assert_eq!(rt; done.status, status, "at {network}{script}");
+    for (network, script, printed) in table {
+        let (done, written) = run_text(&rt, alloc, network, script)?;
+        assert_eq!(rt; done.status, 0, "at {network}{script}");
         assert_eq!(rt;
             written.as_slice(),
             printed.as_bytes(),
@@ -136,12 +207,12 @@ fn the_second_read_fails(rt: HostRuntime) -> Result<(), Fail> {
 fn the_second_write_fails(rt: HostRuntime) -> Result<(), Fail> {
     let alloc = rt.alloc();
     let mut bytes = Vec::from_slice(alloc, PHONES.as_bytes())?;
-    bytes.extend_from_slice(b"settle\n")?;
+    bytes.extend_from_slice(b"set alice a open\nset bob a hold\nsettle\n")?;
     let mut source = MemSource::new(bytes, 64, Vec::new(alloc));
     let (done, written) = run(&rt, alloc, &mut source, 10, vec![in alloc; 2]?)?;
     assert_eq!(rt; done.status, 5);
     assert_eq!(rt; done.due, 0);
-    assert_eq!(rt; done.journal.len(), 1);
+    assert_eq!(rt; done.journal.len(), 7);
     assert_eq!(rt; written.as_slice(), b"settle 1\np".as_slice());
     Ok(())
 }
@@ -158,32 +229,5 @@ fn a_text_past_the_limit_is_refused(rt: HostRuntime) -> Result<(), Fail> {
     assert_eq!(rt; done.status, 1);
     assert_eq!(rt; written.as_slice(), FAULT.as_bytes());
     assert_eq!(rt; source.at, TEXT_LIMIT + 1);
-    Ok(())
-}
-
-#[test]
-fn two_phones_come_to_flow(rt: HostRuntime) -> Result<(), Fail> {
-    let alloc = rt.alloc();
-    let text = Vec::from_slice(alloc, PHONES.as_bytes())?;
-    let mut net = make_net(alloc, &text)?;
-    let turns = [
-        (0, Event::Set(Change::End(0, Goal::Open))),
-        (1, Event::Set(Change::End(0, Goal::Hold))),
-        (1, Event::Take(0)),
-        (0, Event::Take(0)),
-        (1, Event::Take(0)),
-        (0, Event::Take(0)),
-    ];
-    for (who, event) in turns {
-        net.world.step(who, event)?;
-    }
-    assert!(rt; net.world.quiet());
-    assert!(rt; net.world.step(0, Event::Take(0)).is_err());
-    assert_eq!(rt; net.world.slot_count(), 2);
-    for slot in 0..2 {
-        let end = net.world.slot(slot);
-        assert_eq!(rt; end.state, State::Flowing);
-        assert_eq!(rt; end.sel_in.and_then(|selector| selector.codec), Some(1));
-    }
     Ok(())
 }

@@ -8,7 +8,7 @@ ghost use Rattle.mc_top.specs.Top.{Delivers, Ends, ReadsWhole, fault_text, usage
 ghost use Rattle.mc_top.specs.declared.words.Mode.{Mode};
 
 use crate::io::{Gate, ReadFault, Sink, Source, read_up_to, write_whole};
-use crate::net::make_net;
+use crate::net::{Net, make_net};
 use crate::reader::TextFault;
 use crate::run::{Run, run_script};
 use crate::script::JournalLine;
@@ -106,14 +106,18 @@ fn run_text<K: Sink>(alloc: Global, mode: Mode, text: &[u8], sink: &mut K) -> Do
     ensures ends { Ends mode (Some text.now) (K.written sink.old) (K.written sink.new) result.status result.due result.journal.items }
     ensures fault { result.status ≡ 5 → Rose (K.faults sink.old) (K.faults sink.new) }
 {
-    let net = match make_net(alloc, text) {
+    let Net {
+        names,
+        world,
+        commands,
+    } = match make_net(alloc, text) {
         Ok(net) => net,
         Err(TextFault::Form) => {
             return deliver(sink, FAULTY_TEXT, b"fault 19 line 1\n", Vec::new(alloc));
         }
         Err(TextFault::NoMemory(_)) => return stopped(alloc, NO_MEMORY),
     };
-    match run_script(alloc, &net.names, &net.world, &net.commands) {
+    match run_script(alloc, &names, world, &commands) {
         Ok(run) => deliver_run(sink, run),
         Err(_) => stopped(alloc, NO_MEMORY),
     }

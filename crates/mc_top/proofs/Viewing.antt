@@ -1,0 +1,175 @@
+-- What is shown of the paths of a world has names, and is printed as the table says.
+use Rattle.std.proofs.Common.{◌≡◌, ◌<◌, ◌++◌, ◌∷◌, [], ◌⊎◌, inl, inr, ℕ, Bool, true, false, if◌then◌else◌, Option, Some, None, List, All, codes, find, length, map, slice_index_or, refl, ap, sym, ◌∙◌, subst, arith}
+use Rattle.std.specs.List.{AllByRecursion, flat_map}
+use Rattle.std.specs.Fmt.{decimal}
+use Rattle.std.proofs.lemmas.Grind.{common_steps}
+use Rattle.std.proofs.lemmas.List.Elements.{All-map, recursion_from_All}
+use Rattle.mc_signal.specs.Choice.{codecs_of, has_codec, selector_of, shared_codec}
+use Rattle.mc_signal.specs.Empty.{no_codecs}
+use Rattle.mc_signal.specs.declared.codec_list.CodecList.{CodecList}
+use Rattle.mc_signal.specs.declared.Descriptor.{Descriptor}
+use Rattle.mc_signal.specs.declared.Selector.{Selector}
+use Rattle.mc_signal.specs.declared.Sender.{Sender}
+use Rattle.mc_slot.specs.Tunnel.{Kept}
+use Rattle.mc_slot.specs.declared.Slot.{Slot}
+use Rattle.mc_slot.specs.declared.State.{State}
+use Rattle.mc_slot.specs.declared.State.TheVariants.{Closed, Opening, Opened, Flowing, Closing}
+use Rattle.mc_world.specs.Boxes.{BoxState, media_at, own_of}
+use Rattle.mc_world.specs.PathTable.{PathHolds, heard, high_hears, low_hears, path_state}
+use Rattle.mc_world.specs.Paths.{PathEnds, end_goal, paths}
+use Rattle.mc_world.specs.Sound.{IsSound}
+use Rattle.mc_world.specs.Worlds.{WorldState, box_at, joint_of, own_descriptor, own_sender, place, slot_count, slot_of}
+use Rattle.mc_world.specs.declared.event.Kind.{Kind}
+use Rattle.mc_world.specs.declared.event.Kind.TheVariants.{Device, Feature}
+use Rattle.mc_world.specs.declared.media_box.SlotMedia.{SlotMedia}
+use Rattle.mc_path.specs.PathLaws.{AreIn, HearEachOther, IsQuietPath}
+use Rattle.mc_path.specs.Views.{end_view, is_flowing, selected, view_of}
+use Rattle.mc_path.proofs.Tunnels.{each_path}
+use Rattle.mc_top.specs.NameLists.{NameLists}
+use Rattle.mc_top.specs.Printed.{IsNamed, NamesAll, goal_word, hears_line, hears_lines, line_of, medium_word, path_line, path_text, settle_text, slot_word, state_word}
+use Rattle.mc_top.specs.Shown.{IsNamedEnd, IsNamedView, flow_word, hearing_line, hearing_lines, view_line, view_text, views_text}
+
+-- ---- text
+
+flow_is : (state : State) → flow_word (is_flowing state) ≡ state_word state
+flow_is Closed = refl
+flow_is Opening = refl
+flow_is Opened = refl
+flow_is Flowing = refl
+flow_is Closing = refl
+
+-- an end that got the choice for its own descriptor hears what the table says
+heard_is : (selector : Option Selector) (own : Descriptor) (far_sender : Sender) → selector ≡ Some (selector_of own far_sender) → selected selector ≡ heard own far_sender
+heard_is selector own far_sender chosen = ap selected chosen
+
+line_is : (names : NameLists) (world : WorldState) (path : PathEnds) → (slot_of world path.low).state ≡ path_state world path → view_line names (view_of world path) ≡ path_line names world path
+line_is names world path low =
+    ap (λ (word : List ℕ). line_of (
+    codes "path"
+    ∷ slot_word names world path.low
+    ∷ slot_word names world path.high
+    ∷ goal_word (end_goal world path.low)
+    ∷ goal_word (end_goal world path.high)
+    ∷ word
+    ∷ medium_word (joint_of world path.low).medium
+    ∷ []))
+    (ap (λ (state : State). flow_word (is_flowing state)) low ∙ flow_is (path_state world path))
+
+hears_is : (names : NameLists) (world : WorldState) (s : ℕ) (codec : Option ℕ) → selected (slot_of world s).sel_in ≡ codec → hearing_line names (end_view world s) ≡ hears_line names world s codec
+hears_is names world s codec is = ap (λ (c : Option ℕ). hears_line names world s c) is
+
+-- by the state of the path
+hears_by : (state : State) (names : NameLists) (world : WorldState) (path : PathEnds)
+    → (state ≡ Flowing → selected (slot_of world path.low).sel_in ≡ low_hears world path)
+    → (state ≡ Flowing → selected (slot_of world path.high).sel_in ≡ high_hears world path)
+    → hearing_lines (is_flowing state) names (view_of world path) ≡ hears_lines state names world path
+hears_by Closed names world path low high = refl
+hears_by Opening names world path low high = refl
+hears_by Opened names world path low high = refl
+hears_by Closing names world path low high = refl
+hears_by Flowing names world path low high =
+    ap (λ (line : List ℕ). line ++ hearing_line names (end_view world path.high)) (hears_is names world path.low (low_hears world path) (low refl))
+    ∙ ap (λ (line : List ℕ). hears_line names world path.low (low_hears world path) ++ line) (hears_is names world path.high (high_hears world path) (high refl))
+
+-- a path that is as the table says is printed so
+pub text_is : (names : NameLists) (world : WorldState) (path : PathEnds) → PathHolds world path → view_text names (view_of world path) ≡ path_text names world path
+text_is names world path holds =
+    ap (λ (line : List ℕ). line ++ hearing_lines (is_flowing (slot_of world path.low).state) names (view_of world path)) (line_is names world path holds.low)
+    ∙ ap (λ (lines : List ℕ). path_line names world path ++ lines)
+    (ap (λ (state : State). hearing_lines (is_flowing state) names (view_of world path)) holds.low
+    ∙ hears_by (path_state world path) names world path
+    (λ flows. heard_is (slot_of world path.low).sel_in (own_descriptor world path.low) (own_sender world path.high) (holds.low_hears flows).chosen)
+    (λ flows. heard_is (slot_of world path.high).sel_in (own_descriptor world path.high) (own_sender world path.low) (holds.high_hears flows).chosen))
+
+texts_are : (names : NameLists) (world : WorldState) (ends : List PathEnds) → AllByRecursion (PathHolds world) ends
+    → flat_map (view_text names) (map (view_of world) ends) ≡ flat_map (path_text names world) ends
+texts_are names world [] all = refl
+texts_are names world (path ∷ ends) all =
+    ap (λ (text : List ℕ). text ++ flat_map (view_text names) (map (view_of world) ends)) (text_is names world path all.0)
+    ∙ ap (λ (text : List ℕ). path_text names world path ++ text) (texts_are names world ends all.1)
+
+-- and so are all of them
+pub settle_is : (names : NameLists) (number : ℕ) (world : WorldState) → All (PathHolds world) (paths world)
+    → views_text names number (map (view_of world) (paths world)) ≡ settle_text names number world
+settle_is names number world all =
+    ap (λ (text : List ℕ). line_of (codes "settle" ∷ decimal number ∷ []) ++ text) (texts_are names world (paths world) (recursion_from_All (PathHolds world) (paths world) all))
+
+-- ---- names
+
+-- by whether it is the first
+found_by : (here : Bool) (p : ℕ → Bool) (first : ℕ) (codecs : List ℕ) (n codec : ℕ) → first < n → p first ≡ here
+    → (find p codecs ≡ Some codec → codec < n) → find p (first ∷ codecs) ≡ Some codec → codec < n
+found_by true p first codecs n codec below here later found = let same : first ≡ codec = grind (arith, common_steps) in subst (λ (c : ℕ). c < n) same below
+found_by false p first codecs n codec below here later found = later (grind (arith, common_steps))
+
+-- what is found in a list is below what all of it is below
+found_below : (p : ℕ → Bool) (codecs : List ℕ) (n codec : ℕ) → AllByRecursion (λ c. c < n) codecs → find p codecs ≡ Some codec → codec < n
+found_below p [] n codec all found = absurd (cc)
+found_below p (first ∷ codecs) n codec all found = found_by (p first) p first codecs n codec all.0 refl (found_below p codecs n codec all.1) found
+
+-- a shared codec is an offered one
+shared_named : (names : NameLists) (offered able : List ℕ) (shared : Option ℕ) → All (λ c. c < length names.codecs) offered → shared_codec offered able ≡ shared → IsNamed names shared
+shared_named names offered able None all is = tt
+shared_named names offered able (Some codec) all is = found_below (has_codec able) offered (length names.codecs) codec (recursion_from_All (λ c. c < length names.codecs) offered all) is
+
+-- a box offers what it receives, or nothing
+offered_by : (on : Bool) (names : NameLists) (receives : CodecList) → All (λ c. c < length names.codecs) (codecs_of receives)
+    → All (λ c. c < length names.codecs) (codecs_of (if on then receives else no_codecs))
+offered_by true names receives all = all
+offered_by false names receives all = λ k e within. absurd (omega arith)
+
+offered : (kind : Kind) (names : NameLists) (box : BoxState) (media : SlotMedia) (local : ℕ) → All (λ c. c < length names.codecs) (codecs_of box.receives)
+    → All (λ c. c < length names.codecs) (codecs_of (own_of kind box media local).codecs)
+offered Device names box media local all = offered_by media.hears names box.receives all
+offered Feature names box media local all = λ k e within. absurd (omega arith)
+
+-- what an end hears has a name
+heard_named : (names : NameLists) (world : WorldState) (s : ℕ) (far_sender : Sender) (selector : Option Selector) → NamesAll names world
+    → selector ≡ Some (selector_of (own_descriptor world s) far_sender) → IsNamed names (selected selector)
+heard_named names world s far_sender selector all chosen =
+    subst (λ (o : Option Selector). IsNamed names (selected o)) (sym chosen)
+    (shared_named names (codecs_of (own_descriptor world s).codecs) (codecs_of far_sender.codecs) (heard (own_descriptor world s) far_sender)
+    (offered (box_at world (place world s).0).kind names (box_at world (place world s).0) (media_at (box_at world (place world s).0) (place world s).1) (place world s).1 (all.codecs (place world s).0)) refl)
+
+-- a closed slot hears nothing
+closed_none : (slot : Slot) → Kept slot → slot.state ≡ Closed → slot.sel_in ≡ None
+closed_none slot kept is = grind arith
+
+none_named : (names : NameLists) (selector : Option Selector) → selector ≡ None → IsNamed names (selected selector)
+none_named names selector is = subst (λ (o : Option Selector). IsNamed names (selected o)) (sym is) tt
+
+-- an end has names, where what it hears has one
+end_named : (names : NameLists) (world : WorldState) (s : ℕ) → NamesAll names world → IsSound world → s < slot_count world → IsNamed names (selected (slot_of world s).sel_in) → IsNamedEnd names (end_view world s)
+end_named names world s all sound inside heard = record {
+  box = subst (λ (n : ℕ). (place world s).0 < n) (sym all.boxes) (sound.numbered.placed s inside);
+  slot = subst (λ (n : ℕ). (place world s).1 < n) (sym (all.slots (place world s).0 (sound.numbered.placed s inside))) (sound.numbered.slots s inside);
+  codec = heard;
+}
+
+-- both ends of a quiet path have
+ends_named : (names : NameLists) (world : WorldState) (path : PathEnds) → NamesAll names world → IsSound world → path.low < slot_count world → path.high < slot_count world
+    → AreIn world path Closed ⊎ (AreIn world path Flowing × HearEachOther world path) → IsNamedView names (view_of world path)
+ends_named names world path all sound low high (inl closed) = record {
+  low = end_named names world path.low all sound low (none_named names (slot_of world path.low).sel_in (closed_none (slot_of world path.low) (sound.tunnels path.low low).first_kept closed.low));
+  high = end_named names world path.high all sound high (none_named names (slot_of world path.high).sel_in (closed_none (slot_of world path.high) (sound.tunnels path.high high).first_kept closed.high));
+}
+ends_named names world path all sound low high (inr flowing) = record {
+  low = end_named names world path.low all sound low (heard_named names world path.low (own_sender world path.high) (slot_of world path.low).sel_in all flowing.1.low.chosen);
+  high = end_named names world path.high all sound high (heard_named names world path.high (own_sender world path.low) (slot_of world path.high).sel_in all flowing.1.high.chosen);
+}
+
+-- the ends of a path are slots
+abbrev AreInside : WorldState → PathEnds → Type 0
+AreInside world path = (path.low < slot_count world) × (path.high < slot_count world)
+
+are_inside : (world : WorldState) → IsSound world → All (AreInside world) (paths world)
+are_inside world sound = each_path world (AreInside world) sound (λ t inside. (omega arith, inside))
+
+-- so all that is shown has names
+pub views_named : (names : NameLists) (world : WorldState) → NamesAll names world → IsSound world → All (IsQuietPath world) (paths world)
+    → All (IsNamedView names) (map (view_of world) (paths world))
+views_named names world all sound quiet =
+    All-map (IsNamedView names) (view_of world) (paths world)
+    (λ k path within.
+    let inside = are_inside world sound k path within in
+    ends_named names world (slice_index_or (paths world) k path) all sound inside.0 inside.1 (quiet k path within).alike)
