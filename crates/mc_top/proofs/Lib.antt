@@ -4,7 +4,6 @@ mod Ending
 mod FirstNets
 mod Kept
 pub mod Running
-mod Pieces
 mod Places
 mod Saying
 mod Spaced

@@ -2,7 +2,7 @@
 use Rattle.std.specs.Prelude.{◌≡◌, ◌≢◌, ◌⊎◌, ◌≤◌, ℕ, List, [], ◌∷◌, ◌++◌, codes, length, IfSome}
 use Rattle.std.specs.declared.option.Option.{Option}
 use Rattle.std.specs.Io.KnownBytes.{Appends, Consumes, IsAtEnd, Keeps}
-use Rattle.mc_top.specs.Bytes.{AppendsPart}
+use Rattle.mc_io.specs.Bytes.{AppendsPart}
 use Rattle.mc_top.specs.Commands.{batches}
 use Rattle.mc_top.specs.Forms.{Declared, Says, text_limit}
 use Rattle.mc_top.specs.Journals.{IsJournal, HoldsAtSettles}

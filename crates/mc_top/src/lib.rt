@@ -2,7 +2,6 @@
 #![tactic(auto)]
 
 mod codec_words;
-pub mod io;
 mod lines;
 mod name_list;
 mod names;

@@ -1,9 +1,9 @@
 // Whole calls over sources and sinks in memory: what is written, and the status.
 ghost use Rattle.std.specs.Prelude.{◌<◌};
 
-use crate::io::{MemSink, MemSource, OpenGate};
 use crate::text::TEXT_LIMIT;
 use crate::{Done, media_top};
+use mc_io::{MemSink, MemSource, OpenGate};
 use std::alloc::{AllocError, Global};
 use std::test::Fail;
 use std::thread::Threads;

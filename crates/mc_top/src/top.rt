@@ -1,19 +1,19 @@
 // The top call.
 ghost use Rattle.std.specs.Prelude.{◌≡◌, ◌≢◌, ◌≤◌, ◌<◌, ◌⊎◌, ℕ, List, [], take, IfOk, IfSome, IsErrOf, Some};
-ghost use Rattle.mc_top.specs.Bytes.{ConsumesAtMost};
-ghost use Rattle.mc_top.specs.Causes.{Rose};
+ghost use Rattle.mc_io.specs.Bytes.{ConsumesAtMost};
+ghost use Rattle.mc_io.specs.Causes.{Rose};
 ghost use Rattle.mc_top.specs.Forms.{Declared, Says};
 ghost use Rattle.mc_top.specs.Modes.{IsCommand, text_for};
 ghost use Rattle.mc_top.specs.Top.{Delivers, Ends, ReadsWhole, fault_text, usage_text};
 ghost use Rattle.mc_top.specs.declared.words.Mode.{Mode};
 
-use crate::io::{Gate, ReadFault, Sink, Source, read_up_to, write_whole};
 use crate::net::{Net, make_net};
 use crate::reader::TextFault;
 use crate::run::{Run, run_script};
 use crate::script::JournalLine;
 use crate::text::TEXT_LIMIT;
 use crate::words::{Mode, read_mode};
+use mc_io::{Gate, ReadFault, Sink, Source, read_up_to, write_whole};
 use std::alloc::{AllocError, Global};
 use std::thread::Threads;
 

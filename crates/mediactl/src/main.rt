@@ -1,7 +1,7 @@
 //! `mediactl run` reads a text from standard input, settles its calls, and prints their paths to standard output.
 #![tactic(auto)]
 
-use mc_top::io::{OpenGate, StdSink, StdSource};
+use mc_io::{OpenGate, StdSink, StdSource};
 use mc_top::media_top;
 use std::alloc::AllocError;
 use std::io::ErrorKind;

@@ -1,4 +1,5 @@
 //! Where bytes come from, where they go, and where the threads of boxes may be held.
+#![tactic(auto)]
 
 mod gate;
 mod memory_sink;
@@ -15,3 +16,6 @@ pub use sink::Sink;
 pub use source::{Failed, Source};
 pub use standard::{StdSink, StdSource};
 pub use whole::{ReadFault, read_up_to, write_whole};
+
+#[cfg(test)]
+mod tests;

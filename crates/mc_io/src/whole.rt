@@ -1,16 +1,17 @@
 // A whole text read, a whole output written.
 ghost use Rattle.std.specs.Prelude.{◌≡◌, ◌+◌, ◌^◌, ◌<◌, ◌≤◌, ℕ, List, take, length, vec_len, IfOk, IfSome, OnOk, OnErr, IsErrOf};
 ghost use Rattle.std.specs.Io.KnownBytes.{Appends, Consumes, IsAtEnd};
-ghost use Rattle.mc_top.specs.Causes.{HasCause, Rose};
-ghost use Rattle.mc_top.specs.Bytes.{AppendsPart, ConsumesAtMost};
-ghost use Rattle.mc_top.specs.declared.io.whole.ReadFault.TheVariants.{Failed, NoMemory};
+ghost use Rattle.mc_io.specs.Causes.{HasCause, Rose};
+ghost use Rattle.mc_io.specs.Bytes.{AppendsPart, ConsumesAtMost};
+ghost use Rattle.mc_io.specs.declared.whole.ReadFault.TheVariants.{Failed, NoMemory};
 
-use crate::io::{Failed, Sink, Source};
+use crate::{Failed, Sink, Source};
 use std::alloc::{AllocError, AllocFailed, Global};
 
 /// Why a text isn't had.
 #[derive(Debug, Drop)]
 pub enum ReadFault {
+    /// The source failed.
     Failed,
     NoMemory(AllocError),
 }
@@ -33,7 +34,8 @@ impl From<Failed> for ReadFault {
 
 const CHUNK: usize = 4096;
 
-/// All bytes that the source has left, or the first of them up to one more than the limit.
+/// All bytes that the source has left, or the first of them up to one more than the limit. A text longer than the
+/// limit is one that was too long. Where it fails, what was read is lost.
 pub fn read_up_to<S: Source>(
     alloc: Global,
     source: &mut S,
@@ -66,7 +68,7 @@ pub fn read_up_to<S: Source>(
     Ok(text)
 }
 
-/// Writes all these bytes.
+/// Writes all these bytes, or fails once a part of them is written.
 pub fn write_whole<K: Sink>(sink: &mut K, bytes: &[u8]) -> Result<(), Failed>
     ensures ok { OnOk result (Appends (K.written sink.old) (K.written sink.new) bytes.now) }
     ensures err { OnErr result (AppendsPart (K.written sink.old) (K.written sink.new) bytes.now) }

@@ -1,10 +1,11 @@
-// The readers and writers of std as a source and a sink. They tell no bytes.
+// The readers and writers of std as a source and a sink. They tell the bytes that those tell: of a file or a
+// terminal, none.
 ghost use Rattle.std.specs.Prelude.{◌≡◌, None};
 
-use crate::io::{Failed, Sink, Source};
+use crate::{Failed, Sink, Source};
 use std::io::{Read, Write};
 
-/// A reader, and how often it has failed.
+/// A reader as a source. It counts the reads that answered an error.
 #[derive(Drop)]
 pub struct StdSource<R: Read> {
     reader: R,
@@ -12,6 +13,7 @@ pub struct StdSource<R: Read> {
 }
 
 impl<R: Read> StdSource<R> {
+    /// Has not failed yet.
     pub fn new(reader: R) -> StdSource<R> {
         StdSource { reader, failed: 0 }
     }
@@ -33,7 +35,7 @@ impl<R: Read> Source for StdSource<R> {
     }
 }
 
-/// A writer, and how often it has failed.
+/// A writer as a sink. It counts the writes that answered an error, or took nothing of a piece that isn't empty.
 #[derive(Drop)]
 pub struct StdSink<W: Write> {
     writer: W,
@@ -41,6 +43,7 @@ pub struct StdSink<W: Write> {
 }
 
 impl<W: Write> StdSink<W> {
+    /// Has not failed yet.
     pub fn new(writer: W) -> StdSink<W> {
         StdSink { writer, failed: 0 }
     }

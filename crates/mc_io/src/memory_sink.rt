@@ -2,14 +2,15 @@
 ghost use Rattle.std.specs.Prelude.{◌+◌, ◌-◌, ◌^◌, ◌↔◌, ◌⊎◌, IsErr, min, length, ◌≡◌, ◌≤◌, ◌<◌, [], Some, IfOk, vec_len, vec_capacity};
 ghost use Rattle.std.specs.Io.{WritesAtMost};
 ghost use Rattle.std.specs.Io.KnownBytes.{WriteAppends};
-ghost use Rattle.mc_top.specs.Causes.{HasCause, Rose};
-ghost use Rattle.mc_top.specs.Bytes.{Fails};
+ghost use Rattle.mc_io.specs.Causes.{HasCause, Rose};
+ghost use Rattle.mc_io.specs.Bytes.{Fails};
 
-use crate::io::{Failed, Sink};
+use crate::{Failed, Sink};
 use std::alloc::{AllocError, Global};
 
 /// Keeps at most `room` bytes, and takes at most `per_call` in a call. The calls whose numbers, from 1, stand
-/// in `failing` fail, and so does one that finds no room.
+/// in `failing` fail, and so does one that finds no room; `failed` counts them. `calls` stops at its last value,
+/// and from then on no number fails.
 #[derive(Drop)]
 pub struct MemSink {
     pub bytes: Vec<u8>,
@@ -24,6 +25,7 @@ pub struct MemSink {
 }
 
 impl MemSink {
+    /// Takes the memory for `room` bytes, so that no write wants any. A call has to take at least one byte.
     pub fn new(
         alloc: Global,
         room: usize,

@@ -2,13 +2,13 @@
 ghost use Rattle.std.specs.Prelude.{◌≡◌, ◌<◌, ◌≤◌, ◌+◌, ◌-◌, ◌^◌, ◌↔◌, IsErr, IfOk, Some, drop, length, min, take, vec_len};
 ghost use Rattle.std.specs.Io.{ReadsAtMost};
 ghost use Rattle.std.specs.Io.KnownBytes.{ReadConsumes};
-ghost use Rattle.mc_top.specs.Causes.{HasCause};
-ghost use Rattle.mc_top.specs.Bytes.{Fails};
+ghost use Rattle.mc_io.specs.Causes.{HasCause};
+ghost use Rattle.mc_io.specs.Bytes.{Fails};
 
-use crate::io::{Failed, Source};
+use crate::{Failed, Source};
 
 /// Gives its bytes from `at` on, at most `per_call` in a call. The calls whose numbers, from 1, stand in
-/// `failing` fail.
+/// `failing` fail, and `failed` counts them. `calls` stops at its last value, and from then on no call fails.
 #[derive(Drop)]
 pub struct MemSource {
     pub bytes: Vec<u8>,
@@ -22,6 +22,7 @@ pub struct MemSource {
 }
 
 impl MemSource {
+    /// Stands before the first byte. A call has to give at least one byte.
     pub fn new(bytes: Vec<u8>, per_call: usize, failing: Vec<u64>) -> MemSource
         requires { 0 < per_call }
         ensures bytes { result.bytes ≡ bytes }
