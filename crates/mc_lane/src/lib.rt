@@ -1,0 +1,9 @@
+//! A queue whose room is asked for beforehand.
+#![tactic(auto)]
+
+mod lane;
+
+pub use lane::Lane;
+
+#[cfg(test)]
+mod tests;
