@@ -1,0 +1,4 @@
+pub mod Cuts
+pub mod FirstWord
+pub mod Numerals
+pub mod Places

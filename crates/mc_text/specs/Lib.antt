@@ -1,0 +1,5 @@
+pub mod Lines
+pub mod Spelling
+pub mod Draws
+pub mod NameLists
+pub mod Adding

@@ -1,0 +1,29 @@
+use super::*;
+
+#[test]
+fn draws_are_the_published_ones(rt: HostRuntime) {
+    let mut draws = Draws { state: 1 };
+    let first: [u32; 18] = [
+        16838, 5758, 10113, 17515, 31051, 5627, 23010, 7419, 16212, 4086, 2749, 12767, 9084, 12060,
+        32225, 17543, 25089, 21183,
+    ];
+    for want in first {
+        assert_eq!(rt; draws.draw(), want);
+    }
+}
+
+#[test]
+fn names_are_added_and_printed(rt: HostRuntime) -> Result<(), NameFault> {
+    let mut names = Names::new(rt.alloc());
+    names.add_codec(b"g711")?;
+    let who = names.add_box(b"alice")?;
+    let slot = names.add_slot(who, b"a")?;
+    let word = names.add_told(b"paid")?;
+    assert_eq!(rt; names.add_told(b"paid")?, word);
+    let mut out = Vec::new(rt.alloc());
+    names
+        .print_slot(who, slot, &mut out)
+        .map_err(NameFault::NoMemory)?;
+    assert!(rt; out.as_slice() == b"alice/a".as_slice());
+    Ok(())
+}
