@@ -1,0 +1,8 @@
+mod Flowing
+pub mod LinkPays
+pub mod LinkRests
+pub mod LinkThree
+pub mod Mirror
+pub mod Parts
+pub mod Sides
+pub mod Weights

@@ -1,0 +1,3 @@
+pub mod LinkTurn
+pub mod LinkLaws
+pub mod LinkWeights

@@ -1,0 +1,35 @@
+-- That a taking at a link removes more weight than the link then sends.
+use Rattle.std.specs.Prelude.{◌≡◌, ◌≤◌, ◌<◌, ◌+◌, ◌*◌, ℕ, Option, Some, ◌++◌}
+use Rattle.mc_signal.specs.declared.Signal.{Signal}
+use Rattle.mc_slot.specs.Moves.{answered, sent_all, taken}
+use Rattle.mc_slot.specs.Tunnel.{Kept}
+use Rattle.mc_slot.specs.declared.Slot.{Slot}
+use Rattle.mc_slot.specs.declared.State.{State}
+use Rattle.mc_slot.specs.declared.State.TheVariants.{Closed, Opening, Opened, Flowing, Closing}
+use Rattle.mc_turn.specs.Weights.{weight, weights}
+use Rattle.mc_link.specs.LinkLaws.{closed_by}
+use Rattle.mc_link.specs.LinkTurn.{link_due, IsLinkAtRest, sent_by_first, sent_by_second}
+use Rattle.mc_link.specs.declared.Side.TheVariants.{First}
+
+-- 1 for a linked slot that is closed, or will be, while the other slot asks for media: an open is still to come from it
+abbrev pub stored_link : State → State → ℕ
+stored_link Closed Opening = 1
+stored_link Closed Opened = 1
+stored_link Closed Flowing = 1
+stored_link Closing Opening = 1
+stored_link Closing Opened = 1
+stored_link Closing Flowing = 1
+stored_link state other = 0
+
+-- y tunnels lie on the first slot's side of the link, and x on the second slot's. A signal weighs once for each tunnel that it may still go over: one
+-- that comes to the first slot for its own tunnel and for x. At a link at rest that is more than what both slots then send weighs, the stored opens counted
+abbrev pub LinkPays : Type 0
+LinkPays = (a b middle a_after b_after : Slot) (signal : Signal) (answer : Option Signal) (n x y : ℕ)
+    → Kept a → Kept b → IsLinkAtRest a b → taken a signal ≡ Some record { answer = answer; after = middle }
+    → sent_all middle (sent_by_first (link_due middle b (closed_by signal middle.state First))) ≡ Some a_after
+    → sent_all b (sent_by_second (link_due middle b (closed_by signal middle.state First))) ≡ Some b_after
+    → 1 ≤ x → 1 ≤ y → y < n
+    → 1 + y * weights n (answered answer ++ sent_by_first (link_due middle b (closed_by signal middle.state First)))
+    + x * weights n (sent_by_second (link_due middle b (closed_by signal middle.state First)))
+    + n * (n * n) * (y * stored_link a_after.state b_after.state + x * stored_link b_after.state a_after.state)
+    ≤ (x + 1) * weight n signal + n * (n * n) * (y * stored_link a.state b.state + x * stored_link b.state a.state)

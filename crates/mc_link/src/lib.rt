@@ -1,0 +1,167 @@
+//! The turn of a link: what two linked slots send, after something that concerns one of them.
+#![tactic(auto)]
+
+ghost use Rattle.std.specs.Prelude.{◌≡◌, ◌+◌, ◌<◌, ◌≤◌, ◌++◌, [], ◌∷◌, Some, IsSome, IsTrue, length, map};
+ghost use Rattle.mc_link.specs.LinkTurn.{NamesClosed, can_close, opening_with, passing_in, choosing_for, flowing, leaning, link_due, sent_by_first, sent_by_second, numbered};
+ghost use Rattle.mc_slot.specs.Moves.{is_live, sent, sent_all};
+ghost use Rattle.mc_slot.specs.Sending.{sends_of, pair_of};
+
+use mc_signal::{Descriptor, Selector, Signal, answers};
+use mc_slot::{Sends, Slot, State};
+
+pub mod laws;
+#[cfg(test)]
+mod tests;
+
+/// One of the two slots of a link. The first is the one with the lower local number.
+#[derive(Clone, Copy, PartialEq, Eq, Debug)]
+pub enum Side {
+    First,
+    Second,
+}
+
+/// The turn of a link: passes on to each of its slots what the other has got.
+///
+/// `closed_by_far` names the slot that became closed in this turn because it took a close.
+pub fn link_turn(a: &mut Slot, an: u8, b: &mut Slot, bn: u8, closed_by_far: Option<Side>) -> Sends
+    requires order { an < bn }
+    requires medium { a.old.medium ≡ b.old.medium }
+    requires got_first { IsTrue (is_live a.old.state) → IsSome a.old.got }
+    requires got_second { IsTrue (is_live b.old.state) → IsSome b.old.got }
+    requires closed { NamesClosed closed_by_far a.old b.old }
+    ensures sends { sends_of result ≡ map (numbered an bn) (link_due a.old b.old closed_by_far) }
+    ensures first { sent_all a.old (sent_by_first (link_due a.old b.old closed_by_far)) ≡ Some a.new }
+    ensures second { sent_all b.old (sent_by_second (link_due a.old b.old closed_by_far)) ≡ Some b.new }
+    ensures len { result.len ≡ length (link_due a.old b.old closed_by_far) }
+{
+    match closed_by_far {
+        Some(Side::First) => {
+            if can_close(b) {
+                send_alone(b, bn, Signal::Close)
+            } else {
+                lean(a, an, b, bn)
+            }
+        }
+        Some(Side::Second) => {
+            if can_close(a) {
+                send_alone(a, an, Signal::Close)
+            } else {
+                lean(a, an, b, bn)
+            }
+        }
+        None => lean(a, an, b, bn),
+    }
+}
+
+// Whether the slot may send close.
+fn can_close(slot: &Slot) -> bool
+    ensures { result ≡ can_close slot.now.state }
+{
+    matches!(slot.state, State::Opening | State::Opened | State::Flowing)
+}
+
+// Sends one signal, and nothing else.
+fn send_alone(slot: &mut Slot, no: u8, s: Signal) -> Sends
+    requires { IsSome (sent slot.old s) }
+    ensures sends { sends_of result ≡ pair_of no s ∷ [] }
+    ensures after { sent slot.old s ≡ Some slot.new }
+    ensures len { result.len ≡ 1 }
+{
+    slot.send(s);
+    let mut sends = Sends::none();
+    sends.push(no, s);
+    sends
+}
+
+// Leans towards media: asks for them where one slot alone is live, and passes on what is new where both are.
+#[tactic(auto, using(crate::proofs::Sides::empty_len))]
+fn lean(a: &mut Slot, an: u8, b: &mut Slot, bn: u8) -> Sends
+    requires got_first { IsTrue (is_live a.old.state) → IsSome a.old.got }
+    requires got_second { IsTrue (is_live b.old.state) → IsSome b.old.got }
+    ensures sends { sends_of result ≡ map (numbered an bn) (leaning a.old b.old) }
+    ensures first { sent_all a.old (sent_by_first (leaning a.old b.old)) ≡ Some a.new }
+    ensures second { sent_all b.old (sent_by_second (leaning a.old b.old)) ≡ Some b.new }
+    ensures len { result.len ≡ length (leaning a.old b.old) }
+{
+    match (a.state, b.state) {
+        (State::Closed, State::Opened | State::Flowing) => open_with(a, an, b.got),
+        (State::Opened | State::Flowing, State::Closed) => open_with(b, bn, a.got),
+        (State::Opened | State::Flowing, State::Opened | State::Flowing) => flow(a, an, b, bn),
+        _ => Sends::none(),
+    }
+}
+
+// A closed slot asks for media, with the descriptor that the other slot got.
+fn open_with(slot: &mut Slot, no: u8, got: Option<Descriptor>) -> Sends
+    requires { slot.old.state ≡ State.Closed }
+    ensures sends { sends_of result ≡ map (pair_of no) (opening_with slot.old got) }
+    ensures after { sent_all slot.old (opening_with slot.old got) ≡ Some slot.new }
+    ensures len { result.len ≡ length (opening_with slot.old got) }
+{
+    match got {
+        Some(got) => send_alone(slot, no, Signal::Open(slot.medium, got)),
+        None => Sends::none(),
+    }
+}
+
+// Two live slots pass on what is new: first the descriptors, then the selectors.
+fn flow(a: &mut Slot, an: u8, b: &mut Slot, bn: u8) -> Sends
+    requires live_first { IsTrue (is_live a.old.state) }
+    requires live_second { IsTrue (is_live b.old.state) }
+    requires got_first { IsSome a.old.got }
+    requires got_second { IsSome b.old.got }
+    ensures sends { sends_of result ≡ map (numbered an bn) (flowing a.old b.old) }
+    ensures first { sent_all a.old (sent_by_first (flowing a.old b.old)) ≡ Some a.new }
+    ensures second { sent_all b.old (sent_by_second (flowing a.old b.old)) ≡ Some b.new }
+    ensures len { result.len ≡ length (flowing a.old b.old) }
+{
+    let mut sends = Sends::none();
+    pass_descriptor(a, an, b.got, &mut sends);
+    pass_descriptor(b, bn, a.got, &mut sends);
+    pass_selector(a, an, b.sel_in, &mut sends);
+    pass_selector(b, bn, a.sel_in, &mut sends);
+    sends
+}
+
+// A live slot passes on the descriptor that the other slot got, where it is new.
+fn pass_descriptor(slot: &mut Slot, no: u8, got: Option<Descriptor>, sends: &mut Sends)
+    requires live { IsTrue (is_live slot.old.state) }
+    requires got { IsSome got }
+    requires room { sends.old.len < 4 }
+    ensures after { sent_all slot.old (passing_in slot.old.state slot.old.sent got) ≡ Some slot.new }
+    ensures flowing { slot.new.state ≡ State.Flowing }
+    ensures got { slot.new.got ≡ slot.old.got }
+    ensures sel_in { slot.new.sel_in ≡ slot.old.sel_in }
+    ensures sel_out { slot.new.sel_out ≡ slot.old.sel_out }
+    ensures sends { sends_of sends.new ≡ sends_of sends.old ++ map (pair_of no) (passing_in slot.old.state slot.old.sent got) }
+    ensures len { sends.new.len ≡ sends.old.len + length (passing_in slot.old.state slot.old.sent got) }
+    ensures few { sends.new.len ≤ sends.old.len + 1 }
+{
+    if let Some(got) = got {
+        if slot.state == State::Opened {
+            slot.send(Signal::Oack(got));
+            sends.push(no, Signal::Oack(got));
+        } else if slot.sent != Some(got) {
+            slot.send(Signal::Describe(got));
+            sends.push(no, Signal::Describe(got));
+        }
+    }
+}
+
+// A flowing slot passes on the selector that the other slot got, where it answers this slot's descriptor and is new.
+fn pass_selector(slot: &mut Slot, no: u8, heard: Option<Selector>, sends: &mut Sends)
+    requires flowing { slot.old.state ≡ State.Flowing }
+    requires room { sends.old.len < 4 }
+    ensures after { sent_all slot.old (choosing_for heard slot.old.got slot.old.sel_out) ≡ Some slot.new }
+    ensures sel_in { slot.new.sel_in ≡ slot.old.sel_in }
+    ensures sends { sends_of sends.new ≡ sends_of sends.old ++ map (pair_of no) (choosing_for heard slot.old.got slot.old.sel_out) }
+    ensures len { sends.new.len ≡ sends.old.len + length (choosing_for heard slot.old.got slot.old.sel_out) }
+    ensures few { sends.new.len ≤ sends.old.len + 1 }
+{
+    if let (Some(heard), Some(got)) = (heard, slot.got) {
+        if answers(&heard, &got) && slot.sel_out != Some(heard) {
+            slot.send(Signal::Select(heard));
+            sends.push(no, Signal::Select(heard));
+        }
+    }
+}
