@@ -8,18 +8,13 @@ use Rattle.mc_slot.specs.declared.State.{State}
 use Rattle.mc_slot.specs.declared.State.TheVariants.{Flowing}
 use Rattle.mc_view.specs.declared.EndView.{EndView}
 use Rattle.mc_view.specs.declared.PathView.{PathView}
+use Rattle.mc_world.specs.BoxShapes.{is_device}
 use Rattle.mc_world.specs.Paths.{PathEnds, end_goal}
 use Rattle.mc_world.specs.Worlds.{WorldState, box_at, far, goal_of, joint_of, joints, number, own_descriptor, own_sender, place, slot_of}
-use Rattle.mc_world.specs.declared.event.Kind.{Kind}
-use Rattle.mc_world.specs.declared.event.Kind.TheVariants.{Device, Feature}
 
 abbrev pub is_flowing : State → Bool
 is_flowing Flowing = true
 is_flowing state = false
-
-abbrev pub is_device : Kind → Bool
-is_device Device = true
-is_device Feature = false
 
 -- the codec of a selector, if there is a selector and it names one
 abbrev pub selected : Option Selector → Option ℕ

@@ -1,4 +1,5 @@
 pub mod BoxEvents
+pub mod BoxShapes
 pub mod BoxSound
 pub mod Boxes
 pub mod Exchanges

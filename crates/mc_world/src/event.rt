@@ -2,6 +2,7 @@
 
 use mc_signal::Medium;
 use mc_slot::Goal;
+use std::marker::Model;
 
 /// What a box is: a device, whose slots are the ends of calls, or a feature between devices.
 #[derive(Clone, Copy, PartialEq, Eq, Debug)]
@@ -58,8 +59,25 @@ pub struct BoxShape {
     pub programmed: bool,
 }
 
+impl Model for BoxShape {
+    ghost use Rattle.mc_world.specs.BoxShapes.{BoxShapeState};
+
+    ghost Value = { BoxShapeState };
+
+    ghost view = { λ s. record { kind = s.kind; media = s.media.items; programmed = s.programmed } };
+}
+
 /// The shapes of all boxes, in the order of their numbers.
 #[derive(Debug, Drop)]
 pub struct Shape {
     pub boxes: Vec<BoxShape>,
+}
+
+impl Model for Shape {
+    ghost use Rattle.std.specs.Prelude.{List};
+    ghost use Rattle.mc_world.specs.BoxShapes.{BoxShapeState};
+
+    ghost Value = { List BoxShapeState };
+
+    ghost view = { λ s. s.boxes.items };
 }
