@@ -1,0 +1,4 @@
+pub mod Places
+pub mod Rules
+pub mod Meaning
+pub mod Printed

@@ -1,0 +1,94 @@
+ghost use Rattle.std.specs.Prelude.{◌≡◌, IfOk, length};
+ghost use Rattle.mc_text.specs.NameLists.{slots_of};
+ghost use Rattle.mc_world.specs.BoxShapes.{shape_of};
+ghost use Rattle.mc_script.specs.Places.{Fits};
+
+use super::*;
+use mc_signal::Medium;
+use mc_slot::Goal;
+use mc_text::{NameFault, Names};
+use mc_world::{BoxShape, Change, Event, Kind, Shape, Turn};
+use std::alloc::{AllocError, Global};
+
+// A device `alice` with a slot `a`, and a feature `f` with a slot `w`.
+fn example_names(alloc: Global) -> Result<Names, NameFault>
+    ensures { IfOk result (λ names. (length names.boxes ≡ 2) × (length (slots_of names 0) ≡ 1) × (length (slots_of names 1) ≡ 1)) }
+{
+    let mut names = Names::new(alloc);
+    names.add_box(b"alice")?;
+    names.add_slot(0, b"a")?;
+    names.add_box(b"f")?;
+    names.add_slot(1, b"w")?;
+    Ok(names)
+}
+
+fn one_slot(alloc: Global, kind: Kind) -> Result<BoxShape, AllocError>
+    ensures { IfOk result (λ shape. length shape.media ≡ 1) }
+{
+    let mut media = Vec::new(alloc);
+    media.push(Medium::Audio)?;
+    Ok(BoxShape {
+        kind,
+        media,
+        programmed: false,
+    })
+}
+
+fn example_shape(alloc: Global) -> Result<Shape, AllocError>
+    ensures { IfOk result (λ shape. (length shape ≡ 2) × (length (shape_of shape 0).media ≡ 1) × (length (shape_of shape 1).media ≡ 1)) }
+{
+    let mut boxes = Vec::new(alloc);
+    boxes.push(one_slot(alloc, Kind::Device)?)?;
+    boxes.push(one_slot(alloc, Kind::Feature)?)?;
+    Ok(Shape { boxes })
+}
+
+#[derive(Drop)]
+struct Example {
+    names: Names,
+    shape: Shape,
+}
+
+#[tactic(auto, using(crate::proofs::Example::fits_two))]
+fn new_example(alloc: Global) -> Result<Example, NameFault>
+    ensures { IfOk result (λ example. Fits example.names example.shape) }
+{
+    let names = example_names(alloc)?;
+    match example_shape(alloc) {
+        Ok(shape) => Ok(Example { names, shape }),
+        Err(wanting) => Err(NameFault::NoMemory(wanting)),
+    }
+}
+
+#[test]
+fn a_command_is_printed(rt: HostRuntime) -> Result<(), NameFault> {
+    let names = example_names(rt.alloc())?;
+    let command = Command::Stimulus(Turn {
+        who: 0,
+        event: Event::Set(Change::End(0, Goal::Open)),
+    });
+    let mut out = Vec::new(rt.alloc());
+    print_command(&names, &command, &mut out).map_err(NameFault::NoMemory)?;
+    assert!(rt; out.as_slice() == b"set alice a open".as_slice());
+    Ok(())
+}
+
+fn number_of(names: &Names, shape: &Shape, line: &[u8]) -> u8
+    requires { Fits names.now shape.now }
+{
+    match read_command(names, shape, line) {
+        Ok(_) => 0,
+        Err(fault) => fault.number,
+    }
+}
+
+#[test]
+fn lines_are_read_or_refused(rt: HostRuntime) -> Result<(), NameFault> {
+    let Example { names, shape } = new_example(rt.alloc())?;
+    assert_eq!(rt; number_of(&names, &shape, b" set  alice a open "), 0);
+    assert_eq!(rt; number_of(&names, &shape, b"set alice a"), 6);
+    assert_eq!(rt; number_of(&names, &shape, b"settle now"), 7);
+    assert_eq!(rt; number_of(&names, &shape, b"set alice z open"), 11);
+    assert_eq!(rt; number_of(&names, &shape, b"link f w w"), 12);
+    Ok(())
+}
