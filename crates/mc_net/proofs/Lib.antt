@@ -1,0 +1,12 @@
+pub mod Batches
+pub mod Blocks
+pub mod CodecLists
+pub mod Declaring
+pub mod FirstBroken
+pub mod FirstNets
+pub mod Fitting
+pub mod Missing
+pub mod Reading
+pub mod Small
+pub mod Unfinished
+pub mod WordLists

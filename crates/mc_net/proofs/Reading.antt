@@ -1,0 +1,166 @@
+-- Reading the lines of a text, one after the other.
+use Rattle.std.proofs.Common.{◌≡◌, ◌⊎◌, inl, inr, ℕ, zero, suc, ◌+◌, ◌<◌, ◌≤◌, Bool, true, false, ◌&&◌, nat_le, nat_lt, List, [], ◌∷◌, ◌++◌, length, drop, Option, Some, None, slice_index_or, refl, ap, subst, arith}
+use Rattle.std.proofs.lemmas.Bool.{cases_lt}
+use Rattle.mc_text.specs.Lines.{lines, words}
+use Rattle.mc_script.specs.Rules.{byte_rules, least_broken}
+use Rattle.mc_net.specs.Meaning.{line_after}
+use Rattle.mc_net.specs.Rules.{end_fault, is_skipped, line_fault, line_words_rules, passes_limit, text_limit}
+use Rattle.mc_net.specs.SoFar.{Declared}
+use Rattle.mc_net.specs.Texts.{AreSound, IsFault, at_line, at_end, unbuilt, Says, after_line, bytes_before, declared_after, declared_by, fault_at, first_unbuilt, with_unbuilt}
+
+-- so many lines were read, and broke no rule; these are left. The next line has the number `number`, and `before` bytes stand before it
+pub record HasRead (text : List ℕ) (number before : ℕ) (d : Declared) (left : List (List ℕ)) : Type 0 where
+  pub count : ℕ
+  pub numbered : number ≡ suc count
+  pub counted : before ≡ bytes_before (lines text) count
+  pub declared : d ≡ declared_by (lines text) count
+  pub rest : left ≡ drop count (lines text)
+  pub so_far : count ≤ length (lines text)
+  pub sound : AreSound (length text) (lines text) count
+  pub few : number ≤ before + 1
+  pub within : before ≤ text_limit + 1
+  pub short : text_limit < length text → before ≤ text_limit
+
+-- nothing was read
+pub none_read : (text : List ℕ) (d : Declared) → d ≡ declared_by (lines text) 0 → HasRead text 1 0 d (lines text)
+none_read text d new = record {
+  count = 0;
+  numbered = refl;
+  counted = refl;
+  declared = new;
+  rest = refl;
+  so_far = omega arith;
+  sound = λ k within. absurd (omega arith);
+  few = omega arith;
+  within = omega arith;
+  short = λ long. omega arith;
+}
+
+-- the line at a place, of lines that are left
+at_place : {A : Type 0} (xs : List A) (x : A) (others : List A) (k : ℕ) (default : A) → x ∷ others ≡ drop k xs → slice_index_or xs k default ≡ x
+at_place [] x others zero default here = absurd cc
+at_place [] x others (suc k) default here = absurd cc
+at_place (y ∷ ys) x others zero default here = cc
+at_place (y ∷ ys) x others (suc k) default here = at_place ys x others k default here
+
+-- the lines behind it
+behind_place : {A : Type 0} (xs : List A) (x : A) (others : List A) (k : ℕ) → x ∷ others ≡ drop k xs → others ≡ drop (suc k) xs
+behind_place [] x others zero here = absurd cc
+behind_place [] x others (suc k) here = absurd cc
+behind_place (y ∷ ys) x others zero here = cc
+behind_place (y ∷ ys) x others (suc k) here = behind_place ys x others k here
+
+within_place : {A : Type 0} (xs : List A) (x : A) (others : List A) (k : ℕ) → x ∷ others ≡ drop k xs → k < length xs
+within_place [] x others zero here = absurd cc
+within_place [] x others (suc k) here = absurd cc
+within_place (y ∷ ys) x others zero here = omega arith
+within_place (y ∷ ys) x others (suc k) here = let more = within_place ys x others k here in omega arith
+
+-- where no line is left all were read
+all_read : {A : Type 0} (xs : List A) (k : ℕ) → [] ≡ drop k xs → k ≤ length xs → k ≡ length xs
+all_read [] zero none within = refl
+all_read [] (suc k) none within = absurd (omega arith)
+all_read (y ∷ ys) zero none within = absurd cc
+all_read (y ∷ ys) (suc k) none within = ap suc (all_read ys k none (omega arith))
+
+after_is : (d after : Declared) (number : ℕ) (line : List ℕ) → after_line d number line ≡ Some after → after ≡ declared_after d number line
+after_is d after number line read = by (line_after d line) refl
+  where
+    by : (o : Option Declared) → line_after d line ≡ o → after ≡ declared_after d number line
+    by None e = absurd (let none : None ≡ Some after = rw e at read in cc)
+    by (Some next) e =
+        let some : Some (with_unbuilt (first_unbuilt d number line) next) ≡ Some after = rw e at read in
+        let same : after ≡ with_unbuilt (first_unbuilt d number line) next = cc in
+        rw e same
+
+-- the next line's fault, by its place
+fault_here : (text : List ℕ) (number before : ℕ) (d : Declared) (line : List ℕ) (others : List (List ℕ)) (read : HasRead text number before d (line ∷ others)) (fault : Option ℕ)
+    → line_fault (length text) before d line ≡ fault → fault_at (length text) (lines text) read.count ≡ fault
+fault_here text number before d line others read fault found =
+    let place : slice_index_or (lines text) read.count [] ≡ line = at_place (lines text) line others read.count [] read.rest in
+    rw (place, ← read.counted, ← read.declared) found
+
+-- where no rule is broken, neither is the first
+pub first_kept : (number : ℕ) (broken : Bool) (others : List (ℕ × Bool)) → least_broken ((number, broken) ∷ others) ≡ None → broken ≡ false
+first_kept number true others kept = absurd (let clash : Some number ≡ None = kept in cc)
+first_kept number false others kept = refl
+
+not_past : (total before : ℕ) (d : Declared) (line : List ℕ) → line_fault total before d line ≡ None → passes_limit total before line ≡ false
+not_past total before d line kept = first_kept 1 (passes_limit total before line) (byte_rules line ++ line_words_rules (is_skipped (words line)) d (words line)) kept
+
+-- a line that doesn't pass the limit leaves less than the limit behind it
+short_still : (total before line : ℕ) → (nat_lt text_limit total && nat_le before text_limit && nat_le text_limit (before + line)) ≡ false → text_limit < total → before ≤ text_limit → before + (line + 1) ≤ text_limit
+short_still total before line kept long short =
+    let below : before + line < text_limit = grind arith in
+    omega arith
+
+at_most : (total next : ℕ) → next ≤ total + 1 → (text_limit < total → next ≤ text_limit) → next ≤ text_limit + 1
+at_most total next small long = by (cases_lt text_limit total)
+  where
+    by : (text_limit < total) ⊎ (total ≤ text_limit) → next ≤ text_limit + 1
+    by (inl is) = let n = long is in omega arith
+    by (inr few) = omega arith
+
+-- the line breaks no rule
+pub one_more : (text : List ℕ) (number before next : ℕ) (d after : Declared) (line : List ℕ) (others : List (List ℕ)) → HasRead text number before d (line ∷ others)
+    → line_fault (length text) before d line ≡ None → after_line d number line ≡ Some after → next ≡ before + (length line + 1) → next ≤ length text + 1 → HasRead text (number + 1) next after others
+one_more text number before next d after line others read sound means behind small = record {
+  count = suc read.count;
+  numbered = let e = read.numbered in omega arith;
+  counted = rw (place, ← read.counted) behind;
+  declared = rw (place, ← read.declared, ← read.numbered) (after_is d after number line means);
+  rest = behind_place (lines text) line others read.count read.rest;
+  so_far = within_place (lines text) line others read.count read.rest;
+  sound = λ k within. by k (cases_lt k read.count) within;
+  few = let few = read.few in omega arith;
+  within = bounds.0;
+  short = bounds.1;
+}
+  where
+    place : slice_index_or (lines text) read.count [] ≡ line
+    place = at_place (lines text) line others read.count [] read.rest
+
+    by : (k : ℕ) → (k < read.count) ⊎ (read.count ≤ k) → k < suc read.count → fault_at (length text) (lines text) k ≡ None
+    by k (inl earlier) within = read.sound k earlier
+    by k (inr later) within =
+        let here : read.count ≡ k = omega arith in
+        subst (λ (n : ℕ). fault_at (length text) (lines text) n ≡ None) here (fault_here text number before d line others read None sound)
+
+    bounds : (next ≤ text_limit + 1) × (text_limit < length text → next ≤ text_limit)
+    bounds =
+        let kept : passes_limit (length text) before line ≡ false = not_past (length text) before d line sound in
+        let long : text_limit < length text → next ≤ text_limit = λ is. rw behind (short_still (length text) before (length line) kept is (read.short is)) in
+        (at_most (length text) next small long, long)
+
+-- the line breaks a rule
+pub refused_here : (text : List ℕ) (number before : ℕ) (d : Declared) (line : List ℕ) (others : List (List ℕ)) (broken : ℕ) → HasRead text number before d (line ∷ others)
+    → line_fault (length text) before d line ≡ Some broken → IsFault text broken number
+refused_here text number before d line others broken read found =
+    let counted : read.count + 1 ≡ number = let e = read.numbered in omega arith in
+    subst (λ (n : ℕ). IsFault text broken n) counted
+    (at_line read.count (within_place (lines text) line others read.count read.rest) read.sound (fault_here text number before d line others read (Some broken) found))
+
+-- the end breaks a rule
+pub refused_at_end : (text : List ℕ) (number before : ℕ) (d : Declared) (broken : ℕ) → HasRead text number before d [] → end_fault d ≡ Some broken → IsFault text broken number
+refused_at_end text number before d broken read found =
+    let all : read.count ≡ length (lines text) = all_read (lines text) read.count read.rest read.so_far in
+    let counted : length (lines text) + 1 ≡ number = let e = read.numbered in omega arith in
+    subst (λ (n : ℕ). IsFault text broken n) counted
+    (at_end (subst (λ (n : ℕ). AreSound (length text) (lines text) n) all read.sound) (rw (← all, ← read.declared) found))
+
+-- a line can't be run yet
+pub refused_unbuilt : (text : List ℕ) (number before : ℕ) (d : Declared) (line : ℕ) → HasRead text number before d [] → end_fault d ≡ None → d.unbuilt ≡ Some line → IsFault text 19 line
+refused_unbuilt text number before d line read ended found =
+    let all : read.count ≡ length (lines text) = all_read (lines text) read.count read.rest read.so_far in
+    unbuilt (subst (λ (n : ℕ). AreSound (length text) (lines text) n) all read.sound) (rw (← all, ← read.declared) ended) (rw (← all, ← read.declared) found)
+
+-- the text is in the grammar
+pub says_it : (text : List ℕ) (number before : ℕ) (d : Declared) → HasRead text number before d [] → end_fault d ≡ None → d.unbuilt ≡ None → Says text d
+says_it text number before d read ended built =
+    let all : read.count ≡ length (lines text) = all_read (lines text) read.count read.rest read.so_far in
+    record {
+      sound = subst (λ (n : ℕ). AreSound (length text) (lines text) n) all read.sound;
+      ended = rw (← all, ← read.declared) ended;
+      built = built;
+      declared = rw (← all) read.declared;
+    }

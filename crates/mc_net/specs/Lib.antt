@@ -1,0 +1,11 @@
+pub mod BoxLines
+pub mod Forms
+pub mod Listing
+pub mod Meaning
+pub mod Nets
+pub mod Programs
+pub mod Readings
+pub mod Rules
+pub mod SoFar
+pub mod Texts
+pub mod WordLists

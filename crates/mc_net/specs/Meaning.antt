@@ -1,0 +1,160 @@
+-- What a line that breaks no rule declares. The words are those behind the first.
+use Rattle.std.specs.Prelude.{ℕ, ◌-◌, Bool, true, false, List, [], ◌∷◌, ◌++◌, Option, Some, None, drop, if◌then◌else◌, length, map, slice_set}
+use Rattle.std.specs.List.{slice_get}
+use Rattle.std.specs.Option.{option_and_then, option_map, unwrap_or}
+use Rattle.mc_signal.specs.declared.Medium.{Medium}
+use Rattle.mc_text.specs.Lines.{words}
+use Rattle.mc_text.specs.NameLists.{NameLists, place_of, slots_of, with_box, with_codec, with_slot}
+use Rattle.mc_text.specs.Spelling.{number_of}
+use Rattle.mc_world.specs.BoxShapes.{BoxShapeState, shape_of}
+use Rattle.mc_world.specs.Worlds.{ChannelState}
+use Rattle.mc_world.specs.declared.event.Kind.{Kind}
+use Rattle.mc_world.specs.declared.network.Tunnel.{Tunnel}
+use Rattle.mc_world.specs.declared.event.Kind.TheVariants.{Device, Feature}
+use Rattle.mc_script.specs.Meaning.{command_by}
+use Rattle.mc_script.specs.Places.{box_at, meant}
+use Rattle.mc_script.specs.declared.keyword.CommandWord.{CommandWord}
+use Rattle.mc_script.specs.declared.keyword.CommandWord.TheVariants as command
+use Rattle.mc_net.specs.Rules.{begins_digit, codec_words, is_skipped, keyword_of, medium_of, open_block}
+use Rattle.mc_net.specs.Programs.{◌>>=◌, BlockState, block_goal_after, block_link_after, block_when_after, new_block, with_new_part}
+use Rattle.mc_net.specs.SoFar.{BoxMedia, Declared, no_media}
+use Rattle.mc_net.specs.declared.section.Keyword.{Keyword}
+use Rattle.mc_net.specs.declared.section.Keyword.TheVariants as keyword
+use Rattle.mc_net.specs.declared.section.Section.{Section}
+use Rattle.mc_net.specs.declared.section.Section.TheVariants as section
+
+-- ---- codecs, boxes, channels
+
+abbrev pub codec_after : Declared → List (List ℕ) → Option Declared
+codec_after d words = option_map (λ name. record d { section = section.Codecs; names = with_codec d.names name }) (slice_get words 0)
+
+-- a box as its line leaves it: without slots, without a program
+abbrev pub new_shape : Kind → BoxShapeState
+new_shape kind = record { kind = kind; media = []; programmed = false }
+
+-- a box with the next number
+abbrev pub with_new_box : Declared → List ℕ → Kind → BoxMedia → Declared
+with_new_box d name kind media = record d {
+  section = section.Boxes;
+  names = with_box d.names name;
+  shape = d.shape ++ new_shape kind ∷ [];
+  media = d.media ++ media ∷ [];
+}
+
+-- the version that a `dev` line gives, and else 1
+abbrev pub version_of : List (List ℕ) → ℕ
+version_of [] = 1
+version_of (first ∷ others) = if begins_digit first then unwrap_or (number_of first) 1 else 1
+
+abbrev pub codec_number : NameLists → List ℕ → ℕ
+codec_number names word = unwrap_or (place_of names.codecs word) 0
+
+-- what a `dev` line says of the media; the words are those behind the name
+abbrev pub media_of : NameLists → List (List ℕ) → BoxMedia
+media_of names words = record { version = version_of words; codecs = map (codec_number names) (codec_words words) }
+
+abbrev pub device_after : Declared → List (List ℕ) → Option Declared
+device_after d words = option_map (λ name. with_new_box d name Device (media_of d.names (drop 1 words))) (slice_get words 0)
+
+abbrev pub feature_after : Declared → List (List ℕ) → Option Declared
+feature_after d words = option_map (λ name. with_new_box d name Feature no_media) (slice_get words 0)
+
+-- a box has one more slot, of this medium
+abbrev pub with_medium : List BoxShapeState → ℕ → Medium → List BoxShapeState
+with_medium shape who medium = slice_set shape who (record (shape_of shape who) { media = (shape_of shape who).media ++ medium ∷ [] })
+
+-- a box has one more slot, of this name and medium
+abbrev pub with_new_slot : Declared → ℕ → List ℕ → Medium → Declared
+with_new_slot d who name medium = record d { names = with_slot d.names who name; shape = with_medium d.shape who medium }
+
+-- a channel of one tunnel
+abbrev pub one_tunnel : ℕ → ℕ → Tunnel → ChannelState
+one_tunnel from to tunnel = record { from = from; to = to; tunnels = tunnel ∷ [] }
+
+-- a channel of one tunnel between a new slot of each of two boxes
+abbrev pub joined : Declared → Medium → ℕ → List ℕ → ℕ → List ℕ → Declared
+joined d medium from slot to far_slot = record (with_new_slot (with_new_slot d from slot medium) to far_slot medium) {
+  section = section.Channels;
+  channels = d.channels ++ one_tunnel from to (record { medium = medium; from = length (slots_of d.names from); to = length (slots_of d.names to) }) ∷ [];
+}
+
+abbrev pub channel_after : Declared → List (List ℕ) → Option Declared
+channel_after d words = do
+  medium ← meant medium_of (slice_get words 0)
+  from ← box_at d.names (slice_get words 1)
+  slot ← slice_get words 2
+  to ← box_at d.names (slice_get words 3)
+  far_slot ← slice_get words 4
+  Some (joined d medium from slot to far_slot)
+
+-- ---- programs
+
+-- a box has a program
+abbrev pub with_program : List BoxShapeState → ℕ → List BoxShapeState
+with_program shape who = slice_set shape who (record (shape_of shape who) { programmed = true })
+
+abbrev pub program_after : Declared → List (List ℕ) → Option Declared
+program_after d words = option_map (λ who. record d {
+  section = section.Programs;
+  shape = with_program d.shape who;
+  blocks = d.blocks ++ new_block who (drop 1 words) ∷ [];
+}) (box_at d.names (slice_get words 0))
+
+-- the last program becomes another
+abbrev pub with_block : Declared → BlockState → Declared
+with_block d block = record d { blocks = slice_set d.blocks (length d.blocks - 1) block }
+
+abbrev pub state_after : Declared → List (List ℕ) → Option Declared
+state_after d words = option_map (λ block. with_block d (with_new_part d.names block)) (open_block d)
+
+-- a told word may be new
+abbrev pub when_after : Declared → BlockState → List (List ℕ) → Option Declared
+when_after d block words = option_map (λ after. with_block (record d { names = after.0 }) after.1) (block_when_after d.names block words)
+
+-- ---- begin and commands
+
+abbrev pub begin_after : Declared → Declared
+begin_after d = record d { section = section.Commands; begun = true }
+
+abbrev pub command_after : Declared → CommandWord → List (List ℕ) → Option Declared
+command_after d kind words = option_map (λ it. record d { section = section.Commands; commands = d.commands ++ it ∷ [] }) (command_by d.names (Some kind) words)
+
+-- ---- any line
+
+abbrev pub link_after : Declared → Section → List (List ℕ) → Option Declared
+link_after d section.Programs words = option_and_then (λ block. option_map (with_block d) (block_link_after d.names block words)) (open_block d)
+link_after d other words = command_after d command.Link words
+
+abbrev pub after_by : Declared → Option Keyword → List (List ℕ) → Option Declared
+after_by d (Some keyword.Codec) words = codec_after d words
+after_by d (Some keyword.Dev) words = device_after d words
+after_by d (Some keyword.Feat) words = feature_after d words
+after_by d (Some keyword.Chan) words = channel_after d words
+after_by d (Some keyword.Prog) words = program_after d words
+after_by d (Some keyword.State) words = state_after d words
+after_by d (Some keyword.Goal) words = option_and_then (λ block. option_map (with_block d) (block_goal_after d.names block words)) (open_block d)
+after_by d (Some keyword.When) words = option_and_then (λ block. when_after d block words) (open_block d)
+after_by d (Some keyword.Begin) words = Some (begin_after d)
+after_by d (Some keyword.Set) words = command_after d command.Set words
+after_by d (Some keyword.Link) words = link_after d d.section words
+after_by d (Some keyword.Hear) words = command_after d command.Hear words
+after_by d (Some keyword.Talk) words = command_after d command.Talk words
+after_by d (Some keyword.Tell) words = command_after d command.Tell words
+after_by d (Some keyword.Settle) words = command_after d command.Settle words
+after_by d other words = None
+
+abbrev pub words_after : Bool → Declared → List (List ℕ) → Option Declared
+words_after false d words = Some (record d { versioned = true })
+words_after true d words = after_by d (option_and_then keyword_of (slice_get words 0)) (drop 1 words)
+
+abbrev pub unless_skipped : Bool → Declared → Option Declared → Option Declared
+unless_skipped true d after = Some d
+unless_skipped false d after = after
+
+-- what is declared after a line of these words
+abbrev pub entry_after : Declared → List (List ℕ) → Option Declared
+entry_after d words = unless_skipped (is_skipped words) d (words_after d.versioned d words)
+
+-- what is declared after a line, if it means anything
+abbrev pub line_after : Declared → List ℕ → Option Declared
+line_after d line = entry_after d (words line)

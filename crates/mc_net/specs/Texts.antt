@@ -1,0 +1,86 @@
+-- A whole text: its first fault, and what it declares.
+use Rattle.std.specs.Prelude.{ℕ, zero, suc, ◌≡◌, ◌+◌, ◌<◌, ◌==◌, ◌&&◌, ◌||◌, not, Bool, true, false, List, [], Option, Some, None, count_by, drop, if◌then◌else◌, length, nat_le, slice_index_or}
+use Rattle.std.specs.List.{slice_get}
+use Rattle.std.specs.Option.{is_some, option_and_then, option_map, unwrap_or}
+use Rattle.mc_text.specs.Lines.{lines, words}
+use Rattle.mc_world.specs.BoxShapes.{is_device}
+use Rattle.mc_net.specs.Meaning.{line_after}
+use Rattle.mc_net.specs.Rules.{end_fault, gives_version, is_skipped, keyword_of, line_fault}
+use Rattle.mc_net.specs.SoFar.{Declared, nothing}
+use Rattle.mc_net.specs.declared.fault.NetFault.{NetFault}
+use Rattle.mc_net.specs.declared.fault.NetFault.TheVariants.{Line, NoMemory}
+use Rattle.mc_net.specs.declared.section.Keyword.{Keyword}
+use Rattle.mc_net.specs.declared.section.Keyword.TheVariants as keyword
+
+-- ---- what can't be run yet
+
+abbrev pub device_count : Declared → ℕ
+device_count d = count_by (λ box. is_device box.kind) d.shape
+
+-- a line of this kind is one that the program can't run yet
+abbrev pub unbuilt_by : Declared → Option Keyword → List (List ℕ) → Bool
+unbuilt_by d (Some keyword.Feat) words = true
+unbuilt_by d (Some keyword.Dev) words = gives_version (drop 1 words) || nat_le 2 (device_count d)
+unbuilt_by d (Some keyword.Chan) words = nat_le 1 (length d.channels)
+unbuilt_by d (Some keyword.Prog) words = true
+unbuilt_by d (Some keyword.Begin) words = not (device_count d == 2 && length d.channels == 1)
+unbuilt_by d (Some keyword.Hear) words = true
+unbuilt_by d (Some keyword.Talk) words = true
+unbuilt_by d other words = false
+
+abbrev pub is_unbuilt : Declared → List (List ℕ) → Bool
+is_unbuilt d words = d.versioned && not (is_skipped words) && unbuilt_by d (option_and_then keyword_of (slice_get words 0)) (drop 1 words)
+
+-- ---- one line after another
+
+-- the first line that can't be run yet: one before, or this one by its number
+abbrev pub first_unbuilt : Declared → ℕ → List ℕ → Option ℕ
+first_unbuilt d number line = if is_some d.unbuilt then d.unbuilt else (if is_unbuilt d (words line) then Some number else None)
+
+abbrev pub with_unbuilt : Option ℕ → Declared → Declared
+with_unbuilt line d = record d { unbuilt = line }
+
+-- what is declared after a line, by its number, if it means anything
+abbrev pub after_line : Declared → ℕ → List ℕ → Option Declared
+after_line d number line = option_map (with_unbuilt (first_unbuilt d number line)) (line_after d line)
+
+-- what is declared after a line, by its number, with what the lines before it declared
+abbrev pub declared_after : Declared → ℕ → List ℕ → Declared
+declared_after d number line = with_unbuilt (first_unbuilt d number line) (unwrap_or (line_after d line) d)
+
+-- what the first lines declare, so many of them
+abbrev pub declared_by : List (List ℕ) → ℕ → Declared
+declared_by lines zero = nothing
+declared_by lines (suc k) = declared_after (declared_by lines k) (suc k) (slice_index_or lines k [])
+
+-- how many bytes stand before a line, with the ends of those before it
+abbrev pub bytes_before : List (List ℕ) → ℕ → ℕ
+bytes_before lines zero = 0
+bytes_before lines (suc k) = bytes_before lines k + (length (slice_index_or lines k []) + 1)
+
+-- the least number of the rules that the line at an index breaks
+abbrev pub fault_at : ℕ → List (List ℕ) → ℕ → Option ℕ
+fault_at total lines k = line_fault total (bytes_before lines k) (declared_by lines k) (slice_index_or lines k [])
+
+-- no line before an index breaks a rule
+abbrev pub AreSound : ℕ → List (List ℕ) → ℕ → Type 0
+AreSound total lines count = (k : ℕ) → k < count → fault_at total lines k ≡ None
+
+-- the text's first fault: a line, by its number from 1, breaks the rule of this number and none with a lesser one, and no line before it breaks a rule. The end counts as one more line. A text that is in the grammar has fault 19 at its first line that can't be run yet
+pub data IsFault (text : List ℕ) : ℕ → ℕ → Type 0 where
+  at_line : {number : ℕ} (k : ℕ) → k < length (lines text) → AreSound (length text) (lines text) k → fault_at (length text) (lines text) k ≡ Some number → IsFault text number (k + 1)
+  at_end : {number : ℕ} → AreSound (length text) (lines text) (length (lines text)) → end_fault (declared_by (lines text) (length (lines text))) ≡ Some number → IsFault text number (length (lines text) + 1)
+  unbuilt : {line : ℕ} → AreSound (length text) (lines text) (length (lines text)) → end_fault (declared_by (lines text) (length (lines text))) ≡ None
+      → (declared_by (lines text) (length (lines text))).unbuilt ≡ Some line → IsFault text 19 line
+
+-- the text is in the grammar, and all of it can be run: this is what it declares
+pub record Says (text : List ℕ) (d : Declared) : Type 0 where
+  pub sound : AreSound (length text) (lines text) (length (lines text))
+  pub ended : end_fault (declared_by (lines text) (length (lines text))) ≡ None
+  pub built : d.unbuilt ≡ None
+  pub declared : d ≡ declared_by (lines text) (length (lines text))
+
+-- why a text isn't taken: its first fault, or want of memory, which says nothing of the text
+abbrev pub RefusesText : List ℕ → NetFault → Type 0
+RefusesText text (Line fault) = IsFault text fault.number fault.line
+RefusesText text (NoMemory e) = Unit {0}

@@ -1,0 +1,69 @@
+//! Why a text isn't taken.
+
+ghost use Rattle.std.specs.Prelude.{◌≡◌, alloc_error};
+ghost use Rattle.mc_net.specs.declared.fault.NetFault.TheVariants as net;
+ghost use Rattle.mc_net.specs.declared.fault.ReadFault.TheVariants as read;
+
+use mc_script::LineFault;
+use std::alloc::{AllocError, AllocFailed};
+use thiserror::Error;
+
+/// The first line of a text that breaks a rule, counted from 1, and the least number of the rules that it breaks.
+///
+/// The end of the text is one more line. Number 19 means that the text is in the grammar, and that this line is the
+/// first that can't be run yet.
+#[derive(Clone, Copy, PartialEq, Eq, Debug)]
+pub struct TextFault {
+    pub number: u8,
+    pub line: u32,
+}
+
+/// Why a text declares no network.
+#[derive(Debug, Drop, Error)]
+pub enum NetFault {
+    /// The text isn't in the grammar, or can't be run yet.
+    #[error("fault {} line {}", .0.number, .0.line)]
+    Line(TextFault),
+    /// Memory ran out.
+    #[error("out of memory")]
+    NoMemory(AllocError),
+}
+
+impl From<AllocError> for NetFault {
+    ghost from_gives = { λ e fault. fault ≡ net.NoMemory e };
+
+    fn from(e: AllocError) -> Self {
+        NetFault::NoMemory(e)
+    }
+}
+
+/// Why a line isn't taken.
+#[derive(Debug, Drop)]
+pub(crate) enum ReadFault {
+    Line(LineFault),
+    NoMemory(AllocError),
+}
+
+impl From<LineFault> for ReadFault {
+    ghost from_gives = { λ e fault. fault ≡ read.Line e };
+
+    fn from(e: LineFault) -> Self {
+        ReadFault::Line(e)
+    }
+}
+
+impl From<AllocError> for ReadFault {
+    ghost from_gives = { λ e fault. fault ≡ read.NoMemory e };
+
+    fn from(e: AllocError) -> Self {
+        ReadFault::NoMemory(e)
+    }
+}
+
+impl<T: Drop> From<AllocFailed<T>> for ReadFault {
+    ghost from_gives = { λ _ fault. fault ≡ read.NoMemory alloc_error };
+
+    fn from(e: AllocFailed<T>) -> Self {
+        ReadFault::NoMemory(AllocError::from(e))
+    }
+}

@@ -1,0 +1,21 @@
+//! The network that a text declares, or the first fault of the text.
+#![tactic(auto)]
+
+mod codec_words;
+mod fault;
+mod keyword;
+mod net;
+mod part;
+mod places;
+mod program;
+mod reader;
+mod section;
+#[cfg(test)]
+mod tests;
+mod text;
+mod word_list;
+
+pub use fault::{NetFault, TextFault};
+pub use keyword::keyword_of;
+pub use net::{Net, Tail, read_net};
+pub use section::{Keyword, Section, WaitWord};

@@ -1,0 +1,389 @@
+//! The part of a state in a program, and the lines in it.
+
+ghost use Rattle.std.specs.Prelude.{◌≡◌, ◌<◌, ◌≤◌, length, position, IfOk, IfSome, MatchResult, OnErr, OnOk};
+ghost use Rattle.std.specs.Str.{bytes_eq};
+ghost use Rattle.std.specs.Option.{option_copied, option_map};
+ghost use Rattle.mc_text.specs.NameLists.{place_of, slots_of};
+ghost use Rattle.mc_world.specs.BoxShapes.{medium_at, shape_of};
+ghost use Rattle.mc_slot.specs.Moves.{is_same_medium};
+ghost use Rattle.mc_script.specs.Places.{Fits, is_no, lacks, meant, unless};
+ghost use Rattle.mc_script.specs.Rules.{least_broken};
+ghost use Rattle.mc_script.specs.Meaning.{ReadsAs};
+ghost use Rattle.mc_net.specs.Readings.{Declares, Makes};
+ghost use Rattle.mc_net.specs.Programs.{new_part, has_goal, lacks_goal, goal_rules, part_goal_after, part_link_rules, part_link_after, state_limit, state_of, has_no_room, when_is_rules, when_told_rules, is_transition, with_transition, words_of, when_rules, part_when_after, told_after, waits_for, IsToldLine};
+
+use crate::fault::ReadFault;
+use crate::places::{is_misspelt, is_overlong};
+use crate::section::WaitWord;
+use mc_script::LineFault;
+use mc_script::places::{fixed_goal, known_slot};
+use mc_slot::{SlotGoal, State};
+use mc_text::{Names, Parts, Words};
+use mc_world::Shape;
+use std::alloc::{AllocError, Global};
+use std::marker::Model;
+
+const TRANSITION_LIMIT: usize = 16;
+
+const TOLD_LIMIT: usize = 64;
+
+/// What a transition waits for: a slot that is in a state, or a told word.
+#[derive(Clone, Copy, PartialEq, Eq, Debug)]
+pub enum Guard {
+    SlotIs(u8, State),
+    Told(u8),
+}
+
+/// A way out of a state: what it waits for, and the state that it leads to.
+#[derive(Clone, Copy, PartialEq, Eq, Debug)]
+pub struct Transition {
+    pub guard: Guard,
+    pub target: u32,
+}
+
+/// A state's part: the goals that its lines gave so far, by slot, and its transitions in their order.
+#[derive(Debug, Drop)]
+pub struct Part {
+    pub goals: Vec<Option<SlotGoal>>,
+    pub transitions: Vec<Transition>,
+}
+
+impl Model for Part {
+    ghost use Rattle.mc_net.specs.Programs.{PartState};
+
+    ghost Value = { PartState };
+
+    ghost view = { λ part. record { goals = part.goals.items; transitions = part.transitions.items } };
+}
+
+// A `when told` line: the word, and the state that it leads to.
+#[derive(Drop)]
+struct ToldLine<'a> {
+    word: &'a [u8],
+    target: u32,
+}
+
+impl Part {
+    /// A part in which no slot has a goal.
+    pub fn new(alloc: Global, slots: usize) -> Result<Part, AllocError>
+        ensures { IfOk result (λ part. part ≡ new_part slots) }
+    {
+        let mut goals = Vec::new(alloc);
+        goals.resize(slots, None)?;
+        Ok(Part {
+            goals,
+            transitions: Vec::new(alloc),
+        })
+    }
+
+    /// Whether some slot has no goal yet.
+    pub fn lacks_goal(&self) -> bool
+        ensures { result ≡ lacks_goal self.now }
+    {
+        self.goals.iter().any(|goal| goal.is_none())
+    }
+
+    /// Reads `goal SLOT GOAL` from the slot on.
+    pub fn read_goal<'a>(
+        &mut self,
+        names: &Names,
+        who: u32,
+        words: Words<'a>,
+    ) -> Result<(), LineFault>
+        requires who { who < length names.now.boxes }
+        requires slots { length self.old.goals ≡ length (slots_of names.now who) }
+        ensures goal { Makes result self.new (least_broken (goal_rules names.now who self.old words.entry)) (part_goal_after names.now who self.old words.entry) }
+        ensures slots { length self.new.goals ≡ length self.old.goals }
+    {
+        let parts = Parts::new(words);
+        let goal = fixed_goal(parts.second)?;
+        let (Some(slot), Some(goal)) = (parts.first, goal) else {
+            return Err(LineFault { number: 6 });
+        };
+        if parts.third.is_some() {
+            return Err(LineFault { number: 7 });
+        }
+        let Some(local) = names.find_slot(who, slot) else {
+            return Err(LineFault { number: 11 });
+        };
+        if self.goals[local as usize].is_some() {
+            return Err(LineFault { number: 9 });
+        }
+        self.goals[local as usize] = Some(SlotGoal::End(goal));
+        Ok(())
+    }
+
+    /// Reads `link SLOT SLOT` from the first slot on. The link is the goal of both.
+    pub fn read_link<'a>(
+        &mut self,
+        names: &Names,
+        shape: &Shape,
+        who: u32,
+        words: Words<'a>,
+    ) -> Result<(), LineFault>
+        requires fits { Fits names.now shape.now }
+        requires who { who < length names.now.boxes }
+        requires slots { length self.old.goals ≡ length (slots_of names.now who) }
+        ensures link { Makes result self.new (least_broken (part_link_rules names.now shape.now who self.old words.entry)) (part_link_after names.now who self.old words.entry) }
+        ensures slots { length self.new.goals ≡ length self.old.goals }
+    {
+        let parts = Parts::new(words);
+        let (Some(one), Some(other)) = (parts.first, parts.second) else {
+            return Err(LineFault { number: 6 });
+        };
+        if parts.third.is_some() {
+            return Err(LineFault { number: 7 });
+        }
+        let one = names.find_slot(who, one);
+        let other = names.find_slot(who, other);
+        if self.has_goal(one) || self.has_goal(other) {
+            return Err(LineFault { number: 9 });
+        }
+        let (Some(one), Some(other)) = (one, other) else {
+            return Err(LineFault { number: 11 });
+        };
+        if one == other {
+            return Err(LineFault { number: 12 });
+        }
+        if !are_of_one_medium(shape, who, one, other) {
+            return Err(LineFault { number: 13 });
+        }
+        self.goals[one as usize] = Some(SlotGoal::Link(other));
+        self.goals[other as usize] = Some(SlotGoal::Link(one));
+        Ok(())
+    }
+
+    // Adds a transition as the last.
+    fn push(&mut self, transition: Transition) -> Result<(), AllocError>
+        ensures added { OnOk result (self.new ≡ with_transition self.old transition) }
+        ensures unchanged { OnErr result (self.new ≡ self.old) }
+    {
+        self.transitions.push(transition)?;
+        Ok(())
+    }
+
+    /// Reads `when is SLOT STATE TARGET` or `when told WORD TARGET` from the second word on, in a program with these
+    /// states. A told word that is new gets a number. Memory runs out only where the line breaks no rule.
+    pub fn read_when<'a>(
+        &mut self,
+        names: &mut Names,
+        who: u32,
+        states: &[Vec<u8>],
+        mut words: Words<'a>,
+    ) -> Result<(), ReadFault>
+        requires who { who < length names.old.boxes }
+        requires states { length states.now ≤ state_limit }
+        ensures when { Declares result (names.new, self.new) (least_broken (when_rules names.old who (words_of states.now) self.old words.entry)) (part_when_after names.old who (words_of states.now) self.old words.entry) }
+        ensures goals { self.new.goals ≡ self.old.goals }
+        ensures boxes { OnOk result (names.new.boxes ≡ names.old.boxes) }
+        ensures slots { OnOk result (names.new.slots ≡ names.old.slots) }
+    {
+        let Some(first) = words.next_word() else {
+            return Err(ReadFault::Line(LineFault { number: 6 }));
+        };
+        match waits_for(first) {
+            None => Err(ReadFault::Line(LineFault { number: 5 })),
+            Some(WaitWord::Is) => self.read_when_is(names, who, states, words),
+            Some(WaitWord::Told) => self.read_when_told(names, states, words),
+        }
+    }
+
+    fn read_when_is<'a>(
+        &mut self,
+        names: &Names,
+        who: u32,
+        states: &[Vec<u8>],
+        words: Words<'a>,
+    ) -> Result<(), ReadFault>
+        requires who { who < length names.now.boxes }
+        requires states { length states.now ≤ state_limit }
+        ensures is { Declares result self.new (least_broken (when_is_rules names.now who (words_of states.now) self.old words.entry)) (option_map (with_transition self.old) (is_transition names.now who (words_of states.now) words.entry)) }
+        ensures goals { self.new.goals ≡ self.old.goals }
+    {
+        let transition = self.when_is_line(names, who, states, words)?;
+        self.push(transition)?;
+        Ok(())
+    }
+
+    fn read_when_told<'a>(
+        &mut self,
+        names: &mut Names,
+        states: &[Vec<u8>],
+        words: Words<'a>,
+    ) -> Result<(), ReadFault>
+        requires { length states.now ≤ state_limit }
+        ensures told { Declares result (names.new, self.new) (least_broken (when_told_rules names.old (words_of states.now) self.old words.entry)) (told_after names.old (words_of states.now) self.old words.entry) }
+        ensures goals { self.new.goals ≡ self.old.goals }
+        ensures boxes { OnOk result (names.new.boxes ≡ names.old.boxes) }
+        ensures slots { OnOk result (names.new.slots ≡ names.old.slots) }
+    {
+        let line = self.when_told_line(names, states, words)?;
+        let Ok(word) = names.add_told(line.word) else {
+            return Err(ReadFault::NoMemory(AllocError));
+        };
+        self.push(Transition {
+            guard: Guard::Told(word),
+            target: line.target,
+        })?;
+        Ok(())
+    }
+
+    // Reads the transition of `when is SLOT STATE TARGET` from the slot on.
+    fn when_is_line<'a>(
+        &self,
+        names: &Names,
+        who: u32,
+        states: &[Vec<u8>],
+        words: Words<'a>,
+    ) -> Result<Transition, LineFault>
+        requires who { who < length names.now.boxes }
+        requires states { length states.now ≤ state_limit }
+        ensures { ReadsAs result (least_broken (when_is_rules names.now who (words_of states.now) self.now words.entry)) (is_transition names.now who (words_of states.now) words.entry) }
+    {
+        let parts = Parts::new(words);
+        let target = known_target(states, parts.third)?;
+        let state = fixed_state(parts.second)?;
+        let (Some(slot), Some(state), Some(target)) = (parts.first, state, target) else {
+            return Err(LineFault { number: 6 });
+        };
+        if parts.fourth.is_some() {
+            return Err(LineFault { number: 7 });
+        }
+        let local = known_slot(names, who, slot)?;
+        if TRANSITION_LIMIT <= self.transitions.len() {
+            return Err(LineFault { number: 14 });
+        }
+        Ok(Transition {
+            guard: Guard::SlotIs(local, state),
+            target,
+        })
+    }
+
+    // Reads `when told WORD TARGET` from the word on.
+    fn when_told_line<'a>(
+        &self,
+        names: &Names,
+        states: &[Vec<u8>],
+        words: Words<'a>,
+    ) -> Result<ToldLine<'a>, LineFault>
+        requires { length states.now ≤ state_limit }
+        ensures { MatchResult result
+            (λ line. IsToldLine names.now (words_of states.now) self.now words.entry line.word.now line.target)
+            (λ e. least_broken (when_told_rules names.now (words_of states.now) self.now words.entry) ≡ Some e.number) }
+    {
+        let parts = Parts::new(words);
+        let target = known_target(states, parts.second)?;
+        if is_misspelt(parts.first) {
+            return Err(LineFault { number: 5 });
+        }
+        let (Some(word), Some(target)) = (parts.first, target) else {
+            return Err(LineFault { number: 6 });
+        };
+        if parts.third.is_some() {
+            return Err(LineFault { number: 7 });
+        }
+        if TRANSITION_LIMIT <= self.transitions.len() || has_no_room(names, word) {
+            return Err(LineFault { number: 14 });
+        }
+        if is_overlong(parts.first) {
+            return Err(LineFault { number: 18 });
+        }
+        Ok(ToldLine { word, target })
+    }
+
+    // Whether a slot is known and has a goal.
+    fn has_goal(&self, local: Option<u8>) -> bool
+        requires { IfSome local (λ known. known < length self.now.goals) }
+        ensures { result ≡ has_goal self.now local }
+    {
+        match local {
+            Some(local) => self.goals[local as usize].is_some(),
+            None => false,
+        }
+    }
+}
+
+// Whether two slots of a box are of one medium.
+fn are_of_one_medium(shape: &Shape, who: u32, one: u8, other: u8) -> bool
+    requires who { who < length shape.now }
+    requires one { one < length (shape_of shape.now who).media }
+    requires other { other < length (shape_of shape.now who).media }
+    ensures { result ≡ is_same_medium (medium_at shape.now who one) (medium_at shape.now who other) }
+{
+    let shape = &shape.boxes[who as usize];
+    shape.media[one as usize] == shape.media[other as usize]
+}
+
+// Whether a word is a new told word, for which there is no room.
+fn has_no_room(names: &Names, word: &[u8]) -> bool
+    ensures { result ≡ has_no_room names.now (Some word.now) }
+{
+    names.find_told(word).is_none() && TOLD_LIMIT <= names.told_count()
+}
+
+// The state that a word names. Fault 4 where no state has the name.
+fn known_target(states: &[Vec<u8>], word: Option<&[u8]>) -> Result<Option<u32>, LineFault>
+    requires { length states.now ≤ state_limit }
+    ensures { result ≡ unless (lacks (words_of states.now) (option_copied word.entry)) 4 (meant (place_of (words_of states.now)) (option_copied word.entry)) }
+{
+    let Some(word) = word else { return Ok(None) };
+    match find_state(states, word) {
+        Some(target) => Ok(Some(target)),
+        None => Err(LineFault { number: 4 }),
+    }
+}
+
+fn find_state(states: &[Vec<u8>], word: &[u8]) -> Option<u32>
+    requires { length states.now ≤ state_limit }
+    ensures { result ≡ place_of (words_of states.now) word.now }
+{
+    place_in(states, word).map(|place| place as u32)
+}
+
+fn place_in(states: &[Vec<u8>], word: &[u8]) -> Option<usize>
+    ensures place { result ≡ position (λ state. bytes_eq word.now state.items) states.now }
+    ensures within { IfSome result (λ place. place < length states.now) }
+{
+    states.iter().position(|state| word == state.as_slice())
+}
+
+// The state of a slot that a word spells. Fault 5 where it spells none.
+fn fixed_state(word: Option<&[u8]>) -> Result<Option<State>, LineFault>
+    ensures { result ≡ unless (is_no state_of (option_copied word.entry)) 5 (meant state_of (option_copied word.entry)) }
+{
+    let Some(word) = word else { return Ok(None) };
+    match state_of(word) {
+        Some(state) => Ok(Some(state)),
+        None => Err(LineFault { number: 5 }),
+    }
+}
+
+fn state_of(word: &[u8]) -> Option<State>
+    ensures { result ≡ state_of word.now }
+{
+    if word == b"closed".as_slice() {
+        Some(State::Closed)
+    } else if word == b"opening".as_slice() {
+        Some(State::Opening)
+    } else if word == b"opened".as_slice() {
+        Some(State::Opened)
+    } else if word == b"flowing".as_slice() {
+        Some(State::Flowing)
+    } else if word == b"closing".as_slice() {
+        Some(State::Closing)
+    } else {
+        None
+    }
+}
+
+fn waits_for(word: &[u8]) -> Option<WaitWord>
+    ensures { result ≡ waits_for word.now }
+{
+    if word == b"is".as_slice() {
+        Some(WaitWord::Is)
+    } else if word == b"told".as_slice() {
+        Some(WaitWord::Told)
+    } else {
+        None
+    }
+}

@@ -1,0 +1,96 @@
+//! The places of a line that declares: what the word in a place must be. A word that is missing isn't asked anything.
+
+ghost use Rattle.std.specs.Prelude.{◌≡◌};
+ghost use Rattle.std.specs.Option.{option_copied};
+ghost use Rattle.mc_script.specs.Places.{is_misspelt, is_no, is_overlong, meant, unless};
+ghost use Rattle.mc_net.specs.Rules.{begins_digit, begins_hash, is_skipped, is_version, medium_of};
+
+use mc_script::LineFault;
+use mc_signal::Medium;
+use mc_text::{Words, is_spelt};
+
+/// The medium that a word spells. Fault 5 where it spells none.
+pub fn fixed_medium(word: Option<&[u8]>) -> Result<Option<Medium>, LineFault>
+    ensures { result ≡ unless (is_no medium_of (option_copied word.entry)) 5 (meant medium_of (option_copied word.entry)) }
+{
+    let Some(word) = word else { return Ok(None) };
+    match medium_of(word) {
+        Some(medium) => Ok(Some(medium)),
+        None => Err(LineFault { number: 5 }),
+    }
+}
+
+fn medium_of(word: &[u8]) -> Option<Medium>
+    ensures { result ≡ medium_of word.now }
+{
+    if word == b"audio".as_slice() {
+        Some(Medium::Audio)
+    } else if word == b"video".as_slice() {
+        Some(Medium::Video)
+    } else {
+        None
+    }
+}
+
+/// Whether a word isn't spelt as a name, whatever its length.
+pub fn is_misspelt(word: Option<&[u8]>) -> bool
+    ensures { result ≡ is_misspelt (option_copied word.entry) }
+{
+    match word {
+        Some(word) => !is_spelt(word),
+        None => false,
+    }
+}
+
+/// Whether a word is spelt as a name but for its more than 16 bytes.
+pub fn is_overlong(word: Option<&[u8]>) -> bool
+    ensures { result ≡ is_overlong (option_copied word.entry) }
+{
+    match word {
+        Some(word) => is_spelt(word) && 16 < word.len(),
+        None => false,
+    }
+}
+
+/// Whether a word begins with a digit.
+pub fn begins_digit(word: &[u8]) -> bool
+    ensures { result ≡ begins_digit word.now }
+{
+    match word {
+        [] => false,
+        [first, ..] => b'0' <= *first && *first <= b'9',
+    }
+}
+
+/// Whether a line with these words is blank or a comment.
+pub fn is_skipped<'a>(mut words: Words<'a>) -> bool
+    ensures { result ≡ is_skipped words.entry }
+{
+    match words.next_word() {
+        None => true,
+        Some(word) => begins_hash(word),
+    }
+}
+
+fn begins_hash(word: &[u8]) -> bool
+    ensures { result ≡ begins_hash word.now }
+{
+    match word {
+        [] => false,
+        [first, ..] => *first == b'#',
+    }
+}
+
+/// Whether the words of a line are `media` and `1`.
+pub fn is_version<'a>(mut words: Words<'a>) -> bool
+    ensures { result ≡ is_version words.entry }
+{
+    let (Some(first), Some(second), None) = (
+        words.next_word(),
+        words.next_word(),
+        words.next_word(),
+    ) else {
+        return false;
+    };
+    first == b"media".as_slice() && second == b"1".as_slice()
+}

@@ -1,0 +1,321 @@
+//! The lines of a text, one after the other, and what they declare.
+
+ghost use Rattle.std.specs.Prelude.{◌≡◌, ◌+◌, ◌<◌, ◌^◌, length, OnOk, Some, map, true, false};
+ghost use Rattle.std.specs.Option.{option_copied};
+ghost use Rattle.mc_script.specs.Rules.{least_broken};
+ghost use Rattle.mc_world.specs.BoxShapes.{is_device};
+ghost use Rattle.mc_net.specs.BoxLines.{media_seen};
+ghost use Rattle.mc_net.specs.Forms.{IsInForm};
+ghost use Rattle.mc_net.specs.Meaning.{after_by, entry_after, words_after};
+ghost use Rattle.mc_net.specs.Readings.{Declares};
+ghost use Rattle.mc_net.specs.Rules.{end_fault, entry_fault, is_late, is_unfinished, line_fault, open_block, rules_by, words_rules};
+ghost use Rattle.mc_net.specs.SoFar.{nothing};
+ghost use Rattle.mc_net.specs.Texts.{after_line, device_count, first_unbuilt, is_unbuilt, unbuilt_by};
+
+mod boxes;
+mod channels;
+mod codecs;
+mod commands;
+mod programs;
+
+use crate::codec_words::gives_version;
+use crate::fault::ReadFault;
+use crate::keyword::keyword_of;
+use crate::places::{is_skipped, is_version};
+use crate::program::{Block, is_unfinished};
+use crate::section::{Keyword, Section};
+use mc_script::keyword::CommandWord;
+use mc_script::{Command, LineFault, check_bytes};
+use mc_signal::CodecList;
+use mc_text::{Names, Words};
+use mc_world::{BoxShape, Channel, Kind, Shape};
+use std::alloc::Global;
+use std::marker::Model;
+
+const TEXT_LIMIT: usize = 1_048_576;
+
+/// What the line of a box says of its media: the version that its descriptors begin at, and its codecs.
+#[derive(Clone, Copy)]
+pub struct BoxMedia {
+    pub version: u32,
+    pub codecs: CodecList,
+}
+
+/// What a text declares: names, for each box its shape and its media, channels, and commands.
+#[derive(Drop)]
+pub struct Parts {
+    pub names: Names,
+    pub shape: Shape,
+    pub media: Vec<BoxMedia>,
+    pub channels: Vec<Channel>,
+    pub commands: Vec<Command>,
+}
+
+/// What the lines of a text so far have declared. After an error nothing is said of it.
+#[derive(Drop)]
+pub struct Reader {
+    alloc: Global,
+    section: Section,
+    versioned: bool,
+    begun: bool,
+    names: Names,
+    shape: Shape,
+    media: Vec<BoxMedia>,
+    channels: Vec<Channel>,
+    blocks: Vec<Block>,
+    commands: Vec<Command>,
+    unbuilt: Option<u32>,
+}
+
+impl Model for Reader {
+    ghost use Rattle.std.specs.Prelude.{map};
+    ghost use Rattle.mc_net.specs.BoxLines.{media_seen};
+    ghost use Rattle.mc_net.specs.SoFar.{Declared};
+
+    ghost Value = { Declared };
+
+    ghost view = { λ r. record { section = r.section; versioned = r.versioned; begun = r.begun; names = r.names; shape = r.shape; media = map media_seen r.media.items; channels = r.channels.items; blocks = r.blocks.items; commands = r.commands.items; unbuilt = r.unbuilt } };
+}
+
+impl Reader {
+    /// Nothing was read yet.
+    pub fn new(alloc: Global) -> Reader
+        ensures nothing { result ≡ nothing }
+        ensures in_form { IsInForm result }
+    {
+        Reader {
+            alloc,
+            section: Section::Version,
+            versioned: false,
+            begun: false,
+            names: Names::new(alloc),
+            shape: Shape {
+                boxes: Vec::new(alloc),
+            },
+            media: Vec::new(alloc),
+            channels: Vec::new(alloc),
+            blocks: Vec::new(alloc),
+            commands: Vec::new(alloc),
+            unbuilt: None,
+        }
+    }
+
+    // Whether a later section has begun than this one.
+    fn is_late(&self, section: Section) -> bool
+        ensures { result ≡ is_late self.now section }
+    {
+        section.rank() < self.section.rank()
+    }
+
+    // The program that is open.
+    fn open_block(&self) -> Option<&Block>
+        ensures { option_copied result ≡ open_block self.now }
+    {
+        match self.section {
+            Section::Programs => self.blocks.last(),
+            _ => None,
+        }
+    }
+
+    // Whether a program is open that lacks a part, or whose last part lacks a goal.
+    fn is_unfinished(&self) -> bool
+        ensures { result ≡ is_unfinished self.now }
+    {
+        is_unfinished(self.open_block())
+    }
+
+    // How many devices were declared.
+    fn device_count(&self) -> usize
+        ensures { result ≡ device_count self.now }
+    {
+        let boxes = self.shape.boxes.as_slice();
+        boxes.iter().filter(|shape| is_device(shape)).count()
+    }
+
+    // Whether a line of this kind is one that the program can't run yet. The words are those behind the first.
+    fn is_unbuilt_kind<'a>(&self, kind: Keyword, mut words: Words<'a>) -> bool
+        ensures { result ≡ unbuilt_by self.now (Some kind) words.entry }
+    {
+        match kind {
+            Keyword::Feat | Keyword::Prog | Keyword::Hear | Keyword::Talk => true,
+            Keyword::Dev => {
+                words.next_word();
+                gives_version(words) || 2 <= self.device_count()
+            }
+            Keyword::Chan => 1 <= self.channels.len(),
+            Keyword::Begin => !(self.device_count() == 2 && self.channels.len() == 1),
+            _ => false,
+        }
+    }
+
+    // Whether a line is one that the program can't run yet.
+    fn is_unbuilt<'a>(&self, mut words: Words<'a>) -> bool
+        ensures { result ≡ is_unbuilt self.now words.entry }
+    {
+        if !self.versioned || is_skipped(words.again()) {
+            return false;
+        }
+        let Some(first) = words.next_word() else {
+            return false;
+        };
+        match keyword_of(first) {
+            Some(kind) => self.is_unbuilt_kind(kind, words),
+            None => false,
+        }
+    }
+
+    // The first line that the program can't run yet: one before, or this one.
+    fn first_unbuilt(&self, number: u32, line: &[u8]) -> Option<u32>
+        ensures { result ≡ first_unbuilt self.now number line.now }
+    {
+        if self.unbuilt.is_some() {
+            return self.unbuilt;
+        }
+        if self.is_unbuilt(Words::new(line)) {
+            return Some(number);
+        }
+        None
+    }
+
+    // Reads a line of this kind. The words are those behind the first.
+    fn read_kind<'a>(&mut self, kind: Keyword, words: Words<'a>) -> Result<(), ReadFault>
+        requires { IsInForm self.old }
+        ensures declared { Declares result self.new (least_broken (rules_by self.old (Some kind) words.entry)) (after_by self.old (Some kind) words.entry) }
+        ensures in_form { OnOk result (IsInForm self.new) }
+    {
+        match kind {
+            Keyword::Media => Err(ReadFault::Line(LineFault { number: 5 })),
+            Keyword::Codec => self.read_codec(words),
+            Keyword::Dev => self.read_device(words),
+            Keyword::Feat => self.read_feature(words),
+            Keyword::Chan => self.read_channel(words),
+            Keyword::Prog => self.read_program(words),
+            Keyword::State => self.read_state(words),
+            Keyword::Goal => self.read_goal(words),
+            Keyword::When => self.read_when(words),
+            Keyword::Begin => self.read_begin(words),
+            Keyword::Set => self.read_command(CommandWord::Set, words),
+            Keyword::Link => self.read_link(words),
+            Keyword::Hear => self.read_command(CommandWord::Hear, words),
+            Keyword::Talk => self.read_command(CommandWord::Talk, words),
+            Keyword::Tell => self.read_command(CommandWord::Tell, words),
+            Keyword::Settle => self.read_command(CommandWord::Settle, words),
+        }
+    }
+
+    // Reads a line of words, behind the version line.
+    fn read_words<'a>(&mut self, mut words: Words<'a>) -> Result<(), ReadFault>
+        requires { IsInForm self.old }
+        ensures declared { Declares result self.new (least_broken (words_rules true self.old words.entry)) (words_after true self.old words.entry) }
+        ensures in_form { OnOk result (IsInForm self.new) }
+    {
+        let unknown = Err(ReadFault::Line(LineFault { number: 5 }));
+        let Some(first) = words.next_word() else {
+            return unknown;
+        };
+        match keyword_of(first) {
+            Some(kind) => self.read_kind(kind, words),
+            None => unknown,
+        }
+    }
+
+    // Reads the first line of words, which must be the version line.
+    fn read_version<'a>(&mut self, words: Words<'a>) -> Result<(), ReadFault>
+        requires { IsInForm self.old }
+        ensures declared { Declares result self.new (least_broken (words_rules false self.old words.entry)) (words_after false self.old words.entry) }
+        ensures in_form { OnOk result (IsInForm self.new) }
+    {
+        if !is_version(words) {
+            return Err(ReadFault::Line(LineFault { number: 17 }));
+        }
+        self.versioned = true;
+        Ok(())
+    }
+
+    // Reads the words of a line, if it isn't skipped.
+    fn read_entry<'a>(&mut self, words: Words<'a>) -> Result<(), ReadFault>
+        requires { IsInForm self.old }
+        ensures declared { Declares result self.new (entry_fault self.old words.entry) (entry_after self.old words.entry) }
+        ensures in_form { OnOk result (IsInForm self.new) }
+    {
+        if is_skipped(words.again()) {
+            return Ok(());
+        }
+        if self.versioned {
+            return self.read_words(words);
+        }
+        self.read_version(words)
+    }
+
+    /// Reads the next line of a text of `total` bytes, by its number, with so many bytes before it.
+    pub fn read_line(
+        &mut self,
+        total: usize,
+        before: usize,
+        number: u32,
+        line: &[u8],
+    ) -> Result<(), ReadFault>
+        requires small { before + length line.now < 2 ^ 64 }
+        requires in_form { IsInForm self.old }
+        ensures declared { Declares result self.new (line_fault total before self.old line.now) (after_line self.old number line.now) }
+        ensures in_form { OnOk result (IsInForm self.new) }
+    {
+        if TEXT_LIMIT < total && before <= TEXT_LIMIT && TEXT_LIMIT <= before + line.len() {
+            return Err(ReadFault::Line(LineFault { number: 1 }));
+        }
+        check_bytes(line)?;
+        let unbuilt = self.first_unbuilt(number, line);
+        self.read_entry(Words::new(line))?;
+        self.unbuilt = unbuilt;
+        Ok(())
+    }
+
+    /// The number of the rule that the end of the text breaks, if it breaks one.
+    pub fn end_fault(&self) -> Option<u8>
+        ensures { result ≡ end_fault self.now }
+    {
+        if self.is_unfinished() {
+            return Some(15);
+        }
+        if self.versioned && !self.begun {
+            return Some(16);
+        }
+        if !self.versioned {
+            return Some(17);
+        }
+        None
+    }
+
+    /// What was declared.
+    pub fn into_parts(self) -> Parts
+        ensures names { result.names ≡ self.names }
+        ensures shape { result.shape ≡ self.shape }
+        ensures media { map media_seen result.media.items ≡ self.media }
+        ensures channels { result.channels.items ≡ self.channels }
+        ensures commands { result.commands.items ≡ self.commands }
+    {
+        Parts {
+            names: self.names,
+            shape: self.shape,
+            media: self.media,
+            channels: self.channels,
+            commands: self.commands,
+        }
+    }
+
+    /// The first line that the program can't run yet.
+    pub fn unbuilt(&self) -> Option<u32>
+        ensures { result ≡ self.now.unbuilt }
+    {
+        self.unbuilt
+    }
+}
+
+fn is_device(shape: &BoxShape) -> bool
+    ensures { result ≡ is_device shape.now.kind }
+{
+    match shape.kind {
+        Kind::Device => true,
+        Kind::Feature => false,
+    }
+}

@@ -1,0 +1,148 @@
+//! Lines that declare boxes.
+
+ghost use Rattle.std.specs.Prelude.{◌≡◌, IfOk, IsTrue, OnOk, drop};
+ghost use Rattle.std.specs.List.{slice_get};
+ghost use Rattle.mc_text.specs.Spelling.{is_name};
+ghost use Rattle.mc_script.specs.Places.{Fits};
+ghost use Rattle.mc_script.specs.Rules.{least_broken};
+ghost use Rattle.mc_net.specs.BoxLines.{device_seen, media_seen};
+ghost use Rattle.mc_net.specs.Forms.{IsInForm};
+ghost use Rattle.mc_net.specs.Meaning.{device_after, feature_after, with_new_box};
+ghost use Rattle.mc_net.specs.Readings.{Declares, ReadsAsBy};
+ghost use Rattle.mc_net.specs.Rules.{device_rules, feature_rules};
+
+use crate::codec_words::{
+    codec_words, has_bad_version, is_overfull, listed, lists_undeclared, version_of,
+};
+use crate::fault::ReadFault;
+use crate::places::{is_misspelt, is_overlong};
+use crate::reader::{BoxMedia, Reader};
+use crate::section::Section;
+use crate::word_list::has_repeat;
+use mc_script::LineFault;
+use mc_signal::CodecList;
+use mc_text::{Parts, Words};
+use mc_world::{BoxShape, Kind};
+use std::alloc::AllocError;
+
+const BOX_LIMIT: usize = 256;
+
+/// What a `dev` line declares.
+#[derive(Drop)]
+pub struct DeviceLine<'a> {
+    name: &'a [u8],
+    media: BoxMedia,
+}
+
+impl Reader {
+    // What a `dev` line declares.
+    fn device_line<'a>(&self, mut words: Words<'a>) -> Result<DeviceLine<'a>, LineFault>
+        ensures read { ReadsAsBy (device_seen self.now) result (least_broken (device_rules self.now words.entry)) (device_after self.now words.entry) }
+        ensures named { IfOk result (λ line. IsTrue (is_name line.name.now)) }
+    {
+        let name = words.next_word();
+        let codecs = codec_words(words.again());
+        if lists_undeclared(&self.names, codecs.again()) {
+            return Err(LineFault { number: 4 });
+        }
+        if self.is_late(Section::Boxes) || is_misspelt(name) {
+            return Err(LineFault { number: 5 });
+        }
+        let Some(spelt) = name else {
+            return Err(LineFault { number: 6 });
+        };
+        if has_bad_version(words.again()) {
+            return Err(LineFault { number: 8 });
+        }
+        if self.names.find_box(spelt).is_some() || has_repeat(codecs.again()) {
+            return Err(LineFault { number: 9 });
+        }
+        if BOX_LIMIT <= self.names.box_count() || is_overfull(codecs.again()) {
+            return Err(LineFault { number: 14 });
+        }
+        if is_overlong(name) {
+            return Err(LineFault { number: 18 });
+        }
+        let media = BoxMedia {
+            version: version_of(words),
+            codecs: listed(&self.names, codecs),
+        };
+        Ok(DeviceLine { name: spelt, media })
+    }
+
+    /// Reads `dev NAME CODEC CODEC ..` or `dev NAME VERSION CODEC CODEC ..` from the name on.
+    pub fn read_device<'a>(&mut self, words: Words<'a>) -> Result<(), ReadFault>
+        requires { IsInForm self.old }
+        ensures declared { Declares result self.new (least_broken (device_rules self.old words.entry)) (device_after self.old words.entry) }
+        ensures in_form { OnOk result (IsInForm self.new) }
+    {
+        let line = self.device_line(words)?;
+        self.add_box(line.name, Kind::Device, line.media)?;
+        Ok(())
+    }
+
+    // The name that a `feat` line declares.
+    fn feature_line<'a>(&self, words: Words<'a>) -> Result<&'a [u8], LineFault>
+        ensures read { ReadsAsBy (λ name. name.now) result (least_broken (feature_rules self.now words.entry)) (slice_get words.entry 0) }
+        ensures named { IfOk result (λ name. IsTrue (is_name name.now)) }
+    {
+        let parts = Parts::new(words);
+        if self.is_late(Section::Boxes) || is_misspelt(parts.first) {
+            return Err(LineFault { number: 5 });
+        }
+        let Some(name) = parts.first else {
+            return Err(LineFault { number: 6 });
+        };
+        if parts.second.is_some() {
+            return Err(LineFault { number: 7 });
+        }
+        if self.names.find_box(name).is_some() {
+            return Err(LineFault { number: 9 });
+        }
+        if BOX_LIMIT <= self.names.box_count() {
+            return Err(LineFault { number: 14 });
+        }
+        if is_overlong(parts.first) {
+            return Err(LineFault { number: 18 });
+        }
+        Ok(name)
+    }
+
+    /// Reads `feat NAME` from the name on.
+    pub fn read_feature<'a>(&mut self, words: Words<'a>) -> Result<(), ReadFault>
+        requires { IsInForm self.old }
+        ensures declared { Declares result self.new (least_broken (feature_rules self.old words.entry)) (feature_after self.old words.entry) }
+        ensures in_form { OnOk result (IsInForm self.new) }
+    {
+        let name = self.feature_line(words)?;
+        let media = BoxMedia {
+            version: 1,
+            codecs: CodecList::none(),
+        };
+        self.add_box(name, Kind::Feature, media)?;
+        Ok(())
+    }
+
+    // Adds a box last, without slots.
+    #[tactic(auto, using(crate::proofs::Fitting::fits_box))]
+    fn add_box(&mut self, name: &[u8], kind: Kind, media: BoxMedia) -> Result<(), AllocError>
+        requires named { IsTrue (is_name name.now) }
+        requires fits { Fits self.old.names self.old.shape }
+        ensures added { OnOk result (self.new ≡ with_new_box self.old name.now kind (media_seen media)) }
+        ensures fits { OnOk result (Fits self.new.names self.new.shape) }
+    {
+        // each box has its list of slots
+        let _ = self.names.box_count();
+        if self.names.add_box(name).is_err() {
+            return Err(AllocError);
+        }
+        self.shape.boxes.push(BoxShape {
+            kind,
+            media: Vec::new(self.alloc),
+            programmed: false,
+        })?;
+        self.media.push(media)?;
+        self.section = Section::Boxes;
+        Ok(())
+    }
+}

@@ -1,0 +1,157 @@
+//! Lines that declare channels.
+
+ghost use Rattle.std.specs.Prelude.{◌≡◌, ◌<◌, ◌≤◌, IfOk, IfSome, IsTrue, OnOk, length, nat_le};
+ghost use Rattle.std.specs.Option.{is_some};
+ghost use Rattle.mc_text.specs.NameLists.{place_of, slots_of};
+ghost use Rattle.mc_text.specs.Spelling.{is_name};
+ghost use Rattle.mc_script.specs.Places.{Fits};
+ghost use Rattle.mc_script.specs.Rules.{least_broken};
+ghost use Rattle.mc_net.specs.BoxLines.{CanJoin, channel_seen};
+ghost use Rattle.mc_net.specs.Forms.{IsInForm};
+ghost use Rattle.mc_net.specs.Meaning.{channel_after, one_tunnel, with_medium, with_new_slot};
+ghost use Rattle.mc_net.specs.Readings.{Declares, ReadsAsBy};
+ghost use Rattle.mc_net.specs.Rules.{channel_rules, slot_limit};
+
+use crate::fault::ReadFault;
+use crate::places::{fixed_medium, is_misspelt, is_overlong};
+use crate::reader::Reader;
+use crate::section::Section;
+use mc_script::LineFault;
+use mc_script::places::known_box;
+use mc_signal::Medium;
+use mc_text::{Parts, Words};
+use mc_world::{Channel, Shape, Tunnel};
+use std::alloc::{AllocError, Global};
+
+const SLOT_LIMIT: usize = 64;
+
+const CHANNEL_LIMIT: usize = 1024;
+
+/// What a `chan` line declares: its medium, its two boxes, and the names of the slot that each gets.
+#[derive(Drop)]
+pub struct ChannelLine<'a> {
+    medium: Medium,
+    from: u32,
+    slot: &'a [u8],
+    to: u32,
+    far_slot: &'a [u8],
+}
+
+impl Reader {
+    // What a `chan` line declares.
+    #[tactic(auto, using(crate::proofs::Missing::no_word_without_box, crate::proofs::Missing::no_fifth_without_second, crate::proofs::Missing::no_fifth_without_third, crate::proofs::Missing::no_fifth_without_fourth))]
+    fn channel_line<'a>(&self, words: Words<'a>) -> Result<ChannelLine<'a>, LineFault>
+        ensures read { ReadsAsBy (channel_seen self.now) result (least_broken (channel_rules self.now words.entry)) (channel_after self.now words.entry) }
+        ensures can_join { IfOk result (CanJoin self.now) }
+    {
+        let parts = Parts::new(words);
+        let from = known_box(&self.names, parts.second)?;
+        let to = known_box(&self.names, parts.fourth)?;
+        let medium = fixed_medium(parts.first)?;
+        if self.is_late(Section::Channels)
+            || from.is_some() && is_misspelt(parts.third)
+            || to.is_some() && is_misspelt(parts.fifth)
+        {
+            return Err(LineFault { number: 5 });
+        }
+        let missing = LineFault { number: 6 };
+        let medium = medium.ok_or(missing)?;
+        let from = from.ok_or(missing)?;
+        let slot = parts.third.ok_or(missing)?;
+        let to = to.ok_or(missing)?;
+        let far_slot = parts.fifth.ok_or(missing)?;
+        if parts.sixth.is_some() {
+            return Err(LineFault { number: 7 });
+        }
+        if self.has_slot(from, slot) || self.has_slot(to, far_slot) {
+            return Err(LineFault { number: 9 });
+        }
+        if from == to {
+            return Err(LineFault { number: 10 });
+        }
+        if self.is_full(from) || self.is_full(to) || CHANNEL_LIMIT <= self.channels.len() {
+            return Err(LineFault { number: 14 });
+        }
+        if is_overlong(parts.third) || is_overlong(parts.fifth) {
+            return Err(LineFault { number: 18 });
+        }
+        Ok(ChannelLine {
+            medium,
+            from,
+            slot,
+            to,
+            far_slot,
+        })
+    }
+
+    // Whether a box has a slot of this name.
+    fn has_slot(&self, who: u32, name: &[u8]) -> bool
+        requires { who < length self.now.names.boxes }
+        ensures { result ≡ is_some (place_of (slots_of self.now.names who) name.now) }
+    {
+        self.names.find_slot(who, name).is_some()
+    }
+
+    // Whether a box has as many slots as it may have.
+    fn is_full(&self, who: u32) -> bool
+        requires { who < length self.now.names.boxes }
+        ensures { result ≡ nat_le slot_limit (length (slots_of self.now.names who)) }
+    {
+        SLOT_LIMIT <= self.names.slot_count(who)
+    }
+
+    /// Reads `chan MEDIUM BOX SLOT BOX SLOT` from the medium on.
+    pub fn read_channel<'a>(&mut self, words: Words<'a>) -> Result<(), ReadFault>
+        requires { IsInForm self.old }
+        ensures declared { Declares result self.new (least_broken (channel_rules self.old words.entry)) (channel_after self.old words.entry) }
+        ensures in_form { OnOk result (IsInForm self.new) }
+    {
+        let line = self.channel_line(words)?;
+        let tunnel = Tunnel {
+            medium: line.medium,
+            from: self.names.slot_count(line.from) as u8,
+            to: self.names.slot_count(line.to) as u8,
+        };
+        self.add_slot(line.from, line.slot, line.medium)?;
+        self.add_slot(line.to, line.far_slot, line.medium)?;
+        let channel = one_tunnel(self.alloc, line.from, line.to, tunnel)?;
+        self.channels.push(channel)?;
+        self.section = Section::Channels;
+        Ok(())
+    }
+
+    // Adds a slot to a box, as its last.
+    fn add_slot(&mut self, who: u32, name: &[u8], medium: Medium) -> Result<(), AllocError>
+        requires who { who < length self.old.names.boxes }
+        requires named { IsTrue (is_name name.now) }
+        requires fits { Fits self.old.names self.old.shape }
+        ensures added { OnOk result (self.new ≡ with_new_slot self.old who name.now medium) }
+        ensures fits { OnOk result (Fits self.new.names self.new.shape) }
+    {
+        // each box has its list of slots
+        let _ = self.names.box_count();
+        if self.names.add_slot(who, name).is_err() {
+            return Err(AllocError);
+        }
+        add_medium(&mut self.shape, who, medium)
+    }
+}
+
+// A box has one more slot, of this medium.
+fn add_medium(shape: &mut Shape, who: u32, medium: Medium) -> Result<(), AllocError>
+    requires { who < length shape.old }
+    ensures { OnOk result (shape.new ≡ with_medium shape.old who medium) }
+{
+    let of_box = &mut shape.boxes[who as usize];
+    of_box.media.push(medium)?;
+    Ok(())
+}
+
+// A channel of one tunnel.
+fn one_tunnel(alloc: Global, from: u32, to: u32, tunnel: Tunnel) -> Result<Channel, AllocError>
+    ensures { IfOk result (λ channel. channel ≡ one_tunnel from to tunnel) }
+{
+    let mut tunnels = Vec::new(alloc);
+    tunnels.push(tunnel)?;
+    Ok(Channel { from, to, tunnels })
+}

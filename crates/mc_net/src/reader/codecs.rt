@@ -1,0 +1,63 @@
+//! Lines that declare codecs.
+
+ghost use Rattle.std.specs.Prelude.{◌≡◌, IfOk, IsTrue, OnOk};
+ghost use Rattle.std.specs.List.{slice_get};
+ghost use Rattle.mc_text.specs.Spelling.{is_name};
+ghost use Rattle.mc_script.specs.Rules.{least_broken};
+ghost use Rattle.mc_net.specs.Forms.{IsInForm};
+ghost use Rattle.mc_net.specs.Meaning.{codec_after};
+ghost use Rattle.mc_net.specs.Readings.{Declares, ReadsAsBy};
+ghost use Rattle.mc_net.specs.Rules.{codec_rules};
+
+use crate::fault::ReadFault;
+use crate::places::{is_misspelt, is_overlong};
+use crate::reader::Reader;
+use crate::section::Section;
+use mc_script::LineFault;
+use mc_text::{Parts, Words};
+use std::alloc::AllocError;
+
+const CODEC_LIMIT: usize = 64;
+
+impl Reader {
+    // The name that a `codec` line declares.
+    fn codec_line<'a>(&self, words: Words<'a>) -> Result<&'a [u8], LineFault>
+        ensures read { ReadsAsBy (λ name. name.now) result (least_broken (codec_rules self.now words.entry)) (slice_get words.entry 0) }
+        ensures named { IfOk result (λ name. IsTrue (is_name name.now)) }
+    {
+        let parts = Parts::new(words);
+        if self.is_late(Section::Codecs) || is_misspelt(parts.first) {
+            return Err(LineFault { number: 5 });
+        }
+        let Some(name) = parts.first else {
+            return Err(LineFault { number: 6 });
+        };
+        if parts.second.is_some() {
+            return Err(LineFault { number: 7 });
+        }
+        if self.names.find_codec(name).is_some() {
+            return Err(LineFault { number: 9 });
+        }
+        if CODEC_LIMIT <= self.names.codec_count() {
+            return Err(LineFault { number: 14 });
+        }
+        if is_overlong(parts.first) {
+            return Err(LineFault { number: 18 });
+        }
+        Ok(name)
+    }
+
+    /// Reads `codec NAME` from the name on.
+    pub fn read_codec<'a>(&mut self, words: Words<'a>) -> Result<(), ReadFault>
+        requires { IsInForm self.old }
+        ensures declared { Declares result self.new (least_broken (codec_rules self.old words.entry)) (codec_after self.old words.entry) }
+        ensures in_form { OnOk result (IsInForm self.new) }
+    {
+        let name = self.codec_line(words)?;
+        if self.names.add_codec(name).is_err() {
+            return Err(ReadFault::NoMemory(AllocError));
+        }
+        self.section = Section::Codecs;
+        Ok(())
+    }
+}
