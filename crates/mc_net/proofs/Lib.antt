@@ -1,3 +1,4 @@
+pub mod Allowed
 pub mod Batches
 pub mod Blocks
 pub mod CodecLists
@@ -6,6 +7,7 @@ pub mod FirstBroken
 pub mod FirstNets
 pub mod Fitting
 pub mod Missing
+pub mod Named
 pub mod Reading
 pub mod Small
 pub mod Unfinished

@@ -1,12 +1,15 @@
 -- The network that a text declares.
-use Rattle.std.specs.Prelude.{◌≡◌, ◌⊎◌, ℕ, Bool, if◌then◌else◌, List, [], ◌∷◌, ◌==◌, length, map, slice_index_or}
+use Rattle.std.specs.Prelude.{◌≡◌, ◌⊎◌, ◌<◌, ℕ, Bool, if◌then◌else◌, List, [], ◌∷◌, ◌==◌, length, map, slice_index_or, IsTrue}
+use Rattle.std.specs.List.{All}
 use Rattle.mc_signal.specs.Choice.{codecs_of}
 use Rattle.mc_signal.specs.declared.Medium.{Medium}
 use Rattle.mc_signal.specs.declared.Medium.TheVariants.{Audio}
 use Rattle.mc_signal.specs.declared.codec_list.CodecList.{CodecList}
+use Rattle.mc_text.specs.NameLists.{NameLists, slots_of}
 use Rattle.mc_world.specs.Boxes.{BoxState, first_box}
 use Rattle.mc_world.specs.Setups.{world_of_devices}
-use Rattle.mc_world.specs.Worlds.{ChannelState, WorldState}
+use Rattle.mc_world.specs.Shapes.{is_allowed}
+use Rattle.mc_world.specs.Worlds.{ChannelState, WorldState, box_at}
 use Rattle.mc_world.specs.declared.event.Kind.TheVariants.{Device}
 use Rattle.mc_world.specs.declared.event.Turn.{Turn}
 use Rattle.mc_script.specs.declared.command.Batch.{Batch}
@@ -91,3 +94,15 @@ pub record DeclaresNet (text : List ℕ) (net : Net) : Type 0 where
   pub world : IsFirstWorld declared net.world
   pub batches : map turns_of net.batches.items ≡ batches_of declared.commands
   pub rest : net.rest ≡ length text
+
+-- ---- what every such network has
+
+-- all of a world has names: its boxes, their slots, and the codecs that they receive
+pub record NamesAll (names : NameLists) (world : WorldState) : Type 0 where
+  pub boxes : length names.boxes ≡ length world.boxes
+  pub slots : (who : ℕ) → who < length world.boxes → length (slots_of names who) ≡ length (box_at world who).slots
+  pub codecs : (who : ℕ) → All (λ codec. codec < length names.codecs) (codecs_of (box_at world who).receives)
+
+-- each command of each batch is one that the world allows
+abbrev pub AreAllowed : WorldState → List (List Turn) → Type 0
+AreAllowed world batches = All (λ batch. All (λ turn. IsTrue (is_allowed world turn)) batch) batches
