@@ -3,7 +3,9 @@ pub mod Batches
 pub mod Blocks
 pub mod CodecLists
 pub mod Declaring
+pub mod Faults
 pub mod FirstBroken
+pub mod FirstBytes
 pub mod FirstNets
 pub mod Fitting
 pub mod Missing

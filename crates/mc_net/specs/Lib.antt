@@ -7,5 +7,6 @@ pub mod Programs
 pub mod Readings
 pub mod Rules
 pub mod SoFar
+pub mod TextLaws
 pub mod Texts
 pub mod WordLists

@@ -4,6 +4,7 @@
 mod codec_words;
 mod fault;
 mod keyword;
+pub mod laws;
 mod net;
 mod part;
 mod places;

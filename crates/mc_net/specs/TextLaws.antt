@@ -1,0 +1,28 @@
+-- Laws of texts: each says something or has a fault, and never both, nor two faults. The first bytes of a long text show its fault.
+use Rattle.std.specs.Prelude.{ℕ, ◌≡◌, ◌⊎◌, List, take}
+use Rattle.mc_net.specs.SoFar.{Declared}
+use Rattle.mc_net.specs.Texts.{IsFault, Says}
+
+-- a text that says something has no fault
+abbrev pub DeclaresOrFaults : Type 0
+DeclaresOrFaults = (text : List ℕ) (d : Declared) (number line : ℕ) → Says text d → IsFault text number line → ⊥
+
+-- a text has no two faults
+abbrev pub OneFault : Type 0
+OneFault = (text : List ℕ) (number line other_number other_line : ℕ) → IsFault text number line → IsFault text other_number other_line → (number ≡ other_number) × (line ≡ other_line)
+
+-- a text says something, or it has a fault
+abbrev pub OneOrTheOther : Type 0
+OneOrTheOther = (text : List ℕ) → ((d : Declared) × Says text d) ⊎ ((number : ℕ) × (line : ℕ) × IsFault text number line)
+
+-- the bytes up to the one with which a text passes its limit
+abbrev pub first_bytes : List ℕ → List ℕ
+first_bytes text = take 1048577 text
+
+-- the fault of the first bytes is that of the whole text
+abbrev pub FaultsOfTheFirstBytes : Type 0
+FaultsOfTheFirstBytes = (text : List ℕ) (number line : ℕ) → IsFault (first_bytes text) number line → IsFault text number line
+
+-- first bytes that say something are the whole text
+abbrev pub SaysTheWhole : Type 0
+SaysTheWhole = (text : List ℕ) (d : Declared) → Says (first_bytes text) d → first_bytes text ≡ text

@@ -1,0 +1,25 @@
+//! Laws of texts, over the definitions alone: each function's contract is the law's sentence.
+
+ghost use Rattle.mc_net.specs.TextLaws.{DeclaresOrFaults, FaultsOfTheFirstBytes, OneFault, OneOrTheOther, SaysTheWhole};
+
+/// A text that says something has no fault.
+pub fn declares_or_faults()
+    ensures { DeclaresOrFaults }
+{}
+
+/// A text has one fault at most: one line, and one number.
+pub fn one_fault()
+    ensures { OneFault }
+{}
+
+/// A text says something, or it has a fault.
+pub fn one_or_the_other()
+    ensures { OneOrTheOther }
+{}
+
+/// Of a text that is too long, the bytes up to the one with which it passes the limit have the fault of the whole.
+/// Where they say something, there are no others.
+pub fn faults_of_the_first_bytes()
+    ensures faults { FaultsOfTheFirstBytes }
+    ensures whole { SaysTheWhole }
+{}
