@@ -6,7 +6,6 @@ pub mod Declaring
 pub mod Faults
 pub mod FirstBroken
 pub mod FirstBytes
-pub mod FirstNets
 pub mod Fitting
 pub mod Missing
 pub mod Named
