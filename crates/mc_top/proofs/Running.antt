@@ -1,9 +1,7 @@
 -- A script that is run: what its journal and its output have so far, and what follows.
-use Rattle.std.proofs.Common.{◌≡◌, ◌<◌, ◌≤◌, ◌&&◌, ◌++◌, ◌∷◌, [], ℕ, ◌+◌, ◌^◌, suc, Bool, not, Some, List, All, IsTrue, drop, nat_lt, length, map, slice_index_or, refl, ap, sym, ◌∙◌, add-one, subst, append-nil, append_assoc, arith}
+use Rattle.std.proofs.Common.{◌≡◌, ◌<◌, ◌≤◌, ◌&&◌, ◌++◌, ◌∷◌, [], ℕ, ◌+◌, Bool, not, Some, List, All, IsTrue, drop, nat_lt, length, map, slice_index_or, refl, ap, sym, ◌∙◌, add-one, subst, append-nil, append_assoc}
 use Rattle.std.proofs.Math.Seq.{drop-cons}
-use Rattle.std.proofs.lemmas.Grind.{common_steps}
-use Rattle.std.proofs.lemmas.List.{drop_all}
-use Rattle.std.proofs.lemmas.List.Elements.{All-nil, All-push}
+use Rattle.std.proofs.lemmas.List.{drop_all, get_or-map, length-map}
 use Rattle.mc_signal.specs.Choice.{codecs_of}
 use Rattle.mc_signal.specs.declared.codec_list.CodecList.{CodecList}
 use Rattle.mc_world.specs.Boxes.{BoxState}
@@ -21,16 +19,14 @@ use Rattle.mc_world.proofs.ShapesKept.{run_keeps_shape, same_shape, shape_both}
 use Rattle.mc_world.proofs.StepForms.{then_some}
 use Rattle.mc_world.proofs.StepKeeps.{run_keeps_sound}
 use Rattle.mc_path.proofs.SettledHold.{settled_paths_hold}
-use Rattle.mc_top.specs.Commands.{batches, batches_after}
+use Rattle.mc_text.specs.NameLists.{NameLists}
+use Rattle.mc_script.specs.declared.command.Batch.{Batch}
+use Rattle.mc_net.specs.Nets.{AreAllowed, NamesAll, turns_of}
 use Rattle.mc_top.specs.Journals.{HoldsAtSettles, IsJournal, lines_for, replayed}
-use Rattle.mc_top.specs.NameLists.{NameLists}
-use Rattle.mc_top.specs.Printed.{NamesAll, printed, settle_text}
-use Rattle.mc_top.specs.Scripts.{ScriptState, Follows, Settling, begun}
-use Rattle.mc_top.specs.Shapes.{IsNamedCommand, IsNamedSet}
-use Rattle.mc_top.specs.declared.script.Command.{Command}
-use Rattle.mc_top.specs.declared.script.Command.TheVariants.{Stimulus, Settle}
-use Rattle.mc_top.specs.declared.script.JournalLine.{JournalLine}
-use Rattle.mc_top.specs.declared.script.JournalLine.TheVariants.{Turn as Made, Settled}
+use Rattle.mc_top.specs.Printed.{printed, settle_text}
+use Rattle.mc_top.specs.Scripts.{ScriptState, Settling, begun}
+use Rattle.mc_script.specs.declared.command.JournalLine.{JournalLine}
+use Rattle.mc_script.specs.declared.command.JournalLine.TheVariants.{Turn as Made, Settled}
 
 -- ---- shapes
 
@@ -59,22 +55,6 @@ allowed_alike new old turn shape =
 
 pub allowed_kept : (new old : WorldState) (batch : List Turn) → HasShape new old → All (λ turn. IsTrue (is_allowed old turn)) batch → All (λ turn. IsTrue (is_allowed new turn)) batch
 allowed_kept new old batch shape all k turn within = allowed_alike new old (slice_index_or batch k turn) shape ∙ all k turn within
-
-named_event : (event : Event) (names : NameLists) (world : WorldState) (who : ℕ) → NamesAll names world → IsNamedSet names who event → IsTrue (is_allowed world (record { who = who; event = event }))
-named_event (Set (NewEnd local goal)) names world who all named =
-    let box : who < length world.boxes = subst (λ (n : ℕ). who < n) all.boxes named.box in
-    let slot : local < length (box_at world who).slots = subst (λ (n : ℕ). local < n) (all.slots who box) named.slot in
-    grind (arith, common_steps)
-named_event (Set (NewLink first second)) names world who all named = absurd named
-named_event (Take local) names world who all named = absurd named
-named_event (Media change) names world who all named = absurd named
-named_event (Tell word) names world who all named = absurd named
-named_event (Retry local) names world who all named = absurd named
-named_event Shift names world who all named = absurd named
-
--- a command for a named slot is allowed
-pub named_allowed : (names : NameLists) (world : WorldState) (turn : Turn) → NamesAll names world → IsNamedCommand names (Stimulus turn) → IsTrue (is_allowed world turn)
-named_allowed names world turn all named = named_event turn.event names world turn.who all named
 
 -- after a settle all has its names, the world is sound, and nothing is under way
 pub record IsAfterSettle (names : NameLists) (last : WorldState) : Type 0 where
@@ -120,15 +100,15 @@ journal_holds (batch ∷ waiting) world journal sound (turns, last, rest, is, se
     (holds_after turns world last (Settled ∷ rest) settled.runs
     (settled_paths_hold world last batch turns sound settled, journal_holds waiting last rest (run_keeps_sound world last turns sound settled.runs) later))
 
--- ---- one command more
+-- ---- one settle more
 
 -- a batch that was settled
-pub settle_more : (start world last : WorldState) (all commands : List Command) (batch turns : List Turn) (journal : List JournalLine)
-    → ((more : List JournalLine) → IsJournal world (batches_after batch (Settle ∷ commands)) more → IsJournal start (batches all) (journal ++ more))
+pub settle_more : (start world last : WorldState) (all rest : List (List Turn)) (batch turns : List Turn) (journal : List JournalLine)
+    → ((more : List JournalLine) → IsJournal world (batch ∷ rest) more → IsJournal start all (journal ++ more))
     → IsSettled world batch turns last
-    → (more : List JournalLine) → IsJournal last (batches_after [] commands) more → IsJournal start (batches all) ((journal ++ lines_for turns) ++ more)
-settle_more start world last all commands batch turns journal so_far settled more later =
-    subst (λ (lines : List JournalLine). IsJournal start (batches all) lines) (sym (append_assoc journal (lines_for turns) more))
+    → (more : List JournalLine) → IsJournal last rest more → IsJournal start all ((journal ++ lines_for turns) ++ more)
+settle_more start world last all rest batch turns journal so_far settled more later =
+    subst (λ (lines : List JournalLine). IsJournal start all lines) (sym (append_assoc journal (lines_for turns) more))
     (so_far (lines_for turns ++ more) (turns, last, more, refl, settled, later))
 
 -- and what is printed of it
@@ -144,96 +124,74 @@ print_more start world last names batch turns number journal out so_far settled 
     ∙ printed_after turns names number world last (Settled ∷ more) settled.runs)
     ∙ sym (append_assoc out (settle_text names number last) (printed names (number + 1) last more))))
 
--- ---- what a command leaves
+-- ---- what a settle leaves
 
--- what is kept over all commands so far: the shapes are those of the beginning, what waits is allowed, and whatever journal follows goes on from here
-pub record GoesOn (names : NameLists) (start : WorldState) (all rest : List Command) (now : ScriptState) : Type 0 where
+-- what is kept over all settles so far, so many of them: the shapes are those of the beginning, and whatever journal follows goes on from here
+pub record GoesOn (names : NameLists) (start : WorldState) (all rest : List (List Turn)) (count : ℕ) (now : ScriptState) : Type 0 where
   pub sound : IsSound now.world
   pub shape : HasShape now.world start
-  pub batch : All (λ turn. IsTrue (is_allowed start turn)) now.batch
-  pub number : now.number + length rest ≤ length all + 1
-  pub journal : (more : List JournalLine) → IsJournal now.world (batches_after now.batch rest) more → IsJournal start (batches all) (now.journal ++ more)
-  pub output : (more : List JournalLine) → printed names 1 start (now.journal ++ more) ≡ now.output ++ printed names now.number now.world more
+  pub journal : (more : List JournalLine) → IsJournal now.world rest more → IsJournal start all (now.journal ++ more)
+  pub output : (more : List JournalLine) → printed names 1 start (now.journal ++ more) ≡ now.output ++ printed names (count + 1) now.world more
 
-goes_with : (names : NameLists) (start : WorldState) (all rest : List Command) (now : ScriptState) (turn : Turn) → IsTrue (is_allowed start turn)
-    → GoesOn names start all (Stimulus turn ∷ rest) now → GoesOn names start all rest (record now { batch = now.batch ++ turn ∷ [] })
-goes_with names start all rest now turn allowed on = record {
-  sound = on.sound;
-  shape = on.shape;
-  batch = All-push (λ turn. IsTrue (is_allowed start turn)) now.batch turn on.batch allowed;
-  number = let before : now.number + suc (length rest) ≤ length all + 1 = on.number in omega arith;
-  journal = on.journal;
-  output = on.output;
-}
-
-goes_settled : (names : NameLists) (start : WorldState) (all rest : List Command) (now next : ScriptState) → Settling names now next
-    → GoesOn names start all (Settle ∷ rest) now → GoesOn names start all rest next
-goes_settled names start all rest now next s on = record {
+-- a settle that follows
+goes_settled : (names : NameLists) (start : WorldState) (all rest : List (List Turn)) (count : ℕ) (batch : List Turn) (now next : ScriptState) → Settling names (count + 1) batch now next
+    → GoesOn names start all (batch ∷ rest) count now → GoesOn names start all rest (count + 1) next
+goes_settled names start all rest count batch now next s on = record {
   sound = run_keeps_sound now.world next.world s.turns on.sound s.settled.runs;
   shape = shape_both next.world now.world start (run_keeps_shape now.world next.world s.turns on.sound s.settled.runs) on.shape;
-  batch = subst (λ (b : List Turn). All (λ turn. IsTrue (is_allowed start turn)) b) (sym s.batch) (All-nil (λ turn. IsTrue (is_allowed start turn)));
-  number = let before : now.number + suc (length rest) ≤ length all + 1 = on.number in rw s.number (omega arith);
   journal = λ more later.
-      subst (λ (lines : List JournalLine). IsJournal start (batches all) (lines ++ more)) (sym s.journal)
-      (settle_more start now.world next.world all rest now.batch s.turns now.journal on.journal s.settled more
-      (subst (λ (b : List Turn). IsJournal next.world (batches_after b rest) more) s.batch later));
+      subst (λ (lines : List JournalLine). IsJournal start all (lines ++ more)) (sym s.journal)
+      (settle_more start now.world next.world all rest batch s.turns now.journal on.journal s.settled more later);
   output = λ more.
       ap (λ (lines : List JournalLine). printed names 1 start (lines ++ more)) s.journal
-      ∙ (print_more start now.world next.world names now.batch s.turns now.number now.journal now.output on.output s.settled more
-      ∙ (ap (λ (text : List ℕ). text ++ printed names (now.number + 1) next.world more) (sym s.output)
-      ∙ ap (λ (n : ℕ). next.output ++ printed names n next.world more) (sym s.number)));
+      ∙ (print_more start now.world next.world names batch s.turns (count + 1) now.journal now.output on.output s.settled more
+      ∙ ap (λ (text : List ℕ). text ++ printed names (count + 1 + 1) next.world more) (sym s.output));
 }
 
--- a command that follows
-goes_on : (names : NameLists) (start : WorldState) (all rest : List Command) (command : Command) (now next : ScriptState) → NamesAll names start → IsNamedCommand names command
-    → Follows names command now next → GoesOn names start all (command ∷ rest) now → GoesOn names start all rest next
-goes_on names start all rest (Stimulus turn) now next named is follows on =
-    subst (λ (s : ScriptState). GoesOn names start all rest s) (sym follows) (goes_with names start all rest now turn (named_allowed names start turn named is) on)
-goes_on names start all rest Settle now next named is follows on = goes_settled names start all rest now next follows on
+-- the next batch, and those behind it
+next_left : (i : ℕ) (all : List Batch) (none : Batch) → i < length all → map turns_of (drop i all) ≡ turns_of (slice_index_or all i none) ∷ map turns_of (drop (i + 1) all)
+next_left i all none within = ap (λ (left : List Batch). map turns_of left) (drop-cons all i none within ∙ ap (λ (n : ℕ). slice_index_or all i none ∷ drop n all) (sym (add-one i)))
 
--- the next command, and those behind it
-next_left : (i : ℕ) (all : List Command) (none : Command) → i < length all → drop i all ≡ slice_index_or all i none ∷ drop (i + 1) all
-next_left i all none within = drop-cons all i none within ∙ ap (λ (n : ℕ). slice_index_or all i none ∷ drop n all) (sym (add-one i))
+-- by the batch's place
+pub goes_next : (names : NameLists) (start : WorldState) (all : List Batch) (i : ℕ) (none : Batch) (now next : ScriptState) → i < length all
+    → Settling names (i + 1) (turns_of (slice_index_or all i none)) now next → GoesOn names start (map turns_of all) (map turns_of (drop i all)) i now
+    → GoesOn names start (map turns_of all) (map turns_of (drop (i + 1) all)) (i + 1) next
+goes_next names start all i none now next within s on =
+    goes_settled names start (map turns_of all) (map turns_of (drop (i + 1) all)) i (turns_of (slice_index_or all i none)) now next s
+    (subst (λ (left : List (List Turn)). GoesOn names start (map turns_of all) left i now) (next_left i all none within) on)
 
--- by the command's place
-pub goes_next : (names : NameLists) (start : WorldState) (all : List Command) (i : ℕ) (none : Command) (now next : ScriptState) → NamesAll names start → All (IsNamedCommand names) all → i < length all
-    → Follows names (slice_index_or all i none) now next → GoesOn names start all (drop i all) now → GoesOn names start all (drop (i + 1) all) next
-goes_next names start all i none now next named each within follows on =
-    goes_on names start all (drop (i + 1) all) (slice_index_or all i none) now next named (each i none within) follows
-    (subst (λ (rest : List Command). GoesOn names start all rest now) (next_left i all none within) on)
-
--- what waits is allowed now
-pub waits_allowed : (names : NameLists) (start : WorldState) (all rest : List Command) (now : ScriptState) → GoesOn names start all rest now → All (λ turn. IsTrue (is_allowed now.world turn)) now.batch
-waits_allowed names start all rest now on = allowed_kept now.world start now.batch on.shape on.batch
+-- the batch at a place is allowed now
+pub batch_allowed : (names : NameLists) (start : WorldState) (all : List Batch) (i : ℕ) (none : Batch) (rest : List (List Turn)) (now : ScriptState) → i < length all
+    → AreAllowed start (map turns_of all) → GoesOn names start (map turns_of all) rest i now → All (λ turn. IsTrue (is_allowed now.world turn)) (turns_of (slice_index_or all i none))
+batch_allowed names start all i none rest now within allowed on =
+    allowed_kept now.world start (turns_of (slice_index_or all i none)) on.shape
+    (subst (λ (batch : List Turn). All (λ turn. IsTrue (is_allowed start turn)) batch) (get_or-map turns_of all i none (turns_of none) within)
+    (allowed i (turns_of none) (subst (λ (n : ℕ). i < n) (sym (length-map all turns_of)) within)))
 
 -- all has its names now
-pub names_now : (names : NameLists) (start : WorldState) (all rest : List Command) (now : ScriptState) → NamesAll names start → GoesOn names start all rest now → NamesAll names now.world
-names_now names start all rest now named on = names_kept names now.world start on.shape named
-
--- and the settle's number fits
-pub number_fits : (names : NameLists) (start : WorldState) (all rest : List Command) (now : ScriptState) → length all ≤ 4096 → GoesOn names start all rest now → now.number + 1 < 2 ^ 32
-number_fits names start all rest now few on = omega (arith, on.number)
+pub names_now : (names : NameLists) (start : WorldState) (all rest : List (List Turn)) (count : ℕ) (now : ScriptState) → NamesAll names start → GoesOn names start all rest count now → NamesAll names now.world
+names_now names start all rest count now named on = names_kept names now.world start on.shape named
 
 -- nothing was run yet
-pub goes_first : (names : NameLists) (start : WorldState) (all : List Command) → IsSound start → GoesOn names start all all (begun start)
+pub goes_first : (names : NameLists) (start : WorldState) (all : List (List Turn)) → IsSound start → GoesOn names start all all 0 (begun start)
 goes_first names start all sound = record {
   sound = sound;
   shape = same_shape start;
-  batch = All-nil (λ turn. IsTrue (is_allowed start turn));
-  number = omega arith;
   journal = λ more later. later;
   output = λ more. refl;
 }
 
--- no command is left
-pub goes_to_end : (names : NameLists) (start : WorldState) (all : List Command) (i : ℕ) (now last : ScriptState) → length all ≤ i → last ≡ now → GoesOn names start all (drop i all) now → GoesOn names start all [] last
+-- no batch is left
+pub goes_to_end : (names : NameLists) (start : WorldState) (all : List Batch) (i : ℕ) (now last : ScriptState) → length all ≤ i → last ≡ now
+    → GoesOn names start (map turns_of all) (map turns_of (drop i all)) i now → GoesOn names start (map turns_of all) [] i last
 goes_to_end names start all i now last past same on =
-    subst (λ (s : ScriptState). GoesOn names start all [] s) (sym same) (subst (λ (rest : List Command). GoesOn names start all rest now) (drop_all i all past) on)
+    subst (λ (s : ScriptState). GoesOn names start (map turns_of all) [] i s) (sym same)
+    (subst (λ (left : List Batch). GoesOn names start (map turns_of all) (map turns_of left) i now) (drop_all i all past) on)
 
 -- all was run
-pub all_settled : (names : NameLists) (start : WorldState) (all : List Command) (now : ScriptState) → GoesOn names start all [] now → IsJournal start (batches all) now.journal
-all_settled names start all now on = subst (λ (lines : List JournalLine). IsJournal start (batches all) lines) (append-nil now.journal) (on.journal [] refl)
+pub all_settled : (names : NameLists) (start : WorldState) (all : List (List Turn)) (count : ℕ) (now : ScriptState) → GoesOn names start all [] count now → IsJournal start all now.journal
+all_settled names start all count now on = subst (λ (lines : List JournalLine). IsJournal start all lines) (append-nil now.journal) (on.journal [] refl)
 
-pub all_printed : (names : NameLists) (start : WorldState) (all : List Command) (now : ScriptState) → GoesOn names start all [] now → now.output ≡ printed names 1 start now.journal
-all_printed names start all now on =
+pub all_printed : (names : NameLists) (start : WorldState) (all : List (List Turn)) (count : ℕ) (now : ScriptState) → GoesOn names start all [] count now → now.output ≡ printed names 1 start now.journal
+all_printed names start all count now on =
     sym (ap (λ (lines : List JournalLine). printed names 1 start lines) (sym (append-nil now.journal)) ∙ (on.output [] ∙ append-nil now.output))

@@ -1,28 +1,29 @@
 -- What was read of what a source has left.
-use Rattle.std.proofs.Common.{◌≡◌, ◌⊎◌, ℕ, List, length, ◌≤◌, take, None, Some, IfSome, arith, sym, subst, take_all, length-take, ◌∙◌}
+use Rattle.std.proofs.Common.{◌≡◌, ◌⊎◌, ℕ, List, ◌≤◌, take, None, Some, IfSome, arith, refl, subst, ◌∙◌}
 use Rattle.std.specs.declared.option.Option.{Option}
-use Rattle.mc_top.specs.Forms.{Declared, Says}
-use Rattle.mc_top.specs.Nets.{NetState, Declares}
-use Rattle.mc_top.specs.Top.{Ends, ToldDeclares, ToldRefused}
-use Rattle.mc_top.specs.declared.script.JournalLine.{JournalLine}
+use Rattle.mc_script.specs.declared.command.JournalLine.{JournalLine}
+use Rattle.mc_net.specs.Nets.{DeclaresNet}
+use Rattle.mc_net.specs.SoFar.{Declared}
+use Rattle.mc_net.specs.Texts.{IsFault, Says}
+use Rattle.mc_net.specs.declared.net.Net.{Net}
+use Rattle.mc_net.proofs.Faults.{declares_or_faults}
+use Rattle.mc_net.proofs.FirstBytes.{faults_of_the_first_bytes, says_the_whole}
+use Rattle.mc_top.specs.Top.{Ends, ToldDeclares, ToldFault}
+use Rattle.mc_top.specs.Modes.{text_for}
 use Rattle.mc_top.specs.declared.words.Mode.{Mode}
+use Rattle.mc_top.specs.declared.words.Mode.TheVariants.{Run}
 
--- the text that was read says nothing, and so does what was left
-pub told_refused : (told : Option (List ℕ)) (text : List ℕ) → IfSome told (λ all. text ≡ take 1048577 all)
-    → ((d : Declared) → ¬ Says text d) → ToldRefused told
-told_refused None text read none = tt
-told_refused (Some all) text read none = λ d says.
-    let whole : text ≡ all = read ∙ take_all 1048577 all (omega (arith, says.within)) in
-    none d (subst (λ (t : List ℕ). Says t d) (sym whole) says)
+-- the fault of the text that was read is that of what was left
+pub told_fault : (told : Option (List ℕ)) (text : List ℕ) (number line : ℕ) → IfSome told (λ all. text ≡ take 1048577 all) → IsFault text number line → ToldFault told number line
+told_fault None text number line read fault = tt
+told_fault (Some all) text number line read fault = faults_of_the_first_bytes all number line (subst (λ (t : List ℕ). IsFault t number line) read fault)
 
 -- the text that was read declares a network, and so does what was left
-pub told_declares : (told : Option (List ℕ)) (text : List ℕ) (net : NetState) → IfSome told (λ all. text ≡ take 1048577 all)
-    → Declares text net → ToldDeclares told net
+pub told_declares : (told : Option (List ℕ)) (text : List ℕ) (net : Net) → IfSome told (λ all. text ≡ take 1048577 all) → DeclaresNet text net → ToldDeclares told net
 told_declares None text net read declares = tt
 told_declares (Some all) text net read declares =
-    let short : length (take 1048577 all) ≤ 1048576 = rw (← read) declares.says.within in
-    let whole : text ≡ all = read ∙ take_all 1048577 all (omega (arith, short, length-take 1048577 all)) in
-    subst (λ (t : List ℕ). Declares t net) whole declares
+    let says : Says (take 1048577 all) declares.declared = subst (λ (t : List ℕ). Says t declares.declared) read declares.says in
+    subst (λ (t : List ℕ). DeclaresNet t net) (read ∙ says_the_whole all declares.declared says) declares
 
 -- what was said of the text that was read holds of what was left
 pub ends_told : (mode : Mode) (told old new : Option (List ℕ)) (text : List ℕ) (status due : ℕ) (journal : List JournalLine)
@@ -33,19 +34,24 @@ ends_told mode told old new text status due journal read ends = record {
       record { net = worked.net; declared = told_declares told text worked.net read worked.declared; settles = worked.settles; delivered = worked.delivered };
   refused = λ one.
       let refused = ends.refused one in
-      record { refused = told_refused told text read refused.refused; delivered = refused.delivered };
+      record { number = refused.number; line = refused.line; fault = told_fault told text refused.number refused.line read refused.fault; delivered = refused.delivered };
   stopped = ends.stopped;
   no_journal = ends.no_journal;
 }
 
-refused_says : (told : Option (List ℕ)) (text : List ℕ) (d : Declared) → ToldRefused told → told ≡ Some text → Says text d → ⊥
-refused_says None text d refused is says = cc
-refused_says (Some all) text d refused is says = refused d (subst (λ (t : List ℕ). Says t d) (let same : text ≡ all = cc in same) says)
+fault_says : (told : Option (List ℕ)) (text : List ℕ) (d : Declared) (number line : ℕ) → ToldFault told number line → told ≡ Some text → Says text d → ⊥
+fault_says None text d number line fault is says = cc
+fault_says (Some all) text d number line fault is says =
+    declares_or_faults all d number line (subst (λ (t : List ℕ). Says t d) (let same : text ≡ all = cc in same) says) fault
 
--- a text of the form and no counted fault leave only two ends
+-- a text without a fault and no counted fault leave only two ends
 pub completes : (mode : Mode) (told old new : Option (List ℕ)) (text : List ℕ) (d : Declared) (status due : ℕ) (journal : List JournalLine)
     → due ≤ 4 → (due ≡ 2 → ⊥) → (status ≡ due) ⊎ (status ≡ 5) → Ends mode told old new status due journal
     → told ≡ Some text → Says text d → (due ≡ 4 → ⊥) → (status ≡ 5 → ⊥) → (status ≡ 0) ⊎ (status ≡ 3)
 completes mode told old new text d status due journal small not_two either ends is says not_four not_five =
-    let not_one : due ≡ 1 → ⊥ = λ one. refused_says told text d (ends.refused one).refused is says in
+    let not_one : due ≡ 1 → ⊥ = λ one. fault_says told text d (ends.refused one).number (ends.refused one).line (ends.refused one).fault is says in
     grind (arith, not_one, not_two, not_four, not_five)
+
+-- every mode works on the text that is left
+pub same_text : (mode other : Mode) (left : Option (List ℕ)) → text_for mode left ≡ text_for other left
+same_text Run Run left = refl

@@ -25,8 +25,10 @@ use Rattle.mc_world.specs.declared.media_box.SlotMedia.{SlotMedia}
 use Rattle.mc_path.specs.PathLaws.{AreIn, HearEachOther, IsQuietPath}
 use Rattle.mc_path.specs.Views.{end_view, is_flowing, selected, view_of}
 use Rattle.mc_path.proofs.Tunnels.{each_path}
-use Rattle.mc_top.specs.NameLists.{NameLists}
-use Rattle.mc_top.specs.Printed.{IsNamed, NamesAll, goal_word, hears_line, hears_lines, line_of, medium_word, path_line, path_text, settle_text, slot_word, state_word}
+use Rattle.mc_text.specs.NameLists.{NameLists}
+use Rattle.mc_script.specs.Meaning.{goal_word}
+use Rattle.mc_net.specs.Nets.{NamesAll}
+use Rattle.mc_top.specs.Printed.{IsNamed, hears_line, hears_lines, line_of, medium_word, path_line, path_text, place_word, settle_text, state_word}
 use Rattle.mc_top.specs.Shown.{IsNamedEnd, IsNamedView, flow_word, hearing_line, hearing_lines, view_line, view_text, views_text}
 
 -- ---- text
@@ -46,8 +48,8 @@ line_is : (names : NameLists) (world : WorldState) (path : PathEnds) → (slot_o
 line_is names world path low =
     ap (λ (word : List ℕ). line_of (
     codes "path"
-    ∷ slot_word names world path.low
-    ∷ slot_word names world path.high
+    ∷ place_word names world path.low
+    ∷ place_word names world path.high
     ∷ goal_word (end_goal world path.low)
     ∷ goal_word (end_goal world path.high)
     ∷ word

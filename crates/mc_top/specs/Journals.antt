@@ -8,8 +8,8 @@ use Rattle.mc_world.specs.Settles.{IsSettled}
 use Rattle.mc_world.specs.Steps.{step}
 use Rattle.mc_world.specs.Worlds.{WorldState}
 use Rattle.mc_world.specs.declared.event.Turn.{Turn}
-use Rattle.mc_top.specs.declared.script.JournalLine.{JournalLine}
-use Rattle.mc_top.specs.declared.script.JournalLine.TheVariants.{Turn as Made, Settled}
+use Rattle.mc_script.specs.declared.command.JournalLine.{JournalLine}
+use Rattle.mc_script.specs.declared.command.JournalLine.TheVariants.{Turn as Made, Settled}
 
 -- the turns of a settle, as lines
 abbrev pub lines_for : List Turn → List JournalLine

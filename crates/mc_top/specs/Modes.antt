@@ -2,9 +2,9 @@
 use Rattle.std.specs.Prelude.{◌≡◌, ℕ, List, [], ◌∷◌, codes, map, string_bytes, String}
 use Rattle.std.specs.declared.alloc.Global.{Global}
 use Rattle.std.specs.declared.option.Option.{Option}
-use Rattle.mc_top.specs.Nets.{NetState}
 use Rattle.mc_top.specs.Printed.{printed}
-use Rattle.mc_top.specs.declared.script.JournalLine.{JournalLine}
+use Rattle.mc_net.specs.declared.net.Net.{Net}
+use Rattle.mc_script.specs.declared.command.JournalLine.{JournalLine}
 use Rattle.mc_top.specs.declared.words.Mode.{Mode}
 use Rattle.mc_top.specs.declared.words.Mode.TheVariants.{Run}
 
@@ -21,5 +21,5 @@ abbrev pub text_for : Mode → Option (List ℕ) → Option (List ℕ)
 text_for Run left = left
 
 -- what a mode prints for a journal of the network
-abbrev pub output_of : Mode → NetState → List JournalLine → List ℕ
+abbrev pub output_of : Mode → Net → List JournalLine → List ℕ
 output_of Run net journal = printed net.names 1 net.world journal

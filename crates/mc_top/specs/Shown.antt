@@ -4,11 +4,12 @@ use Rattle.std.specs.Fmt.{decimal}
 use Rattle.std.specs.List.{flat_map}
 use Rattle.mc_view.specs.declared.EndView.{EndView}
 use Rattle.mc_view.specs.declared.PathView.{PathView}
-use Rattle.mc_top.specs.NameLists.{NameLists, slots_of}
-use Rattle.mc_top.specs.Printed.{IsNamed, codec_word, goal_word, line_of, medium_word, place_word}
+use Rattle.mc_text.specs.NameLists.{NameLists, slot_word, slots_of}
+use Rattle.mc_script.specs.Meaning.{goal_word}
+use Rattle.mc_top.specs.Printed.{IsNamed, codec_word, line_of, medium_word}
 
 abbrev pub end_word : NameLists → EndView → List ℕ
-end_word names end = place_word names (end.who, end.local)
+end_word names end = slot_word names end.who end.local
 
 abbrev pub flow_word : Bool → List ℕ
 flow_word true = codes "flowing"

@@ -1,19 +1,17 @@
 -- What the top call promises.
-use Rattle.std.specs.Prelude.{◌≡◌, ◌≢◌, ◌⊎◌, ◌≤◌, ℕ, List, [], ◌∷◌, ◌++◌, codes, length, IfSome}
+use Rattle.std.specs.Prelude.{◌≡◌, ◌≢◌, ◌⊎◌, ◌≤◌, ℕ, List, [], ◌∷◌, ◌++◌, codes, length, map, IfSome}
 use Rattle.std.specs.declared.option.Option.{Option}
 use Rattle.std.specs.Io.KnownBytes.{Appends, Consumes, IsAtEnd, Keeps}
 use Rattle.mc_io.specs.Bytes.{AppendsPart}
-use Rattle.mc_top.specs.Commands.{batches}
-use Rattle.mc_top.specs.Forms.{Declared, Says, text_limit}
+use Rattle.mc_net.specs.Nets.{DeclaresNet, turns_of}
+use Rattle.mc_net.specs.Rules.{text_limit}
+use Rattle.mc_net.specs.Texts.{IsFault}
+use Rattle.mc_net.specs.declared.net.Net.{Net}
 use Rattle.mc_top.specs.Journals.{IsJournal, HoldsAtSettles}
 use Rattle.mc_top.specs.Modes.{output_of}
-use Rattle.mc_top.specs.Nets.{NetState, Declares}
-use Rattle.mc_top.specs.declared.script.JournalLine.{JournalLine}
+use Rattle.mc_top.specs.Printed.{fault_line}
+use Rattle.mc_script.specs.declared.command.JournalLine.{JournalLine}
 use Rattle.mc_top.specs.declared.words.Mode.{Mode}
-
--- the one line that is printed for a text that isn't of the form
-abbrev pub fault_text : List ℕ
-fault_text = codes "fault 19 line 1" ++ 10 ∷ []
 
 -- the one line that is printed for words that are no command
 abbrev pub usage_text : List ℕ
@@ -31,31 +29,33 @@ pub record ReadsWhole (old new : Option (List ℕ)) (text : List ℕ) : Type 0 w
   pub at_end : length text ≤ text_limit → IsAtEnd new
 
 -- The journal is one settled segment for each settle, in order, all of them one run from the network's first world: the interleaving of the boxes. At each settle the two end slots of every path are in the state that the path table gives, and where it flows each has the other's newest descriptor and the choice for its own
-pub record Settles (net : NetState) (journal : List JournalLine) : Type 0 where
-  pub settled : IsJournal net.world (batches net.commands) journal
+pub record Settles (net : Net) (journal : List JournalLine) : Type 0 where
+  pub settled : IsJournal net.world (map turns_of net.batches.items) journal
   pub holds : HoldsAtSettles net.world journal
 
 -- what is told of a text declares this network
-abbrev pub ToldDeclares : Option (List ℕ) → NetState → Type 0
-ToldDeclares told net = IfSome told (λ text. Declares text net)
+abbrev pub ToldDeclares : Option (List ℕ) → Net → Type 0
+ToldDeclares told net = IfSome told (λ text. DeclaresNet text net)
 
--- what is told of a text is not of the form
-abbrev pub ToldRefused : Option (List ℕ) → Type 0
-ToldRefused told = IfSome told (λ text. (d : Declared) → ¬ Says text d)
+-- the first fault of what is told of a text is this one: a line breaks the rule of this number and none with a lesser one, and no line before it breaks a rule
+abbrev pub ToldFault : Option (List ℕ) → ℕ → ℕ → Type 0
+ToldFault told number line = IfSome told (λ text. IsFault text number line)
 
 -- A mode did its work: it settled the network that the text declares, and delivered what it prints for the worlds that replaying the journal gives.
 --
 -- The headline, for every network, script and interleaving of the boxes: each path line that is printed after a settle is the table's answer for its two end goals, closed where an end closes, flowing where one opens and none closes, either of the two for hold against hold; and a flowing line's media are those of the two ends' newest descriptors
 pub record Worked (mode : Mode) (told old new : Option (List ℕ)) (status : ℕ) (journal : List JournalLine) : Type 0 where
-  pub net : NetState
+  pub net : Net
   pub declared : ToldDeclares told net
   pub settles : Settles net journal
   pub delivered : Delivers status 0 old new (output_of mode net journal)
 
--- a mode refused the text, and delivered the one line that says so
+-- a mode refused the text, and delivered the one line that names its first fault
 pub record Refused (told old new : Option (List ℕ)) (status : ℕ) : Type 0 where
-  pub refused : ToldRefused told
-  pub delivered : Delivers status 1 old new fault_text
+  pub number : ℕ
+  pub line : ℕ
+  pub fault : ToldFault told number line
+  pub delivered : Delivers status 1 old new (fault_line number line)
 
 -- what a mode printed and kept, for the text that it was told
 pub record Ends (mode : Mode) (told old new : Option (List ℕ)) (status due : ℕ) (journal : List JournalLine) : Type 0 where

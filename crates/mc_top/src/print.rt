@@ -1,11 +1,13 @@
-// What is printed at a settle.
+// What is printed at a settle, and for a faulty text.
 ghost use Rattle.std.specs.Prelude.{◌≡◌, ◌++◌, [], ◌∷◌, codes, map, take, All, IfOk, OnOk};
-ghost use Rattle.mc_top.specs.Printed.{line_of, goal_word, medium_word, codec_word, IsNamed};
+ghost use Rattle.mc_script.specs.Meaning.{goal_word};
+ghost use Rattle.mc_top.specs.Printed.{line_of, medium_word, codec_word, fault_line, IsNamed};
 ghost use Rattle.mc_top.specs.Shown.{end_word, flow_word, hearing_line, view_line, view_text, views_text, IsNamedEnd, IsNamedView};
 
-use crate::names::Names;
+use mc_net::TextFault;
 use mc_signal::Medium;
 use mc_slot::Goal;
+use mc_text::Names;
 use mc_view::{EndView, PathView};
 use std::alloc::{AllocError, Global};
 
@@ -63,9 +65,8 @@ fn end_word(alloc: Global, names: &Names, end: &EndView) -> Result<Vec<u8>, Allo
     requires { IsNamedEnd names.now end.now }
     ensures { IfOk result (λ word. word.items ≡ end_word names.now end.now) }
 {
-    let mut word = Vec::from_slice(alloc, names.box_name(end.who))?;
-    word.push(b'/')?;
-    word.extend_from_slice(names.slot_name(end.who, end.local))?;
+    let mut word = Vec::new(alloc);
+    names.print_slot(end.who, end.local, &mut word)?;
     Ok(word)
 }
 
@@ -129,7 +130,7 @@ fn put_view(
 pub fn print_settle(
     alloc: Global,
     names: &Names,
-    number: u32,
+    number: usize,
     views: &[PathView],
     out: &mut Vec<u8>,
 ) -> Result<(), AllocError>
@@ -142,4 +143,19 @@ pub fn print_settle(
         put_view(alloc, names, view, out)?;
     }
     Ok(())
+}
+
+/// The line that is printed for a text's first fault.
+pub fn print_fault(alloc: Global, fault: TextFault) -> Result<Vec<u8>, AllocError>
+    ensures { IfOk result (λ line. line.items ≡ fault_line fault.number fault.line) }
+{
+    let number = format!(in alloc; "{}", fault.number)?;
+    let line = format!(in alloc; "{}", fault.line)?;
+    let mut out = Vec::new(alloc);
+    put_line(
+        b"fault",
+        &[number.as_bytes(), b"line", line.as_bytes()],
+        &mut out,
+    )?;
+    Ok(out)
 }

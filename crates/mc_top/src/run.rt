@@ -1,17 +1,16 @@
-// A script, command by command.
-ghost use Rattle.std.specs.Prelude.{◌≡◌, ◌++◌, ◌∷◌, ◌<◌, ◌+◌, ◌^◌, [], All, IfOk, OnOk, IsTrue};
+// A script, settle by settle.
+ghost use Rattle.std.specs.Prelude.{◌≡◌, ◌++◌, ◌+◌, map, All, IfOk, OnOk, IsTrue};
 ghost use Rattle.mc_world.specs.Shapes.{is_allowed};
-ghost use Rattle.mc_top.specs.Commands.{batches};
+ghost use Rattle.mc_net.specs.Nets.{AreAllowed, NamesAll, turns_of};
 ghost use Rattle.mc_top.specs.Journals.{IsJournal, HoldsAtSettles, lines_for};
-ghost use Rattle.mc_top.specs.Printed.{printed, NamesAll};
-ghost use Rattle.mc_top.specs.Scripts.{begun, Settling, Follows};
-ghost use Rattle.mc_top.specs.Shapes.{AreCommands};
+ghost use Rattle.mc_top.specs.Printed.{printed};
+ghost use Rattle.mc_top.specs.Scripts.{begun, Settling};
 
-use crate::names::Names;
 use crate::print::print_settle;
-use crate::script::{Command, JournalLine};
 use mc_path::paths;
+use mc_script::{Batch, JournalLine};
 use mc_seq::settle_in_order;
+use mc_text::Names;
 use mc_world::{Turn, World};
 use std::alloc::{AllocError, Global};
 use std::marker::Model;
@@ -23,13 +22,10 @@ pub struct Run {
     pub journal: Vec<JournalLine>,
 }
 
-// A script while it runs: its world, the commands that wait for the next settle, the number of that settle, and
-// what was kept and printed so far.
+// A script while it runs: its world, and what was kept and printed so far.
 #[derive(Drop)]
 struct Progress {
     world: World,
-    batch: Vec<Turn>,
-    number: u32,
     journal: Vec<JournalLine>,
     output: Vec<u8>,
 }
@@ -39,7 +35,7 @@ impl Model for Progress {
 
     ghost Value = { ScriptState };
 
-    ghost view = { λ p. record { world = p.world; batch = p.batch.items; number = p.number; journal = p.journal.items; output = p.output.items } };
+    ghost view = { λ p. record { world = p.world; journal = p.journal.items; output = p.output.items } };
 }
 
 impl Progress {
@@ -48,59 +44,38 @@ impl Progress {
     {
         Progress {
             world,
-            batch: Vec::new(alloc),
-            number: 1,
             journal: Vec::new(alloc),
             output: Vec::new(alloc),
         }
     }
 
-    // A command waits for the next settle.
-    fn with(mut self, turn: Turn) -> Result<Progress, AllocError>
-        ensures { IfOk result (λ next. next ≡ record self { batch = self.batch ++ turn ∷ [] }) }
-    {
-        self.batch.push(turn)?;
-        Ok(self)
-    }
-
-    // What waits is settled, and the paths are printed.
-    fn settle(self, alloc: Global, names: &Names) -> Result<Progress, AllocError>
-        requires allowed { All (λ turn. IsTrue (is_allowed self.world turn)) self.batch }
+    // A batch is settled, and the paths are printed under the settle's number.
+    fn settle(
+        self,
+        alloc: Global,
+        names: &Names,
+        number: usize,
+        batch: &[Turn],
+    ) -> Result<Progress, AllocError>
+        requires allowed { All (λ turn. IsTrue (is_allowed self.world turn)) batch.now }
         requires named { NamesAll names.now self.world }
-        requires number { self.number + 1 < 2 ^ 32 }
-        ensures { IfOk result (λ next. Settling names.now self next) }
+        ensures { IfOk result (λ next. Settling names.now number batch.now self next) }
     {
         let Progress {
             world,
-            batch,
-            number,
             mut journal,
             mut output,
         } = self;
         world.keeps();
-        let settled = settle_in_order(alloc, world, &batch)?;
+        let settled = settle_in_order(alloc, world, batch)?;
         log(&settled.turns, &mut journal)?;
         let views = paths(alloc, &settled.world)?;
         print_settle(alloc, names, number, &views, &mut output)?;
         Ok(Progress {
             world: settled.world,
-            batch: Vec::new(alloc),
-            number: number + 1,
             journal,
             output,
         })
-    }
-
-    fn follow(self, alloc: Global, names: &Names, command: Command) -> Result<Progress, AllocError>
-        requires allowed { All (λ turn. IsTrue (is_allowed self.world turn)) self.batch }
-        requires named { NamesAll names.now self.world }
-        requires number { self.number + 1 < 2 ^ 32 }
-        ensures { IfOk result (λ next. Follows names.now command self next) }
-    {
-        match command {
-            Command::Stimulus(turn) => self.with(turn),
-            Command::Settle => self.settle(alloc, names),
-        }
     }
 }
 
@@ -115,24 +90,25 @@ fn log(turns: &[Turn], journal: &mut Vec<JournalLine>) -> Result<(), AllocError>
     Ok(())
 }
 
-/// Runs a script: its commands wait until the next settle, which settles them in the plain order. What comes after
-/// the last settle isn't run. All that the world has is named, and the commands are for what has names.
+/// Runs a script: settles its batches one after the other, each in the plain order, and prints the paths after each.
+/// All that the world has is named, and its boxes allow each command.
 pub fn run_script(
     alloc: Global,
     names: &Names,
     world: World,
-    commands: &[Command],
+    batches: &[Batch],
 ) -> Result<Run, AllocError>
     requires named { NamesAll names.now world }
-    requires commands { AreCommands names.now commands.now }
-    ensures settled { IfOk result (λ run. IsJournal world (batches commands.now) run.journal.items) }
+    requires allowed { AreAllowed world (map turns_of batches.now) }
+    ensures settled { IfOk result (λ run. IsJournal world (map turns_of batches.now) run.journal.items) }
     ensures holds { IfOk result (λ run. HoldsAtSettles world run.journal.items) }
     ensures output { IfOk result (λ run. run.output.items ≡ printed names.now 1 world run.journal.items) }
 {
     world.keeps();
     let mut progress = Progress::new(alloc, world);
-    for command in commands {
-        progress = progress.follow(alloc, names, *command)?;
+    for index in 0..batches.len() {
+        let batch = &batches[index];
+        progress = progress.settle(alloc, names, index + 1, &batch.turns)?;
     }
     Ok(Run {
         output: progress.output,

@@ -1,7 +1,9 @@
 // Whole calls over sources and sinks in memory: what is written, and the status.
 ghost use Rattle.std.specs.Prelude.{◌<◌};
 
-use crate::text::TEXT_LIMIT;
+mod limits;
+mod refusals;
+
 use crate::{Done, media_top};
 use mc_io::{MemSink, MemSource, OpenGate};
 use std::alloc::{AllocError, Global};
@@ -21,8 +23,6 @@ const FLOWING: &str =
     "settle 1\npath alice/a bob/a open hold flowing audio\nhears alice/a g729\nhears bob/a g729\n";
 
 const CLOSED: &str = "settle 1\npath alice/a bob/a close close closed audio\n";
-
-const FAULT: &str = "fault 19 line 1\n";
 
 fn words_of(alloc: Global, words: &[&str]) -> Result<Vec<String>, AllocError> {
     let mut made = Vec::new(alloc);
@@ -49,88 +49,32 @@ fn run<R: Threads + Sync>(
     Ok((done, written))
 }
 
-// A call with the word `run` on a text in two parts, read and written in small pieces.
-fn run_text<R: Threads + Sync>(
+/// A call with the word `run` on a text, read and written in small pieces: its status, and what it wrote.
+pub fn written<R: Threads + Sync>(
     rt: &R,
     alloc: Global,
-    network: &str,
-    script: &str,
-) -> Result<(Done, Vec<u8>), AllocError> {
-    let mut bytes = Vec::from_slice(alloc, network.as_bytes())?;
-    bytes.extend_from_slice(script.as_bytes())?;
+    text: &str,
+) -> Result<(u8, Vec<u8>), AllocError> {
+    let bytes = Vec::from_slice(alloc, text.as_bytes())?;
     let mut source = MemSource::new(bytes, 64, Vec::new(alloc));
-    run(rt, alloc, &mut source, 10, Vec::new(alloc))
-}
-
-#[test]
-fn texts_of_the_form(rt: HostRuntime) -> Result<(), Fail> {
-    let alloc = rt.alloc();
-    let table = [
-        (PHONES, "", ""),
-        (PHONES, "set alice a open\n", ""),
-        (PHONES, "settle\n", CLOSED),
-        (PHONES, "settle", CLOSED),
-        (
-            "media 1\ndev b\ndev a\nchan audio a x b y\nbegin\n",
-            "settle\n",
-            "settle 1\npath a/x b/y close close closed audio\n",
-        ),
-    ];
-    for (network, script, printed) in table {
-        let (done, written) = run_text(&rt, alloc, network, script)?;
-        assert_eq!(rt; done.status, 0, "at {network}{script}");
-        assert_eq!(rt;
-            written.as_slice(),
-            printed.as_bytes(),
-            "at {network}{script}"
-        );
-    }
-    Ok(())
-}
-
-#[test]
-fn texts_that_are_refused(rt: HostRuntime) -> Result<(), Fail> {
-    let alloc = rt.alloc();
-    let table = [
-        ("", ""),
-        (PHONES, "settle now\n"),
-        (PHONES, "\nsettle\n"),
-        (PHONES, "set alice a\n"),
-        (PHONES, "set alice a open now\n"),
-        (PHONES, "set carol a open\n"),
-        (PHONES, "set alice b open\n"),
-        (PHONES, "set alice a opens\n"),
-        (PHONES, "set  alice a open\n"),
-        ("media 1\nset a x open\n", ""),
-        ("media  1\n", ""),
-        ("media 1\ncodec g711\ncodec g711\n", ""),
-        ("media 1\ncodec g711\ndev a g711 g711\n", ""),
-        (
-            "media 1\ndev a\ndev b\ndev c\nchan audio a x b y\nbegin\n",
-            "settle\n",
-        ),
-        (
-            "media 1\ndev a\ndev b\nchan audio a x a y\nbegin\n",
-            "settle\n",
-        ),
-        ("media 1\ndev a\ndev b\nchan audio a x b y\n", "settle\n"),
-    ];
-    for (network, script) in table {
-        let (done, written) = run_text(&rt, alloc, network, script)?;
-        assert_eq!(rt; done.status, 1, "at {network}{script}");
-        assert_eq!(rt;
-            written.as_slice(),
-            FAULT.as_bytes(),
-            "at {network}{script}"
-        );
-    }
-    Ok(())
+    let (done, written) = run(rt, alloc, &mut source, 10, Vec::new(alloc))?;
+    Ok((done.status, written))
 }
 
 #[test]
 fn calls_and_what_they_print(rt: HostRuntime) -> Result<(), Fail> {
     let alloc = rt.alloc();
     let table = [
+        (PHONES, "", ""),
+        (PHONES, "set alice a open\n", ""),
+        (PHONES, "settle\n", CLOSED),
+        (PHONES, "settle", CLOSED),
+        (PHONES, "\n# nobody calls\n  settle  \n", CLOSED),
+        (
+            "media 1\ndev b\ndev a\nchan video a x b y\nbegin\n",
+            "settle\n",
+            "settle 1\npath a/x b/y close close closed video\n",
+        ),
         (
             PHONES,
             "set alice a open\nset bob a hold\nsettle\n",
@@ -164,13 +108,10 @@ fn calls_and_what_they_print(rt: HostRuntime) -> Result<(), Fail> {
         ),
     ];
     for (network, script, printed) in table {
-        let (done, written) = run_text(&rt, alloc, network, script)?;
-        assert_eq!(rt; done.status, 0, "at {network}{script}");
-        assert_eq!(rt;
-            written.as_slice(),
-            printed.as_bytes(),
-            "at {network}{script}"
-        );
+        let text = format!(in alloc; "{network}{script}")?;
+        let (status, written) = written(&rt, alloc, &text)?;
+        assert_eq!(rt; status, 0, "at {text}");
+        assert_eq!(rt; written.as_slice(), printed.as_bytes(), "at {text}");
     }
     Ok(())
 }
@@ -218,7 +159,7 @@ fn the_second_write_fails(rt: HostRuntime) -> Result<(), Fail> {
 }
 
 #[test]
-fn a_text_past_the_limit_is_refused(rt: HostRuntime) -> Result<(), Fail> {
+fn a_text_past_the_limit_is_not_read_on(rt: HostRuntime) -> Result<(), Fail> {
     let alloc = rt.alloc();
     let mut bytes = Vec::from_slice(alloc, PHONES.as_bytes())?;
     for _ in 0..150_000 {
@@ -227,7 +168,7 @@ fn a_text_past_the_limit_is_refused(rt: HostRuntime) -> Result<(), Fail> {
     let mut source = MemSource::new(bytes, 4096, Vec::new(alloc));
     let (done, written) = run(&rt, alloc, &mut source, 64, Vec::new(alloc))?;
     assert_eq!(rt; done.status, 1);
-    assert_eq!(rt; written.as_slice(), FAULT.as_bytes());
-    assert_eq!(rt; source.at, TEXT_LIMIT + 1);
+    assert_eq!(rt; written.as_slice(), b"fault 14 line 4104\n".as_slice());
+    assert_eq!(rt; source.at, 1_048_577);
     Ok(())
 }

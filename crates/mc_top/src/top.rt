@@ -1,25 +1,26 @@
 // The top call.
-ghost use Rattle.std.specs.Prelude.{◌≡◌, ◌≢◌, ◌≤◌, ◌<◌, ◌⊎◌, ℕ, List, [], take, IfOk, IfSome, IsErrOf, Some};
+ghost use Rattle.std.specs.Prelude.{◌≡◌, ◌≢◌, ◌≤◌, ◌<◌, ◌⊎◌, ℕ, List, [], map, take, IfOk, IfSome, IsErrOf, Some};
 ghost use Rattle.mc_io.specs.Bytes.{ConsumesAtMost};
 ghost use Rattle.mc_io.specs.Causes.{Rose};
-ghost use Rattle.mc_top.specs.Forms.{Declared, Says};
+ghost use Rattle.mc_net.specs.Nets.{AreAllowed, DeclaresNet, NamesAll, turns_of};
+ghost use Rattle.mc_net.specs.SoFar.{Declared};
+ghost use Rattle.mc_net.specs.Texts.{IsFault, Says};
 ghost use Rattle.mc_top.specs.Modes.{IsCommand, text_for};
-ghost use Rattle.mc_top.specs.Top.{Delivers, Ends, ReadsWhole, fault_text, usage_text};
+ghost use Rattle.mc_top.specs.Top.{Delivers, Ends, ReadsWhole, usage_text};
 ghost use Rattle.mc_top.specs.declared.words.Mode.{Mode};
 
-use crate::net::{Net, make_net};
-use crate::reader::TextFault;
+use crate::print::print_fault;
 use crate::run::{Run, run_script};
-use crate::script::JournalLine;
-use crate::text::TEXT_LIMIT;
 use crate::words::{Mode, read_mode};
 use mc_io::{Gate, ReadFault, Sink, Source, read_up_to, write_whole};
+use mc_net::{Net, NetFault, Tail, TextFault, read_net};
+use mc_script::JournalLine;
 use std::alloc::{AllocError, Global};
 use std::thread::Threads;
 
 /// How a call of the program ended.
 ///
-/// `status` is 0 where the work was done, 1 where the text isn't of the form, 2 where the words are no command,
+/// `status` is 0 where the work was done, 1 where the text has a fault, 2 where the words are no command,
 /// 3 for want of memory, 4 for a fault in reading, and 5 for a fault in writing. `due` is the status that would
 /// stand had no write failed. The journal holds what was settled where `due` is 0, and else nothing.
 #[derive(Debug, Drop)]
@@ -28,6 +29,9 @@ pub struct Done {
     pub due: u8,
     pub journal: Vec<JournalLine>,
 }
+
+// The greatest length of a text, in bytes.
+const TEXT_LIMIT: usize = 1_048_576;
 
 const WORKED: u8 = 0;
 
@@ -99,6 +103,42 @@ fn stopped(alloc: Global, status: u8) -> Done
     }
 }
 
+// Writes the line of a text's first fault.
+fn refuse<K: Sink>(alloc: Global, text: &[u8], fault: TextFault, sink: &mut K) -> Done
+    requires { IsFault text.now fault.number fault.line }
+    ensures statuses { (result.due ≡ 1) ⊎ (result.due ≡ 3) }
+    ensures status { (result.status ≡ result.due) ⊎ (result.status ≡ 5) }
+    ensures ends { (mode : Mode) → Ends mode (Some text.now) (K.written sink.old) (K.written sink.new) result.status result.due result.journal.items }
+    ensures fault { result.status ≡ 5 → Rose (K.faults sink.old) (K.faults sink.new) }
+{
+    match print_fault(alloc, fault) {
+        Ok(line) => deliver(sink, FAULTY_TEXT, &line, Vec::new(alloc)),
+        Err(_) => stopped(alloc, NO_MEMORY),
+    }
+}
+
+// Runs the script of a network.
+fn run_net<K: Sink>(alloc: Global, mode: Mode, text: &[u8], net: Net, sink: &mut K) -> Done
+    requires declares { DeclaresNet text.now net }
+    requires named { NamesAll net.names net.world }
+    requires allowed { AreAllowed net.world (map turns_of net.batches.items) }
+    ensures statuses { (result.due ≡ 0) ⊎ (result.due ≡ 3) }
+    ensures status { (result.status ≡ result.due) ⊎ (result.status ≡ 5) }
+    ensures ends { Ends mode (Some text.now) (K.written sink.old) (K.written sink.new) result.status result.due result.journal.items }
+    ensures fault { result.status ≡ 5 → Rose (K.faults sink.old) (K.faults sink.new) }
+{
+    let Net {
+        world,
+        names,
+        batches,
+        ..
+    } = net;
+    match run_script(alloc, &names, world, &batches) {
+        Ok(run) => deliver_run(sink, run),
+        Err(_) => stopped(alloc, NO_MEMORY),
+    }
+}
+
 // Does a mode's work on a text.
 fn run_text<K: Sink>(alloc: Global, mode: Mode, text: &[u8], sink: &mut K) -> Done
     ensures statuses { (result.due ≡ 0) ⊎ (result.due ≡ 1) ⊎ (result.due ≡ 3) }
@@ -106,20 +146,10 @@ fn run_text<K: Sink>(alloc: Global, mode: Mode, text: &[u8], sink: &mut K) -> Do
     ensures ends { Ends mode (Some text.now) (K.written sink.old) (K.written sink.new) result.status result.due result.journal.items }
     ensures fault { result.status ≡ 5 → Rose (K.faults sink.old) (K.faults sink.new) }
 {
-    let Net {
-        names,
-        world,
-        commands,
-    } = match make_net(alloc, text) {
-        Ok(net) => net,
-        Err(TextFault::Form) => {
-            return deliver(sink, FAULTY_TEXT, b"fault 19 line 1\n", Vec::new(alloc));
-        }
-        Err(TextFault::NoMemory(_)) => return stopped(alloc, NO_MEMORY),
-    };
-    match run_script(alloc, &names, world, &commands) {
-        Ok(run) => deliver_run(sink, run),
-        Err(_) => stopped(alloc, NO_MEMORY),
+    match read_net(alloc, text, Tail::Nothing) {
+        Ok(net) => run_net(alloc, mode, text, net, sink),
+        Err(NetFault::Line(fault)) => refuse(alloc, text, fault, sink),
+        Err(NetFault::NoMemory(_)) => stopped(alloc, NO_MEMORY),
     }
 }
 
@@ -173,7 +203,7 @@ pub fn media_top<R: Threads + Sync, S: Source, K: Sink, G: Gate + Sync>(
     ensures read_fault { result.due ≡ 4 → Rose (S.faults source.old) (S.faults source.new) }
     ensures write_fault { result.status ≡ 5 → Rose (K.faults sink.old) (K.faults sink.new) }
 
-    // A text of the form and no counted fault give 0, or 3 for want of memory.
+    // A text without a fault and no counted fault give 0, or 3 for want of memory.
     ensures complete { (mode : Mode) (text : List ℕ) (d : Declared) → IsCommand words.items mode → text_for mode (S.left source.old) ≡ Some text → Says text d
         → ¬ Rose (S.faults source.old) (S.faults source.new) → ¬ Rose (K.faults sink.old) (K.faults sink.new)
         → (result.status ≡ 0) ⊎ (result.status ≡ 3) }

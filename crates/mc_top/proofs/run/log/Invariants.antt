@@ -1,5 +1,5 @@
 use Rattle.std.proofs.Common.{◌≡◌, ◌++◌, map, take}
-use Rattle.mc_top.specs.declared.script.JournalLine.TheVariants.{Turn as Made}
+use Rattle.mc_script.specs.declared.command.JournalLine.TheVariants.{Turn as Made}
 use Rattle.mc_top.proofs.run.log.Given as goal
 
 -- the turns so far stand behind what was kept

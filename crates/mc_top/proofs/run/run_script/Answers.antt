@@ -1,20 +1,32 @@
-use Rattle.std.proofs.Common.{arith}
-use Rattle.mc_top.proofs.Running.{all_printed, all_settled, goes_first, goes_next, goes_to_end, journal_holds}
+use Rattle.std.proofs.Common.{◌+◌, ◌∙◌, All, IsTrue, List, ap, arith, map, subst, sym}
+use Rattle.mc_world.specs.Shapes.{is_allowed}
+use Rattle.mc_world.specs.declared.event.Turn.{Turn}
+use Rattle.mc_net.specs.Nets.{turns_of}
+use Rattle.mc_top.specs.Scripts.{Settling}
+use Rattle.mc_top.proofs.Running.{all_printed, all_settled, batch_allowed, goes_first, goes_next, goes_to_end, journal_holds}
 use Rattle.mc_top.proofs.run.run_script.Goals as goal
 
-pub loop-command-init : goal.loop-command-init
-loop-command-init c = rw c.new-progress.ensures (goes_first c.args.names.now c.args.world c.args.commands.now c.keeps.ensures.sound)
+pub loop-index-init : goal.loop-index-init
+loop-index-init c = rw c.new-progress.ensures (goes_first c.args.names.now c.args.world (map turns_of c.args.batches.now) c.keeps.ensures.sound)
 
-pub loop-command-preserved : goal.loop-command-preserved
-loop-command-preserved c =
-    goes_next c.args.names.now c.args.world c.args.commands.now c.loop-command.command-index _ c.loop-command.progress c.in_ok-progress.progress c.requires.named c.requires.commands.named
-    (omega (arith, c.loop-command-test.true)) c.in_ok-progress.ensures c.loop-command.invariant
+pub loop-index-preserved : goal.loop-index-preserved
+loop-index-preserved c =
+    goes_next c.args.names.now c.args.world c.args.batches.now c.loop-index.index c.index-batches-index.result c.loop-index.progress c.in_ok-progress.progress (omega (arith, c.loop-index-test.true))
+    (subst (λ (batch : List Turn). Settling c.args.names.now (c.loop-index.index + 1) batch c.loop-index.progress c.in_ok-progress.progress) (c.deref.ensures.value ∙ ap turns_of c.index-batches-index.is) c.in_ok-progress.ensures)
+    c.loop-index.invariant
+
+pub settle-requires-clause-allowed : goal.settle-requires-clause-allowed
+settle-requires-clause-allowed c =
+    subst (λ (batch : List Turn). All (λ turn. IsTrue (is_allowed c.loop-index.progress.world turn)) batch) (sym (c.deref.ensures.value ∙ ap turns_of c.index-batches-index.is))
+    (batch_allowed c.args.names.now c.args.world c.args.batches.now c.loop-index.index c.index-batches-index.result _ c.loop-index.progress (omega (arith, c.loop-index-test.true)) c.requires.allowed c.loop-index.invariant)
 
 pub returns-clause-settled : goal.returns-clause-settled
-returns-clause-settled c = all_settled c.args.names.now c.args.world c.args.commands.now _ (goes_to_end _ _ _ c.loop-command.command-index _ _ (omega (arith, c.loop-command-test.false)) c.progress.view_is c.loop-command.invariant)
+returns-clause-settled c = all_settled c.args.names.now c.args.world (map turns_of c.args.batches.now) c.loop-index.index _ (goes_to_end _ _ _ c.loop-index.index _ _ (omega (arith, c.loop-index-test.false)) c.progress.view_is c.loop-index.invariant)
 
 pub returns-clause-holds : goal.returns-clause-holds
-returns-clause-holds c = journal_holds _ c.args.world _ c.keeps.ensures.sound (all_settled c.args.names.now c.args.world c.args.commands.now _ (goes_to_end _ _ _ c.loop-command.command-index _ _ (omega (arith, c.loop-command-test.false)) c.progress.view_is c.loop-command.invariant))
+returns-clause-holds c =
+    journal_holds _ c.args.world _ c.keeps.ensures.sound
+    (all_settled c.args.names.now c.args.world (map turns_of c.args.batches.now) c.loop-index.index _ (goes_to_end _ _ _ c.loop-index.index _ _ (omega (arith, c.loop-index-test.false)) c.progress.view_is c.loop-index.invariant))
 
 pub returns-clause-output : goal.returns-clause-output
-returns-clause-output c = all_printed c.args.names.now c.args.world c.args.commands.now _ (goes_to_end _ _ _ c.loop-command.command-index _ _ (omega (arith, c.loop-command-test.false)) c.progress.view_is c.loop-command.invariant)
+returns-clause-output c = all_printed c.args.names.now c.args.world (map turns_of c.args.batches.now) c.loop-index.index _ (goes_to_end _ _ _ c.loop-index.index _ _ (omega (arith, c.loop-index-test.false)) c.progress.view_is c.loop-index.invariant)

@@ -1,7 +1,8 @@
-use Rattle.std.proofs.Common.{drop}
+use Rattle.std.proofs.Common.{drop, map}
+use Rattle.mc_net.specs.Nets.{turns_of}
 use Rattle.mc_top.proofs.Running.{GoesOn}
 use Rattle.mc_top.proofs.run.run_script.Given as goal
 
--- what was run so far goes on with the commands that are left
-abbrev pub invariant-loop-command : goal.invariant-loop-command
-invariant-loop-command l = GoesOn l.names l.fn.world l.commands (drop l.command-index l.commands) l.progress
+-- what was run so far goes on with the batches that are left
+abbrev pub invariant-loop-index : goal.invariant-loop-index
+invariant-loop-index l = GoesOn l.names l.fn.world (map turns_of l.batches) (map turns_of (drop l.index l.batches)) l.index l.progress

@@ -1,4 +1,4 @@
-use Rattle.std.proofs.Common.{ℕ, List, ◌+◌, ◌++◌, ◌∙◌, ap, refl, subst}
+use Rattle.std.proofs.Common.{ℕ, List, ◌++◌, ◌∙◌, ap, subst}
 use Rattle.mc_path.proofs.SettledHold.{settled_paths_hold}
 use Rattle.mc_top.specs.Scripts.{ScriptState, Settling}
 use Rattle.mc_top.specs.Shown.{views_text}
@@ -9,28 +9,24 @@ use Rattle.mc_top.proofs.run.Progress.settle.Goals as goal
 pub print_settle-requires : goal.print_settle-requires
 print_settle-requires c =
     let after = after_settle c.args.names.now c.self.inside.world c.in_ok-settled.settled.world _ _ c.keeps.ensures.sound (rw (← c.self.view_is) at c.requires.named) c.in_ok-settled.ensures.settled in
-    rw (c.deref-3.ensures.value, c.in_ok-views.ensures.views)
+    rw (c.deref-2.ensures.value, c.in_ok-views.ensures.views)
     (views_named c.args.names.now c.in_ok-settled.settled.world after.named after.sound (c.in_ok-views.ensures.quiet after.quiet))
 
 pub returns : goal.returns
 returns c =
     let names = c.args.names.now in
-    let number = c.self.inside.number in
+    let number = c.args.number in
     let last = c.in_ok-settled.settled.world in
-    let settled = rw (c.deref.ensures.value) at c.in_ok-settled.ensures.settled in
+    let settled = c.in_ok-settled.ensures.settled in
     let holds = settled_paths_hold c.self.inside.world last _ _ c.keeps.ensures.sound settled in
-    subst (λ (s : ScriptState). Settling names s (record {
+    subst (λ (s : ScriptState). Settling names number c.args.batch.now s (record {
       world = last;
-      batch = c.new.result.items;
-      number = number + 1;
       journal = c.log.new.journal.items;
       output = c.print_settle.new.out.items;
     })) c.self.view_is (record {
       turns = c.in_ok-settled.settled.turns.items;
       settled = settled;
-      journal = rw c.deref-2.ensures.value at c.in_ok-log.ensures;
+      journal = rw c.deref.ensures.value at c.in_ok-log.ensures;
       output = c.in_ok-print_settle.ensures
-          ∙ ap (λ (text : List ℕ). c.self.inside.output.items ++ text) (ap (views_text names number) (c.deref-3.ensures.value ∙ c.in_ok-views.ensures.views) ∙ settle_is names number last holds);
-      batch = c.new.ensures.items;
-      number = refl;
+          ∙ ap (λ (text : List ℕ). c.self.inside.output.items ++ text) (ap (views_text names number) (c.deref-2.ensures.value ∙ c.in_ok-views.ensures.views) ∙ settle_is names number last holds);
     })

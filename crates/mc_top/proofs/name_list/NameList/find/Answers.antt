@@ -1,7 +1,0 @@
-use Rattle.std.proofs.Common.{sym, ◌∙◌}
-use Rattle.std.specs.Str.{bytes_eq}
-use Rattle.mc_top.proofs.Places.{position-map}
-use Rattle.mc_top.proofs.name_list.NameList.find.Goals as goal
-
-pub returns : goal.returns
-returns c = rw (← c.self.view_is) (c.get_index_of.ensures.index ∙ sym (position-map (λ name. name.items) (bytes_eq c.args.name.now) c.self.inside.names.keys))
