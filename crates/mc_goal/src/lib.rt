@@ -1,0 +1,104 @@
+//! The turn of an end: what it sends by its goal, after something that concerns it.
+#![tactic(auto)]
+
+ghost use Rattle.std.specs.Prelude.{◌≡◌, ◌≤◌, Some, IsSome, IsTrue, map};
+ghost use Rattle.mc_slot.specs.EndTurn.{due, due_live, owes, pushed_by};
+ghost use Rattle.mc_slot.specs.Moves.{is_live, sent_all};
+ghost use Rattle.mc_slot.specs.Sending.{sends_of, pair_of};
+
+use mc_signal::{Descriptor, Sender, Signal, choose};
+use mc_slot::{Goal, Sends, Slot, State};
+
+#[cfg(test)]
+mod tests;
+
+/// The turn of an end, pushed or not: sends what its goal lacks.
+pub fn end_turn(
+    slot: &mut Slot,
+    no: u8,
+    goal: Goal,
+    push: bool,
+    own: Descriptor,
+    me: &Sender,
+) -> Sends
+    requires { IsTrue (is_live slot.old.state) → IsSome slot.old.got }
+    ensures sends { sends_of result ≡ map (pair_of no) (due goal slot.old push own me.now) }
+    ensures after { sent_all slot.old (due goal slot.old push own me.now) ≡ Some slot.new }
+    ensures few { result.len ≤ 2 }
+{
+    let mut sends = Sends::none();
+    match (slot.state, goal) {
+        (State::Closed, Goal::Open) => {
+            if push {
+                let open = Signal::Open(slot.medium, own);
+                slot.send(open);
+                sends.push(no, open);
+            }
+        }
+        (State::Closed | State::Closing, _) => {}
+        (_, Goal::Close) => {
+            slot.send(Signal::Close);
+            sends.push(no, Signal::Close);
+        }
+        (State::Opening, _) => {}
+        (State::Opened, _) => return accept(slot, no, own, me),
+        (State::Flowing, _) => return describe_anew(slot, no, own, me),
+    }
+    sends
+}
+
+// An opened slot accepts, and answers the descriptor that it got.
+fn accept(slot: &mut Slot, no: u8, own: Descriptor, me: &Sender) -> Sends
+    requires opened { slot.old.state ≡ State.Opened }
+    requires got { IsSome slot.old.got }
+    ensures sends { sends_of result ≡ map (pair_of no) (due_live slot.old.state slot.old own me.now) }
+    ensures after { sent_all slot.old (due_live slot.old.state slot.old own me.now) ≡ Some slot.new }
+    ensures few { result.len ≤ 2 }
+{
+    let mut sends = Sends::none();
+    if let Some(got) = slot.got {
+        let select = Signal::Select(choose(got, me));
+        slot.send(Signal::Oack(own));
+        slot.send(select);
+        sends.push(no, Signal::Oack(own));
+        sends.push(no, select);
+    }
+    sends
+}
+
+// A flowing slot sends its descriptor and its selector, each where it differs from the last.
+fn describe_anew(slot: &mut Slot, no: u8, own: Descriptor, me: &Sender) -> Sends
+    requires flowing { slot.old.state ≡ State.Flowing }
+    requires got { IsSome slot.old.got }
+    ensures sends { sends_of result ≡ map (pair_of no) (due_live slot.old.state slot.old own me.now) }
+    ensures after { sent_all slot.old (due_live slot.old.state slot.old own me.now) ≡ Some slot.new }
+    ensures few { result.len ≤ 2 }
+{
+    let mut sends = Sends::none();
+    if let Some(got) = slot.got {
+        let choice = choose(got, me);
+        if slot.sent != Some(own) {
+            slot.send(Signal::Describe(own));
+            sends.push(no, Signal::Describe(own));
+        }
+        if slot.sel_out != Some(choice) {
+            slot.send(Signal::Select(choice));
+            sends.push(no, Signal::Select(choice));
+        }
+    }
+    sends
+}
+
+/// Whether a slot owes a retry: its goal is open, and it is closed.
+pub fn owes(slot: &Slot, goal: Goal) -> bool
+    ensures { result ≡ owes goal slot.now }
+{
+    goal == Goal::Open && slot.state == State::Closed
+}
+
+/// Whether a taken signal pushes the goal: a closeack that made the slot closed does.
+pub fn pushes(s: &Signal, after: State) -> bool
+    ensures { result ≡ pushed_by s.now after }
+{
+    matches!((s, after), (Signal::Closeack, State::Closed))
+}

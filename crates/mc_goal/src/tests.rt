@@ -1,0 +1,43 @@
+// An opened end that holds answers with its descriptor, and then chooses.
+use super::*;
+use mc_signal::{CodecList, Medium};
+
+fn descriptor(origin: u32) -> Descriptor {
+    Descriptor {
+        origin,
+        version: 1,
+        addr: 7,
+        port: 5001,
+        codecs: CodecList::none(),
+    }
+}
+
+#[test]
+fn hold_answers_and_chooses(rt: HostRuntime) {
+    let me = Sender {
+        addr: 1,
+        port: 5000,
+        codecs: CodecList::none(),
+    };
+    let mut slot = Slot::new(Medium::Audio, false);
+    slot.state = State::Opened;
+    slot.got = Some(descriptor(4));
+    let sends = end_turn(&mut slot, 3, Goal::Hold, false, descriptor(5), &me);
+    let choice = choose(descriptor(4), &me);
+    let mut want = Sends::none();
+    want.push(3, Signal::Oack(descriptor(5)));
+    want.push(3, Signal::Select(choice));
+    assert_eq!(rt; sends, want);
+    assert_eq!(rt; slot.state, State::Flowing);
+    assert_eq!(rt; slot.sent, Some(descriptor(5)));
+    assert_eq!(rt; slot.sel_out, Some(choice));
+}
+
+#[test]
+fn a_closed_end_that_opens_owes_a_retry(rt: HostRuntime) {
+    let slot = Slot::new(Medium::Audio, true);
+    assert_eq!(rt; owes(&slot, Goal::Open), true);
+    assert_eq!(rt; owes(&slot, Goal::Hold), false);
+    assert_eq!(rt; pushes(&Signal::Closeack, State::Closed), true);
+    assert_eq!(rt; pushes(&Signal::Close, State::Closed), false);
+}
