@@ -1,0 +1,10 @@
+pub mod Changes
+pub mod Events
+pub mod Folds
+pub mod GoalLoops
+pub mod Held
+pub mod NewBoxes
+pub mod Options
+pub mod Sums
+pub mod TakeThree
+pub mod Turns

@@ -1,0 +1,73 @@
+-- A new box is sound.
+use Rattle.std.proofs.Common.{◌≡◌, ℕ, ◌^◌, ◌<◌, ◌≤◌, List, [], ◌∷◌, map, length, refl, ap, sym, ◌∙◌, subst, zero, suc, arith}
+use Rattle.std.proofs.Math.ListN.{get_or}
+use Rattle.std.proofs.lemmas.Grind.{common_steps}
+use Rattle.mc_signal.specs.Own.{address_of}
+use Rattle.mc_signal.specs.declared.codec_list.CodecList.{CodecList}
+use Rattle.mc_signal.specs.declared.Descriptor.{Descriptor}
+use Rattle.mc_signal.specs.declared.Sender.{Sender}
+use Rattle.mc_slot.specs.EndTurn.{IsAtRest}
+use Rattle.mc_slot.specs.Tunnel.{Kept}
+use Rattle.mc_slot.specs.declared.Goal.TheVariants.{Close as ToClose}
+use Rattle.mc_slot.specs.declared.Slot.{Slot}
+use Rattle.mc_slot.specs.declared.SlotGoal.{SlotGoal}
+use Rattle.mc_slot.specs.declared.SlotGoal.TheVariants.{End, Link}
+use Rattle.mc_slot.specs.declared.State.TheVariants.{Closed}
+use Rattle.mc_box.specs.BoxSound.{IsLinked, IsSoundBox, RestsAt}
+use Rattle.mc_box.specs.Boxes.{BoxState, first_box, first_slot, first_goal, first_media, no_slot, slot_at, goal_at, own, sender}
+use Rattle.mc_box.specs.declared.event.Kind.{Kind}
+use Rattle.mc_box.specs.declared.setup.SlotSetup.{SlotSetup}
+
+-- a new slot keeps nothing
+new_kept : (setups : List SlotSetup) (local : ℕ) → Kept (get_or (map first_slot setups) local no_slot)
+new_kept [] local = (refl, refl, refl, refl)
+new_kept (setup ∷ setups) zero = (refl, refl, refl, refl)
+new_kept (setup ∷ setups) (suc local) = new_kept setups local
+
+-- and is closed
+new_closed : (setups : List SlotSetup) (local : ℕ) → (get_or (map first_slot setups) local no_slot).state ≡ Closed
+new_closed [] local = refl
+new_closed (setup ∷ setups) zero = refl
+new_closed (setup ∷ setups) (suc local) = new_closed setups local
+
+-- its goal is close
+new_goal : (setups : List SlotSetup) (local : ℕ) → get_or (map first_goal setups) local (End ToClose) ≡ End ToClose
+new_goal [] local = refl
+new_goal (setup ∷ setups) zero = refl
+new_goal (setup ∷ setups) (suc local) = new_goal setups local
+
+-- a closed end that is to close is at rest
+closed_rests : (slot : Slot) (mine : Descriptor) (me : Sender) → slot.state ≡ Closed → IsAtRest ToClose slot mine me
+closed_rests slot mine me is = grind arith
+
+-- so is a slot of such a goal
+closed_goal_rests : (goal : SlotGoal) (box : BoxState) (local : ℕ) → goal ≡ End ToClose → (slot_at box local).state ≡ Closed → RestsAt goal box local
+closed_goal_rests goal box local is closed =
+    subst (λ (g : SlotGoal). RestsAt g box local) (sym is) (closed_rests (slot_at box local) (own box local) (sender box local) closed)
+
+-- and no such goal is a link
+unlinked : (box : BoxState) (local partner : ℕ) → goal_at box local ≡ End ToClose → goal_at box local ≡ Link partner → IsLinked box local partner
+unlinked box local partner one two = absurd (cc)
+
+new_sound : (box : BoxState) (setups : List SlotSetup) (version : ℕ)
+    → box.slots ≡ map first_slot setups → box.goals ≡ map first_goal setups → box.media ≡ map (first_media version) setups
+    → length setups ≤ 64 → address_of box.number < 2 ^ 32 → IsSoundBox box
+new_sound box setups version slots goals media few address =
+    let goal_is = λ (local : ℕ). ap (λ (l : List SlotGoal). get_or l local (End ToClose)) goals ∙ new_goal setups local in
+    record {
+      wired = record {
+        whole = record { goals = grind (arith, common_steps); media = grind (arith, common_steps) };
+        few = grind (arith, common_steps);
+        address = address;
+        kept = λ local. subst (λ (l : List Slot). Kept (get_or l local no_slot)) (sym slots) (new_kept setups local);
+        links = λ local partner is. unlinked box local partner (goal_is local) is;
+      };
+      rests = λ local. closed_goal_rests (goal_at box local) box local (goal_is local)
+          (ap (λ (l : List Slot). (get_or l local no_slot).state) slots ∙ new_closed setups local);
+    }
+
+pub first_sound : (box : BoxState) (kind : Kind) (number : ℕ) (receives sends : CodecList) (version : ℕ) (setups : List SlotSetup)
+    → length setups ≤ 64 → address_of number < 2 ^ 32 → box ≡ first_box kind number receives sends version setups → IsSoundBox box
+first_sound box kind number receives sends version setups few address is =
+    subst (λ (b : BoxState). IsSoundBox b) (sym is)
+    (new_sound (first_box kind number receives sends version setups) setups version refl refl refl few address)

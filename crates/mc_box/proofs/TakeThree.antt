@@ -1,0 +1,167 @@
+-- A sound box that takes a signal sends at most three.
+use Rattle.std.proofs.Common.{◌≡◌, ◌≢◌, ℕ, ◌+◌, ◌<◌, ◌≤◌, true, false, Option, Some, None, List, [], ◌∷◌, map, inl, inr, length, max, min, nat_lt, refl, ap, sym, ◌∙◌, subst, arith, length-append}
+use Rattle.std.specs.Option.{option_map}
+use Rattle.std.proofs.Math.ListN.{set}
+use Rattle.std.proofs.lemmas.Bool.{cases_lt, lt-ltb, le-ltb}
+use Rattle.std.proofs.lemmas.Grind.{common_steps}
+use Rattle.std.proofs.lemmas.List.{get_or-set_same, get_or-set_other, length-map}
+use Rattle.mc_link.specs.LinkLaws.{closed_by, flipped}
+use Rattle.mc_link.specs.LinkTurn.{link_due, numbered, IsLinkAtRest}
+use Rattle.mc_link.specs.declared.Side.{Side}
+use Rattle.mc_link.specs.declared.Side.TheVariants.{First, Second}
+use Rattle.mc_link.proofs.LinkThree.{link_sends_three}
+use Rattle.mc_link.proofs.Mirror.{link_mirror}
+use Rattle.mc_signal.specs.declared.Descriptor.{Descriptor}
+use Rattle.mc_signal.specs.declared.Sender.{Sender}
+use Rattle.mc_signal.specs.declared.Signal.{Signal}
+use Rattle.mc_slot.specs.EndTurn.{due, pushed_by, IsAtRest}
+use Rattle.mc_slot.specs.Moves.{answered, taken, Took}
+use Rattle.mc_slot.specs.Sending.{pair_of}
+use Rattle.mc_slot.specs.Tunnel.{Kept}
+use Rattle.mc_slot.specs.declared.Goal.{Goal}
+use Rattle.mc_slot.specs.declared.Slot.{Slot}
+use Rattle.mc_slot.specs.declared.SlotGoal.{SlotGoal}
+use Rattle.mc_slot.specs.declared.SlotGoal.TheVariants.{End, Link}
+use Rattle.mc_slot.specs.declared.State.{State}
+use Rattle.mc_box.specs.BoxEvents.{BoxStep, answering, closes_by, end_turn, goal_turn, link_turn, pair_turn, side_closed, side_of, take_step, turn_by}
+use Rattle.mc_box.specs.BoxSound.{IsSoundBox, RestsAt}
+use Rattle.mc_box.specs.Boxes.{BoxState, is_slot, no_slot, slot_at, goal_at, media_at, own, sender, with_slot}
+use Rattle.mc_box.specs.EventLaws.{TakeSendsThree}
+use Rattle.mc_box.proofs.Changes.{slot_inside}
+use Rattle.mc_box.proofs.Held.{own_put, sender_put}
+use Rattle.mc_box.proofs.Options.{if_some, map_some, then_some}
+use Rattle.mc_box.proofs.Turns.{end_form, pair_form}
+
+-- ---- a taken close, by sides
+
+closed_first : (signal : Signal) (state : State) → side_closed (closes_by signal state) First ≡ closed_by signal state First
+closed_first signal state = grind (arith)
+
+closed_second : (signal : Signal) (state : State) → side_closed (closes_by signal state) Second ≡ flipped (closed_by signal state First)
+closed_second signal state = grind (arith)
+
+-- ---- an end
+
+end_two : (goal : Goal) (slot after : Slot) (mine : Descriptor) (me : Sender) (signal : Signal) (answer : Option Signal)
+    → Kept slot → IsAtRest goal slot mine me → taken slot signal ≡ Some record { answer = answer; after = after }
+    → length (answered answer) + length (due goal after (pushed_by signal after.state) mine me) ≤ 2
+end_two goal slot after mine me signal answer kept rest goes = grind (arith, common_steps)
+
+-- ---- a link
+
+no_length : (l : List (Side × Signal)) → length l ≡ 0 → l ≡ []
+no_length [] is = refl
+no_length (x ∷ l) is = absurd (omega arith)
+
+mirror_rests : (a b : Slot) → IsLinkAtRest a b → IsLinkAtRest b a
+mirror_rests a b rest =
+    let same : length (link_due b a None) ≡ length (link_due a b None) = (link_mirror a b None).2 in
+    no_length (link_due b a None) (same ∙ ap (λ (l : List (Side × Signal)). length l) rest)
+
+-- the lower slot of a link takes
+low_three : (a b after : Slot) (signal : Signal) (answer : Option Signal) → Kept a → IsLinkAtRest a b → taken a signal ≡ Some record { answer = answer; after = after }
+    → length (answered answer) + length (link_due after b (side_closed (closes_by signal after.state) First)) ≤ 3
+low_three a b after signal answer kept rest goes =
+    subst (λ (closed : Option Side). length (answered answer) + length (link_due after b closed) ≤ 3) (sym (closed_first signal after.state))
+    (link_sends_three a b after signal answer kept rest goes)
+
+-- and the higher one
+high_three : (a b after : Slot) (signal : Signal) (answer : Option Signal) → Kept a → IsLinkAtRest b a → taken a signal ≡ Some record { answer = answer; after = after }
+    → length (answered answer) + length (link_due b after (side_closed (closes_by signal after.state) Second)) ≤ 3
+high_three a b after signal answer kept rest goes =
+    let same : length (link_due b after (flipped (closed_by signal after.state First))) ≡ length (link_due after b (closed_by signal after.state First)) =
+    (link_mirror after b (closed_by signal after.state First)).2 in
+    subst (λ (closed : Option Side). length (answered answer) + length (link_due b after closed) ≤ 3) (sym (closed_second signal after.state))
+    (subst (λ (n : ℕ). length (answered answer) + n ≤ 3) (sym same)
+    (link_sends_three a b after signal answer kept (mirror_rests b a rest) goes))
+
+-- ---- a box
+
+-- what the goal sends after a taking, with the answer
+abbrev Three : Option Signal → BoxStep → Type 0
+Three answer turn = length (answered answer) + length turn.sent ≤ 3
+
+end_takes : (box : BoxState) (local : ℕ) (signal : Signal) (goal : Goal) (answer : Option Signal) (after : Slot) (turn : BoxStep) → IsSoundBox box → local < length box.slots
+    → goal_at box local ≡ End goal → taken (slot_at box local) signal ≡ Some record { answer = answer; after = after }
+    → end_turn goal (with_slot box local after) local (pushed_by signal after.state) ≡ Some turn → Three answer turn
+end_takes box local signal goal answer after turn sound inside is goes turns =
+    let form = end_form (with_slot box local after) local goal (pushed_by signal after.state) turn turns in
+    let slot : slot_at (with_slot box local after) local ≡ after = get_or-set_same box.slots local after no_slot inside in
+    let mine : own (with_slot box local after) local ≡ own box local = own_put box.kind box (set box.slots local after) box.goals box.media (media_at box local) local in
+    let me : sender (with_slot box local after) local ≡ sender box local = sender_put box.kind box (set box.slots local after) box.goals box.media (media_at box local) local in
+    let rest : IsAtRest goal (slot_at box local) (own box local) (sender box local) = subst (λ (g : SlotGoal). RestsAt g box local) is (sound.rests local) in
+    let two = end_two goal (slot_at box local) after (own box local) (sender box local) signal answer (sound.wired.kept local) rest goes in
+    let few : length (answered answer) + length (due goal (slot_at (with_slot box local after) local) (pushed_by signal after.state) (own (with_slot box local after) local) (sender (with_slot box local after) local)) ≤ 2 =
+    rw (slot, mine, me) two in
+    subst (λ (s : BoxStep). Three answer s) form.is
+    (omega (arith, length-map (due goal (slot_at (with_slot box local after) local) (pushed_by signal after.state) (own (with_slot box local after) local) (sender (with_slot box local after) local)) (pair_of local), few))
+
+-- the lower of two linked slots takes, or the higher one
+link_sent : (box : BoxState) (low high : ℕ) (closed : Option Side) (a b : Slot) (answer : Option Signal) (turn : BoxStep)
+    → slot_at box low ≡ a → slot_at box high ≡ b → length (answered answer) + length (link_due a b closed) ≤ 3
+    → pair_turn box low high closed ≡ Some turn → Three answer turn
+link_sent box low high closed a b answer turn low_is high_is few goes =
+    let form = pair_form box low high closed turn goes in
+    let size : length (map (numbered low high) (link_due (slot_at box low) (slot_at box high) closed)) ≡ length (link_due a b closed) =
+    length-map (link_due (slot_at box low) (slot_at box high) closed) (numbered low high)
+    ∙ (ap (λ (s : Slot). length (link_due s (slot_at box high) closed)) low_is ∙ ap (λ (s : Slot). length (link_due a s closed)) high_is) in
+    subst (λ (s : BoxStep). Three answer s) form.is (omega (arith, size, few))
+
+link_takes : (box : BoxState) (local partner : ℕ) (signal : Signal) (answer : Option Signal) (after : Slot) (turn : BoxStep) → IsSoundBox box → local < length box.slots
+    → goal_at box local ≡ Link partner → taken (slot_at box local) signal ≡ Some record { answer = answer; after = after }
+    → link_turn (with_slot box local after) local partner (closes_by signal after.state) ≡ Some turn → Three answer turn
+link_takes box local partner signal answer after turn sound inside is goes turns =
+    let other : partner ≢ local = (sound.wired.links local partner is).other in
+    let here : slot_at (with_slot box local after) local ≡ after = get_or-set_same box.slots local after no_slot inside in
+    let there : slot_at (with_slot box local after) partner ≡ slot_at box partner = get_or-set_other box.slots local partner after no_slot other in
+    let rest : RestsAt (Link partner) box local = subst (λ (g : SlotGoal). RestsAt g box local) is (sound.rests local) in
+    elim (cases_lt local partner) [
+      | inl below ↦
+          let low : min local partner ≡ local = omega arith in
+          let high : max local partner ≡ partner = omega arith in
+          let side : side_of local partner ≡ First = let test : nat_lt local partner ≡ true = lt-ltb local partner below in rw test refl in
+          let rests : IsLinkAtRest (slot_at box local) (slot_at box partner) =
+          subst (λ (k : ℕ). IsLinkAtRest (slot_at box local) (slot_at box k)) high (subst (λ (k : ℕ). IsLinkAtRest (slot_at box k) (slot_at box (max local partner))) low rest) in
+          let made : pair_turn (with_slot box local after) local partner (side_closed (closes_by signal after.state) First) ≡ Some turn =
+          subst (λ (s : Side). pair_turn (with_slot box local after) local partner (side_closed (closes_by signal after.state) s) ≡ Some turn) side
+          (subst (λ (k : ℕ). pair_turn (with_slot box local after) local k (side_closed (closes_by signal after.state) (side_of local partner)) ≡ Some turn) high
+          (subst (λ (k : ℕ). pair_turn (with_slot box local after) k (max local partner) (side_closed (closes_by signal after.state) (side_of local partner)) ≡ Some turn) low turns)) in
+          link_sent (with_slot box local after) local partner (side_closed (closes_by signal after.state) First) after (slot_at box partner) answer turn here there
+          (low_three (slot_at box local) (slot_at box partner) after signal answer (sound.wired.kept local) rests goes) made
+      | inr above ↦
+          let low : min local partner ≡ partner = omega arith in
+          let high : max local partner ≡ local = omega arith in
+          let side : side_of local partner ≡ Second = let test : nat_lt local partner ≡ false = le-ltb local partner above in rw test refl in
+          let rests : IsLinkAtRest (slot_at box partner) (slot_at box local) =
+          subst (λ (k : ℕ). IsLinkAtRest (slot_at box partner) (slot_at box k)) high (subst (λ (k : ℕ). IsLinkAtRest (slot_at box k) (slot_at box (max local partner))) low rest) in
+          let made : pair_turn (with_slot box local after) partner local (side_closed (closes_by signal after.state) Second) ≡ Some turn =
+          subst (λ (s : Side). pair_turn (with_slot box local after) partner local (side_closed (closes_by signal after.state) s) ≡ Some turn) side
+          (subst (λ (k : ℕ). pair_turn (with_slot box local after) partner k (side_closed (closes_by signal after.state) (side_of local partner)) ≡ Some turn) high
+          (subst (λ (k : ℕ). pair_turn (with_slot box local after) k (max local partner) (side_closed (closes_by signal after.state) (side_of local partner)) ≡ Some turn) low turns)) in
+          link_sent (with_slot box local after) partner local (side_closed (closes_by signal after.state) Second) (slot_at box partner) after answer turn there here
+          (high_three (slot_at box local) (slot_at box partner) after signal answer (sound.wired.kept local) rests goes) made
+    ]
+
+goal_takes : (goal : SlotGoal) (box : BoxState) (local : ℕ) (signal : Signal) (answer : Option Signal) (after : Slot) (turn : BoxStep) → IsSoundBox box → local < length box.slots
+    → goal_at box local ≡ goal → taken (slot_at box local) signal ≡ Some record { answer = answer; after = after }
+    → turn_by goal (with_slot box local after) local (pushed_by signal after.state) (closes_by signal after.state) ≡ Some turn → Three answer turn
+goal_takes (End goal) box local signal answer after turn sound inside is goes turns = end_takes box local signal goal answer after turn sound inside is goes turns
+goal_takes (Link partner) box local signal answer after turn sound inside is goes turns = link_takes box local partner signal answer after turn sound inside is goes turns
+
+-- the answer and the turn
+three_sent : (local : ℕ) (answer : Option Signal) (turn step : BoxStep) → Three answer turn → answering local answer turn ≡ step → length step.sent ≤ 3
+three_sent local answer turn step few is =
+    subst (λ (s : BoxStep). length s.sent ≤ 3) is
+    (omega (arith, length-append (map (pair_of local) (answered answer)) turn.sent, length-map (answered answer) (pair_of local), few))
+
+pub take_three : (box : BoxState) (local : ℕ) (signal : Signal) (step : BoxStep) → IsSoundBox box → local < length box.slots → take_step box local signal ≡ Some step → length step.sent ≤ 3
+take_three box local signal step sound inside goes =
+    let one = then_some (λ (took : Took). option_map (answering local took.answer)
+    (goal_turn (with_slot box local took.after) local (pushed_by signal took.after.state) (closes_by signal took.after.state))) (taken (slot_at box local) signal) step goes in
+    let two = map_some (answering local one.0.answer) (goal_turn (with_slot box local one.0.after) local (pushed_by signal one.0.after.state) (closes_by signal one.0.after.state)) step one.2 in
+    three_sent local one.0.answer two.0 step (goal_takes (goal_at box local) box local signal one.0.answer one.0.after two.0 sound inside refl one.1 two.1) two.2
+
+pub take_sends_three : TakeSendsThree
+take_sends_three box local signal step sound goes =
+    let one = if_some (is_slot box local) (take_step box local signal) step goes in
+    take_three box local signal step sound (slot_inside box local one.0) one.1

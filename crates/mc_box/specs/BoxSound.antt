@@ -1,0 +1,48 @@
+-- What every box keeps, and a box's fields as clauses see them.
+use Rattle.std.specs.Prelude.{◌≡◌, ◌≢◌, ℕ, ◌^◌, ◌<◌, ◌≤◌, length, max, min}
+use Rattle.mc_link.specs.LinkTurn.{IsLinkAtRest}
+use Rattle.mc_signal.specs.Own.{address_of}
+use Rattle.mc_slot.specs.EndTurn.{IsAtRest}
+use Rattle.mc_slot.specs.Tunnel.{Kept}
+use Rattle.mc_slot.specs.declared.SlotGoal.{SlotGoal}
+use Rattle.mc_slot.specs.declared.SlotGoal.TheVariants.{End, Link}
+use Rattle.mc_box.specs.Boxes.{BoxState, IsBox, slot_at, goal_at, own, sender}
+use Rattle.mc_box.specs.declared.event.Kind.TheVariants.{Feature}
+use Rattle.mc_box.specs.declared.parts.Parts.{Parts}
+
+-- a linked slot of a feature and its partner, another slot of the same medium, which is linked with it
+pub record IsLinked (box : BoxState) (local partner : ℕ) : Type 0 where
+  pub inside : partner < length box.slots
+  pub other : partner ≢ local
+  pub back : goal_at box partner ≡ Link local
+  pub feature : box.kind ≡ Feature
+  pub medium : (slot_at box partner).medium ≡ (slot_at box local).medium
+
+-- each slot has its goal and its media, local numbers and the address fit, each slot keeps what its state allows, and links are mutual
+pub record IsWired (box : BoxState) : Type 0 where
+  pub whole : IsBox box
+  pub few : length box.slots ≤ 64
+  pub address : address_of box.number < 2 ^ 32
+  pub kept : (local : ℕ) → Kept (slot_at box local)
+  pub links : (local partner : ℕ) → goal_at box local ≡ Link partner → IsLinked box local partner
+
+-- the goal is at rest: a turn that isn't pushed, and follows no close, would send nothing
+abbrev pub RestsAt : SlotGoal → BoxState → ℕ → Type 0
+RestsAt (End goal) box local = IsAtRest goal (slot_at box local) (own box local) (sender box local)
+RestsAt (Link partner) box local = IsLinkAtRest (slot_at box (min local partner)) (slot_at box (max local partner))
+
+-- and each goal is at rest
+pub record IsSoundBox (box : BoxState) : Type 0 where
+  pub wired : IsWired box
+  pub rests : (local : ℕ) → RestsAt (goal_at box local) box local
+
+abbrev pub state_of : Parts → BoxState
+state_of parts = record {
+  kind = parts.kind;
+  number = parts.number;
+  receives = parts.codecs;
+  sends = parts.sends;
+  slots = parts.slots.items;
+  goals = parts.goals.items;
+  media = parts.media.items;
+}

@@ -1,0 +1,117 @@
+-- A box as clauses see it, and what it is as new.
+use Rattle.std.specs.Prelude.{◌≡◌, ℕ, Bool, true, false, List, [], map, length, nat_lt, slice_index_or, slice_set}
+use Rattle.mc_signal.specs.Empty.{no_codecs}
+use Rattle.mc_signal.specs.Own.{device_descriptor, device_sender, feature_descriptor, feature_sender}
+use Rattle.mc_signal.specs.declared.codec_list.CodecList.{CodecList}
+use Rattle.mc_signal.specs.declared.Descriptor.{Descriptor}
+use Rattle.mc_signal.specs.declared.Medium.TheVariants.{Audio}
+use Rattle.mc_signal.specs.declared.Sender.{Sender}
+use Rattle.mc_slot.specs.EndTurn.{owes}
+use Rattle.mc_slot.specs.Moves.{closed_slot}
+use Rattle.mc_slot.specs.declared.Goal.TheVariants.{Close as ToClose}
+use Rattle.mc_slot.specs.declared.Slot.{Slot}
+use Rattle.mc_slot.specs.declared.SlotGoal.{SlotGoal}
+use Rattle.mc_slot.specs.declared.SlotGoal.TheVariants.{End, Link}
+use Rattle.mc_box.specs.declared.event.Kind.{Kind}
+use Rattle.mc_box.specs.declared.event.Kind.TheVariants.{Device, Feature}
+use Rattle.mc_box.specs.declared.setup.SlotMedia.{SlotMedia}
+use Rattle.mc_box.specs.declared.setup.SlotSetup.{SlotSetup}
+
+-- a box: its kind and number, the lists that it receives and sends, and for each slot the slot, its goal, and what its descriptors are made of
+pub record BoxState : Type 0 where
+  pub kind : Kind
+  pub number : ℕ
+  pub receives : CodecList
+  pub sends : CodecList
+  pub slots : List Slot
+  pub goals : List SlotGoal
+  pub media : List SlotMedia
+
+-- each slot has its goal and its media
+pub record IsBox (box : BoxState) : Type 0 where
+  pub goals : length box.goals ≡ length box.slots
+  pub media : length box.media ≡ length box.slots
+
+abbrev pub is_slot : BoxState → ℕ → Bool
+is_slot box local = nat_lt local (length box.slots)
+
+-- what stands where nothing is
+abbrev pub no_slot : Slot
+no_slot = closed_slot Audio false
+
+abbrev pub no_media : SlotMedia
+no_media = record { origin = 0; version = 0; hears = false; talks = false }
+
+abbrev pub slot_at : BoxState → ℕ → Slot
+slot_at box local = slice_index_or box.slots local no_slot
+
+abbrev pub goal_at : BoxState → ℕ → SlotGoal
+goal_at box local = slice_index_or box.goals local (End ToClose)
+
+abbrev pub media_at : BoxState → ℕ → SlotMedia
+media_at box local = slice_index_or box.media local no_media
+
+abbrev pub with_slot : BoxState → ℕ → Slot → BoxState
+with_slot box local slot = record box { slots = slice_set box.slots local slot }
+
+abbrev pub with_goal : BoxState → ℕ → SlotGoal → BoxState
+with_goal box local goal = record box { goals = slice_set box.goals local goal }
+
+abbrev pub with_goals : BoxState → List SlotGoal → BoxState
+with_goals box goals = record box { goals = goals }
+
+abbrev pub with_media : BoxState → ℕ → SlotMedia → BoxState
+with_media box local media = record box { media = slice_set box.media local media }
+
+abbrev pub own_of : Kind → BoxState → SlotMedia → ℕ → Descriptor
+own_of Device box media local = device_descriptor media.origin media.version box.number local media.hears box.receives
+own_of Feature box media local = feature_descriptor media.origin
+
+-- the newest descriptor of a slot
+abbrev pub own : BoxState → ℕ → Descriptor
+own box local = own_of box.kind box (media_at box local) local
+
+abbrev pub sender_of : Kind → BoxState → SlotMedia → ℕ → Sender
+sender_of Device box media local = device_sender box.number local media.talks box.sends
+sender_of Feature box media local = feature_sender
+
+-- what a slot can send
+abbrev pub sender : BoxState → ℕ → Sender
+sender box local = sender_of box.kind box (media_at box local) local
+
+-- only an end owes retries
+abbrev pub goal_owes : SlotGoal → Slot → Bool
+goal_owes (End goal) slot = owes goal slot
+goal_owes (Link partner) slot = false
+
+-- whether a slot owes a retry
+abbrev pub owes_at : BoxState → ℕ → Bool
+owes_at box local = goal_owes (goal_at box local) (slot_at box local)
+
+-- ---- a box as new
+
+abbrev pub first_slot : SlotSetup → Slot
+first_slot setup = closed_slot setup.medium setup.initiator
+
+-- hearing and talking are on at the beginning
+abbrev pub first_media : ℕ → SlotSetup → SlotMedia
+first_media version setup = record { origin = setup.origin; version = version; hears = true; talks = true }
+
+abbrev pub first_goal : SlotSetup → SlotGoal
+first_goal setup = End ToClose
+
+-- a new box: all its slots are closed, and all its goals are close
+abbrev pub first_box : Kind → (number : ℕ) → CodecList → CodecList → (version : ℕ) → List SlotSetup → BoxState
+first_box kind number receives sends version setups = record {
+  kind = kind;
+  number = number;
+  receives = receives;
+  sends = sends;
+  slots = map first_slot setups;
+  goals = map first_goal setups;
+  media = map (first_media version) setups;
+}
+
+-- what stands where no box is
+abbrev pub no_box : BoxState
+no_box = first_box Feature 0 no_codecs no_codecs 0 []

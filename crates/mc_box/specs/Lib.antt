@@ -1,0 +1,6 @@
+pub mod BoxEvents
+pub mod BoxShapes
+pub mod BoxSound
+pub mod Boxes
+pub mod EventLaws
+pub mod Goals

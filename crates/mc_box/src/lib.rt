@@ -1,0 +1,13 @@
+//! A box of a call: its slots and their goals, links among them, and what each of its events does.
+#![tactic(auto)]
+
+mod event;
+mod goals;
+pub mod laws;
+mod media_box;
+mod parts;
+mod setup;
+
+pub use event::{BoxShape, Change, Event, Kind, MediaChange, Shape, Turn};
+pub use media_box::{MediaBox, VersionEnd};
+pub use setup::{Setup, SlotMedia, SlotSetup};

@@ -1,0 +1,141 @@
+// A box: its slots, and the goal of each.
+
+ghost use Rattle.std.specs.Prelude.{◌≡◌, ◌^◌, ◌<◌, ◌≤◌, length, IfOk};
+ghost use Rattle.mc_signal.specs.Own.{address_of};
+ghost use Rattle.mc_box.specs.BoxEvents.{is_enabled, may_link};
+ghost use Rattle.mc_box.specs.Boxes.{first_box, goal_at, is_slot, owes_at, own, sender};
+
+use crate::event::{Change, Event, Kind, MediaChange};
+use crate::parts::Parts;
+use crate::setup::Setup;
+use mc_goal::owes;
+use mc_signal::{Descriptor, Sender};
+use mc_slot::{Slot, SlotGoal};
+use std::alloc::{AllocError, Global};
+use std::marker::Model;
+
+/// A slot's descriptor has the last version that there is, so that no newer one can come.
+#[derive(Clone, Copy, PartialEq, Eq, Debug)]
+pub struct VersionEnd;
+
+/// A box of a call: a device or a feature, with at most 64 slots.
+#[derive(Debug, Drop)]
+pub struct MediaBox {
+    parts: Parts,
+}
+
+impl Model for MediaBox {
+    ghost use Rattle.mc_box.specs.Boxes.{BoxState};
+
+    ghost Value = { BoxState };
+
+    ghost use Rattle.mc_box.specs.BoxSound.{state_of, IsSoundBox};
+
+    ghost view = { λ b. state_of b.parts };
+
+    ghost invariant = { λ b. IsSoundBox (state_of b.parts) };
+}
+
+impl MediaBox {
+    /// A new box: its slots are closed, its goals are close, and it hears and talks on every slot.
+    pub fn new(alloc: Global, setup: Setup) -> Result<MediaBox, AllocError>
+        requires few { length setup.slots.items ≤ 64 }
+        requires address { address_of setup.number < 2 ^ 32 }
+        ensures { IfOk result (λ made. made ≡ first_box setup.kind setup.number setup.codecs setup.sends setup.first_version setup.slots.items) }
+    {
+        Ok(MediaBox {
+            parts: Parts::new(alloc, setup)?,
+        })
+    }
+
+    /// What the box is.
+    pub fn kind(&self) -> Kind
+        ensures { result ≡ self.now.kind }
+    {
+        self.parts.kind
+    }
+
+    /// The box's number.
+    pub fn number(&self) -> u32
+        ensures { result ≡ self.now.number }
+    {
+        self.parts.number
+    }
+
+    /// The slots, by their local numbers.
+    pub fn slots(&self) -> &[Slot]
+        ensures { result.now ≡ self.now.slots }
+    {
+        &self.parts.slots
+    }
+
+    /// The goal of a slot.
+    pub fn goal(&self, local: u8) -> SlotGoal
+        requires { local < length self.now.slots }
+        ensures { result ≡ goal_at self.now local }
+    {
+        self.parts.goals[local as usize]
+    }
+
+    /// The newest descriptor of a slot.
+    pub fn own(&self, local: u8) -> Descriptor
+        requires { local < length self.now.slots }
+        ensures { result ≡ own self.now local }
+    {
+        self.parts.own(local)
+    }
+
+    /// What a slot can send.
+    pub fn sender(&self, local: u8) -> Sender
+        requires { local < length self.now.slots }
+        ensures { result ≡ sender self.now local }
+    {
+        self.parts.sender(local)
+    }
+
+    /// Whether an event can happen now. A Take also needs a lawful signal that comes to its slot, and a Hear a
+    /// version that isn't the last.
+    pub fn enabled(&self, e: &Event) -> bool
+        ensures { result ≡ is_enabled self.now e.now }
+    {
+        let device = matches!(self.parts.kind, Kind::Device);
+        match *e {
+            Event::Take(local) | Event::Set(Change::End(local, _)) => self.has(local),
+            Event::Set(Change::Link(first, second)) => self.may_link(first, second),
+            Event::Media(MediaChange::Hear(local, _) | MediaChange::Talk(local, _)) => {
+                device && self.has(local)
+            }
+            Event::Retry(local) => self.has(local) && self.owes(local),
+            Event::Tell(_) | Event::Shift => false,
+        }
+    }
+
+    // Whether there is such a slot.
+    fn has(&self, local: u8) -> bool
+        ensures { result ≡ is_slot self.now local }
+    {
+        (local as usize) < self.parts.slots.len()
+    }
+
+    // Whether two slots may be linked.
+    fn may_link(&self, first: u8, second: u8) -> bool
+        ensures { result ≡ may_link self.now first second }
+    {
+        matches!(self.parts.kind, Kind::Feature)
+            && self.has(first)
+            && self.has(second)
+            && first != second
+            && self.parts.slots[first as usize].medium == self.parts.slots[second as usize].medium
+    }
+
+    // Whether a slot owes a retry.
+    fn owes(&self, local: u8) -> bool
+        requires { local < length self.now.slots }
+        ensures { result ≡ owes_at self.now local }
+    {
+        match self.parts.goals[local as usize] {
+            SlotGoal::End(goal) => owes(&self.parts.slots[local as usize], goal),
+            SlotGoal::Link(_) => false,
+        }
+    }
+}

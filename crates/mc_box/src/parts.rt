@@ -1,0 +1,138 @@
+// The parts of a box: its links are as they should be, while its goals may still have to come to rest.
+
+ghost use Rattle.std.specs.Prelude.{◌≡◌, ◌^◌, ◌<◌, ◌≤◌, if◌then◌else◌, length, map, IfOk};
+ghost use Rattle.mc_signal.specs.Empty.{no_codecs};
+ghost use Rattle.mc_signal.specs.Own.{port_of};
+ghost use Rattle.mc_box.specs.BoxSound.{state_of, IsWired};
+ghost use Rattle.mc_box.specs.Boxes.{first_box, first_slot, first_goal, first_media, own, sender};
+
+use crate::event::Kind;
+use crate::setup::{Setup, SlotMedia, SlotSetup};
+use mc_signal::{CodecList, Descriptor, Sender};
+use mc_slot::{Goal, Slot, SlotGoal};
+use std::alloc::{AllocError, Global};
+
+/// The parts of a box.
+#[derive(Debug, Drop)]
+pub struct Parts {
+    pub kind: Kind,
+    pub number: u32,
+    pub codecs: CodecList,
+    pub sends: CodecList,
+    pub slots: Vec<Slot>,
+    pub goals: Vec<SlotGoal>,
+    pub media: Vec<SlotMedia>,
+}
+
+impl Parts {
+    /// The parts of a new box.
+    pub fn new(alloc: Global, setup: Setup) -> Result<Parts, AllocError>
+        ensures { IfOk result (λ made. state_of made ≡ first_box setup.kind setup.number setup.codecs setup.sends setup.first_version setup.slots.items) }
+    {
+        Ok(Parts {
+            kind: setup.kind,
+            number: setup.number,
+            codecs: setup.codecs,
+            sends: setup.sends,
+            slots: first_slots(alloc, &setup.slots)?,
+            goals: first_goals(alloc, &setup.slots)?,
+            media: first_media_of(alloc, setup.first_version, &setup.slots)?,
+        })
+    }
+
+    /// The newest descriptor of a slot.
+    pub fn own(&self, local: u8) -> Descriptor
+        requires wired { IsWired (state_of self.now) }
+        requires here { local < length self.now.slots.items }
+        ensures { result ≡ own (state_of self.now) local }
+    {
+        let media = &self.media[local as usize];
+        match self.kind {
+            Kind::Device => Descriptor {
+                origin: media.origin,
+                version: media.version,
+                addr: self.number + 1,
+                port: port_of(local),
+                codecs: only_if(media.hears, self.codecs),
+            },
+            Kind::Feature => Descriptor {
+                origin: media.origin,
+                version: 1,
+                addr: 0,
+                port: 0,
+                codecs: CodecList::none(),
+            },
+        }
+    }
+
+    /// What a slot can send.
+    pub fn sender(&self, local: u8) -> Sender
+        requires wired { IsWired (state_of self.now) }
+        requires here { local < length self.now.slots.items }
+        ensures { result ≡ sender (state_of self.now) local }
+    {
+        let media = &self.media[local as usize];
+        match self.kind {
+            Kind::Device => Sender {
+                addr: self.number + 1,
+                port: port_of(local),
+                codecs: only_if(media.talks, self.sends),
+            },
+            Kind::Feature => Sender {
+                addr: 0,
+                port: 0,
+                codecs: CodecList::none(),
+            },
+        }
+    }
+}
+
+// The port of a device's slot.
+fn port_of(local: u8) -> u16
+    ensures { result ≡ port_of local }
+{
+    5000 + local as u16
+}
+
+// The codecs, where a media flag is on.
+fn only_if(on: bool, codecs: CodecList) -> CodecList
+    ensures { result ≡ (if on then codecs else no_codecs) }
+{
+    if on { codecs } else { CodecList::none() }
+}
+
+fn first_slots(alloc: Global, setups: &[SlotSetup]) -> Result<Vec<Slot>, AllocError>
+    ensures { IfOk result (λ slots. slots.items ≡ map first_slot setups.now) }
+{
+    setups
+        .iter()
+        .map(|setup| Slot::new(setup.medium, setup.initiator))
+        .collect(alloc)
+}
+
+fn first_goals(alloc: Global, setups: &[SlotSetup]) -> Result<Vec<SlotGoal>, AllocError>
+    ensures { IfOk result (λ goals. goals.items ≡ map first_goal setups.now) }
+{
+    setups
+        .iter()
+        .map(|_| SlotGoal::End(Goal::Close))
+        .collect(alloc)
+}
+
+fn first_media_of(
+    alloc: Global,
+    version: u32,
+    setups: &[SlotSetup],
+) -> Result<Vec<SlotMedia>, AllocError>
+    ensures { IfOk result (λ media. media.items ≡ map (first_media version) setups.now) }
+{
+    setups
+        .iter()
+        .map(|setup| SlotMedia {
+            origin: setup.origin,
+            version,
+            hears: true,
+            talks: true,
+        })
+        .collect(alloc)
+}
