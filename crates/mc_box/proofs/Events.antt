@@ -16,7 +16,7 @@ use Rattle.mc_box.specs.BoxShapes.{is_device}
 use Rattle.mc_box.specs.BoxSound.{IsSoundBox, IsWired}
 use Rattle.mc_box.specs.Boxes.{BoxState, is_slot, no_media, no_slot, slot_at, goal_at, media_at, own_of, owes_at, sender_of, with_goals, with_media, with_slot}
 use Rattle.mc_box.specs.EventLaws.{EventKeepsSound, EventSendsTwice}
-use Rattle.mc_box.specs.Goals.{goals_after}
+use Rattle.mc_box.specs.Goals.{goals_after, most}
 use Rattle.mc_box.specs.declared.event.Change.{Change}
 use Rattle.mc_box.specs.declared.event.Event.{Event}
 use Rattle.mc_box.specs.declared.event.Event.TheVariants.{Take, Set, Media, Tell, Retry, Shift}
@@ -28,7 +28,7 @@ use Rattle.mc_box.proofs.Folds.{goals_settle}
 use Rattle.mc_box.proofs.Held.{elsewhere_rests, held, Lacks, lacks_first, own_put, RestsBut, rests_same, sender_put, wired_slot, with_slots}
 use Rattle.mc_box.proofs.Options.{else_some, if_some, map_some, then_some}
 use Rattle.mc_box.proofs.Sums.{changed_twice}
-use Rattle.mc_box.proofs.Turns.{most, turned}
+use Rattle.mc_box.proofs.GoalTurns.{turned}
 
 -- ---- one turn
 

@@ -9,11 +9,11 @@ use Rattle.mc_slot.specs.declared.SlotGoal.TheVariants.{End}
 use Rattle.mc_box.specs.BoxEvents.{BoxStep, followed, goal_turn, goals_step, turns_of}
 use Rattle.mc_box.specs.BoxSound.{IsSoundBox, IsWired}
 use Rattle.mc_box.specs.Boxes.{BoxState, goal_at, with_goals}
-use Rattle.mc_box.specs.Goals.{changed_from, changed_slots, has_turn}
+use Rattle.mc_box.specs.Goals.{changed_from, changed_slots, has_turn, most}
 use Rattle.mc_box.proofs.Changes.{start_rests, todo_of}
 use Rattle.mc_box.proofs.Held.{RestsBut, with_slots}
 use Rattle.mc_box.proofs.Options.{map_some, then_some}
-use Rattle.mc_box.proofs.Turns.{most, turned}
+use Rattle.mc_box.proofs.GoalTurns.{turned}
 
 -- all of them are slots
 abbrev pub AreInside : ℕ → List ℕ → Type 0

@@ -185,3 +185,7 @@ elsewhere_rests goal box slots local k wired is same lacks rests =
 pub rests_there : (goal : Goal) (new : BoxState) (local : ℕ) (slot : Slot) (mine : Descriptor) (me : Sender)
     → slot_at new local ≡ slot → own new local ≡ mine → sender new local ≡ me → IsAtRest goal slot mine me → RestsAt (End goal) new local
 rests_there goal new local slot mine me is own_is sender_is rests = cc
+
+-- both slots of a link are there
+pub high_inside : (box : BoxState) (local partner : ℕ) → IsWired box → local < length box.slots → goal_at box local ≡ Link partner → max local partner < length box.slots
+high_inside box local partner wired inside is = at_max (λ (k : ℕ). k < length box.slots) local partner inside (wired.links local partner is).inside

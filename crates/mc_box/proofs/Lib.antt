@@ -1,10 +1,13 @@
+pub mod Acting
 pub mod Changes
 pub mod Events
 pub mod Folds
 pub mod GoalLoops
+pub mod GoalTurns
 pub mod Held
 pub mod NewBoxes
 pub mod Options
 pub mod Sums
 pub mod TakeThree
-pub mod Turns
+pub mod Taking
+pub mod Turning

@@ -8,9 +8,8 @@ use Rattle.mc_slot.specs.declared.SlotGoal.{SlotGoal}
 use Rattle.mc_slot.specs.declared.SlotGoal.TheVariants.{End, Link}
 use Rattle.mc_box.specs.BoxSound.{IsWired}
 use Rattle.mc_box.specs.Boxes.{BoxState, goal_at}
-use Rattle.mc_box.specs.Goals.{changed_from, changed_slots, has_turn, leads}
+use Rattle.mc_box.specs.Goals.{changed_from, changed_slots, has_turn, leads, most}
 use Rattle.mc_box.proofs.Folds.{most_of}
-use Rattle.mc_box.proofs.Turns.{most}
 
 -- ---- sums
 

@@ -30,7 +30,7 @@ use Rattle.mc_box.specs.EventLaws.{TakeSendsThree}
 use Rattle.mc_box.proofs.Changes.{slot_inside}
 use Rattle.mc_box.proofs.Held.{own_put, sender_put}
 use Rattle.mc_box.proofs.Options.{if_some, map_some, then_some}
-use Rattle.mc_box.proofs.Turns.{end_form, pair_form}
+use Rattle.mc_box.proofs.GoalTurns.{end_form, pair_form}
 
 -- ---- a taken close, by sides
 

@@ -1,5 +1,5 @@
 -- One event of one box: what it sends, and what it is after that. An event that has no case can't happen.
-use Rattle.std.specs.Prelude.{ℕ, ◌+◌, ◌==◌, ◌&&◌, Bool, true, false, if◌then◌else◌, not, List, [], ◌∷◌, ◌++◌, map, max, min, nat_lt, Option, Some, None}
+use Rattle.std.specs.Prelude.{◌≡◌, ℕ, ◌+◌, ◌==◌, ◌&&◌, Bool, true, false, if◌then◌else◌, not, List, [], ◌∷◌, ◌++◌, map, max, min, nat_lt, Option, Some, None}
 use Rattle.std.specs.Option.{option_map, option_and_then}
 use Rattle.mc_link.specs.LinkTurn.{link_due, numbered, sent_by_first, sent_by_second}
 use Rattle.mc_link.specs.declared.Side.{Side}
@@ -159,3 +159,13 @@ box_event box event (Some signal) = None
 abbrev pub is_version_end : BoxState → Event → Bool
 is_version_end box (Media (Hear local on)) = (media_at box local).version == last_version
 is_version_end box event = false
+
+abbrev pub is_take : Event → Bool
+is_take (Take local) = true
+is_take event = false
+
+-- a step was made: the box is this one after it, and what it sends is appended to what was there
+pub record Appends (made : Option BoxStep) (after : BoxState) (before items : List (ℕ × Signal)) : Type 0 where
+  pub sent : List (ℕ × Signal)
+  pub goes : made ≡ Some record { sent = sent; after = after }
+  pub appended : items ≡ before ++ sent

@@ -1,5 +1,5 @@
 -- Laws of the events of a box: what each keeps, and how much it sends.
-use Rattle.std.specs.Prelude.{◌≡◌, ◌≤◌, ◌*◌, ℕ, List, length, Option, Some, None, ◌++◌}
+use Rattle.std.specs.Prelude.{◌≡◌, ◌≤◌, ◌*◌, ℕ, length, Option, Some, None}
 use Rattle.mc_signal.specs.declared.Signal.{Signal}
 use Rattle.mc_box.specs.BoxEvents.{BoxStep, box_event}
 use Rattle.mc_box.specs.BoxSound.{IsSoundBox}
@@ -21,10 +21,3 @@ TakeSendsThree = (box : BoxState) (local : ℕ) (signal : Signal) (step : BoxSte
 abbrev pub EventSendsTwice : Type 0
 EventSendsTwice = (box : BoxState) (event : Event) (step : BoxStep)
     → IsSoundBox box → box_event box event None ≡ Some step → length step.sent ≤ 2 * length box.slots
-
--- an event that takes nothing happens: the box is another one after it, and what it sends is appended to what was there
-pub record Happens (old new : BoxState) (event : Event) (before after : List (ℕ × Signal)) : Type 0 where
-  pub sent : List (ℕ × Signal)
-  pub goes : box_event old event None ≡ Some record { sent = sent; after = new }
-  pub appended : after ≡ before ++ sent
-  pub few : length sent ≤ 2 * length old.slots

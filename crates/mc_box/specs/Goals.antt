@@ -45,3 +45,8 @@ changed_from local olds news = []
 -- all such slots: the order in which changed goals have their turns, each by its lowest slot
 abbrev pub changed_slots : List SlotGoal → List SlotGoal → List ℕ
 changed_slots olds news = changed_from 0 olds news
+
+-- how many signals one turn of a goal may send: an end's two, a link's four
+abbrev pub most : SlotGoal → ℕ
+most (End goal) = 2
+most (Link partner) = 4

@@ -1,16 +1,19 @@
 // A box: its slots, and the goal of each.
 
-ghost use Rattle.std.specs.Prelude.{◌≡◌, ◌^◌, ◌<◌, ◌≤◌, length, IfOk};
+ghost use Rattle.std.specs.Prelude.{◌≡◌, ◌+◌, ◌*◌, ◌^◌, ◌<◌, ◌≤◌, length, is_err, IfOk, IsFalse, IsSome, IsTrue, OnErr, OnOk, Some};
 ghost use Rattle.mc_signal.specs.Own.{address_of};
-ghost use Rattle.mc_box.specs.BoxEvents.{is_enabled, may_link};
-ghost use Rattle.mc_box.specs.Boxes.{first_box, goal_at, is_slot, owes_at, own, sender};
+ghost use Rattle.mc_slot.specs.Moves.{taken};
+ghost use Rattle.mc_slot.specs.Sending.{sends_of};
+ghost use Rattle.mc_box.specs.BoxEvents.{box_event, is_enabled, is_take, is_version_end, may_link, Appends};
+ghost use Rattle.mc_box.specs.Boxes.{first_box, goal_at, is_slot, owes_at, own, sender, slot_at};
 
 use crate::event::{Change, Event, Kind, MediaChange};
 use crate::parts::Parts;
 use crate::setup::Setup;
 use mc_goal::owes;
-use mc_signal::{Descriptor, Sender};
-use mc_slot::{Slot, SlotGoal};
+use mc_lane::Lane;
+use mc_signal::{Descriptor, Sender, Signal};
+use mc_slot::{Sends, Slot, SlotGoal};
 use std::alloc::{AllocError, Global};
 use std::marker::Model;
 
@@ -108,6 +111,31 @@ impl MediaBox {
             Event::Retry(local) => self.has(local) && self.owes(local),
             Event::Tell(_) | Event::Shift => false,
         }
+    }
+
+    /// A slot takes a signal that is lawful for it, and the goal that holds it has its turn. Memory is never wanted.
+    pub fn take(&mut self, slot: u8, s: Signal) -> Sends
+        requires here { slot < length self.old.slots }
+        requires lawful { IsSome (taken (slot_at self.old slot) s) }
+        ensures event { box_event self.old (Event.Take slot) (Some s) ≡ Some record { sent = sends_of result; after = self.new } }
+        ensures few { result.len ≤ 3 }
+    {
+        self.parts.take(slot, s)
+    }
+
+    /// An enabled event that takes no signal happens, and what it sends is appended to `out`. It fails just where it is
+    /// a Hear of a slot that has the last version, and leaves everything as it was then. Memory is never wanted.
+    pub fn act(&mut self, e: Event, out: &mut Lane<(u8, Signal)>) -> Result<(), VersionEnd>
+        requires enabled { IsTrue (is_enabled self.old e) }
+        requires takes_nothing { IsFalse (is_take e) }
+        requires space { 2 * length self.old.slots ≤ out.old.spare }
+        ensures event { OnOk result (Appends (box_event self.old e None) self.new out.old.items out.new.items) }
+        ensures few { length out.new.items ≤ length out.old.items + 2 * length self.old.slots }
+        ensures end { is_err result ≡ is_version_end self.old e }
+        ensures unchanged { OnErr result ((self.new ≡ self.old) × (out.new ≡ out.old)) }
+        ensures room { out.new.spare + length out.new.items ≡ out.old.spare + length out.old.items }
+    {
+        self.parts.act(e, out)
     }
 
     // Whether there is such a slot.

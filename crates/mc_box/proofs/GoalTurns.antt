@@ -25,6 +25,7 @@ use Rattle.mc_slot.specs.declared.SlotGoal.TheVariants.{End, Link}
 use Rattle.mc_turn.proofs.EndRests.{rests_kept}
 use Rattle.mc_box.specs.BoxEvents.{BoxStep, end_turn, goal_turn, pair_turn, side_closed, side_of, turn_by}
 use Rattle.mc_box.specs.BoxSound.{IsWired, RestsAt}
+use Rattle.mc_box.specs.Goals.{most}
 use Rattle.mc_box.specs.Boxes.{BoxState, no_slot, slot_at, goal_at, media_at, own, sender, with_slot}
 use Rattle.mc_box.proofs.Held.{at_max, at_min, elsewhere_rests, held, Lacks, own_put, put_all, RestsBut, rests_there, rests_turned, sender_put, wired_slot, wired_slots, with_slots}
 use Rattle.mc_box.proofs.Options.{map_some, then_some}
@@ -52,11 +53,6 @@ all_kept (signal ∷ signals) slot after goes kept =
     all_kept signals one.0 after one.2 (sent_kept slot signal one.0 one.1 kept)
 
 -- ---- how much a turn sends
-
--- an end at most two, a link at most four
-abbrev pub most : SlotGoal → ℕ
-most (End goal) = 2
-most (Link partner) = 4
 
 pub due_two : (goal : Goal) (slot : Slot) (pushed : Bool) (mine : Descriptor) (me : Sender) → length (due goal slot pushed mine me) ≤ 2
 due_two goal slot pushed mine me = grind (arith)

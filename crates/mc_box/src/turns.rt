@@ -1,0 +1,142 @@
+// The turns of a box's goals.
+
+ghost use Rattle.std.specs.Prelude.{◌≡◌, ◌+◌, ◌<◌, ◌≤◌, ◌++◌, length, map, max, min, Some, IsSome, IsTrue};
+ghost use Rattle.mc_link.specs.LinkTurn.{NamesClosed};
+ghost use Rattle.mc_slot.specs.Moves.{answered, taken};
+ghost use Rattle.mc_slot.specs.Sending.{pair_of, sends_of};
+ghost use Rattle.mc_box.specs.BoxEvents.{closes_by, end_turn, goal_turn, link_turn, pair_turn, side_closed, side_of, take_step};
+ghost use Rattle.mc_box.specs.BoxSound.{state_of, IsSoundBox, IsWired};
+ghost use Rattle.mc_box.specs.Boxes.{goal_at, slot_at};
+ghost use Rattle.mc_box.specs.Goals.{most};
+
+use crate::parts::Parts;
+use mc_goal::{end_turn, pushes};
+use mc_link::{Side, link_turn};
+use mc_signal::Signal;
+use mc_slot::{Goal, Sends, SlotGoal, State};
+
+impl Parts {
+    // An end sends what its goal lacks.
+    fn end_turn(&mut self, local: u8, goal: Goal, pushed: bool) -> Sends
+        requires wired { IsWired (state_of self.old) }
+        requires here { local < length self.old.slots.items }
+        ensures turn { end_turn goal (state_of self.old) local pushed ≡ Some record { sent = sends_of result; after = state_of self.new } }
+        ensures few { result.len ≤ 2 }
+    {
+        let own = self.own(local);
+        let me = self.sender(local);
+        let mut slot = self.slots[local as usize];
+        let sends = end_turn(&mut slot, local, goal, pushed, own, &me);
+        self.slots[local as usize] = slot;
+        sends
+    }
+
+    // Two linked slots, the lower one first, pass on what each has of the other.
+    fn pair_turn(&mut self, low: u8, high: u8, closed: Option<Side>) -> Sends
+        requires wired { IsWired (state_of self.old) }
+        requires order { low < high }
+        requires here { high < length self.old.slots.items }
+        requires medium { (slot_at (state_of self.old) low).medium ≡ (slot_at (state_of self.old) high).medium }
+        requires closed { NamesClosed closed (slot_at (state_of self.old) low) (slot_at (state_of self.old) high) }
+        ensures { pair_turn (state_of self.old) low high closed ≡ Some record { sent = sends_of result; after = state_of self.new } }
+    {
+        let mut first = self.slots[low as usize];
+        let mut second = self.slots[high as usize];
+        let sends = link_turn(&mut first, low, &mut second, high, closed);
+        self.slots[low as usize] = first;
+        self.slots[high as usize] = second;
+        sends
+    }
+
+    // A link has its turn, as seen from one of its slots.
+    fn link_turn(&mut self, local: u8, partner: u8, closed: bool) -> Sends
+        requires wired { IsWired (state_of self.old) }
+        requires here { local < length self.old.slots.items }
+        requires linked { goal_at (state_of self.old) local ≡ SlotGoal.Link partner }
+        requires closed { IsTrue closed → (slot_at (state_of self.old) local).state ≡ State.Closed }
+        ensures { link_turn (state_of self.old) local partner closed ≡ Some record { sent = sends_of result; after = state_of self.new } }
+    {
+        let side = side_closed(closed, side_of(local, partner));
+        self.pair_turn(local.min(partner), local.max(partner), side)
+    }
+
+    /// The turn of the goal that holds a slot, pushed or not. `closed` says that the slot has taken a close that
+    /// closed it.
+    pub fn goal_turn(&mut self, local: u8, pushed: bool, closed: bool) -> Sends
+        requires wired { IsWired (state_of self.old) }
+        requires here { local < length self.old.slots.items }
+        requires closed { IsTrue closed → (slot_at (state_of self.old) local).state ≡ State.Closed }
+        ensures turn { goal_turn (state_of self.old) local pushed closed ≡ Some record { sent = sends_of result; after = state_of self.new } }
+        ensures few { result.len ≤ most (goal_at (state_of self.old) local) }
+    {
+        match self.goals[local as usize] {
+            SlotGoal::End(goal) => self.end_turn(local, goal, pushed),
+            SlotGoal::Link(partner) => self.link_turn(local, partner, closed),
+        }
+    }
+
+    /// A slot takes a signal that is lawful for it, and the goal that holds it has its turn.
+    pub fn take(&mut self, local: u8, s: Signal) -> Sends
+        requires sound { IsSoundBox (state_of self.old) }
+        requires here { local < length self.old.slots.items }
+        requires lawful { IsSome (taken (slot_at (state_of self.old) local) s) }
+        ensures step { take_step (state_of self.old) local s ≡ Some record { sent = sends_of result; after = state_of self.new } }
+        ensures few { result.len ≤ 3 }
+    {
+        let mut slot = self.slots[local as usize];
+        let answer = slot.take(s);
+        self.slots[local as usize] = slot;
+        let mut sends = answering(local, answer);
+        let turn = self.goal_turn(local, pushes(&s, slot.state), closes(&s, slot.state));
+        append(&mut sends, &turn);
+        sends
+    }
+}
+
+// On which side of a link a slot stands.
+fn side_of(local: u8, partner: u8) -> Side
+    ensures { result ≡ side_of local partner }
+{
+    if local < partner {
+        Side::First
+    } else {
+        Side::Second
+    }
+}
+
+// The side that is closed, where it is.
+fn side_closed(closed: bool, side: Side) -> Option<Side>
+    ensures { result ≡ side_closed closed side }
+{
+    if closed { Some(side) } else { None }
+}
+
+// Whether a taken close made the slot closed.
+fn closes(s: &Signal, after: State) -> bool
+    ensures { result ≡ closes_by s.now after }
+{
+    matches!((s, after), (Signal::Close, State::Closed))
+}
+
+// What a slot answers.
+fn answering(no: u8, answer: Option<Signal>) -> Sends
+    ensures sends { sends_of result ≡ map (pair_of no) (answered answer) }
+    ensures len { result.len ≡ length (answered answer) }
+{
+    let mut sends = Sends::none();
+    if let Some(answer) = answer {
+        sends.push(no, answer);
+    }
+    sends
+}
+
+// Adds what was sent after that.
+fn append(sends: &mut Sends, more: &Sends)
+    requires { sends.old.len + more.now.len ≤ 4 }
+    ensures sent { sends_of sends.new ≡ sends_of sends.old ++ sends_of more.now }
+    ensures len { sends.new.len ≡ sends.old.len + more.now.len }
+{
+    for sending in &more.at[..more.len as usize] {
+        sends.push(sending.0, sending.1);
+    }
+}
