@@ -8,6 +8,8 @@ pub mod laws;
 mod media_box;
 mod parts;
 mod setup;
+#[cfg(test)]
+mod tests;
 mod turns;
 
 pub use event::{BoxShape, Change, Event, Kind, MediaChange, Shape, Turn};

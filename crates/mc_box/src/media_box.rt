@@ -65,9 +65,10 @@ impl MediaBox {
         self.parts.number
     }
 
-    /// The slots, by their local numbers.
+    /// The slots, by their local numbers. There are at most 64.
     pub fn slots(&self) -> &[Slot]
-        ensures { result.now ≡ self.now.slots }
+        ensures slots { result.now ≡ self.now.slots }
+        ensures few { length result.now ≤ 64 }
     {
         &self.parts.slots
     }
