@@ -24,7 +24,7 @@ inside_by : (turn : Bool) (count local : ℕ) (locals : List ℕ) → local < co
 inside_by true count local locals here rest = (here, rest)
 inside_by false count local locals here rest = rest
 
-changed_inside : (olds news : List SlotGoal) (at count : ℕ) → at + length olds ≡ count → AreInside count (changed_from at olds news)
+pub changed_inside : (olds news : List SlotGoal) (at count : ℕ) → at + length olds ≡ count → AreInside count (changed_from at olds news)
 changed_inside [] news at count is = tt
 changed_inside (old ∷ olds) [] at count is = tt
 changed_inside (old ∷ olds) (new ∷ news) at count is =

@@ -165,16 +165,16 @@ end_turned box local goal pushed step wired inside is goes =
     }
 
 -- two slots are replaced, the lower one first
-pair_low : (slots : List Slot) (low high : ℕ) (first second : Slot) → low < high → low < length slots → get_or (set (set slots low first) high second) low no_slot ≡ first
+pub pair_low : (slots : List Slot) (low high : ℕ) (first second : Slot) → low < high → low < length slots → get_or (set (set slots low first) high second) low no_slot ≡ first
 pair_low slots low high first second order inside =
     let apart : low ≢ high = omega arith in
     get_or-set_other (set slots low first) high low second no_slot apart ∙ get_or-set_same slots low first no_slot inside
 
-pair_high : (slots : List Slot) (low high : ℕ) (first second : Slot) → high < length slots → get_or (set (set slots low first) high second) high no_slot ≡ second
+pub pair_high : (slots : List Slot) (low high : ℕ) (first second : Slot) → high < length slots → get_or (set (set slots low first) high second) high no_slot ≡ second
 pair_high slots low high first second inside =
     get_or-set_same (set slots low first) high second no_slot (subst (λ (n : ℕ). high < n) (sym (length-set slots low first)) inside)
 
-pair_else : (slots : List Slot) (low high k : ℕ) (first second : Slot) → k ≢ low → k ≢ high → get_or (set (set slots low first) high second) k no_slot ≡ get_or slots k no_slot
+pub pair_else : (slots : List Slot) (low high k : ℕ) (first second : Slot) → k ≢ low → k ≢ high → get_or (set (set slots low first) high second) k no_slot ≡ get_or slots k no_slot
 pair_else slots low high k first second below above =
     get_or-set_other (set slots low first) high k second no_slot above ∙ get_or-set_other slots low k first no_slot below
 

@@ -1,5 +1,6 @@
 pub mod Acting
 pub mod Changes
+pub mod EventActs
 pub mod Events
 pub mod Folds
 pub mod GoalLoops
@@ -7,7 +8,9 @@ pub mod GoalTurns
 pub mod Held
 pub mod NewBoxes
 pub mod Options
+pub mod SentBy
 pub mod Sums
 pub mod TakeThree
 pub mod Taking
+pub mod TurnActs
 pub mod Turning

@@ -1,3 +1,4 @@
+pub mod Acting
 pub mod BoxEvents
 pub mod BoxShapes
 pub mod BoxSound

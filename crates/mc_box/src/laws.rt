@@ -1,6 +1,6 @@
 //! Laws of the events of a box, over its definitions alone: each function's contract is the law's sentence.
 
-ghost use Rattle.mc_box.specs.EventLaws.{EventKeepsSound, EventSendsTwice, TakeSendsThree};
+ghost use Rattle.mc_box.specs.EventLaws.{EventActs, EventKeepsSound, EventSendsTwice, TakeActs, TakeSendsThree};
 
 /// Each event of a sound box leaves it sound.
 pub fn event_keeps_sound()
@@ -15,4 +15,15 @@ pub fn take_sends_three()
 /// Any other event of a sound box sends at most twice as many signals as it has slots.
 pub fn event_sends_twice()
     ensures { EventSendsTwice }
+{}
+
+/// Where a slot of a sound box takes a signal, that slot takes the first of what is under way to it and then sends
+/// its answer and its part, and each other slot sends its part.
+pub fn take_acts()
+    ensures { TakeActs }
+{}
+
+/// In any other event of a sound box each slot sends its part, and takes nothing.
+pub fn event_acts()
+    ensures { EventActs }
 {}
