@@ -1,6 +1,7 @@
 pub mod Acting
 pub mod Changes
 pub mod EventActs
+pub mod EventGoes
 pub mod Events
 pub mod Folds
 pub mod GoalLoops
@@ -13,4 +14,5 @@ pub mod Sums
 pub mod TakeThree
 pub mod Taking
 pub mod TurnActs
+pub mod TurnGoes
 pub mod Turning

@@ -1,10 +1,11 @@
--- Laws of the events of a box: what each keeps, what each slot does in it, and how much it sends.
-use Rattle.std.specs.Prelude.{◌≡◌, ◌≢◌, ◌<◌, ◌≤◌, ◌*◌, ℕ, length, List, ◌∷◌, Option, Some, None}
+-- Laws of the events of a box: what each keeps, what each slot does in it, how much it sends, and when it can happen.
+use Rattle.std.specs.Prelude.{◌≡◌, ◌≢◌, ◌<◌, ◌≤◌, ◌*◌, ℕ, true, false, length, List, ◌∷◌, Option, Some, None, IsSome, IsTrue}
 use Rattle.mc_signal.specs.declared.Signal.{Signal}
+use Rattle.mc_slot.specs.Moves.{taken}
 use Rattle.mc_box.specs.Acting.{BoxActs}
-use Rattle.mc_box.specs.BoxEvents.{BoxStep, box_event}
+use Rattle.mc_box.specs.BoxEvents.{BoxStep, box_event, is_enabled, is_take, is_version_end}
 use Rattle.mc_box.specs.BoxSound.{IsSoundBox}
-use Rattle.mc_box.specs.Boxes.{BoxState}
+use Rattle.mc_box.specs.Boxes.{BoxState, slot_at}
 use Rattle.mc_box.specs.declared.event.Event.{Event}
 use Rattle.mc_box.specs.declared.event.Event.TheVariants.{Take}
 
@@ -33,3 +34,26 @@ TakeActs = (box : BoxState) (local : ℕ) (signal : Signal) (step : BoxStep) (to
 abbrev pub EventActs : Type 0
 EventActs = (box : BoxState) (event : Event) (step : BoxStep) (to left : ℕ → List Signal)
     → IsSoundBox box → box_event box event None ≡ Some step → ((k : ℕ) → k < length box.slots → left k ≡ to k) → BoxActs box to step left
+
+-- a slot can take a signal that is lawful for it
+abbrev pub TakeGoes : Type 0
+TakeGoes = (box : BoxState) (local : ℕ) (signal : Signal)
+    → IsSoundBox box → local < length box.slots → IsSome (taken (slot_at box local) signal) → IsSome (box_event box (Take local) (Some signal))
+
+-- an enabled event that takes nothing can happen, unless its slot's version is the last
+abbrev pub EventGoes : Type 0
+EventGoes = (box : BoxState) (event : Event)
+    → IsSoundBox box → IsTrue (is_enabled box event) → is_take event ≡ false → is_version_end box event ≡ false → IsSome (box_event box event None)
+
+-- what a Take that happened says of its slot and its signal
+abbrev pub TakeWasLawful : Type 0
+TakeWasLawful = (box : BoxState) (local : ℕ) (signal : Signal) (step : BoxStep)
+    → box_event box (Take local) (Some signal) ≡ Some step → (local < length box.slots) × IsSome (taken (slot_at box local) signal)
+
+-- an event that happened and took nothing was enabled
+abbrev pub EventWasEnabled : Type 0
+EventWasEnabled = (box : BoxState) (event : Event) (step : BoxStep) → box_event box event None ≡ Some step → is_enabled box event ≡ true
+
+-- none happens where its slot's version is the last
+abbrev pub VersionEndStops : Type 0
+VersionEndStops = (box : BoxState) (event : Event) → is_version_end box event ≡ true → box_event box event None ≡ None

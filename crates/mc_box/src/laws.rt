@@ -1,6 +1,6 @@
 //! Laws of the events of a box, over its definitions alone: each function's contract is the law's sentence.
 
-ghost use Rattle.mc_box.specs.EventLaws.{EventActs, EventKeepsSound, EventSendsTwice, TakeActs, TakeSendsThree};
+ghost use Rattle.mc_box.specs.EventLaws.{EventActs, EventGoes, EventKeepsSound, EventSendsTwice, EventWasEnabled, TakeActs, TakeGoes, TakeSendsThree, TakeWasLawful, VersionEndStops};
 
 /// Each event of a sound box leaves it sound.
 pub fn event_keeps_sound()
@@ -26,4 +26,29 @@ pub fn take_acts()
 /// In any other event of a sound box each slot sends its part, and takes nothing.
 pub fn event_acts()
     ensures { EventActs }
+{}
+
+/// A slot of a sound box can take each signal that is lawful for it.
+pub fn take_goes()
+    ensures { TakeGoes }
+{}
+
+/// A Take that happens has a slot of the box, and a signal that is lawful for it.
+pub fn take_was_lawful()
+    ensures { TakeWasLawful }
+{}
+
+/// Each enabled event of a sound box that takes nothing can happen, unless it is a Hear of a slot that has the last version.
+pub fn event_goes()
+    ensures { EventGoes }
+{}
+
+/// An event that takes nothing and happens is enabled.
+pub fn event_was_enabled()
+    ensures { EventWasEnabled }
+{}
+
+/// A Hear of a slot that has the last version doesn't happen.
+pub fn version_end_stops()
+    ensures { VersionEndStops }
 {}

@@ -1,0 +1,111 @@
+-- When an event of a sound box can happen.
+use Rattle.std.proofs.Common.{◌≡◌, ◌==◌, ℕ, Bool, true, false, if◌then◌else◌, Option, Some, None, IsSome, IsTrue, length, refl, sym, subst, arith}
+use Rattle.std.specs.Option.{option_map}
+use Rattle.std.proofs.lemmas.Bool.{lt-ltb}
+use Rattle.mc_signal.specs.declared.Signal.{Signal}
+use Rattle.mc_slot.specs.EndTurn.{pushed_by}
+use Rattle.mc_slot.specs.Moves.{taken, Took}
+use Rattle.mc_box.specs.BoxEvents.{BoxStep, answering, box_event, closes_by, goal_turn, happening, heard, is_enabled, is_take, is_version_end, last_version, take_step, talked}
+use Rattle.mc_box.specs.BoxSound.{IsSoundBox}
+use Rattle.mc_box.specs.Boxes.{BoxState, is_slot, media_at, slot_at, with_goals, with_media, with_slot}
+use Rattle.mc_box.specs.EventLaws.{EventGoes, EventWasEnabled, TakeGoes, TakeWasLawful, VersionEndStops}
+use Rattle.mc_box.specs.Goals.{changed_slots, goals_after}
+use Rattle.mc_box.specs.declared.event.Event.{Event}
+use Rattle.mc_box.specs.declared.event.Event.TheVariants.{Take, Set, Media, Tell, Retry, Shift}
+use Rattle.mc_box.specs.declared.event.MediaChange.{MediaChange}
+use Rattle.mc_box.specs.declared.event.MediaChange.TheVariants.{Hear, Talk}
+use Rattle.mc_box.proofs.Changes.{change_wired, slot_inside}
+use Rattle.mc_box.proofs.Events.{event_goes as was_enabled, media_wired, took_wired}
+use Rattle.mc_box.proofs.Folds.{changed_inside}
+use Rattle.mc_box.proofs.Options.{if_some, then_some}
+use Rattle.mc_box.proofs.TurnGoes.{some_is, some_of, turn_goes, turns_go}
+
+-- ---- a signal is taken
+
+take_made : (box : BoxState) (local : ℕ) (signal : Signal) (took : Took) (turn : BoxStep) → is_slot box local ≡ true → taken (slot_at box local) signal ≡ Some took
+    → goal_turn (with_slot box local took.after) local (pushed_by signal took.after.state) (closes_by signal took.after.state) ≡ Some turn
+    → IsSome (box_event box (Take local) (Some signal))
+take_made box local signal took turn here goes turns = rw (here, goes, turns) refl
+
+pub take_goes : TakeGoes
+take_goes box local signal sound here lawful =
+    let took = some_of (taken (slot_at box local) signal) lawful in
+    let turn = some_of (goal_turn (with_slot box local took.0.after) local (pushed_by signal took.0.after.state) (closes_by signal took.0.after.state))
+    (turn_goes (with_slot box local took.0.after) local (pushed_by signal took.0.after.state) (closes_by signal took.0.after.state)
+    (took_wired box local signal took.0 sound.wired here took.1)) in
+    take_made box local signal took.0 turn.0 (lt-ltb local (length box.slots) here) took.1 turn.1
+
+pub take_was_lawful : TakeWasLawful
+take_was_lawful box local signal step goes =
+    let one = if_some (is_slot box local) (take_step box local signal) step goes in
+    let two = then_some (λ (took : Took). option_map (answering local took.answer)
+    (goal_turn (with_slot box local took.after) local (pushed_by signal took.after.state) (closes_by signal took.after.state))) (taken (slot_at box local) signal) step one.1 in
+    (slot_inside box local one.0, some_is (taken (slot_at box local) signal) two.0 two.1)
+
+-- ---- an event that takes nothing
+
+hear_by : (end : Bool) (o : Option BoxStep) → end ≡ false → IsSome o → IsSome (if end then None else o)
+hear_by true o is some = absurd (cc)
+hear_by false o is some = some
+
+enabled_by : (enabled : Bool) (o : Option BoxStep) → IsTrue enabled → IsSome o → IsSome (if enabled then o else None)
+enabled_by true o is some = some
+enabled_by false o is some = absurd (cc)
+
+true_is : (b : Bool) → IsTrue b → b ≡ true
+true_is true is = refl
+true_is false is = absurd (cc)
+
+media_goes : (change : MediaChange) (box : BoxState) → IsSoundBox box → is_version_end box (Media change) ≡ false → IsSome (happening box (Media change))
+media_goes (Hear local on) box sound newer =
+    hear_by ((media_at box local).version == last_version) (goal_turn (with_media box local (heard on (media_at box local))) local false false) newer
+    (turn_goes (with_media box local (heard on (media_at box local))) local false false (media_wired box local (heard on (media_at box local)) sound.wired))
+media_goes (Talk local on) box sound newer =
+    turn_goes (with_media box local (talked on (media_at box local))) local false false (media_wired box local (talked on (media_at box local)) sound.wired)
+
+happens : (event : Event) (box : BoxState) → IsSoundBox box → is_enabled box event ≡ true → is_take event ≡ false → is_version_end box event ≡ false → IsSome (happening box event)
+happens (Take local) box sound enabled untaken newer = absurd (cc)
+happens (Set change) box sound enabled untaken newer =
+    turns_go (changed_slots box.goals (goals_after box.goals change)) (with_goals box (goals_after box.goals change)) (change_wired box change sound.wired enabled)
+    (changed_inside box.goals (goals_after box.goals change) 0 (length box.slots) (omega (arith, sound.wired.whole.goals)))
+happens (Media change) box sound enabled untaken newer = media_goes change box sound newer
+happens (Tell word) box sound enabled untaken newer = absurd (cc)
+happens (Retry local) box sound enabled untaken newer = turn_goes box local true false sound.wired
+happens Shift box sound enabled untaken newer = absurd (cc)
+
+-- the event of a box is what happens, where it is enabled
+pub event_is : (event : Event) (box : BoxState) → box_event box event None ≡ (if is_enabled box event then happening box event else None)
+event_is (Take local) box = refl
+event_is (Set change) box = refl
+event_is (Media change) box = refl
+event_is (Tell word) box = refl
+event_is (Retry local) box = refl
+event_is Shift box = refl
+
+pub event_goes : EventGoes
+event_goes box event sound enabled untaken newer =
+    subst (λ (o : Option BoxStep). IsSome o) (sym (event_is event box))
+    (enabled_by (is_enabled box event) (happening box event) enabled (happens event box sound (true_is (is_enabled box event) enabled) untaken newer))
+
+pub event_was_enabled : EventWasEnabled
+event_was_enabled box event step goes = (was_enabled event box step goes).0
+
+-- ---- the last version
+
+stops_by : (end enabled : Bool) (o : Option BoxStep) → end ≡ true → (if enabled then (if end then None else o) else None) ≡ None
+stops_by true true o is = refl
+stops_by true false o is = refl
+stops_by false enabled o is = absurd (cc)
+
+stops : (event : Event) (box : BoxState) → is_version_end box event ≡ true → box_event box event None ≡ None
+stops (Take local) box end = absurd (cc)
+stops (Set change) box end = absurd (cc)
+stops (Media (Hear local on)) box end =
+    stops_by ((media_at box local).version == last_version) (is_enabled box (Media (Hear local on))) (goal_turn (with_media box local (heard on (media_at box local))) local false false) end
+stops (Media (Talk local on)) box end = absurd (cc)
+stops (Tell word) box end = absurd (cc)
+stops (Retry local) box end = absurd (cc)
+stops Shift box end = absurd (cc)
+
+pub version_end_stops : VersionEndStops
+version_end_stops box event end = stops event box end
