@@ -7,6 +7,7 @@ pub mod Folds
 pub mod GoalLoops
 pub mod GoalTurns
 pub mod Held
+pub mod LinkFree
 pub mod NewBoxes
 pub mod Options
 pub mod SentBy

@@ -31,7 +31,7 @@ new_closed (setup ∷ setups) zero = refl
 new_closed (setup ∷ setups) (suc local) = new_closed setups local
 
 -- its goal is close
-new_goal : (setups : List SlotSetup) (local : ℕ) → get_or (map first_goal setups) local (End ToClose) ≡ End ToClose
+pub new_goal : (setups : List SlotSetup) (local : ℕ) → get_or (map first_goal setups) local (End ToClose) ≡ End ToClose
 new_goal [] local = refl
 new_goal (setup ∷ setups) zero = refl
 new_goal (setup ∷ setups) (suc local) = new_goal setups local

@@ -53,7 +53,7 @@ next_changed : (olds news : List SlotGoal) (i : ℕ) → i < length olds → i <
     ≡ (if has_turn i (get_or olds i (End ToClose)) (get_or news i (End ToClose)) then i ∷ changed_from (i + 1) (drop (i + 1) olds) (drop (i + 1) news) else changed_from (i + 1) (drop (i + 1) olds) (drop (i + 1) news))
 next_changed olds news i inside also = rw (drop_more olds i (End ToClose) inside, drop_more news i (End ToClose) also) refl
 
-skip_by : (turn : Bool) (i : ℕ) (locals : List ℕ) → turn ≡ false → (if turn then i ∷ locals else locals) ≡ locals
+pub skip_by : (turn : Bool) (i : ℕ) (locals : List ℕ) → turn ≡ false → (if turn then i ∷ locals else locals) ≡ locals
 skip_by true i locals is = absurd (cc)
 skip_by false i locals is = refl
 

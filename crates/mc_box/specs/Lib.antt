@@ -5,3 +5,4 @@ pub mod BoxSound
 pub mod Boxes
 pub mod EventLaws
 pub mod Goals
+pub mod LinkFree

@@ -1,6 +1,7 @@
 //! Laws of the events of a box, over its definitions alone: each function's contract is the law's sentence.
 
 ghost use Rattle.mc_box.specs.EventLaws.{EventActs, EventGoes, EventKeepsSound, EventSendsTwice, EventWasEnabled, TakeActs, TakeGoes, TakeSendsThree, TakeWasLawful, VersionEndStops};
+ghost use Rattle.mc_box.specs.LinkFree.{EventKeepsLinkFree};
 
 /// Each event of a sound box leaves it sound.
 pub fn event_keeps_sound()
@@ -51,4 +52,9 @@ pub fn event_was_enabled()
 /// A Hear of a slot that has the last version doesn't happen.
 pub fn version_end_stops()
     ensures { VersionEndStops }
+{}
+
+/// A box without links has none after an event that links no slots.
+pub fn event_keeps_link_free()
+    ensures { EventKeepsLinkFree }
 {}
