@@ -45,8 +45,13 @@ use Rattle.mc_box.proofs.Turning.{skip_by}
 abbrev AreEnds : List SlotGoal → Type 0
 AreEnds goals = (k : ℕ) → is_end (get_or goals k (End ToClose)) ≡ true
 
-no_link : (partner : ℕ) (goal : SlotGoal) → is_end goal ≡ true → goal ≡ Link partner → ⊥
-no_link partner goal is linked = cc
+end_of : (goal : SlotGoal) → is_end goal ≡ true → (end : Goal) × (goal ≡ End end)
+end_of (End end) is = (end, refl)
+end_of (Link partner) is = absurd (cc)
+
+-- each slot is an end of some goal
+pub end_at : (box : BoxState) (local : ℕ) → HasNoLinks box → (goal : Goal) × (goal_at box local ≡ End goal)
+end_at box local free = end_of (goal_at box local) (free local)
 
 -- a new box has no links
 pub first_link_free : (kind : Kind) (number : ℕ) (receives sends : CodecList) (version : ℕ) (setups : List SlotSetup) → HasNoLinks (first_box kind number receives sends version setups)
