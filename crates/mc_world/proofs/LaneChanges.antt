@@ -1,13 +1,14 @@
 -- The signals of lanes, where one of them changes.
-use Rattle.std.proofs.Common.{◌≡◌, ℕ, ◌<◌, zero, suc, List, [], ◌∷◌, ◌++◌, drop, length, get_or, Vec, refl, sym, subst, ◌∙◌, arith}
+use Rattle.std.proofs.Common.{◌≡◌, ℕ, ◌<◌, ◌≤◌, zero, suc, List, [], ◌∷◌, ◌++◌, drop, length, get_or, Vec, refl, ap, sym, subst, ◌∙◌, arith}
 use Rattle.std.proofs.Math.ListN.{set}
 use Rattle.std.specs.declared.alloc.Global.{Global}
 use Rattle.std.specs.Vec.{with_items}
 use Rattle.std.proofs.lemmas.List.{map-set, set-get_or, with_items_is}
 use Rattle.mc_signal.specs.declared.Tagged.{Tagged}
-use Rattle.mc_world.specs.Lanes.{HasRoom, signals_of}
+use Rattle.mc_world.specs.Lanes.{HasRoomFrom, signals_of}
+use Rattle.mc_world.specs.declared.ways.Ways.{Ways}
 
-abbrev Lane : Type 0
+abbrev pub Lane : Type 0
 Lane = Vec Tagged Global
 
 -- what is read is there
@@ -45,10 +46,16 @@ pub signals_kept : (lanes : Vec Lane Global) (first made : List Lane) → first 
     → signals_of (with_items lanes made).items ≡ signals_of lanes.items
 signals_kept lanes first made is long same = rw (refilled lanes made (rw is at long), same, is) refl
 
--- and its room
-pub room_kept : (lanes : Vec Lane Global) (first made second : List Lane) (k : ℕ) → first ≡ lanes.items → length made ≡ length first → second ≡ (with_items lanes made).items
-    → HasRoom made k → HasRoom second k
-room_kept lanes first made second k is long again room = subst (λ (l : List Lane). HasRoom l k) (sym (again ∙ refilled lanes made (rw is at long))) room
+-- as many lanes
+pub length_kept : (lanes : Vec Lane Global) (first made second : List Lane) → first ≡ lanes.items → length made ≡ length first → second ≡ (with_items lanes made).items
+    → length second ≡ length lanes.items
+length_kept lanes first made second is long again = ap (λ (l : List Lane). length l) (again ∙ refilled lanes made (rw is at long)) ∙ (long ∙ ap (λ (l : List Lane). length l) is)
+
+-- and their room, for as much as is sent
+pub room_kept : (lanes : Vec Lane Global) (first made second : List Lane) (ways : Ways) (who slots most count : ℕ) → first ≡ lanes.items → length made ≡ length first → second ≡ (with_items lanes made).items
+    → count ≤ most → HasRoomFrom made ways who slots most → HasRoomFrom second ways who slots count
+room_kept lanes first made second ways who slots most count is long again few room =
+    subst (λ (l : List Lane). HasRoomFrom l ways who slots count) (sym (again ∙ refilled lanes made (rw is at long))) (λ s below at d. omega (arith, few, room s below at d))
 
 -- and then one with others
 pub signals_written : (lanes : Vec Lane Global) (first made second last : List Lane) (out : List (List Tagged) → List (List Tagged)) → first ≡ lanes.items

@@ -16,7 +16,6 @@ mod NewLanes
 pub mod NoPrograms
 pub mod Numbers
 pub mod Rings
-mod Sendings
 pub mod ShapesKept
 pub mod StepForms
 pub mod StepGoes
@@ -26,4 +25,5 @@ mod Tables
 pub mod TakeForms
 pub mod TurnGoes
 pub mod TwoPhones
+mod WayLanes
 mod WorldSteps

@@ -1,5 +1,6 @@
 -- The numbers of slots: the far slot of each, and the tunnel that the two share.
-use Rattle.std.proofs.Common.{◌≡◌, ◌≢◌, ◌<◌, ◌+◌, ◌*◌, ◌/◌, ◌%◌, ◌==◌, ◌&&◌, true, ℕ, Some, arith}
+use Rattle.std.proofs.Common.{◌≡◌, ◌≢◌, ◌<◌, ◌+◌, ◌*◌, ◌/◌, ◌%◌, ◌==◌, ◌&&◌, true, ℕ, Some, List, length, position, arith}
+use Rattle.std.proofs.Math.ListN.{get_or}
 use Rattle.std.proofs.lemmas.Grind.{common_steps}
 use Rattle.std.proofs.lemmas.List.Quantifiers.{position-Some}
 use Rattle.mc_world.specs.Worlds.{WorldState, far, is_place, number, place, places, slot_count}
@@ -35,9 +36,13 @@ half_in s n below = omega arith
 both_parts : (a b c d : ℕ) → (a == b && c == d) ≡ true → (b ≡ a) × (d ≡ c)
 both_parts a b c d is = grind (arith, common_steps)
 
+-- what is found among places is there
+pub found_at : (places : List (ℕ × ℕ)) (who local s : ℕ) → position (is_place (who, local)) places ≡ Some s → (s < length places) × ((get_or places s (0, 0)).0 ≡ who) × ((get_or places s (0, 0)).1 ≡ local)
+found_at places who local s is =
+    let found = position-Some (is_place (who, local)) places s (0, 0) is in
+    let parts = both_parts who (get_or places s (0, 0)).0 local (get_or places s (0, 0)).1 found.1 in
+    (found.0, parts.0, parts.1)
+
 -- a slot's number is found by its place
 pub number_is : (world : WorldState) (who local s : ℕ) → number world who local ≡ Some s → (s < slot_count world) × ((place world s).0 ≡ who) × ((place world s).1 ≡ local)
-number_is world who local s is =
-    let found = position-Some (is_place (who, local)) (places world) s (0, 0) is in
-    let parts = both_parts who (place world s).0 local (place world s).1 found.1 in
-    (found.0, parts.0, parts.1)
+number_is world who local s is = found_at (places world) who local s is

@@ -16,11 +16,11 @@ use Rattle.mc_world.proofs.JointTables.{in_table, slot_has_channel, tunnel_is_th
 -- ---- the channel of a slot
 
 -- its place in the table
-pub joint_below : (inside : Inside) (s : ℕ) → HasTables inside → s < slot_count (world_of inside) → s / 2 < length inside.joints.items
+pub joint_below : (inside : Inside) (s : ℕ) → HasTables inside → s < slot_count (world_of inside) → s / 2 < length inside.ways.joints.items
 joint_below inside s has below = rw (has.joints, length-map (joints_from 0 inside.channels.items) channel_of) (tunnel_is_there inside.channels.items s below)
 
 -- what is read there
-pub joint_read : (inside : Inside) (s : ℕ) (read : ℕ × ℕ) → HasTables inside → s < slot_count (world_of inside) → read ≡ get_or inside.joints.items (s / 2) read
+pub joint_read : (inside : Inside) (s : ℕ) (read : ℕ × ℕ) → HasTables inside → s < slot_count (world_of inside) → read ≡ get_or inside.ways.joints.items (s / 2) read
     → read ≡ channel_of (joint_of (world_of inside) s)
 joint_read inside s read has below is =
     in_table (joints_from 0 inside.channels.items) (s / 2) read (tunnel_is_there inside.channels.items s below) (rw has.joints at is)

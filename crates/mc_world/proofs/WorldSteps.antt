@@ -1,8 +1,10 @@
 -- The steps of a world, from what its boxes and lanes do.
-use Rattle.std.proofs.Common.{◌≡◌, ℕ, ◌<◌, true, false, Option, Some, None, IsSome, List, [], ◌∷◌, drop, length, nat_lt, refl, ap, sym, subst, ◌∙◌, arith}
-use Rattle.std.proofs.Math.ListN.{set, length-set}
+use Rattle.std.proofs.Common.{◌≡◌, ℕ, ◌<◌, true, false, Option, Some, None, IsSome, List, [], ◌∷◌, length, map, nat_lt, Vec, refl, ap, sym, subst, ◌∙◌, arith}
+use Rattle.std.proofs.Math.ListN.{set}
 use Rattle.std.proofs.lemmas.Grind.{common_steps}
+use Rattle.std.proofs.lemmas.List.{length-map}
 use Rattle.std.proofs.lemmas.List.Quantifiers.{position-Some}
+use Rattle.std.specs.declared.alloc.Global.{Global}
 use Rattle.std.specs.Option.{is_some, option_map}
 use Rattle.mc_signal.specs.declared.Signal.{Signal}
 use Rattle.mc_signal.specs.declared.Tagged.{Tagged}
@@ -14,24 +16,24 @@ use Rattle.mc_slot.specs.declared.Slot.{Slot}
 use Rattle.mc_slot.specs.declared.SlotGoal.{SlotGoal}
 use Rattle.mc_slot.specs.declared.SlotGoal.TheVariants.{End, Link}
 use Rattle.mc_world.specs.BoxEvents.{BoxStep, box_event, is_enabled}
-use Rattle.mc_world.specs.Boxes.{BoxState, goal_at, is_slot, own, sender, slot_at}
-use Rattle.mc_world.specs.Lanes.{after_sending, without_front}
-use Rattle.mc_world.specs.StepAnswers.{acts_at}
+use Rattle.mc_world.specs.Boxes.{BoxState, goal_at, own, sender, slot_at}
+use Rattle.mc_world.specs.Lanes.{all_sent, signals_of, without_front}
+use Rattle.mc_world.specs.Measures.{is_take}
 use Rattle.mc_world.specs.Sound.{IsNumbered, IsSound, RestsBy}
 use Rattle.mc_world.specs.Served.{LanesServed}
 use Rattle.mc_world.specs.Steps.{made, popped, step, step_by, with_box}
-use Rattle.mc_world.specs.Worlds.{WorldState, box_at, far, for_tunnel, front, front_for, goal_of, is_place, joint_of, lane_of, lane_to, list_to, number, place, places, slot_count, slot_of}
-use Rattle.mc_world.specs.declared.event.Change.TheVariants.{End as NewEnd, Link as NewLink}
+use Rattle.mc_world.specs.Worlds.{WorldState, box_at, far, for_tunnel, front, front_for, goal_of, is_place, joint_of, joints, lane_of, lane_to, list_to, number, place, places, slot_count, slot_of}
 use Rattle.mc_world.specs.declared.event.Event.{Event}
 use Rattle.mc_world.specs.declared.event.Event.TheVariants.{Take, Set, Media, Tell, Retry, Shift}
-use Rattle.mc_world.specs.declared.lanes.Route.{Route}
+use Rattle.mc_world.specs.declared.network.World.TheInside.{Inside}
+use Rattle.mc_world.specs.declared.ways.Ways.{Ways}
+use Rattle.mc_world.specs.Tables.{HasTables, channel_of, world_of}
 use Rattle.mc_tunnel.proofs.Steps.{took_kept}
-use Rattle.mc_world.proofs.BoxTurns.{take_made}
-use Rattle.mc_world.proofs.LanesKept.{far_joint}
-use Rattle.mc_world.proofs.Sendings.{AllFrom, acted, sent_out_is, took_from}
+use Rattle.mc_world.proofs.BoxTurns.{take_made as box_take_made}
 use Rattle.mc_world.proofs.StepGoes.{step_keeps_served}
 use Rattle.mc_world.proofs.StepKeeps.{step_keeps_sound}
 use Rattle.mc_world.proofs.TurnGoes.{turn_goes}
+use Rattle.mc_world.proofs.WayLanes.{sent_out_by}
 
 -- ---- slots and their numbers
 
@@ -91,31 +93,16 @@ front_there world s signal is = front_in (joint_of world s).within (lane_to worl
 
 -- ---- a step that is made
 
--- how signals come to a slot and go from it
-pub record IsRoute (world : WorldState) (s : ℕ) (route : Route) : Type 0 where
-  pub to : route.to ≡ lane_of world s
-  pub from : route.from ≡ lane_of world (far s)
-  pub tunnel : route.tunnel ≡ (joint_of world s).within
-  pub there : route.from < length world.lanes
-
--- the world where a box has made its step, and what it sent has gone away from its slot
-abbrev pub put : WorldState → ℕ → BoxStep → Route → WorldState
-put world who step route = record world { boxes = set world.boxes who step.after; lanes = after_sending world.lanes route step.sent }
-
-made_is : (world : WorldState) (who local s : ℕ) (step : BoxStep) (route : Route) → number world who local ≡ Some s → route.from ≡ lane_of world (far s)
-    → route.tunnel ≡ (joint_of world s).within → route.from < length world.lanes → AllFrom local step.sent → made world who step ≡ put world who step route
-made_is world who local s step route is from tunnel there all =
-    let same : route.tunnel ≡ (joint_of world (far s)).within = rw (far_joint world s) tunnel in
-    rw (from, same) (sent_out_is step.sent (with_box world who step.after) who local s is (rw from at there) all)
+-- the world where a box has made its step, and what it sent has gone away by these tables
+abbrev pub put : WorldState → Ways → ℕ → BoxStep → WorldState
+put world ways who step = record world { boxes = set world.boxes who step.after; lanes = all_sent ways who world.lanes step.sent }
 
 -- a slot takes the front of its lane
-pub take_is : (world : WorldState) (who local s : ℕ) (signal : Signal) (step : BoxStep) (route : Route) → number world who local ≡ Some s → front world s ≡ Some signal
-    → box_event (box_at world who) (Take local) (Some signal) ≡ Some step → IsRoute world s route
-    → step_by world who (Take local) ≡ Some (record world { boxes = set world.boxes who step.after; lanes = after_sending (without_front world.lanes route.to) route step.sent })
-take_is world who local s signal step route is first goes leads =
-    let still : route.from < length (popped world s).lanes = rw (length-set world.lanes (lane_of world s) (drop 1 (lane_to world s))) leads.there in
-    rw (is, first, goes, leads.to)
-    (ap (λ (w : WorldState). Some w) (made_is (popped world s) who local s step route is leads.from leads.tunnel still (took_from (box_at world who) local signal step goes)))
+pub take_is : (world : WorldState) (ways : Ways) (who local s lane : ℕ) (signal : Signal) (step : BoxStep) → number world who local ≡ Some s → front world s ≡ Some signal
+    → box_event (box_at world who) (Take local) (Some signal) ≡ Some step → lane ≡ lane_of world s → ways.places.items ≡ places world → ways.joints.items ≡ map channel_of (joints world)
+    → step_by world who (Take local) ≡ Some (record world { boxes = set world.boxes who step.after; lanes = all_sent ways who (without_front world.lanes lane) step.sent })
+take_is world ways who local s lane signal step is first goes leads at through =
+    rw (is, first, goes, leads) (ap (λ (w : WorldState). Some w) (sent_out_by step.sent (with_box (popped world s) who step.after) ways who at through))
 
 -- where it may, its turn goes
 end_rests : (goal : SlotGoal) (world : WorldState) (s : ℕ) → RestsBy goal world s → (end : Goal) × (goal ≡ End end)
@@ -133,7 +120,7 @@ taken_goes : (box : BoxState) (local : ℕ) (signal : Signal) (goal : Goal) (too
     → taken (slot_at box local) signal ≡ Some took → Kept took.after → IsSome (box_event box (Take local) (Some signal))
 taken_goes box local signal goal took here goal_is takes kept =
     let last = is_there _ (turn_goes goal took.after (pushed_by signal took.after.state) (own box local) (sender box local) kept) in
-    some_is (take_made box local signal goal took.answer took.after last.0 here goal_is takes last.1)
+    some_is (box_take_made box local signal goal took.answer took.after last.0 here goal_is takes last.1)
 
 pub take_happens : (world : WorldState) (who local s : ℕ) (signal : Signal) → IsSound world → number world who local ≡ Some s → front world s ≡ Some signal
     → IsSome (box_event (box_at world who) (Take local) (Some signal))
@@ -157,64 +144,46 @@ take_enabled world who local s signal sound is first =
 
 -- ---- an event that takes nothing
 
-act_by : (world : WorldState) (who local : ℕ) (event : Event) → acts_at event ≡ Some local → step_by world who event ≡ option_map (made world who) (box_event (box_at world who) event None)
-act_by world who local (Take slot) at = absurd (cc)
-act_by world who local (Set (NewEnd slot goal)) at = refl
-act_by world who local (Set (NewLink slot partner)) at = absurd (cc)
-act_by world who local (Media change) at = absurd (cc)
-act_by world who local (Tell word) at = absurd (cc)
-act_by world who local (Retry slot) at = refl
-act_by world who local Shift at = absurd (cc)
+act_by : (world : WorldState) (who : ℕ) (event : Event) → is_take event ≡ false → step_by world who event ≡ option_map (made world who) (box_event (box_at world who) event None)
+act_by world who (Take slot) other = absurd (cc)
+act_by world who (Set change) other = refl
+act_by world who (Media change) other = refl
+act_by world who (Tell word) other = refl
+act_by world who (Retry slot) other = refl
+act_by world who Shift other = refl
 
-act_enabled : (box : BoxState) (local : ℕ) (event : Event) → acts_at event ≡ Some local → is_enabled box event ≡ is_some (box_event box event None)
-act_enabled box local (Take slot) at = absurd (cc)
-act_enabled box local (Set (NewEnd slot goal)) at = refl
-act_enabled box local (Set (NewLink slot partner)) at = absurd (cc)
-act_enabled box local (Media change) at = absurd (cc)
-act_enabled box local (Tell word) at = absurd (cc)
-act_enabled box local (Retry slot) at = refl
-act_enabled box local Shift at = absurd (cc)
+act_enabled : (box : BoxState) (event : Event) → is_take event ≡ false → is_enabled box event ≡ is_some (box_event box event None)
+act_enabled box (Take slot) other = absurd (cc)
+act_enabled box (Set change) other = refl
+act_enabled box (Media change) other = refl
+act_enabled box (Tell word) other = refl
+act_enabled box (Retry slot) other = refl
+act_enabled box Shift other = refl
 
 -- it happens where it is enabled
-pub act_happens : (box : BoxState) (local : ℕ) (event : Event) → acts_at event ≡ Some local → is_enabled box event ≡ true → IsSome (box_event box event None)
-act_happens box local event at enabled = sym (act_enabled box local event at) ∙ enabled
+pub act_happens : (box : BoxState) (event : Event) → is_take event ≡ false → is_enabled box event ≡ true → IsSome (box_event box event None)
+act_happens box event other enabled = sym (act_enabled box event other) ∙ enabled
 
 none_is : {A : Type 0} (o : Option A) → is_some o ≡ false → o ≡ None
 none_is None is = refl
 none_is (Some x) is = absurd (cc)
 
 -- and else not
-pub act_refused : (world : WorldState) (who local : ℕ) (event : Event) → acts_at event ≡ Some local → is_enabled (box_at world who) event ≡ false → step_by world who event ≡ None
-act_refused world who local event at disabled =
-    let none : box_event (box_at world who) event None ≡ None = none_is _ (sym (act_enabled (box_at world who) local event at) ∙ disabled) in
-    rw (act_by world who local event at, none) refl
+pub act_refused : (world : WorldState) (who : ℕ) (event : Event) → is_take event ≡ false → is_enabled (box_at world who) event ≡ false → step_by world who event ≡ None
+act_refused world who event other disabled =
+    let none : box_event (box_at world who) event None ≡ None = none_is _ (sym (act_enabled (box_at world who) event other) ∙ disabled) in
+    rw (act_by world who event other, none) refl
 
-act_nowhere_by : (world : WorldState) (who local : ℕ) (event : Event) → IsNumbered world → who < length world.boxes → acts_at event ≡ Some local → number world who local ≡ None
-    → (o : Option BoxStep) → box_event (box_at world who) event None ≡ o → step_by world who event ≡ None
-act_nowhere_by world who local event numbered here at nowhere None is = rw (act_by world who local event at, is) refl
-act_nowhere_by world who local event numbered here at nowhere (Some step) is =
-    let slot : is_slot (box_at world who) local ≡ true = (acted (box_at world who) event local step at is).0 in
-    let inside : local < length (box_at world who).slots = grind (arith, common_steps) in
-    let found = has_number world who local numbered here inside in
-    let none : false ≡ true = rw nowhere at found in
-    absurd (cc)
+pub act_enabled_step : (world : WorldState) (who : ℕ) (event : Event) → is_take event ≡ false → is_enabled (box_at world who) event ≡ true → IsSome (step_by world who event)
+act_enabled_step world who event other enabled =
+    let step = is_there _ (act_happens (box_at world who) event other enabled) in
+    rw (act_by world who event other, step.1) refl
 
--- nor at a slot that isn't there
-pub act_nowhere : (world : WorldState) (who local : ℕ) (event : Event) → IsNumbered world → who < length world.boxes → acts_at event ≡ Some local → number world who local ≡ None
-    → step_by world who event ≡ None
-act_nowhere world who local event numbered here at nowhere =
-    act_nowhere_by world who local event numbered here at nowhere (box_event (box_at world who) event None) refl
-
-pub act_enabled_step : (world : WorldState) (who local : ℕ) (event : Event) → acts_at event ≡ Some local → is_enabled (box_at world who) event ≡ true → IsSome (step_by world who event)
-act_enabled_step world who local event at enabled =
-    let step = is_there _ (act_happens (box_at world who) local event at enabled) in
-    rw (act_by world who local event at, step.1) refl
-
-pub act_is : (world : WorldState) (who local s : ℕ) (event : Event) (step : BoxStep) (route : Route) → number world who local ≡ Some s → acts_at event ≡ Some local
-    → box_event (box_at world who) event None ≡ Some step → IsRoute world s route → step_by world who event ≡ Some (put world who step route)
-act_is world who local s event step route is at goes leads =
-    rw (act_by world who local event at, goes)
-    (ap (λ (w : WorldState). Some w) (made_is world who local s step route is leads.from leads.tunnel leads.there ((acted (box_at world who) event local step at goes).1)))
+pub act_is : (world : WorldState) (ways : Ways) (who : ℕ) (event : Event) (step : BoxStep) → is_take event ≡ false
+    → box_event (box_at world who) event None ≡ Some step → ways.places.items ≡ places world → ways.joints.items ≡ map channel_of (joints world)
+    → step_by world who event ≡ Some (put world ways who step)
+act_is world ways who event step other goes at through =
+    rw (act_by world who event other, goes) (ap (λ (w : WorldState). Some w) (sent_out_by step.sent (with_box world who step.after) ways who at through))
 
 -- ---- a sound world after a step of one of its boxes
 
@@ -226,3 +195,43 @@ stays_sound world next who event sound served here goes =
     let there : nat_lt who (length world.boxes) ≡ true = below_is who (length world.boxes) here in
     let stepped : step world (record { who = who; event = event }) ≡ Some next = rw there goes in
     (step_keeps_sound world next (record { who = who; event = event }) sound stepped, step_keeps_served world next (record { who = who; event = event }) sound served stepped)
+
+-- ---- the world that code leaves
+
+-- a Take, from what the box and the lanes are then
+pub take_made : (inside : Inside) (world : WorldState) (who local s lane : ℕ) (signal : Signal) (step : BoxStep) (lanes : List (List Tagged)) → HasTables inside → world_of inside ≡ world
+    → number world who local ≡ Some s → front world s ≡ Some signal → lane ≡ lane_of world s → box_event (box_at world who) (Take local) (Some signal) ≡ Some step
+    → lanes ≡ all_sent inside.ways who (without_front (signals_of inside.lanes.items) lane) step.sent
+    → step_by world who (Take local) ≡ Some (record (world_of inside) { boxes = set inside.boxes.items who step.after; lanes = lanes })
+take_made inside world who local s lane signal step lanes has view is first leads goes lanes_is =
+    take_is world inside.ways who local s lane signal step is first goes leads
+    (subst (λ (w : WorldState). inside.ways.places.items ≡ places w) view has.places)
+    (subst (λ (w : WorldState). inside.ways.joints.items ≡ map channel_of (joints w)) view has.joints)
+    ∙ (ap (λ (w : WorldState). Some (record w { boxes = set w.boxes who step.after; lanes = all_sent inside.ways who (without_front w.lanes lane) step.sent })) (sym view)
+    ∙ ap (λ (l : List (List Tagged)). Some (record (world_of inside) { boxes = set inside.boxes.items who step.after; lanes = l })) (sym lanes_is))
+
+-- another event
+pub act_made : (inside : Inside) (world : WorldState) (who : ℕ) (event : Event) (step : BoxStep) (lanes : List (List Tagged)) → HasTables inside → world_of inside ≡ world
+    → is_take event ≡ false → box_event (box_at world who) event None ≡ Some step → lanes ≡ all_sent inside.ways who (signals_of inside.lanes.items) step.sent
+    → step_by world who event ≡ Some (record (world_of inside) { boxes = set inside.boxes.items who step.after; lanes = lanes })
+act_made inside world who event step lanes has view other goes lanes_is =
+    act_is world inside.ways who event step other goes
+    (subst (λ (w : WorldState). inside.ways.places.items ≡ places w) view has.places)
+    (subst (λ (w : WorldState). inside.ways.joints.items ≡ map channel_of (joints w)) view has.joints)
+    ∙ (ap (λ (w : WorldState). Some (put w inside.ways who step)) (sym view)
+    ∙ ap (λ (l : List (List Tagged)). Some (record (world_of inside) { boxes = set inside.boxes.items who step.after; lanes = l })) (sym lanes_is))
+
+-- it has the tables as before, and is sound, since a step of a sound world led to it
+pub step_tables : (inside : Inside) (world : WorldState) (who : ℕ) (event : Event) (boxes : Vec BoxState Global) (lanes : Vec (Vec Tagged Global) Global) → HasTables inside → world_of inside ≡ world
+    → who < length world.boxes → step_by world who event ≡ Some (world_of (record inside { boxes = boxes; lanes = lanes })) → HasTables (record inside { boxes = boxes; lanes = lanes })
+step_tables inside world who event boxes lanes has view here goes =
+    let kept = stays_sound world (world_of (record inside { boxes = boxes; lanes = lanes })) who event
+    (subst (λ (w : WorldState). IsSound w) view has.sound) (subst (λ (w : WorldState). LanesServed w) view has.served) here goes in
+    record {
+      places = has.places;
+      joints = has.joints;
+      few = has.few;
+      lanes = sym (length-map lanes.items (λ (lane : Vec Tagged Global). lane.items)) ∙ kept.0.numbered.lanes;
+      sound = kept.0;
+      served = kept.1;
+    }

@@ -1,26 +1,52 @@
--- Lanes as they change.
-use Rattle.std.specs.Prelude.{ℕ, ◌+◌, ◌≤◌, List, [], ◌++◌, drop, map, slice_index_or, slice_set, Vec, vec_len, vec_capacity, HoldsAt}
+-- Lanes as they change, by the tables of a world.
+use Rattle.std.specs.Prelude.{ℕ, ◌≡◌, ◌+◌, ◌*◌, ◌/◌, ◌%◌, ◌<◌, ◌≤◌, List, [], ◌∷◌, ◌++◌, drop, fold, length, map, position, slice_index_or, slice_set, Vec, vec_len, vec_capacity, HoldsAt, unwrap_or}
+use Rattle.std.specs.Option.{option_map}
 use Rattle.std.specs.declared.alloc.Global.{Global}
 use Rattle.mc_signal.specs.declared.Signal.{Signal}
 use Rattle.mc_signal.specs.declared.Tagged.{Tagged}
-use Rattle.mc_world.specs.declared.lanes.Route.{Route}
+use Rattle.mc_world.specs.Worlds.{far, is_place}
+use Rattle.mc_world.specs.declared.ways.Ways.{Ways}
 
 -- the signals of each lane
 abbrev pub signals_of : List (Vec Tagged Global) → List (List Tagged)
 signals_of lanes = map (λ lane. lane.items) lanes
 
--- a lane has room for what one event sends
-abbrev pub HasRoom : List (Vec Tagged Global) → ℕ → Type 0
-HasRoom lanes lane = HoldsAt (λ vec. vec_len vec + 4 ≤ vec_capacity vec) lanes lane
-
--- a sending, as it stands in the lane
-abbrev pub tagged : ℕ → ℕ × Signal → Tagged
-tagged tunnel sending = record { tunnel = tunnel; signal = sending.1 }
-
 -- the front leaves a lane
 abbrev pub without_front : List (List Tagged) → ℕ → List (List Tagged)
 without_front lanes lane = slice_set lanes lane (drop 1 (slice_index_or lanes lane []))
 
--- sendings go to the end of the lane that leads away
-abbrev pub after_sending : List (List Tagged) → Route → List (ℕ × Signal) → List (List Tagged)
-after_sending lanes route sendings = slice_set lanes route.from (slice_index_or lanes route.from [] ++ map (tagged route.tunnel) sendings)
+-- ---- where signals go
+
+-- each tunnel has its two slots, and its channel two of so many lanes
+pub record IsLaid (ways : Ways) (count : ℕ) : Type 0 where
+  pub slots : length ways.places.items ≡ 2 * length ways.joints.items
+  pub lanes : (t : ℕ) → t < length ways.joints.items → 2 * (slice_index_or ways.joints.items t (0, 0)).0 + 1 < count
+
+-- the lane that leads to a slot, and the number of the slot's tunnel within its channel
+abbrev pub lane_by : Ways → ℕ → ℕ
+lane_by ways s = 2 * (slice_index_or ways.joints.items (s / 2) (0, 0)).0 + s % 2
+
+abbrev pub tunnel_by : Ways → ℕ → ℕ
+tunnel_by ways s = (slice_index_or ways.joints.items (s / 2) (0, 0)).1
+
+-- a signal goes with its tunnel to the end of the lane that leads to a slot
+abbrev pub pushed_by : Ways → List (List Tagged) → Signal → ℕ → List (List Tagged)
+pushed_by ways lanes signal s = slice_set lanes (lane_by ways s) (slice_index_or lanes (lane_by ways s) [] ++ record { tunnel = tunnel_by ways s; signal = signal } ∷ [])
+
+-- what a box sends by one of its slots goes to the far slot
+abbrev pub one_sent : Ways → ℕ → List (List Tagged) → ℕ × Signal → List (List Tagged)
+one_sent ways who lanes sending = unwrap_or (option_map (λ s. pushed_by ways lanes sending.1 (far s)) (position (is_place (who, sending.0)) ways.places.items)) lanes
+
+-- and so does all that it sends, in the order of sending
+abbrev pub all_sent : Ways → ℕ → List (List Tagged) → List (ℕ × Signal) → List (List Tagged)
+all_sent ways who lanes sendings = fold (one_sent ways who) lanes sendings
+
+-- ---- room
+
+-- a lane has room for so many signals
+abbrev pub HasRoom : List (Vec Tagged Global) → ℕ → ℕ → Type 0
+HasRoom lanes lane count = HoldsAt (λ vec. vec_len vec + count ≤ vec_capacity vec) lanes lane
+
+-- and so has each lane that leads away from one of the first slots, where it is the box's
+abbrev pub HasRoomFrom : List (Vec Tagged Global) → Ways → ℕ → ℕ → ℕ → Type 0
+HasRoomFrom lanes ways who first count = (s : ℕ) → s < first → (slice_index_or ways.places.items s (0, 0)).0 ≡ who → HasRoom lanes (lane_by ways (far s)) count

@@ -1,17 +1,8 @@
 -- What one step answers.
-use Rattle.std.specs.Prelude.{◌≡◌, ℕ, Option, Some, None, IsSome, Result, Ok, Err}
+use Rattle.std.specs.Prelude.{◌≡◌, Option, Some, None, IsSome, Result, Ok, Err}
 use Rattle.mc_world.specs.Worlds.{WorldState}
-use Rattle.mc_world.specs.declared.event.Change.TheVariants.{End as NewEnd}
-use Rattle.mc_world.specs.declared.event.Event.{Event}
-use Rattle.mc_world.specs.declared.event.Event.TheVariants.{Set, Retry}
 use Rattle.mc_world.specs.declared.network.step.StepFault.{StepFault}
 use Rattle.mc_world.specs.declared.network.step.StepFault.TheVariants.{NotEnabled, NoMemory, VersionEnd}
-
--- the slot that an event other than a Take concerns
-abbrev pub acts_at : Event → Option ℕ
-acts_at (Set (NewEnd local goal)) = Some local
-acts_at (Retry local) = Some local
-acts_at event = None
 
 -- what a step answers, from the world after it, if it is enabled
 abbrev pub Answers : WorldState → WorldState → Option WorldState → Result (Unit {0}) StepFault → Type 0

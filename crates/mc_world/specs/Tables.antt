@@ -14,9 +14,9 @@ channel_of joint = (joint.channel, joint.within)
 
 -- places and channels are found by number, numbers of slots fit, each channel has its two lanes, and the world is sound with each signal on the lane of its slot
 pub record HasTables (inside : Inside) : Type 0 where
-  pub places : inside.places.items ≡ places_among inside.channels.items
-  pub joints : inside.joints.items ≡ map channel_of (joints_from 0 inside.channels.items)
-  pub few : length inside.places.items ≤ 2 ^ 32
+  pub places : inside.ways.places.items ≡ places_among inside.channels.items
+  pub joints : inside.ways.joints.items ≡ map channel_of (joints_from 0 inside.channels.items)
+  pub few : length inside.ways.places.items ≤ 2 ^ 32
   pub lanes : length inside.lanes.items ≡ 2 * length inside.channels.items
   pub sound : IsSound (world_of inside)
   pub served : LanesServed (world_of inside)

@@ -1,75 +1,102 @@
 // Lanes as they change, each given by its place among all lanes.
 
-ghost use Rattle.std.specs.Prelude.{◌≡◌, ◌≢◌, ℕ, ◌+◌, ◌<◌, ◌≤◌, ◌++◌, [], drop, length, map, slice_index_or, slice_set, vec_len, vec_capacity, OnOk};
+ghost use Rattle.std.specs.Prelude.{◌≡◌, ◌≤◌, ℕ, ◌+◌, ◌<◌, ◌++◌, [], ◌∷◌, length, slice_index_or, vec_len, vec_capacity, OnOk};
 ghost use Rattle.mc_slot.specs.Sending.{sends_of};
-ghost use Rattle.mc_world.specs.Lanes.{signals_of, tagged, without_front, after_sending, HasRoom};
+ghost use Rattle.mc_world.specs.Lanes.{signals_of, without_front, one_sent, all_sent, lane_by, IsLaid, HasRoom, HasRoomFrom};
+ghost use Rattle.mc_world.specs.Worlds.{far};
 
-use mc_signal::Tagged;
+use crate::ways::Ways;
+use mc_signal::{Signal, Tagged};
 use mc_slot::Sends;
 use std::alloc::AllocError;
 
-/// The lane that leads to a slot, the lane that leads away from it, and the slot's tunnel within its channel.
-#[derive(Clone, Copy)]
-pub struct Route {
-    pub to: usize,
-    pub from: usize,
-    pub tunnel: u8,
-}
-
-/// Makes room in a lane for what one event sends.
-pub fn make_room(lanes: &mut [Vec<Tagged>], lane: usize) -> Result<(), AllocError>
-    requires { lane < length lanes.old }
+/// Makes room in each lane that leads away from a slot of the box, for as much as one event may send in all.
+pub fn make_room(
+    lanes: &mut [Vec<Tagged>],
+    ways: &Ways,
+    who: u32,
+    most: usize,
+) -> Result<(), AllocError>
+    requires { IsLaid ways.now (length lanes.old) }
     ensures same { signals_of lanes.new ≡ signals_of lanes.old }
-    ensures room { OnOk result (HasRoom lanes.new lane) }
+    ensures room { OnOk result (HasRoomFrom lanes.new ways.now who (length ways.now.places.items) most) }
 {
-    let lane = &mut lanes[lane];
-    // as much as `Sends` holds
-    lane.reserve(4)
+    for slot in 0..ways.places.len() {
+        if ways.places[slot].0 == who {
+            let (lane, _) = ways.away(slot);
+            reserve(lanes, lane, most)?;
+        }
+    }
+    Ok(())
 }
 
-/// What one event sends goes to the end of the lane that leads away, where there is room for it.
-pub fn send_all(lanes: &mut [Vec<Tagged>], route: Route, sends: &Sends)
-    requires from { route.from < length lanes.old }
-    requires room { HasRoom lanes.old route.from }
-    ensures { signals_of lanes.new ≡ after_sending (signals_of lanes.old) route (sends_of sends.now) }
+/// What a box sends goes away, each sending in its order to the end of the lane that leads to the far slot of its
+/// own slot.
+pub fn send_all(lanes: &mut [Vec<Tagged>], ways: &Ways, who: u32, sends: &Sends)
+    requires laid { IsLaid ways.now (length lanes.old) }
+    requires room { HasRoomFrom lanes.old ways.now who (length ways.now.places.items) sends.now.len }
+    ensures { signals_of lanes.new ≡ all_sent ways.now who (signals_of lanes.old) (sends_of sends.now) }
 {
-    let lane = &mut lanes[route.from];
-    push_all(lane, route.tunnel, sends);
+    for sending in &sends.at[..sends.len as usize] {
+        send(lanes, ways, who, sending.0, sending.1);
+    }
 }
 
-/// The front leaves the lane that leads to a slot, and what the slot then sends goes away from it.
-pub fn relay(lanes: &mut [Vec<Tagged>], route: Route, sends: &Sends)
-    requires to { route.to < length lanes.old }
-    requires from { route.from < length lanes.old }
-    requires apart { route.from ≢ route.to }
-    requires some { 0 < length (slice_index_or (signals_of lanes.old) route.to []) }
-    requires room { HasRoom lanes.old route.from }
-    ensures { signals_of lanes.new ≡ after_sending (without_front (signals_of lanes.old) route.to) route (sends_of sends.now) }
+/// The front leaves a lane, and then what a box sends goes away.
+pub fn relay(lanes: &mut [Vec<Tagged>], lane: usize, ways: &Ways, who: u32, sends: &Sends)
+    requires laid { IsLaid ways.now (length lanes.old) }
+    requires here { lane < length lanes.old }
+    requires some { 0 < length (slice_index_or (signals_of lanes.old) lane []) }
+    requires room { HasRoomFrom lanes.old ways.now who (length ways.now.places.items) sends.now.len }
+    ensures { signals_of lanes.new ≡ all_sent ways.now who (without_front (signals_of lanes.old) lane) (sends_of sends.now) }
 {
-    pop_front(lanes, route.to);
-    send_all(lanes, route, sends);
+    pop_front(lanes, lane);
+    send_all(lanes, ways, who, sends);
 }
 
-// The front leaves a lane. The room in each other lane stays.
+// The front leaves a lane. The room in each lane stays.
 fn pop_front(lanes: &mut [Vec<Tagged>], lane: usize)
     requires here { lane < length lanes.old }
     requires some { 0 < length (slice_index_or (signals_of lanes.old) lane []) }
     ensures popped { signals_of lanes.new ≡ without_front (signals_of lanes.old) lane }
-    ensures others { (k : ℕ) → k ≢ lane → HasRoom lanes.old k → HasRoom lanes.new k }
+    ensures room { (k count : ℕ) → HasRoom lanes.old k count → HasRoom lanes.new k count }
 {
     let lane = &mut lanes[lane];
     lane.remove(0);
 }
 
-// Adds what one event sends, for which there is room.
-fn push_all(lane: &mut Vec<Tagged>, tunnel: u8, sends: &Sends)
-    requires { vec_len lane.old + 4 ≤ vec_capacity lane.old }
-    ensures { lane.new.items ≡ lane.old.items ++ map (tagged tunnel) (sends_of sends.now) }
+// Makes room in a lane. The room in each lane stays.
+fn reserve(lanes: &mut [Vec<Tagged>], lane: usize, most: usize) -> Result<(), AllocError>
+    requires { lane < length lanes.old }
+    ensures same { signals_of lanes.new ≡ signals_of lanes.old }
+    ensures room { OnOk result (HasRoom lanes.new lane most) }
+    ensures kept { (k count : ℕ) → HasRoom lanes.old k count → HasRoom lanes.new k count }
 {
-    for sending in &sends.at[..sends.len as usize] {
-        let signal = sending.1;
-        if lane.push(Tagged { tunnel, signal }).is_err() {
-            unreachable!()
-        }
+    let lane = &mut lanes[lane];
+    lane.reserve(most)
+}
+
+// What a box sends by one of its slots goes to the end of the lane that leads to the far slot. A slot without a
+// number sends nothing.
+fn send(lanes: &mut [Vec<Tagged>], ways: &Ways, who: u32, local: u8, signal: Signal)
+    requires laid { IsLaid ways.now (length lanes.old) }
+    requires room { HasRoomFrom lanes.old ways.now who (length ways.now.places.items) 1 }
+    ensures sent { signals_of lanes.new ≡ one_sent ways.now who (signals_of lanes.old) (local, signal) }
+    ensures room { (k count : ℕ) → HasRoom lanes.old k (count + 1) → HasRoom lanes.new k count }
+{
+    if let Some(slot) = ways.number(who, local) {
+        let (lane, tunnel) = ways.away(slot);
+        push(&mut lanes[lane], Tagged { tunnel, signal });
+    }
+}
+
+// Adds a signal, for which there is room.
+fn push(lane: &mut Vec<Tagged>, tagged: Tagged)
+    requires { vec_len lane.old < vec_capacity lane.old }
+    ensures items { lane.new.items ≡ lane.old.items ++ tagged ∷ [] }
+    ensures room { vec_capacity lane.old ≤ vec_capacity lane.new }
+{
+    if lane.push(tagged).is_err() {
+        unreachable!()
     }
 }

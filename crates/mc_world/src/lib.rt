@@ -8,6 +8,7 @@ pub mod laws;
 mod media_box;
 mod network;
 mod settled;
+mod ways;
 
 pub use event::{BoxShape, Change, Event, Kind, MediaChange, Shape, Turn};
 pub use goal::{end_turn, owes};

@@ -1,17 +1,18 @@
 // Channels, and the world that they join.
 
-ghost use Rattle.std.specs.Prelude.{◌≡◌, ◌+◌, ◌<◌, ◌≤◌, ◌*◌, ◌^◌, ◌++◌, if◌then◌else◌, [], map, length, replicate, position, slice_index_or, vec_len, ◌==◌, All, IfOk, OnOk};
+ghost use Rattle.std.specs.Prelude.{◌≡◌, ◌+◌, ◌<◌, ◌≤◌, ◌*◌, ◌^◌, ◌++◌, if◌then◌else◌, [], map, length, replicate, slice_index_or, vec_len, ◌==◌, All, IfOk, OnOk};
 ghost use Rattle.std.specs.List.{list_all};
 ghost use Rattle.mc_world.specs.Settles.{is_quiet, rests};
 ghost use Rattle.mc_world.specs.Served.{LanesServed};
 ghost use Rattle.mc_world.specs.Sound.{IsNumbered, IsSound};
 ghost use Rattle.mc_world.specs.StepLaws.{AreNew};
 ghost use Rattle.mc_world.specs.Tables.{channel_of};
-ghost use Rattle.mc_world.specs.Worlds.{first_world, slot_count, place, is_place, number, far, joint_of, lane_of, front, front_for, slot_of, goal_of, places_among, places_within, joints_from, joints_within};
+ghost use Rattle.mc_world.specs.Worlds.{first_world, slot_count, place, number, far, joint_of, lane_of, front, front_for, slot_of, goal_of, places_among, places_within, joints_from, joints_within};
 
 mod step;
 
 use crate::media_box::MediaBox;
+use crate::ways::Ways;
 use mc_signal::{Medium, Signal, Tagged};
 use mc_slot::{Slot, SlotGoal};
 use std::alloc::{AllocError, Global};
@@ -52,10 +53,7 @@ pub struct World {
     boxes: Vec<MediaBox>,
     channels: Vec<Channel>,
     lanes: Vec<Vec<Tagged>>,
-    // the box and local number of each slot
-    places: Vec<(u32, u8)>,
-    // the channel of each tunnel, and its number within the channel
-    joints: Vec<(u32, u8)>,
+    ways: Ways,
 }
 
 impl Model for World {
@@ -91,8 +89,7 @@ impl World {
             boxes,
             channels,
             lanes,
-            places,
-            joints,
+            ways: Ways { places, joints },
         })
     }
 
@@ -102,7 +99,7 @@ impl World {
         ensures served { LanesServed self.now }
         ensures few { slot_count self.now ≤ 2 ^ 32 }
     {
-        let _ = self.places.len();
+        let _ = self.ways.places.len();
     }
 
     /// The boxes, in the order of their numbers.
@@ -116,7 +113,7 @@ impl World {
     pub fn slot_count(&self) -> usize
         ensures { result ≡ slot_count self.now }
     {
-        self.places.len()
+        self.ways.places.len()
     }
 
     /// The box of a slot, and the slot's local number there.
@@ -124,7 +121,7 @@ impl World {
         requires { slot < slot_count self.now }
         ensures { result ≡ place self.now slot }
     {
-        self.places[slot as usize]
+        self.ways.places[slot as usize]
     }
 
     /// A slot, by its number.
@@ -161,7 +158,7 @@ impl World {
     pub fn number(&self, who: u32, local: u8) -> Option<u32>
         ensures { result ≡ number self.now who local }
     {
-        let found = place_number(&self.places, who, local)?;
+        let found = self.ways.number(who, local)?;
         Some(found as u32)
     }
 
@@ -171,7 +168,7 @@ impl World {
         ensures channel { result ≡ channel_of (joint_of self.now slot) }
         ensures there { result.0 < length self.now.channels }
     {
-        self.joints[slot as usize / 2]
+        self.ways.joints[slot as usize / 2]
     }
 
     /// The signals under way in a channel, to its initiator or to the other end.
@@ -214,15 +211,6 @@ impl World {
         let (channel, _) = self.channel(slot);
         2 * channel as usize + slot as usize % 2
     }
-}
-
-// Where the place of a box's slot stands among places.
-fn place_number(places: &[(u32, u8)], who: u32, local: u8) -> Option<usize>
-    ensures { result ≡ position (is_place (who, local)) places.now }
-{
-    places
-        .iter()
-        .position(|place| who == place.0 && local == place.1)
 }
 
 // The front of a lane, where that is for the tunnel.

@@ -1,16 +1,19 @@
 // One step of a world.
 
-ghost use Rattle.std.specs.Prelude.{◌≡◌, ◌≢◌, ◌↔◌, ◌<◌, Some, None, length, OnOk, OnErr};
-ghost use Rattle.mc_world.specs.Sound.{IsNumbered, IsSound};
-ghost use Rattle.mc_world.specs.StepAnswers.{acts_at, Answers};
+ghost use Rattle.std.specs.Prelude.{◌≡◌, ◌↔◌, ◌<◌, Some, None, false, length, OnOk, OnErr};
+ghost use Rattle.mc_world.specs.Measures.{is_take};
+ghost use Rattle.mc_world.specs.Sound.{IsSound};
+ghost use Rattle.mc_world.specs.StepAnswers.{Answers};
 ghost use Rattle.mc_world.specs.Steps.{step, step_by};
 ghost use Rattle.mc_world.specs.declared.network.step.StepFault.TheVariants.{NoMemory};
-ghost use Rattle.mc_world.specs.Worlds.{slot_count, far, joint_of, lane_of};
 
 use super::World;
-use crate::event::{Change, Event};
-use crate::lanes::{Route, make_room, relay, send_all};
+use crate::event::Event;
+use crate::lanes::{make_room, relay, send_all};
 use std::alloc::AllocError;
+
+// How many signals one event of a box sends at most, by whichever of its slots: as many as `Sends` holds.
+const MOST_SENT: usize = 4;
 
 /// Why a step isn't made.
 #[derive(Debug, Drop)]
@@ -54,9 +57,8 @@ impl World {
     {
         match event {
             Event::Take(local) => self.take(who, local),
-            Event::Set(Change::End(local, _)) | Event::Retry(local) => self.act(who, local, event),
-            Event::Set(Change::Link(..)) | Event::Media(_) | Event::Tell(_) | Event::Shift => {
-                Err(StepFault::NotEnabled)
+            Event::Set(_) | Event::Media(_) | Event::Tell(_) | Event::Retry(_) | Event::Shift => {
+                self.act(who, event)
             }
         }
     }
@@ -73,52 +75,29 @@ impl World {
         let Some(signal) = self.front(slot) else {
             return Err(StepFault::NotEnabled);
         };
-        let route = self.route(slot);
-        make_room(&mut self.lanes, route.from)?;
+        let lane = self.lane_to(slot);
+        make_room(&mut self.lanes, &self.ways, who, MOST_SENT)?;
         let actor = &mut self.boxes[who as usize];
         let sends = actor.take(local, signal);
-        relay(&mut self.lanes, route, &sends);
+        relay(&mut self.lanes, lane, &self.ways, who, &sends);
         Ok(())
     }
 
-    // An event that takes no signal happens to a box, at one of its slots.
-    fn act(&mut self, who: u32, local: u8, event: Event) -> Result<(), StepFault>
+    // An event that takes no signal happens to a box.
+    fn act(&mut self, who: u32, event: Event) -> Result<(), StepFault>
         requires sound { IsSound self.old }
         requires here { who < length self.old.boxes }
-        requires at { acts_at event ≡ Some local }
+        requires other { is_take event ≡ false }
         ensures { Answers self.old self.new (step_by self.old who event) result }
     {
-        let Some(slot) = self.number(who, local) else {
-            return Err(StepFault::NotEnabled);
-        };
         let actor = &self.boxes[who as usize];
         if !actor.enabled(&event) {
             return Err(StepFault::NotEnabled);
         }
-        let route = self.route(slot);
-        make_room(&mut self.lanes, route.from)?;
+        make_room(&mut self.lanes, &self.ways, who, MOST_SENT)?;
         let actor = &mut self.boxes[who as usize];
         let sends = actor.act(event);
-        send_all(&mut self.lanes, route, &sends);
+        send_all(&mut self.lanes, &self.ways, who, &sends);
         Ok(())
-    }
-
-    // How signals come to a slot and go from it.
-    fn route(&self, slot: u32) -> Route
-        requires numbered { IsNumbered self.now }
-        requires slot { slot < slot_count self.now }
-        ensures to { result.to ≡ lane_of self.now slot }
-        ensures from { result.from ≡ lane_of self.now (far slot) }
-        ensures tunnel { result.tunnel ≡ (joint_of self.now slot).within }
-        ensures to_there { result.to < length self.now.lanes }
-        ensures from_there { result.from < length self.now.lanes }
-        ensures apart { result.from ≢ result.to }
-    {
-        let (_, tunnel) = self.channel(slot);
-        Route {
-            to: self.lane_to(slot),
-            from: self.lane_to(self.far(slot)),
-            tunnel,
-        }
     }
 }

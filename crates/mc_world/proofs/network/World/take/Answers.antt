@@ -1,23 +1,24 @@
-use Rattle.std.proofs.Common.{◌≡◌, ◌∙◌, ap, subst, sym, Vec, List, Some}
-use Rattle.std.proofs.Math.ListN.{set}
-use Rattle.std.proofs.lemmas.List.{length-map}
-use Rattle.std.specs.declared.alloc.Global.{Global}
+use Rattle.std.proofs.Common.{◌≡◌, ◌∙◌, ap, subst, sym, ℕ, length, List, Some}
 use Rattle.std.proofs.lemmas.Result.{err_from_is_err_and}
-use Rattle.std.specs.Vec.{with_items}
+use Rattle.std.specs.Vec.{with_item, with_items}
 use Rattle.mc_signal.specs.declared.Tagged.{Tagged}
 use Rattle.mc_slot.specs.Sending.{sends_of}
 use Rattle.mc_world.specs.BoxEvents.{box_event}
 use Rattle.mc_world.specs.Boxes.{BoxState}
-use Rattle.mc_world.specs.Lanes.{after_sending, signals_of, without_front}
-use Rattle.mc_world.specs.Served.{LanesServed}
+use Rattle.mc_world.specs.Lanes.{IsLaid, all_sent, signals_of, without_front}
 use Rattle.mc_world.specs.Steps.{step_by}
 use Rattle.mc_world.specs.Tables.{world_of}
-use Rattle.mc_world.specs.Worlds.{WorldState, box_at, number}
+use Rattle.mc_world.specs.Worlds.{box_at, number}
 use Rattle.mc_world.specs.declared.event.Event.TheVariants.{Take}
-use Rattle.mc_world.proofs.LaneChanges.{room_kept, signals_kept, signals_written}
+use Rattle.mc_world.proofs.LaneChanges.{Lane, length_kept, room_kept, signals_kept, signals_written}
 use Rattle.mc_world.proofs.Tables.{box_read}
-use Rattle.mc_world.proofs.WorldSteps.{IsRoute, stays_sound, front_lawful, number_below, number_inside, number_slot, take_enabled, take_is}
+use Rattle.mc_world.proofs.WayLanes.{tables_laid}
+use Rattle.mc_world.proofs.WorldSteps.{front_lawful, number_below, number_inside, number_slot, step_tables, take_enabled, take_made}
 use Rattle.mc_world.proofs.network.World.take.Goals as goal
+
+pub make_room-requires : goal.make_room-requires
+make_room-requires c =
+    subst (λ (n : ℕ). IsLaid c.self.inside.ways n) (sym (ap (λ (l : List Lane). length l) c.deref_mut.ensures.value)) (tables_laid c.self.inside c.self.invariant)
 
 pub returns-in_err-make_room : goal.returns-in_err-make_room
 returns-in_err-make_room c =
@@ -41,67 +42,40 @@ take-sends-requires-clause-lawful c =
     (front_lawful c.args.self.now c.in-Some.slot c.in-Some-front.signal c.requires.sound (number_below c.args.self.now c.args.who c.args.local c.in-Some.slot is)
     (sym c.front.ensures ∙ c.in-Some-front.is))
 
+pub relay-requires-clause-laid : goal.relay-requires-clause-laid
+relay-requires-clause-laid c =
+    subst (λ (n : ℕ). IsLaid c.self.inside.ways n)
+    (sym (length_kept c.self.inside.lanes c.deref_mut.result.now c.make_room.new.lanes c.deref_mut-2.result.now c.deref_mut.ensures.value c.make_room.auto.lanes c.deref_mut-2.ensures.value))
+    (tables_laid c.self.inside c.self.invariant)
+
 pub relay-requires-clause-room : goal.relay-requires-clause-room
 relay-requires-clause-room c =
-    room_kept c.self.inside.lanes c.deref_mut.result.now c.make_room.new.lanes c.deref_mut-2.result.now c.route-route.result.from
-    c.deref_mut.ensures.value c.make_room.auto.lanes c.deref_mut-2.ensures.value c.in_ok-make_room.ensures.room
+    room_kept c.self.inside.lanes c.deref_mut.result.now c.make_room.new.lanes c.deref_mut-2.result.now c.self.inside.ways c.args.who (length c.self.inside.ways.places.items) 4 c.take-sends.result.len
+    c.deref_mut.ensures.value c.make_room.auto.lanes c.deref_mut-2.ensures.value c.take-sends.result.short c.in_ok-make_room.ensures.room
 
--- what the lanes have in the end
-lanes_are : (c : goal.After-self-3-1) → signals_of (with_items (with_items c.self.inside.lanes c.make_room.new.lanes) c.relay.new.lanes).items
-    ≡ after_sending (without_front (signals_of c.self.inside.lanes.items) c.route-route.result.to) c.route-route.result (sends_of c.take-sends.result)
-lanes_are c =
+-- the world that was left is the next one
+stepped : (c : goal.After-self-3-1) → step_by c.args.self.now c.args.who (Take c.args.local)
+    ≡ Some (world_of (record c.self.inside {
+      boxes = with_item c.self.inside.boxes c.args.who c.take-sends.new.self;
+      lanes = with_items (with_items c.self.inside.lanes c.make_room.new.lanes) c.relay.new.lanes;
+    }))
+stepped c =
+    let lanes : signals_of (with_items (with_items c.self.inside.lanes c.make_room.new.lanes) c.relay.new.lanes).items
+    ≡ all_sent c.self.inside.ways c.args.who (without_front (signals_of c.self.inside.lanes.items) c.lane_to-lane.result) (sends_of c.take-sends.result) =
     signals_written c.self.inside.lanes c.deref_mut.result.now c.make_room.new.lanes c.deref_mut-2.result.now c.relay.new.lanes
-    (λ (lanes : List (List Tagged)). after_sending (without_front lanes c.route-route.result.to) c.route-route.result (sends_of c.take-sends.result))
-    c.deref_mut.ensures.value c.make_room.auto.lanes c.make_room.ensures.same c.deref_mut-2.ensures.value c.relay.auto.lanes c.relay.ensures
-
--- the box of this number made the step
-goes : (c : goal.After-self-3-1) → box_event (box_at c.args.self.now c.args.who) (Take c.args.local) (Some c.in-Some-front.signal)
-    ≡ Some (record { sent = sends_of c.take-sends.result; after = c.take-sends.new.self })
-goes c =
-    let actor = box_read c.self.inside c.args.self.now c.args.who c.index_mut-actor.result.now c.self.view_is c.requires.here c.index_mut-actor.ensures.value in
-    subst (λ (box : BoxState). box_event box (Take c.args.local) (Some c.in-Some-front.signal) ≡ Some (record { sent = sends_of c.take-sends.result; after = c.take-sends.new.self })) actor c.take-sends.ensures
-
-leads : (c : goal.After-self-3-1) → IsRoute c.args.self.now c.in-Some.slot c.route-route.result
-leads c = record { to = c.route-route.ensures.to; from = c.route-route.ensures.from; tunnel = c.route-route.ensures.tunnel; there = c.route-route.ensures.from_there }
-
-pub returns : goal.returns
-returns c =
-    let stepped = take_is c.args.self.now c.args.who c.args.local c.in-Some.slot c.in-Some-front.signal (record { sent = sends_of c.take-sends.result; after = c.take-sends.new.self })
-    c.route-route.result (sym c.number.ensures ∙ c.in-Some.is) (sym c.front.ensures ∙ c.in-Some-front.is) (goes c) (leads c) in
-    subst (λ (lanes : List (List Tagged)). step_by c.args.self.now c.args.who (Take c.args.local)
-    ≡ Some (record (world_of c.self.inside) { boxes = set c.self.inside.boxes.items c.args.who c.take-sends.new.self; lanes = lanes })) (sym (lanes_are c))
-    (subst (λ (world : WorldState). step_by c.args.self.now c.args.who (Take c.args.local)
-    ≡ Some (record world {
-      boxes = set world.boxes c.args.who c.take-sends.new.self;
-      lanes = after_sending (without_front world.lanes c.route-route.result.to) c.route-route.result (sends_of c.take-sends.result);
-    })) (sym c.self.view_is) stepped)
-
--- the world that was left is sound, since a step of a sound world led to it
-pub invariant_of-self-2 : goal.invariant_of-self-2
-invariant_of-self-2 c =
-    let lanes : signals_of (with_items (with_items c.self.inside.lanes c.make_room.new.lanes) c.relay.new.lanes).items ≡ after_sending (without_front (signals_of c.self.inside.lanes.items) c.route-route.result.to) c.route-route.result (sends_of c.take-sends.result) =
-    signals_written c.self.inside.lanes c.deref_mut.result.now c.make_room.new.lanes c.deref_mut-2.result.now c.relay.new.lanes
-    (λ (lanes : List (List Tagged)). after_sending (without_front lanes c.route-route.result.to) c.route-route.result (sends_of c.take-sends.result))
+    (λ (lanes : List (List Tagged)). all_sent c.self.inside.ways c.args.who (without_front lanes c.lane_to-lane.result) (sends_of c.take-sends.result))
     c.deref_mut.ensures.value c.make_room.auto.lanes c.make_room.ensures.same c.deref_mut-2.ensures.value c.relay.auto.lanes c.relay.ensures in
     let actor = box_read c.self.inside c.args.self.now c.args.who c.index_mut-actor.result.now c.self.view_is c.requires.here c.index_mut-actor.ensures.value in
     let goes : box_event (box_at c.args.self.now c.args.who) (Take c.args.local) (Some c.in-Some-front.signal) ≡ Some (record { sent = sends_of c.take-sends.result; after = c.take-sends.new.self }) =
     subst (λ (box : BoxState). box_event box (Take c.args.local) (Some c.in-Some-front.signal) ≡ Some (record { sent = sends_of c.take-sends.result; after = c.take-sends.new.self })) actor c.take-sends.ensures in
-    let leads : IsRoute c.args.self.now c.in-Some.slot c.route-route.result = record { to = c.route-route.ensures.to; from = c.route-route.ensures.from; tunnel = c.route-route.ensures.tunnel; there = c.route-route.ensures.from_there } in
-    let made = take_is c.args.self.now c.args.who c.args.local c.in-Some.slot c.in-Some-front.signal (record { sent = sends_of c.take-sends.result; after = c.take-sends.new.self })
-    c.route-route.result (sym c.number.ensures ∙ c.in-Some.is) (sym c.front.ensures ∙ c.in-Some-front.is) goes leads in
-    let stepped = subst (λ (lanes : List (List Tagged)). step_by c.args.self.now c.args.who (Take c.args.local)
-    ≡ Some (record (world_of c.self.inside) { boxes = set c.self.inside.boxes.items c.args.who c.take-sends.new.self; lanes = lanes })) (sym lanes)
-    (subst (λ (world : WorldState). step_by c.args.self.now c.args.who (Take c.args.local)
-    ≡ Some (record world {
-      boxes = set world.boxes c.args.who c.take-sends.new.self;
-      lanes = after_sending (without_front world.lanes c.route-route.result.to) c.route-route.result (sends_of c.take-sends.result);
-    })) (sym c.self.view_is) made) in
-    let kept = stays_sound c.args.self.now _ c.args.who (Take c.args.local) c.requires.sound (subst (λ (world : WorldState). LanesServed world) c.self.view_is c.self.invariant.served) c.requires.here stepped in
-    record {
-      places = c.self.invariant.places;
-      joints = c.self.invariant.joints;
-      few = c.self.invariant.few;
-      lanes = sym (length-map (with_items (with_items c.self.inside.lanes c.make_room.new.lanes) c.relay.new.lanes).items (λ (lane : Vec Tagged Global). lane.items)) ∙ kept.0.numbered.lanes;
-      sound = kept.0;
-      served = kept.1;
-    }
+    take_made c.self.inside c.args.self.now c.args.who c.args.local c.in-Some.slot c.lane_to-lane.result c.in-Some-front.signal (record { sent = sends_of c.take-sends.result; after = c.take-sends.new.self }) _
+    c.self.invariant c.self.view_is (sym c.number.ensures ∙ c.in-Some.is) (sym c.front.ensures ∙ c.in-Some-front.is) c.lane_to-lane.ensures goes lanes
+
+pub returns : goal.returns
+returns c = stepped c
+
+pub invariant_of-self-2 : goal.invariant_of-self-2
+invariant_of-self-2 c =
+    step_tables c.self.inside c.args.self.now c.args.who (Take c.args.local)
+    (with_item c.self.inside.boxes c.args.who c.take-sends.new.self) (with_items (with_items c.self.inside.lanes c.make_room.new.lanes) c.relay.new.lanes)
+    c.self.invariant c.self.view_is c.requires.here (stepped c)
