@@ -1,6 +1,6 @@
 -- One slot of one box among many is replaced, with its goal: what stays of each box, and of each slot.
 use Rattle.std.proofs.Common.{◌≡◌, ◌≢◌, ◌<◌, inl, inr, ℕ, List, length, refl, ap, sym, subst}
-use Rattle.std.proofs.Math.ListN.{get_or, set, length-set}
+use Rattle.std.proofs.Math.ListN.{get_or, set}
 use Rattle.std.proofs.lemmas.Bool.{cases_eq}
 use Rattle.std.proofs.lemmas.List.{get_or-set_same, get_or-set_other}
 use Rattle.mc_slot.specs.declared.Goal.TheVariants.{Close as ToClose}
@@ -13,21 +13,6 @@ use Rattle.mc_world.proofs.BoxSound.{own_put, sender_put, put}
 -- the boxes, with another slot and goal at one place
 abbrev pub put_at : List BoxState → ℕ → ℕ → Slot → SlotGoal → List BoxState
 put_at boxes who local slot goal = set boxes who (put (get_or boxes who no_box) local slot goal)
-
--- a box of the same number, as many slots and goals, and the same media
-pub record SameMake (new old : BoxState) : Type 0 where
-  pub number : new.number ≡ old.number
-  pub slots : length new.slots ≡ length old.slots
-  pub goals : length new.goals ≡ length old.goals
-  pub media : new.media ≡ old.media
-
-same_make : (new old : BoxState) → new ≡ old → SameMake new old
-same_make new old same = record {
-  number = ap (λ (b : BoxState). b.number) same;
-  slots = ap (λ (b : BoxState). length b.slots) same;
-  goals = ap (λ (b : BoxState). length b.goals) same;
-  media = ap (λ (b : BoxState). b.media) same;
-}
 
 -- one slot of two boxes is the same, with all that its turn reads
 pub record SameSlot (new old : BoxState) (local : ℕ) : Type 0 where
@@ -67,29 +52,12 @@ put_here box local slot goal whole inside = record {
   me = sender_put box.kind box (set box.slots local slot) (set box.goals local goal) (media_at box local) local;
 }
 
-put_make : (box : BoxState) (local : ℕ) (slot : Slot) (goal : SlotGoal) → SameMake (put box local slot goal) box
-put_make box local slot goal = record {
-  number = refl;
-  slots = length-set box.slots local slot;
-  goals = length-set box.goals local goal;
-  media = refl;
-}
-
 -- the box at the place
 pub box_there : (boxes : List BoxState) (who local : ℕ) (slot : Slot) (goal : SlotGoal) (v : ℕ) → who < length boxes → v ≡ who
     → get_or (put_at boxes who local slot goal) v no_box ≡ put (get_or boxes v no_box) local slot goal
 box_there boxes who local slot goal v inside same =
     subst (λ (u : ℕ). get_or (put_at boxes who local slot goal) u no_box ≡ put (get_or boxes u no_box) local slot goal) (sym same)
     (get_or-set_same boxes who (put (get_or boxes who no_box) local slot goal) no_box inside)
-
--- each box is made as before
-pub make_kept : (boxes : List BoxState) (who local : ℕ) (slot : Slot) (goal : SlotGoal) (v : ℕ) → who < length boxes
-    → SameMake (get_or (put_at boxes who local slot goal) v no_box) (get_or boxes v no_box)
-make_kept boxes who local slot goal v inside = elim (cases_eq v who) [
-  | inl same ↦
-      subst (λ (b : BoxState). SameMake b (get_or boxes v no_box)) (sym (box_there boxes who local slot goal v inside same)) (put_make (get_or boxes v no_box) local slot goal)
-  | inr other ↦ same_make (get_or (put_at boxes who local slot goal) v no_box) (get_or boxes v no_box) (get_or-set_other boxes who v (put (get_or boxes who no_box) local slot goal) no_box other)
-]
 
 -- the slot at the place is the new one
 pub slot_here : (boxes : List BoxState) (who local : ℕ) (slot : Slot) (goal : SlotGoal) → who < length boxes → IsBox (get_or boxes who no_box) → local < length (get_or boxes who no_box).slots

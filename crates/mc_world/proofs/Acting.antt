@@ -1,17 +1,12 @@
--- A slot acts: it takes its front or nothing, and then sends signals, its answer first.
-use Rattle.std.proofs.Common.{◌≡◌, Option, Some, List, ◌∷◌, ◌++◌, append_assoc, subst, arith}
+-- A slot that acts leaves its tunnel sound.
+use Rattle.std.proofs.Common.{List, ◌++◌, append_assoc, subst, arith}
 use Rattle.mc_signal.specs.declared.Signal.{Signal}
-use Rattle.mc_slot.specs.Moves.{answered, sent_all, taken}
+use Rattle.mc_slot.specs.Moves.{answered}
 use Rattle.mc_slot.specs.Tunnel.{TunnelSound}
 use Rattle.mc_slot.specs.declared.Slot.{Slot}
+use Rattle.mc_world.specs.Stepped.{Acted, sends, takes}
 use Rattle.mc_tunnel.proofs.Taking.{take_keeps}
 use Rattle.mc_tunnel.proofs.Sending.{sends_keep}
-
--- the slot and what is under way to it, what it sends, and the slot and what is still under way to it after that
-pub data Acted : Slot → List Signal → List Signal → Slot → List Signal → Type 0 where
-  sends : {a after : Slot} {to_a signals : List Signal} → sent_all a signals ≡ Some after → Acted a to_a signals after to_a
-  takes : {a after : Slot} {signal : Signal} {rest : List Signal} (middle : Slot) (signals : List Signal) (answer : Option Signal)
-      → taken a signal ≡ Some record { answer = answer; after = middle } → sent_all middle signals ≡ Some after → Acted a (signal ∷ rest) (answered answer ++ signals) after rest
 
 -- a tunnel one of whose slots acts stays sound
 pub act_keeps : (a : Slot) (to_a signals : List Signal) (after : Slot) (rest : List Signal) → Acted a to_a signals after rest
@@ -21,6 +16,11 @@ act_keeps a _ _ after rest (takes {signal = signal} middle signals answer goes s
     let one = take_keeps a signal rest b to_b answer middle sound goes in
     let two = sends_keep signals middle rest b (to_b ++ answered answer) after one sent in
     subst (λ (l : List Signal). TunnelSound after rest b l) (append_assoc to_b (answered answer) signals) two
+
+-- what comes to its list meanwhile makes no difference
+pub longer : (more : List Signal) (a : Slot) (to_a signals : List Signal) (after : Slot) (rest : List Signal) → Acted a to_a signals after rest → Acted a (to_a ++ more) signals after (rest ++ more)
+longer more a to_a signals after _ (sends goes) = sends goes
+longer more a _ _ after rest (takes middle signals answer goes sent) = takes middle signals answer goes sent
 
 -- the other side of a tunnel is sound too
 pub other_side : (a : Slot) (to_a : List Signal) (b : Slot) (to_b : List Signal) → TunnelSound a to_a b to_b → TunnelSound b to_b a to_a

@@ -15,7 +15,7 @@ use Rattle.mc_slot.specs.declared.Slot.{Slot}
 use Rattle.mc_slot.specs.declared.SlotGoal.{SlotGoal}
 use Rattle.mc_slot.specs.declared.SlotGoal.TheVariants.{End, Link}
 use Rattle.mc_slot.specs.declared.State.TheVariants.{Closed}
-use Rattle.mc_world.specs.Boxes.{BoxState, first_slot, first_goal, first_media, no_slot, slot_at, goal_at, media_at, own, own_of, sender, sender_of}
+use Rattle.mc_world.specs.Boxes.{BoxState, IsBox, first_slot, first_goal, first_media, no_slot, slot_at, goal_at, media_at, own, own_of, sender, sender_of}
 use Rattle.mc_world.specs.BoxSound.{IsSoundBox, RestsAt}
 use Rattle.mc_world.specs.declared.event.Kind.{Kind}
 use Rattle.mc_world.specs.declared.event.Kind.TheVariants.{Device, Feature}
@@ -103,16 +103,16 @@ put_kept box local slot sound here kept k (inl same) =
 put_kept box local slot sound here kept k (inr other) =
     subst (λ (s : Slot). Kept s) (sym (get_or-set_other box.slots local k slot no_slot other)) (sound.kept k)
 
-put_rests : (box : BoxState) (local : ℕ) (slot : Slot) (goal : Goal) → IsSoundBox box → local < length box.slots → IsAtRest goal slot (own box local) (sender box local)
-    → (k : ℕ) → (k ≡ local) ⊎ (k ≢ local) → RestsAt (goal_at (put box local slot (End goal)) k) (put box local slot (End goal)) k
-put_rests box local slot goal sound here rest k (inl same) =
+pub put_rests : (box : BoxState) (local : ℕ) (slot : Slot) (goal : Goal) → IsBox box → local < length box.slots → IsAtRest goal slot (own box local) (sender box local)
+    → (k : ℕ) → RestsAt (goal_at box k) box k → (k ≡ local) ⊎ (k ≢ local) → RestsAt (goal_at (put box local slot (End goal)) k) (put box local slot (End goal)) k
+put_rests box local slot goal whole here rest k old (inl same) =
     let new : BoxState = put box local slot (End goal) in
-    let goals : goal_at new k ≡ End goal = rw same (get_or-set_same box.goals local (End goal) (End ToClose) (rw sound.whole.goals here)) in
+    let goals : goal_at new k ≡ End goal = rw same (get_or-set_same box.goals local (End goal) (End ToClose) (rw whole.goals here)) in
     let slots : slot_at new k ≡ slot = rw same (get_or-set_same box.slots local slot no_slot here) in
     let mine : own new k ≡ own box local = rw same (own_put box.kind box (set box.slots local slot) (set box.goals local (End goal)) (media_at box local) local) in
     let me : sender new k ≡ sender box local = rw same (sender_put box.kind box (set box.slots local slot) (set box.goals local (End goal)) (media_at box local) local) in
     subst (λ (g : SlotGoal). RestsAt g new k) (sym goals) (rests_there goal new k slot (own box local) (sender box local) slots mine me rest)
-put_rests box local slot goal sound here rest k (inr other) =
+put_rests box local slot goal whole here rest k old (inr other) =
     let new : BoxState = put box local slot (End goal) in
     let goals : goal_at new k ≡ goal_at box k = get_or-set_other box.goals local k (End goal) (End ToClose) other in
     subst (λ (g : SlotGoal). RestsAt g new k) (sym goals)
@@ -120,7 +120,7 @@ put_rests box local slot goal sound here rest k (inr other) =
     (get_or-set_other box.slots local k slot no_slot other)
     (own_put box.kind box (set box.slots local slot) (set box.goals local (End goal)) (media_at box k) k)
     (sender_put box.kind box (set box.slots local slot) (set box.goals local (End goal)) (media_at box k) k)
-    (sound.rests k))
+    old)
 
 pub put_sound : (box : BoxState) (local : ℕ) (slot : Slot) (goal : Goal) → IsSoundBox box → local < length box.slots
     → Kept slot → IsAtRest goal slot (own box local) (sender box local) → IsSoundBox (put box local slot (End goal))
@@ -132,5 +132,5 @@ put_sound box local slot goal sound here kept rest = record {
   few = rw (length-set box.slots local slot) sound.few;
   address = sound.address;
   kept = λ k. put_kept box local slot sound here kept k (cases_eq k local);
-  rests = λ k. put_rests box local slot goal sound here rest k (cases_eq k local);
+  rests = λ k. put_rests box local slot goal sound.whole here rest k (sound.rests k) (cases_eq k local);
 }

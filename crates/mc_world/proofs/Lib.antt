@@ -1,6 +1,7 @@
 pub mod ActedBoxes
 pub mod ActedWorlds
 pub mod Acting
+pub mod BoxActs
 pub mod BoxSound
 pub mod BoxTurns
 pub mod CommandsGo
@@ -15,11 +16,15 @@ pub mod Lowers
 mod NewLanes
 pub mod NoPrograms
 pub mod Numbers
+pub mod Parts
 pub mod Rings
+pub mod SentOut
 pub mod ShapesKept
+pub mod StepActs
 pub mod StepForms
 pub mod StepGoes
 pub mod StepKeeps
+pub mod SteppedKeeps
 pub mod Sums
 mod Tables
 pub mod TakeForms

@@ -1,8 +1,9 @@
 -- The numbers of slots: the far slot of each, and the tunnel that the two share.
-use Rattle.std.proofs.Common.{◌≡◌, ◌≢◌, ◌<◌, ◌+◌, ◌*◌, ◌/◌, ◌%◌, ◌==◌, ◌&&◌, true, ℕ, Some, List, length, position, arith}
+use Rattle.std.proofs.Common.{◌≡◌, ◌≢◌, ◌<◌, ◌+◌, ◌*◌, ◌/◌, ◌%◌, ◌==◌, ◌&&◌, true, ℕ, Some, List, length, nat_lt, position, arith}
 use Rattle.std.proofs.Math.ListN.{get_or}
 use Rattle.std.proofs.lemmas.Grind.{common_steps}
 use Rattle.std.proofs.lemmas.List.Quantifiers.{position-Some}
+use Rattle.mc_world.specs.Boxes.{BoxState, is_slot}
 use Rattle.mc_world.specs.Worlds.{WorldState, far, is_place, number, place, places, slot_count}
 
 -- far slots are each other's
@@ -46,3 +47,12 @@ found_at places who local s is =
 -- a slot's number is found by its place
 pub number_is : (world : WorldState) (who local s : ℕ) → number world who local ≡ Some s → (s < slot_count world) × ((place world s).0 ≡ who) × ((place world s).1 ≡ local)
 number_is world who local s is = found_at (places world) who local s is
+
+-- ---- by their tests
+
+-- a local number of a box is below its slots' number
+pub slot_inside : (box : BoxState) (local : ℕ) → is_slot box local ≡ true → local < length box.slots
+slot_inside box local is = grind (arith, common_steps)
+
+pub box_inside : (world : WorldState) (who : ℕ) → nat_lt who (length world.boxes) ≡ true → who < length world.boxes
+box_inside world who is = grind (arith, common_steps)

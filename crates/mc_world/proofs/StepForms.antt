@@ -1,5 +1,5 @@
--- A step of a sound world is one slot that acts, or changes nothing.
-use Rattle.std.proofs.Common.{◌≡◌, ◌<◌, ◌++◌, ◌⊎◌, inl, inr, if◌then◌else◌, ℕ, Bool, true, false, Option, Some, None, List, [], ◌∷◌, map, length, drop, append_assoc, refl, ap, sym, ◌∙◌, subst}
+-- What today's events of a box do: one slot acts, or nothing changes.
+use Rattle.std.proofs.Common.{◌≡◌, ◌<◌, ◌++◌, ◌⊎◌, inl, inr, if◌then◌else◌, ℕ, Bool, true, false, Option, Some, None, List, [], ◌∷◌, map, length, append_assoc, refl, ap, sym, ◌∙◌, subst}
 use Rattle.std.specs.Option.{option_map, option_and_then, unwrap_or}
 use Rattle.std.proofs.Math.ListN.{get_or, set, length-set}
 use Rattle.std.proofs.lemmas.List.{append-nil, get_or-set_same, get_or-set_other, map-append, set-get_or, set-set}
@@ -17,18 +17,17 @@ use Rattle.mc_slot.specs.declared.Goal.TheVariants.{Close as ToClose}
 use Rattle.mc_slot.specs.declared.Slot.{Slot}
 use Rattle.mc_slot.specs.declared.SlotGoal.{SlotGoal}
 use Rattle.mc_slot.specs.declared.SlotGoal.TheVariants.{End, Link}
-use Rattle.mc_world.specs.BoxEvents.{BoxStep, answering, box_event, goal_turn, set_end_step, take_step}
-use Rattle.mc_world.specs.Boxes.{BoxState, IsBox, goal_at, is_slot, media_at, no_slot, own, sender, slot_at, with_goal, with_slot}
-use Rattle.mc_world.specs.Sound.{IsNumbered, IsSound, RestsBy}
-use Rattle.mc_world.specs.Steps.{made, popped, pushed, sent_out, step, take_at, with_box, with_lane}
-use Rattle.mc_world.specs.Worlds.{WorldState, box_at, far, for_tunnel, front, goal_of, joint_of, lane_of, lane_to, list_to, number, own_descriptor, own_sender, place, slot_count}
-use Rattle.mc_world.specs.declared.event.Event.TheVariants.{Take}
+use Rattle.mc_world.specs.BoxEvents.{BoxStep, answering, goal_turn, set_end_step, take_step}
+use Rattle.mc_world.specs.Boxes.{BoxState, IsBox, goal_at, media_at, no_slot, own, sender, slot_at, with_goal, with_slot}
+use Rattle.mc_world.specs.Sound.{IsNumbered, RestsBy}
+use Rattle.mc_world.specs.Stepped.{Acted, sends, takes}
+use Rattle.mc_world.specs.Steps.{made, pushed, sent_out, step, with_box, with_lane}
+use Rattle.mc_world.specs.Worlds.{WorldState, far, joint_of, lane_of, lane_to, number, slot_count}
 use Rattle.mc_tunnel.proofs.Steps.{took_kept}
 use Rattle.mc_turn.proofs.EndRests.{rests_kept}
-use Rattle.mc_world.proofs.ActedWorlds.{Acts, acted_world, far_inside}
-use Rattle.mc_world.proofs.Acting.{Acted, sends, takes}
+use Rattle.mc_world.proofs.ActedWorlds.{far_inside}
 use Rattle.mc_world.proofs.BoxSound.{own_put, sender_put, put}
-use Rattle.mc_world.proofs.LanesKept.{Fronts, front_next, far_lane, lane_in, tagged_for}
+use Rattle.mc_world.proofs.LanesKept.{far_lane, lane_in, tagged_for}
 
 -- ---- options
 
@@ -182,18 +181,7 @@ pub set_form : (box : BoxState) (local : ℕ) (goal : Goal) (step : BoxStep) (to
     → set_end_step box local goal ≡ Some step → (record { sent = []; after = box } ≡ step) ⊎ BoxForm box local step to_slot to_slot
 set_form box local goal step to_slot whole inside kept goes = set_by (is_same_goal (goal_at box local) (End goal)) box local goal step to_slot whole inside kept goes
 
--- ---- a world's step is its slot's
-
--- slot s, an end's, acts and rests, and the next world is the one after that
-pub record StepForm (world next : WorldState) : Type 0 where
-  pub s : ℕ
-  pub last : Slot
-  pub aim : Goal
-  pub left : List Tagged
-  pub signals : List Signal
-  pub is : next ≡ acted_world world s last (End aim) left signals
-  pub acts : Acts world s last left signals
-  pub rests : IsAtRest aim last (own_descriptor world s) (own_sender world s)
+-- ---- a world's step, where one slot acts
 
 -- what a box sends and is after that, in the world
 pub made_is : (world : WorldState) (who local s : ℕ) (left : List Tagged) (box : BoxState) (signals : List Signal) → IsNumbered world → s < slot_count world → number world who local ≡ Some s
@@ -211,52 +199,11 @@ made_is world who local s left box signals numbered inside is =
       lanes = set (set world.lanes (lane_of world s) left) (lane_of world (far s)) (lane ++ map (tagged_for (joint_of world (far s)).within) signals);
     }) (get_or-set_other world.lanes (lane_of world s) (lane_of world (far s)) left [] (λ same. far_lane world s (sym same)))
 
--- from the box's step to the world's
-form_of : (world next : WorldState) (s : ℕ) (left : List Tagged) (step : BoxStep) → IsNumbered world → s < slot_count world
-    → ((other : ℕ) → (other ≡ (joint_of world s).within → ⊥) → for_tunnel other left ≡ for_tunnel other (lane_to world s))
-    → (left ≡ lane_to world s) ⊎ (left ≡ drop 1 (lane_to world s))
-    → BoxForm (box_at world (place world s).0) (place world s).1 step (list_to world s) (for_tunnel (joint_of world s).within left)
-    → made (with_lane world (lane_of world s) left) (place world s).0 step ≡ next
-    → StepForm world next
-form_of world next s left step numbered inside others lane form goes = record {
-  s = s;
-  last = form.last;
-  aim = form.aim;
-  left = left;
-  signals = form.signals;
-  is = sym goes ∙ (ap (made (with_lane world (lane_of world s) left) (place world s).0) form.is
-      ∙ made_is world (place world s).0 (place world s).1 s left (put (box_at world (place world s).0) (place world s).1 form.last (End form.aim)) form.signals numbered inside (numbered.once s inside));
-  acts = record { inside = inside; acted = form.acted; others = others; lane = lane };
-  rests = form.rests;
-}
-
 -- each goal is an end's
 pub end_goal : (goal : SlotGoal) (world : WorldState) (s : ℕ) → RestsBy goal world s → (aim : Goal) × (goal ≡ End aim)
 end_goal (End aim) world s rests = (aim, refl)
 end_goal (Link partner) world s rests = absurd rests
 
--- a Take
-pub take_at_form : (world next : WorldState) (s : ℕ) → IsSound world → s < slot_count world → take_at world (place world s).0 (place world s).1 s ≡ Some next → StepForm world next
-take_at_form world next s sound inside goes =
-    let one = then_some (λ (signal : Signal). option_map (made (popped world s) (place world s).0) (box_event (box_at world (place world s).0) (Take (place world s).1) (Some signal))) (front world s) next goes in
-    let two = map_some (made (popped world s) (place world s).0) (box_event (box_at world (place world s).0) (Take (place world s).1) (Some one.0)) next one.2 in
-    let three = if_some (is_slot (box_at world (place world s).0) (place world s).1) (take_step (box_at world (place world s).0) (place world s).1 one.0) two.0 two.1 in
-    let aim = end_goal (goal_of world s) world s (sound.goals s inside) in
-    let fronts : Fronts (joint_of world s).within one.0 (lane_to world s) = front_next (joint_of world s).within one.0 (lane_to world s) one.1 in
-    let form = take_form (box_at world (place world s).0) (place world s).1 one.0 aim.0 two.0 (for_tunnel (joint_of world s).within (drop 1 (lane_to world s)))
-    (sound.numbered.slots s inside) (sound.tunnels s inside).first_kept aim.1 three.1 in
-    form_of world next s (drop 1 (lane_to world s)) two.0 sound.numbered inside fronts.others (inr refl)
-    (subst (λ (l : List Signal). BoxForm (box_at world (place world s).0) (place world s).1 two.0 l (for_tunnel (joint_of world s).within (drop 1 (lane_to world s)))) (sym fronts.next) form)
-    two.2
-
 -- a lane that is put back where it was
 pub lane_back : (world : WorldState) (lane : ℕ) → with_lane world lane (get_or world.lanes lane []) ≡ world
 lane_back world lane = ap (λ (lanes : List (List Tagged)). record world { lanes = lanes }) (set-get_or world.lanes lane [])
-
--- a step without a taking
-pub push_at_form : (world next : WorldState) (s : ℕ) (step : BoxStep) → IsNumbered world → s < slot_count world
-    → BoxForm (box_at world (place world s).0) (place world s).1 step (list_to world s) (list_to world s)
-    → made world (place world s).0 step ≡ next → StepForm world next
-push_at_form world next s step numbered inside form goes =
-    form_of world next s (lane_to world s) step numbered inside (λ other apart. refl) (inl refl) form
-    (ap (λ (w : WorldState). made w (place world s).0 step) (lane_back world (lane_of world s)) ∙ goes)

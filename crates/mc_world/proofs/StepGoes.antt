@@ -1,8 +1,7 @@
 -- In a sound world some slot can take its front as long as anything is under way.
-use Rattle.std.proofs.Common.{◌≡◌, ◌<◌, ◌++◌, ◌⊎◌, ◌*◌, inl, inr, nat_lt, ℕ, zero, suc, true, false, Option, Some, None, IsSome, List, [], ◌∷◌, map, drop, length, refl, ap, sym, ◌∙◌, subst, arith}
+use Rattle.std.proofs.Common.{◌≡◌, ◌<◌, ◌*◌, nat_lt, ℕ, zero, suc, true, false, Option, Some, None, IsSome, List, [], ◌∷◌, length, refl, ap, sym, ◌∙◌, subst, arith}
 use Rattle.std.specs.List.{list_all}
-use Rattle.std.proofs.Math.ListN.{get_or, set, replicate}
-use Rattle.std.proofs.lemmas.Bool.{cases_eq}
+use Rattle.std.proofs.Math.ListN.{get_or, replicate}
 use Rattle.std.proofs.lemmas.Grind.{common_steps}
 use Rattle.mc_signal.specs.declared.Signal.{Signal}
 use Rattle.mc_signal.specs.declared.Tagged.{Tagged}
@@ -12,20 +11,19 @@ use Rattle.mc_slot.specs.declared.Goal.{Goal}
 use Rattle.mc_slot.specs.declared.Slot.{Slot}
 use Rattle.mc_slot.specs.declared.SlotGoal.TheVariants.{End}
 use Rattle.mc_world.specs.BoxEvents.{BoxStep, box_event}
-use Rattle.mc_world.specs.Boxes.{BoxState}
-use Rattle.mc_world.specs.Served.{AllServed, IsFor, LanesServed}
+use Rattle.mc_world.specs.Served.{AllServed, IsFor}
 use Rattle.mc_world.specs.Settles.{is_empty}
 use Rattle.mc_world.specs.Sound.{IsSound}
 use Rattle.mc_world.specs.StepLaws.{FirstIsServed, FrontStepGoes, StepKeepsServed, UnderWayGoes, take_of}
 use Rattle.mc_world.specs.Steps.{step}
-use Rattle.mc_world.specs.Worlds.{WorldState, box_at, far, first_world, front, front_for, goal_of, joint_of, lane_of, lane_to, number, own_descriptor, own_sender, place, slot_count, slot_of}
+use Rattle.mc_world.specs.Worlds.{WorldState, box_at, first_world, front, front_for, goal_of, joint_of, number, own_descriptor, own_sender, place, slot_count, slot_of}
 use Rattle.mc_world.specs.declared.event.Event.TheVariants.{Take}
 use Rattle.mc_tunnel.proofs.Steps.{took_kept}
-use Rattle.mc_world.proofs.ActedWorlds.{acted_world, far_inside}
 use Rattle.mc_world.proofs.BoxTurns.{take_made}
-use Rattle.mc_world.proofs.LanesKept.{changed_first, changed_other, changed_second, far_lane, lane_in, tagged_for}
-use Rattle.mc_world.proofs.StepForms.{StepForm, end_goal}
-use Rattle.mc_world.proofs.StepKeeps.{front_is_taken, step_form}
+use Rattle.mc_world.proofs.StepActs.{step_acts}
+use Rattle.mc_world.proofs.StepForms.{end_goal}
+use Rattle.mc_world.proofs.StepKeeps.{front_is_taken}
+use Rattle.mc_world.proofs.SteppedKeeps.{served_stays}
 use Rattle.mc_world.proofs.TurnGoes.{turn_goes}
 
 -- ---- a front is taken
@@ -63,68 +61,8 @@ front_step_goes world s signal sound inside fronts =
 
 -- ---- each signal stays on the lane of its slot
 
--- other boxes and lanes don't matter
-served_put : (world : WorldState) (boxes : List BoxState) (lanes : List (List Tagged)) (lane : ℕ) (signals : List Tagged)
-    → AllServed world lane signals → AllServed (record world { boxes = boxes; lanes = lanes }) lane signals
-served_put world boxes lanes lane [] served = tt
-served_put world boxes lanes lane (tagged ∷ rest) served =
-    ((served.0.0, record { inside = served.0.1.inside; leads = served.0.1.leads; within = served.0.1.within }), served_put world boxes lanes lane rest served.1)
-
-served_append : (world : WorldState) (lane : ℕ) (first second : List Tagged) → AllServed world lane first → AllServed world lane second → AllServed world lane (first ++ second)
-served_append world lane [] second one two = two
-served_append world lane (tagged ∷ first) second one two = (one.0, served_append world lane first second one.1 two)
-
-served_drop : (world : WorldState) (lane : ℕ) (signals : List Tagged) → AllServed world lane signals → AllServed world lane (drop 1 signals)
-served_drop world lane [] served = tt
-served_drop world lane (tagged ∷ rest) served = served.1
-
--- what is sent to a slot goes to its lane
-served_sent : (world : WorldState) (s : ℕ) (signals : List Signal) → s < slot_count world → AllServed world (lane_of world s) (map (tagged_for (joint_of world s).within) signals)
-served_sent world s [] inside = tt
-served_sent world s (signal ∷ signals) inside = ((s, record { inside = inside; leads = refl; within = refl }), served_sent world s signals inside)
-
-served_left : (world : WorldState) (s : ℕ) (left : List Tagged) → LanesServed world → (left ≡ lane_to world s) ⊎ (left ≡ drop 1 (lane_to world s)) → AllServed world (lane_of world s) left
-served_left world s left served (inl same) = subst (λ (l : List Tagged). AllServed world (lane_of world s) l) (sym same) (served (lane_of world s))
-served_left world s left served (inr shorter) = subst (λ (l : List Tagged). AllServed world (lane_of world s) l) (sym shorter) (served_drop world (lane_of world s) (lane_to world s) (served (lane_of world s)))
-
--- the lanes of the world after, in the world before
-served_lanes : (world : WorldState) (s : ℕ) (left more : List Tagged) → s < slot_count world → length world.lanes ≡ 2 * length world.channels → LanesServed world
-    → AllServed world (lane_of world s) left → AllServed world (lane_of world (far s)) more
-    → (lane : ℕ) → AllServed world lane (get_or (set (set world.lanes (lane_of world s) left) (lane_of world (far s)) more) lane [])
-served_lanes world s left more inside count served one two lane =
-    let near : lane_of world s < length world.lanes = subst (λ (n : ℕ). lane_of world s < n) (sym count) (lane_in world s inside) in
-    let away : lane_of world (far s) < length world.lanes = subst (λ (n : ℕ). lane_of world (far s) < n) (sym count) (lane_in world (far s) (far_inside world s inside)) in
-    elim (cases_eq lane (lane_of world (far s))) [
-      | inl same ↦
-          subst (λ (k : ℕ). AllServed world k (get_or (set (set world.lanes (lane_of world s) left) (lane_of world (far s)) more) k [])) (sym same)
-          (subst (λ (l : List Tagged). AllServed world (lane_of world (far s)) l) (sym (changed_second world.lanes (lane_of world s) (lane_of world (far s)) left more away)) two)
-      | inr other ↦ elim (cases_eq lane (lane_of world s)) [
-        | inl same ↦
-            subst (λ (k : ℕ). AllServed world k (get_or (set (set world.lanes (lane_of world s) left) (lane_of world (far s)) more) k [])) (sym same)
-            (subst (λ (l : List Tagged). AllServed world (lane_of world s) l) (sym (changed_first world.lanes (lane_of world s) (lane_of world (far s)) left more (far_lane world s) near)) one)
-        | inr apart ↦
-            subst (λ (l : List Tagged). AllServed world lane l) (sym (changed_other world.lanes (lane_of world s) (lane_of world (far s)) lane left more apart other)) (served lane)
-      ]
-    ]
-
-form_served : (world next : WorldState) → IsSound world → LanesServed world → StepForm world next → LanesServed next
-form_served world next sound served form =
-    let after : WorldState = acted_world world form.s form.last (End form.aim) form.left form.signals in
-    let more : List Tagged = lane_to world (far form.s) ++ map (tagged_for (joint_of world (far form.s)).within) form.signals in
-    let away : far form.s < slot_count world = far_inside world form.s form.acts.inside in
-    subst (λ (w : WorldState). LanesServed w) (sym form.is)
-    (λ lane. served_put world after.boxes after.lanes lane (get_or after.lanes lane [])
-    (served_lanes world form.s form.left more form.acts.inside sound.numbered.lanes served
-    (served_left world form.s form.left served form.acts.lane)
-    (served_append world (lane_of world (far form.s)) (lane_to world (far form.s)) (map (tagged_for (joint_of world (far form.s)).within) form.signals)
-    (served (lane_of world (far form.s))) (served_sent world (far form.s) form.signals away))
-    lane))
-
 pub step_keeps_served : StepKeepsServed
-step_keeps_served world next turn sound served goes = elim (step_form world next turn sound goes) [
-  | inl same ↦ subst (λ (w : WorldState). LanesServed w) (sym same) served
-  | inr form ↦ form_served world next sound served form
-]
+step_keeps_served world next turn sound served goes = served_stays world next turn.who (step_acts world next turn sound goes) served
 
 pub none_under_way : (n lane : ℕ) → get_or (replicate n (let nothing : List Tagged = [] in nothing)) lane [] ≡ []
 none_under_way zero lane = refl

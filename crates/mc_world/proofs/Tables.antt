@@ -9,7 +9,7 @@ use Rattle.mc_signal.specs.declared.Tagged.{Tagged}
 use Rattle.mc_world.specs.Boxes.{BoxState, no_box}
 use Rattle.mc_world.specs.Settles.{is_empty}
 use Rattle.mc_world.specs.Tables.{HasTables, channel_of, world_of}
-use Rattle.mc_world.specs.Worlds.{WorldState, box_at, joint_of, joints_from, lane_of, slot_count}
+use Rattle.mc_world.specs.Worlds.{WorldState, box_at, joint_of, joints_from, slot_count}
 use Rattle.mc_world.specs.declared.network.World.TheInside.{Inside}
 use Rattle.mc_world.proofs.JointTables.{in_table, slot_has_channel, tunnel_is_there}
 
@@ -29,11 +29,6 @@ pub channel_below : (inside : Inside) (s : ℕ) → s < slot_count (world_of ins
 channel_below inside s below = slot_has_channel inside.channels.items s below
 
 -- ---- the lane to a slot
-
-pub lane_below : (inside : Inside) (s : ℕ) → HasTables inside → s < slot_count (world_of inside) → lane_of (world_of inside) s < length inside.lanes.items
-lane_below inside s has below =
-    let there = channel_below inside s below in
-    rw has.lanes (omega arith)
 
 -- which of the two lanes of its channel it is
 pub side_lane : (s : ℕ) (even : Bool) → (IsTrue even ↔ (s % 2 ≡ 0)) → (if even then 0 else 1) ≡ s % 2

@@ -14,6 +14,7 @@ pub mod Setups
 pub mod Sound
 pub mod StepAnswers
 pub mod StepLaws
+pub mod Stepped
 pub mod Steps
 pub mod Tables
 pub mod TwoPhones

@@ -10,11 +10,16 @@ use Rattle.mc_world.specs.Served.{LanesServed}
 use Rattle.mc_world.specs.Settles.{is_quiet}
 use Rattle.mc_world.specs.Setups.{world_of_devices}
 use Rattle.mc_world.specs.Sound.{IsNumbered, IsSound}
+use Rattle.mc_world.specs.Stepped.{Stepped}
 use Rattle.mc_world.specs.Steps.{run, step}
 use Rattle.mc_world.specs.TwoPhones.{JoinsTwo}
 use Rattle.mc_world.specs.Worlds.{ChannelState, WorldState, first_world, front, place, slot_count, slot_of}
 use Rattle.mc_world.specs.declared.event.Event.TheVariants.{Take}
 use Rattle.mc_world.specs.declared.event.Turn.{Turn}
+
+-- each enabled turn of a sound world is what the slots of its box do
+abbrev pub StepActs : Type 0
+StepActs = (world next : WorldState) (turn : Turn) → IsSound world → step world turn ≡ Some next → Stepped world next turn.who
 
 -- each enabled turn of a sound world leads to a sound world
 abbrev pub StepKeepsSound : Type 0

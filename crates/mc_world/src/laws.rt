@@ -3,7 +3,8 @@
 ghost use Rattle.mc_world.specs.Exchanges.{WorkedExchanges};
 ghost use Rattle.mc_world.specs.Measures.{TakeLowers, TakesEnd, MeasureBound};
 ghost use Rattle.mc_world.specs.Shapes.{StepKeepsShape, RunKeepsShape, CommandGoes, RetryGoes};
-ghost use Rattle.mc_world.specs.StepLaws.{StepKeepsSound, RunKeepsSound, FrontIsTaken, FrontStepGoes, StepKeepsServed, FirstIsServed, UnderWayGoes, RunKeepsServed, FirstIsSound, TwoPhonesStaySound};
+ghost use Rattle.mc_world.specs.StepLaws.{StepActs, StepKeepsSound, RunKeepsSound, FrontIsTaken, FrontStepGoes, StepKeepsServed, FirstIsServed, UnderWayGoes, RunKeepsServed, FirstIsSound, TwoPhonesStaySound};
+ghost use Rattle.mc_world.specs.Stepped.{SteppedStays};
 ghost use Rattle.mc_world.specs.TwoPhones.{TwoPhonesAreIdle};
 
 /// The definitions give the worked exchanges of two phones what a telephony engineer expects of them.
@@ -15,6 +16,18 @@ pub fn worked_exchanges()
 /// leaves it as it is: one path, closed, as its two end goals say.
 pub fn two_phones_are_idle()
     ensures { TwoPhonesAreIdle }
+{}
+
+/// A turn of a sound world is what the slots of its box do: each takes its front or nothing and sends, and what it
+/// sends is under way to the slot at the other end of its tunnel. No other box does anything.
+pub fn step_acts()
+    ensures { StepActs }
+{}
+
+/// Whatever a box does by whichever of its slots, as long as each of them takes lawfully and sends what it may: the
+/// tunnels stay sound, all stays numbered, and each signal under way is for a slot of its lane.
+pub fn stepped_stays()
+    ensures { SteppedStays }
 {}
 
 /// A turn of a sound world leads to a sound world, whatever its boxes and channels.

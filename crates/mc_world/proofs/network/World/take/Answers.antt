@@ -11,9 +11,11 @@ use Rattle.mc_world.specs.Tables.{world_of}
 use Rattle.mc_world.specs.Worlds.{box_at, number}
 use Rattle.mc_world.specs.declared.event.Event.TheVariants.{Take}
 use Rattle.mc_world.proofs.LaneChanges.{Lane, length_kept, room_kept, signals_kept, signals_written}
+use Rattle.mc_world.proofs.Numbers.{number_is}
+use Rattle.mc_world.proofs.StepKeeps.{front_is_taken}
 use Rattle.mc_world.proofs.Tables.{box_read}
 use Rattle.mc_world.proofs.WayLanes.{tables_laid}
-use Rattle.mc_world.proofs.WorldSteps.{front_lawful, number_below, number_inside, number_slot, step_tables, take_enabled, take_made}
+use Rattle.mc_world.proofs.WorldSteps.{number_inside, number_slot, step_tables, take_enabled, take_made}
 use Rattle.mc_world.proofs.network.World.take.Goals as goal
 
 pub make_room-requires : goal.make_room-requires
@@ -39,7 +41,7 @@ take-sends-requires-clause-lawful c =
     let actor = box_read c.self.inside c.args.self.now c.args.who c.index_mut-actor.result.now c.self.view_is c.requires.here c.index_mut-actor.ensures.value in
     let is : number c.args.self.now c.args.who c.args.local ≡ Some c.in-Some.slot = sym c.number.ensures ∙ c.in-Some.is in
     rw (actor, ← number_slot c.args.self.now c.args.who c.args.local c.in-Some.slot is)
-    (front_lawful c.args.self.now c.in-Some.slot c.in-Some-front.signal c.requires.sound (number_below c.args.self.now c.args.who c.args.local c.in-Some.slot is)
+    (front_is_taken c.args.self.now c.in-Some.slot c.in-Some-front.signal c.requires.sound ((number_is c.args.self.now c.args.who c.args.local c.in-Some.slot is).0)
     (sym c.front.ensures ∙ c.in-Some-front.is))
 
 pub relay-requires-clause-laid : goal.relay-requires-clause-laid
