@@ -26,13 +26,14 @@ use Rattle.mc_world.proofs.WayLanes.{sent_out_by}
 
 -- ---- slots and their numbers
 
--- so it is a slot of its box
+-- a number is of a slot that its box has
 pub number_inside : (world : WorldState) (who local s : ℕ) → IsNumbered world → number world who local ≡ Some s → local < length (box_at world who).slots
 number_inside world who local s numbered is =
     let found = number_is world who local s is in
     let inside = numbered.slots s found.0 in
     rw (found.1, found.2) at inside
 
+-- and of that very slot
 pub number_slot : (world : WorldState) (who local s : ℕ) → number world who local ≡ Some s → slot_of world s ≡ slot_at (box_at world who) local
 number_slot world who local s is =
     let found = number_is world who local s is in
@@ -55,7 +56,7 @@ if_there : {A : Type 0} (test : Bool) (o : Option A) → IsSome (if test then o 
 if_there true o some = some
 if_there false o some = absurd (cc)
 
--- and it can
+-- which it can where the front is for it
 pub take_enabled : (world : WorldState) (who local s : ℕ) (signal : Signal) → IsSound world → number world who local ≡ Some s → front world s ≡ Some signal
     → IsSome (step_by world who (Take local))
 take_enabled world who local s signal sound is first =
