@@ -1,10 +1,11 @@
 // A box: its slots, and the goal of each.
 
-ghost use Rattle.std.specs.Prelude.{◌≡◌, ◌+◌, ◌*◌, ◌^◌, ◌<◌, ◌≤◌, length, is_err, IfOk, IsFalse, IsSome, IsTrue, OnErr, OnOk, Some};
+ghost use Rattle.std.specs.Prelude.{◌≡◌, ◌+◌, ◌*◌, ◌^◌, ◌<◌, ◌≤◌, length, is_err, IfOk, IsFalse, IsSome, IsTrue, None, OnErr, OnOk, Some};
 ghost use Rattle.mc_signal.specs.Own.{address_of};
 ghost use Rattle.mc_slot.specs.Moves.{taken};
 ghost use Rattle.mc_slot.specs.Sending.{sends_of};
 ghost use Rattle.mc_box.specs.BoxEvents.{box_event, is_enabled, is_take, is_version_end, may_link, Appends};
+ghost use Rattle.mc_box.specs.BoxSound.{IsSoundBox};
 ghost use Rattle.mc_box.specs.Boxes.{first_box, goal_at, is_slot, owes_at, own, sender, slot_at};
 
 use crate::event::{Change, Event, Kind, MediaChange};
@@ -51,6 +52,14 @@ impl MediaBox {
         })
     }
 
+    /// What every box keeps, for a caller to rest on: its links are mutual, each slot keeps what its state allows, and
+    /// each goal is at rest.
+    pub fn keeps(&self)
+        ensures { IsSoundBox self.now }
+    {
+        let _ = &self.parts;
+    }
+
     /// What the box is.
     pub fn kind(&self) -> Kind
         ensures { result ≡ self.now.kind }
@@ -95,6 +104,20 @@ impl MediaBox {
         ensures { result ≡ sender self.now local }
     {
         self.parts.sender(local)
+    }
+
+    /// The state that the box's program is at. No box has a program yet, so that it is at none.
+    pub fn at(&self) -> Option<u32>
+        ensures { result ≡ None }
+    {
+        None
+    }
+
+    /// The word that the box was told and its program hasn't used. No box has a program yet, so that it keeps none.
+    pub fn told(&self) -> Option<u8>
+        ensures { result ≡ None }
+    {
+        None
     }
 
     /// Whether an event can happen now. A Take also needs a lawful signal that comes to its slot, and a Hear a

@@ -1,5 +1,5 @@
 // A queue with reserved room.
-ghost use Rattle.std.specs.Prelude.{◌≡◌, ◌+◌, ◌<◌, ◌≤◌, [], ◌∷◌, ◌++◌, length, slice_get, IfNone, IsOk, MatchOption, OnErr, OnOk};
+ghost use Rattle.std.specs.Prelude.{◌≡◌, ◌==◌, ◌+◌, ◌<◌, ◌≤◌, [], ◌∷◌, ◌++◌, length, slice_get, IfNone, IsOk, MatchOption, OnErr, OnOk};
 
 use std::alloc::{AllocError, Global};
 use std::collections::VecDeque;
@@ -7,7 +7,7 @@ use std::marker::Model;
 
 /// A queue of items, and room for more of them that was asked for beforehand. Memory is taken where room is asked
 /// for, and nowhere else: so what has room for all that it is about to push can't fail half way.
-#[derive(Drop)]
+#[derive(Debug, Drop)]
 pub struct Lane<T: Copy> {
     // A ring, so that a pop moves a number and no item, and what it frees is room again.
     queue: VecDeque<T>,
@@ -91,5 +91,12 @@ impl<T: Copy> Lane<T> {
         ensures { Some result ≡ slice_get self.now.items i }
     {
         self.queue[i]
+    }
+
+    /// Whether there are none.
+    pub fn is_empty(&self) -> bool
+        ensures { result ≡ (length self.now.items == 0) }
+    {
+        self.queue.is_empty()
     }
 }

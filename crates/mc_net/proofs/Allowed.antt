@@ -11,10 +11,10 @@ use Rattle.mc_text.specs.NameLists.{NameLists, slots_of}
 use Rattle.mc_world.specs.Setups.{world_of_devices}
 use Rattle.mc_world.specs.Shapes.{is_allowed}
 use Rattle.mc_world.specs.Worlds.{ChannelState, WorldState, box_at}
-use Rattle.mc_world.specs.declared.event.Change.TheVariants.{End as NewEnd, Link as NewLink}
-use Rattle.mc_world.specs.declared.event.Event.{Event}
-use Rattle.mc_world.specs.declared.event.Event.TheVariants.{Set, Take, Media, Tell, Retry, Shift}
-use Rattle.mc_world.specs.declared.event.Turn.{Turn}
+use Rattle.mc_box.specs.declared.event.Change.TheVariants.{End as NewEnd, Link as NewLink}
+use Rattle.mc_box.specs.declared.event.Event.{Event}
+use Rattle.mc_box.specs.declared.event.Event.TheVariants.{Set, Take, Media, Tell, Retry, Shift}
+use Rattle.mc_box.specs.declared.event.Turn.{Turn}
 use Rattle.mc_script.specs.declared.command.Command.{Command}
 use Rattle.mc_script.specs.declared.command.Command.TheVariants.{Stimulus, Settle}
 use Rattle.mc_net.specs.Nets.{AreAllowed, DeclaresNet, IsFirstWorld, JoinsPair, NamesAll, batches_of, before_next, first_channel, turns_of}

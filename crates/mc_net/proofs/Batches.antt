@@ -1,6 +1,6 @@
 -- Batches of the commands that are left.
 use Rattle.std.proofs.Common.{◌≡◌, List, [], ◌∷◌, ◌++◌, refl, append_assoc}
-use Rattle.mc_world.specs.declared.event.Turn.{Turn}
+use Rattle.mc_box.specs.declared.event.Turn.{Turn}
 use Rattle.mc_net.specs.Nets.{before_next}
 
 -- turns before those of the next batch, where there is one

@@ -3,7 +3,7 @@ use Rattle.std.proofs.Common.{◌≡◌, ℕ, zero, suc, true, ◌+◌, ◌-◌,
 use Rattle.std.proofs.lemmas.Grind.{common_steps}
 use Rattle.std.specs.List.{slice_get}
 use Rattle.mc_text.specs.NameLists.{NameLists}
-use Rattle.mc_world.specs.BoxShapes.{BoxShapeState, shape_of}
+use Rattle.mc_box.specs.BoxShapes.{BoxShapeState, shape_of}
 use Rattle.mc_script.specs.Places.{Fits}
 use Rattle.mc_net.specs.Meaning.{with_program}
 use Rattle.mc_net.specs.Forms.{IsOpenIn}

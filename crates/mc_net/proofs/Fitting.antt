@@ -2,8 +2,8 @@
 use Rattle.std.proofs.Common.{◌≡◌, ◌⊎◌, inl, inr, ℕ, ◌<◌, List, [], ◌∷◌, ◌++◌, length, refl, arith}
 use Rattle.std.proofs.lemmas.Grind.{common_steps}
 use Rattle.mc_text.specs.NameLists.{NameLists, slots_of, with_box}
-use Rattle.mc_world.specs.BoxShapes.{BoxShapeState, shape_of}
-use Rattle.mc_world.specs.declared.event.Kind.{Kind}
+use Rattle.mc_box.specs.BoxShapes.{BoxShapeState, shape_of}
+use Rattle.mc_box.specs.declared.event.Kind.{Kind}
 use Rattle.mc_script.specs.Places.{Fits}
 use Rattle.mc_net.specs.Meaning.{new_shape}
 

@@ -7,6 +7,7 @@ pub mod Faults
 pub mod FirstBroken
 pub mod FirstBytes
 pub mod Fitting
+pub mod LinkFree
 pub mod Missing
 pub mod Named
 pub mod Reading

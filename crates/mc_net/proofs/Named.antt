@@ -7,12 +7,12 @@ use Rattle.std.specs.Option.{is_none, option_and_then, option_map, unwrap_or}
 use Rattle.std.specs.Str.{bytes_eq}
 use Rattle.mc_slot.specs.declared.Goal.{Goal}
 use Rattle.mc_text.specs.NameLists.{NameLists, no_names, place_of, slots_of, with_box, with_codec, with_slot}
-use Rattle.mc_world.specs.BoxShapes.{BoxShapeState, is_device, is_feature, no_shape, shape_of}
-use Rattle.mc_world.specs.declared.event.Change.TheVariants.{End as NewEnd, Link as NewLink}
-use Rattle.mc_world.specs.declared.event.Event.{Event}
-use Rattle.mc_world.specs.declared.event.Event.TheVariants.{Set}
-use Rattle.mc_world.specs.declared.event.Kind.{Kind}
-use Rattle.mc_world.specs.declared.event.Kind.TheVariants.{Device, Feature}
+use Rattle.mc_box.specs.BoxShapes.{BoxShapeState, is_device, is_feature, no_shape, shape_of}
+use Rattle.mc_box.specs.declared.event.Change.TheVariants.{End as NewEnd, Link as NewLink}
+use Rattle.mc_box.specs.declared.event.Event.{Event}
+use Rattle.mc_box.specs.declared.event.Event.TheVariants.{Set}
+use Rattle.mc_box.specs.declared.event.Kind.{Kind}
+use Rattle.mc_box.specs.declared.event.Kind.TheVariants.{Device, Feature}
 use Rattle.mc_script.specs.Meaning.{at_slot, command_by}
 use Rattle.mc_script.specs.Places.{box_at, meant, slot_at}
 use Rattle.mc_script.specs.Printed.{IsSlot}

@@ -10,9 +10,9 @@ use Rattle.std.specs.Option.{is_some, option_and_then, unwrap_or}
 use Rattle.mc_signal.specs.declared.Medium.{Medium}
 use Rattle.mc_text.specs.Lines.{lines, words}
 use Rattle.mc_text.specs.NameLists.{NameLists, slots_of, with_box, with_codec, with_slot}
-use Rattle.mc_world.specs.BoxShapes.{BoxShapeState, is_device, no_shape}
+use Rattle.mc_box.specs.BoxShapes.{BoxShapeState, is_device, no_shape}
 use Rattle.mc_world.specs.Worlds.{ChannelState}
-use Rattle.mc_world.specs.declared.event.Kind.TheVariants.{Device}
+use Rattle.mc_box.specs.declared.event.Kind.TheVariants.{Device}
 use Rattle.mc_script.specs.Meaning.{command_by}
 use Rattle.mc_script.specs.Places.{are_same, box_at, is_misspelt, meant}
 use Rattle.mc_script.specs.Rules.{byte_rules, has_no_program, is_no_feature, is_plain, least_broken}

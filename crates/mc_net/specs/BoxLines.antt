@@ -2,7 +2,7 @@
 use Rattle.std.specs.Prelude.{◌<◌, IsTrue, length}
 use Rattle.mc_signal.specs.Choice.{codecs_of}
 use Rattle.mc_text.specs.Spelling.{is_name}
-use Rattle.mc_world.specs.declared.event.Kind.TheVariants.{Device}
+use Rattle.mc_box.specs.declared.event.Kind.TheVariants.{Device}
 use Rattle.mc_net.specs.Meaning.{joined, with_new_box}
 use Rattle.mc_net.specs.SoFar.{Declared}
 use Rattle.mc_net.specs.SoFar as so_far

@@ -6,12 +6,12 @@ use Rattle.mc_signal.specs.declared.Medium.{Medium}
 use Rattle.mc_signal.specs.declared.Medium.TheVariants.{Audio}
 use Rattle.mc_signal.specs.declared.codec_list.CodecList.{CodecList}
 use Rattle.mc_text.specs.NameLists.{NameLists, slots_of}
-use Rattle.mc_world.specs.Boxes.{BoxState, first_box}
+use Rattle.mc_box.specs.Boxes.{BoxState, first_box}
 use Rattle.mc_world.specs.Setups.{world_of_devices}
 use Rattle.mc_world.specs.Shapes.{is_allowed}
 use Rattle.mc_world.specs.Worlds.{ChannelState, WorldState, box_at}
-use Rattle.mc_world.specs.declared.event.Kind.TheVariants.{Device}
-use Rattle.mc_world.specs.declared.event.Turn.{Turn}
+use Rattle.mc_box.specs.declared.event.Kind.TheVariants.{Device}
+use Rattle.mc_box.specs.declared.event.Turn.{Turn}
 use Rattle.mc_script.specs.declared.command.Batch.{Batch}
 use Rattle.mc_script.specs.declared.command.Command.{Command}
 use Rattle.mc_script.specs.declared.command.Command.TheVariants.{Stimulus, Settle}
@@ -53,12 +53,6 @@ JoinsPair channels = (medium : Medium) × ((channels ≡ first_channel medium 0 
 abbrev pub one_device : Medium → ℕ → Bool → CodecList → BoxState
 one_device medium who initiator codecs =
     first_box Device who codecs codecs 1 (record { origin = if initiator then 0 else 1; medium = medium; initiator = initiator } ∷ [])
-
-abbrev pub no_channel : ChannelState
-no_channel = first_channel Audio 0 0
-
-abbrev pub head_of : List ChannelState → ChannelState
-head_of channels = slice_index_or channels 0 no_channel
 
 -- the medium of a channel's first tunnel
 abbrev pub medium_of : ChannelState → Medium

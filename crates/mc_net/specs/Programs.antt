@@ -10,7 +10,7 @@ use Rattle.mc_slot.specs.declared.State.{State}
 use Rattle.mc_slot.specs.declared.State.TheVariants.{Closed, Opening, Opened, Flowing, Closing}
 use Rattle.mc_text.specs.NameLists.{NameLists, place_of, slots_of, with_told}
 use Rattle.mc_text.specs.Spelling.{is_name, is_spelt}
-use Rattle.mc_world.specs.BoxShapes.{BoxShapeState, shape_of}
+use Rattle.mc_box.specs.BoxShapes.{BoxShapeState, shape_of}
 use Rattle.mc_script.specs.Places.{are_same, box_at, is_misspelt, is_no, is_overlong, lacks, meant, slot_at}
 use Rattle.mc_script.specs.Rules.{differ_in_medium, goal_of, is_no_feature, least_broken}
 use Rattle.mc_net.specs.WordLists.{has_repeat}

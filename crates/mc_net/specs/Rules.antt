@@ -8,7 +8,7 @@ use Rattle.mc_signal.specs.declared.Medium.TheVariants.{Audio, Video}
 use Rattle.mc_text.specs.Lines.{words}
 use Rattle.mc_text.specs.NameLists.{NameLists, place_of, slots_of}
 use Rattle.mc_text.specs.Spelling.{is_digit, number_of}
-use Rattle.mc_world.specs.BoxShapes.{BoxShapeState}
+use Rattle.mc_box.specs.BoxShapes.{BoxShapeState}
 use Rattle.mc_script.specs.Places.{are_same, box_at, has, is_misspelt, is_no, is_overlong, lacks}
 use Rattle.mc_script.specs.Rules.{byte_rules, kind_rules, least_broken}
 use Rattle.mc_script.specs.declared.keyword.CommandWord.{CommandWord}

@@ -1,7 +1,7 @@
 -- What the lines of a text so far have declared.
 use Rattle.std.specs.Prelude.{ℕ, Bool, false, List, [], Option, None}
 use Rattle.mc_text.specs.NameLists.{NameLists, no_names}
-use Rattle.mc_world.specs.BoxShapes.{BoxShapeState}
+use Rattle.mc_box.specs.BoxShapes.{BoxShapeState}
 use Rattle.mc_world.specs.Worlds.{ChannelState}
 use Rattle.mc_script.specs.declared.command.Command.{Command}
 use Rattle.mc_net.specs.Programs.{BlockState}

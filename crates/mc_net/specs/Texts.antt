@@ -3,7 +3,7 @@ use Rattle.std.specs.Prelude.{ℕ, zero, suc, ◌≡◌, ◌+◌, ◌<◌, ◌==
 use Rattle.std.specs.List.{slice_get}
 use Rattle.std.specs.Option.{is_some, option_and_then, option_map, unwrap_or}
 use Rattle.mc_text.specs.Lines.{lines, words}
-use Rattle.mc_world.specs.BoxShapes.{is_device}
+use Rattle.mc_box.specs.BoxShapes.{is_device}
 use Rattle.mc_net.specs.Meaning.{line_after}
 use Rattle.mc_net.specs.Rules.{end_fault, gives_version, is_skipped, keyword_of, line_fault}
 use Rattle.mc_net.specs.SoFar.{Declared, nothing}

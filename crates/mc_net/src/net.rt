@@ -1,6 +1,7 @@
 //! The network that a text declares.
 
 ghost use Rattle.std.specs.Prelude.{◌≡◌, ◌<◌, IfErr, IfOk, length, map};
+ghost use Rattle.mc_world.specs.LinkFree.{HasNoLinks};
 ghost use Rattle.mc_world.specs.Setups.{world_of_devices};
 ghost use Rattle.mc_net.specs.Nets.{AreAllowed, DeclaresNet, IsMadeOf, JoinsPair, NamesAll, batches_of, lists_of, medium_of, one_device, turns_of, two_devices};
 ghost use Rattle.mc_net.specs.Texts.{RefusesText};
@@ -11,7 +12,8 @@ use crate::text::read_text;
 use mc_script::{Batch, Command};
 use mc_signal::{CodecList, Medium};
 use mc_text::Names;
-use mc_world::{Channel, Kind, MediaBox, Setup, Shape, SlotSetup, World};
+use mc_box::{Kind, MediaBox, Setup, Shape, SlotSetup};
+use mc_world::{Channel, World};
 use std::alloc::{AllocError, Global};
 
 /// What may stand behind the commands of a text.
@@ -37,6 +39,7 @@ pub fn read_net(alloc: Global, text: &[u8], tail: Tail) -> Result<Net, NetFault>
     ensures declares { IfOk result (DeclaresNet text.now) }
     ensures named { IfOk result (λ net. NamesAll net.names net.world) }
     ensures allowed { IfOk result (λ net. AreAllowed net.world (map turns_of net.batches.items)) }
+    ensures free { IfOk result (λ net. HasNoLinks net.world) }
     ensures refused { IfErr result (RefusesText text.now) }
 {
     let rest = match tail {

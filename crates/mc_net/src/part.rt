@@ -4,7 +4,7 @@ ghost use Rattle.std.specs.Prelude.{◌≡◌, ◌<◌, ◌≤◌, length, posit
 ghost use Rattle.std.specs.Str.{bytes_eq};
 ghost use Rattle.std.specs.Option.{option_copied, option_map};
 ghost use Rattle.mc_text.specs.NameLists.{place_of, slots_of};
-ghost use Rattle.mc_world.specs.BoxShapes.{medium_at, shape_of};
+ghost use Rattle.mc_box.specs.BoxShapes.{medium_at, shape_of};
 ghost use Rattle.mc_slot.specs.Moves.{is_same_medium};
 ghost use Rattle.mc_script.specs.Places.{Fits, is_no, lacks, meant, unless};
 ghost use Rattle.mc_script.specs.Rules.{least_broken};
@@ -19,7 +19,7 @@ use mc_script::LineFault;
 use mc_script::places::{fixed_goal, known_slot};
 use mc_slot::{SlotGoal, State};
 use mc_text::{Names, Parts, Words};
-use mc_world::Shape;
+use mc_box::Shape;
 use std::alloc::{AllocError, Global};
 use std::marker::Model;
 

@@ -15,7 +15,7 @@ use crate::word_list::{are_more_than, has_misspelt, has_overlong, has_repeat};
 use mc_script::LineFault;
 use mc_script::places::{known_box, needs_feature};
 use mc_text::{Names, Words};
-use mc_world::Shape;
+use mc_box::Shape;
 use std::alloc::{AllocError, Global};
 use std::marker::Model;
 

@@ -3,7 +3,7 @@
 ghost use Rattle.std.specs.Prelude.{◌≡◌, ◌+◌, ◌<◌, ◌^◌, length, OnOk, Some, map, true, false};
 ghost use Rattle.std.specs.Option.{option_copied};
 ghost use Rattle.mc_script.specs.Rules.{least_broken};
-ghost use Rattle.mc_world.specs.BoxShapes.{is_device};
+ghost use Rattle.mc_box.specs.BoxShapes.{is_device};
 ghost use Rattle.mc_net.specs.BoxLines.{media_seen};
 ghost use Rattle.mc_net.specs.Forms.{IsInForm};
 ghost use Rattle.mc_net.specs.Meaning.{after_by, entry_after, words_after};
@@ -28,7 +28,8 @@ use mc_script::keyword::CommandWord;
 use mc_script::{Command, LineFault, check_bytes};
 use mc_signal::CodecList;
 use mc_text::{Names, Words};
-use mc_world::{BoxShape, Channel, Kind, Shape};
+use mc_box::{BoxShape, Kind, Shape};
+use mc_world::Channel;
 use std::alloc::Global;
 use std::marker::Model;
 

@@ -13,14 +13,15 @@ use Rattle.mc_slot.specs.declared.SlotGoal.TheVariants.{End}
 use Rattle.mc_slot.specs.declared.State.TheVariants.{Closed}
 use Rattle.mc_world.specs.Paths.{end_goal, end_goal_of}
 use Rattle.mc_world.specs.Settles.{is_retry_of, takes_or_retries}
-use Rattle.mc_world.specs.Sound.{IsNumbered, IsSound}
+use Rattle.mc_world.specs.LinkFree.{IsLinkFree}
+use Rattle.mc_world.specs.Sound.{IsNumbered}
 use Rattle.mc_world.specs.Steps.{run, step}
 use Rattle.mc_world.specs.Worlds.{WorldState, far, for_tunnel, goal_of, joint_of, lane_to, list_to, place, slot_count, slot_of}
-use Rattle.mc_world.specs.declared.event.Turn.{Turn}
+use Rattle.mc_box.specs.declared.event.Turn.{Turn}
 use Rattle.mc_world.proofs.ActedWorlds.{acted_world, elsewhere, far_inside, here, list_else, list_far, list_here, place_apart}
 use Rattle.mc_world.proofs.Numbers.{far_back}
 use Rattle.mc_world.proofs.StepForms.{then_some}
-use Rattle.mc_world.proofs.StepKeeps.{step_keeps_sound}
+use Rattle.mc_world.proofs.LinkFree.{rest_links_none, step_keeps_link_free}
 use Rattle.mc_path.proofs.CleanEnds.{EndsNone, endings, endings-append}
 use Rattle.mc_path.proofs.CleanSteps.{EndStep, end_step}
 
@@ -123,25 +124,25 @@ retried_begun world s t last goal left signals numbered inside within at begun =
     (subst (λ (a : Slot). a.state ≢ Closed) (sym (here world s last goal numbered inside).slot) begun)
 
 -- the slot that acts is this one, or another
-form_keeps : (world next : WorldState) (turn : Turn) (t : ℕ) → IsSound world → t < slot_count world → EndStep world next turn → Keeps world next turn t
+form_keeps : (world next : WorldState) (turn : Turn) (t : ℕ) → IsLinkFree world → t < slot_count world → EndStep world next turn → Keeps world next turn t
 form_keeps world next turn t sound within form =
     subst (λ (w : WorldState). Keeps world w turn t) (sym form.is) (record {
-      goal = goal_kept world form.s t form.last form.goal form.left form.signals sound.numbered form.inside within form.aims;
+      goal = goal_kept world form.s t form.last form.goal form.left form.signals sound.sound.numbered form.inside within form.aims;
       count = refl;
       at = refl;
-      none = λ clean. list_kept world form.s t form.last form.goal form.left form.signals sound.numbered form.inside within form.aims form.others form.ends clean.far_stays clean.none clean.far_none;
-      stays = λ clean begun. state_kept world form.s t form.last form.goal form.left form.signals sound.numbered form.inside within form.ends clean.none begun;
+      none = λ clean. list_kept world form.s t form.last form.goal form.left form.signals sound.sound.numbered form.inside within form.aims form.others form.ends clean.far_stays clean.none clean.far_none;
+      stays = λ clean begun. state_kept world form.s t form.last form.goal form.left form.signals sound.sound.numbered form.inside within form.ends clean.none begun;
       opens = λ is.
           let is_own = form.retried (place world t).0 (place world t).1 is in
-          retried_begun world form.s t form.last (End form.goal) form.left form.signals sound.numbered form.inside within is_own.0 is_own.1;
+          retried_begun world form.s t form.last (End form.goal) form.left form.signals sound.sound.numbered form.inside within is_own.0 is_own.1;
     })
 
 -- each Take and each Retry keeps that of each slot
-step_keeps : (world next : WorldState) (turn : Turn) (t : ℕ) → IsSound world → t < slot_count world → takes_or_retries turn.event ≡ true → step world turn ≡ Some next → Keeps world next turn t
+step_keeps : (world next : WorldState) (turn : Turn) (t : ℕ) → IsLinkFree world → t < slot_count world → takes_or_retries turn.event ≡ true → step world turn ≡ Some next → Keeps world next turn t
 step_keeps world next turn t sound within is goes = form_keeps world next turn t sound within (end_step world next turn sound is goes)
 
 -- a step keeps a tunnel clean
-step_clean : (world next : WorldState) (turn : Turn) (t : ℕ) → IsSound world → t < slot_count world → takes_or_retries turn.event ≡ true → step world turn ≡ Some next
+step_clean : (world next : WorldState) (turn : Turn) (t : ℕ) → IsLinkFree world → t < slot_count world → takes_or_retries turn.event ≡ true → step world turn ≡ Some next
     → CleanTunnel world t → CleanTunnel next t
 step_clean world next turn t sound within is goes clean =
     let near = step_keeps world next turn t sound within is goes in
@@ -171,22 +172,22 @@ turns_by world last turn turns all goes =
     record { first = parts.0; others = parts.1; next = one.0; goes = one.1; on = one.2 }
 
 -- each goal stays
-pub run_keeps_goal : (turns : List Turn) (world last : WorldState) (t : ℕ) → IsSound world → t < slot_count world
+pub run_keeps_goal : (turns : List Turn) (world last : WorldState) (t : ℕ) → IsLinkFree world → t < slot_count world
     → list_all (λ turn. takes_or_retries turn.event) turns ≡ true → run world turns ≡ Some last → goal_of last t ≡ goal_of world t
 run_keeps_goal [] world last t sound within all goes = let same : world ≡ last = cc in ap (λ (w : WorldState). goal_of w t) (sym same)
 run_keeps_goal (turn ∷ turns) world last t sound within all goes =
     let one = turns_by world last turn turns all goes in
     let keeps = step_keeps world one.next turn t sound within one.first one.goes in
-    run_keeps_goal turns one.next last t (step_keeps_sound world one.next turn sound one.goes) (subst (λ (n : ℕ). t < n) (sym keeps.count) within) one.others one.on ∙ keeps.goal
+    run_keeps_goal turns one.next last t (step_keeps_link_free world one.next turn sound (rest_links_none turn.event one.first) one.goes) (subst (λ (n : ℕ). t < n) (sym keeps.count) within) one.others one.on ∙ keeps.goal
 
 -- a clean tunnel stays clean
-pub run_clean : (turns : List Turn) (world last : WorldState) (t : ℕ) → IsSound world → t < slot_count world
+pub run_clean : (turns : List Turn) (world last : WorldState) (t : ℕ) → IsLinkFree world → t < slot_count world
     → list_all (λ turn. takes_or_retries turn.event) turns ≡ true → run world turns ≡ Some last → CleanTunnel world t → CleanTunnel last t
 run_clean [] world last t sound within all goes clean = let same : world ≡ last = cc in subst (λ (w : WorldState). CleanTunnel w t) same clean
 run_clean (turn ∷ turns) world last t sound within all goes clean =
     let one = turns_by world last turn turns all goes in
     let keeps = step_keeps world one.next turn t sound within one.first one.goes in
-    run_clean turns one.next last t (step_keeps_sound world one.next turn sound one.goes) (subst (λ (n : ℕ). t < n) (sym keeps.count) within) one.others one.on
+    run_clean turns one.next last t (step_keeps_link_free world one.next turn sound (rest_links_none turn.event one.first) one.goes) (subst (λ (n : ℕ). t < n) (sym keeps.count) within) one.others one.on
     (step_clean world one.next turn t sound within one.first one.goes clean)
 
 -- a sum that isn't 0 has a first part of 1, or another part that isn't 0
@@ -200,7 +201,7 @@ counted test turn turns some =
     counted_by (test turn) (count_by test turns) (subst (λ (n : ℕ). 1 ≤ n) (sum_by-cons (λ (turn : Turn). if test turn then 1 else 0) turn turns) some)
 
 -- a slot of a clean tunnel that isn't closed, or whose Retry is to come, isn't closed in the end
-pub run_opens : (turns : List Turn) (world last : WorldState) (t : ℕ) → IsSound world → t < slot_count world
+pub run_opens : (turns : List Turn) (world last : WorldState) (t : ℕ) → IsLinkFree world → t < slot_count world
     → list_all (λ turn. takes_or_retries turn.event) turns ≡ true → run world turns ≡ Some last → CleanTunnel world t
     → ((slot_of world t).state ≢ Closed) ⊎ (1 ≤ count_by (is_retry_of (place world t).0 (place world t).1) turns) → (slot_of last t).state ≢ Closed
 run_opens [] world last t sound within all goes clean (inl begun) = let same : world ≡ last = cc in subst (λ (w : WorldState). (slot_of w t).state ≢ Closed) same begun
@@ -208,7 +209,7 @@ run_opens [] world last t sound within all goes clean (inr some) = absurd (omega
 run_opens (turn ∷ turns) world last t sound within all goes clean either =
     let one = turns_by world last turn turns all goes in
     let keeps = step_keeps world one.next turn t sound within one.first one.goes in
-    run_opens turns one.next last t (step_keeps_sound world one.next turn sound one.goes) (subst (λ (n : ℕ). t < n) (sym keeps.count) within) one.others one.on
+    run_opens turns one.next last t (step_keeps_link_free world one.next turn sound (rest_links_none turn.event one.first) one.goes) (subst (λ (n : ℕ). t < n) (sym keeps.count) within) one.others one.on
     (step_clean world one.next turn t sound within one.first one.goes clean)
     (elim either [
       | inl begun ↦ inl (keeps.stays clean begun)

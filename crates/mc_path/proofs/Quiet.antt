@@ -20,11 +20,12 @@ use Rattle.mc_slot.specs.declared.SlotGoal.{SlotGoal}
 use Rattle.mc_slot.specs.declared.SlotGoal.TheVariants.{End, Link}
 use Rattle.mc_slot.specs.declared.State.{State}
 use Rattle.mc_slot.specs.declared.State.TheVariants.{Closed, Opened, Flowing}
-use Rattle.mc_world.specs.Boxes.{goal_owes}
+use Rattle.mc_box.specs.Boxes.{goal_owes}
 use Rattle.mc_world.specs.PathTable.{Hears}
 use Rattle.mc_world.specs.Paths.{end_goal, end_goal_of}
 use Rattle.mc_world.specs.Settles.{is_empty, is_quiet}
-use Rattle.mc_world.specs.Sound.{IsSound, RestsBy}
+use Rattle.mc_world.specs.LinkFree.{IsLinkFree, RestsBy}
+use Rattle.mc_world.proofs.LinkFree.{goals_rest}
 use Rattle.mc_world.specs.Worlds.{WorldState, far, for_tunnel, goal_of, joint_of, lane_of, list_to, own_descriptor, own_sender, slot_count, slot_of}
 use Rattle.mc_path.specs.PathLaws.{AreIn, HearEachOther, IsQuietPath, QuietPaths}
 use Rattle.mc_path.proofs.Tunnels.{each_path, far_of_low}
@@ -141,10 +142,10 @@ pub low_in : (t slots : ℕ) → 2 * t + 1 < slots → 2 * t < slots
 low_in t slots inside = omega arith
 
 -- a tunnel of a quiet world
-quiet_tunnel : (world : WorldState) (s : ℕ) → IsSound world → IsTrue (is_quiet world) → s < slot_count world → TunnelSound (slot_of world s) [] (slot_of world (far s)) []
+quiet_tunnel : (world : WorldState) (s : ℕ) → IsLinkFree world → IsTrue (is_quiet world) → s < slot_count world → TunnelSound (slot_of world s) [] (slot_of world (far s)) []
 quiet_tunnel world s sound quiet inside =
     subst (λ (l : List Signal). TunnelSound (slot_of world s) [] (slot_of world (far s)) l) (list_none world (far s) quiet)
-    (subst (λ (l : List Signal). TunnelSound (slot_of world s) l (slot_of world (far s)) (list_to world (far s))) (list_none world s quiet) (sound.tunnels s inside))
+    (subst (λ (l : List Signal). TunnelSound (slot_of world s) l (slot_of world (far s)) (list_to world (far s))) (list_none world s quiet) (sound.sound.tunnels s inside))
 
 -- an end rests by its goal
 rests_at : (goal : SlotGoal) (world : WorldState) (s : ℕ) → RestsBy goal world s → IsAtRest (end_goal_of goal) (slot_of world s) (own_descriptor world s) (own_sender world s)
@@ -198,17 +199,17 @@ path_by world s t first second alike =
     }
 
 -- each tunnel of a quiet world is a quiet path
-quiet_path : (world : WorldState) (t : ℕ) → IsSound world → IsTrue (is_quiet world) → 2 * t + 1 < slot_count world → IsQuietPath world (record { low = 2 * t; high = 2 * t + 1 })
+quiet_path : (world : WorldState) (t : ℕ) → IsLinkFree world → IsTrue (is_quiet world) → 2 * t + 1 < slot_count world → IsQuietPath world (record { low = 2 * t; high = 2 * t + 1 })
 quiet_path world t sound quiet inside =
     let low_inside = low_in t (slot_count world) inside in
     let tunnel : TunnelSound (slot_of world (2 * t)) [] (slot_of world (2 * t + 1)) [] =
     subst (λ (s : ℕ). TunnelSound (slot_of world (2 * t)) [] (slot_of world s) []) (far_of_low t) (quiet_tunnel world (2 * t) sound quiet low_inside) in
-    path_by world (2 * t) (2 * t + 1) (sound.goals (2 * t) low_inside) (sound.goals (2 * t + 1) inside)
+    path_by world (2 * t) (2 * t + 1) (goals_rest world (2 * t) sound low_inside) (goals_rest world (2 * t + 1) sound inside)
     (alike_by world (2 * t) (2 * t + 1)
     (ends_alike (end_goal world (2 * t)) (end_goal world (2 * t + 1)) (slot_of world (2 * t)) (slot_of world (2 * t + 1))
     (own_descriptor world (2 * t)) (own_descriptor world (2 * t + 1)) (own_sender world (2 * t)) (own_sender world (2 * t + 1)) tunnel
-    (rests_at (goal_of world (2 * t)) world (2 * t) (sound.goals (2 * t) low_inside))
-    (rests_at (goal_of world (2 * t + 1)) world (2 * t + 1) (sound.goals (2 * t + 1) inside))))
+    (rests_at (goal_of world (2 * t)) world (2 * t) (goals_rest world (2 * t) sound low_inside))
+    (rests_at (goal_of world (2 * t + 1)) world (2 * t + 1) (goals_rest world (2 * t + 1) sound inside))))
 
 -- so each path of a quiet world is one
 pub quiet_paths : QuietPaths

@@ -11,20 +11,20 @@ use Rattle.mc_slot.specs.declared.SlotGoal.{SlotGoal}
 use Rattle.mc_slot.specs.declared.SlotGoal.TheVariants.{End, Link}
 use Rattle.mc_slot.specs.declared.State.{State}
 use Rattle.mc_slot.specs.declared.State.TheVariants.{Closed, Opening, Opened, Flowing, Closing}
-use Rattle.mc_world.specs.Boxes.{goal_owes}
+use Rattle.mc_box.specs.Boxes.{goal_owes}
 use Rattle.mc_world.specs.Paths.{end_goal, end_goal_of, paths}
 use Rattle.mc_world.specs.Settles.{IsLastRest, is_quiet, is_retry_of, owes_retry, takes_or_retries}
 use Rattle.mc_world.specs.Shapes.{owes_of}
-use Rattle.mc_world.specs.Sound.{IsSound}
+use Rattle.mc_world.specs.LinkFree.{IsLinkFree, LinkNone}
 use Rattle.mc_world.specs.Steps.{after, run, step}
 use Rattle.mc_world.specs.Worlds.{WorldState, box_at, far, goal_of, place, slot_count, slot_of}
-use Rattle.mc_world.specs.declared.event.Turn.{Turn}
+use Rattle.mc_box.specs.declared.event.Turn.{Turn}
 use Rattle.mc_world.proofs.ActedWorlds.{far_inside}
 use Rattle.mc_world.proofs.NoPrograms.{quiet_rests}
 use Rattle.mc_world.proofs.ShapesKept.{run_keeps_shape}
 use Rattle.mc_world.proofs.StepForms.{then_some}
 use Rattle.mc_world.proofs.StepGoes.{below_test}
-use Rattle.mc_world.proofs.StepKeeps.{run_keeps_sound}
+use Rattle.mc_world.proofs.LinkFree.{first_link_none, rests_link_none, run_keeps_link_free, settled_link_none}
 use Rattle.mc_path.specs.PathLaws.{SettledPathsHold}
 use Rattle.mc_path.proofs.CleanPaths.{goals_before, quiet_clean, same_count}
 use Rattle.mc_path.proofs.CleanTunnels.{CleanTunnel, run_opens}
@@ -76,11 +76,11 @@ closed_or_not Flowing = inl (λ is. cc)
 closed_or_not Closing = inl (λ is. cc)
 
 -- a slot that owes a retry owes it by its box and its local number
-owes_by_place : (world : WorldState) (t : ℕ) → IsSound world → t < slot_count world → owes_of world t ≡ true → owes_retry world (place world t).0 (place world t).1 ≡ true
+owes_by_place : (world : WorldState) (t : ℕ) → IsLinkFree world → t < slot_count world → owes_of world t ≡ true → owes_retry world (place world t).0 (place world t).1 ≡ true
 owes_by_place world t sound within owed =
     rw (
-      below_test (place world t).0 (length world.boxes) (sound.numbered.placed t within),
-      below_test (place world t).1 (length (box_at world (place world t).0).slots) (sound.numbered.slots t within),
+      below_test (place world t).0 (length world.boxes) (sound.sound.numbered.placed t within),
+      below_test (place world t).1 (length (box_at world (place world t).0).slots) (sound.sound.numbered.slots t within),
     ) owed
 
 -- where a retry was owed, one came
@@ -89,7 +89,7 @@ some_retry true count is owes = omega arith
 some_retry false count is owes = absurd (cc)
 
 -- it isn't closed, or its Retry is to come
-begun_or_retried : (world : WorldState) (turns : List Turn) (t : ℕ) → IsSound world → t < slot_count world → end_goal world t ≡ ToOpen
+begun_or_retried : (world : WorldState) (turns : List Turn) (t : ℕ) → IsLinkFree world → t < slot_count world → end_goal world t ≡ ToOpen
     → ((who local : ℕ) → count_by (is_retry_of who local) turns ≡ (if owes_retry world who local then 1 else 0))
     → ((slot_of world t).state ≢ Closed) ⊎ (1 ≤ count_by (is_retry_of (place world t).0 (place world t).1) turns)
 begun_or_retried world turns t sound within aims retries = elim (closed_or_not (slot_of world t).state) [
@@ -105,12 +105,12 @@ to_open : (goal : Goal) → goal ≡ ToOpen → goal ≢ ToClose
 to_open goal opens closes = cc
 
 -- once each Retry has come that was owed when nothing was under way, an end that is to open owes none, unless the other end closes
-owes_none : (world last : WorldState) (turns : List Turn) (t : ℕ) → IsSound world → IsTrue (is_quiet world)
+owes_none : (world last : WorldState) (turns : List Turn) (t : ℕ) → IsLinkFree world → IsTrue (is_quiet world)
     → list_all (λ turn. takes_or_retries turn.event) turns ≡ true → run world turns ≡ Some last
     → ((who local : ℕ) → count_by (is_retry_of who local) turns ≡ (if owes_retry world who local then 1 else 0))
     → t < slot_count last → end_goal last t ≡ ToOpen → end_goal last (far t) ≢ ToClose → owes_of last t ≡ false
 owes_none world last turns t sound quiet all goes retries inside opens far_stays =
-    let within : t < slot_count world = subst (λ (n : ℕ). t < n) (same_count last world (run_keeps_shape world last turns sound goes)) inside in
+    let within : t < slot_count world = subst (λ (n : ℕ). t < n) (same_count last world (run_keeps_shape world last turns sound.sound goes)) inside in
     let aims : end_goal world t ≡ ToOpen = sym (goals_before world last turns t sound within all goes) ∙ opens in
     let clean : CleanTunnel world t = quiet_clean world t quiet (to_open (end_goal world t) aims)
     (λ is. far_stays (goals_before world last turns (far t) sound (far_inside world t within) all goes ∙ is)) in
@@ -123,12 +123,12 @@ far_of_high : (t : ℕ) → far (2 * t + 1) ≡ 2 * t
 far_of_high t = grind (arith, common_steps)
 
 -- from the last rest on, to the end
-rest_owes_none : (world last : WorldState) (turns : List Turn) → IsSound world → IsTrue (is_quiet world)
+rest_owes_none : (world last : WorldState) (turns : List Turn) → IsLinkFree world → IsTrue (is_quiet world)
     → list_all (λ turn. takes_or_retries turn.event) turns ≡ true → run world turns ≡ Some last
     → ((who local : ℕ) → count_by (is_retry_of who local) turns ≡ (if owes_retry world who local then 1 else 0))
     → All (OwesNone last) (paths last)
 rest_owes_none world last turns sound quiet all goes retries =
-    each_path last (OwesNone last) (run_keeps_sound world last turns sound goes) (λ t inside. record {
+    each_path last (OwesNone last) (run_keeps_link_free world last turns sound (rests_link_none turns all) goes) (λ t inside. record {
       low = λ opens stays. owes_none world last turns (2 * t) sound quiet all goes retries (low_in t (slot_count last) inside) opens
           (subst (λ (x : ℕ). end_goal last x ≢ ToClose) (sym (far_of_low t)) stays);
       high = λ opens stays. owes_none world last turns (2 * t + 1) sound quiet all goes retries inside opens
@@ -136,17 +136,18 @@ rest_owes_none world last turns sound quiet all goes retries =
     })
 
 -- the last rest begins where the turns of its moment lead
-settled_owes_none : (world last : WorldState) (batch turns : List Turn) (moment : ℕ) → IsSound world → run world turns ≡ Some last → IsLastRest world batch turns moment
+settled_owes_none : (world last : WorldState) (batch turns : List Turn) (moment : ℕ) → IsLinkFree world → LinkNone turns → run world turns ≡ Some last → IsLastRest world batch turns moment
     → All (OwesNone last) (paths last)
-settled_owes_none world last batch turns moment sound goes rest =
+settled_owes_none world last batch turns moment sound none goes rest =
     let halves = run_halves (take moment turns) (drop moment turns) world last (ap (run world) (take-append-drop moment turns) ∙ goes) in
     rest_owes_none (after world (take moment turns)) last (drop moment turns)
-    (run_keeps_sound world (after world (take moment turns)) (take moment turns) sound halves.0)
+    (run_keeps_link_free world (after world (take moment turns)) (take moment turns) sound (first_link_none turns moment none) halves.0)
     (quiet_rests (after world (take moment turns)) ∙ rest.at_rest) rest.besides halves.1 rest.retries
 
 -- so each path is as the path table says
 pub settled_paths_hold : SettledPathsHold
-settled_paths_hold world last batch turns sound settled k path below =
-    let quiet = quiet_paths last (run_keeps_sound world last turns sound settled.runs) (quiet_rests last ∙ settled.at_rest) in
+settled_paths_hold world last batch turns sound links settled k path below =
+    let none = settled_link_none world last batch turns links settled in
+    let quiet = quiet_paths last (run_keeps_link_free world last turns sound none settled.runs) (quiet_rests last ∙ settled.at_rest) in
     table_holds last (get_or (paths last) k path) (quiet k path below)
-    (settled_owes_none world last batch turns settled.moment sound settled.runs settled.last_rest k path below)
+    (settled_owes_none world last batch turns settled.moment sound none settled.runs settled.last_rest k path below)

@@ -8,7 +8,7 @@ use Rattle.mc_slot.specs.declared.SlotGoal.TheVariants.{End, Link}
 use Rattle.mc_view.specs.declared.EndView.{EndView}
 use Rattle.mc_view.specs.declared.PathView.{PathView}
 use Rattle.mc_world.specs.Paths.{is_end_goal, paths}
-use Rattle.mc_world.specs.Sound.{IsSound}
+use Rattle.mc_world.specs.LinkFree.{IsLinkFree}
 use Rattle.mc_world.specs.Worlds.{WorldState, far, goal_of, joints, slot_count, slot_of}
 use Rattle.mc_world.proofs.ActedWorlds.{far_inside}
 use Rattle.mc_path.specs.Views.{crossed, crossed_by, end_view, is_flowing, view_of}
@@ -27,17 +27,17 @@ crossed_one zero world s some is = absurd (omega arith)
 crossed_one (suc most) world s some is = ap (λ (n : ℕ). 1 + n) (stops (goal_of world (far s)) (crossed world most) world (far s) is)
 
 -- so a path goes over one tunnel
-one_tunnel : (world : WorldState) (s : ℕ) → IsSound world → s < slot_count world → crossed world (length (joints world)) s ≡ 1
+one_tunnel : (world : WorldState) (s : ℕ) → IsLinkFree world → s < slot_count world → crossed world (length (joints world)) s ≡ 1
 one_tunnel world s sound inside =
     crossed_one (length (joints world)) world s (some_tunnel s (slot_count world) (length (joints world)) (slots_are world) inside)
     (is_end world (far s) sound (far_inside world s inside))
 
 -- a path's view, of what was read for it
-pub view_is : (world : WorldState) (s : ℕ) (low high : EndView) (flows : Bool) (medium : Medium) → IsSound world → s < slot_count world
+pub view_is : (world : WorldState) (s : ℕ) (low high : EndView) (flows : Bool) (medium : Medium) → IsLinkFree world → s < slot_count world
     → low ≡ end_view world s → high ≡ end_view world (far s) → flows ≡ is_flowing (slot_of world s).state → medium ≡ (slot_of world s).medium
     → record { low = low; high = high; flowing = flows; medium = medium; tunnels = 1 } ≡ view_of world (record { low = s; high = far s })
 view_is world s low high flows medium sound inside low_is high_is flows_is medium_is =
-    rw (low_is, high_is, flows_is, medium_is, sound.numbered.media s inside, one_tunnel world s sound inside) refl
+    rw (low_is, high_is, flows_is, medium_is, sound.sound.numbered.media s inside, one_tunnel world s sound inside) refl
 
 -- ---- all paths
 
@@ -54,7 +54,7 @@ half_of : (slots count half : ℕ) → slots ≡ 2 * count → half ≡ slots / 
 half_of slots count half two is = omega arith
 
 -- and after the last tunnel they are all paths
-pub shown_all : (world : WorldState) (half : ℕ) (views : List PathView) → IsSound world → half ≡ slot_count world / 2 → views ≡ map (view_of world) (over_tunnels 0 half)
+pub shown_all : (world : WorldState) (half : ℕ) (views : List PathView) → IsLinkFree world → half ≡ slot_count world / 2 → views ≡ map (view_of world) (over_tunnels 0 half)
     → views ≡ map (view_of world) (paths world)
 shown_all world half views sound is shown =
     rw (paths_are world sound)

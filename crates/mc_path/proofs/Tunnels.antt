@@ -4,9 +4,10 @@ use Rattle.std.specs.List.{enumerate_from, filter_map, range_with_len}
 use Rattle.std.proofs.lemmas.Grind.{common_steps}
 use Rattle.std.proofs.lemmas.List.Elements.{All-nil, All-cons, All-same}
 use Rattle.mc_world.specs.Paths.{PathEnds, from_low, is_end_goal, other_end, path_from, paths}
-use Rattle.mc_world.specs.Sound.{IsSound}
+use Rattle.mc_world.specs.LinkFree.{IsLinkFree}
 use Rattle.mc_world.specs.Worlds.{WorldState, far, goal_of, joints, places, slot_count}
 use Rattle.mc_world.proofs.Joints.{two_each}
+use Rattle.mc_world.proofs.LinkFree.{goals_rest}
 use Rattle.mc_world.proofs.Rings.{other_far}
 use Rattle.mc_world.proofs.StepForms.{end_goal}
 
@@ -48,8 +49,8 @@ pub slots_are : (world : WorldState) → slot_count world ≡ 2 * length (joints
 slots_are world = two_each world.channels 0
 
 -- each goal is an end's
-pub is_end : (world : WorldState) (s : ℕ) → IsSound world → s < slot_count world → is_end_goal (goal_of world s) ≡ true
-is_end world s sound inside = ap is_end_goal (end_goal (goal_of world s) world s (sound.goals s inside)).1
+pub is_end : (world : WorldState) (s : ℕ) → IsLinkFree world → s < slot_count world → is_end_goal (goal_of world s) ≡ true
+is_end world s sound inside = ap is_end_goal (end_goal (goal_of world s) world s (goals_rest world s sound inside)).1
 
 -- where there is a slot there is a tunnel
 pub some_tunnel : (s slots count : ℕ) → slots ≡ 2 * count → s < slots → 0 < count
@@ -72,11 +73,11 @@ high_side : (t : ℕ) → from_low (2 * t + 1) (far (2 * t + 1)) ≡ None
 high_side t = grind (arith, common_steps)
 
 -- so each lower slot has its tunnel's path
-path_from_low : (world : WorldState) (t : ℕ) → IsSound world → 2 * t < slot_count world → path_from world (2 * t) ≡ Some (over_tunnel t)
+path_from_low : (world : WorldState) (t : ℕ) → IsLinkFree world → 2 * t < slot_count world → path_from world (2 * t) ≡ Some (over_tunnel t)
 path_from_low world t sound inside = from_end world (2 * t) (far (2 * t)) (is_end world (2 * t) sound inside) (other_far world (2 * t) sound inside) ∙ low_side t
 
 -- and no higher slot has a path
-path_from_high : (world : WorldState) (t : ℕ) → IsSound world → 2 * t + 1 < slot_count world → path_from world (2 * t + 1) ≡ None
+path_from_high : (world : WorldState) (t : ℕ) → IsLinkFree world → 2 * t + 1 < slot_count world → path_from world (2 * t + 1) ≡ None
 path_from_high world t sound inside = from_end world (2 * t + 1) (far (2 * t + 1)) (is_end world (2 * t + 1) sound inside) (other_far world (2 * t + 1) sound inside) ∙ high_side t
 
 -- both slots of each tunnel are there
@@ -87,14 +88,14 @@ high_inside : (k slots count : ℕ) → slots ≡ 2 * count → k < 0 + count �
 high_inside k slots count two below = omega arith
 
 -- the paths are the tunnels, in their order
-pub paths_are : (world : WorldState) → IsSound world → paths world ≡ over_tunnels 0 (length (joints world))
+pub paths_are : (world : WorldState) → IsLinkFree world → paths world ≡ over_tunnels 0 (length (joints world))
 paths_are world sound =
     paths_from (path_from world) (places world) (length (joints world)) 0 (slots_are world)
     (λ k above below. path_from_low world k sound (low_inside k (slot_count world) (length (joints world)) (slots_are world) below))
     (λ k above below. path_from_high world k sound (high_inside k (slot_count world) (length (joints world)) (slots_are world) below))
 
 -- what holds of the path over each tunnel holds of each path
-pub each_path : (world : WorldState) (P : PathEnds → Type 0) → IsSound world → ((t : ℕ) → 2 * t + 1 < slot_count world → P (record { low = 2 * t; high = 2 * t + 1 })) → All P (paths world)
+pub each_path : (world : WorldState) (P : PathEnds → Type 0) → IsLinkFree world → ((t : ℕ) → 2 * t + 1 < slot_count world → P (record { low = 2 * t; high = 2 * t + 1 })) → All P (paths world)
 each_path world P sound each =
     All-same P (paths world) (over_tunnels 0 (length (joints world))) (paths_are world sound)
     (each_over P (length (joints world)) 0 (λ k above below. each k (high_inside k (slot_count world) (length (joints world)) (slots_are world) below)))

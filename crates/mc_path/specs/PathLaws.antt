@@ -9,10 +9,10 @@ use Rattle.mc_world.specs.PathTable.{Hears, PathHolds}
 use Rattle.mc_world.specs.Paths.{PathEnds, end_goal, paths}
 use Rattle.mc_world.specs.Settles.{IsSettled, is_quiet, takes_or_retries}
 use Rattle.mc_world.specs.Shapes.{owes_of}
-use Rattle.mc_world.specs.Sound.{IsSound}
+use Rattle.mc_world.specs.LinkFree.{IsLinkFree, LinkNone}
 use Rattle.mc_world.specs.Steps.{run}
 use Rattle.mc_world.specs.Worlds.{WorldState, list_to, own_descriptor, own_sender, slot_of}
-use Rattle.mc_world.specs.declared.event.Turn.{Turn}
+use Rattle.mc_box.specs.declared.event.Turn.{Turn}
 
 -- both end slots of a path are in a state
 pub record AreIn (world : WorldState) (path : PathEnds) (state : State) : Type 0 where
@@ -32,9 +32,9 @@ pub record IsQuietPath (world : WorldState) (path : PathEnds) : Type 0 where
   pub low_opens : end_goal world path.low ≡ ToOpen → owes_of world path.low ≡ false → AreIn world path Flowing
   pub high_opens : end_goal world path.high ≡ ToOpen → owes_of world path.high ≡ false → AreIn world path Flowing
 
--- each path of a quiet sound world
+-- each path of a quiet sound world without links
 abbrev pub QuietPaths : Type 0
-QuietPaths = (world : WorldState) → IsSound world → IsTrue (is_quiet world) → All (IsQuietPath world) (paths world)
+QuietPaths = (world : WorldState) → IsLinkFree world → IsTrue (is_quiet world) → All (IsQuietPath world) (paths world)
 
 -- no close and no closeack comes to a slot, and it waits for none
 pub record IsClean (world : WorldState) (s : ℕ) : Type 0 where
@@ -45,11 +45,11 @@ pub record IsClean (world : WorldState) (s : ℕ) : Type 0 where
 abbrev pub IsCleanPath : WorldState → PathEnds → Type 0
 IsCleanPath world path = end_goal world path.low ≢ ToClose → end_goal world path.high ≢ ToClose → IsClean world path.low × IsClean world path.high
 
--- after a moment at which nothing was under way, while only Takes and Retries come, no close is ever under way on a path without an end that closes
+-- without links, after a moment at which nothing was under way, while only Takes and Retries come, no close is ever under way on a path without an end that closes
 abbrev pub CleanPaths : Type 0
-CleanPaths = (world next : WorldState) (turns : List Turn) → IsSound world → IsTrue (is_quiet world)
+CleanPaths = (world next : WorldState) (turns : List Turn) → IsLinkFree world → IsTrue (is_quiet world)
     → IsTrue (list_all (λ turn. takes_or_retries turn.event) turns) → run world turns ≡ Some next → All (IsCleanPath next) (paths next)
 
--- after each settled segment, whatever the order of its turns, each path is as the path table says
+-- without links, after each settled segment, whatever the order of its turns, each path is as the path table says
 abbrev pub SettledPathsHold : Type 0
-SettledPathsHold = (world last : WorldState) (batch turns : List Turn) → IsSound world → IsSettled world batch turns last → All (PathHolds last) (paths last)
+SettledPathsHold = (world last : WorldState) (batch turns : List Turn) → IsLinkFree world → LinkNone batch → IsSettled world batch turns last → All (PathHolds last) (paths last)

@@ -8,7 +8,7 @@ use Rattle.mc_slot.specs.declared.State.{State}
 use Rattle.mc_slot.specs.declared.State.TheVariants.{Flowing}
 use Rattle.mc_view.specs.declared.EndView.{EndView}
 use Rattle.mc_view.specs.declared.PathView.{PathView}
-use Rattle.mc_world.specs.BoxShapes.{is_device}
+use Rattle.mc_box.specs.BoxShapes.{is_device}
 use Rattle.mc_world.specs.Paths.{PathEnds, end_goal}
 use Rattle.mc_world.specs.Worlds.{WorldState, box_at, far, goal_of, joint_of, joints, number, own_descriptor, own_sender, place, slot_of}
 

@@ -1,4 +1,5 @@
-//! Laws of paths, over the definitions alone: each function's contract is the law's sentence.
+//! Laws of paths, over the definitions alone: each function's contract is the law's sentence. They are asked of worlds
+//! without links.
 
 ghost use Rattle.mc_path.specs.PathLaws.{QuietPaths, CleanPaths, SettledPathsHold};
 
@@ -15,9 +16,9 @@ pub fn clean_paths()
     ensures { CleanPaths }
 {}
 
-/// After each settled segment, whatever the order of its turns, each path is as the path table says: closed where
-/// an end closes, flowing where one opens and none closes, either of the two for hold against hold; and where it
-/// flows its ends have each other's newest descriptor and the choice for their own.
+/// After each settled segment of a batch that sets no link, whatever the order of its turns, each path is as the path
+/// table says: closed where an end closes, flowing where one opens and none closes, either of the two for hold against
+/// hold; and where it flows its ends have each other's newest descriptor and the choice for their own.
 pub fn settled_paths_hold()
     ensures { SettledPathsHold }
 {}

@@ -4,27 +4,30 @@
 ghost use Rattle.std.specs.Prelude.{◌≡◌, ◌<◌, map, All, IfOk, IsTrue};
 ghost use Rattle.mc_path.specs.PathLaws.{IsQuietPath};
 ghost use Rattle.mc_path.specs.Views.{end_view, is_flowing, view_of};
+ghost use Rattle.mc_world.specs.LinkFree.{HasNoLinks};
 ghost use Rattle.mc_world.specs.Paths.{end_goal_of, paths};
 ghost use Rattle.mc_world.specs.Settles.{is_quiet};
 ghost use Rattle.mc_world.specs.Worlds.{far, slot_count};
 
 pub mod laws;
 
+use mc_box::Kind;
 use mc_slot::{Goal, SlotGoal, State};
 use mc_view::{EndView, PathView};
-use mc_world::{Kind, World};
+use mc_world::World;
 use std::alloc::{AllocError, Global};
 
 /// Each path of the world once, in the order of the lower ends: both ends, whether it flows, its medium, and how
 /// many tunnels it goes over. Where nothing is under way, each path is closed, or flows with ends that hear each
-/// other.
+/// other. No slot of the world is linked, so that each path goes over one tunnel.
 pub fn paths(alloc: Global, world: &World) -> Result<Vec<PathView>, AllocError>
+    requires { HasNoLinks world.now }
     ensures views { IfOk result (λ views. views.items ≡ map (view_of world.now) (paths world.now)) }
     ensures quiet { IsTrue (is_quiet world.now) → All (IsQuietPath world.now) (paths world.now) }
 {
     world.keeps();
     let mut views = Vec::new(alloc);
-    // no goal is a link yet, so that each tunnel is a path
+    // no goal is a link, so that each tunnel is a path
     for tunnel in 0..world.slot_count() / 2 {
         views.push(path_view(world, 2 * tunnel as u32))?;
     }
@@ -33,7 +36,8 @@ pub fn paths(alloc: Global, world: &World) -> Result<Vec<PathView>, AllocError>
 
 // The path over the tunnel of a slot, its lower end.
 fn path_view(world: &World, low: u32) -> PathView
-    requires { low < slot_count world.now }
+    requires free { HasNoLinks world.now }
+    requires low { low < slot_count world.now }
     ensures { result ≡ view_of world.now (record { low = low; high = far low }) }
 {
     world.keeps();

@@ -1,7 +1,7 @@
 -- Two boxes with one slot each.
 use Rattle.std.proofs.Common.{◌≡◌, ℕ, zero, suc, ◌<◌, List, length, ◌∙◌, sym, arith}
 use Rattle.mc_text.specs.NameLists.{NameLists, slots_of}
-use Rattle.mc_world.specs.BoxShapes.{BoxShapeState, shape_of}
+use Rattle.mc_box.specs.BoxShapes.{BoxShapeState, shape_of}
 use Rattle.mc_script.specs.Places.{Fits}
 
 module _ (names : NameLists) (shape : List BoxShapeState) where

@@ -4,11 +4,11 @@ use Rattle.mc_slot.specs.declared.Goal.{Goal}
 use Rattle.mc_slot.specs.declared.Goal.TheVariants.{Open as ToOpen, Close as ToClose, Hold as ToHold}
 use Rattle.mc_text.specs.NameLists.{NameLists, AreNames, slots_of}
 use Rattle.mc_text.proofs.Places.{found_again}
-use Rattle.mc_world.specs.BoxShapes.{BoxShapeState}
-use Rattle.mc_world.specs.declared.event.Change.TheVariants.{End as NewEnd, Link as NewLink}
-use Rattle.mc_world.specs.declared.event.Event.{Event}
-use Rattle.mc_world.specs.declared.event.Event.TheVariants.{Take, Set, Media, Tell, Retry, Shift}
-use Rattle.mc_world.specs.declared.event.MediaChange.TheVariants.{Hear, Talk}
+use Rattle.mc_box.specs.BoxShapes.{BoxShapeState}
+use Rattle.mc_box.specs.declared.event.Change.TheVariants.{End as NewEnd, Link as NewLink}
+use Rattle.mc_box.specs.declared.event.Event.{Event}
+use Rattle.mc_box.specs.declared.event.Event.TheVariants.{Take, Set, Media, Tell, Retry, Shift}
+use Rattle.mc_box.specs.declared.event.MediaChange.TheVariants.{Hear, Talk}
 use Rattle.mc_script.specs.Rules.{goal_of, switch_of}
 use Rattle.mc_script.specs.Meaning.{box_name, slot_name, goal_word, switch_word}
 use Rattle.mc_script.specs.Printed.{IsFoundSlot, IsFound, IsSlot, IsRead, PrintedIsRead, NamedIsFound, HaveNames, IsFoundEvent, AllowsEvent, IsNamedEvent}

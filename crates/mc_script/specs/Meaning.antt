@@ -6,11 +6,11 @@ use Rattle.mc_slot.specs.declared.Goal.{Goal}
 use Rattle.mc_slot.specs.declared.Goal.TheVariants.{Open as ToOpen, Close as ToClose, Hold as ToHold}
 use Rattle.mc_text.specs.Lines.{words}
 use Rattle.mc_text.specs.NameLists.{NameLists, place_of, slots_of}
-use Rattle.mc_world.specs.BoxShapes.{BoxShapeState}
-use Rattle.mc_world.specs.declared.event.Change.TheVariants.{End as NewEnd, Link as NewLink}
-use Rattle.mc_world.specs.declared.event.Event.{Event}
-use Rattle.mc_world.specs.declared.event.Event.TheVariants.{Set, Media, Tell}
-use Rattle.mc_world.specs.declared.event.MediaChange.TheVariants.{Hear, Talk}
+use Rattle.mc_box.specs.BoxShapes.{BoxShapeState}
+use Rattle.mc_box.specs.declared.event.Change.TheVariants.{End as NewEnd, Link as NewLink}
+use Rattle.mc_box.specs.declared.event.Event.{Event}
+use Rattle.mc_box.specs.declared.event.Event.TheVariants.{Set, Media, Tell}
+use Rattle.mc_box.specs.declared.event.MediaChange.TheVariants.{Hear, Talk}
 use Rattle.mc_script.specs.Places.{box_at, meant, slot_at}
 use Rattle.mc_script.specs.Rules.{byte_rules, command_rules, command_word, goal_of, least_broken, switch_of}
 use Rattle.mc_script.specs.declared.command.Command.{Command}

@@ -3,7 +3,7 @@ use Rattle.std.specs.Prelude.{ℕ, ◌≡◌, ◌<◌, ◌==◌, ◌&&◌, Bool,
 use Rattle.std.specs.Option.{is_none, is_some, option_and_then}
 use Rattle.mc_text.specs.NameLists.{NameLists, place_of, slots_of}
 use Rattle.mc_text.specs.Spelling.{is_spelt}
-use Rattle.mc_world.specs.BoxShapes.{BoxShapeState, shape_of}
+use Rattle.mc_box.specs.BoxShapes.{BoxShapeState, shape_of}
 use Rattle.mc_script.specs.declared.command.LineFault.{LineFault}
 
 -- names and shapes are of the same boxes, with equally many slots each

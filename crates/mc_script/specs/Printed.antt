@@ -4,11 +4,11 @@ use Rattle.mc_slot.specs.Moves.{is_same_medium}
 use Rattle.mc_text.specs.Lines.{words}
 use Rattle.mc_text.specs.NameLists.{NameLists, AreNames, place_of, slots_of}
 use Rattle.mc_text.specs.Spelling.{is_name}
-use Rattle.mc_world.specs.BoxShapes.{BoxShapeState, is_device, is_feature, medium_at, shape_of}
-use Rattle.mc_world.specs.declared.event.Change.TheVariants.{End as NewEnd, Link as NewLink}
-use Rattle.mc_world.specs.declared.event.Event.{Event}
-use Rattle.mc_world.specs.declared.event.Event.TheVariants.{Set, Media, Tell}
-use Rattle.mc_world.specs.declared.event.MediaChange.TheVariants.{Hear, Talk}
+use Rattle.mc_box.specs.BoxShapes.{BoxShapeState, is_device, is_feature, medium_at, shape_of}
+use Rattle.mc_box.specs.declared.event.Change.TheVariants.{End as NewEnd, Link as NewLink}
+use Rattle.mc_box.specs.declared.event.Event.{Event}
+use Rattle.mc_box.specs.declared.event.Event.TheVariants.{Set, Media, Tell}
+use Rattle.mc_box.specs.declared.event.MediaChange.TheVariants.{Hear, Talk}
 use Rattle.mc_script.specs.Meaning.{command_of, line_fault, spelling}
 use Rattle.mc_script.specs.declared.command.Command.{Command}
 use Rattle.mc_script.specs.declared.command.Command.TheVariants.{Stimulus, Settle}

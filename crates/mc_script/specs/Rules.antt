@@ -8,7 +8,7 @@ use Rattle.mc_slot.specs.declared.Goal.{Goal}
 use Rattle.mc_slot.specs.declared.Goal.TheVariants.{Open as ToOpen, Close as ToClose, Hold as ToHold}
 use Rattle.mc_text.specs.Lines.{words}
 use Rattle.mc_text.specs.NameLists.{NameLists}
-use Rattle.mc_world.specs.BoxShapes.{BoxShapeState, is_device, is_feature, medium_at, shape_of}
+use Rattle.mc_box.specs.BoxShapes.{BoxShapeState, is_device, is_feature, medium_at, shape_of}
 use Rattle.mc_script.specs.Places.{are_same, box_at, is_no, lacks, lacks_slot, slot_at}
 use Rattle.mc_script.specs.declared.keyword.CommandWord.{CommandWord}
 use Rattle.mc_script.specs.declared.keyword.CommandWord.TheVariants.{Set, Link, Hear, Talk, Tell, Settle}

@@ -1,6 +1,6 @@
 //! Commands, and the lines of a journal.
 
-use mc_world::Turn;
+use mc_box::Turn;
 
 /// What a line tells the net to do.
 #[derive(Clone, Copy, PartialEq, Eq, Debug)]

@@ -10,8 +10,8 @@ ghost use Rattle.mc_script.specs.Meaning.{command_by, command_of, line_fault, Re
 use crate::command::{Command, LineFault};
 use crate::keyword::{CommandWord, command_word};
 use crate::lines::{hear_line, link_line, set_line, settle_line, talk_line, tell_line};
+use mc_box::Shape;
 use mc_text::{Names, Words};
-use mc_world::Shape;
 
 /// Reads the command of a line.
 ///

@@ -14,8 +14,8 @@ use crate::places::{
     fixed_goal, fixed_switch, known_box, known_slot, known_told, needs_device, needs_feature,
     needs_program,
 };
+use mc_box::{BoxShape, Change, Event, MediaChange, Shape, Turn};
 use mc_text::{Names, Parts, Words};
-use mc_world::{BoxShape, Change, Event, MediaChange, Shape, Turn};
 
 /// Reads `set BOX SLOT GOAL` from the box on.
 pub fn set_line<'a>(names: &Names, words: Words<'a>) -> Result<Command, LineFault>

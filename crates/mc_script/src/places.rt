@@ -7,9 +7,9 @@ ghost use Rattle.mc_script.specs.Places.{box_at, is_misspelt, is_no, is_overlong
 ghost use Rattle.mc_script.specs.Rules.{goal_of, switch_of, is_no_device, is_no_feature, has_no_program};
 
 use crate::command::LineFault;
+use mc_box::{Kind, Shape};
 use mc_slot::Goal;
 use mc_text::{Names, is_spelt};
-use mc_world::{Kind, Shape};
 
 /// The box that a word names. Fault 4 where no box has the name.
 pub fn known_box(names: &Names, word: Option<&[u8]>) -> Result<Option<u32>, LineFault>

@@ -6,9 +6,9 @@ ghost use Rattle.mc_script.specs.Meaning.{event_words, goal_word, switch_word, s
 ghost use Rattle.mc_script.specs.Printed.{IsNamed, IsNamedEvent, IsFoundCommand, IsFoundEvent};
 
 use crate::command::Command;
+use mc_box::{Change, Event, MediaChange, Turn};
 use mc_slot::Goal;
 use mc_text::Names;
-use mc_world::{Change, Event, MediaChange, Turn};
 use std::alloc::AllocError;
 
 /// Appends the line of a command without a line end, its words with single spaces between them.

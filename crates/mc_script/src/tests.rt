@@ -1,13 +1,13 @@
 ghost use Rattle.std.specs.Prelude.{◌≡◌, IfOk, length};
 ghost use Rattle.mc_text.specs.NameLists.{slots_of};
-ghost use Rattle.mc_world.specs.BoxShapes.{shape_of};
+ghost use Rattle.mc_box.specs.BoxShapes.{shape_of};
 ghost use Rattle.mc_script.specs.Places.{Fits};
 
 use super::*;
+use mc_box::{BoxShape, Change, Event, Kind, Shape, Turn};
 use mc_signal::Medium;
 use mc_slot::Goal;
 use mc_text::{NameFault, Names};
-use mc_world::{BoxShape, Change, Event, Kind, Shape, Turn};
 use std::alloc::{AllocError, Global};
 
 // A device `alice` with a slot `a`, and a feature `f` with a slot `w`.

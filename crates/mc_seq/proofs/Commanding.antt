@@ -3,18 +3,18 @@ use Rattle.std.proofs.Common.{◌≡◌, ◌<◌, ◌+◌, ◌++◌, ◌&&◌, n
 use Rattle.std.specs.Option.{option_and_then}
 use Rattle.std.proofs.Math.ListN.{get_or}
 use Rattle.std.proofs.lemmas.List.{take_more}
-use Rattle.mc_world.specs.Boxes.{BoxState}
+use Rattle.mc_box.specs.Boxes.{BoxState}
 use Rattle.mc_world.specs.Shapes.{HasShape, allows, is_allowed}
-use Rattle.mc_world.specs.Sound.{IsSound}
+use Rattle.mc_world.specs.LinkFree.{IsLinkFree}
 use Rattle.mc_world.specs.Steps.{run, step}
 use Rattle.mc_world.specs.Worlds.{WorldState, box_at}
-use Rattle.mc_world.specs.declared.event.Change.TheVariants.{End as NewEnd, Link as NewLink}
-use Rattle.mc_world.specs.declared.event.Event.{Event}
-use Rattle.mc_world.specs.declared.event.Event.TheVariants.{Take, Set, Media, Tell, Retry, Shift}
-use Rattle.mc_world.specs.declared.event.Turn.{Turn}
+use Rattle.mc_box.specs.declared.event.Change.TheVariants.{End as NewEnd, Link as NewLink}
+use Rattle.mc_box.specs.declared.event.Event.{Event}
+use Rattle.mc_box.specs.declared.event.Event.TheVariants.{Take, Set, Media, Tell, Retry, Shift}
+use Rattle.mc_box.specs.declared.event.Turn.{Turn}
 use Rattle.mc_world.proofs.CommandsGo.{command_goes}
 use Rattle.mc_world.proofs.ShapesKept.{shape_both, step_keeps_shape}
-use Rattle.mc_world.proofs.StepKeeps.{step_keeps_sound}
+use Rattle.mc_world.proofs.LinkFree.{allowed_links_none, step_keeps_link_free}
 
 -- a box allows what one with as many slots allows
 allows_same : (event : Event) (new old : BoxState) → length new.slots ≡ length old.slots → allows new event ≡ allows old event
@@ -34,7 +34,7 @@ allowed_same now start turn shape =
 
 -- so many commands of a batch are made, and the whole leads to where the rest leads from here
 pub record Commanded (start : WorldState) (before batch : List Turn) (now : WorldState) (written : List Turn) (number : ℕ) : Type 0 where
-  pub sound : IsSound now
+  pub sound : IsLinkFree now
   pub shape : HasShape now start
   pub ran : run start batch ≡ run now (drop number batch)
   pub logged : written ≡ before ++ take number batch
@@ -42,16 +42,16 @@ pub record Commanded (start : WorldState) (before batch : List Turn) (now : Worl
 -- the next command can happen
 pub commanded_goes : (start now : WorldState) (before batch written : List Turn) (number : ℕ) (turn : Turn) → Commanded start before batch now written number
     → IsTrue (is_allowed start turn) → IsSome (step now turn)
-commanded_goes start now before batch written number turn so_far allowed = command_goes now turn so_far.sound (allowed_same now start turn so_far.shape ∙ allowed)
+commanded_goes start now before batch written number turn so_far allowed = command_goes now turn so_far.sound.sound (allowed_same now start turn so_far.shape ∙ allowed)
 
 -- one command more
-pub commanded_more : (start now next : WorldState) (before batch written more : List Turn) (number : ℕ) (default : Turn) → number < length batch → Commanded start before batch now written number
+pub commanded_more : (start now next : WorldState) (before batch written more : List Turn) (number : ℕ) (default : Turn) → number < length batch → IsTrue (is_allowed start (get_or batch number default)) → Commanded start before batch now written number
     → step now (get_or batch number default) ≡ Some next → more ≡ written ++ get_or batch number default ∷ [] → Commanded start before batch next more (number + 1)
-commanded_more start now next before batch written more number default inside so_far goes logged =
+commanded_more start now next before batch written more number default inside allowed so_far goes logged =
     let turn : Turn = get_or batch number default in
     record {
-      sound = step_keeps_sound now next turn so_far.sound goes;
-      shape = shape_both next now start (step_keeps_shape now next turn so_far.sound goes) so_far.shape;
+      sound = step_keeps_link_free now next turn so_far.sound (allowed_links_none start turn allowed) goes;
+      shape = shape_both next now start (step_keeps_shape now next turn so_far.sound.sound goes) so_far.shape;
       ran = rw add-one (so_far.ran ∙ (ap (run now) (drop-cons batch number default inside) ∙ ap (option_and_then (λ (w : WorldState). run w (drop (suc number) batch))) goes));
       logged = logged ∙ (ap (λ (turns : List Turn). turns ++ turn ∷ []) so_far.logged
           ∙ (append_assoc before (take number batch) (turn ∷ []) ∙ ap (λ (turns : List Turn). before ++ turns) (sym (take_more batch number default inside))));

@@ -2,11 +2,11 @@
 use Rattle.std.specs.Prelude.{◌≡◌, ◌<◌, ℕ, zero, suc, if◌then◌else◌, List, [], ◌∷◌, ◌++◌, Some, None, IsSome, IsTrue}
 use Rattle.mc_world.specs.Settles.{IsSettled, is_quiet}
 use Rattle.mc_world.specs.Shapes.{owes_of, retry_of}
-use Rattle.mc_world.specs.Sound.{IsSound}
+use Rattle.mc_world.specs.LinkFree.{IsLinkFree, LinkNone}
 use Rattle.mc_world.specs.StepLaws.{take_of}
 use Rattle.mc_world.specs.Steps.{run, step}
 use Rattle.mc_world.specs.Worlds.{WorldState, front, slot_count}
-use Rattle.mc_world.specs.declared.event.Turn.{Turn}
+use Rattle.mc_box.specs.declared.event.Turn.{Turn}
 
 -- slot s can take its front, and no slot below it can
 pub record IsLowest (world : WorldState) (s : ℕ) : Type 0 where
@@ -52,6 +52,6 @@ pub record IsPlain (world : WorldState) (batch turns : List Turn) (last : WorldS
   pub retries : run rested (owed_retries rested) ≡ Some retried
   pub ends : TakesUp retried others last
 
--- such turns are a settled segment
+-- without links, such turns are a settled segment
 abbrev pub PlainOrderSettles : Type 0
-PlainOrderSettles = (world last : WorldState) (batch turns : List Turn) → IsSound world → IsPlain world batch turns last → IsSettled world batch turns last
+PlainOrderSettles = (world last : WorldState) (batch turns : List Turn) → IsLinkFree world → LinkNone batch → IsPlain world batch turns last → IsSettled world batch turns last

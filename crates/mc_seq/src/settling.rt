@@ -3,22 +3,27 @@
 ghost use Rattle.std.specs.Prelude.{◌≡◌, ◌<◌, ◌++◌, [], ◌∷◌, Some, IsSome, IsNone, IsTrue, IfSome, IfOk, OnOk};
 ghost use Rattle.std.specs.List.{All};
 ghost use Rattle.mc_seq.specs.PlainOrder.{IsLowest, IsPlain, TookAll, owed_at, owed_retries};
+ghost use Rattle.mc_world.specs.LinkFree.{HasNoLinks};
 ghost use Rattle.mc_world.specs.Settles.{IsSettled, is_quiet};
 ghost use Rattle.mc_world.specs.Shapes.{is_allowed, owes_of};
 ghost use Rattle.mc_world.specs.Steps.{run, step};
 ghost use Rattle.mc_world.specs.Worlds.{slot_count};
 
+use mc_box::{Event, Turn};
+use mc_goal::owes;
 use mc_slot::SlotGoal;
-use mc_world::{Event, Settled, StepFault, Turn, World, owes};
+use mc_world::{Settled, StepFault, World};
 use std::alloc::{AllocError, Global};
 
 /// Settles a batch in the plain order: every command in its order; then Takes, the lowest slot first, until
 /// nothing is under way; then each retry that is owed then, by slot; then Takes again. Each command is one that
-/// the shapes of the boxes allow. It always comes to rest, unless memory runs out.
+/// the shapes of the boxes allow, and no slot is linked. It always comes to rest, unless memory runs out.
 pub fn settle_in_order(alloc: Global, world: World, batch: &[Turn]) -> Result<Settled, AllocError>
-    requires { All (λ turn. IsTrue (is_allowed world turn)) batch.now }
+    requires free { HasNoLinks world }
+    requires allowed { All (λ turn. IsTrue (is_allowed world turn)) batch.now }
     ensures plain { IfOk result (λ done. IsPlain world batch.now done.turns.items done.world) }
     ensures settled { IfOk result (λ done. IsSettled world batch.now done.turns.items done.world) }
+    ensures free { IfOk result (λ done. HasNoLinks done.world) }
 {
     world.keeps();
     let turns = Vec::new(alloc);
@@ -46,7 +51,9 @@ fn make(settled: &mut Settled, turn: Turn) -> Result<(), AllocError>
 
 // Makes the commands of a batch, in their order.
 fn command(settled: &mut Settled, batch: &[Turn]) -> Result<(), AllocError>
-    requires { All (λ turn. IsTrue (is_allowed settled.old.world turn)) batch.now }
+    requires free { HasNoLinks settled.old.world }
+    requires allowed { All (λ turn. IsTrue (is_allowed settled.old.world turn)) batch.now }
+    ensures free { OnOk result (HasNoLinks settled.new.world) }
     ensures ran { OnOk result (run settled.old.world batch.now ≡ Some settled.new.world) }
     ensures logged { OnOk result (settled.new.turns.items ≡ settled.old.turns.items ++ batch.now) }
 {
@@ -74,7 +81,9 @@ fn lowest_front(world: &World) -> Option<u32>
 
 // Makes Takes, each of the lowest slot that can take its front, until nothing is under way.
 fn take_all(settled: &mut Settled) -> Result<(), AllocError>
-    ensures { OnOk result (TookAll settled.old.world settled.old.turns.items settled.new.world settled.new.turns.items) }
+    requires free { HasNoLinks settled.old.world }
+    ensures free { OnOk result (HasNoLinks settled.new.world) }
+    ensures took { OnOk result (TookAll settled.old.world settled.old.turns.items settled.new.world settled.new.turns.items) }
 {
     settled.world.keeps();
     while let Some(slot) = lowest_front(&settled.world) {
@@ -113,6 +122,8 @@ fn retry(settled: &mut Settled, slot: u32) -> Result<(), AllocError>
 
 // Makes each retry that is owed at the beginning, the lowest slot first.
 fn retry_all(settled: &mut Settled) -> Result<(), AllocError>
+    requires free { HasNoLinks settled.old.world }
+    ensures free { OnOk result (HasNoLinks settled.new.world) }
     ensures ran { OnOk result (run settled.old.world (owed_retries settled.old.world) ≡ Some settled.new.world) }
     ensures logged { OnOk result (settled.new.turns.items ≡ settled.old.turns.items ++ owed_retries settled.old.world) }
 {

@@ -1,23 +1,24 @@
 -- A script that is run: what its journal and its output have so far, and what follows.
-use Rattle.std.proofs.Common.{◌≡◌, ◌<◌, ◌≤◌, ◌&&◌, ◌++◌, ◌∷◌, [], ℕ, ◌+◌, Bool, not, Some, List, All, IsTrue, drop, nat_lt, length, map, slice_index_or, refl, ap, sym, ◌∙◌, add-one, subst, append-nil, append_assoc}
+use Rattle.std.proofs.Common.{◌≡◌, ◌<◌, ◌≤◌, ◌&&◌, ◌++◌, ◌∷◌, [], ℕ, ◌+◌, Bool, not, Some, List, All, IsTrue, drop, nat_lt, length, map, slice_index_or, refl, ap, sym, ◌∙◌, add-one, subst, append-nil, append_assoc, arith, suc}
+use Rattle.std.specs.List.{AllByRecursion}
 use Rattle.std.proofs.Math.Seq.{drop-cons}
 use Rattle.std.proofs.lemmas.List.{drop_all, get_or-map, length-map}
 use Rattle.mc_signal.specs.Choice.{codecs_of}
 use Rattle.mc_signal.specs.declared.codec_list.CodecList.{CodecList}
-use Rattle.mc_world.specs.Boxes.{BoxState}
+use Rattle.mc_box.specs.Boxes.{BoxState}
 use Rattle.mc_world.specs.Settles.{IsSettled, can_shift, is_quiet}
 use Rattle.mc_world.specs.Shapes.{HasShape, allows, is_allowed}
-use Rattle.mc_world.specs.Sound.{IsSound}
+use Rattle.mc_world.specs.LinkFree.{IsLinkFree, LinkNone}
 use Rattle.mc_world.specs.Steps.{run, step}
 use Rattle.mc_world.specs.Worlds.{WorldState, box_at}
-use Rattle.mc_world.specs.declared.event.Change.TheVariants.{End as NewEnd, Link as NewLink}
-use Rattle.mc_world.specs.declared.event.Event.{Event}
-use Rattle.mc_world.specs.declared.event.Event.TheVariants.{Take, Set, Media, Tell, Retry, Shift}
-use Rattle.mc_world.specs.declared.event.Turn.{Turn}
+use Rattle.mc_box.specs.declared.event.Change.TheVariants.{End as NewEnd, Link as NewLink}
+use Rattle.mc_box.specs.declared.event.Event.{Event}
+use Rattle.mc_box.specs.declared.event.Event.TheVariants.{Take, Set, Media, Tell, Retry, Shift}
+use Rattle.mc_box.specs.declared.event.Turn.{Turn}
 use Rattle.mc_world.proofs.CommandsGo.{both_true}
 use Rattle.mc_world.proofs.ShapesKept.{run_keeps_shape, same_shape, shape_both}
 use Rattle.mc_world.proofs.StepForms.{then_some}
-use Rattle.mc_world.proofs.StepKeeps.{run_keeps_sound}
+use Rattle.mc_world.proofs.LinkFree.{allowed_link_none, run_keeps_link_free, settled_link_none}
 use Rattle.mc_path.proofs.SettledHold.{settled_paths_hold}
 use Rattle.mc_text.specs.NameLists.{NameLists}
 use Rattle.mc_script.specs.declared.command.Batch.{Batch}
@@ -59,13 +60,13 @@ allowed_kept new old batch shape all k turn within = allowed_alike new old (slic
 -- after a settle all has its names, the world is sound, and nothing is under way
 pub record IsAfterSettle (names : NameLists) (last : WorldState) : Type 0 where
   pub named : NamesAll names last
-  pub sound : IsSound last
+  pub sound : IsLinkFree last
   pub quiet : IsTrue (is_quiet last)
 
-pub after_settle : (names : NameLists) (world last : WorldState) (batch turns : List Turn) → IsSound world → NamesAll names world → IsSettled world batch turns last → IsAfterSettle names last
-after_settle names world last batch turns sound all settled = record {
-  named = names_kept names last world (run_keeps_shape world last turns sound settled.runs) all;
-  sound = run_keeps_sound world last turns sound settled.runs;
+pub after_settle : (names : NameLists) (world last : WorldState) (batch turns : List Turn) → IsLinkFree world → LinkNone batch → NamesAll names world → IsSettled world batch turns last → IsAfterSettle names last
+after_settle names world last batch turns sound none all settled = record {
+  named = names_kept names last world (run_keeps_shape world last turns sound.sound settled.runs) all;
+  sound = run_keeps_link_free world last turns sound (settled_link_none world last batch turns none settled) settled.runs;
   quiet = (both_true (is_quiet last) (not (can_shift last)) settled.at_rest).0;
 }
 
@@ -92,13 +93,15 @@ printed_after (turn ∷ turns) names number world last rest goes =
     replayed_is world next turn goes = rw goes refl
 
 -- at each settle of a journal from a sound world the paths are as the table says
-pub journal_holds : (waiting : List (List Turn)) (world : WorldState) (journal : List JournalLine) → IsSound world → IsJournal world waiting journal → HoldsAtSettles world journal
-journal_holds [] world journal sound is = subst (λ (lines : List JournalLine). HoldsAtSettles world lines) (sym is) tt
-journal_holds (batch ∷ waiting) world journal sound (turns, last, rest, is, settled, later) =
+pub journal_holds : (waiting : List (List Turn)) (world : WorldState) (journal : List JournalLine) → IsLinkFree world → AllByRecursion LinkNone waiting → IsJournal world waiting journal → HoldsAtSettles world journal
+journal_holds [] world journal sound none is = subst (λ (lines : List JournalLine). HoldsAtSettles world lines) (sym is) tt
+journal_holds (batch ∷ waiting) world journal sound none (turns, last, rest, is, settled, later) =
     let whole : journal ≡ map Made turns ++ (Settled ∷ rest) = is ∙ append_assoc (map Made turns) (Settled ∷ []) rest in
     subst (λ (lines : List JournalLine). HoldsAtSettles world lines) (sym whole)
-    (holds_after turns world last (Settled ∷ rest) settled.runs
-    (settled_paths_hold world last batch turns sound settled, journal_holds waiting last rest (run_keeps_sound world last turns sound settled.runs) later))
+    (holds_after turns world last (Settled ∷ rest) settled.runs (
+      settled_paths_hold world last batch turns sound none.0 settled,
+      journal_holds waiting last rest (run_keeps_link_free world last turns sound (settled_link_none world last batch turns none.0 settled) settled.runs) none.1 later,
+    ))
 
 -- ---- one settle more
 
@@ -128,17 +131,17 @@ print_more start world last names batch turns number journal out so_far settled 
 
 -- what is kept over all settles so far, so many of them: the shapes are those of the beginning, and whatever journal follows goes on from here
 pub record GoesOn (names : NameLists) (start : WorldState) (all rest : List (List Turn)) (count : ℕ) (now : ScriptState) : Type 0 where
-  pub sound : IsSound now.world
+  pub sound : IsLinkFree now.world
   pub shape : HasShape now.world start
   pub journal : (more : List JournalLine) → IsJournal now.world rest more → IsJournal start all (now.journal ++ more)
   pub output : (more : List JournalLine) → printed names 1 start (now.journal ++ more) ≡ now.output ++ printed names (count + 1) now.world more
 
 -- a settle that follows
-goes_settled : (names : NameLists) (start : WorldState) (all rest : List (List Turn)) (count : ℕ) (batch : List Turn) (now next : ScriptState) → Settling names (count + 1) batch now next
+goes_settled : (names : NameLists) (start : WorldState) (all rest : List (List Turn)) (count : ℕ) (batch : List Turn) (now next : ScriptState) → LinkNone batch → Settling names (count + 1) batch now next
     → GoesOn names start all (batch ∷ rest) count now → GoesOn names start all rest (count + 1) next
-goes_settled names start all rest count batch now next s on = record {
-  sound = run_keeps_sound now.world next.world s.turns on.sound s.settled.runs;
-  shape = shape_both next.world now.world start (run_keeps_shape now.world next.world s.turns on.sound s.settled.runs) on.shape;
+goes_settled names start all rest count batch now next none s on = record {
+  sound = run_keeps_link_free now.world next.world s.turns on.sound (settled_link_none now.world next.world batch s.turns none s.settled) s.settled.runs;
+  shape = shape_both next.world now.world start (run_keeps_shape now.world next.world s.turns on.sound.sound s.settled.runs) on.shape;
   journal = λ more later.
       subst (λ (lines : List JournalLine). IsJournal start all (lines ++ more)) (sym s.journal)
       (settle_more start now.world next.world all rest batch s.turns now.journal on.journal s.settled more later);
@@ -153,11 +156,11 @@ next_left : (i : ℕ) (all : List Batch) (none : Batch) → i < length all → m
 next_left i all none within = ap (λ (left : List Batch). map turns_of left) (drop-cons all i none within ∙ ap (λ (n : ℕ). slice_index_or all i none ∷ drop n all) (sym (add-one i)))
 
 -- by the batch's place
-pub goes_next : (names : NameLists) (start : WorldState) (all : List Batch) (i : ℕ) (none : Batch) (now next : ScriptState) → i < length all
+pub goes_next : (names : NameLists) (start : WorldState) (all : List Batch) (i : ℕ) (none : Batch) (now next : ScriptState) → i < length all → LinkNone (turns_of (slice_index_or all i none))
     → Settling names (i + 1) (turns_of (slice_index_or all i none)) now next → GoesOn names start (map turns_of all) (map turns_of (drop i all)) i now
     → GoesOn names start (map turns_of all) (map turns_of (drop (i + 1) all)) (i + 1) next
-goes_next names start all i none now next within s on =
-    goes_settled names start (map turns_of all) (map turns_of (drop (i + 1) all)) i (turns_of (slice_index_or all i none)) now next s
+goes_next names start all i none now next within free s on =
+    goes_settled names start (map turns_of all) (map turns_of (drop (i + 1) all)) i (turns_of (slice_index_or all i none)) now next free s
     (subst (λ (left : List (List Turn)). GoesOn names start (map turns_of all) left i now) (next_left i all none within) on)
 
 -- the batch at a place is allowed now
@@ -168,12 +171,24 @@ batch_allowed names start all i none rest now within allowed on =
     (subst (λ (batch : List Turn). All (λ turn. IsTrue (is_allowed start turn)) batch) (get_or-map turns_of all i none (turns_of none) within)
     (allowed i (turns_of none) (subst (λ (n : ℕ). i < n) (sym (length-map all turns_of)) within)))
 
+-- and links no slots
+pub batch_links_none : (start : WorldState) (all : List Batch) (i : ℕ) (none : Batch) → i < length all → AreAllowed start (map turns_of all) → LinkNone (turns_of (slice_index_or all i none))
+batch_links_none start all i none within allowed =
+    allowed_link_none start (turns_of (slice_index_or all i none))
+    (subst (λ (batch : List Turn). All (λ turn. IsTrue (is_allowed start turn)) batch) (get_or-map turns_of all i none (turns_of none) within)
+    (allowed i (turns_of none) (subst (λ (n : ℕ). i < n) (sym (length-map all turns_of)) within)))
+
+-- nor does any batch
+pub batches_link_none : (start : WorldState) (batches : List (List Turn)) → AreAllowed start batches → AllByRecursion LinkNone batches
+batches_link_none start [] allowed = tt
+batches_link_none start (batch ∷ batches) allowed = (allowed_link_none start batch (allowed 0 batch (omega arith)), batches_link_none start batches (λ k none within. allowed (suc k) none (omega arith)))
+
 -- all has its names now
 pub names_now : (names : NameLists) (start : WorldState) (all rest : List (List Turn)) (count : ℕ) (now : ScriptState) → NamesAll names start → GoesOn names start all rest count now → NamesAll names now.world
 names_now names start all rest count now named on = names_kept names now.world start on.shape named
 
 -- nothing was run yet
-pub goes_first : (names : NameLists) (start : WorldState) (all : List (List Turn)) → IsSound start → GoesOn names start all all 0 (begun start)
+pub goes_first : (names : NameLists) (start : WorldState) (all : List (List Turn)) → IsLinkFree start → GoesOn names start all all 0 (begun start)
 goes_first names start all sound = record {
   sound = sound;
   shape = same_shape start;

@@ -7,7 +7,7 @@ use Rattle.mc_world.specs.Paths.{paths}
 use Rattle.mc_world.specs.Settles.{IsSettled}
 use Rattle.mc_world.specs.Steps.{step}
 use Rattle.mc_world.specs.Worlds.{WorldState}
-use Rattle.mc_world.specs.declared.event.Turn.{Turn}
+use Rattle.mc_box.specs.declared.event.Turn.{Turn}
 use Rattle.mc_script.specs.declared.command.JournalLine.{JournalLine}
 use Rattle.mc_script.specs.declared.command.JournalLine.TheVariants.{Turn as Made, Settled}
 

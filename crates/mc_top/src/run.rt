@@ -1,5 +1,6 @@
 // A script, settle by settle.
 ghost use Rattle.std.specs.Prelude.{◌≡◌, ◌++◌, ◌+◌, map, All, IfOk, OnOk, IsTrue};
+ghost use Rattle.mc_world.specs.LinkFree.{HasNoLinks};
 ghost use Rattle.mc_world.specs.Shapes.{is_allowed};
 ghost use Rattle.mc_net.specs.Nets.{AreAllowed, NamesAll, turns_of};
 ghost use Rattle.mc_top.specs.Journals.{IsJournal, HoldsAtSettles, lines_for};
@@ -7,11 +8,12 @@ ghost use Rattle.mc_top.specs.Printed.{printed};
 ghost use Rattle.mc_top.specs.Scripts.{begun, Settling};
 
 use crate::print::print_settle;
+use mc_box::Turn;
 use mc_path::paths;
 use mc_script::{Batch, JournalLine};
 use mc_seq::settle_in_order;
 use mc_text::Names;
-use mc_world::{Turn, World};
+use mc_world::World;
 use std::alloc::{AllocError, Global};
 use std::marker::Model;
 
@@ -57,6 +59,7 @@ impl Progress {
         number: usize,
         batch: &[Turn],
     ) -> Result<Progress, AllocError>
+        requires free { HasNoLinks self.world }
         requires allowed { All (λ turn. IsTrue (is_allowed self.world turn)) batch.now }
         requires named { NamesAll names.now self.world }
         ensures { IfOk result (λ next. Settling names.now number batch.now self next) }
@@ -91,7 +94,7 @@ fn log(turns: &[Turn], journal: &mut Vec<JournalLine>) -> Result<(), AllocError>
 }
 
 /// Runs a script: settles its batches one after the other, each in the plain order, and prints the paths after each.
-/// All that the world has is named, and its boxes allow each command.
+/// All that the world has is named, no slot is linked, and the boxes allow each command.
 pub fn run_script(
     alloc: Global,
     names: &Names,
@@ -99,6 +102,7 @@ pub fn run_script(
     batches: &[Batch],
 ) -> Result<Run, AllocError>
     requires named { NamesAll names.now world }
+    requires free { HasNoLinks world }
     requires allowed { AreAllowed world (map turns_of batches.now) }
     ensures settled { IfOk result (λ run. IsJournal world (map turns_of batches.now) run.journal.items) }
     ensures holds { IfOk result (λ run. HoldsAtSettles world run.journal.items) }

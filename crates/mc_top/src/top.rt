@@ -2,6 +2,7 @@
 ghost use Rattle.std.specs.Prelude.{◌≡◌, ◌≢◌, ◌≤◌, ◌<◌, ◌⊎◌, ℕ, List, [], map, take, IfOk, IfSome, IsErrOf, Some};
 ghost use Rattle.mc_io.specs.Bytes.{ConsumesAtMost};
 ghost use Rattle.mc_io.specs.Causes.{Rose};
+ghost use Rattle.mc_world.specs.LinkFree.{HasNoLinks};
 ghost use Rattle.mc_net.specs.Nets.{AreAllowed, DeclaresNet, NamesAll, turns_of};
 ghost use Rattle.mc_net.specs.SoFar.{Declared};
 ghost use Rattle.mc_net.specs.Texts.{IsFault, Says};
@@ -121,6 +122,7 @@ fn refuse<K: Sink>(alloc: Global, text: &[u8], fault: TextFault, sink: &mut K) -
 fn run_net<K: Sink>(alloc: Global, mode: Mode, text: &[u8], net: Net, sink: &mut K) -> Done
     requires declares { DeclaresNet text.now net }
     requires named { NamesAll net.names net.world }
+    requires free { HasNoLinks net.world }
     requires allowed { AreAllowed net.world (map turns_of net.batches.items) }
     ensures statuses { (result.due ≡ 0) ⊎ (result.due ≡ 3) }
     ensures status { (result.status ≡ result.due) ⊎ (result.status ≡ 5) }

@@ -7,7 +7,7 @@ use Rattle.mc_slot.specs.declared.Goal.TheVariants.{Close as ToClose}
 use Rattle.mc_slot.specs.declared.Slot.{Slot}
 use Rattle.mc_slot.specs.declared.SlotGoal.{SlotGoal}
 use Rattle.mc_slot.specs.declared.SlotGoal.TheVariants.{End}
-use Rattle.mc_world.specs.Boxes.{BoxState, IsBox, no_box, no_slot, slot_at, goal_at, media_at, own, sender}
+use Rattle.mc_box.specs.Boxes.{BoxState, IsBox, no_box, no_slot, slot_at, goal_at, media_at, own, sender}
 use Rattle.mc_world.proofs.BoxSound.{own_put, sender_put, put}
 
 -- the boxes, with another slot and goal at one place

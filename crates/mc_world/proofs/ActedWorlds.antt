@@ -6,7 +6,7 @@ use Rattle.mc_signal.specs.declared.Signal.{Signal}
 use Rattle.mc_signal.specs.declared.Tagged.{Tagged}
 use Rattle.mc_slot.specs.declared.Slot.{Slot}
 use Rattle.mc_slot.specs.declared.SlotGoal.{SlotGoal}
-use Rattle.mc_world.specs.Boxes.{no_box}
+use Rattle.mc_box.specs.Boxes.{no_box}
 use Rattle.mc_world.specs.Sound.{IsNumbered}
 use Rattle.mc_world.specs.Worlds.{WorldState, box_at, far, for_tunnel, joint_of, lane_of, lane_to, list_to, number, place, slot_count}
 use Rattle.mc_world.proofs.ActedBoxes.{SameSlot, NewSlot, put_at, slot_here, slot_else}

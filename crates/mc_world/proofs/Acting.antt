@@ -4,7 +4,7 @@ use Rattle.mc_signal.specs.declared.Signal.{Signal}
 use Rattle.mc_slot.specs.Moves.{answered}
 use Rattle.mc_slot.specs.Tunnel.{TunnelSound}
 use Rattle.mc_slot.specs.declared.Slot.{Slot}
-use Rattle.mc_world.specs.Stepped.{Acted, sends, takes}
+use Rattle.mc_box.specs.Acting.{Acted, sends, takes}
 use Rattle.mc_tunnel.proofs.Taking.{take_keeps}
 use Rattle.mc_tunnel.proofs.Sending.{sends_keep}
 

@@ -1,15 +1,16 @@
 -- The signals of lanes, where one of them changes.
-use Rattle.std.proofs.Common.{◌≡◌, ℕ, ◌<◌, ◌≤◌, zero, suc, List, [], ◌∷◌, ◌++◌, drop, length, get_or, Vec, refl, ap, sym, subst, ◌∙◌, arith}
+use Rattle.std.proofs.Common.{◌≡◌, ℕ, ◌<◌, ◌≤◌, zero, suc, List, [], ◌∷◌, ◌++◌, drop, length, get_or, MatchOption, Option, Some, None, slice_get, Vec, refl, ap, sym, subst, ◌∙◌, arith}
 use Rattle.std.proofs.Math.ListN.{set}
 use Rattle.std.specs.declared.alloc.Global.{Global}
 use Rattle.std.specs.Vec.{with_items}
 use Rattle.std.proofs.lemmas.List.{map-set, set-get_or, with_items_is}
+use Rattle.mc_lane.specs.Queue.{Queue}
 use Rattle.mc_signal.specs.declared.Tagged.{Tagged}
 use Rattle.mc_world.specs.Lanes.{HasRoomFrom, signals_of}
 use Rattle.mc_world.specs.declared.ways.Ways.{Ways}
 
 abbrev pub Lane : Type 0
-Lane = Vec Tagged Global
+Lane = Queue Tagged
 
 -- what is read is there
 pub signals_at : (lanes : List Lane) (k : ℕ) (d : Lane) → k < length lanes → get_or (signals_of lanes) k [] ≡ (get_or lanes k d).items
@@ -24,6 +25,11 @@ signals_of-set lanes k lane = map-set (λ (l : Lane). l.items) lanes k lane
 -- a lane keeps its signals
 pub signals_stay : (lanes : List Lane) (k : ℕ) (d new : Lane) → k < length lanes → new.items ≡ (get_or lanes k d).items → signals_of (set lanes k new) ≡ signals_of lanes
 signals_stay lanes k d new here same = rw (signals_of-set lanes k new, same, ← signals_at lanes k d here) (set-get_or (signals_of lanes) k [])
+
+-- what a pop leaves
+pub popped_is : (old new : List Tagged) (result : Option Tagged) → MatchOption result ((old ≡ []) × (new ≡ [])) (λ item. old ≡ item ∷ new) → new ≡ drop 1 old
+popped_is old new None none = rw (none.0, none.1) refl
+popped_is old new (Some item) is = rw is refl
 
 -- the front of a lane goes
 pub signals_popped : (lanes : List Lane) (k : ℕ) (d new : Lane) → k < length lanes → new.items ≡ drop 1 (get_or lanes k d).items
@@ -65,3 +71,10 @@ signals_written lanes first made second last out is long same again last_long wr
     let there : (with_items (with_items lanes made) last).items ≡ last = refilled (with_items lanes made) last (rw again at last_long) in
     let second_is : signals_of second ≡ signals_of lanes.items = rw again (signals_kept lanes first made is long same) in
     rw (there, written, second_is) refl
+
+-- what stands at a place is what is read there
+pub got_is : {A : Type 0} (items : List A) (i : ℕ) (item default : A) → Some item ≡ slice_get items i → item ≡ get_or items i default
+got_is [] zero item default is = absurd (cc)
+got_is [] (suc i) item default is = absurd (cc)
+got_is (first ∷ items) zero item default is = cc
+got_is (first ∷ items) (suc i) item default is = got_is items i item default is

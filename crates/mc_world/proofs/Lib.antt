@@ -1,9 +1,7 @@
 pub mod ActedBoxes
 pub mod ActedWorlds
 pub mod Acting
-pub mod BoxActs
 pub mod BoxSound
-pub mod BoxTurns
 pub mod CommandsGo
 mod Exchanges
 pub mod Firsts
@@ -12,8 +10,10 @@ pub mod Joints
 mod LaneChanges
 pub mod LaneSums
 pub mod LanesKept
+pub mod LinkFree
 pub mod Lowers
 mod NewLanes
+pub mod NewWorlds
 pub mod NoPrograms
 pub mod Numbers
 pub mod Parts
@@ -28,7 +28,6 @@ pub mod SteppedKeeps
 pub mod Sums
 mod Tables
 pub mod TakeForms
-pub mod TurnGoes
 pub mod TwoPhones
 mod WayLanes
 mod WorldSteps

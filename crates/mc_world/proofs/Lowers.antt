@@ -13,19 +13,21 @@ use Rattle.mc_slot.specs.declared.SlotGoal.TheVariants.{End, Link}
 use Rattle.mc_slot.specs.declared.State.{State}
 use Rattle.mc_turn.specs.Weights.{weight, weights, stored_end}
 use Rattle.mc_turn.proofs.EndPays.{end_pays}
-use Rattle.mc_world.specs.Measures.{MeasureBound, TakeLowers, TakesEnd, is_take, measure, measure_at, stored_of, total, under_way}
-use Rattle.mc_world.specs.Sound.{IsNumbered, IsSound, RestsBy}
+use Rattle.mc_box.specs.BoxEvents.{is_take}
+use Rattle.mc_world.specs.Measures.{MeasureBound, TakeLowers, TakesEnd, measure, measure_at, stored_of, total, under_way}
+use Rattle.mc_world.specs.LinkFree.{IsLinkFree, RestsBy}
+use Rattle.mc_world.specs.Sound.{IsNumbered}
 use Rattle.mc_world.specs.Steps.{run, step}
 use Rattle.mc_world.specs.Worlds.{WorldState, far, for_tunnel, goal_of, joint_of, lane_to, list_to, own_descriptor, own_sender, slot_count, slot_of}
-use Rattle.mc_world.specs.declared.event.Event.{Event}
-use Rattle.mc_world.specs.declared.event.Event.TheVariants.{Take, Set, Media, Tell, Retry, Shift}
-use Rattle.mc_world.specs.declared.event.Turn.{Turn}
+use Rattle.mc_box.specs.declared.event.Event.{Event}
+use Rattle.mc_box.specs.declared.event.Event.TheVariants.{Take, Set, Media, Tell, Retry, Shift}
+use Rattle.mc_box.specs.declared.event.Turn.{Turn}
 use Rattle.mc_world.proofs.ActedWorlds.{acted_world, elsewhere, far_inside, here, list_else, list_far, list_here}
 use Rattle.mc_world.proofs.LaneSums.{lists_most}
 use Rattle.mc_world.proofs.LanesKept.{Fronts}
 use Rattle.mc_world.proofs.Numbers.{far_other}
 use Rattle.mc_world.proofs.StepForms.{then_some}
-use Rattle.mc_world.proofs.StepKeeps.{step_keeps_sound}
+use Rattle.mc_world.proofs.LinkFree.{goals_rest, step_keeps_link_free, take_links_none}
 use Rattle.mc_world.proofs.Sums.{total_most, total_two, weights-append, weights_most}
 use Rattle.mc_world.proofs.TakeForms.{TakeForm, sends_of, take_of_form}
 
@@ -101,21 +103,21 @@ lowers_sum : (new old here front rest before after more : ℕ) → new + here �
 lowers_sum new old here front rest before after more change here_is pays = omega arith
 
 -- the world after a taking measures less
-acted_lowers : (world : WorldState) (s : ℕ) (signal : Signal) (goal : Goal) (answer : Option Signal) (middle last : Slot) → IsSound world → s < slot_count world
+acted_lowers : (world : WorldState) (s : ℕ) (signal : Signal) (goal : Goal) (answer : Option Signal) (middle last : Slot) → IsLinkFree world → s < slot_count world
     → Fronts (joint_of world s).within signal (lane_to world s) → goal_of world s ≡ End goal → taken (slot_of world s) signal ≡ Some record { answer = answer; after = middle }
     → sent_all middle (due goal middle (pushed_by signal middle.state) (own_descriptor world s) (own_sender world s)) ≡ Some last
     → measure (acted_world world s last (End goal) (drop 1 (lane_to world s)) (sends_of world s goal signal answer middle)) < measure world
 acted_lowers world s signal goal answer middle last sound inside fronts aims takes turns =
     let rest : List Signal = for_tunnel (joint_of world s).within (drop 1 (lane_to world s)) in
-    let quiet : RestsBy (End goal) world s = subst (λ (g : SlotGoal). RestsBy g world s) aims (sound.goals s inside) in
+    let quiet : RestsBy (End goal) world s = subst (λ (g : SlotGoal). RestsBy g world s) aims (goals_rest world s sound inside) in
     lowers_sum (measure (acted_world world s last (End goal) (drop 1 (lane_to world s)) (sends_of world s goal signal answer middle))) (measure world) (measure_at world s)
     (weight 2 signal) (weights 2 rest) (stored_end goal (slot_of world s).state) (stored_end goal last.state) (weights 2 (sends_of world s goal signal answer middle))
-    (acted_measure world s last (End goal) (drop 1 (lane_to world s)) (sends_of world s goal signal answer middle) sound.numbered inside fronts.others)
+    (acted_measure world s last (End goal) (drop 1 (lane_to world s)) (sends_of world s goal signal answer middle) sound.sound.numbered inside fronts.others)
     (at_front world s signal rest goal fronts.next aims)
-    (end_pays goal (slot_of world s) middle last (own_descriptor world s) (own_sender world s) signal answer 2 1 (sound.tunnels s inside).first_kept quiet takes turns (omega arith) (omega arith))
+    (end_pays goal (slot_of world s) middle last (own_descriptor world s) (own_sender world s) signal answer 2 1 (sound.sound.tunnels s inside).first_kept quiet takes turns (omega arith) (omega arith))
 
 -- so does the next world of a Take
-form_lowers : (world next : WorldState) → IsSound world → TakeForm world next → measure next < measure world
+form_lowers : (world next : WorldState) → IsLinkFree world → TakeForm world next → measure next < measure world
 form_lowers world next sound form =
     subst (λ (w : WorldState). measure w < measure world) (sym form.is)
     (acted_lowers world form.s form.signal form.goal form.answer form.middle form.last sound form.inside form.fronts form.aims form.takes form.turns)
@@ -127,7 +129,7 @@ take_lowers world next who local sound goes = form_lowers world next sound (take
 -- ---- runs of Takes
 
 -- one turn that is a Take
-turn_lowers : (event : Event) (world next : WorldState) (who : ℕ) → IsSound world → is_take event ≡ true → step world (record { who = who; event = event }) ≡ Some next → measure next < measure world
+turn_lowers : (event : Event) (world next : WorldState) (who : ℕ) → IsLinkFree world → is_take event ≡ true → step world (record { who = who; event = event }) ≡ Some next → measure next < measure world
 turn_lowers (Take local) world next who sound is goes = take_lowers world next who local sound goes
 turn_lowers (Set change) world next who sound is goes = absurd (cc)
 turn_lowers (Media change) world next who sound is goes = absurd (cc)
@@ -141,13 +143,13 @@ both_true true second is = (refl, is)
 both_true false second is = absurd (cc)
 
 -- one turn after another
-takes_by : (turns : List Turn) (world next : WorldState) → IsSound world → list_all (λ turn. is_take turn.event) turns ≡ true → run world turns ≡ Some next → length turns + measure next ≤ measure world
+takes_by : (turns : List Turn) (world next : WorldState) → IsLinkFree world → list_all (λ turn. is_take turn.event) turns ≡ true → run world turns ≡ Some next → length turns + measure next ≤ measure world
 takes_by [] world next sound all goes = let same : world ≡ next = cc in subst (λ (w : WorldState). 0 + measure w ≤ measure world) same (omega arith)
 takes_by (turn ∷ turns) world next sound all goes =
     let parts = both_true (is_take turn.event) (list_all (λ (turn : Turn). is_take turn.event) turns) all in
     let one = then_some (λ (w : WorldState). run w turns) (step world turn) next goes in
     let lower : measure one.0 < measure world = turn_lowers turn.event world one.0 turn.who sound parts.0 one.1 in
-    let later : length turns + measure next ≤ measure one.0 = takes_by turns one.0 next (step_keeps_sound world one.0 turn sound one.1) parts.1 one.2 in
+    let later : length turns + measure next ≤ measure one.0 = takes_by turns one.0 next (step_keeps_link_free world one.0 turn sound (take_links_none turn.event parts.0) one.1) parts.1 one.2 in
     omega (arith, lower, later)
 
 -- a run of Takes is no longer than the measure

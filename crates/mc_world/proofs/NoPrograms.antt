@@ -2,11 +2,11 @@
 use Rattle.std.proofs.Common.{◌≡◌, false, None, List, [], ◌∷◌, refl, arith}
 use Rattle.std.specs.List.{list_any}
 use Rattle.std.specs.Option.{is_some}
-use Rattle.mc_world.specs.BoxEvents.{box_event}
-use Rattle.mc_world.specs.Boxes.{BoxState}
+use Rattle.mc_box.specs.BoxEvents.{box_event}
+use Rattle.mc_box.specs.Boxes.{BoxState}
 use Rattle.mc_world.specs.Settles.{is_quiet, rests}
 use Rattle.mc_world.specs.Worlds.{WorldState}
-use Rattle.mc_world.specs.declared.event.Event.TheVariants.{Shift}
+use Rattle.mc_box.specs.declared.event.Event.TheVariants.{Shift}
 
 none_shifts : (boxes : List BoxState) → list_any (λ box. is_some (box_event box Shift None)) boxes ≡ false
 none_shifts [] = refl

@@ -3,7 +3,7 @@ use Rattle.std.proofs.Common.{◌≡◌, ◌≢◌, ◌<◌, ◌+◌, ◌*◌, �
 use Rattle.std.proofs.Math.ListN.{get_or}
 use Rattle.std.proofs.lemmas.Grind.{common_steps}
 use Rattle.std.proofs.lemmas.List.Quantifiers.{position-Some}
-use Rattle.mc_world.specs.Boxes.{BoxState, is_slot}
+use Rattle.mc_box.specs.Boxes.{BoxState, is_slot}
 use Rattle.mc_world.specs.Worlds.{WorldState, far, is_place, number, place, places, slot_count}
 
 -- far slots are each other's

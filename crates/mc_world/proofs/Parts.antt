@@ -1,32 +1,17 @@
 -- Of what a box sends, by whichever of its slots, the part of each slot.
-use Rattle.std.proofs.Common.{◌≡◌, ◌≢◌, ◌==◌, ◌++◌, if◌then◌else◌, inl, inr, ℕ, Bool, true, false, List, [], ◌∷◌, map, refl, ap, sym, ◌∙◌, arith}
+use Rattle.std.proofs.Common.{◌≡◌, ◌≢◌, ◌==◌, ◌++◌, if◌then◌else◌, inl, inr, ℕ, Bool, true, false, List, [], ◌∷◌, refl, sym, ◌∙◌, arith}
 use Rattle.std.proofs.lemmas.Bool.{cases_eq}
 use Rattle.std.proofs.lemmas.Grind.{common_steps}
 use Rattle.mc_signal.specs.declared.Signal.{Signal}
-use Rattle.mc_slot.specs.Sending.{pair_of}
+use Rattle.mc_box.specs.Acting.{sent_by}
 
 -- ---- by the slot's local number
-
--- what one slot sends, of all that its box sends, in order
-abbrev pub sent_by : ℕ → List (ℕ × Signal) → List Signal
-sent_by local [] = []
-sent_by local (sending ∷ rest) = if sending.0 == local then sending.1 ∷ sent_by local rest else sent_by local rest
 
 next_own : (local : ℕ) (sending : ℕ × Signal) (rest : List (ℕ × Signal)) → sending.0 ≡ local → sent_by local (sending ∷ rest) ≡ sending.1 ∷ sent_by local rest
 next_own local sending rest is = grind (arith, common_steps)
 
 next_other : (local : ℕ) (sending : ℕ × Signal) (rest : List (ℕ × Signal)) → sending.0 ≢ local → sent_by local (sending ∷ rest) ≡ sent_by local rest
 next_other local sending rest other = grind (arith, common_steps)
-
--- all of it, where one slot sends
-pub own_part : (local : ℕ) (signals : List Signal) → sent_by local (map (pair_of local) signals) ≡ signals
-own_part local [] = refl
-own_part local (signal ∷ signals) = next_own local (local, signal) (map (pair_of local) signals) refl ∙ ap (λ (l : List Signal). signal ∷ l) (own_part local signals)
-
--- and nothing of another slot
-pub no_part : (local other : ℕ) (signals : List Signal) → other ≢ local → sent_by local (map (pair_of other) signals) ≡ []
-no_part local other [] apart = refl
-no_part local other (signal ∷ signals) apart = next_other local (other, signal) (map (pair_of other) signals) apart ∙ no_part local other signals apart
 
 -- ---- by its box and local number
 

@@ -6,7 +6,7 @@ use Rattle.std.proofs.lemmas.Bool.{cases_eq}
 use Rattle.std.proofs.lemmas.List.{append-nil, get_or-set_same, get_or-set_other}
 use Rattle.mc_signal.specs.declared.Signal.{Signal}
 use Rattle.mc_signal.specs.declared.Tagged.{Tagged}
-use Rattle.mc_world.specs.Boxes.{BoxState}
+use Rattle.mc_box.specs.Boxes.{BoxState}
 use Rattle.mc_world.specs.Served.{AllServed}
 use Rattle.mc_world.specs.Steps.{pushed, sent_out}
 use Rattle.mc_world.specs.Worlds.{WorldState, far, for_tunnel, joint_of, lane_of, number, place, slot_count}

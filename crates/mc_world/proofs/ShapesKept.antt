@@ -1,11 +1,12 @@
 -- A step changes no shape, and so a run doesn't.
 use Rattle.std.proofs.Common.{◌≡◌, Some, List, [], ◌∷◌, refl, ◌∙◌, subst}
-use Rattle.mc_world.specs.Boxes.{BoxState}
-use Rattle.mc_world.specs.Shapes.{HasShape, IsAlike, RunKeepsShape, StepKeepsShape}
+use Rattle.mc_box.specs.Acting.{IsAlike}
+use Rattle.mc_box.specs.Boxes.{BoxState}
+use Rattle.mc_world.specs.Shapes.{HasShape, RunKeepsShape, StepKeepsShape}
 use Rattle.mc_world.specs.Sound.{IsSound}
 use Rattle.mc_world.specs.Steps.{run, step}
 use Rattle.mc_world.specs.Worlds.{WorldState, box_at}
-use Rattle.mc_world.specs.declared.event.Turn.{Turn}
+use Rattle.mc_box.specs.declared.event.Turn.{Turn}
 use Rattle.mc_world.proofs.StepActs.{step_acts}
 use Rattle.mc_world.proofs.StepForms.{then_some}
 use Rattle.mc_world.proofs.StepKeeps.{step_keeps_sound}

@@ -6,50 +6,31 @@ use Rattle.std.proofs.lemmas.Bool.{cases_eq}
 use Rattle.std.proofs.lemmas.List.{get_or-set_same, get_or-set_other}
 use Rattle.mc_signal.specs.declared.Signal.{Signal}
 use Rattle.mc_signal.specs.declared.Tagged.{Tagged}
-use Rattle.mc_slot.specs.Tunnel.{Kept}
-use Rattle.mc_slot.specs.declared.SlotGoal.{SlotGoal}
-use Rattle.mc_slot.specs.declared.SlotGoal.TheVariants.{End, Link}
-use Rattle.mc_world.specs.BoxEvents.{BoxStep, box_event}
-use Rattle.mc_world.specs.BoxSound.{RestsAt}
-use Rattle.mc_world.specs.Boxes.{BoxState, goal_at, no_box, slot_at}
-use Rattle.mc_world.specs.Sound.{IsNumbered, IsSound, RestsBy}
+use Rattle.mc_slot.specs.declared.Slot.{Slot}
+use Rattle.mc_box.specs.BoxEvents.{BoxStep, box_event}
+use Rattle.mc_box.specs.Acting.{Acted, BoxActs, IsSameMake, sends, sent_by}
+use Rattle.mc_box.specs.BoxSound.{IsSoundBox}
+use Rattle.mc_box.specs.Boxes.{BoxState, no_box, slot_at}
+use Rattle.mc_world.specs.Sound.{IsNumbered, IsSound}
 use Rattle.mc_world.specs.StepLaws.{StepActs}
-use Rattle.mc_world.specs.Stepped.{Acted, IsSameMake, Stepped, sends}
+use Rattle.mc_world.specs.Stepped.{Stepped}
 use Rattle.mc_world.specs.Steps.{made, popped, step, step_by, take_at}
-use Rattle.mc_world.specs.Worlds.{WorldState, box_at, for_tunnel, front, goal_of, joint_of, lane_of, lane_to, list_to, number, place, slot_count, slot_of}
-use Rattle.mc_world.specs.declared.event.Event.{Event}
-use Rattle.mc_world.specs.declared.event.Event.TheVariants.{Take, Set, Media, Tell, Retry, Shift}
-use Rattle.mc_world.specs.declared.event.Turn.{Turn}
-use Rattle.mc_world.proofs.BoxActs.{BoxActs, BoxFacts, act_acts, acted_by, take_acts}
+use Rattle.mc_world.specs.Worlds.{WorldState, box_at, for_tunnel, front, joint_of, lane_of, lane_to, list_to, number, place, slot_count, slot_of}
+use Rattle.mc_box.specs.declared.event.Event.{Event}
+use Rattle.mc_box.specs.declared.event.Event.TheVariants.{Take, Set, Media, Tell, Retry, Shift}
+use Rattle.mc_box.specs.declared.event.Turn.{Turn}
+use Rattle.mc_box.proofs.EventActs.{event_acts, take_acts}
 use Rattle.mc_world.proofs.LanesKept.{Fronts, front_next, lane_apart, lane_in}
 use Rattle.mc_world.proofs.Numbers.{box_inside, number_is}
-use Rattle.mc_world.proofs.Parts.{part_of, part_other, part_own, sent_by}
+use Rattle.mc_world.proofs.Parts.{part_of, part_other, part_own}
 use Rattle.mc_world.proofs.SentOut.{Sent, list_in, sends_out}
 use Rattle.mc_world.proofs.StepForms.{if_some, map_some, then_some}
 
--- ---- the facts of a box of a sound world
-
--- a goal is at rest in the world where it is so in its box
-pub rests_in : (goal : SlotGoal) (world : WorldState) (s : ℕ) → RestsBy goal world s → RestsAt goal (box_at world (place world s).0) (place world s).1
-rests_in (End goal) world s rests = rests
-rests_in (Link partner) world s rests = rests
-
-pub rests_out : (goal : SlotGoal) (world : WorldState) (s : ℕ) → RestsAt goal (box_at world (place world s).0) (place world s).1 → RestsBy goal world s
-rests_out (End goal) world s rests = rests
-rests_out (Link partner) world s rests = rests
-
-pub box_facts : (world : WorldState) (who : ℕ) → IsSound world → who < length world.boxes → BoxFacts (box_at world who)
-box_facts world who sound below = record {
-  whole = sound.numbered.whole who below;
-  kept = λ local inside.
-      let found = sound.numbered.all who local below inside in
-      subst (λ (p : ℕ × ℕ). Kept (slot_at (box_at world p.0) p.1)) found.2 (sound.tunnels found.0 found.1).first_kept;
-  rests = λ local inside.
-      let found = sound.numbered.all who local below inside in
-      subst (λ (p : ℕ × ℕ). RestsAt (goal_at (box_at world p.0) p.1) (box_at world p.0) p.1) found.2 (rests_in (goal_of world found.0) world found.0 (sound.goals found.0 found.1));
-}
-
 -- ---- a box's step in its world
+
+acted_by : (a b after last : Slot) (to_a to_b sent parts left rest : List Signal) → b ≡ a → to_b ≡ to_a → parts ≡ sent → last ≡ after → rest ≡ left
+    → Acted a to_a sent after left → Acted b to_b parts last rest
+acted_by a b after last to_a to_b sent parts left rest one two three four five acted = rw (one, two, three, four, five) acted
 
 -- a slot of a box, by its local number
 abbrev pub slot_no : WorldState → ℕ → ℕ → ℕ
@@ -65,10 +46,14 @@ pub record Left (world : WorldState) (who : ℕ) (lanes : List (List Tagged)) : 
   pub rest : (lane : ℕ) → (get_or lanes lane [] ≡ get_or world.lanes lane []) ⊎ (get_or lanes lane [] ≡ drop 1 (get_or world.lanes lane []))
   pub others : (s : ℕ) → s < slot_count world → (place world s).0 ≢ who → list_in world lanes s ≡ list_to world s
 
--- the world is as its slots have acted, and the goals of the box are at rest
-pub record Turned (world next : WorldState) (who : ℕ) : Type 0 where
+-- the world is as its slots have acted, and the box is what its event leaves, which is sound
+pub record Turned (world next : WorldState) (who : ℕ) (event : Event) : Type 0 where
   pub stepped : Stepped world next who
-  pub rests : (local : ℕ) → local < length (box_at world who).slots → RestsAt (goal_at (box_at next who) local) (box_at next who) local
+  pub signal : Option Signal
+  pub step : BoxStep
+  pub goes : box_event (box_at world who) event signal ≡ Some step
+  pub after : box_at next who ≡ step.after
+  pub sound : IsSoundBox (box_at next who)
 
 -- what comes to the slots of a box, and what is left there
 abbrev pub comes : WorldState → ℕ → List (List Tagged) → ℕ → List Signal
@@ -131,14 +116,18 @@ made_stepped world who step lanes after numbered below left acts sent = record {
 }
 
 -- a box that acts makes a step of its world, by whichever of its slots it sends
-pub box_turns : (world next : WorldState) (who : ℕ) (step : BoxStep) (lanes : List (List Tagged)) → IsNumbered world → who < length world.boxes → Left world who lanes
-    → BoxActs (box_at world who) (comes world who world.lanes) step (comes world who lanes) → made (record world { lanes = lanes }) who step ≡ next → Turned world next who
-box_turns world next who step lanes numbered below left acts goes =
+pub box_turns : (world next : WorldState) (who : ℕ) (event : Event) (signal : Option Signal) (step : BoxStep) (lanes : List (List Tagged)) → IsNumbered world → who < length world.boxes
+    → box_event (box_at world who) event signal ≡ Some step → Left world who lanes
+    → BoxActs (box_at world who) (comes world who world.lanes) step (comes world who lanes) → made (record world { lanes = lanes }) who step ≡ next → Turned world next who event
+box_turns world next who event signal step lanes numbered below happens left acts goes =
     let out = sends_out step.sent world (set world.boxes who step.after) lanes who numbered.once (left.count ∙ numbered.lanes) in
-    subst (λ (w : WorldState). Turned world w who) (sym out.1 ∙ goes) (record {
+    subst (λ (w : WorldState). Turned world w who event) (sym out.1 ∙ goes) (record {
       stepped = made_stepped world who step lanes out.0 numbered below left acts out.2;
-      rests = λ local inside.
-          subst (λ (b : BoxState). RestsAt (goal_at b local) b local) (sym (get_or-set_same world.boxes who step.after no_box below)) (acts.rests local inside);
+      signal = signal;
+      step = step;
+      goes = happens;
+      after = get_or-set_same world.boxes who step.after no_box below;
+      sound = subst (λ (b : BoxState). IsSoundBox b) (sym (get_or-set_same world.boxes who step.after no_box below)) acts.sound;
     })
 
 -- ---- nothing leaves its lane
@@ -148,10 +137,10 @@ all_left world who = record { count = refl; rest = λ lane. inl refl; others = �
 
 -- an event that takes nothing
 act_turns : (event : Event) (world next : WorldState) (who : ℕ) (step : BoxStep) → IsSound world → who < length world.boxes → box_event (box_at world who) event None ≡ Some step
-    → made world who step ≡ next → Turned world next who
+    → made world who step ≡ next → Turned world next who event
 act_turns event world next who step sound below goes made_is =
-    box_turns world next who step world.lanes sound.numbered below (all_left world who)
-    (act_acts event (box_at world who) step (comes world who world.lanes) (comes world who world.lanes) (box_facts world who sound below) goes (λ k inside. refl)) made_is
+    box_turns world next who event None step world.lanes sound.numbered below goes (all_left world who)
+    (event_acts (box_at world who) event step (comes world who world.lanes) (comes world who world.lanes) (sound.boxes who below) goes (λ k inside. refl)) made_is
 
 -- ---- a front leaves its lane
 
@@ -200,7 +189,7 @@ comes_else world who s local k signal numbered below there inside local_is front
 
 -- a Take
 take_turns : (world next : WorldState) (who local s : ℕ) (signal : Signal) (step : BoxStep) → IsSound world → who < length world.boxes → number world who local ≡ Some s → front world s ≡ Some signal
-    → box_event (box_at world who) (Take local) (Some signal) ≡ Some step → made (popped world s) who step ≡ next → Turned world next who
+    → box_event (box_at world who) (Take local) (Some signal) ≡ Some step → made (popped world s) who step ≡ next → Turned world next who (Take local)
 take_turns world next who local s signal step sound below is first goes made_is =
     let found = number_is world who local s is in
     let there : lane_of world s < length world.lanes = subst (λ (n : ℕ). lane_of world s < n) (sym sound.numbered.lanes) (lane_in world s found.0) in
@@ -209,13 +198,13 @@ take_turns world next who local s signal step sound below is first goes made_is 
     let first_is : comes world who world.lanes local ≡ signal ∷ comes world who (without world s) local =
     subst (λ (t : ℕ). list_to world t ≡ signal ∷ list_in world (without world s) t) (sym no)
     (fronts.next ∙ ap (λ (l : List Signal). signal ∷ l) (sym (left_here world s there))) in
-    box_turns world next who step (without world s) sound.numbered below (front_left world who s signal there found.0 found.1 fronts)
-    (take_acts (box_at world who) local signal step (comes world who world.lanes) (comes world who (without world s)) (box_facts world who sound below) goes first_is
+    box_turns world next who (Take local) (Some signal) step (without world s) sound.numbered below goes (front_left world who s signal there found.0 found.1 fronts)
+    (take_acts (box_at world who) local signal step (comes world who world.lanes) (comes world who (without world s)) (sound.boxes who below) goes first_is
     (λ k within apart. comes_else world who s local k signal sound.numbered below there found.0 found.2 fronts within apart)) made_is
 
 -- ---- each turn
 
-event_turns : (event : Event) (world next : WorldState) (who : ℕ) → IsSound world → who < length world.boxes → step_by world who event ≡ Some next → Turned world next who
+event_turns : (event : Event) (world next : WorldState) (who : ℕ) → IsSound world → who < length world.boxes → step_by world who event ≡ Some next → Turned world next who event
 event_turns (Take local) world next who sound below goes =
     let one = then_some (take_at world who local) (number world who local) next goes in
     let two = then_some (λ (signal : Signal). option_map (made (popped world one.0) who) (box_event (box_at world who) (Take local) (Some signal))) (front world one.0) next one.2 in
@@ -232,7 +221,7 @@ event_turns (Retry local) world next who sound below goes =
 event_turns Shift world next who sound below goes =
     let one = map_some (made world who) (box_event (box_at world who) Shift None) next goes in act_turns Shift world next who one.0 sound below one.1 one.2
 
-pub step_turns : (world next : WorldState) (turn : Turn) → IsSound world → step world turn ≡ Some next → Turned world next turn.who
+pub step_turns : (world next : WorldState) (turn : Turn) → IsSound world → step world turn ≡ Some next → Turned world next turn.who turn.event
 step_turns world next turn sound goes =
     let one = if_some (nat_lt turn.who (length world.boxes)) (step_by world turn.who turn.event) next goes in
     event_turns turn.event world next turn.who sound (box_inside world turn.who one.0) one.1

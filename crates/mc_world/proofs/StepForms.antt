@@ -1,5 +1,5 @@
--- What today's events of a box do: one slot acts, or nothing changes.
-use Rattle.std.proofs.Common.{◌≡◌, ◌<◌, ◌++◌, ◌⊎◌, inl, inr, if◌then◌else◌, ℕ, Bool, true, false, Option, Some, None, List, [], ◌∷◌, map, length, append_assoc, refl, ap, sym, ◌∙◌, subst}
+-- What an end of a box does in its turn, and the world where one slot acts.
+use Rattle.std.proofs.Common.{◌≡◌, ◌<◌, ◌++◌, if◌then◌else◌, ℕ, Bool, true, false, Option, Some, None, List, [], ◌∷◌, map, length, append_assoc, refl, ap, sym, ◌∙◌, subst}
 use Rattle.std.specs.Option.{option_map, option_and_then, unwrap_or}
 use Rattle.std.proofs.Math.ListN.{get_or, set, length-set}
 use Rattle.std.proofs.lemmas.List.{append-nil, get_or-set_same, get_or-set_other, map-append, set-get_or, set-set}
@@ -7,9 +7,8 @@ use Rattle.mc_signal.specs.declared.Descriptor.{Descriptor}
 use Rattle.mc_signal.specs.declared.Sender.{Sender}
 use Rattle.mc_signal.specs.declared.Signal.{Signal}
 use Rattle.mc_signal.specs.declared.Tagged.{Tagged}
-use Rattle.mc_slot.specs.EndTurn.{due, pushed_by, IsAtRest}
-use Rattle.mc_slot.specs.Moves.{answered, sent_all, taken, Took}
-use Rattle.mc_slot.specs.Same.{is_same_goal}
+use Rattle.mc_slot.specs.EndTurn.{due, IsAtRest}
+use Rattle.mc_slot.specs.Moves.{answered, sent_all}
 use Rattle.mc_slot.specs.Sending.{pair_of}
 use Rattle.mc_slot.specs.Tunnel.{Kept}
 use Rattle.mc_slot.specs.declared.Goal.{Goal}
@@ -17,16 +16,16 @@ use Rattle.mc_slot.specs.declared.Goal.TheVariants.{Close as ToClose}
 use Rattle.mc_slot.specs.declared.Slot.{Slot}
 use Rattle.mc_slot.specs.declared.SlotGoal.{SlotGoal}
 use Rattle.mc_slot.specs.declared.SlotGoal.TheVariants.{End, Link}
-use Rattle.mc_world.specs.BoxEvents.{BoxStep, answering, goal_turn, set_end_step, take_step}
-use Rattle.mc_world.specs.Boxes.{BoxState, IsBox, goal_at, media_at, no_slot, own, sender, slot_at, with_goal, with_slot}
-use Rattle.mc_world.specs.Sound.{IsNumbered, RestsBy}
-use Rattle.mc_world.specs.Stepped.{Acted, sends, takes}
+use Rattle.mc_box.specs.BoxEvents.{BoxStep, answering, goal_turn}
+use Rattle.mc_box.specs.Boxes.{BoxState, goal_at, own, sender, slot_at, with_slot}
+use Rattle.mc_box.specs.Acting.{Acted, sends}
+use Rattle.mc_world.specs.LinkFree.{RestsBy}
+use Rattle.mc_world.specs.Sound.{IsNumbered}
 use Rattle.mc_world.specs.Steps.{made, pushed, sent_out, step, with_box, with_lane}
 use Rattle.mc_world.specs.Worlds.{WorldState, far, joint_of, lane_of, lane_to, number, slot_count}
-use Rattle.mc_tunnel.proofs.Steps.{took_kept}
 use Rattle.mc_turn.proofs.EndRests.{rests_kept}
 use Rattle.mc_world.proofs.ActedWorlds.{far_inside}
-use Rattle.mc_world.proofs.BoxSound.{own_put, sender_put, put}
+use Rattle.mc_world.proofs.BoxSound.{put}
 use Rattle.mc_world.proofs.LanesKept.{far_lane, lane_in, tagged_for}
 
 -- ---- options
@@ -76,10 +75,10 @@ pub record TurnForm (box : BoxState) (local : ℕ) (goal : Goal) (pushed : Bool)
   pub goes : sent_all slot (due goal slot pushed mine me) ≡ Some last
   pub is : record { sent = map (pair_of local) (due goal slot pushed mine me); after = with_slot box local last } ≡ turn
 
-pub turn_form : (box : BoxState) (local : ℕ) (goal : Goal) (pushed : Bool) (slot : Slot) (mine : Descriptor) (me : Sender) (turn : BoxStep)
-    → goal_at box local ≡ End goal → slot_at box local ≡ slot → own box local ≡ mine → sender box local ≡ me → goal_turn box local pushed ≡ Some turn
+pub turn_form : (box : BoxState) (local : ℕ) (goal : Goal) (pushed closed : Bool) (slot : Slot) (mine : Descriptor) (me : Sender) (turn : BoxStep)
+    → goal_at box local ≡ End goal → slot_at box local ≡ slot → own box local ≡ mine → sender box local ≡ me → goal_turn box local pushed closed ≡ Some turn
     → TurnForm box local goal pushed slot mine me turn
-turn_form box local goal pushed slot mine me turn goal_is slot_is own_is sender_is goes =
+turn_form box local goal pushed closed slot mine me turn goal_is slot_is own_is sender_is goes =
     let is : option_map (λ (after : Slot). record { sent = map (pair_of local) (due goal slot pushed mine me); after = with_slot box local after }) (sent_all slot (due goal slot pushed mine me)) ≡ Some turn =
     rw (goal_is, slot_is, own_is, sender_is) at goes in
     let parts = map_some (λ (after : Slot). record { sent = map (pair_of local) (due goal slot pushed mine me); after = with_slot box local after }) (sent_all slot (due goal slot pushed mine me)) turn is in
@@ -113,37 +112,11 @@ take_is box local goal answer after last signals turn step goal_is turn_is step_
     ∙ ap (λ (b : BoxState). record { sent = map (pair_of local) (answered answer ++ signals); after = b })
     (ap (λ (slots : List Slot). record box { slots = slots }) (set-set box.slots local after last) ∙ same_goal box local last goal goal_is)))
 
--- a taking, from the turn that it leads to
-took_form : (box : BoxState) (local : ℕ) (signal : Signal) (goal : Goal) (took : Took) (turn step : BoxStep) (rest : List Signal)
-    → local < length box.slots → Kept (slot_at box local) → goal_at box local ≡ End goal → taken (slot_at box local) signal ≡ Some took
-    → goal_turn (with_slot box local took.after) local (pushed_by signal took.after.state) ≡ Some turn → answering local took.answer turn ≡ step
-    → BoxForm box local step (signal ∷ rest) rest
-took_form box local signal goal took turn step rest inside kept goal_is goes turn_is step_is =
-    let form = turn_form (with_slot box local took.after) local goal (pushed_by signal took.after.state) took.after (own box local) (sender box local) turn
-    goal_is (get_or-set_same box.slots local took.after no_slot inside)
-    (own_put box.kind box (set box.slots local took.after) box.goals (media_at box local) local)
-    (sender_put box.kind box (set box.slots local took.after) box.goals (media_at box local) local) turn_is in
-    record {
-      last = form.last;
-      aim = goal;
-      signals = answered took.answer ++ due goal took.after (pushed_by signal took.after.state) (own box local) (sender box local);
-      is = take_is box local goal took.answer took.after form.last (due goal took.after (pushed_by signal took.after.state) (own box local) (sender box local)) turn step goal_is form.is step_is;
-      acted = takes took.after (due goal took.after (pushed_by signal took.after.state) (own box local) (sender box local)) took.answer goes form.goes;
-      rests = rests_kept took.after.state goal took.after form.last (pushed_by signal took.after.state) (own box local) (sender box local) refl (took_kept (slot_at box local) signal took goes kept) form.goes;
-    }
-
-pub take_form : (box : BoxState) (local : ℕ) (signal : Signal) (goal : Goal) (step : BoxStep) (rest : List Signal)
-    → local < length box.slots → Kept (slot_at box local) → goal_at box local ≡ End goal → take_step box local signal ≡ Some step → BoxForm box local step (signal ∷ rest) rest
-take_form box local signal goal step rest inside kept goal_is goes =
-    let one = then_some (λ (took : Took). option_map (answering local took.answer) (goal_turn (with_slot box local took.after) local (pushed_by signal took.after.state))) (taken (slot_at box local) signal) step goes in
-    let two = map_some (answering local one.0.answer) (goal_turn (with_slot box local one.0.after) local (pushed_by signal one.0.after.state)) step one.2 in
-    took_form box local signal goal one.0 two.0 step rest inside kept goal_is one.1 two.1 two.2
-
 -- a push of a goal that is there
 pub push_form : (box : BoxState) (local : ℕ) (goal : Goal) (step : BoxStep) (to_slot : List Signal)
-    → Kept (slot_at box local) → goal_at box local ≡ End goal → goal_turn box local true ≡ Some step → BoxForm box local step to_slot to_slot
+    → Kept (slot_at box local) → goal_at box local ≡ End goal → goal_turn box local true false ≡ Some step → BoxForm box local step to_slot to_slot
 push_form box local goal step to_slot kept goal_is goes =
-    let form = turn_form box local goal true (slot_at box local) (own box local) (sender box local) step goal_is refl refl refl goes in
+    let form = turn_form box local goal true false (slot_at box local) (own box local) (sender box local) step goal_is refl refl refl goes in
     record {
       last = form.last;
       aim = goal;
@@ -152,34 +125,6 @@ push_form box local goal step to_slot kept goal_is goes =
       acted = sends form.goes;
       rests = rests_kept (slot_at box local).state goal (slot_at box local) form.last true (own box local) (sender box local) refl kept form.goes;
     }
-
--- a push of a new goal
-new_form : (box : BoxState) (local : ℕ) (goal : Goal) (step : BoxStep) (to_slot : List Signal) → IsBox box → local < length box.slots
-    → Kept (slot_at box local) → goal_turn (with_goal box local (End goal)) local true ≡ Some step → BoxForm box local step to_slot to_slot
-new_form box local goal step to_slot whole inside kept goes =
-    let form = turn_form (with_goal box local (End goal)) local goal true (slot_at box local) (own box local) (sender box local) step
-    (get_or-set_same box.goals local (End goal) (End ToClose) (subst (λ (n : ℕ). local < n) (sym whole.goals) inside)) refl
-    (own_put box.kind box box.slots (set box.goals local (End goal)) (media_at box local) local)
-    (sender_put box.kind box box.slots (set box.goals local (End goal)) (media_at box local) local) goes in
-    record {
-      last = form.last;
-      aim = goal;
-      signals = due goal (slot_at box local) true (own box local) (sender box local);
-      is = sym form.is;
-      acted = sends form.goes;
-      rests = rests_kept (slot_at box local).state goal (slot_at box local) form.last true (own box local) (sender box local) refl kept form.goes;
-    }
-
--- a goal is set: nothing changes, or the slot is pushed
-set_by : (same : Bool) (box : BoxState) (local : ℕ) (goal : Goal) (step : BoxStep) (to_slot : List Signal) → IsBox box → local < length box.slots → Kept (slot_at box local)
-    → (if same then Some (record { sent = []; after = box }) else goal_turn (with_goal box local (End goal)) local true) ≡ Some step
-    → (record { sent = []; after = box } ≡ step) ⊎ BoxForm box local step to_slot to_slot
-set_by true box local goal step to_slot whole inside kept goes = inl (cc)
-set_by false box local goal step to_slot whole inside kept goes = inr (new_form box local goal step to_slot whole inside kept goes)
-
-pub set_form : (box : BoxState) (local : ℕ) (goal : Goal) (step : BoxStep) (to_slot : List Signal) → IsBox box → local < length box.slots → Kept (slot_at box local)
-    → set_end_step box local goal ≡ Some step → (record { sent = []; after = box } ≡ step) ⊎ BoxForm box local step to_slot to_slot
-set_form box local goal step to_slot whole inside kept goes = set_by (is_same_goal (goal_at box local) (End goal)) box local goal step to_slot whole inside kept goes
 
 -- ---- a world's step, where one slot acts
 
@@ -199,7 +144,7 @@ made_is world who local s left box signals numbered inside is =
       lanes = set (set world.lanes (lane_of world s) left) (lane_of world (far s)) (lane ++ map (tagged_for (joint_of world (far s)).within) signals);
     }) (get_or-set_other world.lanes (lane_of world s) (lane_of world (far s)) left [] (λ same. far_lane world s (sym same)))
 
--- each goal is an end's
+-- a goal at rest, where none is a link
 pub end_goal : (goal : SlotGoal) (world : WorldState) (s : ℕ) → RestsBy goal world s → (aim : Goal) × (goal ≡ End aim)
 end_goal (End aim) world s rests = (aim, refl)
 end_goal (Link partner) world s rests = absurd rests

@@ -5,26 +5,17 @@ use Rattle.std.proofs.Math.ListN.{get_or, replicate}
 use Rattle.std.proofs.lemmas.Grind.{common_steps}
 use Rattle.mc_signal.specs.declared.Signal.{Signal}
 use Rattle.mc_signal.specs.declared.Tagged.{Tagged}
-use Rattle.mc_slot.specs.EndTurn.{due, pushed_by}
-use Rattle.mc_slot.specs.Moves.{sent_all, taken, Took}
-use Rattle.mc_slot.specs.declared.Goal.{Goal}
-use Rattle.mc_slot.specs.declared.Slot.{Slot}
-use Rattle.mc_slot.specs.declared.SlotGoal.TheVariants.{End}
-use Rattle.mc_world.specs.BoxEvents.{BoxStep, box_event}
+use Rattle.mc_box.specs.BoxEvents.{BoxStep, box_event}
 use Rattle.mc_world.specs.Served.{AllServed, IsFor}
 use Rattle.mc_world.specs.Settles.{is_empty}
-use Rattle.mc_world.specs.Sound.{IsSound}
 use Rattle.mc_world.specs.StepLaws.{FirstIsServed, FrontStepGoes, StepKeepsServed, UnderWayGoes, take_of}
 use Rattle.mc_world.specs.Steps.{step}
-use Rattle.mc_world.specs.Worlds.{WorldState, box_at, first_world, front, front_for, goal_of, joint_of, number, own_descriptor, own_sender, place, slot_count, slot_of}
-use Rattle.mc_world.specs.declared.event.Event.TheVariants.{Take}
-use Rattle.mc_tunnel.proofs.Steps.{took_kept}
-use Rattle.mc_world.proofs.BoxTurns.{take_made}
+use Rattle.mc_world.specs.Worlds.{WorldState, box_at, first_world, front, front_for, joint_of, number, place}
+use Rattle.mc_box.specs.declared.event.Event.TheVariants.{Take}
+use Rattle.mc_box.proofs.EventGoes.{take_goes as box_take_goes}
 use Rattle.mc_world.proofs.StepActs.{step_acts}
-use Rattle.mc_world.proofs.StepForms.{end_goal}
 use Rattle.mc_world.proofs.StepKeeps.{front_is_taken}
 use Rattle.mc_world.proofs.SteppedKeeps.{served_stays}
-use Rattle.mc_world.proofs.TurnGoes.{turn_goes}
 
 -- ---- a front is taken
 
@@ -42,22 +33,12 @@ take_goes world s signal turn below numbered fronts goes = rw (below, numbered, 
 pub below_test : (a b : ℕ) → a < b → nat_lt a b ≡ true
 below_test a b below = grind (arith, common_steps)
 
--- from what the slot takes and sends
-taken_goes : (world : WorldState) (s : ℕ) (signal : Signal) (goal : Goal) (took : Took) (last : Slot) → IsSound world → s < slot_count world → front world s ≡ Some signal
-    → goal_of world s ≡ End goal → taken (slot_of world s) signal ≡ Some took
-    → sent_all took.after (due goal took.after (pushed_by signal took.after.state) (own_descriptor world s) (own_sender world s)) ≡ Some last
-    → IsSome (step world (take_of world s))
-taken_goes world s signal goal took last sound inside fronts goal_is takes goes =
-    take_goes world s signal _ (below_test (place world s).0 (length world.boxes) (sound.numbered.placed s inside)) (sound.numbered.once s inside) fronts
-    (take_made (box_at world (place world s).0) (place world s).1 signal goal took.answer took.after last (sound.numbered.slots s inside) goal_is takes goes)
-
 pub front_step_goes : FrontStepGoes
 front_step_goes world s signal sound inside fronts =
-    let took = some_of (taken (slot_of world s) signal) (front_is_taken world s signal sound inside fronts) in
-    let aim = end_goal (goal_of world s) world s (sound.goals s inside) in
-    let last = some_of (sent_all took.0.after (due aim.0 took.0.after (pushed_by signal took.0.after.state) (own_descriptor world s) (own_sender world s)))
-    (turn_goes aim.0 took.0.after (pushed_by signal took.0.after.state) (own_descriptor world s) (own_sender world s) (took_kept (slot_of world s) signal took.0 took.1 (sound.tunnels s inside).first_kept)) in
-    taken_goes world s signal aim.0 took.0 last.0 sound inside fronts aim.1 took.1 last.1
+    let placed = sound.numbered.placed s inside in
+    let turn = some_of (box_event (box_at world (place world s).0) (Take (place world s).1) (Some signal))
+    (box_take_goes (box_at world (place world s).0) (place world s).1 signal (sound.boxes (place world s).0 placed) (sound.numbered.slots s inside) (front_is_taken world s signal sound inside fronts)) in
+    take_goes world s signal turn.0 (below_test (place world s).0 (length world.boxes) placed) (sound.numbered.once s inside) fronts turn.1
 
 -- ---- each signal stays on the lane of its slot
 

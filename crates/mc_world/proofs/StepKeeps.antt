@@ -6,15 +6,16 @@ use Rattle.mc_signal.specs.declared.Tagged.{Tagged}
 use Rattle.mc_slot.specs.Moves.{taken}
 use Rattle.mc_slot.specs.Tunnel.{TunnelSound}
 use Rattle.mc_slot.specs.declared.Slot.{Slot}
-use Rattle.mc_world.specs.BoxSound.{RestsAt}
-use Rattle.mc_world.specs.Boxes.{BoxState, goal_at}
-use Rattle.mc_world.specs.Sound.{IsSound, RestsBy}
+use Rattle.mc_box.specs.BoxSound.{IsSoundBox}
+use Rattle.mc_box.specs.Boxes.{BoxState}
+use Rattle.mc_world.specs.Sound.{IsSound}
 use Rattle.mc_world.specs.StepLaws.{StepKeepsSound, RunKeepsSound, FrontIsTaken}
 use Rattle.mc_world.specs.Steps.{run, step, take_at}
-use Rattle.mc_world.specs.Worlds.{WorldState, box_at, far, for_tunnel, goal_of, joint_of, lane_to, list_to, place, slot_count, slot_of}
-use Rattle.mc_world.specs.declared.event.Turn.{Turn}
+use Rattle.mc_world.specs.Worlds.{WorldState, box_at, far, for_tunnel, joint_of, lane_to, list_to, place, slot_of}
+use Rattle.mc_box.specs.declared.event.Event.{Event}
+use Rattle.mc_box.specs.declared.event.Turn.{Turn}
 use Rattle.mc_world.proofs.LanesKept.{front_next}
-use Rattle.mc_world.proofs.StepActs.{Turned, rests_in, rests_out, step_turns}
+use Rattle.mc_world.proofs.StepActs.{Turned, step_turns}
 use Rattle.mc_world.proofs.StepForms.{then_some}
 use Rattle.mc_world.proofs.SteppedKeeps.{after_is, numbers_stay, tunnels_stay}
 pub use Rattle.mc_world.proofs.Numbers.{box_inside, slot_inside}
@@ -26,31 +27,25 @@ take_there world next who local s who_is local_is goes = rw (who_is, local_is) g
 
 -- ---- a step
 
--- each goal is at rest: those of the box that acted by what it did, and the others as before
-goal_rests : (world : WorldState) (boxes : List BoxState) (lanes : List (List Tagged)) (who s : ℕ) → IsSound world → Turned world (record world { boxes = boxes; lanes = lanes }) who → s < slot_count world
-    → RestsBy (goal_of (record world { boxes = boxes; lanes = lanes }) s) (record world { boxes = boxes; lanes = lanes }) s
-goal_rests world boxes lanes who s sound turned inside =
-    let next : WorldState = record world { boxes = boxes; lanes = lanes } in
-    let local : ℕ = (place world s).1 in
-    rests_out (goal_of next s) next s (elim (cases_eq (place world s).0 who) [
-      | inl is ↦
-          subst (λ (w : ℕ). RestsAt (goal_at (box_at next w) local) (box_at next w) local) (sym is)
-          (turned.rests local (subst (λ (w : ℕ). local < length (box_at world w).slots) is (sound.numbered.slots s inside)))
-      | inr away ↦
-          subst (λ (box : BoxState). RestsAt (goal_at box local) box local) (sym (turned.stepped.boxes (place world s).0 away))
-          (rests_in (goal_of world s) world s (sound.goals s inside))
-    ])
+-- each box is sound: the one that acted by what it did, and the others as before
+box_sound : (world : WorldState) (boxes : List BoxState) (lanes : List (List Tagged)) (who box : ℕ) (event : Event) → IsSound world → Turned world (record world { boxes = boxes; lanes = lanes }) who event → box < length world.boxes
+    → IsSoundBox (box_at (record world { boxes = boxes; lanes = lanes }) box)
+box_sound world boxes lanes who box event sound turned below = elim (cases_eq box who) [
+  | inl is ↦ subst (λ (b : ℕ). IsSoundBox (box_at (record world { boxes = boxes; lanes = lanes }) b)) (sym is) turned.sound
+  | inr away ↦ subst (λ (b : BoxState). IsSoundBox b) (sym (turned.stepped.boxes box away)) (sound.boxes box below)
+]
 
-turned_sound : (world next : WorldState) (who : ℕ) → IsSound world → Turned world next who → IsSound next
-turned_sound world next who sound turned = record {
+turned_sound : (world next : WorldState) (who : ℕ) (event : Event) → IsSound world → Turned world next who event → IsSound next
+turned_sound world next who event sound turned = record {
   tunnels = tunnels_stay world next who turned.stepped sound.tunnels;
-  goals = subst (λ (w : WorldState). (s : ℕ) → s < slot_count w → RestsBy (goal_of w s) w s) (sym (after_is world next who turned.stepped))
-      (λ s inside. goal_rests world next.boxes next.lanes who s sound (subst (λ (w : WorldState). Turned world w who) (after_is world next who turned.stepped) turned) inside);
+  boxes = subst (λ (w : WorldState). (box : ℕ) → box < length w.boxes → IsSoundBox (box_at w box)) (sym (after_is world next who turned.stepped))
+      (λ box below. box_sound world next.boxes next.lanes who box event sound (subst (λ (w : WorldState). Turned world w who event) (after_is world next who turned.stepped) turned)
+      (subst (λ (n : ℕ). box < n) turned.stepped.count below));
   numbered = numbers_stay world next who turned.stepped sound.tunnels sound.numbered;
 }
 
 pub step_keeps_sound : StepKeepsSound
-step_keeps_sound world next turn sound goes = turned_sound world next turn.who sound (step_turns world next turn sound goes)
+step_keeps_sound world next turn sound goes = turned_sound world next turn.who turn.event sound (step_turns world next turn sound goes)
 
 -- one step after another
 run_by : (turns : List Turn) (world next : WorldState) → IsSound world → run world turns ≡ Some next → IsSound next

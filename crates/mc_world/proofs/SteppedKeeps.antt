@@ -3,11 +3,12 @@ use Rattle.std.proofs.Common.{◌≡◌, ◌<◌, ◌++◌, ◌⊎◌, inl, inr,
 use Rattle.std.proofs.Math.ListN.{get_or}
 use Rattle.mc_signal.specs.declared.Tagged.{Tagged}
 use Rattle.mc_slot.specs.Tunnel.{TunnelSound}
-use Rattle.mc_world.specs.Boxes.{BoxState, IsBox}
+use Rattle.mc_box.specs.Boxes.{BoxState, IsBox}
 use Rattle.mc_world.specs.Served.{AllServed, LanesServed}
 use Rattle.mc_world.specs.Shapes.{HasShape}
 use Rattle.mc_world.specs.Sound.{IsNumbered}
-use Rattle.mc_world.specs.Stepped.{IsSameMake, LaneGrows, Stepped, SteppedStays, TunnelsSound}
+use Rattle.mc_box.specs.Acting.{IsSameMake}
+use Rattle.mc_world.specs.Stepped.{LaneGrows, Stepped, SteppedStays, TunnelsSound}
 use Rattle.mc_world.specs.Worlds.{ChannelState, WorldState, box_at, far, list_to, place, slot_count, slot_of}
 use Rattle.mc_world.proofs.Acting.{act_keeps, longer, other_side}
 use Rattle.mc_world.proofs.ActedWorlds.{far_inside}

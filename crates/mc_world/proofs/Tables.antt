@@ -1,12 +1,11 @@
 -- What a world's tables and lanes have for a slot.
-use Rattle.std.proofs.Common.{◌≡◌, ◌==◌, ℕ, ◌/◌, ◌%◌, ◌<◌, Bool, true, false, if◌then◌else◌, IsTrue, ◌↔◌, List, [], ◌∷◌, map, length, get_or, Vec, refl, sym, arith}
+use Rattle.std.proofs.Common.{◌≡◌, ◌==◌, ℕ, ◌/◌, ◌%◌, ◌<◌, Bool, true, false, if◌then◌else◌, IsTrue, ◌↔◌, List, [], ◌∷◌, map, length, get_or, refl, sym, arith}
 use Rattle.std.specs.List.{list_all}
-use Rattle.std.specs.Vec.{vec_len}
-use Rattle.std.specs.declared.alloc.Global.{Global}
 use Rattle.std.proofs.lemmas.Grind.{common_steps}
 use Rattle.std.proofs.lemmas.List.{get_or_read, length-map}
+use Rattle.mc_lane.specs.Queue.{Queue}
 use Rattle.mc_signal.specs.declared.Tagged.{Tagged}
-use Rattle.mc_world.specs.Boxes.{BoxState, no_box}
+use Rattle.mc_box.specs.Boxes.{BoxState, no_box}
 use Rattle.mc_world.specs.Settles.{is_empty}
 use Rattle.mc_world.specs.Tables.{HasTables, channel_of, world_of}
 use Rattle.mc_world.specs.Worlds.{WorldState, box_at, joint_of, joints_from, slot_count}
@@ -37,13 +36,13 @@ side_lane s false is = grind arith
 
 -- ---- empty lanes
 
-none_here : (lane : List Tagged) (count : ℕ) → length lane ≡ count → (count == 0) ≡ is_empty lane
-none_here [] count is = rw (← is) refl
-none_here (tagged ∷ rest) count is = grind (arith, common_steps)
+none_here : (lane : List Tagged) → (length lane == 0) ≡ is_empty lane
+none_here [] = refl
+none_here (tagged ∷ rest) = grind (arith, common_steps)
 
-pub all_empty : (lanes : List (Vec Tagged Global)) → list_all (λ lane. vec_len lane == 0) lanes ≡ list_all is_empty (map (λ (lane : Vec Tagged Global). lane.items) lanes)
+pub all_empty : (lanes : List (Queue Tagged)) → list_all (λ lane. length lane.items == 0) lanes ≡ list_all is_empty (map (λ (lane : Queue Tagged). lane.items) lanes)
 all_empty [] = refl
-all_empty (lane ∷ lanes) = rw (none_here lane.items lane.len (sym lane.ok.0), all_empty lanes) refl
+all_empty (lane ∷ lanes) = rw (none_here lane.items, all_empty lanes) refl
 
 -- ---- a box that is read
 

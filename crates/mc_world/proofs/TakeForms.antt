@@ -10,15 +10,17 @@ use Rattle.mc_slot.specs.Sending.{pair_of}
 use Rattle.mc_slot.specs.declared.Goal.{Goal}
 use Rattle.mc_slot.specs.declared.Slot.{Slot}
 use Rattle.mc_slot.specs.declared.SlotGoal.TheVariants.{End}
-use Rattle.mc_world.specs.BoxEvents.{BoxStep, answering, box_event, goal_turn, take_step}
-use Rattle.mc_world.specs.Boxes.{BoxState, goal_at, is_slot, media_at, no_slot, own, sender, slot_at, with_slot}
-use Rattle.mc_world.specs.Sound.{IsNumbered, IsSound}
+use Rattle.mc_box.specs.BoxEvents.{BoxStep, answering, box_event, closes_by, goal_turn, take_step}
+use Rattle.mc_box.specs.Boxes.{BoxState, goal_at, is_slot, media_at, no_slot, own, sender, slot_at, with_slot}
+use Rattle.mc_world.specs.LinkFree.{IsLinkFree}
+use Rattle.mc_world.specs.Sound.{IsNumbered}
 use Rattle.mc_world.specs.Steps.{made, popped, step, step_by, take_at}
 use Rattle.mc_world.specs.Worlds.{WorldState, box_at, front, goal_of, joint_of, lane_to, number, own_descriptor, own_sender, place, slot_count, slot_of}
-use Rattle.mc_world.specs.declared.event.Event.TheVariants.{Take}
+use Rattle.mc_box.specs.declared.event.Event.TheVariants.{Take}
 use Rattle.mc_world.proofs.ActedWorlds.{acted_world}
 use Rattle.mc_world.proofs.BoxSound.{own_put, sender_put, put}
 use Rattle.mc_world.proofs.LanesKept.{Fronts, front_next}
+use Rattle.mc_world.proofs.LinkFree.{goals_rest}
 use Rattle.mc_world.proofs.Numbers.{number_is}
 use Rattle.mc_world.proofs.StepForms.{end_goal, if_some, made_is, map_some, take_is, then_some, turn_form}
 use Rattle.mc_world.proofs.StepKeeps.{take_there}
@@ -41,10 +43,10 @@ pub record TakeBox (box : BoxState) (local : ℕ) (signal : Signal) (goal : Goal
 -- from the turn that the taking leads to
 took_box : (box : BoxState) (local : ℕ) (signal : Signal) (goal : Goal) (took : Took) (turn step : BoxStep)
     → local < length box.slots → goal_at box local ≡ End goal → taken (slot_at box local) signal ≡ Some took
-    → goal_turn (with_slot box local took.after) local (pushed_by signal took.after.state) ≡ Some turn → answering local took.answer turn ≡ step
+    → goal_turn (with_slot box local took.after) local (pushed_by signal took.after.state) (closes_by signal took.after.state) ≡ Some turn → answering local took.answer turn ≡ step
     → TakeBox box local signal goal step
 took_box box local signal goal took turn step inside goal_is goes turn_is step_is =
-    let form = turn_form (with_slot box local took.after) local goal (pushed_by signal took.after.state) took.after (own box local) (sender box local) turn
+    let form = turn_form (with_slot box local took.after) local goal (pushed_by signal took.after.state) (closes_by signal took.after.state) took.after (own box local) (sender box local) turn
     goal_is (get_or-set_same box.slots local took.after no_slot inside)
     (own_put box.kind box (set box.slots local took.after) box.goals (media_at box local) local)
     (sender_put box.kind box (set box.slots local took.after) box.goals (media_at box local) local) turn_is in
@@ -61,8 +63,8 @@ took_box box local signal goal took turn step inside goal_is goes turn_is step_i
 take_box : (box : BoxState) (local : ℕ) (signal : Signal) (goal : Goal) (step : BoxStep)
     → local < length box.slots → goal_at box local ≡ End goal → take_step box local signal ≡ Some step → TakeBox box local signal goal step
 take_box box local signal goal step inside goal_is goes =
-    let one = then_some (λ (took : Took). option_map (answering local took.answer) (goal_turn (with_slot box local took.after) local (pushed_by signal took.after.state))) (taken (slot_at box local) signal) step goes in
-    let two = map_some (answering local one.0.answer) (goal_turn (with_slot box local one.0.after) local (pushed_by signal one.0.after.state)) step one.2 in
+    let one = then_some (λ (took : Took). option_map (answering local took.answer) (goal_turn (with_slot box local took.after) local (pushed_by signal took.after.state) (closes_by signal took.after.state))) (taken (slot_at box local) signal) step goes in
+    let two = map_some (answering local one.0.answer) (goal_turn (with_slot box local one.0.after) local (pushed_by signal one.0.after.state) (closes_by signal one.0.after.state)) step one.2 in
     took_box box local signal goal one.0 two.0 step inside goal_is one.1 two.1 two.2
 
 -- ---- of a world
@@ -107,17 +109,17 @@ take_world world next s signal goal step numbered inside fronts aims form goes =
 }
 
 -- the Take of a slot, by its place
-take_place : (world next : WorldState) (s : ℕ) → IsSound world → s < slot_count world → take_at world (place world s).0 (place world s).1 s ≡ Some next → TakeForm world next
+take_place : (world next : WorldState) (s : ℕ) → IsLinkFree world → s < slot_count world → take_at world (place world s).0 (place world s).1 s ≡ Some next → TakeForm world next
 take_place world next s sound inside goes =
     let one = then_some (λ (signal : Signal). option_map (made (popped world s) (place world s).0) (box_event (box_at world (place world s).0) (Take (place world s).1) (Some signal))) (front world s) next goes in
     let two = map_some (made (popped world s) (place world s).0) (box_event (box_at world (place world s).0) (Take (place world s).1) (Some one.0)) next one.2 in
     let three = if_some (is_slot (box_at world (place world s).0) (place world s).1) (take_step (box_at world (place world s).0) (place world s).1 one.0) two.0 two.1 in
-    let aim = end_goal (goal_of world s) world s (sound.goals s inside) in
-    take_world world next s one.0 aim.0 two.0 sound.numbered inside one.1 aim.1
-    (take_box (box_at world (place world s).0) (place world s).1 one.0 aim.0 two.0 (sound.numbered.slots s inside) aim.1 three.1) two.2
+    let aim = end_goal (goal_of world s) world s (goals_rest world s sound inside) in
+    take_world world next s one.0 aim.0 two.0 sound.sound.numbered inside one.1 aim.1
+    (take_box (box_at world (place world s).0) (place world s).1 one.0 aim.0 two.0 (sound.sound.numbered.slots s inside) aim.1 three.1) two.2
 
 -- the step of each Take
-pub take_of_form : (world next : WorldState) (who local : ℕ) → IsSound world → step world (record { who = who; event = Take local }) ≡ Some next → TakeForm world next
+pub take_of_form : (world next : WorldState) (who local : ℕ) → IsLinkFree world → step world (record { who = who; event = Take local }) ≡ Some next → TakeForm world next
 take_of_form world next who local sound goes =
     let one = if_some (nat_lt who (length world.boxes)) (step_by world who (Take local)) next goes in
     let two = then_some (take_at world who local) (number world who local) next one.1 in

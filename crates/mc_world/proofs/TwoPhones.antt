@@ -2,14 +2,15 @@
 use Rattle.std.proofs.Common.{◌≡◌, ◌<◌, ◌%◌, ◌==◌, ℕ, zero, suc, false, List, [], ◌∷◌, length, Some, refl, inl, inr, arith}
 use Rattle.std.proofs.lemmas.Grind.{common_steps}
 use Rattle.mc_signal.specs.declared.codec_list.CodecList.{CodecList}
-use Rattle.mc_slot.specs.Tunnel.{TunnelSound}
-use Rattle.mc_world.specs.Boxes.{IsBox, media_at}
+use Rattle.mc_box.specs.Boxes.{IsBox, media_at}
 use Rattle.mc_world.specs.PathTable.{PathHolds}
 use Rattle.mc_world.specs.Settles.{IsSettled, owes_retry}
-use Rattle.mc_world.specs.Setups.{world_of_devices}
-use Rattle.mc_world.specs.Sound.{RestsBy}
+use Rattle.mc_world.specs.Setups.{setups_of, world_of_devices}
+use Rattle.mc_world.specs.StepLaws.{IsNewBox}
 use Rattle.mc_world.specs.TwoPhones.{IsIdle, TwoPhonesAreIdle, one_channel, the_path}
-use Rattle.mc_world.specs.Worlds.{WorldState, box_at, far, goal_of, joint_of, list_to, number, place, slot_of}
+use Rattle.mc_world.specs.Worlds.{WorldState, box_at, joint_of, number, place, slot_of}
+use Rattle.mc_box.specs.declared.event.Kind.TheVariants.{Device}
+use Rattle.mc_world.proofs.NewWorlds.{first_is_new, first_is_sound}
 
 abbrev forth : CodecList → CodecList → WorldState
 forth a b = world_of_devices (one_channel 0 1) (a ∷ b ∷ [])
@@ -25,8 +26,6 @@ record SlotFits (world : WorldState) (s : ℕ) : Type 0 where
   origin : (media_at (box_at world (place world s).0) (place world s).1).origin ≡ s
   medium : (slot_of world s).medium ≡ (joint_of world s).medium
   side : (slot_of world s).initiator ≡ (s % 2 == 0)
-  tunnel : TunnelSound (slot_of world s) (list_to world s) (slot_of world (far s)) (list_to world (far s))
-  goal : RestsBy (goal_of world s) world s
 
 -- no slot owes a retry
 forth_owes : (a b : CodecList) (who local : ℕ) → owes_retry (forth a b) who local ≡ false
@@ -65,10 +64,15 @@ forth_whole a b zero below = record { goals = refl; media = refl }
 forth_whole a b (suc zero) below = record { goals = refl; media = refl }
 forth_whole a b (suc (suc who)) below = absurd (omega arith)
 
+forth_new : (a b : CodecList) (who : ℕ) → who < 2 → IsNewBox (box_at (forth a b) who)
+forth_new a b zero below = first_is_new Device 0 a a 1 (setups_of (one_channel 0 1) 0) (omega arith) (omega arith)
+forth_new a b (suc zero) below = first_is_new Device 1 b b 1 (setups_of (one_channel 0 1) 1) (omega arith) (omega arith)
+forth_new a b (suc (suc who)) below = absurd (omega arith)
+
 -- what is asked of each slot, of the two that there are
 forth_slots : (a b : CodecList) (s : ℕ) → s < 2 → SlotFits (forth a b) s
-forth_slots a b zero below = record { placed = omega arith; inside = omega arith; once = refl; origin = refl; medium = refl; side = refl; tunnel = record { medium = refl; sides = refl; meet = tt; first_waits = refl; second_waits = refl; first_kept = (refl, refl, refl, refl); second_kept = (refl, refl, refl, refl) }; goal = refl }
-forth_slots a b (suc zero) below = record { placed = omega arith; inside = omega arith; once = refl; origin = refl; medium = refl; side = refl; tunnel = record { medium = refl; sides = refl; meet = tt; first_waits = refl; second_waits = refl; first_kept = (refl, refl, refl, refl); second_kept = (refl, refl, refl, refl) }; goal = refl }
+forth_slots a b zero below = record { placed = omega arith; inside = omega arith; once = refl; origin = refl; medium = refl; side = refl }
+forth_slots a b (suc zero) below = record { placed = omega arith; inside = omega arith; once = refl; origin = refl; medium = refl; side = refl }
 forth_slots a b (suc (suc s)) below = absurd (omega arith)
 
 forth_all : (a b : CodecList) (who local : ℕ) → who < 2 → local < length (box_at (forth a b) who).slots → (s : ℕ) × (s < 2) × (place (forth a b) s ≡ (who, local))
@@ -80,22 +84,18 @@ forth_all a b (suc (suc who)) local below inside = absurd (omega arith)
 
 forth_idle : (a b : CodecList) → IsIdle (forth a b)
 forth_idle a b = record {
-  sound = record {
-    tunnels = λ s below. (forth_slots a b s below).tunnel;
-    goals = λ s below. (forth_slots a b s below).goal;
-    numbered = record {
-      boxes = forth_boxes a b;
-      whole = forth_whole a b;
-      lanes = refl;
-      placed = λ s below. (forth_slots a b s below).placed;
-      slots = λ s below. (forth_slots a b s below).inside;
-      once = λ s below. (forth_slots a b s below).once;
-      all = forth_all a b;
-      origins = λ s below. (forth_slots a b s below).origin;
-      media = λ s below. (forth_slots a b s below).medium;
-      sides = λ s below. (forth_slots a b s below).side;
-    };
-  };
+  sound = first_is_sound (forth a b).boxes (one_channel 0 1) (forth_new a b) (record {
+    boxes = forth_boxes a b;
+    whole = forth_whole a b;
+    lanes = refl;
+    placed = λ s below. (forth_slots a b s below).placed;
+    slots = λ s below. (forth_slots a b s below).inside;
+    once = λ s below. (forth_slots a b s below).once;
+    all = forth_all a b;
+    origins = λ s below. (forth_slots a b s below).origin;
+    media = λ s below. (forth_slots a b s below).medium;
+    sides = λ s below. (forth_slots a b s below).side;
+  });
   settled = forth_settled a b;
   one_path = refl;
   holds = forth_holds a b;
@@ -138,10 +138,15 @@ back_whole a b zero below = record { goals = refl; media = refl }
 back_whole a b (suc zero) below = record { goals = refl; media = refl }
 back_whole a b (suc (suc who)) below = absurd (omega arith)
 
+back_new : (a b : CodecList) (who : ℕ) → who < 2 → IsNewBox (box_at (back a b) who)
+back_new a b zero below = first_is_new Device 0 a a 1 (setups_of (one_channel 1 0) 0) (omega arith) (omega arith)
+back_new a b (suc zero) below = first_is_new Device 1 b b 1 (setups_of (one_channel 1 0) 1) (omega arith) (omega arith)
+back_new a b (suc (suc who)) below = absurd (omega arith)
+
 -- what is asked of each slot, of the two that there are
 back_slots : (a b : CodecList) (s : ℕ) → s < 2 → SlotFits (back a b) s
-back_slots a b zero below = record { placed = omega arith; inside = omega arith; once = refl; origin = refl; medium = refl; side = refl; tunnel = record { medium = refl; sides = refl; meet = tt; first_waits = refl; second_waits = refl; first_kept = (refl, refl, refl, refl); second_kept = (refl, refl, refl, refl) }; goal = refl }
-back_slots a b (suc zero) below = record { placed = omega arith; inside = omega arith; once = refl; origin = refl; medium = refl; side = refl; tunnel = record { medium = refl; sides = refl; meet = tt; first_waits = refl; second_waits = refl; first_kept = (refl, refl, refl, refl); second_kept = (refl, refl, refl, refl) }; goal = refl }
+back_slots a b zero below = record { placed = omega arith; inside = omega arith; once = refl; origin = refl; medium = refl; side = refl }
+back_slots a b (suc zero) below = record { placed = omega arith; inside = omega arith; once = refl; origin = refl; medium = refl; side = refl }
 back_slots a b (suc (suc s)) below = absurd (omega arith)
 
 back_all : (a b : CodecList) (who local : ℕ) → who < 2 → local < length (box_at (back a b) who).slots → (s : ℕ) × (s < 2) × (place (back a b) s ≡ (who, local))
@@ -153,22 +158,18 @@ back_all a b (suc (suc who)) local below inside = absurd (omega arith)
 
 back_idle : (a b : CodecList) → IsIdle (back a b)
 back_idle a b = record {
-  sound = record {
-    tunnels = λ s below. (back_slots a b s below).tunnel;
-    goals = λ s below. (back_slots a b s below).goal;
-    numbered = record {
-      boxes = back_boxes a b;
-      whole = back_whole a b;
-      lanes = refl;
-      placed = λ s below. (back_slots a b s below).placed;
-      slots = λ s below. (back_slots a b s below).inside;
-      once = λ s below. (back_slots a b s below).once;
-      all = back_all a b;
-      origins = λ s below. (back_slots a b s below).origin;
-      media = λ s below. (back_slots a b s below).medium;
-      sides = λ s below. (back_slots a b s below).side;
-    };
-  };
+  sound = first_is_sound (back a b).boxes (one_channel 1 0) (back_new a b) (record {
+    boxes = back_boxes a b;
+    whole = back_whole a b;
+    lanes = refl;
+    placed = λ s below. (back_slots a b s below).placed;
+    slots = λ s below. (back_slots a b s below).inside;
+    once = λ s below. (back_slots a b s below).once;
+    all = back_all a b;
+    origins = λ s below. (back_slots a b s below).origin;
+    media = λ s below. (back_slots a b s below).medium;
+    sides = λ s below. (back_slots a b s below).side;
+  });
   settled = back_settled a b;
   one_path = refl;
   holds = back_holds a b;

@@ -1,24 +1,26 @@
 -- The steps of a world, from what its boxes and lanes do.
-use Rattle.std.proofs.Common.{◌≡◌, ℕ, ◌<◌, true, false, Option, Some, None, IsSome, List, length, map, nat_lt, Vec, refl, ap, sym, subst, ◌∙◌, if◌then◌else◌, Bool}
+use Rattle.std.proofs.Common.{◌≡◌, ℕ, ◌<◌, if◌then◌else◌, Bool, true, false, Option, Some, None, IsSome, List, length, map, nat_lt, Vec, Result, Ok, Err, OnOk, refl, ap, sym, subst, ◌∙◌}
 use Rattle.std.proofs.Math.ListN.{set}
 use Rattle.std.proofs.lemmas.List.{length-map}
 use Rattle.std.specs.declared.alloc.Global.{Global}
 use Rattle.std.specs.Option.{option_map}
+use Rattle.std.specs.Result.{is_err}
+use Rattle.mc_lane.specs.Queue.{Queue}
 use Rattle.mc_signal.specs.declared.Signal.{Signal}
 use Rattle.mc_signal.specs.declared.Tagged.{Tagged}
-use Rattle.mc_world.specs.BoxEvents.{BoxStep, box_event}
-use Rattle.mc_world.specs.Boxes.{BoxState, slot_at}
+use Rattle.mc_box.specs.BoxEvents.{BoxStep, box_event, is_enabled, is_take, is_version_end}
+use Rattle.mc_box.specs.Boxes.{BoxState, slot_at}
 use Rattle.mc_world.specs.Lanes.{all_sent, signals_of, without_front}
-use Rattle.mc_world.specs.Measures.{is_take}
 use Rattle.mc_world.specs.Sound.{IsNumbered, IsSound}
 use Rattle.mc_world.specs.Served.{LanesServed}
 use Rattle.mc_world.specs.Steps.{made, popped, step, step_by, with_box}
 use Rattle.mc_world.specs.Worlds.{WorldState, box_at, front, joints, lane_of, number, place, places, slot_of}
-use Rattle.mc_world.specs.declared.event.Event.{Event}
-use Rattle.mc_world.specs.declared.event.Event.TheVariants.{Take, Set, Media, Tell, Retry, Shift}
+use Rattle.mc_box.specs.declared.event.Event.{Event}
+use Rattle.mc_box.specs.declared.event.Event.TheVariants.{Take, Set, Media, Tell, Retry, Shift}
 use Rattle.mc_world.specs.declared.network.World.TheInside.{Inside}
 use Rattle.mc_world.specs.declared.ways.Ways.{Ways}
 use Rattle.mc_world.specs.Tables.{HasTables, channel_of, world_of}
+use Rattle.mc_box.proofs.EventGoes.{event_goes, version_end_stops}
 use Rattle.mc_world.proofs.Numbers.{number_is}
 use Rattle.mc_world.proofs.StepGoes.{below_test, front_step_goes, step_keeps_served}
 use Rattle.mc_world.proofs.StepKeeps.{step_keeps_sound}
@@ -52,11 +54,15 @@ pub take_is : (world : WorldState) (ways : Ways) (who local s lane : ℕ) (signa
 take_is world ways who local s lane signal step is first goes leads at through =
     rw (is, first, goes, leads) (ap (λ (w : WorldState). Some w) (sent_out_by step.sent (with_box (popped world s) who step.after) ways who at through))
 
+is_there : {A : Type 0} (o : Option A) → IsSome o → (x : A) × (o ≡ Some x)
+is_there None some = absurd (cc)
+is_there (Some x) some = (x, refl)
+
 if_there : {A : Type 0} (test : Bool) (o : Option A) → IsSome (if test then o else None) → IsSome o
 if_there true o some = some
 if_there false o some = absurd (cc)
 
--- which it can where the front is for it
+-- a Take can happen where the front is for it
 pub take_enabled : (world : WorldState) (who local s : ℕ) (signal : Signal) → IsSound world → number world who local ≡ Some s → front world s ≡ Some signal
     → IsSome (step_by world who (Take local))
 take_enabled world who local s signal sound is first =
@@ -74,6 +80,22 @@ act_by world who (Media change) other = refl
 act_by world who (Tell word) other = refl
 act_by world who (Retry slot) other = refl
 act_by world who Shift other = refl
+
+-- what holds of a success holds where there is no error
+pub done_of : {E P : Type 0} (result : Result (Unit {0}) E) → is_err result ≡ false → OnOk result P → P
+done_of (Ok done) is holds = holds
+done_of (Err e) is holds = absurd (cc)
+
+-- where it is enabled, and its slot's version isn't the last, it happens
+pub act_goes : (world : WorldState) (who : ℕ) (event : Event) → IsSound world → who < length world.boxes → is_take event ≡ false → is_enabled (box_at world who) event ≡ true
+    → is_version_end (box_at world who) event ≡ false → IsSome (step_by world who event)
+act_goes world who event sound below other enabled more =
+    let step = is_there (box_event (box_at world who) event None) (event_goes (box_at world who) event (sound.boxes who below) enabled other more) in
+    rw (act_by world who event other, step.1) refl
+
+-- and where that is the last, it doesn't
+pub act_stops : (world : WorldState) (who : ℕ) (event : Event) → is_take event ≡ false → is_version_end (box_at world who) event ≡ true → step_by world who event ≡ None
+act_stops world who event other last = rw (act_by world who event other, version_end_stops (box_at world who) event last) refl
 
 pub act_is : (world : WorldState) (ways : Ways) (who : ℕ) (event : Event) (step : BoxStep) → is_take event ≡ false
     → box_event (box_at world who) event None ≡ Some step → ways.places.items ≡ places world → ways.joints.items ≡ map channel_of (joints world)
@@ -115,7 +137,7 @@ act_made inside world who event step lanes has view other goes lanes_is =
     ∙ ap (λ (l : List (List Tagged)). Some (record (world_of inside) { boxes = set inside.boxes.items who step.after; lanes = l })) (sym lanes_is))
 
 -- it has the tables as before, and is sound, since a step of a sound world led to it
-pub step_tables : (inside : Inside) (world : WorldState) (who : ℕ) (event : Event) (boxes : Vec BoxState Global) (lanes : Vec (Vec Tagged Global) Global) → HasTables inside → world_of inside ≡ world
+pub step_tables : (inside : Inside) (world : WorldState) (who : ℕ) (event : Event) (boxes : Vec BoxState Global) (lanes : Vec (Queue Tagged) Global) → HasTables inside → world_of inside ≡ world
     → who < length world.boxes → step_by world who event ≡ Some (world_of (record inside { boxes = boxes; lanes = lanes })) → HasTables (record inside { boxes = boxes; lanes = lanes })
 step_tables inside world who event boxes lanes has view here goes =
     let kept = stays_sound world (world_of (record inside { boxes = boxes; lanes = lanes })) who event
@@ -124,7 +146,7 @@ step_tables inside world who event boxes lanes has view here goes =
       places = has.places;
       joints = has.joints;
       few = has.few;
-      lanes = sym (length-map lanes.items (λ (lane : Vec Tagged Global). lane.items)) ∙ kept.0.numbered.lanes;
+      lanes = sym (length-map lanes.items (λ (lane : Queue Tagged). lane.items)) ∙ kept.0.numbered.lanes;
       sound = kept.0;
       served = kept.1;
     }

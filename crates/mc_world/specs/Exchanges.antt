@@ -11,17 +11,17 @@ use Rattle.mc_slot.specs.declared.Goal.TheVariants.{Open as ToOpen, Close as ToC
 use Rattle.mc_slot.specs.declared.Slot.{Slot}
 use Rattle.mc_slot.specs.declared.State.{State}
 use Rattle.mc_slot.specs.declared.State.TheVariants.{Closed, Flowing}
-use Rattle.mc_world.specs.Boxes.{first_box}
+use Rattle.mc_box.specs.Boxes.{first_box}
 use Rattle.mc_world.specs.PathTable.{path_state, low_hears, high_hears}
 use Rattle.mc_world.specs.Paths.{PathEnds, paths, has_ring}
 use Rattle.mc_world.specs.Settles.{rests}
 use Rattle.mc_world.specs.Steps.{run, after}
 use Rattle.mc_world.specs.Worlds.{WorldState, first_world, slot_of}
-use Rattle.mc_world.specs.declared.event.Change.TheVariants.{End as NewEnd}
-use Rattle.mc_world.specs.declared.event.Event.{Event}
-use Rattle.mc_world.specs.declared.event.Event.TheVariants.{Take, Set, Retry}
-use Rattle.mc_world.specs.declared.event.Kind.TheVariants.{Device}
-use Rattle.mc_world.specs.declared.event.Turn.{Turn}
+use Rattle.mc_box.specs.declared.event.Change.TheVariants.{End as NewEnd}
+use Rattle.mc_box.specs.declared.event.Event.{Event}
+use Rattle.mc_box.specs.declared.event.Event.TheVariants.{Take, Set, Retry}
+use Rattle.mc_box.specs.declared.event.Kind.TheVariants.{Device}
+use Rattle.mc_box.specs.declared.event.Turn.{Turn}
 
 abbrev pub both_entries : List ℕ
 both_entries = 0 ∷ 1 ∷ replicate 6 0

@@ -1,14 +1,14 @@
 -- Lanes as they change, by the tables of a world.
-use Rattle.std.specs.Prelude.{ℕ, ◌≡◌, ◌+◌, ◌*◌, ◌/◌, ◌%◌, ◌<◌, ◌≤◌, List, [], ◌∷◌, ◌++◌, drop, fold, length, map, position, slice_index_or, slice_set, Vec, vec_len, vec_capacity, HoldsAt, unwrap_or}
+use Rattle.std.specs.Prelude.{ℕ, ◌≡◌, ◌+◌, ◌*◌, ◌/◌, ◌%◌, ◌<◌, ◌≤◌, List, [], ◌∷◌, ◌++◌, drop, fold, length, map, position, slice_index_or, slice_set, HoldsAt, unwrap_or}
 use Rattle.std.specs.Option.{option_map}
-use Rattle.std.specs.declared.alloc.Global.{Global}
+use Rattle.mc_lane.specs.Queue.{Queue}
 use Rattle.mc_signal.specs.declared.Signal.{Signal}
 use Rattle.mc_signal.specs.declared.Tagged.{Tagged}
 use Rattle.mc_world.specs.Worlds.{far, is_place}
 use Rattle.mc_world.specs.declared.ways.Ways.{Ways}
 
 -- the signals of each lane
-abbrev pub signals_of : List (Vec Tagged Global) → List (List Tagged)
+abbrev pub signals_of : List (Queue Tagged) → List (List Tagged)
 signals_of lanes = map (λ lane. lane.items) lanes
 
 -- the front leaves a lane
@@ -44,9 +44,9 @@ all_sent ways who lanes sendings = fold (one_sent ways who) lanes sendings
 -- ---- room
 
 -- a lane has room for so many signals
-abbrev pub HasRoom : List (Vec Tagged Global) → ℕ → ℕ → Type 0
-HasRoom lanes lane count = HoldsAt (λ vec. vec_len vec + count ≤ vec_capacity vec) lanes lane
+abbrev pub HasRoom : List (Queue Tagged) → ℕ → ℕ → Type 0
+HasRoom lanes lane count = HoldsAt (λ queue. count ≤ queue.spare) lanes lane
 
 -- and so has each lane that leads away from one of the first slots, where it is the box's
-abbrev pub HasRoomFrom : List (Vec Tagged Global) → Ways → ℕ → ℕ → ℕ → Type 0
+abbrev pub HasRoomFrom : List (Queue Tagged) → Ways → ℕ → ℕ → ℕ → Type 0
 HasRoomFrom lanes ways who first count = (s : ℕ) → s < first → (slice_index_or ways.places.items s (0, 0)).0 ≡ who → HasRoom lanes (lane_by ways (far s)) count

@@ -1,9 +1,6 @@
-pub mod BoxEvents
-pub mod BoxShapes
-pub mod BoxSound
-pub mod Boxes
 pub mod Exchanges
 pub mod Lanes
+pub mod LinkFree
 pub mod Measures
 pub mod PathTable
 pub mod Paths

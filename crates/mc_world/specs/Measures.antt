@@ -1,16 +1,17 @@
 -- A number that each Take of a world lowers, so that Takes alone come to an end.
-use Rattle.std.specs.Prelude.{◌≡◌, ◌≤◌, ◌<◌, ◌+◌, ◌*◌, ℕ, zero, suc, Bool, true, false, List, length, IsTrue, Some}
+use Rattle.std.specs.Prelude.{◌≡◌, ◌≤◌, ◌<◌, ◌+◌, ◌*◌, ℕ, zero, suc, List, length, IsTrue, Some}
 use Rattle.std.specs.List.{list_all, sum_by}
 use Rattle.mc_slot.specs.declared.SlotGoal.{SlotGoal}
 use Rattle.mc_slot.specs.declared.SlotGoal.TheVariants.{End, Link}
 use Rattle.mc_slot.specs.declared.State.{State}
 use Rattle.mc_turn.specs.Weights.{weights, stored_end}
+use Rattle.mc_box.specs.BoxEvents.{is_take}
+use Rattle.mc_world.specs.LinkFree.{IsLinkFree}
 use Rattle.mc_world.specs.Sound.{IsSound}
 use Rattle.mc_world.specs.Steps.{run, step}
 use Rattle.mc_world.specs.Worlds.{WorldState, goal_of, list_to, slot_count, slot_of}
-use Rattle.mc_world.specs.declared.event.Event.{Event}
-use Rattle.mc_world.specs.declared.event.Event.TheVariants.{Take}
-use Rattle.mc_world.specs.declared.event.Turn.{Turn}
+use Rattle.mc_box.specs.declared.event.Event.TheVariants.{Take}
+use Rattle.mc_box.specs.declared.event.Turn.{Turn}
 
 -- the sum of what a function gives for each number below a count
 abbrev pub total : (ℕ → ℕ) → ℕ → ℕ
@@ -34,17 +35,13 @@ measure world = total (measure_at world) (slot_count world)
 abbrev pub under_way : WorldState → ℕ
 under_way world = sum_by length world.lanes
 
--- a Take of a sound world lowers the measure
+-- a Take of a sound world without links lowers the measure
 abbrev pub TakeLowers : Type 0
-TakeLowers = (world next : WorldState) (who local : ℕ) → IsSound world → step world (record { who = who; event = Take local }) ≡ Some next → measure next < measure world
-
-abbrev pub is_take : Event → Bool
-is_take (Take local) = true
-is_take event = false
+TakeLowers = (world next : WorldState) (who local : ℕ) → IsLinkFree world → step world (record { who = who; event = Take local }) ≡ Some next → measure next < measure world
 
 -- so a run of Takes alone has at most as many turns as the measure
 abbrev pub TakesEnd : Type 0
-TakesEnd = (world next : WorldState) (turns : List Turn) → IsSound world → IsTrue (list_all (λ turn. is_take turn.event) turns) → run world turns ≡ Some next
+TakesEnd = (world next : WorldState) (turns : List Turn) → IsLinkFree world → IsTrue (list_all (λ turn. is_take turn.event) turns) → run world turns ≡ Some next
     → length turns + measure next ≤ measure world
 
 -- and the measure is at most 8 for each signal under way and each slot

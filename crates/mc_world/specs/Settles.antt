@@ -3,14 +3,14 @@ use Rattle.std.specs.Prelude.{◌≡◌, ℕ, ◌≤◌, ◌==◌, ◌&&◌, not
 use Rattle.std.specs.List.{list_all, list_any}
 use Rattle.std.specs.Option.{is_some}
 use Rattle.mc_signal.specs.declared.Tagged.{Tagged}
-use Rattle.mc_world.specs.BoxEvents.{box_event}
-use Rattle.mc_world.specs.Boxes.{is_slot, owes_at}
+use Rattle.mc_box.specs.BoxEvents.{box_event}
+use Rattle.mc_box.specs.Boxes.{is_slot, owes_at}
 use Rattle.mc_world.specs.Paths.{has_ring}
 use Rattle.mc_world.specs.Steps.{run, after}
 use Rattle.mc_world.specs.Worlds.{WorldState, box_at}
-use Rattle.mc_world.specs.declared.event.Event.{Event}
-use Rattle.mc_world.specs.declared.event.Event.TheVariants.{Take, Set, Media, Tell, Retry, Shift}
-use Rattle.mc_world.specs.declared.event.Turn.{Turn}
+use Rattle.mc_box.specs.declared.event.Event.{Event}
+use Rattle.mc_box.specs.declared.event.Event.TheVariants.{Take, Set, Media, Tell, Retry, Shift}
+use Rattle.mc_box.specs.declared.event.Turn.{Turn}
 
 abbrev pub is_empty : List Tagged → Bool
 is_empty [] = true

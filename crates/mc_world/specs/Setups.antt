@@ -2,10 +2,10 @@
 use Rattle.std.specs.Prelude.{ℕ, ◌+◌, ◌*◌, ◌==◌, Bool, true, false, if◌then◌else◌, List, [], ◌∷◌, ◌++◌, length}
 use Rattle.mc_signal.specs.declared.codec_list.CodecList.{CodecList}
 use Rattle.mc_signal.specs.declared.Medium.{Medium}
-use Rattle.mc_world.specs.Boxes.{BoxState, first_box}
+use Rattle.mc_box.specs.Boxes.{BoxState, first_box}
 use Rattle.mc_world.specs.Worlds.{ChannelState, WorldState, first_world}
-use Rattle.mc_world.specs.declared.event.Kind.TheVariants.{Device}
-use Rattle.mc_world.specs.declared.media_box.SlotSetup.{SlotSetup}
+use Rattle.mc_box.specs.declared.event.Kind.TheVariants.{Device}
+use Rattle.mc_box.specs.declared.setup.SlotSetup.{SlotSetup}
 use Rattle.mc_world.specs.declared.network.Tunnel.{Tunnel}
 
 -- a slot, if it is of the box

@@ -1,21 +1,14 @@
 -- What no step changes: the channels of a world, and the shapes of its boxes. Which commands a shape allows.
 use Rattle.std.specs.Prelude.{◌≡◌, ◌<◌, ℕ, ◌&&◌, Bool, false, List, length, nat_lt, Some, IsSome, IsTrue}
-use Rattle.mc_world.specs.Boxes.{BoxState, goal_owes, is_slot}
+use Rattle.mc_box.specs.Acting.{IsAlike}
+use Rattle.mc_box.specs.Boxes.{BoxState, goal_owes, is_slot}
 use Rattle.mc_world.specs.Sound.{IsSound}
 use Rattle.mc_world.specs.Steps.{run, step}
 use Rattle.mc_world.specs.Worlds.{WorldState, box_at, goal_of, place, slot_count, slot_of}
-use Rattle.mc_world.specs.declared.event.Change.TheVariants.{End as NewEnd}
-use Rattle.mc_world.specs.declared.event.Event.{Event}
-use Rattle.mc_world.specs.declared.event.Event.TheVariants.{Set, Retry}
-use Rattle.mc_world.specs.declared.event.Turn.{Turn}
-
--- a box of the same kind and number, with the same lists of codecs and as many slots
-pub record IsAlike (new old : BoxState) : Type 0 where
-  pub kind : new.kind ≡ old.kind
-  pub number : new.number ≡ old.number
-  pub receives : new.receives ≡ old.receives
-  pub sends : new.sends ≡ old.sends
-  pub slots : length new.slots ≡ length old.slots
+use Rattle.mc_box.specs.declared.event.Change.TheVariants.{End as NewEnd}
+use Rattle.mc_box.specs.declared.event.Event.{Event}
+use Rattle.mc_box.specs.declared.event.Event.TheVariants.{Set, Retry}
+use Rattle.mc_box.specs.declared.event.Turn.{Turn}
 
 -- a world of the same channels and of as many boxes, each alike
 pub record HasShape (new old : WorldState) : Type 0 where

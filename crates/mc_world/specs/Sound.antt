@@ -1,16 +1,9 @@
 -- A sound world: what every world of a run keeps.
 use Rattle.std.specs.Prelude.{◌≡◌, ℕ, ◌*◌, ◌%◌, ◌<◌, ◌==◌, length, Some}
-use Rattle.mc_slot.specs.EndTurn.{IsAtRest}
 use Rattle.mc_slot.specs.Tunnel.{TunnelSound}
-use Rattle.mc_slot.specs.declared.SlotGoal.{SlotGoal}
-use Rattle.mc_slot.specs.declared.SlotGoal.TheVariants.{End, Link}
-use Rattle.mc_world.specs.Boxes.{IsBox, media_at}
-use Rattle.mc_world.specs.Worlds.{WorldState, joint_of, slot_count, place, number, far, box_at, slot_of, goal_of, own_descriptor, own_sender, list_to}
-
--- the goal of a slot is at rest: a turn that isn't pushed would send nothing
-abbrev pub RestsBy : SlotGoal → WorldState → ℕ → Type 0
-RestsBy (End goal) world s = IsAtRest goal (slot_of world s) (own_descriptor world s) (own_sender world s)
-RestsBy (Link partner) world s = ⊥
+use Rattle.mc_box.specs.BoxSound.{IsSoundBox}
+use Rattle.mc_box.specs.Boxes.{IsBox, media_at}
+use Rattle.mc_world.specs.Worlds.{WorldState, joint_of, slot_count, place, number, far, box_at, slot_of, list_to}
 
 -- boxes are numbered in order, tunnels join each slot of each box once, and each slot has its number, the medium of its tunnel, and the side that it stands on
 pub record IsNumbered (world : WorldState) : Type 0 where
@@ -25,8 +18,8 @@ pub record IsNumbered (world : WorldState) : Type 0 where
   pub media : (s : ℕ) → s < slot_count world → (slot_of world s).medium ≡ (joint_of world s).medium
   pub sides : (s : ℕ) → s < slot_count world → (slot_of world s).initiator ≡ (s % 2 == 0)
 
--- each tunnel is sound with what is under way in it, each goal is at rest, and all is numbered as it should be
+-- each tunnel is sound with what is under way in it, each box is sound, so that its links are mutual and each of its goals is at rest, and all is numbered as it should be
 pub record IsSound (world : WorldState) : Type 0 where
   pub tunnels : (s : ℕ) → s < slot_count world → TunnelSound (slot_of world s) (list_to world s) (slot_of world (far s)) (list_to world (far s))
-  pub goals : (s : ℕ) → s < slot_count world → RestsBy (goal_of world s) world s
+  pub boxes : (who : ℕ) → who < length world.boxes → IsSoundBox (box_at world who)
   pub numbered : IsNumbered world

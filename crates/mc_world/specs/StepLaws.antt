@@ -1,11 +1,12 @@
 -- Laws of steps and runs: a sound world stays sound, its slots may take what is under way to them, and something can be taken as long as anything is under way.
-use Rattle.std.specs.Prelude.{◌≡◌, ◌<◌, ℕ, false, List, length, slice_index_or, Some, IsSome}
+use Rattle.std.specs.Prelude.{◌≡◌, ◌<◌, ◌≤◌, ◌^◌, ℕ, false, List, length, slice_index_or, Some, IsSome}
 use Rattle.mc_signal.specs.declared.codec_list.CodecList.{CodecList}
+use Rattle.mc_signal.specs.Own.{address_of}
 use Rattle.mc_signal.specs.declared.Signal.{Signal}
 use Rattle.mc_slot.specs.Moves.{closed_slot, taken}
 use Rattle.mc_slot.specs.declared.Goal.TheVariants.{Close as ToClose}
 use Rattle.mc_slot.specs.declared.SlotGoal.TheVariants.{End}
-use Rattle.mc_world.specs.Boxes.{BoxState, goal_at, no_box, slot_at}
+use Rattle.mc_box.specs.Boxes.{BoxState, goal_at, no_box, slot_at}
 use Rattle.mc_world.specs.Served.{LanesServed}
 use Rattle.mc_world.specs.Settles.{is_quiet}
 use Rattle.mc_world.specs.Setups.{world_of_devices}
@@ -14,8 +15,8 @@ use Rattle.mc_world.specs.Stepped.{Stepped}
 use Rattle.mc_world.specs.Steps.{run, step}
 use Rattle.mc_world.specs.TwoPhones.{JoinsTwo}
 use Rattle.mc_world.specs.Worlds.{ChannelState, WorldState, first_world, front, place, slot_count, slot_of}
-use Rattle.mc_world.specs.declared.event.Event.TheVariants.{Take}
-use Rattle.mc_world.specs.declared.event.Turn.{Turn}
+use Rattle.mc_box.specs.declared.event.Event.TheVariants.{Take}
+use Rattle.mc_box.specs.declared.event.Turn.{Turn}
 
 -- each enabled turn of a sound world is what the slots of its box do
 abbrev pub StepActs : Type 0
@@ -57,8 +58,10 @@ UnderWayGoes = (world : WorldState) → IsSound world → LanesServed world → 
 abbrev pub RunKeepsServed : Type 0
 RunKeepsServed = (world next : WorldState) (turns : List Turn) → IsSound world → LanesServed world → run world turns ≡ Some next → IsSound next × LanesServed next
 
--- a box as new: its slots are closed and keep nothing, and its goals are close
+-- a box as new, within the limits: its slots are closed and keep nothing, and its goals are close
 pub record IsNewBox (box : BoxState) : Type 0 where
+  pub few : length box.slots ≤ 64
+  pub address : address_of box.number < 2 ^ 32
   pub slots : (local : ℕ) → slot_at box local ≡ closed_slot (slot_at box local).medium (slot_at box local).initiator
   pub goals : (local : ℕ) → goal_at box local ≡ End ToClose
 

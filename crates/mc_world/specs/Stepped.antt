@@ -1,21 +1,13 @@
 -- What one turn does, slot by slot: who takes, who sends, and what is under way then.
-use Rattle.std.specs.Prelude.{◌≡◌, ◌≢◌, ◌<◌, ◌⊎◌, ℕ, List, [], ◌∷◌, ◌++◌, drop, length, slice_index_or, Option, Some}
+use Rattle.std.specs.Prelude.{◌≡◌, ◌≢◌, ◌<◌, ◌⊎◌, ℕ, List, [], ◌++◌, drop, length, slice_index_or}
 use Rattle.mc_signal.specs.declared.Signal.{Signal}
 use Rattle.mc_signal.specs.declared.Tagged.{Tagged}
-use Rattle.mc_slot.specs.Moves.{answered, sent_all, taken}
-use Rattle.mc_slot.specs.declared.Slot.{Slot}
-use Rattle.mc_world.specs.Boxes.{BoxState, media_at}
+use Rattle.mc_box.specs.Acting.{Acted, IsSameMake}
 use Rattle.mc_slot.specs.Tunnel.{TunnelSound}
 use Rattle.mc_world.specs.Served.{AllServed, LanesServed}
-use Rattle.mc_world.specs.Shapes.{HasShape, IsAlike}
+use Rattle.mc_world.specs.Shapes.{HasShape}
 use Rattle.mc_world.specs.Sound.{IsNumbered}
 use Rattle.mc_world.specs.Worlds.{WorldState, box_at, far, list_to, place, slot_count, slot_of}
-
--- a slot takes the first of what is under way to it, or nothing, and then sends, its answer first: the slot and what is under way to it, what it sends, and the slot and what is still under way to it after that
-pub data Acted : Slot → List Signal → List Signal → Slot → List Signal → Type 0 where
-  sends : {a after : Slot} {to_a signals : List Signal} → sent_all a signals ≡ Some after → Acted a to_a signals after to_a
-  takes : {a after : Slot} {signal : Signal} {rest : List Signal} (middle : Slot) (signals : List Signal) (answer : Option Signal)
-      → taken a signal ≡ Some record { answer = answer; after = middle } → sent_all middle signals ≡ Some after → Acted a (signal ∷ rest) (answered answer ++ signals) after rest
 
 -- a lane has lost its front at most, and signals for its slots have come to its end
 pub record LaneGrows (world : WorldState) (lane : ℕ) (old new : List Tagged) : Type 0 where
@@ -24,13 +16,6 @@ pub record LaneGrows (world : WorldState) (lane : ℕ) (old new : List Tagged) :
   pub rest : (left ≡ old) ⊎ (left ≡ drop 1 old)
   pub served : AllServed world lane more
   pub is : new ≡ left ++ more
-
--- a box alike, with as many goals and media, which are of the same slots
-pub record IsSameMake (new old : BoxState) : Type 0 where
-  pub alike : IsAlike new old
-  pub goals : length new.goals ≡ length old.goals
-  pub media : length new.media ≡ length old.media
-  pub origins : (local : ℕ) → (media_at new local).origin ≡ (media_at old local).origin
 
 -- one box has acted: each slot has taken and sent, and under way to it is what was left and what the slot at the other end of its tunnel has sent. Slots of other boxes have done nothing, and those boxes stay; nothing is built anew
 pub record Stepped (old new : WorldState) (who : ℕ) : Type 0 where

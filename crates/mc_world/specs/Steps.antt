@@ -3,12 +3,12 @@ use Rattle.std.specs.Prelude.{ℕ, ◌++◌, if◌then◌else◌, List, [], ◌�
 use Rattle.std.specs.Option.{option_map, option_and_then, unwrap_or}
 use Rattle.mc_signal.specs.declared.Signal.{Signal}
 use Rattle.mc_signal.specs.declared.Tagged.{Tagged}
-use Rattle.mc_world.specs.BoxEvents.{BoxStep, box_event}
-use Rattle.mc_world.specs.Boxes.{BoxState}
+use Rattle.mc_box.specs.BoxEvents.{BoxStep, box_event}
+use Rattle.mc_box.specs.Boxes.{BoxState}
 use Rattle.mc_world.specs.Worlds.{WorldState, box_at, number, far, joint_of, lane_of, lane_to, front}
-use Rattle.mc_world.specs.declared.event.Event.{Event}
-use Rattle.mc_world.specs.declared.event.Event.TheVariants.{Take}
-use Rattle.mc_world.specs.declared.event.Turn.{Turn}
+use Rattle.mc_box.specs.declared.event.Event.{Event}
+use Rattle.mc_box.specs.declared.event.Event.TheVariants.{Take}
+use Rattle.mc_box.specs.declared.event.Turn.{Turn}
 
 abbrev pub with_box : WorldState → ℕ → BoxState → WorldState
 with_box world who box = record world { boxes = slice_set world.boxes who box }

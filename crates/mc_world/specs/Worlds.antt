@@ -9,7 +9,7 @@ use Rattle.mc_signal.specs.declared.Signal.{Signal}
 use Rattle.mc_signal.specs.declared.Tagged.{Tagged}
 use Rattle.mc_slot.specs.declared.Slot.{Slot}
 use Rattle.mc_slot.specs.declared.SlotGoal.{SlotGoal}
-use Rattle.mc_world.specs.Boxes.{BoxState, no_box, slot_at, goal_at, own, sender}
+use Rattle.mc_box.specs.Boxes.{BoxState, no_box, slot_at, goal_at, own, sender}
 use Rattle.mc_world.specs.declared.network.Tunnel.{Tunnel}
 
 -- a channel: the numbers of its two boxes, the initiator's first, and its tunnels

@@ -1,18 +1,19 @@
 // Lanes as they change, each given by its place among all lanes.
 
-ghost use Rattle.std.specs.Prelude.{◌≡◌, ◌≤◌, ℕ, ◌+◌, ◌<◌, ◌++◌, [], ◌∷◌, length, slice_index_or, vec_len, vec_capacity, OnOk};
+ghost use Rattle.std.specs.Prelude.{◌≡◌, ◌≤◌, ℕ, ◌+◌, ◌<◌, ◌++◌, [], ◌∷◌, length, slice_index_or, OnOk};
 ghost use Rattle.mc_slot.specs.Sending.{sends_of};
 ghost use Rattle.mc_world.specs.Lanes.{signals_of, without_front, one_sent, all_sent, lane_by, IsLaid, HasRoom, HasRoomFrom};
 ghost use Rattle.mc_world.specs.Worlds.{far};
 
 use crate::ways::Ways;
+use mc_lane::Lane;
 use mc_signal::{Signal, Tagged};
 use mc_slot::Sends;
 use std::alloc::AllocError;
 
 /// Makes room in each lane that leads away from a slot of the box, for as much as one event may send in all.
 pub fn make_room(
-    lanes: &mut [Vec<Tagged>],
+    lanes: &mut [Lane<Tagged>],
     ways: &Ways,
     who: u32,
     most: usize,
@@ -32,7 +33,7 @@ pub fn make_room(
 
 /// What a box sends goes away, each sending in its order to the end of the lane that leads to the far slot of its
 /// own slot.
-pub fn send_all(lanes: &mut [Vec<Tagged>], ways: &Ways, who: u32, sends: &Sends)
+pub fn send_all(lanes: &mut [Lane<Tagged>], ways: &Ways, who: u32, sends: &Sends)
     requires laid { IsLaid ways.now (length lanes.old) }
     requires room { HasRoomFrom lanes.old ways.now who (length ways.now.places.items) sends.now.len }
     ensures { signals_of lanes.new ≡ all_sent ways.now who (signals_of lanes.old) (sends_of sends.now) }
@@ -42,8 +43,20 @@ pub fn send_all(lanes: &mut [Vec<Tagged>], ways: &Ways, who: u32, sends: &Sends)
     }
 }
 
+/// The same for what stands in a queue.
+pub fn send_lane(lanes: &mut [Lane<Tagged>], ways: &Ways, who: u32, sends: &Lane<(u8, Signal)>)
+    requires laid { IsLaid ways.now (length lanes.old) }
+    requires room { HasRoomFrom lanes.old ways.now who (length ways.now.places.items) (length sends.now.items) }
+    ensures { signals_of lanes.new ≡ all_sent ways.now who (signals_of lanes.old) sends.now.items }
+{
+    for i in 0..sends.len() {
+        let sending = sends.get(i);
+        send(lanes, ways, who, sending.0, sending.1);
+    }
+}
+
 /// The front leaves a lane, and then what a box sends goes away.
-pub fn relay(lanes: &mut [Vec<Tagged>], lane: usize, ways: &Ways, who: u32, sends: &Sends)
+pub fn relay(lanes: &mut [Lane<Tagged>], lane: usize, ways: &Ways, who: u32, sends: &Sends)
     requires laid { IsLaid ways.now (length lanes.old) }
     requires here { lane < length lanes.old }
     requires some { 0 < length (slice_index_or (signals_of lanes.old) lane []) }
@@ -55,18 +68,18 @@ pub fn relay(lanes: &mut [Vec<Tagged>], lane: usize, ways: &Ways, who: u32, send
 }
 
 // The front leaves a lane. The room in each lane stays.
-fn pop_front(lanes: &mut [Vec<Tagged>], lane: usize)
+fn pop_front(lanes: &mut [Lane<Tagged>], lane: usize)
     requires here { lane < length lanes.old }
     requires some { 0 < length (slice_index_or (signals_of lanes.old) lane []) }
     ensures popped { signals_of lanes.new ≡ without_front (signals_of lanes.old) lane }
     ensures room { (k count : ℕ) → HasRoom lanes.old k count → HasRoom lanes.new k count }
 {
     let lane = &mut lanes[lane];
-    lane.remove(0);
+    let _front = lane.pop();
 }
 
 // Makes room in a lane. The room in each lane stays.
-fn reserve(lanes: &mut [Vec<Tagged>], lane: usize, most: usize) -> Result<(), AllocError>
+fn reserve(lanes: &mut [Lane<Tagged>], lane: usize, most: usize) -> Result<(), AllocError>
     requires { lane < length lanes.old }
     ensures same { signals_of lanes.new ≡ signals_of lanes.old }
     ensures room { OnOk result (HasRoom lanes.new lane most) }
@@ -78,7 +91,7 @@ fn reserve(lanes: &mut [Vec<Tagged>], lane: usize, most: usize) -> Result<(), Al
 
 // What a box sends by one of its slots goes to the end of the lane that leads to the far slot. A slot without a
 // number sends nothing.
-fn send(lanes: &mut [Vec<Tagged>], ways: &Ways, who: u32, local: u8, signal: Signal)
+fn send(lanes: &mut [Lane<Tagged>], ways: &Ways, who: u32, local: u8, signal: Signal)
     requires laid { IsLaid ways.now (length lanes.old) }
     requires room { HasRoomFrom lanes.old ways.now who (length ways.now.places.items) 1 }
     ensures sent { signals_of lanes.new ≡ one_sent ways.now who (signals_of lanes.old) (local, signal) }
@@ -86,17 +99,7 @@ fn send(lanes: &mut [Vec<Tagged>], ways: &Ways, who: u32, local: u8, signal: Sig
 {
     if let Some(slot) = ways.number(who, local) {
         let (lane, tunnel) = ways.away(slot);
-        push(&mut lanes[lane], Tagged { tunnel, signal });
-    }
-}
-
-// Adds a signal, for which there is room.
-fn push(lane: &mut Vec<Tagged>, tagged: Tagged)
-    requires { vec_len lane.old < vec_capacity lane.old }
-    ensures items { lane.new.items ≡ lane.old.items ++ tagged ∷ [] }
-    ensures room { vec_capacity lane.old ≤ vec_capacity lane.new }
-{
-    if lane.push(tagged).is_err() {
-        unreachable!()
+        let lane = &mut lanes[lane];
+        lane.push(Tagged { tunnel, signal });
     }
 }

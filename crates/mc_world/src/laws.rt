@@ -1,6 +1,7 @@
 //! Laws of the world, over its definitions alone: each function's contract is the law's sentence.
 
 ghost use Rattle.mc_world.specs.Exchanges.{WorkedExchanges};
+ghost use Rattle.mc_world.specs.LinkFree.{RunKeepsLinkFree};
 ghost use Rattle.mc_world.specs.Measures.{TakeLowers, TakesEnd, MeasureBound};
 ghost use Rattle.mc_world.specs.Shapes.{StepKeepsShape, RunKeepsShape, CommandGoes, RetryGoes};
 ghost use Rattle.mc_world.specs.StepLaws.{StepActs, StepKeepsSound, RunKeepsSound, FrontIsTaken, FrontStepGoes, StepKeepsServed, FirstIsServed, UnderWayGoes, RunKeepsServed, FirstIsSound, TwoPhonesStaySound};
@@ -80,12 +81,12 @@ pub fn two_phones_stay_sound()
     ensures { TwoPhonesStaySound }
 {}
 
-/// In a sound world each Take lowers the measure: what is still to come of all slots.
+/// In a sound world without links each Take lowers the measure: what is still to come of all slots.
 pub fn take_lowers()
     ensures { TakeLowers }
 {}
 
-/// A run of Takes alone, from a sound world, ends: it has at most as many turns as the measure.
+/// A run of Takes alone, from a sound world without links, ends: it has at most as many turns as the measure.
 pub fn takes_end()
     ensures { TakesEnd }
 {}
@@ -93,6 +94,11 @@ pub fn takes_end()
 /// The measure of a sound world is at most 8 for each signal under way and each slot.
 pub fn measure_bound()
     ensures { MeasureBound }
+{}
+
+/// A run of turns that set no link leaves a sound world without links so.
+pub fn run_keeps_link_free()
+    ensures { RunKeepsLinkFree }
 {}
 
 /// A turn changes neither the channels nor the shapes of the boxes.

@@ -1,6 +1,6 @@
 // Channels, and the world that they join.
 
-ghost use Rattle.std.specs.Prelude.{◌≡◌, ◌+◌, ◌<◌, ◌≤◌, ◌*◌, ◌^◌, ◌++◌, if◌then◌else◌, [], map, length, replicate, slice_index_or, vec_len, ◌==◌, All, IfOk, OnOk};
+ghost use Rattle.std.specs.Prelude.{◌≡◌, ◌+◌, ◌<◌, ◌≤◌, ◌*◌, ◌^◌, ◌++◌, if◌then◌else◌, [], map, length, replicate, slice_index_or, ◌==◌, All, IfOk, OnOk};
 ghost use Rattle.std.specs.List.{list_all};
 ghost use Rattle.mc_world.specs.Settles.{is_quiet, rests};
 ghost use Rattle.mc_world.specs.Served.{LanesServed};
@@ -11,8 +11,9 @@ ghost use Rattle.mc_world.specs.Worlds.{first_world, slot_count, place, number, 
 
 mod step;
 
-use crate::media_box::MediaBox;
 use crate::ways::Ways;
+use mc_box::MediaBox;
+use mc_lane::Lane;
 use mc_signal::{Medium, Signal, Tagged};
 use mc_slot::{Slot, SlotGoal};
 use std::alloc::{AllocError, Global};
@@ -52,8 +53,9 @@ impl Model for Channel {
 pub struct World {
     boxes: Vec<MediaBox>,
     channels: Vec<Channel>,
-    lanes: Vec<Vec<Tagged>>,
+    lanes: Vec<Lane<Tagged>>,
     ways: Ways,
+    alloc: Global,
 }
 
 impl Model for World {
@@ -90,6 +92,7 @@ impl World {
             channels,
             lanes,
             ways: Ways { places, joints },
+            alloc,
         })
     }
 
@@ -172,9 +175,9 @@ impl World {
     }
 
     /// The signals under way in a channel, to its initiator or to the other end.
-    pub fn lane(&self, channel: u32, to_initiator: bool) -> &[Tagged]
+    pub fn lane(&self, channel: u32, to_initiator: bool) -> &Lane<Tagged>
         requires { channel < length self.now.channels }
-        ensures { result.now ≡ slice_index_or self.now.lanes (2 * channel + (if to_initiator then 0 else 1)) [] }
+        ensures { result.now.items ≡ slice_index_or self.now.lanes (2 * channel + (if to_initiator then 0 else 1)) [] }
     {
         &self.lanes[2 * channel as usize + usize::from(!to_initiator)]
     }
@@ -214,30 +217,30 @@ impl World {
 }
 
 // The front of a lane, where that is for the tunnel.
-fn front_for(lane: &[Tagged], tunnel: u8) -> Option<Signal>
-    ensures { result ≡ front_for tunnel lane.now }
+fn front_for(lane: &Lane<Tagged>, tunnel: u8) -> Option<Signal>
+    ensures { result ≡ front_for tunnel lane.now.items }
 {
-    match lane.first() {
+    match lane.front() {
         Some(first) if first.tunnel == tunnel => Some(first.signal),
         _ => None,
     }
 }
 
 // Whether each of these lanes is empty.
-fn are_empty(lanes: &[Vec<Tagged>]) -> bool
-    ensures { result ≡ list_all (λ lane. vec_len lane == 0) lanes.now }
+fn are_empty(lanes: &[Lane<Tagged>]) -> bool
+    ensures { result ≡ list_all (λ lane. length lane.items == 0) lanes.now }
 {
     lanes.iter().all(|lane| lane.is_empty())
 }
 
 // Two lanes for each channel, with nothing in them.
-fn empty_lanes(alloc: Global, channels: usize) -> Result<Vec<Vec<Tagged>>, AllocError>
+fn empty_lanes(alloc: Global, channels: usize) -> Result<Vec<Lane<Tagged>>, AllocError>
     ensures { IfOk result (λ lanes. map (λ lane. lane.items) lanes.items ≡ replicate (2 * channels) []) }
 {
     let mut lanes = Vec::new(alloc);
     for _done in 0..channels {
-        lanes.push(Vec::new(alloc))?;
-        lanes.push(Vec::new(alloc))?;
+        lanes.push(Lane::new(alloc))?;
+        lanes.push(Lane::new(alloc))?;
     }
     Ok(lanes)
 }

@@ -1,7 +1,7 @@
 // What a settle leaves.
 
-use crate::event::Turn;
 use crate::network::World;
+use mc_box::Turn;
 
 /// A world after a settle, and the turns that led to it.
 #[derive(Debug, Drop)]

@@ -22,7 +22,7 @@ use crate::word_list::has_repeat;
 use mc_script::LineFault;
 use mc_signal::CodecList;
 use mc_text::{Parts, Words};
-use mc_world::{BoxShape, Kind};
+use mc_box::{BoxShape, Kind};
 use std::alloc::AllocError;
 
 const BOX_LIMIT: usize = 256;

@@ -20,7 +20,8 @@ use mc_script::LineFault;
 use mc_script::places::known_box;
 use mc_signal::Medium;
 use mc_text::{Parts, Words};
-use mc_world::{Channel, Shape, Tunnel};
+use mc_box::Shape;
+use mc_world::{Channel, Tunnel};
 use std::alloc::{AllocError, Global};
 
 const SLOT_LIMIT: usize = 64;

@@ -14,7 +14,7 @@ use crate::section::{Keyword, Section};
 use mc_script::LineFault;
 use mc_script::keyword::CommandWord;
 use mc_text::Words;
-use mc_world::Shape;
+use mc_box::Shape;
 
 impl Reader {
     /// Reads `prog BOX STATE STATE ..` from the box on.

@@ -4,7 +4,7 @@ use Rattle.mc_path.proofs.Shown.{shown_all, shown_next}
 use Rattle.mc_path.proofs.paths.Goals as goal
 
 pub returns-in_err-push-clause-quiet : goal.returns-in_err-push-clause-quiet
-returns-in_err-push-clause-quiet c = quiet_paths c.args.world.now c.keeps.ensures.sound
+returns-in_err-push-clause-quiet c = quiet_paths c.args.world.now (record { sound = c.keeps.ensures.sound; free = c.requires })
 
 pub loop-tunnel-preserved : goal.loop-tunnel-preserved
 loop-tunnel-preserved c =
@@ -15,7 +15,7 @@ returns-clause-views c =
     let last = c.slot_count-tunnel-end.ensures in
     let passed = c.loop-tunnel-test.false in
     let most = c.loop-tunnel.auto.tunnel-end in
-    shown_all c.args.world.now c.loop-tunnel.tunnel c.loop-tunnel.views.items c.keeps.ensures.sound (omega arith) c.loop-tunnel.invariant
+    shown_all c.args.world.now c.loop-tunnel.tunnel c.loop-tunnel.views.items (record { sound = c.keeps.ensures.sound; free = c.requires }) (omega arith) c.loop-tunnel.invariant
 
 pub returns-clause-quiet : goal.returns-clause-quiet
-returns-clause-quiet c = quiet_paths c.args.world.now c.keeps.ensures.sound
+returns-clause-quiet c = quiet_paths c.args.world.now (record { sound = c.keeps.ensures.sound; free = c.requires })

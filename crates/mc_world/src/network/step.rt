@@ -1,18 +1,19 @@
 // One step of a world.
 
-ghost use Rattle.std.specs.Prelude.{◌≡◌, ◌↔◌, ◌<◌, Some, None, false, length, OnOk, OnErr};
-ghost use Rattle.mc_world.specs.Measures.{is_take};
+ghost use Rattle.std.specs.Prelude.{◌≡◌, ◌↔◌, ◌<◌, Some, None, false, length, IsFalse, IsTrue, OnOk, OnErr};
+ghost use Rattle.mc_box.specs.BoxEvents.{is_enabled, is_take, is_version_end};
 ghost use Rattle.mc_world.specs.Sound.{IsSound};
-ghost use Rattle.mc_world.specs.StepAnswers.{Answers};
+ghost use Rattle.mc_world.specs.StepAnswers.{Answers, ends_version, ends_version_at};
 ghost use Rattle.mc_world.specs.Steps.{step, step_by};
 ghost use Rattle.mc_world.specs.declared.network.step.StepFault.TheVariants.{NoMemory};
 
 use super::World;
-use crate::event::Event;
-use crate::lanes::{make_room, relay, send_all};
+use crate::lanes::{make_room, relay, send_lane};
+use mc_box::{Event, MediaBox, MediaChange};
+use mc_lane::Lane;
 use std::alloc::AllocError;
 
-// How many signals one event of a box sends at most, by whichever of its slots: as many as `Sends` holds.
+// For how many signals a Take asks for room: as many as `Sends` holds.
 const MOST_SENT: usize = 4;
 
 /// Why a step isn't made.
@@ -37,11 +38,14 @@ impl World {
     /// One event of one box, where it's enabled. What the box sends is under way then.
     pub fn step(&mut self, who: u32, event: Event) -> Result<(), StepFault>
         ensures ok { OnOk result (step self.old (record { who = who; event = event }) ≡ Some self.new) }
-        ensures not_enabled { (result ≡ Err StepFault.NotEnabled) ↔ (step self.old (record { who = who; event = event }) ≡ None) }
         ensures unchanged { OnErr result (self.new ≡ self.old) }
 
-        // No version counts up yet.
-        ensures no_version_end { ¬ (result ≡ Err StepFault.VersionEnd) }
+        // An event that has no step is refused: as VersionEnd where it is a Hear that could happen but for the last
+        // version, and else as NotEnabled.
+        ensures version_end { (result ≡ Err StepFault.VersionEnd)
+            ↔ ((step self.old (record { who = who; event = event }) ≡ None) × IsTrue (ends_version self.old (record { who = who; event = event }))) }
+        ensures not_enabled { (result ≡ Err StepFault.NotEnabled)
+            ↔ ((step self.old (record { who = who; event = event }) ≡ None) × IsFalse (ends_version self.old (record { who = who; event = event }))) }
     {
         if who as usize >= self.boxes.len() {
             return Err(StepFault::NotEnabled);
@@ -53,7 +57,7 @@ impl World {
     fn happen(&mut self, who: u32, event: Event) -> Result<(), StepFault>
         requires sound { IsSound self.old }
         requires here { who < length self.old.boxes }
-        ensures { Answers self.old self.new (step_by self.old who event) result }
+        ensures { Answers self.old self.new (step_by self.old who event) (ends_version_at self.old who event) result }
     {
         match event {
             Event::Take(local) => self.take(who, local),
@@ -67,7 +71,7 @@ impl World {
     fn take(&mut self, who: u32, local: u8) -> Result<(), StepFault>
         requires sound { IsSound self.old }
         requires here { who < length self.old.boxes }
-        ensures { Answers self.old self.new (step_by self.old who (Event.Take local)) result }
+        ensures { Answers self.old self.new (step_by self.old who (Event.Take local)) false result }
     {
         let Some(slot) = self.number(who, local) else {
             return Err(StepFault::NotEnabled);
@@ -88,16 +92,35 @@ impl World {
         requires sound { IsSound self.old }
         requires here { who < length self.old.boxes }
         requires other { is_take event ≡ false }
-        ensures { Answers self.old self.new (step_by self.old who event) result }
+        ensures { Answers self.old self.new (step_by self.old who event) (ends_version_at self.old who event) result }
     {
         let actor = &self.boxes[who as usize];
         if !actor.enabled(&event) {
             return Err(StepFault::NotEnabled);
         }
-        make_room(&mut self.lanes, &self.ways, who, MOST_SENT)?;
+        if is_version_end(actor, event) {
+            return Err(StepFault::VersionEnd);
+        }
+        let most = 2 * actor.slots().len();
+        make_room(&mut self.lanes, &self.ways, who, most)?;
+        let mut sends = Lane::new(self.alloc);
+        sends.reserve(most)?;
         let actor = &mut self.boxes[who as usize];
-        let sends = actor.act(event);
-        send_all(&mut self.lanes, &self.ways, who, &sends);
+        if actor.act(event, &mut sends).is_err() {
+            unreachable!()
+        }
+        send_lane(&mut self.lanes, &self.ways, who, &sends);
         Ok(())
+    }
+}
+
+// Whether an event is a Hear of a slot whose descriptor has the last version.
+fn is_version_end(actor: &MediaBox, event: Event) -> bool
+    requires { IsTrue (is_enabled actor.now event) }
+    ensures { result ≡ is_version_end actor.now event }
+{
+    match event {
+        Event::Media(MediaChange::Hear(local, _)) => actor.own(local).version == u32::MAX,
+        _ => false,
     }
 }

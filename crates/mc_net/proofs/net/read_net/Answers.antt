@@ -1,6 +1,7 @@
 use Rattle.mc_net.specs.Nets.{DeclaresNet}
 use Rattle.mc_net.proofs.Allowed.{net_allowed, net_named}
 use Rattle.mc_net.proofs.Declaring.{AreOf, net_declares, parts_are_two, parts_join}
+use Rattle.mc_net.proofs.LinkFree.{net_free}
 use Rattle.mc_net.proofs.net.read_net.Goals as goal
 
 pub make_net-requires-clause-joins : goal.make_net-requires-clause-joins
@@ -29,3 +30,9 @@ returns-clause-allowed c =
     let are : AreOf c.in_ok-read_text.field-0 c.into_parts-parts.result = record { names = c.into_parts-parts.ensures.names; shape = c.into_parts-parts.ensures.shape; media = c.into_parts-parts.ensures.media; channels = c.into_parts-parts.ensures.channels; commands = c.into_parts-parts.ensures.commands } in
     let declares : DeclaresNet c.args.text.now c.in_ok-make_net.field-0 = net_declares c.args.text.now c.in_ok-read_text.field-0 c.into_parts-parts.result c.in_ok-make_net.field-0 c.in_ok-read_text.ensures.says are c.in_ok-make_net.ensures in
     net_allowed c.args.text.now c.in_ok-make_net.field-0 declares
+
+pub returns-clause-free : goal.returns-clause-free
+returns-clause-free c =
+    let are : AreOf c.in_ok-read_text.field-0 c.into_parts-parts.result = record { names = c.into_parts-parts.ensures.names; shape = c.into_parts-parts.ensures.shape; media = c.into_parts-parts.ensures.media; channels = c.into_parts-parts.ensures.channels; commands = c.into_parts-parts.ensures.commands } in
+    let declares : DeclaresNet c.args.text.now c.in_ok-make_net.field-0 = net_declares c.args.text.now c.in_ok-read_text.field-0 c.into_parts-parts.result c.in_ok-make_net.field-0 c.in_ok-read_text.ensures.says are c.in_ok-make_net.ensures in
+    net_free c.args.text.now c.in_ok-make_net.field-0 declares

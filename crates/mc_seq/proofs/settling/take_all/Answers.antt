@@ -1,6 +1,6 @@
 use Rattle.std.proofs.Common.{refl}
 use Rattle.mc_world.proofs.Lowers.{take_lowers}
-use Rattle.mc_world.proofs.StepKeeps.{step_keeps_sound}
+use Rattle.mc_world.proofs.LinkFree.{step_keeps_link_free}
 use Rattle.mc_seq.proofs.Taking.{goes_last, goes_more, lowest_goes, take_by}
 use Rattle.mc_seq.proofs.settling.take_all.Goals as goal
 
@@ -9,7 +9,7 @@ make-requires c = lowest_goes c.loop-slot.settled.world c.in-Some.slot c.place-w
 
 pub loop-slot-preserved : goal.loop-slot-preserved
 loop-slot-preserved c = record {
-  sound = step_keeps_sound c.loop-slot.settled.world c.make.new.settled.world (take_by c.place-who.result) c.loop-slot.invariant.sound c.in_ok-make.ensures.made;
+  sound = step_keeps_link_free c.loop-slot.settled.world c.make.new.settled.world (take_by c.place-who.result) c.loop-slot.invariant.sound refl c.in_ok-make.ensures.made;
   takes = goes_more c.args.settled.now.world c.loop-slot.settled.world c.make.new.settled.world c.args.settled.now.turns.items c.loop-slot.settled.turns.items c.make.new.settled.turns.items
       c.in-Some.slot c.place-who.result c.in-Some.ensures.some c.place-who.ensures c.in_ok-make.ensures.made c.in_ok-make.ensures.logged c.loop-slot.invariant.takes;
 }
@@ -17,5 +17,8 @@ loop-slot-preserved c = record {
 pub loop-slot-smaller : goal.loop-slot-smaller
 loop-slot-smaller c = take_lowers c.loop-slot.settled.world c.make.new.settled.world c.place-who.result.0 c.place-who.result.1 c.loop-slot.invariant.sound c.in_ok-make.ensures.made
 
-pub returns : goal.returns
-returns c = goes_last c.args.settled.now.world c.loop-slot.settled.world c.args.settled.now.turns.items c.loop-slot.settled.turns.items (c.in_default.ensures.none refl) c.loop-slot.invariant.takes
+pub returns-clause-free : goal.returns-clause-free
+returns-clause-free c = c.loop-slot.invariant.sound.free
+
+pub returns-clause-took : goal.returns-clause-took
+returns-clause-took c = goes_last c.args.settled.now.world c.loop-slot.settled.world c.args.settled.now.turns.items c.loop-slot.settled.turns.items (c.in_default.ensures.none refl) c.loop-slot.invariant.takes

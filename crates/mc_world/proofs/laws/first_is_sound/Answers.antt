@@ -1,4 +1,4 @@
-use Rattle.mc_world.proofs.Firsts.{first_is_sound}
+use Rattle.mc_world.proofs.NewWorlds.{first_is_sound}
 use Rattle.mc_world.proofs.laws.first_is_sound.Goals as goal
 
 pub returns : goal.returns

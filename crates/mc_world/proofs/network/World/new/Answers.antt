@@ -1,14 +1,14 @@
-use Rattle.std.proofs.Common.{◌≡◌, ◌*◌, ◌≤◌, ap, [], length, List, Vec, ◌∙◌, subst, sym, rules, arith}
+use Rattle.std.proofs.Common.{◌≡◌, ◌*◌, ◌≤◌, ap, [], length, List, ◌∙◌, subst, sym, rules, arith}
 use Rattle.std.proofs.Math.ListN.{replicate}
 use Rattle.std.proofs.lemmas.List.{length-map, length-replicate}
-use Rattle.std.specs.declared.alloc.Global.{Global}
+use Rattle.mc_lane.specs.Queue.{Queue}
 use Rattle.mc_signal.specs.declared.Tagged.{Tagged}
-use Rattle.mc_world.specs.Boxes.{BoxState}
+use Rattle.mc_box.specs.Boxes.{BoxState}
 use Rattle.mc_world.specs.Lanes.{signals_of}
 use Rattle.mc_world.specs.Served.{LanesServed}
 use Rattle.mc_world.specs.Sound.{IsSound}
 use Rattle.mc_world.specs.Worlds.{ChannelState, WorldState, first_world, places_among}
-use Rattle.mc_world.proofs.Firsts.{first_is_sound}
+use Rattle.mc_world.proofs.NewWorlds.{first_is_sound}
 use Rattle.mc_world.proofs.StepGoes.{first_is_served}
 use Rattle.mc_world.proofs.JointTables.{few_slots}
 use Rattle.mc_world.proofs.network.World.new.Goals as goal
@@ -22,7 +22,7 @@ invariant_of-result c =
     let few : length (places_among c.args.channels.items) ≤ 16 * length c.args.channels.items = few_slots c.args.channels.items c.requires.tunnels in
     let places : c.in_ok-places.places.items ≡ places_among c.args.channels.items = search rules in
     let lanes : length c.in_ok-lanes.lanes.items ≡ 2 * c.len.result =
-    sym (length-map c.in_ok-lanes.lanes.items (λ (lane : Vec Tagged Global). lane.items)) ∙ ap (λ (l : List (List Tagged)). length l) c.in_ok-lanes.ensures ∙ length-replicate (2 * c.len.result) _ in
+    sym (length-map c.in_ok-lanes.lanes.items (λ (lane : Queue Tagged). lane.items)) ∙ ap (λ (l : List (List Tagged)). length l) c.in_ok-lanes.ensures ∙ length-replicate (2 * c.len.result) _ in
     let none : signals_of c.in_ok-lanes.lanes.items ≡ replicate (2 * length c.args.channels.items) [] = rw (c.len.ensures, c.args.channels.ok.0) at c.in_ok-lanes.ensures in
     let first : first_world c.args.boxes.items c.args.channels.items ≡ world_with c.args.boxes.items c.args.channels.items (signals_of c.in_ok-lanes.lanes.items) =
     ap (world_with c.args.boxes.items c.args.channels.items) (sym none) in

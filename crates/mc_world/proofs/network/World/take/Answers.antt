@@ -3,13 +3,13 @@ use Rattle.std.proofs.lemmas.Result.{err_from_is_err_and}
 use Rattle.std.specs.Vec.{with_item, with_items}
 use Rattle.mc_signal.specs.declared.Tagged.{Tagged}
 use Rattle.mc_slot.specs.Sending.{sends_of}
-use Rattle.mc_world.specs.BoxEvents.{box_event}
-use Rattle.mc_world.specs.Boxes.{BoxState}
+use Rattle.mc_box.specs.BoxEvents.{box_event}
+use Rattle.mc_box.specs.Boxes.{BoxState}
 use Rattle.mc_world.specs.Lanes.{IsLaid, all_sent, signals_of, without_front}
 use Rattle.mc_world.specs.Steps.{step_by}
 use Rattle.mc_world.specs.Tables.{world_of}
 use Rattle.mc_world.specs.Worlds.{box_at, number}
-use Rattle.mc_world.specs.declared.event.Event.TheVariants.{Take}
+use Rattle.mc_box.specs.declared.event.Event.TheVariants.{Take}
 use Rattle.mc_world.proofs.LaneChanges.{Lane, length_kept, room_kept, signals_kept, signals_written}
 use Rattle.mc_world.proofs.Numbers.{number_is}
 use Rattle.mc_world.proofs.StepKeeps.{front_is_taken}
@@ -69,7 +69,7 @@ stepped c =
     c.deref_mut.ensures.value c.make_room.auto.lanes c.make_room.ensures.same c.deref_mut-2.ensures.value c.relay.auto.lanes c.relay.ensures in
     let actor = box_read c.self.inside c.args.self.now c.args.who c.index_mut-actor.result.now c.self.view_is c.requires.here c.index_mut-actor.ensures.value in
     let goes : box_event (box_at c.args.self.now c.args.who) (Take c.args.local) (Some c.in-Some-front.signal) ≡ Some (record { sent = sends_of c.take-sends.result; after = c.take-sends.new.self }) =
-    subst (λ (box : BoxState). box_event box (Take c.args.local) (Some c.in-Some-front.signal) ≡ Some (record { sent = sends_of c.take-sends.result; after = c.take-sends.new.self })) actor c.take-sends.ensures in
+    subst (λ (box : BoxState). box_event box (Take c.args.local) (Some c.in-Some-front.signal) ≡ Some (record { sent = sends_of c.take-sends.result; after = c.take-sends.new.self })) actor c.take-sends.ensures.event in
     take_made c.self.inside c.args.self.now c.args.who c.args.local c.in-Some.slot c.lane_to-lane.result c.in-Some-front.signal (record { sent = sends_of c.take-sends.result; after = c.take-sends.new.self }) _
     c.self.invariant c.self.view_is (sym c.number.ensures ∙ c.in-Some.is) (sym c.front.ensures ∙ c.in-Some-front.is) c.lane_to-lane.ensures goes lanes
 
