@@ -9,10 +9,10 @@ ghost use Rattle.mc_net.specs.Texts.{RefusesText};
 use crate::fault::NetFault;
 use crate::reader::{BoxMedia, Parts};
 use crate::text::read_text;
+use mc_box::{Kind, MediaBox, Setup, Shape, SlotSetup};
 use mc_script::{Batch, Command};
 use mc_signal::{CodecList, Medium};
 use mc_text::Names;
-use mc_box::{Kind, MediaBox, Setup, Shape, SlotSetup};
 use mc_world::{Channel, World};
 use std::alloc::{AllocError, Global};
 

@@ -15,11 +15,11 @@ ghost use Rattle.mc_net.specs.Programs.{new_part, has_goal, lacks_goal, goal_rul
 use crate::fault::ReadFault;
 use crate::places::{is_misspelt, is_overlong};
 use crate::section::WaitWord;
+use mc_box::Shape;
 use mc_script::LineFault;
 use mc_script::places::{fixed_goal, known_slot};
 use mc_slot::{SlotGoal, State};
 use mc_text::{Names, Parts, Words};
-use mc_box::Shape;
 use std::alloc::{AllocError, Global};
 use std::marker::Model;
 

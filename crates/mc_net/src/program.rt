@@ -12,10 +12,10 @@ ghost use Rattle.mc_net.specs.Programs.{block_goal_after, block_goal_rules, bloc
 use crate::fault::ReadFault;
 use crate::part::Part;
 use crate::word_list::{are_more_than, has_misspelt, has_overlong, has_repeat};
+use mc_box::Shape;
 use mc_script::LineFault;
 use mc_script::places::{known_box, needs_feature};
 use mc_text::{Names, Words};
-use mc_box::Shape;
 use std::alloc::{AllocError, Global};
 use std::marker::Model;
 

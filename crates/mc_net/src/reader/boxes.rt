@@ -19,10 +19,10 @@ use crate::places::{is_misspelt, is_overlong};
 use crate::reader::{BoxMedia, Reader};
 use crate::section::Section;
 use crate::word_list::has_repeat;
+use mc_box::{BoxShape, Kind};
 use mc_script::LineFault;
 use mc_signal::CodecList;
 use mc_text::{Parts, Words};
-use mc_box::{BoxShape, Kind};
 use std::alloc::AllocError;
 
 const BOX_LIMIT: usize = 256;

@@ -16,11 +16,11 @@ use crate::fault::ReadFault;
 use crate::places::{fixed_medium, is_misspelt, is_overlong};
 use crate::reader::Reader;
 use crate::section::Section;
+use mc_box::Shape;
 use mc_script::LineFault;
 use mc_script::places::known_box;
 use mc_signal::Medium;
 use mc_text::{Parts, Words};
-use mc_box::Shape;
 use mc_world::{Channel, Tunnel};
 use std::alloc::{AllocError, Global};
 

@@ -11,10 +11,10 @@ use crate::fault::ReadFault;
 use crate::program::{Block, program_line, state_line};
 use crate::reader::Reader;
 use crate::section::{Keyword, Section};
+use mc_box::Shape;
 use mc_script::LineFault;
 use mc_script::keyword::CommandWord;
 use mc_text::Words;
-use mc_box::Shape;
 
 impl Reader {
     /// Reads `prog BOX STATE STATE ..` from the box on.
