@@ -18,7 +18,8 @@ use Rattle.mc_world.proofs.LinkFree.{rests_link_none, run_keeps_link_free}
 use Rattle.mc_path.specs.PathLaws.{CleanPaths, IsClean, IsCleanPath}
 use Rattle.mc_path.proofs.CleanEnds.{endings}
 use Rattle.mc_path.proofs.CleanTunnels.{CleanTunnel, clean_far, run_clean, run_keeps_goal}
-use Rattle.mc_path.proofs.Quiet.{list_none, low_in}
+use Rattle.mc_path.proofs.Quiet.{low_in}
+use Rattle.mc_path.proofs.QuietWalks.{list_none}
 use Rattle.mc_path.proofs.Tunnels.{each_path, far_of_low}
 
 -- a tunnel of a quiet world is clean, where none of its ends closes

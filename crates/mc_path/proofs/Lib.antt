@@ -1,8 +1,10 @@
+pub mod Chains
 pub mod CleanEnds
 pub mod CleanPaths
 pub mod CleanSteps
 pub mod CleanTunnels
 pub mod Quiet
+pub mod QuietWalks
 pub mod SettledHold
 pub mod Shown
 pub mod TableHolds

@@ -1,40 +1,32 @@
--- What a path is where nothing is under way: closed, or flowing with ends that hear each other.
-use Rattle.std.proofs.Common.{◌≡◌, ◌<◌, ◌+◌, ◌*◌, ◌⊎◌, inl, inr, ℕ, zero, suc, Bool, true, false, Some, IsTrue, List, [], ◌∷◌, get_or, refl, ap, sym, ◌∙◌, subst, arith}
-use Rattle.std.specs.List.{list_all}
-use Rattle.std.specs.Option.{option_eq}
-use Rattle.std.proofs.lemmas.Grind.{common_steps}
-use Rattle.mc_signal.specs.Choice.{selector_of}
-use Rattle.mc_signal.specs.Same.{is_same_descriptor, is_same_selector}
+-- What a path is where nothing is under way, over however many tunnels: closed, or flowing with ends that hear each other.
+use Rattle.std.proofs.Common.{◌≡◌, ◌<◌, ◌+◌, ◌*◌, ◌⊎◌, inl, inr, ℕ, zero, suc, false, nat_lt, Option, Some, None, IsTrue, List, [], ◌∷◌, All, length, refl, ap, sym, ◌∙◌, subst, arith}
+use Rattle.std.specs.List.{cons_option, enumerate_from, filter_map}
+use Rattle.std.specs.Option.{option_and_then}
+use Rattle.std.proofs.lemmas.List.Elements.{All-nil, All-cons}
 use Rattle.mc_signal.specs.declared.Descriptor.{Descriptor}
 use Rattle.mc_signal.specs.declared.Sender.{Sender}
-use Rattle.mc_signal.specs.declared.Signal.{Signal}
-use Rattle.mc_signal.specs.declared.Tagged.{Tagged}
-use Rattle.mc_signal.proofs.Equal.{option_descriptor_eq, option_selector_eq}
 use Rattle.mc_slot.specs.EndTurn.{IsAtRest, owes}
-use Rattle.mc_slot.specs.Outlook.{waits}
-use Rattle.mc_slot.specs.Tunnel.{Agree, TunnelSound}
 use Rattle.mc_slot.specs.declared.Goal.{Goal}
 use Rattle.mc_slot.specs.declared.Goal.TheVariants.{Open as ToOpen, Close as ToClose}
 use Rattle.mc_slot.specs.declared.Slot.{Slot}
 use Rattle.mc_slot.specs.declared.SlotGoal.{SlotGoal}
 use Rattle.mc_slot.specs.declared.SlotGoal.TheVariants.{End, Link}
 use Rattle.mc_slot.specs.declared.State.{State}
-use Rattle.mc_slot.specs.declared.State.TheVariants.{Closed, Opened, Flowing}
+use Rattle.mc_slot.specs.declared.State.TheVariants.{Closed, Flowing}
 use Rattle.mc_box.specs.Boxes.{goal_owes}
+use Rattle.mc_box.proofs.Options.{if_some, then_some}
 use Rattle.mc_world.specs.PathTable.{Hears}
-use Rattle.mc_world.specs.Paths.{end_goal, end_goal_of}
-use Rattle.mc_world.specs.Settles.{is_empty, is_quiet}
-use Rattle.mc_world.specs.LinkFree.{IsLinkFree, RestsBy}
-use Rattle.mc_world.proofs.LinkFree.{goals_rest}
-use Rattle.mc_world.specs.Worlds.{WorldState, far, for_tunnel, goal_of, joint_of, lane_of, list_to, own_descriptor, own_sender, slot_count, slot_of}
-use Rattle.mc_path.specs.PathLaws.{AreIn, HearEachOther, IsQuietPath, QuietPaths}
-use Rattle.mc_path.proofs.Tunnels.{each_path, far_of_low}
+use Rattle.mc_world.specs.Paths.{PathEnds, end_goal, end_goal_of, from_low, is_end_goal, other_end, path_from, paths, walked}
+use Rattle.mc_world.specs.Settles.{is_quiet}
+use Rattle.mc_world.specs.Sound.{IsSound}
+use Rattle.mc_world.specs.LinkFree.{IsLinkFree}
+use Rattle.mc_world.specs.Worlds.{WorldState, far, goal_of, joints, own_descriptor, own_sender, places, slot_count, slot_of}
+use Rattle.mc_world.proofs.ActedWorlds.{far_inside}
+use Rattle.mc_path.specs.PathLaws.{AreIn, HearEachOther, IsQuietPath, QuietPaths, passed}
+use Rattle.mc_path.proofs.Chains.{AllAre, FlowingChain, end_is, last_slot, quiet_chain}
+use Rattle.mc_path.proofs.QuietWalks.{AllIn, Beyond, beyond, both_and, end_of, end_rests, quiet_tunnel}
 
--- ---- an end at rest
-
--- it has answered each open
-never_opened : (goal : Goal) (a : Slot) (own : Descriptor) (me : Sender) → IsAtRest goal a own me → a.state ≡ Opened → ⊥
-never_opened goal a own me rest is = grind (arith)
+-- ---- ends at rest
 
 -- an end that closes doesn't flow
 never_flows : (a : Slot) (own : Descriptor) (me : Sender) → IsAtRest ToClose a own me → a.state ≡ Flowing → ⊥
@@ -44,120 +36,18 @@ never_flows a own me rest is = grind (arith)
 never_closed : (a : Slot) → owes ToOpen a ≡ false → a.state ≡ Closed → ⊥
 never_closed a none is = grind (arith)
 
--- a flowing end has sent its own descriptor
-sent_by : (same : Bool) (goal : Goal) (a : Slot) (own : Descriptor) (me : Sender) → a.state ≡ Flowing → IsAtRest goal a own me
-    → option_eq is_same_descriptor a.sent (Some own) ≡ same → a.sent ≡ Some own
-sent_by true goal a own me is rest e = option_descriptor_eq a.sent own e
-sent_by false goal a own me is rest e = absurd (grind (arith))
-
-sent_own : (goal : Goal) (a : Slot) (own : Descriptor) (me : Sender) → a.state ≡ Flowing → IsAtRest goal a own me → a.sent ≡ Some own
-sent_own goal a own me is rest = sent_by (option_eq is_same_descriptor a.sent (Some own)) goal a own me is rest refl
-
--- and the choice for what it got
-chose_by : (same : Bool) (goal : Goal) (a : Slot) (own got : Descriptor) (me : Sender) → a.state ≡ Flowing → IsAtRest goal a own me → a.sent ≡ Some own
-    → a.got ≡ Some got → option_eq is_same_selector a.sel_out (Some (selector_of got me)) ≡ same → a.sel_out ≡ Some (selector_of got me)
-chose_by true goal a own got me is rest sent had e = option_selector_eq a.sel_out (selector_of got me) e
-chose_by false goal a own got me is rest sent had e = absurd (grind (arith))
-
-chose : (goal : Goal) (a : Slot) (own got : Descriptor) (me : Sender) → a.state ≡ Flowing → IsAtRest goal a own me → a.got ≡ Some got → a.sel_out ≡ Some (selector_of got me)
-chose goal a own got me is rest had = chose_by (option_eq is_same_selector a.sel_out (Some (selector_of got me))) goal a own got me is rest (sent_own goal a own me is rest) had refl
-
--- ---- a tunnel with nothing under way
-
--- a slot that isn't opened, and whose far slot isn't, is closed or flowing as that is
-first_state : (a b : Slot) → TunnelSound a [] b [] → (a.state ≡ Opened → ⊥) → (b.state ≡ Opened → ⊥) → (a.state ≡ Closed) ⊎ (a.state ≡ Flowing)
-first_state a b sound first second =
-    let agree : Agree a b = sound.meet in
-    let awake : 0 ≡ waits a.state = sound.first_waits in
-    let other : 0 ≡ waits b.state = sound.second_waits in
-    grind (arith)
-
--- a closed slot's far slot is closed
-closed_far : (a b : Slot) → TunnelSound a [] b [] → a.state ≡ Closed → b.state ≡ Closed
-closed_far a b sound is =
-    let agree : Agree a b = sound.meet in
-    let other : 0 ≡ waits b.state = sound.second_waits in
-    grind (arith)
-
--- and a flowing one's flows
-flowing_far : (a b : Slot) → TunnelSound a [] b [] → a.state ≡ Flowing → b.state ≡ Flowing
-flowing_far a b sound is = let agree : Agree a b = sound.meet in grind (arith)
-
--- what two flowing slots have of each other
-record HaveOfEachOther (a b : Slot) : Type 0 where
-  got : a.got ≡ b.sent
-  got_back : b.got ≡ a.sent
-  heard : a.sel_in ≡ b.sel_out
-  heard_back : b.sel_in ≡ a.sel_out
-
--- each got what the other sent last
-flowing_have : (a b : Slot) → TunnelSound a [] b [] → a.state ≡ Flowing → b.state ≡ Flowing → HaveOfEachOther a b
-flowing_have a b sound is was =
-    let agree : Agree a b = sound.meet in
-    record { got = grind (arith); got_back = grind (arith); heard = grind (arith); heard_back = grind (arith) }
-
--- both slots are in a state
-record BothAre (a b : Slot) (state : State) : Type 0 where
-  first : a.state ≡ state
-  second : b.state ≡ state
-
--- two ends at rest, with nothing under way between them, hear each other where they flow
-flowing_hear : (first second : Goal) (a b : Slot) (own_a own_b : Descriptor) (me_a me_b : Sender) → TunnelSound a [] b [] → IsAtRest first a own_a me_a → IsAtRest second b own_b me_b
-    → a.state ≡ Flowing → b.state ≡ Flowing → Hears a own_a own_b me_b × Hears b own_b own_a me_a
-flowing_hear first second a b own_a own_b me_a me_b sound rest_a rest_b is was =
-    let have = flowing_have a b sound is was in
-    let got_a : a.got ≡ Some own_b = have.got ∙ sent_own second b own_b me_b was rest_b in
-    let got_b : b.got ≡ Some own_a = have.got_back ∙ sent_own first a own_a me_a is rest_a in (
-      record { got = got_a; chosen = have.heard ∙ chose second b own_b own_a me_b was rest_b got_b },
-      record { got = got_b; chosen = have.heard_back ∙ chose first a own_a own_b me_a is rest_a got_a },
-    )
-
--- they are both closed, or both flow and hear each other
-ends_alike : (first second : Goal) (a b : Slot) (own_a own_b : Descriptor) (me_a me_b : Sender) → TunnelSound a [] b [] → IsAtRest first a own_a me_a → IsAtRest second b own_b me_b
-    → BothAre a b Closed ⊎ (BothAre a b Flowing × Hears a own_a own_b me_b × Hears b own_b own_a me_a)
-ends_alike first second a b own_a own_b me_a me_b sound rest_a rest_b =
-    elim (first_state a b sound (never_opened first a own_a me_a rest_a) (never_opened second b own_b me_b rest_b)) [
-      | inl closed ↦ inl (record { first = closed; second = closed_far a b sound closed })
-      | inr flows ↦
-          let was = flowing_far a b sound flows in
-          let hear = flowing_hear first second a b own_a own_b me_a me_b sound rest_a rest_b flows was in
-          inr (record { first = flows; second = was }, hear.0, hear.1)
-    ]
-
--- ---- a quiet world
-
--- no lane has anything
-lane_none : (lanes : List (List Tagged)) (lane : ℕ) → list_all is_empty lanes ≡ true → get_or lanes lane [] ≡ []
-lane_none [] lane quiet = refl
-lane_none ([] ∷ lanes) zero quiet = refl
-lane_none ((tagged ∷ rest) ∷ lanes) zero quiet = absurd (grind (arith, common_steps))
-lane_none (first ∷ lanes) (suc lane) quiet = lane_none lanes lane (grind (arith, common_steps))
-
--- so nothing comes to a slot
-pub list_none : (world : WorldState) (s : ℕ) → IsTrue (is_quiet world) → list_to world s ≡ []
-list_none world s quiet = ap (for_tunnel (joint_of world s).within) (lane_none world.lanes (lane_of world s) quiet)
-
--- the lower slot of a tunnel is there with the higher
-pub low_in : (t slots : ℕ) → 2 * t + 1 < slots → 2 * t < slots
-low_in t slots inside = omega arith
-
--- a tunnel of a quiet world
-quiet_tunnel : (world : WorldState) (s : ℕ) → IsLinkFree world → IsTrue (is_quiet world) → s < slot_count world → TunnelSound (slot_of world s) [] (slot_of world (far s)) []
-quiet_tunnel world s sound quiet inside =
-    subst (λ (l : List Signal). TunnelSound (slot_of world s) [] (slot_of world (far s)) l) (list_none world (far s) quiet)
-    (subst (λ (l : List Signal). TunnelSound (slot_of world s) l (slot_of world (far s)) (list_to world (far s))) (list_none world s quiet) (sound.sound.tunnels s inside))
-
--- an end rests by its goal
-rests_at : (goal : SlotGoal) (world : WorldState) (s : ℕ) → RestsBy goal world s → IsAtRest (end_goal_of goal) (slot_of world s) (own_descriptor world s) (own_sender world s)
-rests_at (End goal) world s rests = rests
-rests_at (Link partner) world s rests = absurd rests
-
--- and owes by it
+-- it owes by its goal
 owes_at : (goal : SlotGoal) (slot : Slot) → end_goal_of goal ≡ ToOpen → goal_owes goal slot ≡ false → owes ToOpen slot ≡ false
 owes_at (End goal) slot is none = ap (λ (g : Goal). owes g slot) (sym is) ∙ none
 owes_at (Link partner) slot is none = absurd (cc)
 
--- the ends of a path over a tunnel with nothing under way
+-- a slot is at rest by this goal
+abbrev Rests : WorldState → ℕ → Goal → Type 0
+Rests world s goal = IsAtRest goal (slot_of world s) (own_descriptor world s) (own_sender world s)
+
+-- ---- the ends of a path, and its slots
+
+-- the two ends are closed, or flow and hear each other
 abbrev Alike : WorldState → ℕ → ℕ → Type 0
 Alike world s t = AreIn world (record { low = s; high = t }) Closed ⊎ (AreIn world (record { low = s; high = t }) Flowing × HearEachOther world (record { low = s; high = t }))
 
@@ -171,46 +61,110 @@ then_flowing : (world : WorldState) (s t : ℕ) → Alike world s t → (AreIn w
 then_flowing world s t (inl closed) never = absurd (never closed)
 then_flowing world s t (inr flowing) never = flowing.0
 
--- a slot is at rest by this goal
-abbrev Rests : WorldState → ℕ → Goal → Type 0
-Rests world s goal = IsAtRest goal (slot_of world s) (own_descriptor world s) (own_sender world s)
+-- the ends are alike, and the slots that a walk within so many tunnels goes over are as they are
+record IsAlike (world : WorldState) (most s t : ℕ) : Type 0 where
+  ends : Alike world s t
+  along : (state : State) → (slot_of world s).state ≡ state → AllIn world state (passed world most s)
 
--- of the two slots, said of the path
-alike_by : (world : WorldState) (s t : ℕ)
-    → BothAre (slot_of world s) (slot_of world t) Closed
-    ⊎ (BothAre (slot_of world s) (slot_of world t) Flowing
-    × Hears (slot_of world s) (own_descriptor world s) (own_descriptor world t) (own_sender world t)
-    × Hears (slot_of world t) (own_descriptor world t) (own_descriptor world s) (own_sender world s))
-    → Alike world s t
-alike_by world s t (inl closed) = inl (record { low = closed.first; high = closed.second })
-alike_by world s t (inr flowing) = inr (record { low = flowing.0.first; high = flowing.0.second }, record { low = flowing.1; high = flowing.2 })
+-- a chain's slots are those of a walk
+alike_by : (world : WorldState) (most s t : ℕ) (slots : List (Slot × Slot)) → last_slot (slot_of world (far s)) slots ≡ slot_of world t
+    → ((state : State) → AllAre state ((slot_of world s, slot_of world (far s)) ∷ slots) → AllIn world state (passed world most s))
+    → AllAre Closed ((slot_of world s, slot_of world (far s)) ∷ slots)
+    ⊎ FlowingChain (slot_of world s) (slot_of world (far s)) slots (own_descriptor world s) (own_descriptor world t) (own_sender world s) (own_sender world t)
+    → IsAlike world most s t
+alike_by world most s t slots last all (inl closed) = record {
+  ends = inl (record { low = closed.0; high = ap (λ (a : Slot). a.state) (sym last) ∙ end_is Closed slots (slot_of world (far s)) closed.1 closed.2 });
+  along = λ state is. subst (λ (st : State). AllIn world st (passed world most s)) (sym closed.0 ∙ is) (all Closed closed);
+}
+alike_by world most s t slots last all (inr flows) = record {
+  ends = inr (
+    record { low = flows.0.0; high = ap (λ (a : Slot). a.state) (sym last) ∙ end_is Flowing slots (slot_of world (far s)) flows.0.1 flows.0.2 },
+    record {
+      low = flows.1;
+      high = subst (λ (a : Slot). Hears a (own_descriptor world t) (own_descriptor world s) (own_sender world s)) last flows.2;
+    },
+  );
+  along = λ state is. subst (λ (st : State). AllIn world st (passed world most s)) (sym flows.0.0 ∙ is) (all Flowing flows.0);
+}
+
+-- from a tunnel on, by what is beyond it
+alike_beyond : (world : WorldState) (most s t : ℕ) → IsSound world → IsTrue (is_quiet world) → s < slot_count world → goal_of world s ≡ End (end_goal world s)
+    → Beyond world most (goal_of world (far s)) (far s) t → IsAlike world (suc most) s t
+alike_beyond world most s t sound quiet inside aims more =
+    alike_by world (suc most) s t more.slots more.last (λ state are. both_and world most s state are.0 are.1 (more.all state are.2))
+    (quiet_chain (end_goal world s) (end_goal world t) (own_descriptor world s) (own_descriptor world t) (own_sender world s) (own_sender world t) (slot_of world s) (slot_of world (far s)) more.slots
+    (quiet_tunnel world s sound quiet inside) more.joined (end_rests world s sound inside aims)
+    (subst (λ (a : Slot). IsAtRest (end_goal world t) a (own_descriptor world t) (own_sender world t)) (sym more.last) (end_rests world t sound more.inside more.aims)))
+
+-- what a walk from an end leads to: slots that are alike, and an end
+record Walked (world : WorldState) (most s t : ℕ) : Type 0 where
+  alike : IsAlike world most s t
+  inside : t < slot_count world
+  aims : goal_of world t ≡ End (end_goal world t)
+
+-- from an end, by the tunnels that the walk may go over
+walk_leads : (most : ℕ) (world : WorldState) (s t : ℕ) → IsSound world → IsTrue (is_quiet world) → s < slot_count world → goal_of world s ≡ End (end_goal world s)
+    → walked world most s ≡ Some t → Walked world most s t
+walk_leads zero world s t sound quiet inside aims walk = absurd (cc)
+walk_leads (suc most) world s t sound quiet inside aims walk =
+    let more = beyond most (goal_of world (far s)) world (far s) t sound quiet (far_inside world s inside) refl walk in
+    record { alike = alike_beyond world most s t sound quiet inside aims more; inside = more.inside; aims = more.aims }
+
+-- ---- a path
 
 -- what holds of a path whose ends are alike and at rest
-path_by : (world : WorldState) (s t : ℕ) → RestsBy (goal_of world s) world s → RestsBy (goal_of world t) world t → Alike world s t → IsQuietPath world (record { low = s; high = t })
-path_by world s t first second alike =
-    let rest_low : Rests world s (end_goal world s) = rests_at (goal_of world s) world s first in
-    let rest_high : Rests world t (end_goal world t) = rests_at (goal_of world t) world t second in
-    record {
-      alike = alike;
-      low_closes = λ closes. then_closed world s t alike (λ flowing. never_flows (slot_of world s) (own_descriptor world s) (own_sender world s) (subst (Rests world s) closes rest_low) flowing.low);
-      high_closes = λ closes. then_closed world s t alike (λ flowing. never_flows (slot_of world t) (own_descriptor world t) (own_sender world t) (subst (Rests world t) closes rest_high) flowing.high);
-      low_opens = λ opens none. then_flowing world s t alike (λ closed. never_closed (slot_of world s) (owes_at (goal_of world s) (slot_of world s) opens none) closed.low);
-      high_opens = λ opens none. then_flowing world s t alike (λ closed. never_closed (slot_of world t) (owes_at (goal_of world t) (slot_of world t) opens none) closed.high);
-    }
+path_by : (world : WorldState) (s t : ℕ) → Rests world s (end_goal world s) → Rests world t (end_goal world t) → IsAlike world (length (joints world)) s t → IsQuietPath world (record { low = s; high = t })
+path_by world s t rest_low rest_high alike = record {
+  alike = alike.ends;
+  along = λ state are. alike.along state are.low;
+  low_closes = λ closes. then_closed world s t alike.ends (λ flowing. never_flows (slot_of world s) (own_descriptor world s) (own_sender world s) (subst (Rests world s) closes rest_low) flowing.low);
+  high_closes = λ closes. then_closed world s t alike.ends (λ flowing. never_flows (slot_of world t) (own_descriptor world t) (own_sender world t) (subst (Rests world t) closes rest_high) flowing.high);
+  low_opens = λ opens none. then_flowing world s t alike.ends (λ closed. never_closed (slot_of world s) (owes_at (goal_of world s) (slot_of world s) opens none) closed.low);
+  high_opens = λ opens none. then_flowing world s t alike.ends (λ closed. never_closed (slot_of world t) (owes_at (goal_of world t) (slot_of world t) opens none) closed.high);
+}
 
--- each tunnel of a quiet world is a quiet path
-quiet_path : (world : WorldState) (t : ℕ) → IsLinkFree world → IsTrue (is_quiet world) → 2 * t + 1 < slot_count world → IsQuietPath world (record { low = 2 * t; high = 2 * t + 1 })
-quiet_path world t sound quiet inside =
-    let low_inside = low_in t (slot_count world) inside in
-    let tunnel : TunnelSound (slot_of world (2 * t)) [] (slot_of world (2 * t + 1)) [] =
-    subst (λ (s : ℕ). TunnelSound (slot_of world (2 * t)) [] (slot_of world s) []) (far_of_low t) (quiet_tunnel world (2 * t) sound quiet low_inside) in
-    path_by world (2 * t) (2 * t + 1) (goals_rest world (2 * t) sound low_inside) (goals_rest world (2 * t + 1) sound inside)
-    (alike_by world (2 * t) (2 * t + 1)
-    (ends_alike (end_goal world (2 * t)) (end_goal world (2 * t + 1)) (slot_of world (2 * t)) (slot_of world (2 * t + 1))
-    (own_descriptor world (2 * t)) (own_descriptor world (2 * t + 1)) (own_sender world (2 * t)) (own_sender world (2 * t + 1)) tunnel
-    (rests_at (goal_of world (2 * t)) world (2 * t) (goals_rest world (2 * t) sound low_inside))
-    (rests_at (goal_of world (2 * t + 1)) world (2 * t + 1) (goals_rest world (2 * t + 1) sound inside))))
+-- a path from an end to an end
+quiet_path : (world : WorldState) (s t : ℕ) → IsSound world → IsTrue (is_quiet world) → s < slot_count world → goal_of world s ≡ End (end_goal world s)
+    → Walked world (length (joints world)) s t → IsQuietPath world (record { low = s; high = t })
+quiet_path world s t sound quiet inside aims walk =
+    path_by world s t (end_rests world s sound inside aims) (end_rests world t sound walk.inside walk.aims) walk.alike
 
--- so each path of a quiet world is one
-pub quiet_paths : QuietPaths
-quiet_paths world sound quiet = each_path world (IsQuietPath world) sound (λ t inside. quiet_path world t sound quiet inside)
+-- the path of which a slot is the lower end
+path_of : (world : WorldState) (s : ℕ) (path : PathEnds) → IsSound world → IsTrue (is_quiet world) → s < slot_count world → path_from world s ≡ Some path → IsQuietPath world path
+path_of world s path sound quiet inside is =
+    let begins = if_some (is_end_goal (goal_of world s)) (option_and_then (from_low s) (other_end world s)) path is in
+    let leads = then_some (from_low s) (other_end world s) path begins.1 in
+    let lower = if_some (nat_lt s leads.0) (Some (record { low = s; high = leads.0 })) path leads.2 in
+    let same : record { low = s; high = leads.0 } ≡ path = cc in
+    let aims = end_of (goal_of world s) begins.0 in
+    subst (λ (p : PathEnds). IsQuietPath world p) same (quiet_path world s leads.0 sound quiet inside aims (walk_leads (length (joints world)) world s leads.0 sound quiet inside aims leads.1))
+
+-- ---- all paths
+
+-- one more, where there is one
+with_first : (P : PathEnds → Type 0) (first : Option PathEnds) (rest : List PathEnds) → ((path : PathEnds) → first ≡ Some path → P path) → All P rest → All P (cons_option first rest)
+with_first P None rest here more = more
+with_first P (Some path) rest here more = All-cons P path rest (here path refl) more
+
+-- what holds of the path of each slot holds of all
+each_from : (P : PathEnds → Type 0) (f : ℕ → Option PathEnds) (slots : List (ℕ × ℕ)) (first count : ℕ) → first + length slots ≡ count
+    → ((s : ℕ) → s < count → (path : PathEnds) → f s ≡ Some path → P path)
+    → All P (filter_map (λ entry. f entry.0) (enumerate_from first slots))
+each_from P f [] first count whole each = All-nil P
+each_from P f (slot ∷ slots) first count whole each =
+    with_first P (f first) (filter_map (λ entry. f entry.0) (enumerate_from (first + 1) slots)) (each first (omega arith)) (each_from P f slots (first + 1) count (omega arith) each)
+
+-- each path of a quiet world is a quiet path
+pub sound_quiet_paths : QuietPaths
+sound_quiet_paths world sound quiet =
+    each_from (IsQuietPath world) (path_from world) (places world) 0 (slot_count world) (omega arith) (λ s inside path is. path_of world s path sound quiet inside is)
+
+-- so is each of a world without links
+pub quiet_paths : (world : WorldState) → IsLinkFree world → IsTrue (is_quiet world) → All (IsQuietPath world) (paths world)
+quiet_paths world free quiet = sound_quiet_paths world free.sound quiet
+
+-- ---- tunnels
+
+-- the lower slot of a tunnel is there with the higher
+pub low_in : (t slots : ℕ) → 2 * t + 1 < slots → 2 * t < slots
+low_in t slots inside = omega arith

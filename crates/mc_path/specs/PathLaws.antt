@@ -1,8 +1,11 @@
 -- Laws of paths: what each path of a quiet world is, and that after a settle it is as the path table says.
-use Rattle.std.specs.Prelude.{◌≡◌, ◌≢◌, ◌⊎◌, ℕ, ◌+◌, false, List, IsTrue, Some}
+use Rattle.std.specs.Prelude.{◌≡◌, ◌≢◌, ◌⊎◌, ℕ, zero, suc, ◌+◌, false, List, [], ◌∷◌, length, IsTrue, Some}
 use Rattle.std.specs.List.{All, list_all}
+use Rattle.std.specs.Option.{option_map, unwrap_or}
 use Rattle.mc_slot.specs.Outlook.{acks, closes}
 use Rattle.mc_slot.specs.declared.Goal.TheVariants.{Open as ToOpen, Close as ToClose}
+use Rattle.mc_slot.specs.declared.SlotGoal.{SlotGoal}
+use Rattle.mc_slot.specs.declared.SlotGoal.TheVariants.{End, Link}
 use Rattle.mc_slot.specs.declared.State.{State}
 use Rattle.mc_slot.specs.declared.State.TheVariants.{Closed, Flowing, Closing}
 use Rattle.mc_world.specs.PathTable.{Hears, PathHolds}
@@ -10,8 +13,9 @@ use Rattle.mc_world.specs.Paths.{PathEnds, end_goal, paths}
 use Rattle.mc_world.specs.Settles.{IsSettled, is_quiet, takes_or_retries}
 use Rattle.mc_world.specs.Shapes.{owes_of}
 use Rattle.mc_world.specs.LinkFree.{IsLinkFree, LinkNone}
+use Rattle.mc_world.specs.Sound.{IsSound}
 use Rattle.mc_world.specs.Steps.{run}
-use Rattle.mc_world.specs.Worlds.{WorldState, list_to, own_descriptor, own_sender, slot_of}
+use Rattle.mc_world.specs.Worlds.{WorldState, far, goal_of, joints, list_to, number, own_descriptor, own_sender, place, slot_of}
 use Rattle.mc_box.specs.declared.event.Turn.{Turn}
 
 -- both end slots of a path are in a state
@@ -24,17 +28,32 @@ pub record HearEachOther (world : WorldState) (path : PathEnds) : Type 0 where
   pub low : Hears (slot_of world path.low) (own_descriptor world path.low) (own_descriptor world path.high) (own_sender world path.high)
   pub high : Hears (slot_of world path.high) (own_descriptor world path.high) (own_descriptor world path.low) (own_sender world path.low)
 
--- what a path is where nothing is under way: closed, or flowing with ends that hear each other; closed where an end closes, and flowing where one opens and owes no retry
+-- the slots that a walk goes over from the far side of a tunnel, until it comes to an end
+abbrev pub passed_by : (ℕ → List ℕ) → WorldState → SlotGoal → ℕ → List ℕ
+passed_by further world (End goal) s = []
+passed_by further world (Link partner) s = unwrap_or (option_map further (number world (place world s).0 partner)) []
+
+-- the slots that a walk goes over from a slot, within so many tunnels: both slots of each tunnel
+abbrev pub passed : WorldState → ℕ → ℕ → List ℕ
+passed world zero s = []
+passed world (suc most) s = s ∷ far s ∷ passed_by (passed world most) world (goal_of world (far s)) (far s)
+
+-- all slots of a path, from its lower end to its higher
+abbrev pub slots_on : WorldState → PathEnds → List ℕ
+slots_on world path = passed world (length (joints world)) path.low
+
+-- what a path is where nothing is under way: closed, or flowing with ends that hear each other, and all its slots are as its ends; closed where an end closes, and flowing where one opens and owes no retry
 pub record IsQuietPath (world : WorldState) (path : PathEnds) : Type 0 where
   pub alike : AreIn world path Closed ⊎ (AreIn world path Flowing × HearEachOther world path)
+  pub along : (state : State) → AreIn world path state → All (λ s. (slot_of world s).state ≡ state) (slots_on world path)
   pub low_closes : end_goal world path.low ≡ ToClose → AreIn world path Closed
   pub high_closes : end_goal world path.high ≡ ToClose → AreIn world path Closed
   pub low_opens : end_goal world path.low ≡ ToOpen → owes_of world path.low ≡ false → AreIn world path Flowing
   pub high_opens : end_goal world path.high ≡ ToOpen → owes_of world path.high ≡ false → AreIn world path Flowing
 
--- each path of a quiet sound world without links
+-- each path of a quiet sound world, over however many tunnels
 abbrev pub QuietPaths : Type 0
-QuietPaths = (world : WorldState) → IsLinkFree world → IsTrue (is_quiet world) → All (IsQuietPath world) (paths world)
+QuietPaths = (world : WorldState) → IsSound world → IsTrue (is_quiet world) → All (IsQuietPath world) (paths world)
 
 -- no close and no closeack comes to a slot, and it waits for none
 pub record IsClean (world : WorldState) (s : ℕ) : Type 0 where
