@@ -9,3 +9,4 @@ pub mod SettledHold
 pub mod Shown
 pub mod TableHolds
 pub mod Tunnels
+pub mod Walking

@@ -16,10 +16,9 @@ use Rattle.mc_slot.specs.declared.State.TheVariants.{Closed, Flowing}
 use Rattle.mc_box.specs.Boxes.{goal_owes}
 use Rattle.mc_box.proofs.Options.{if_some, then_some}
 use Rattle.mc_world.specs.PathTable.{Hears}
-use Rattle.mc_world.specs.Paths.{PathEnds, end_goal, end_goal_of, from_low, is_end_goal, other_end, path_from, paths, walked}
+use Rattle.mc_world.specs.Paths.{PathEnds, end_goal, end_goal_of, from_low, is_end_goal, other_end, path_from, walked}
 use Rattle.mc_world.specs.Settles.{is_quiet}
 use Rattle.mc_world.specs.Sound.{IsSound}
-use Rattle.mc_world.specs.LinkFree.{IsLinkFree}
 use Rattle.mc_world.specs.Worlds.{WorldState, far, goal_of, joints, own_descriptor, own_sender, places, slot_count, slot_of}
 use Rattle.mc_world.proofs.ActedWorlds.{far_inside}
 use Rattle.mc_path.specs.PathLaws.{AreIn, HearEachOther, IsQuietPath, QuietPaths, passed}
@@ -155,13 +154,9 @@ each_from P f (slot ∷ slots) first count whole each =
     with_first P (f first) (filter_map (λ entry. f entry.0) (enumerate_from (first + 1) slots)) (each first (omega arith)) (each_from P f slots (first + 1) count (omega arith) each)
 
 -- each path of a quiet world is a quiet path
-pub sound_quiet_paths : QuietPaths
-sound_quiet_paths world sound quiet =
+pub quiet_paths : QuietPaths
+quiet_paths world sound quiet =
     each_from (IsQuietPath world) (path_from world) (places world) 0 (slot_count world) (omega arith) (λ s inside path is. path_of world s path sound quiet inside is)
-
--- so is each of a world without links
-pub quiet_paths : (world : WorldState) → IsLinkFree world → IsTrue (is_quiet world) → All (IsQuietPath world) (paths world)
-quiet_paths world free quiet = sound_quiet_paths world free.sound quiet
 
 -- ---- tunnels
 

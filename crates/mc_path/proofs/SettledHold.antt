@@ -148,6 +148,6 @@ settled_owes_none world last batch turns moment sound none goes rest =
 pub settled_paths_hold : SettledPathsHold
 settled_paths_hold world last batch turns sound links settled k path below =
     let none = settled_link_none world last batch turns links settled in
-    let quiet = quiet_paths last (run_keeps_link_free world last turns sound none settled.runs) (quiet_rests last ∙ settled.at_rest) in
+    let quiet = quiet_paths last (run_keeps_link_free world last turns sound none settled.runs).sound (quiet_rests last ∙ settled.at_rest) in
     table_holds last (get_or (paths last) k path) (quiet k path below)
     (settled_owes_none world last batch turns settled.moment sound none settled.runs settled.last_rest k path below)

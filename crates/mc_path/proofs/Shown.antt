@@ -1,61 +1,65 @@
--- What is shown of the path over a tunnel.
-use Rattle.std.proofs.Common.{◌≡◌, ◌<◌, ◌+◌, ◌*◌, ◌/◌, ◌++◌, ℕ, zero, suc, Bool, true, List, [], ◌∷◌, map, length, refl, sym, ap, ◌∙◌, subst, arith}
-use Rattle.std.proofs.lemmas.List.{map-append}
-use Rattle.std.proofs.lemmas.List.FromFn.{map-range_with_len_more}
-use Rattle.mc_signal.specs.declared.Medium.{Medium}
-use Rattle.mc_slot.specs.declared.SlotGoal.{SlotGoal}
-use Rattle.mc_slot.specs.declared.SlotGoal.TheVariants.{End, Link}
-use Rattle.mc_view.specs.declared.EndView.{EndView}
+-- What is shown of all paths, slot by slot: each slot that is a path's lower end has that path.
+use Rattle.std.proofs.Common.{◌≡◌, ◌<◌, ◌≤◌, ◌+◌, ◌++◌, ℕ, Option, Some, None, List, [], ◌∷◌, drop, map, refl, ap, sym, ◌∙◌}
+use Rattle.std.specs.List.{enumerate_from, filter_map}
+use Rattle.std.specs.Option.{option_map}
+use Rattle.std.proofs.Math.ListN.{get_or}
+use Rattle.std.proofs.lemmas.List.{append-nil, append_assoc, drop_all, drop_more}
 use Rattle.mc_view.specs.declared.PathView.{PathView}
-use Rattle.mc_world.specs.Paths.{is_end_goal, paths}
-use Rattle.mc_world.specs.LinkFree.{IsLinkFree}
-use Rattle.mc_world.specs.Worlds.{WorldState, far, goal_of, joints, slot_count, slot_of}
-use Rattle.mc_world.proofs.ActedWorlds.{far_inside}
-use Rattle.mc_path.specs.Views.{crossed, crossed_by, end_view, is_flowing, view_of}
-use Rattle.mc_path.proofs.Tunnels.{far_of_low, is_end, over_tunnel, over_tunnels, paths_are, slots_are, some_tunnel}
+use Rattle.mc_world.specs.Paths.{PathEnds, path_from, paths}
+use Rattle.mc_world.specs.Worlds.{WorldState, places, slot_count}
+use Rattle.mc_path.specs.Views.{view_of}
 
--- ---- one path
+-- ---- a list as it is walked
 
--- a walk stops at the far side of the first tunnel
-stops : (goal : SlotGoal) (further : ℕ → ℕ) (world : WorldState) (s : ℕ) → is_end_goal goal ≡ true → crossed_by further world goal s ≡ 0
-stops (End goal) further world s is = refl
-stops (Link partner) further world s is = absurd (cc)
+-- what is shown of what there is for these slots, from a number on
+abbrev shown_by : (PathEnds → PathView) → (ℕ → Option PathEnds) → ℕ → List (ℕ × ℕ) → List PathView
+shown_by view f first slots = map view (filter_map (λ entry. f entry.0) (enumerate_from first slots))
 
--- a walk that may go over a tunnel goes over one
-crossed_one : (most : ℕ) (world : WorldState) (s : ℕ) → 0 < most → is_end_goal (goal_of world (far s)) ≡ true → crossed world most s ≡ 1
-crossed_one zero world s some is = absurd (omega arith)
-crossed_one (suc most) world s some is = ap (λ (n : ℕ). 1 + n) (stops (goal_of world (far s)) (crossed world most) world (far s) is)
+-- nothing of a slot that has no path
+none_first : (view : PathEnds → PathView) (f : ℕ → Option PathEnds) (s : ℕ) (slot : ℕ × ℕ) (slots : List (ℕ × ℕ)) (found : Option PathEnds)
+    → f s ≡ found → option_map view found ≡ None → shown_by view f s (slot ∷ slots) ≡ shown_by view f (s + 1) slots
+none_first view f s slot slots None is none = rw (is) refl
+none_first view f s slot slots (Some path) is none = absurd (cc)
 
--- so a path goes over one tunnel
-one_tunnel : (world : WorldState) (s : ℕ) → IsLinkFree world → s < slot_count world → crossed world (length (joints world)) s ≡ 1
-one_tunnel world s sound inside =
-    crossed_one (length (joints world)) world s (some_tunnel s (slot_count world) (length (joints world)) (slots_are world) inside)
-    (is_end world (far s) sound (far_inside world s inside))
+-- and of one that has one that path, before what is shown of the slots after it
+some_first : (view : PathEnds → PathView) (f : ℕ → Option PathEnds) (s : ℕ) (slot : ℕ × ℕ) (slots : List (ℕ × ℕ)) (shown : PathView) (found : Option PathEnds)
+    → f s ≡ found → option_map view found ≡ Some shown → shown_by view f s (slot ∷ slots) ≡ shown ∷ shown_by view f (s + 1) slots
+some_first view f s slot slots shown None is some = absurd (cc)
+some_first view f s slot slots shown (Some path) is some = let same : view path ≡ shown = cc in rw (is, same) refl
 
--- a path's view, of what was read for it
-pub view_is : (world : WorldState) (s : ℕ) (low high : EndView) (flows : Bool) (medium : Medium) → IsLinkFree world → s < slot_count world
-    → low ≡ end_view world s → high ≡ end_view world (far s) → flows ≡ is_flowing (slot_of world s).state → medium ≡ (slot_of world s).medium
-    → record { low = low; high = high; flowing = flows; medium = medium; tunnels = 1 } ≡ view_of world (record { low = s; high = far s })
-view_is world s low high flows medium sound inside low_is high_is flows_is medium_is =
-    rw (low_is, high_is, flows_is, medium_is, sound.sound.numbered.media s inside, one_tunnel world s sound inside) refl
+-- ---- the paths of a world
 
--- ---- all paths
+-- what is still to be shown from a slot on
+abbrev pub still_shown : WorldState → ℕ → List PathView
+still_shown world s = shown_by (view_of world) (path_from world) s (drop s (places world))
 
--- the path over the next tunnel is behind those so far
-pub shown_next : (world : WorldState) (t : ℕ) (views : List PathView) (view : PathView) → views ≡ map (view_of world) (over_tunnels 0 t)
-    → view ≡ view_of world (record { low = 2 * t; high = far (2 * t) }) → views ++ view ∷ [] ≡ map (view_of world) (over_tunnels 0 (t + 1))
-shown_next world t views view so_far is =
-    let same : far (2 * t) ≡ 2 * t + 1 = far_of_low t in
-    let shown : view ≡ view_of world (over_tunnel t) = is ∙ ap (λ (s : ℕ). view_of world (record { low = 2 * t; high = s })) same in
-    rw (so_far, shown, map-range_with_len_more over_tunnel 0 t t (omega arith)) (sym (map-append (view_of world) (over_tunnels 0 t) (over_tunnel t ∷ [])))
+-- the slots from one on are that one and those after it
+from_slot : (world : WorldState) (s : ℕ) → s < slot_count world → still_shown world s ≡ shown_by (view_of world) (path_from world) s (get_or (places world) s (0, 0) ∷ drop (s + 1) (places world))
+from_slot world s inside = ap (shown_by (view_of world) (path_from world) s) (drop_more (places world) s (0, 0) inside)
 
--- half of the slots is the number of tunnels
-half_of : (slots count half : ℕ) → slots ≡ 2 * count → half ≡ slots / 2 → half ≡ count
-half_of slots count half two is = omega arith
+-- what was shown, with all that is still to be shown, is all paths
+abbrev pub ShownTo : WorldState → ℕ → List PathView → Type 0
+ShownTo world s views = views ++ still_shown world s ≡ map (view_of world) (paths world)
 
--- and after the last tunnel they are all paths
-pub shown_all : (world : WorldState) (half : ℕ) (views : List PathView) → IsLinkFree world → half ≡ slot_count world / 2 → views ≡ map (view_of world) (over_tunnels 0 half)
-    → views ≡ map (view_of world) (paths world)
-shown_all world half views sound is shown =
-    rw (paths_are world sound)
-    (subst (λ (n : ℕ). views ≡ map (view_of world) (over_tunnels 0 n)) (half_of (slot_count world) (length (joints world)) half (slots_are world) is) shown)
+-- a slot with no path leaves it so
+pub shown_none : (world : WorldState) (s : ℕ) (views next : List PathView) → s < slot_count world → option_map (view_of world) (path_from world s) ≡ None → next ≡ views
+    → ShownTo world s views → ShownTo world (s + 1) next
+shown_none world s views next inside none is so_far =
+    let after : still_shown world s ≡ still_shown world (s + 1) =
+    from_slot world s inside ∙ none_first (view_of world) (path_from world) s (get_or (places world) s (0, 0)) (drop (s + 1) (places world)) (path_from world s) refl none in
+    ap (λ (shown : List PathView). shown ++ still_shown world (s + 1)) is ∙ (ap (λ (more : List PathView). views ++ more) (sym after) ∙ so_far)
+
+-- and the path of one that has one comes behind those so far
+pub shown_next : (world : WorldState) (s : ℕ) (views next : List PathView) (view : PathView) → s < slot_count world → option_map (view_of world) (path_from world s) ≡ Some view
+    → next ≡ views ++ view ∷ [] → ShownTo world s views → ShownTo world (s + 1) next
+shown_next world s views next view inside some is so_far =
+    let after : still_shown world s ≡ view ∷ still_shown world (s + 1) =
+    from_slot world s inside ∙ some_first (view_of world) (path_from world) s (get_or (places world) s (0, 0)) (drop (s + 1) (places world)) view (path_from world s) refl some in
+    ap (λ (shown : List PathView). shown ++ still_shown world (s + 1)) is
+    ∙ (append_assoc views (view ∷ []) (still_shown world (s + 1)) ∙ (ap (λ (more : List PathView). views ++ more) (sym after) ∙ so_far))
+
+-- after the last slot nothing is still to be shown
+pub shown_all : (world : WorldState) (s : ℕ) (views : List PathView) → slot_count world ≤ s → ShownTo world s views → views ≡ map (view_of world) (paths world)
+shown_all world s views past so_far =
+    let none : still_shown world s ≡ [] = ap (shown_by (view_of world) (path_from world) s) (drop_all s (places world) past) in
+    sym (append-nil views) ∙ (ap (λ (more : List PathView). views ++ more) (sym none) ∙ so_far)

@@ -1,4 +1,4 @@
--- The paths of a sound world: each goal is an end's, so that each tunnel is a path.
+-- The paths of a sound world without links: each goal is an end's, so that each tunnel is a path.
 use Rattle.std.proofs.Common.{◌≡◌, ◌<◌, ◌≤◌, ◌+◌, ◌*◌, ℕ, zero, suc, true, Option, Some, None, List, [], ◌∷◌, All, map, length, refl, ap, ◌∙◌, arith}
 use Rattle.std.specs.List.{enumerate_from, filter_map, range_with_len}
 use Rattle.std.proofs.lemmas.Grind.{common_steps}
@@ -12,11 +12,11 @@ use Rattle.mc_world.proofs.Rings.{other_far}
 use Rattle.mc_world.proofs.StepForms.{end_goal}
 
 -- the path over a tunnel
-abbrev pub over_tunnel : ℕ → PathEnds
+abbrev over_tunnel : ℕ → PathEnds
 over_tunnel t = record { low = 2 * t; high = 2 * t + 1 }
 
 -- the paths over so many tunnels, from one on
-abbrev pub over_tunnels : ℕ → ℕ → List PathEnds
+abbrev over_tunnels : ℕ → ℕ → List PathEnds
 over_tunnels t count = map over_tunnel (range_with_len t count)
 
 -- ---- lists of slots, two for each tunnel
@@ -45,16 +45,12 @@ each_over P (suc count) t each =
 -- ---- a sound world
 
 -- slots are two for each tunnel
-pub slots_are : (world : WorldState) → slot_count world ≡ 2 * length (joints world)
+slots_are : (world : WorldState) → slot_count world ≡ 2 * length (joints world)
 slots_are world = two_each world.channels 0
 
 -- each goal is an end's
-pub is_end : (world : WorldState) (s : ℕ) → IsLinkFree world → s < slot_count world → is_end_goal (goal_of world s) ≡ true
+is_end : (world : WorldState) (s : ℕ) → IsLinkFree world → s < slot_count world → is_end_goal (goal_of world s) ≡ true
 is_end world s sound inside = ap is_end_goal (end_goal (goal_of world s) world s (goals_rest world s sound inside)).1
-
--- where there is a slot there is a tunnel
-pub some_tunnel : (s slots count : ℕ) → slots ≡ 2 * count → s < slots → 0 < count
-some_tunnel s slots count two inside = omega arith
 
 -- the other slot of a tunnel
 pub far_of_low : (t : ℕ) → far (2 * t) ≡ 2 * t + 1
@@ -88,7 +84,7 @@ high_inside : (k slots count : ℕ) → slots ≡ 2 * count → k < 0 + count �
 high_inside k slots count two below = omega arith
 
 -- the paths are the tunnels, in their order
-pub paths_are : (world : WorldState) → IsLinkFree world → paths world ≡ over_tunnels 0 (length (joints world))
+paths_are : (world : WorldState) → IsLinkFree world → paths world ≡ over_tunnels 0 (length (joints world))
 paths_are world sound =
     paths_from (path_from world) (places world) (length (joints world)) 0 (slots_are world)
     (λ k above below. path_from_low world k sound (low_inside k (slot_count world) (length (joints world)) (slots_are world) below))

@@ -1,16 +1,19 @@
-//! The paths of a world in which nothing is under way, and the laws that they keep.
+//! The paths of a world, and the laws that they keep where nothing is under way.
 #![tactic(auto)]
 
-ghost use Rattle.std.specs.Prelude.{◌≡◌, ◌<◌, map, All, IfOk, IsTrue};
+ghost use Rattle.std.specs.Prelude.{◌≡◌, ◌<◌, map, All, IfOk, IsTrue, Some};
+ghost use Rattle.std.specs.Option.{option_map};
 ghost use Rattle.mc_path.specs.PathLaws.{IsQuietPath};
 ghost use Rattle.mc_path.specs.Views.{end_view, is_flowing, view_of};
-ghost use Rattle.mc_world.specs.LinkFree.{HasNoLinks};
-ghost use Rattle.mc_world.specs.Paths.{end_goal_of, paths};
+ghost use Rattle.mc_path.specs.Walks.{walk_from};
+ghost use Rattle.mc_world.specs.Paths.{end_goal_of, is_end_goal, path_from, paths};
 ghost use Rattle.mc_world.specs.Settles.{is_quiet};
-ghost use Rattle.mc_world.specs.Worlds.{far, slot_count};
+ghost use Rattle.mc_world.specs.Worlds.{goal_of, slot_count};
 
 pub mod laws;
+mod walk;
 
+use crate::walk::{Walked, walk_from};
 use mc_box::Kind;
 use mc_slot::{Goal, SlotGoal, State};
 use mc_view::{EndView, PathView};
@@ -18,36 +21,55 @@ use mc_world::World;
 use std::alloc::{AllocError, Global};
 
 /// Each path of the world once, in the order of the lower ends: both ends, whether it flows, its medium, and how
-/// many tunnels it goes over. Where nothing is under way, each path is closed, or flows with ends that hear each
-/// other. No slot of the world is linked, so that each path goes over one tunnel.
+/// many tunnels it goes over. Where nothing is under way, each path is closed at all its slots, or flows at all of
+/// them with ends that hear each other.
 pub fn paths(alloc: Global, world: &World) -> Result<Vec<PathView>, AllocError>
-    requires { HasNoLinks world.now }
     ensures views { IfOk result (λ views. views.items ≡ map (view_of world.now) (paths world.now)) }
     ensures quiet { IsTrue (is_quiet world.now) → All (IsQuietPath world.now) (paths world.now) }
 {
     world.keeps();
     let mut views = Vec::new(alloc);
-    // no goal is a link, so that each tunnel is a path
-    for tunnel in 0..world.slot_count() / 2 {
-        views.push(path_view(world, 2 * tunnel as u32))?;
+    for slot in 0..world.slot_count() {
+        if let Some(view) = path_from(world, slot as u32) {
+            views.push(view)?;
+        }
     }
     Ok(views)
 }
 
-// The path over the tunnel of a slot, its lower end.
-fn path_view(world: &World, low: u32) -> PathView
-    requires free { HasNoLinks world.now }
+// The path of which a slot is the lower end.
+fn path_from(world: &World, low: u32) -> Option<PathView>
+    requires { low < slot_count world.now }
+    ensures { result ≡ option_map (view_of world.now) (path_from world.now low) }
+{
+    match world.goal(low) {
+        SlotGoal::End(_) => {
+            let walk = walk_from(world, low)?;
+            if low < walk.end {
+                Some(path_view(world, low, walk))
+            } else {
+                None
+            }
+        }
+        SlotGoal::Link(_) => None,
+    }
+}
+
+// The path from a slot, its lower end, by the walk from there.
+fn path_view(world: &World, low: u32, walk: Walked) -> PathView
     requires low { low < slot_count world.now }
-    ensures { result ≡ view_of world.now (record { low = low; high = far low }) }
+    requires high { walk.end < slot_count world.now }
+    requires walk { walk_from world.now low ≡ Some walk }
+    ensures { result ≡ view_of world.now (record { low = low; high = walk.end }) }
 {
     world.keeps();
     let slot = world.slot(low);
     PathView {
         low: end_view(world, low),
-        high: end_view(world, world.far(low)),
+        high: end_view(world, walk.end),
         flowing: is_flowing(slot.state),
         medium: slot.medium,
-        tunnels: 1,
+        tunnels: walk.tunnels,
     }
 }
 

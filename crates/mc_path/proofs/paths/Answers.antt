@@ -1,21 +1,25 @@
-use Rattle.std.proofs.Common.{◌∙◌, arith}
+use Rattle.std.proofs.Common.{Vec, Global, ap, sym, ◌∙◌, arith}
+use Rattle.mc_view.specs.declared.PathView.{PathView}
 use Rattle.mc_path.proofs.Quiet.{quiet_paths}
-use Rattle.mc_path.proofs.Shown.{shown_all, shown_next}
+use Rattle.mc_path.proofs.Shown.{shown_all, shown_next, shown_none}
 use Rattle.mc_path.proofs.paths.Goals as goal
+use Rattle.mc_path.proofs.paths.Goals.{in-Some+in_ok-push, in_default}
 
 pub returns-in_err-push-clause-quiet : goal.returns-in_err-push-clause-quiet
-returns-in_err-push-clause-quiet c = quiet_paths c.args.world.now (record { sound = c.keeps.ensures.sound; free = c.requires })
+returns-in_err-push-clause-quiet c = quiet_paths c.args.world.now c.keeps.ensures.sound
 
-pub loop-tunnel-preserved : goal.loop-tunnel-preserved
-loop-tunnel-preserved c =
-    c.in_ok-push.ensures.items ∙ shown_next c.args.world.now c.loop-tunnel.tunnel c.loop-tunnel.views.items c.path_view.result c.loop-tunnel.invariant c.path_view.ensures
+pub loop-slot-preserved : goal.loop-slot-preserved
+loop-slot-preserved c = elim c.match-path_from.branch [
+  | in-Some+in_ok-push w ↦
+      shown_next c.args.world.now c.loop-slot.slot c.loop-slot.views.items c.match-path_from.views.items w.in-Some.view (omega (arith, c.loop-slot-test.true, c.slot_count-slot-end.ensures))
+      (sym c.path_from.ensures ∙ w.in-Some.is) (ap (λ (views : Vec PathView Global). views.items) w.views-is ∙ w.in_ok-push.ensures.items) c.loop-slot.invariant
+  | in_default w ↦
+      shown_none c.args.world.now c.loop-slot.slot c.loop-slot.views.items c.match-path_from.views.items (omega (arith, c.loop-slot-test.true, c.slot_count-slot-end.ensures))
+      (sym c.path_from.ensures ∙ w.in_default.is) (ap (λ (views : Vec PathView Global). views.items) w.views-is) c.loop-slot.invariant
+]
 
 pub returns-clause-views : goal.returns-clause-views
-returns-clause-views c =
-    let last = c.slot_count-tunnel-end.ensures in
-    let passed = c.loop-tunnel-test.false in
-    let most = c.loop-tunnel.auto.tunnel-end in
-    shown_all c.args.world.now c.loop-tunnel.tunnel c.loop-tunnel.views.items (record { sound = c.keeps.ensures.sound; free = c.requires }) (omega arith) c.loop-tunnel.invariant
+returns-clause-views c = shown_all c.args.world.now c.loop-slot.slot c.loop-slot.views.items (omega (arith, c.loop-slot-test.false, c.slot_count-slot-end.ensures)) c.loop-slot.invariant
 
 pub returns-clause-quiet : goal.returns-clause-quiet
-returns-clause-quiet c = quiet_paths c.args.world.now (record { sound = c.keeps.ensures.sound; free = c.requires })
+returns-clause-quiet c = quiet_paths c.args.world.now c.keeps.ensures.sound

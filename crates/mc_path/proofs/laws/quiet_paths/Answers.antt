@@ -1,5 +1,5 @@
-use Rattle.mc_path.proofs.Quiet.{sound_quiet_paths}
+use Rattle.mc_path.proofs.Quiet.{quiet_paths}
 use Rattle.mc_path.proofs.laws.quiet_paths.Goals as goal
 
 pub returns : goal.returns
-returns c = sound_quiet_paths
+returns c = quiet_paths

@@ -1,0 +1,6 @@
+use Rattle.mc_path.proofs.Walking.{StillWalks}
+use Rattle.mc_path.proofs.walk.walk_from.Given as goal
+
+-- what is still to walk
+abbrev pub invariant-loop-done : goal.invariant-loop-done
+invariant-loop-done l = StillWalks l.world l.fn.from l.done l.at
