@@ -1,22 +1,31 @@
+mod Exchanges
+mod JointTables
+mod LaneChanges
+mod NewLanes
+mod Tables
+mod WayLanes
+mod WorldSteps
 pub mod ActedBoxes
 pub mod ActedWorlds
 pub mod Acting
+mod BothWays
 pub mod BoxSound
 pub mod CommandsGo
-mod Exchanges
 pub mod Firsts
-mod JointTables
 pub mod Joints
-mod LaneChanges
 pub mod LaneSums
 pub mod LanesKept
 pub mod LinkFree
 pub mod Lowers
-mod NewLanes
 pub mod NewWorlds
 pub mod NoPrograms
 pub mod Numbers
+pub mod Partners
+mod Origins
 pub mod Parts
+mod Repeats
+pub mod RingChains
+pub mod RingWalks
 pub mod Rings
 pub mod SentOut
 pub mod ShapesKept
@@ -26,8 +35,5 @@ pub mod StepGoes
 pub mod StepKeeps
 pub mod SteppedKeeps
 pub mod Sums
-mod Tables
 pub mod TakeForms
 pub mod TwoPhones
-mod WayLanes
-mod WorldSteps

@@ -4,6 +4,7 @@ pub mod LinkFree
 pub mod Measures
 pub mod PathTable
 pub mod Paths
+pub mod Rings
 pub mod Served
 pub mod Settles
 pub mod Shapes

@@ -3,6 +3,7 @@
 ghost use Rattle.mc_world.specs.Exchanges.{WorkedExchanges};
 ghost use Rattle.mc_world.specs.LinkFree.{RunKeepsLinkFree};
 ghost use Rattle.mc_world.specs.Measures.{TakeLowers, TakesEnd, MeasureBound};
+ghost use Rattle.mc_world.specs.Rings.{RingsMeetNoEnd};
 ghost use Rattle.mc_world.specs.Shapes.{StepKeepsShape, RunKeepsShape, CommandGoes, RetryGoes};
 ghost use Rattle.mc_world.specs.StepLaws.{StepActs, StepKeepsSound, RunKeepsSound, FrontIsTaken, FrontStepGoes, StepKeepsServed, FirstIsServed, UnderWayGoes, RunKeepsServed, FirstIsSound, TwoPhonesStaySound};
 ghost use Rattle.mc_world.specs.Stepped.{SteppedStays};
@@ -119,4 +120,10 @@ pub fn command_goes()
 /// In a sound world, a retry that is owed can happen.
 pub fn retry_goes()
     ensures { RetryGoes }
+{}
+
+/// In a sound world, a walk over as many tunnels as there are meets no end exactly where its slot stands on a ring: it comes
+/// back to the slot then, since it can't go over a tunnel both ways, and links are mutual.
+pub fn rings_meet_no_end()
+    ensures { RingsMeetNoEnd }
 {}

@@ -9,6 +9,7 @@ ghost use Rattle.mc_world.specs.StepLaws.{AreNew};
 ghost use Rattle.mc_world.specs.Tables.{channel_of};
 ghost use Rattle.mc_world.specs.Worlds.{first_world, slot_count, place, number, far, joint_of, lane_of, front, front_for, slot_of, goal_of, places_among, places_within, joints_from, joints_within};
 
+mod rings;
 mod step;
 
 use crate::ways::Ways;
@@ -161,8 +162,15 @@ impl World {
     pub fn number(&self, who: u32, local: u8) -> Option<u32>
         ensures { result ≡ number self.now who local }
     {
-        let found = self.ways.number(who, local)?;
-        Some(found as u32)
+        if who as usize >= self.boxes.len() {
+            return None;
+        }
+        let home = &self.boxes[who as usize];
+        if local as usize >= home.slots().len() {
+            return None;
+        }
+        // a slot's descriptors have its number as origin
+        Some(home.own(local).origin)
     }
 
     /// The channel of a slot, and the number of the slot's tunnel within it.

@@ -1,0 +1,18 @@
+use Rattle.std.proofs.Common.{Some, None, refl, arith}
+use Rattle.mc_world.proofs.BothWays.{has_by}
+use Rattle.mc_world.proofs.network.World.ring.Goals as goal
+
+pub returns-then-is_on_ring-clause-has : goal.returns-then-is_on_ring-clause-has
+returns-then-is_on_ring-clause-has c =
+    has_by c.args.self.now (Some c.loop-slot.slot) c.keeps.ensures.sound (record {
+      inside = omega (arith, c.loop-slot-test.true, c.slot_count-slot-end.ensures);
+      on = c.if-is_on_ring.ensures.0 refl;
+      least = c.loop-slot.invariant;
+    })
+
+pub returns-clause-least : goal.returns-clause-least
+returns-clause-least c t below = c.loop-slot.invariant t (omega (arith, below, c.loop-slot-test.false, c.slot_count-slot-end.ensures))
+
+pub returns-clause-has : goal.returns-clause-has
+returns-clause-has c =
+    has_by c.args.self.now None c.keeps.ensures.sound (λ t below. c.loop-slot.invariant t (omega (arith, below, c.loop-slot-test.false, c.slot_count-slot-end.ensures)))

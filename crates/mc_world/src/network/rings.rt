@@ -1,0 +1,72 @@
+// Rings of a world.
+
+ghost use Rattle.std.specs.Prelude.{◌≡◌, ◌↔◌, ◌<◌, IfSome, IsTrue, length};
+ghost use Rattle.std.specs.Option.{is_some};
+ghost use Rattle.mc_world.specs.Paths.{has_ring};
+ghost use Rattle.mc_world.specs.Rings.{IsOnRing, IsRing, NoneBefore, partner_of};
+ghost use Rattle.mc_world.specs.Sound.{IsSound};
+ghost use Rattle.mc_world.specs.Worlds.{slot_count};
+
+use super::World;
+use mc_slot::SlotGoal;
+
+impl World {
+    /// The slot that a slot is linked with; none where its goal is an end's.
+    pub fn partner(&self, slot: u32) -> Option<u32>
+        requires { slot < slot_count self.now }
+        ensures partner { result ≡ partner_of self.now slot }
+        ensures inside { IfSome result (λ partner. partner < slot_count self.now) }
+    {
+        match self.goal(slot) {
+            SlotGoal::End(_) => None,
+            SlotGoal::Link(partner) => {
+                let (who, _) = self.place(slot);
+                self.number(who, partner)
+            }
+        }
+    }
+
+    /// The least slot that stands on a ring, a closed chain of tunnels and links; none where there is no ring.
+    pub fn ring(&self) -> Option<u32>
+        ensures least { IsRing self.now result }
+        ensures has { has_ring self.now ≡ is_some result }
+    {
+        self.keeps();
+        for slot in 0..self.slot_count() {
+            if self.is_on_ring(slot as u32) {
+                return Some(slot as u32);
+            }
+        }
+        None
+    }
+
+    // Whether a slot stands on a ring, where none before it does. Two walks go from it, one each way, until one meets
+    // an end or a slot before this one, or the first comes back. So each walk is about as long as the shorter of the
+    // two ways to such a slot, and all of them together have few more tunnels than the world has slots.
+    fn is_on_ring(&self, slot: u32) -> bool
+        requires sound { IsSound self.now }
+        requires inside { slot < slot_count self.now }
+        requires before { NoneBefore self.now slot }
+        ensures { IsTrue result ↔ IsOnRing self.now slot }
+    {
+        let mut ahead = slot;
+        let mut behind = slot;
+        for _done in 0..self.slot_count() / 2 {
+            let Some(next) = self.partner(self.far(ahead)) else {
+                return false;
+            };
+            let Some(last) = self.partner(behind) else {
+                return false;
+            };
+            ahead = next;
+            behind = self.far(last);
+            if ahead == slot {
+                return true;
+            }
+            if ahead.min(behind) < slot {
+                return false;
+            }
+        }
+        true
+    }
+}
