@@ -3,6 +3,7 @@ pub mod CleanEnds
 pub mod CleanPaths
 pub mod CleanSteps
 pub mod CleanTunnels
+pub mod Ends
 pub mod Quiet
 pub mod QuietWalks
 pub mod SettledHold

@@ -21,7 +21,7 @@ pub record StillWalks (world : WorldState) (from done at : ℕ) : Type 0 where
 -- ---- one tunnel
 
 -- a walk over a tunnel, by its far slot and the goal there
-walked_by : (world : WorldState) (left at other : ℕ) (goal : SlotGoal) → other ≡ far at → goal_of world other ≡ goal → walked world (suc left) at ≡ walk_by (walked world left) world goal other
+pub walked_by : (world : WorldState) (left at other : ℕ) (goal : SlotGoal) → other ≡ far at → goal_of world other ≡ goal → walked world (suc left) at ≡ walk_by (walked world left) world goal other
 walked_by world left at other goal same is =
     ap (λ (s : ℕ). walk_by (walked world left) world (goal_of world s) s) (sym same) ∙ ap (λ (aim : SlotGoal). walk_by (walked world left) world aim other) is
 

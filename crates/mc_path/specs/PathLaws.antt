@@ -1,6 +1,6 @@
 -- Laws of paths: what each path of a quiet world is, and that after a settle it is as the path table says.
-use Rattle.std.specs.Prelude.{◌≡◌, ◌≢◌, ◌⊎◌, ℕ, zero, suc, ◌+◌, false, List, [], ◌∷◌, length, IsTrue, Some}
-use Rattle.std.specs.List.{All, list_all}
+use Rattle.std.specs.Prelude.{◌≡◌, ◌≢◌, ◌⊎◌, ◌<◌, ◌==◌, ◌||◌, ℕ, zero, suc, ◌+◌, Bool, false, List, [], ◌∷◌, length, IsTrue, Some}
+use Rattle.std.specs.List.{All, count_by, list_all}
 use Rattle.std.specs.Option.{option_map, unwrap_or}
 use Rattle.mc_slot.specs.Outlook.{acks, closes}
 use Rattle.mc_slot.specs.declared.Goal.TheVariants.{Open as ToOpen, Close as ToClose}
@@ -9,13 +9,13 @@ use Rattle.mc_slot.specs.declared.SlotGoal.TheVariants.{End, Link}
 use Rattle.mc_slot.specs.declared.State.{State}
 use Rattle.mc_slot.specs.declared.State.TheVariants.{Closed, Flowing, Closing}
 use Rattle.mc_world.specs.PathTable.{Hears, PathHolds}
-use Rattle.mc_world.specs.Paths.{PathEnds, end_goal, paths}
+use Rattle.mc_world.specs.Paths.{PathEnds, end_goal, is_end_goal, paths}
 use Rattle.mc_world.specs.Settles.{IsSettled, is_quiet, takes_or_retries}
 use Rattle.mc_world.specs.Shapes.{owes_of}
 use Rattle.mc_world.specs.LinkFree.{IsLinkFree, LinkNone}
 use Rattle.mc_world.specs.Sound.{IsSound}
 use Rattle.mc_world.specs.Steps.{run}
-use Rattle.mc_world.specs.Worlds.{WorldState, far, goal_of, joints, list_to, number, own_descriptor, own_sender, place, slot_of}
+use Rattle.mc_world.specs.Worlds.{WorldState, far, goal_of, joints, list_to, number, own_descriptor, own_sender, place, slot_count, slot_of}
 use Rattle.mc_box.specs.declared.event.Turn.{Turn}
 
 -- both end slots of a path are in a state
@@ -72,3 +72,11 @@ CleanPaths = (world next : WorldState) (turns : List Turn) → IsLinkFree world 
 -- without links, after each settled segment, whatever the order of its turns, each path is as the path table says
 abbrev pub SettledPathsHold : Type 0
 SettledPathsHold = (world last : WorldState) (batch turns : List Turn) → IsLinkFree world → LinkNone batch → IsSettled world batch turns last → All (PathHolds last) (paths last)
+
+-- whether a slot is an end of a path
+abbrev pub is_end_of : ℕ → PathEnds → Bool
+is_end_of s path = path.low == s || path.high == s
+
+-- each end of a sound world is an end of exactly one of its paths
+abbrev pub EachEndOnce : Type 0
+EachEndOnce = (world : WorldState) (s : ℕ) → IsSound world → s < slot_count world → IsTrue (is_end_goal (goal_of world s)) → count_by (is_end_of s) (paths world) ≡ 1
