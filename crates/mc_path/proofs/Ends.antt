@@ -1,127 +1,16 @@
--- Each end of a sound world is an end of exactly one path: the walk back from the end that a walk comes to goes over the same tunnels.
-use Rattle.std.proofs.Common.{◌≡◌, ◌≢◌, ◌<◌, ◌≤◌, ◌+◌, ◌-◌, ◌==◌, ◌||◌, inl, inr, cond, ℕ, zero, suc, Bool, true, false, nat_lt, Option, Some, None, IsTrue, List, [], ◌∷◌, length, count_by, zero-add, refl, ap, sym, ◌∙◌, subst, arith}
+-- Each end of a sound world is an end of exactly one path: that of the lower of the end and the one that its walk comes to.
+use Rattle.std.proofs.Common.{◌≡◌, ◌≢◌, ◌<◌, ◌≤◌, ◌+◌, ◌==◌, ◌||◌, inl, inr, cond, ℕ, Bool, true, false, nat_lt, Option, Some, None, IsTrue, List, [], ◌∷◌, length, count_by, zero-add, refl, ap, sym, ◌∙◌, subst, arith}
 use Rattle.std.specs.List.{cons_option, enumerate_from, filter_map}
 use Rattle.std.specs.Option.{option_and_then}
 use Rattle.std.proofs.lemmas.Bool.{cases_eq, cases_lt}
 use Rattle.std.proofs.lemmas.Grind.{common_steps}
 use Rattle.std.proofs.lemmas.List.Sums.{sum_by-cons}
-use Rattle.mc_slot.specs.declared.Goal.{Goal}
-use Rattle.mc_slot.specs.declared.SlotGoal.{SlotGoal}
-use Rattle.mc_slot.specs.declared.SlotGoal.TheVariants.{End, Link}
-use Rattle.mc_box.specs.BoxSound.{IsLinked}
-use Rattle.mc_box.specs.Boxes.{goal_at}
 use Rattle.mc_box.proofs.Options.{if_some, then_some}
-use Rattle.mc_world.specs.Paths.{PathEnds, from_low, is_end_goal, other_end, path_from, paths, walk_by, walked}
+use Rattle.mc_world.specs.Paths.{PathEnds, from_low, is_end_goal, other_end, path_from, paths}
 use Rattle.mc_world.specs.Sound.{IsSound}
-use Rattle.mc_world.specs.Worlds.{WorldState, box_at, far, goal_of, joints, number, place, places, slot_count}
-use Rattle.mc_world.proofs.ActedWorlds.{far_inside}
-use Rattle.mc_world.proofs.Numbers.{far_back, number_is}
+use Rattle.mc_world.specs.Worlds.{WorldState, goal_of, joints, places, slot_count}
 use Rattle.mc_path.specs.PathLaws.{is_end_of}
-use Rattle.mc_path.proofs.Walking.{walked_by}
-
--- ---- a link from both sides
-
--- the slot at which a walk goes on from a linked slot is linked back with it
-pub record LinkedBack (world : WorldState) (s next : ℕ) : Type 0 where
-  pub inside : next < slot_count world
-  pub goal_is : goal_of world next ≡ Link (place world s).1
-  pub number_is : number world (place world next).0 (place world s).1 ≡ Some s
-
--- links are mutual, by the numbers of slots
-pub linked_back : (world : WorldState) (s partner next : ℕ) → IsSound world → s < slot_count world → goal_of world s ≡ Link partner → number world (place world s).0 partner ≡ Some next
-    → LinkedBack world s next
-linked_back world s partner next sound inside aims is =
-    let placed = sound.numbered.placed s inside in
-    let link : IsLinked (box_at world (place world s).0) (place world s).1 partner =
-    (sound.boxes (place world s).0 placed).wired.links (place world s).1 partner aims in
-    let there = number_is world (place world s).0 partner next is in
-    record {
-      inside = there.0;
-      goal_is = ap (λ (who : ℕ). goal_at (box_at world who) (place world next).1) there.1
-          ∙ (ap (λ (local : ℕ). goal_at (box_at world (place world s).0) local) there.2 ∙ link.back);
-      number_is = ap (λ (who : ℕ). number world who (place world s).1) there.1 ∙ sound.numbered.once s inside;
-    }
-
--- ---- the walk back
-
--- what a walk from s within so many tunnels comes to: an end from which a walk, after some of these tunnels, has come to s from its tunnel's far side
-pub record WalkBack (world : WorldState) (most s t : ℕ) : Type 0 where
-  pub inside : t < slot_count world
-  pub aims : is_end_goal (goal_of world t) ≡ true
-  pub steps : ℕ
-  pub some : 1 ≤ steps
-  pub few : steps ≤ most
-  pub back : (left total : ℕ) → steps + left ≡ total → walked world total t ≡ walk_by (walked world left) world (goal_of world s) s
-
--- a tunnel to an end
-back_once : (world : WorldState) (most s t : ℕ) (goal : Goal) → s < slot_count world → goal_of world (far s) ≡ End goal → far s ≡ t → WalkBack world (suc most) s t
-back_once world most s t goal inside aims same = subst (λ (n : ℕ). WalkBack world (suc most) s n) same (record {
-  inside = far_inside world s inside;
-  aims = ap is_end_goal aims;
-  steps = 1;
-  some = omega arith;
-  few = omega arith;
-  back = λ left total sum.
-      let more : suc left ≡ total = omega arith in
-      subst (λ (n : ℕ). walked world n (far s) ≡ walk_by (walked world left) world (goal_of world s) s) more
-      (walked_by world left (far s) s (goal_of world s) (sym (far_back s)) refl);
-})
-
--- from a linked slot the walk back goes over the partner's tunnel
-over_link : (world : WorldState) (s next left : ℕ) → LinkedBack world (far s) next
-    → walk_by (walked world (suc left)) world (goal_of world next) next ≡ walk_by (walked world left) world (goal_of world s) s
-over_link world s next left link =
-    ap (λ (goal : SlotGoal). walk_by (walked world (suc left)) world goal next) link.goal_is
-    ∙ (ap (option_and_then (walked world (suc left))) link.number_is
-    ∙ walked_by world left (far s) s (goal_of world s) (sym (far_back s)) refl)
-
--- a tunnel to a linked slot, and the walk from its partner
-back_on : (world : WorldState) (most s next t : ℕ) → LinkedBack world (far s) next → WalkBack world most next t → WalkBack world (suc most) s t
-back_on world most s next t link more = record {
-  inside = more.inside;
-  aims = more.aims;
-  steps = more.steps + 1;
-  some = omega (arith, more.some);
-  few = omega (arith, more.few);
-  back = λ left total sum.
-      let rest : more.steps + suc left ≡ total = omega arith in
-      more.back (suc left) total rest ∙ over_link world s next left link;
-}
-
--- a walk ends at once
-at_end : (further : ℕ → Option ℕ) (world : WorldState) (goal : Goal) (s t : ℕ) → walk_by further world (End goal) s ≡ Some t → s ≡ t
-at_end further world goal s t walk = cc
-
--- over a tunnel to a slot with this goal
-back_over : (most : ℕ) (goal : SlotGoal) (world : WorldState) (s t : ℕ) → IsSound world → s < slot_count world → goal_of world (far s) ≡ goal
-    → walk_by (walked world most) world goal (far s) ≡ Some t → WalkBack world (suc most) s t
-back_over most (End goal) world s t sound inside aims walk = back_once world most s t goal inside aims (at_end (walked world most) world goal (far s) t walk)
-back_over zero (Link partner) world s t sound inside aims walk =
-    let on = then_some (walked world zero) (number world (place world (far s)).0 partner) t walk in
-    absurd (cc)
-back_over (suc most) (Link partner) world s t sound inside aims walk =
-    let on = then_some (walked world (suc most)) (number world (place world (far s)).0 partner) t walk in
-    let link = linked_back world (far s) partner on.0 sound (far_inside world s inside) aims on.1 in
-    back_on world (suc most) s on.0 t link (back_over most (goal_of world (far on.0)) world on.0 t sound link.inside refl on.2)
-
--- from whichever slot
-pub walk_back : (most : ℕ) (world : WorldState) (s t : ℕ) → IsSound world → s < slot_count world → walked world most s ≡ Some t → WalkBack world most s t
-walk_back zero world s t sound inside walk = absurd (cc)
-walk_back (suc most) world s t sound inside walk = back_over most (goal_of world (far s)) world s t sound inside refl walk
-
--- a walk that has come to an end ends there
-stays : (further : ℕ → Option ℕ) (world : WorldState) (goal : SlotGoal) (s : ℕ) → is_end_goal goal ≡ true → walk_by further world goal s ≡ Some s
-stays further world (End goal) s is = refl
-stays further world (Link partner) s is = absurd (cc)
-
--- so the walk from an end comes to an end from which the walk comes to the first
-pub end_back : (world : WorldState) (s t : ℕ) → IsSound world → s < slot_count world → IsTrue (is_end_goal (goal_of world s)) → other_end world s ≡ Some t → other_end world t ≡ Some s
-end_back world s t sound inside aims walk =
-    let more = walk_back (length (joints world)) world s t sound inside walk in
-    let few : more.steps ≤ length (joints world) = more.few in
-    let left : ℕ = length (joints world) - more.steps in
-    let sum : more.steps + left ≡ length (joints world) = omega arith in
-    more.back left (length (joints world)) sum ∙ stays (walked world left) world (goal_of world s) s aims
+use Rattle.mc_path.proofs.Returns.{end_back, walk_back}
 
 -- ---- counting
 

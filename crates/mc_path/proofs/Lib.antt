@@ -6,6 +6,7 @@ pub mod CleanTunnels
 pub mod Ends
 pub mod Quiet
 pub mod QuietWalks
+pub mod Returns
 pub mod SettledHold
 pub mod Shown
 pub mod TableHolds
