@@ -15,7 +15,7 @@ use Rattle.mc_path.proofs.Returns.{end_back, walk_back}
 -- ---- counting
 
 -- what there is for these slots, from a number on
-abbrev listed : (ℕ → Option PathEnds) → ℕ → List (ℕ × ℕ) → List PathEnds
+abbrev pub listed : (ℕ → Option PathEnds) → ℕ → List (ℕ × ℕ) → List PathEnds
 listed f first slots = filter_map (λ entry. f entry.0) (enumerate_from first slots)
 
 -- one that passes counts 1
@@ -32,7 +32,7 @@ count_past p None rest none = refl
 count_past p (Some path) rest none = count_out p path rest (none path refl)
 
 -- none where no slot has one that passes
-count_none : (p : PathEnds → Bool) (f : ℕ → Option PathEnds) (slots : List (ℕ × ℕ)) (first count : ℕ) → first + length slots ≡ count
+pub count_none : (p : PathEnds → Bool) (f : ℕ → Option PathEnds) (slots : List (ℕ × ℕ)) (first count : ℕ) → first + length slots ≡ count
     → ((i : ℕ) → first ≤ i → i < count → (path : PathEnds) → f i ≡ Some path → p path ≡ false) → count_by p (listed f first slots) ≡ 0
 count_none p f [] first count whole none = refl
 count_none p f (slot ∷ slots) first count whole none =
@@ -59,16 +59,16 @@ count_one p f (slot ∷ slots) first count m path whole above below here passes 
 -- ---- the paths of an end
 
 -- a path of which a slot is the lower end
-record PathParts (world : WorldState) (s : ℕ) (path : PathEnds) : Type 0 where
-  aims : is_end_goal (goal_of world s) ≡ true
-  leads : other_end world s ≡ Some path.high
-  low_is : path.low ≡ s
-  below : s < path.high
+pub record PathParts (world : WorldState) (s : ℕ) (path : PathEnds) : Type 0 where
+  pub aims : is_end_goal (goal_of world s) ≡ true
+  pub leads : other_end world s ≡ Some path.high
+  pub low_is : path.low ≡ s
+  pub below : s < path.high
 
 lower : (s t : ℕ) → nat_lt s t ≡ true → s < t
 lower s t is = grind (arith, common_steps)
 
-parts_of : (world : WorldState) (s : ℕ) (path : PathEnds) → path_from world s ≡ Some path → PathParts world s path
+pub parts_of : (world : WorldState) (s : ℕ) (path : PathEnds) → path_from world s ≡ Some path → PathParts world s path
 parts_of world s path is =
     let begins = if_some (is_end_goal (goal_of world s)) (option_and_then (from_low s) (other_end world s)) path is in
     let leads = then_some (from_low s) (other_end world s) path begins.1 in
@@ -86,10 +86,10 @@ path_is world s t aims walk below =
     path_by (is_end_goal (goal_of world s)) (other_end world s) s t aims walk test
 
 -- an end of a path, by its two numbers
-low_ends : (a b s : ℕ) → a ≡ s → (a == s || b == s) ≡ true
+pub low_ends : (a b s : ℕ) → a ≡ s → (a == s || b == s) ≡ true
 low_ends a b s is = grind (arith, common_steps)
 
-high_ends : (a b s : ℕ) → b ≡ s → (a == s || b == s) ≡ true
+pub high_ends : (a b s : ℕ) → b ≡ s → (a == s || b == s) ≡ true
 high_ends a b s is = grind (arith, common_steps)
 
 never_ends : (a b s : ℕ) → a ≢ s → b ≢ s → (a == s || b == s) ≡ false
@@ -102,7 +102,7 @@ record OtherPath (s t i : ℕ) (path : PathEnds) : Type 0 where
   from : i ≡ s → path.high ≡ t
   to : path.high ≡ s → i ≡ t
 
-some_same : (s t : ℕ) → Some s ≡ Some t → s ≡ t
+pub some_same : (s t : ℕ) → Some s ≡ Some t → s ≡ t
 some_same s t same = cc
 
 other_path : (world : WorldState) (s t i : ℕ) (path : PathEnds) → IsSound world → i < slot_count world → other_end world s ≡ Some t → path_from world i ≡ Some path → OtherPath s t i path

@@ -9,6 +9,7 @@ pub mod QuietWalks
 pub mod Returns
 pub mod SettledHold
 pub mod Shown
+pub mod Standing
 pub mod TableHolds
 pub mod Tunnels
 pub mod Walking
