@@ -1,5 +1,5 @@
 -- Each slot of a sound world stands on exactly one path, or on a ring: a path goes over a slot where the walk from that slot comes to one of the path's ends.
-use Rattle.std.proofs.Common.{◌≡◌, ◌<◌, ◌≤◌, ◌+◌, ◌==◌, ◌||◌, ◌⊎◌, ◌++◌, inl, inr, cond, if◌then◌else◌, ℕ, zero, suc, Bool, true, false, Option, Some, None, IsTrue, List, [], ◌∷◌, length, count_by, reverse, refl, ap, sym, ◌∙◌, subst, arith}
+use Rattle.std.proofs.Common.{◌≡◌, ◌<◌, ◌+◌, ◌==◌, ◌||◌, ◌⊎◌, ◌++◌, inl, inr, cond, if◌then◌else◌, ℕ, zero, suc, Bool, true, false, Option, Some, None, List, [], ◌∷◌, length, count_by, reverse, refl, ap, sym, ◌∙◌, subst, arith}
 use Rattle.std.specs.List.{cons_option, list_any}
 use Rattle.std.specs.Option.{is_none, option_and_then, option_map, unwrap_or}
 use Rattle.std.proofs.lemmas.Bool.{cases_eq}
@@ -7,16 +7,15 @@ use Rattle.std.proofs.lemmas.Grind.{common_steps}
 use Rattle.std.proofs.lemmas.List.Folds.{list_any-append}
 use Rattle.std.proofs.lemmas.List.Sums.{sum_by-cons}
 use Rattle.std.proofs.lemmas.List.Sorted.{IsPermutation-reverse, list_any-IsPermutation}
-use Rattle.mc_slot.specs.declared.Goal.{Goal}
 use Rattle.mc_slot.specs.declared.SlotGoal.{SlotGoal}
 use Rattle.mc_slot.specs.declared.SlotGoal.TheVariants.{End, Link}
 use Rattle.mc_box.proofs.Options.{then_some}
-use Rattle.mc_world.specs.Paths.{PathEnds, is_end_goal, other_end, path_from, paths, walk_by, walked}
+use Rattle.mc_world.specs.Paths.{PathEnds, other_end, path_from, paths, walk_by, walked}
 use Rattle.mc_world.specs.Sound.{IsSound}
 use Rattle.mc_world.specs.Worlds.{WorldState, far, goal_of, joints, number, place, places, slot_count}
 use Rattle.mc_world.proofs.ActedWorlds.{far_inside}
 use Rattle.mc_path.specs.PathLaws.{EachEndOnce, EachSlotOnce, is_end_of, is_on, passed, passed_by}
-use Rattle.mc_path.proofs.Ends.{PathParts, count_none, high_ends, listed, low_ends, parts_of, some_same}
+use Rattle.mc_path.proofs.Ends.{count_none, high_ends, listed, low_ends, parts_of, some_same}
 use Rattle.mc_path.proofs.Returns.{Returns, back_on, back_once, comes_back, linked_back, slots_back, slots_beyond, walk_back}
 
 -- ---- slots of a list
@@ -136,7 +135,6 @@ over_slot : (world : WorldState) (i s t : ℕ) (path : PathEnds) → IsSound wor
     → is_end_of t path ≡ true → is_on world s path ≡ true
 over_slot world i s t path sound inside within is walk ends =
     let parts = parts_of world i path is in
-    let most : ℕ = length (joints world) in
     let here : has s (passed world (length (joints world)) t) ≡ true = end_passes world s t sound within walk in
     elim (which_end path.low path.high t ends) [
       | inl low ↦ subst (λ (n : ℕ). has s (passed world (length (joints world)) n) ≡ true) (sym low) here
