@@ -106,9 +106,9 @@ pub record WalkBack (world : WorldState) (most s t : ℕ) : Type 0 where
   pub slots : (left total : ℕ) → returns.steps + left ≡ total → passed world total t ≡ reverse (passed world most s) ++ passed_by (passed world left) world (goal_of world s) s
 
 -- a tunnel to an end
-end_once : (world : WorldState) (most s t : ℕ) (goal : Goal) → s < slot_count world → goal_of world (far s) ≡ End goal → far s ≡ t → WalkBack world (suc most) s t
+ends_over : (world : WorldState) (most s t : ℕ) (goal : Goal) → s < slot_count world → goal_of world (far s) ≡ End goal → far s ≡ t → WalkBack world (suc most) s t
 unfolding back_once
-end_once world most s t goal inside aims same = subst (λ (n : ℕ). WalkBack world (suc most) s n) same (record {
+ends_over world most s t goal inside aims same = subst (λ (n : ℕ). WalkBack world (suc most) s n) same (record {
   inside = far_inside world s inside;
   aims = ap is_end_goal aims;
   returns = back_once world most s;
@@ -128,10 +128,10 @@ slots_over world s next left link =
     ∙ passed_one world left (far s) s (sym (far_back s)))
 
 -- a tunnel to a linked slot, and the walk from its partner
-end_on : (world : WorldState) (most s next t : ℕ) → LinkedBack world (far s) next → passed world (suc most) s ≡ s ∷ far s ∷ passed world most next → WalkBack world most next t
+ends_beyond : (world : WorldState) (most s next t : ℕ) → LinkedBack world (far s) next → passed world (suc most) s ≡ s ∷ far s ∷ passed world most next → WalkBack world most next t
     → WalkBack world (suc most) s t
 unfolding back_on
-end_on world most s next t link forth more = record {
+ends_beyond world most s next t link forth more = record {
   inside = more.inside;
   aims = more.aims;
   returns = back_on world most s next t link more.returns;
@@ -149,14 +149,14 @@ at_end further world goal s t walk = cc
 -- over a tunnel to a slot with this goal
 back_over : (most : ℕ) (goal : SlotGoal) (world : WorldState) (s t : ℕ) → IsSound world → s < slot_count world → goal_of world (far s) ≡ goal
     → walk_by (walked world most) world goal (far s) ≡ Some t → WalkBack world (suc most) s t
-back_over most (End goal) world s t sound inside aims walk = end_once world most s t goal inside aims (at_end (walked world most) world goal (far s) t walk)
+back_over most (End goal) world s t sound inside aims walk = ends_over world most s t goal inside aims (at_end (walked world most) world goal (far s) t walk)
 back_over zero (Link partner) world s t sound inside aims walk =
     let on = then_some (walked world zero) (number world (place world (far s)).0 partner) t walk in
     absurd (cc)
 back_over (suc most) (Link partner) world s t sound inside aims walk =
     let on = then_some (walked world (suc most)) (number world (place world (far s)).0 partner) t walk in
     let link = linked_back world (far s) partner on.0 sound (far_inside world s inside) aims on.1 in
-    end_on world (suc most) s on.0 t link (passed_on world (suc most) s partner on.0 aims on.1)
+    ends_beyond world (suc most) s on.0 t link (passed_on world (suc most) s partner on.0 aims on.1)
     (back_over most (goal_of world (far on.0)) world on.0 t sound link.inside refl on.2)
 
 -- from whichever slot
