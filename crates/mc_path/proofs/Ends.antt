@@ -9,7 +9,8 @@ use Rattle.mc_box.proofs.Options.{if_some, then_some}
 use Rattle.mc_world.specs.Paths.{PathEnds, from_low, is_end_goal, other_end, path_from, paths}
 use Rattle.mc_world.specs.Sound.{IsSound}
 use Rattle.mc_world.specs.Worlds.{WorldState, goal_of, joints, places, slot_count}
-use Rattle.mc_path.specs.PathLaws.{is_end_of}
+use Rattle.mc_world.proofs.RingWalks.{end_is_met, met_is_other}
+use Rattle.mc_path.specs.PathLaws.{EachEndOnce, is_end_of}
 use Rattle.mc_path.proofs.Returns.{end_back, walk_back}
 
 -- ---- counting
@@ -141,3 +142,9 @@ end_once world s t sound inside aims walk apart = elim (cases_lt s t) [
       (path_is world t s more.aims (end_back world s t sound inside aims walk) below) (high_ends t s s refl)
       (λ i within other path is. not_high s t i path below other (other_path world s t i path sound within walk is))
 ]
+
+-- and its walk comes to another end
+pub each_end_once : EachEndOnce
+each_end_once world s sound inside aims =
+    let met = end_is_met world s sound inside aims in
+    end_once world s met.0 sound inside aims met.1 (met_is_other world s met.0 sound inside met.1)

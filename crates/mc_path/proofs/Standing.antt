@@ -14,8 +14,10 @@ use Rattle.mc_world.specs.Paths.{PathEnds, other_end, path_from, paths, walk_by,
 use Rattle.mc_world.specs.Sound.{IsSound}
 use Rattle.mc_world.specs.Worlds.{WorldState, far, goal_of, joints, number, place, places, slot_count}
 use Rattle.mc_world.proofs.ActedWorlds.{far_inside}
+use Rattle.mc_world.specs.Rings.{IsOnRing}
+use Rattle.mc_world.proofs.RingWalks.{rings_meet_no_end}
 use Rattle.mc_path.specs.PathLaws.{EachEndOnce, EachSlotOnce, is_end_of, is_on, passed, passed_by}
-use Rattle.mc_path.proofs.Ends.{count_none, high_ends, listed, low_ends, parts_of, some_same}
+use Rattle.mc_path.proofs.Ends.{each_end_once, count_none, high_ends, listed, low_ends, parts_of, some_same}
 use Rattle.mc_path.proofs.Returns.{Returns, back_on, back_once, comes_back, linked_back, slots_back, slots_beyond, walk_back}
 
 -- ---- slots of a list
@@ -200,6 +202,11 @@ slot_by once (Some t) world s sound inside walk =
     (λ i within path is. on_is world i s t path sound within inside is walk)
     ∙ once world t sound more.inside more.aims
 
--- where each end is an end of exactly one path, exactly one path goes over each slot that is on no ring
-pub slots_once : EachEndOnce → EachSlotOnce
-slots_once once world s sound inside = slot_by once (other_end world s) world s sound inside refl
+-- whether or not a walk comes to an end
+slots_by : (o : Option ℕ) (world : WorldState) (s : ℕ) → IsSound world → s < slot_count world → other_end world s ≡ o → count_by (is_on world s) (paths world) ≡ (if is_none o then 0 else 1)
+    → (IsOnRing world s → count_by (is_on world s) (paths world) ≡ 0) × ((IsOnRing world s → ⊥) → count_by (is_on world s) (paths world) ≡ 1)
+slots_by None world s sound inside walk count = (λ ring. count, λ off. absurd (off ((rings_meet_no_end world s sound inside).0 walk)))
+slots_by (Some t) world s sound inside walk count = (λ ring. absurd (let clash : Some t ≡ None = sym walk ∙ (rings_meet_no_end world s sound inside).1 ring in cc), λ off. count)
+
+pub each_slot_once : EachSlotOnce
+each_slot_once world s sound inside = slots_by (other_end world s) world s sound inside refl (slot_by each_end_once (other_end world s) world s sound inside refl)

@@ -1,7 +1,7 @@
 -- Laws of paths: what each path of a quiet world is, and that after a settle it is as the path table says.
-use Rattle.std.specs.Prelude.{◌≡◌, ◌≢◌, ◌⊎◌, ◌<◌, ◌==◌, ◌||◌, if◌then◌else◌, ℕ, zero, suc, ◌+◌, Bool, false, List, [], ◌∷◌, length, IsTrue, Some}
+use Rattle.std.specs.Prelude.{◌≡◌, ◌≢◌, ◌⊎◌, ◌<◌, ◌==◌, ◌||◌, ℕ, zero, suc, ◌+◌, Bool, false, List, [], ◌∷◌, length, IsTrue, Some}
 use Rattle.std.specs.List.{All, count_by, list_all, list_any}
-use Rattle.std.specs.Option.{is_none, option_map, unwrap_or}
+use Rattle.std.specs.Option.{option_map, unwrap_or}
 use Rattle.mc_slot.specs.Outlook.{acks, closes}
 use Rattle.mc_slot.specs.declared.Goal.TheVariants.{Open as ToOpen, Close as ToClose}
 use Rattle.mc_slot.specs.declared.SlotGoal.{SlotGoal}
@@ -9,7 +9,8 @@ use Rattle.mc_slot.specs.declared.SlotGoal.TheVariants.{End, Link}
 use Rattle.mc_slot.specs.declared.State.{State}
 use Rattle.mc_slot.specs.declared.State.TheVariants.{Closed, Flowing, Closing}
 use Rattle.mc_world.specs.PathTable.{Hears, PathHolds}
-use Rattle.mc_world.specs.Paths.{PathEnds, end_goal, is_end_goal, other_end, paths}
+use Rattle.mc_world.specs.Paths.{PathEnds, end_goal, is_end_goal, paths}
+use Rattle.mc_world.specs.Rings.{IsOnRing}
 use Rattle.mc_world.specs.Settles.{IsSettled, is_quiet, takes_or_retries}
 use Rattle.mc_world.specs.Shapes.{owes_of}
 use Rattle.mc_world.specs.LinkFree.{IsLinkFree, LinkNone}
@@ -85,6 +86,7 @@ EachEndOnce = (world : WorldState) (s : ℕ) → IsSound world → s < slot_coun
 abbrev pub is_on : WorldState → ℕ → PathEnds → Bool
 is_on world s path = list_any (λ n. n == s) (slots_on world path)
 
--- exactly one path of a sound world goes over each slot, and none where the slot is on a ring
+-- no path goes over a slot on a ring, and exactly one path over each other slot
 abbrev pub EachSlotOnce : Type 0
-EachSlotOnce = (world : WorldState) (s : ℕ) → IsSound world → s < slot_count world → count_by (is_on world s) (paths world) ≡ (if is_none (other_end world s) then 0 else 1)
+EachSlotOnce = (world : WorldState) (s : ℕ) → IsSound world → s < slot_count world
+    → (IsOnRing world s → count_by (is_on world s) (paths world) ≡ 0) × ((IsOnRing world s → ⊥) → count_by (is_on world s) (paths world) ≡ 1)

@@ -1,7 +1,18 @@
-//! Laws of paths, over the definitions alone: each function's contract is the law's sentence. What a quiet path is holds
-//! for paths of every length; the other two laws are asked of worlds without links.
+//! Laws of paths, over the definitions alone: each function's contract is the law's sentence. They hold for paths of every
+//! length, but for the two laws on settles, which are asked of worlds without links.
 
-ghost use Rattle.mc_path.specs.PathLaws.{QuietPaths, CleanPaths, SettledPathsHold};
+ghost use Rattle.mc_path.specs.PathLaws.{EachEndOnce, EachSlotOnce, QuietPaths, CleanPaths, SettledPathsHold};
+
+/// Each end of a sound world is an end of exactly one of its paths: the walk from there comes to another end, and from that
+/// end back.
+pub fn each_end_once()
+    ensures { EachEndOnce }
+{}
+
+/// Each slot of a sound world stands on a ring, and no path goes over it, or on none, and exactly one path goes over it.
+pub fn each_slot_once()
+    ensures { EachSlotOnce }
+{}
 
 /// Where nothing is under way in a sound world, each path, over however many tunnels and links, is closed at all its
 /// slots, or flows at all of them with each end having the other's newest descriptor and the choice for its own. An end
