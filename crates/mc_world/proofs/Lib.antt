@@ -1,4 +1,5 @@
 mod Exchanges
+mod Homes
 mod JointTables
 mod LaneChanges
 mod NewLanes
@@ -21,7 +22,6 @@ pub mod NewWorlds
 pub mod NoPrograms
 pub mod Numbers
 pub mod Partners
-mod Origins
 pub mod Parts
 mod Repeats
 pub mod RingChains

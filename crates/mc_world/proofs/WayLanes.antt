@@ -1,11 +1,10 @@
 -- Where signals go by a world's tables: as the world's own numbers say.
-use Rattle.std.proofs.Common.{◌≡◌, ◌<◌, ◌+◌, ◌*◌, ◌/◌, ◌%◌, ℕ, Option, Some, None, List, [], ◌∷◌, ◌++◌, map, length, position, get_or, inl, inr, refl, ap, sym, ◌∙◌, subst, arith}
+use Rattle.std.proofs.Common.{◌≡◌, ◌<◌, ◌+◌, ◌*◌, ◌/◌, ◌%◌, ℕ, Option, Some, None, List, [], ◌∷◌, ◌++◌, map, length, position, get_or, refl, ap, sym, ◌∙◌, subst, arith}
 use Rattle.std.specs.Option.{option_map, unwrap_or}
 use Rattle.std.proofs.Math.ListN.{set, get_or-map}
-use Rattle.std.proofs.lemmas.Bool.{cases_eq}
 use Rattle.std.proofs.lemmas.List.{length-map}
 use Rattle.mc_signal.specs.declared.Signal.{Signal}
-use Rattle.mc_world.specs.Lanes.{HasRoomFrom, HasRoom, IsLaid, all_sent, lane_by, one_sent, pushed_by, signals_of, tunnel_by}
+use Rattle.mc_world.specs.Lanes.{IsLaid, all_sent, lane_by, one_sent, pushed_by, signals_of, tunnel_by}
 use Rattle.mc_world.specs.Steps.{pushed, sent_out}
 use Rattle.mc_world.specs.Tables.{HasTables, channel_of}
 use Rattle.mc_world.specs.Worlds.{Joint, WorldState, far, is_place, joint_of, joints, joints_from, lane_of, no_joint, number, places}
@@ -47,6 +46,8 @@ tables_laid inside has =
           subst (λ (c : ℕ). 2 * c + 1 < length inside.lanes.items) (sym channel)
           (channel_lanes (get_or found t no_joint).channel (length inside.channels.items) (length inside.lanes.items)
           ((channel_in inside.channels.items 0 t (subst (λ (n : ℕ). t < n) long below)).1) has.lanes);
+      found = has.found;
+      once = subst (λ (l : List (ℕ × ℕ)). (s : ℕ) → s < length l → position (is_place (get_or l s (0, 0))) l ≡ Some s) (sym has.places) has.sound.numbered.once;
     }
 
 -- ---- where a sending goes
@@ -89,14 +90,3 @@ sent_out_by (sending ∷ rest) world ways who at through =
     ∙ ap (λ (places : List (ℕ × ℕ)). record world { lanes = unwrap_or (option_map (λ s. pushed_by ways world.lanes sending.1 (far s)) (position (is_place (who, sending.0)) places)) world.lanes }) (sym at) in
     ap (λ (w : WorldState). sent_out w who rest) next
     ∙ sent_out_by rest (record world { lanes = one_sent ways who world.lanes sending }) ways who at through
-
--- ---- room
-
--- one slot more has room in the lane that leads away from it
-pub more_room : (old new : List Lane) (ways : Ways) (who first most : ℕ) → HasRoomFrom old ways who first most → ((k count : ℕ) → HasRoom old k count → HasRoom new k count)
-    → ((get_or ways.places.items first (0, 0)).0 ≡ who → HasRoom new (lane_by ways (far first)) most) → HasRoomFrom new ways who (first + 1) most
-more_room old new ways who first most before kept here s below is = elim (cases_eq s first) [
-  | inl same ↦
-      subst (λ (t : ℕ). HasRoom new (lane_by ways (far t)) most) (sym same) (here (subst (λ (t : ℕ). (get_or ways.places.items t (0, 0)).0 ≡ who) same is))
-  | inr other ↦ kept (lane_by ways (far s)) most (before s (omega arith) is)
-]

@@ -145,6 +145,7 @@ step_tables inside world who event boxes lanes has view here goes =
     record {
       places = has.places;
       joints = has.joints;
+      found = has.found;
       few = has.few;
       lanes = sym (length-map lanes.items (λ (lane : Queue Tagged). lane.items)) ∙ kept.0.numbered.lanes;
       sound = kept.0;

@@ -1,9 +1,11 @@
 -- Lanes as they change, by the tables of a world.
-use Rattle.std.specs.Prelude.{ℕ, ◌≡◌, ◌+◌, ◌*◌, ◌/◌, ◌%◌, ◌<◌, ◌≤◌, List, [], ◌∷◌, ◌++◌, drop, fold, length, map, position, slice_index_or, slice_set, HoldsAt, unwrap_or}
+use Rattle.std.specs.Prelude.{ℕ, ◌≡◌, ◌+◌, ◌*◌, ◌/◌, ◌%◌, ◌<◌, ◌≤◌, List, [], ◌∷◌, ◌++◌, drop, fold, length, map, position, slice_index_or, slice_set, HoldsAt, Some, unwrap_or}
+use Rattle.std.specs.List.{slice_get}
 use Rattle.std.specs.Option.{option_map}
 use Rattle.mc_lane.specs.Queue.{Queue}
 use Rattle.mc_signal.specs.declared.Signal.{Signal}
 use Rattle.mc_signal.specs.declared.Tagged.{Tagged}
+use Rattle.mc_box.specs.Boxes.{BoxState}
 use Rattle.mc_world.specs.Worlds.{far, is_place}
 use Rattle.mc_world.specs.declared.ways.Ways.{Ways}
 
@@ -17,10 +19,20 @@ without_front lanes lane = slice_set lanes lane (drop 1 (slice_index_or lanes la
 
 -- ---- where signals go
 
--- each tunnel has its two slots, and its channel two of so many lanes
+-- the numbers of a box's slots, as its descriptors have them
+abbrev pub origins : BoxState → List ℕ
+origins box = map (λ media. media.origin) box.media
+
+-- and as the tables have them, in the order of their local numbers
+abbrev pub numbers_of : Ways → ℕ → List ℕ
+numbers_of ways who = slice_index_or (map (λ numbers. numbers.items) ways.homes.items) who []
+
+-- each tunnel has its two slots, and its channel two of so many lanes; each slot is found by its box and local number, and by no others
 pub record IsLaid (ways : Ways) (count : ℕ) : Type 0 where
   pub slots : length ways.places.items ≡ 2 * length ways.joints.items
   pub lanes : (t : ℕ) → t < length ways.joints.items → 2 * (slice_index_or ways.joints.items t (0, 0)).0 + 1 < count
+  pub found : (who local : ℕ) → slice_get (numbers_of ways who) local ≡ position (is_place (who, local)) ways.places.items
+  pub once : (s : ℕ) → s < length ways.places.items → position (is_place (slice_index_or ways.places.items s (0, 0))) ways.places.items ≡ Some s
 
 -- the lane that leads to a slot, and the number of the slot's tunnel within its channel
 abbrev pub lane_by : Ways → ℕ → ℕ

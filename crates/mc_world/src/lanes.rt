@@ -22,11 +22,9 @@ pub fn make_room(
     ensures same { signals_of lanes.new ≡ signals_of lanes.old }
     ensures room { OnOk result (HasRoomFrom lanes.new ways.now who (length ways.now.places.items) most) }
 {
-    for slot in 0..ways.places.len() {
-        if ways.places[slot].0 == who {
-            let (lane, _) = ways.away(slot);
-            reserve(lanes, lane, most)?;
-        }
+    for slot in ways.numbers(who) {
+        let (lane, _) = ways.away(*slot as usize);
+        reserve(lanes, lane, most)?;
     }
     Ok(())
 }
@@ -98,7 +96,7 @@ fn send(lanes: &mut [Lane<Tagged>], ways: &Ways, who: u32, local: u8, signal: Si
     ensures room { (k count : ℕ) → HasRoom lanes.old k (count + 1) → HasRoom lanes.new k count }
 {
     if let Some(slot) = ways.number(who, local) {
-        let (lane, tunnel) = ways.away(slot);
+        let (lane, tunnel) = ways.away(slot as usize);
         let lane = &mut lanes[lane];
         lane.push(Tagged { tunnel, signal });
     }

@@ -12,7 +12,7 @@ ghost use Rattle.mc_world.specs.Worlds.{first_world, slot_count, place, number, 
 mod rings;
 mod step;
 
-use crate::ways::Ways;
+use crate::ways::{Ways, homes_among};
 use mc_box::MediaBox;
 use mc_lane::Lane;
 use mc_signal::{Medium, Signal, Tagged};
@@ -88,11 +88,17 @@ impl World {
         let lanes = empty_lanes(alloc, channels.len())?;
         let places = places_among(alloc, &channels)?;
         let joints = joints_among(alloc, &channels)?;
+        let homes = homes_among(alloc, &boxes)?;
+        let ways = Ways {
+            places,
+            joints,
+            homes,
+        };
         Ok(World {
             boxes,
             channels,
             lanes,
-            ways: Ways { places, joints },
+            ways,
             alloc,
         })
     }
@@ -162,15 +168,7 @@ impl World {
     pub fn number(&self, who: u32, local: u8) -> Option<u32>
         ensures { result ≡ number self.now who local }
     {
-        if who as usize >= self.boxes.len() {
-            return None;
-        }
-        let home = &self.boxes[who as usize];
-        if local as usize >= home.slots().len() {
-            return None;
-        }
-        // a slot's descriptors have its number as origin
-        Some(home.own(local).origin)
+        self.ways.number(who, local)
     }
 
     /// The channel of a slot, and the number of the slot's tunnel within it.

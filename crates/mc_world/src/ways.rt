@@ -1,25 +1,38 @@
 // Where slots stand, and how signals go from them.
 
-ghost use Rattle.std.specs.Prelude.{◌≡◌, ◌<◌, ◌/◌, length, position};
-ghost use Rattle.mc_world.specs.Lanes.{lane_by, tunnel_by};
-ghost use Rattle.mc_world.specs.Worlds.{far, is_place};
+ghost use Rattle.std.specs.Prelude.{◌≡◌, ◌<◌, ◌/◌, IfOk, length, map};
+ghost use Rattle.std.specs.List.{slice_get};
+ghost use Rattle.mc_world.specs.Lanes.{lane_by, numbers_of, origins, tunnel_by};
+ghost use Rattle.mc_world.specs.Worlds.{far};
 
-/// The tables of a world: the box and local number of each slot, and for each tunnel its channel and its number
-/// within the channel.
+use mc_box::MediaBox;
+use std::alloc::{AllocError, Global};
+
+/// The tables of a world: the box and local number of each slot, for each tunnel its channel and its number within
+/// the channel, and for each box the numbers of its slots.
 #[derive(Debug, Drop)]
 pub struct Ways {
     pub places: Vec<(u32, u8)>,
     pub joints: Vec<(u32, u8)>,
+    pub homes: Vec<Vec<u32>>,
 }
 
 impl Ways {
-    /// Where a box's slot stands among the slots of all boxes.
-    pub fn number(&self, who: u32, local: u8) -> Option<usize>
-        ensures { result ≡ position (is_place (who, local)) self.now.places.items }
+    /// The numbers of a box's slots, in the order of their local numbers; none where there is no such box.
+    pub fn numbers(&self, who: u32) -> &[u32]
+        ensures { result.now ≡ numbers_of self.now who }
     {
-        self.places
-            .iter()
-            .position(|place| who == place.0 && local == place.1)
+        match self.homes.get(who as usize) {
+            Some(numbers) => numbers,
+            None => &[],
+        }
+    }
+
+    /// The number of a box's slot.
+    pub fn number(&self, who: u32, local: u8) -> Option<u32>
+        ensures { result ≡ slice_get (numbers_of self.now who) local }
+    {
+        self.numbers(who).get(local as usize).copied()
     }
 
     /// The lane that leads away from a slot, and the number of the slot's tunnel within its channel.
@@ -31,4 +44,27 @@ impl Ways {
         let (channel, tunnel) = self.joints[slot / 2];
         (2 * channel as usize + (1 - slot % 2), tunnel)
     }
+}
+
+/// The numbers of the slots of each of these boxes.
+pub fn homes_among(alloc: Global, boxes: &[MediaBox]) -> Result<Vec<Vec<u32>>, AllocError>
+    ensures { IfOk result (λ homes. map (λ numbers. numbers.items) homes.items ≡ map origins boxes.now) }
+{
+    let mut homes = Vec::new(alloc);
+    for home in boxes {
+        homes.push(numbers_in(alloc, home)?)?;
+    }
+    Ok(homes)
+}
+
+// The numbers of a box's slots, which its descriptors have as origins.
+fn numbers_in(alloc: Global, home: &MediaBox) -> Result<Vec<u32>, AllocError>
+    ensures { IfOk result (λ numbers. numbers.items ≡ origins home.now) }
+{
+    home.keeps();
+    let mut numbers = Vec::new(alloc);
+    for local in 0..home.slots().len() {
+        numbers.push(home.own(local as u8).origin)?;
+    }
+    Ok(numbers)
 }

@@ -1,10 +1,11 @@
-use Rattle.std.proofs.Common.{◌≡◌}
-use Rattle.mc_world.specs.Lanes.{HasRoomFrom, signals_of}
+use Rattle.std.proofs.Common.{◌≡◌, ◌<◌, ℕ, get_or}
+use Rattle.mc_world.specs.Lanes.{HasRoom, lane_by, numbers_of, signals_of}
+use Rattle.mc_world.specs.Worlds.{far}
 use Rattle.mc_world.proofs.lanes.make_room.Given as goal
 
--- no signal has come or gone, and the lanes away from the slots so far have room
+-- no signal has come or gone, and the lanes away from the box's slots so far have room
 abbrev pub invariant-loop-slot : goal.invariant-loop-slot
 invariant-loop-slot l = record {
   same : signals_of l.lanes ≡ signals_of l.initial.lanes;
-  room : HasRoomFrom l.lanes l.ways l.who l.slot l.most;
+  room : (local : ℕ) → local < l.slot-index → HasRoom l.lanes (lane_by l.ways (far (get_or (numbers_of l.ways l.who) local 0))) l.most;
 }

@@ -1,13 +1,14 @@
-use Rattle.std.proofs.Common.{◌≡◌, ◌*◌, ◌≤◌, ap, [], length, List, ◌∙◌, subst, sym, rules, arith}
+use Rattle.std.proofs.Common.{◌≡◌, ◌*◌, ◌≤◌, ap, [], length, map, position, ℕ, List, Vec, Global, ◌∙◌, subst, sym, rules, arith}
 use Rattle.std.proofs.Math.ListN.{replicate}
 use Rattle.std.proofs.lemmas.List.{length-map, length-replicate}
 use Rattle.mc_lane.specs.Queue.{Queue}
 use Rattle.mc_signal.specs.declared.Tagged.{Tagged}
 use Rattle.mc_box.specs.Boxes.{BoxState}
-use Rattle.mc_world.specs.Lanes.{signals_of}
+use Rattle.mc_world.specs.Lanes.{origins, signals_of}
 use Rattle.mc_world.specs.Served.{LanesServed}
 use Rattle.mc_world.specs.Sound.{IsSound}
-use Rattle.mc_world.specs.Worlds.{ChannelState, WorldState, first_world, places_among}
+use Rattle.mc_world.specs.Worlds.{ChannelState, WorldState, first_world, is_place, places_among}
+use Rattle.mc_world.proofs.Homes.{found_by}
 use Rattle.mc_world.proofs.NewWorlds.{first_is_sound}
 use Rattle.mc_world.proofs.StepGoes.{first_is_served}
 use Rattle.mc_world.proofs.JointTables.{few_slots}
@@ -24,11 +25,16 @@ invariant_of-result c =
     let lanes : length c.in_ok-lanes.lanes.items ≡ 2 * c.len.result =
     sym (length-map c.in_ok-lanes.lanes.items (λ (lane : Queue Tagged). lane.items)) ∙ ap (λ (l : List (List Tagged)). length l) c.in_ok-lanes.ensures ∙ length-replicate (2 * c.len.result) _ in
     let none : signals_of c.in_ok-lanes.lanes.items ≡ replicate (2 * length c.args.channels.items) [] = rw (c.len.ensures, c.args.channels.ok.0) at c.in_ok-lanes.ensures in
+    let homes : map (λ (numbers : Vec ℕ Global). numbers.items) c.in_ok-homes.homes.items ≡ map origins c.args.boxes.items = search rules in
     let first : first_world c.args.boxes.items c.args.channels.items ≡ world_with c.args.boxes.items c.args.channels.items (signals_of c.in_ok-lanes.lanes.items) =
     ap (world_with c.args.boxes.items c.args.channels.items) (sym none) in
     record {
       places = places;
       joints = search rules;
+      found = λ who local.
+          found_by (first_world c.args.boxes.items c.args.channels.items) (record { places = c.in_ok-places.places; joints = c.in_ok-joints.joints; homes = c.in_ok-homes.homes }) who local
+          c.requires.numbered homes
+          ∙ ap (position (is_place (who, local))) (sym places);
       few = rw places (omega arith);
       lanes = omega arith;
       sound = subst (λ (world : WorldState). IsSound world) first (first_is_sound c.args.boxes.items c.args.channels.items c.requires.fresh c.requires.numbered);
