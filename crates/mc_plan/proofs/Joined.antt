@@ -1,0 +1,78 @@
+-- A plan stays laid out where a channel comes last.
+use Rattle.std.proofs.Common.{◌≡◌, ◌≢◌, ◌+◌, ◌<◌, ◌≤◌, ◌==◌, ℕ, None, All, List, [], ◌∷◌, ◌++◌, length, length-append, refl, ap, sym, ◌∙◌, subst, arith, append-nil}
+use Rattle.std.proofs.lemmas.Grind.{common_steps}
+use Rattle.std.proofs.lemmas.List.Concat.{flat_map-append}
+use Rattle.std.proofs.lemmas.List.Elements.{All-append}
+use Rattle.mc_signal.specs.declared.Medium.{Medium}
+use Rattle.mc_world.specs.Worlds.{ChannelState, places_among, places_within}
+use Rattle.mc_plan.specs.LaidOut.{AreInOrder, AreThere, IsLaidOut}
+use Rattle.mc_plan.specs.Plans.{PlanState, channel_between, joined, slots_of, tunnels_from}
+use Rattle.mc_plan.specs.Refusals.{join_fault}
+use Rattle.mc_plan.proofs.Orders.{channel_ordered, channel_there, ordered_append, there_append}
+use Rattle.mc_plan.proofs.Slots.{length_tunnels, part, slots_append, slots_one}
+
+-- what a channel that breaks no rule keeps
+record MayJoin (plan : PlanState) (from to : ℕ) (media : List Medium) : Type 0 where
+  near : from < length plan.boxes
+  far : to < length plan.boxes
+  apart : from ≢ to
+  tunnels : length media ≤ 8
+  channels : length plan.channels < 1024
+  near_slots : slots_of plan.channels from + length media ≤ 64
+  far_slots : slots_of plan.channels to + length media ≤ 64
+
+may_join : (plan : PlanState) (from to : ℕ) (media : List Medium) → join_fault plan from to media ≡ None → MayJoin plan from to media
+may_join plan from to media none = record {
+  near = grind (arith, common_steps);
+  far = grind (arith, common_steps);
+  apart = grind (arith, common_steps);
+  tunnels = grind (arith, common_steps);
+  channels = grind (arith, common_steps);
+  near_slots = grind (arith, common_steps);
+  far_slots = grind (arith, common_steps);
+}
+
+-- each box keeps to its slots
+fits_by : (from to who more : ℕ) (slots : ℕ → ℕ) → from ≢ to → slots from + more ≤ 64 → slots to + more ≤ 64 → slots who ≤ 64 → slots who + (part (from == who) more + part (to == who) more) ≤ 64
+fits_by from to who more slots apart one two three = grind (arith, common_steps)
+
+places_joined : (channels : List ChannelState) (ends : ChannelState) → places_among (channels ++ ends ∷ []) ≡ places_among channels ++ places_within ends
+places_joined channels ends = flat_map-append places_within channels (ends ∷ []) ∙ ap (λ (l : List (ℕ × ℕ)). places_among channels ++ l) (append-nil (places_within ends))
+
+joined_slots : (plan : PlanState) (from to : ℕ) (media : List Medium) (who : ℕ) → IsLaidOut plan → MayJoin plan from to media
+    → slots_of (plan.channels ++ channel_between plan.channels from to media ∷ []) who ≤ 64
+joined_slots plan from to media who laid may =
+    let ends : ChannelState = channel_between plan.channels from to media in
+    let near : ℕ = slots_of plan.channels from in
+    let far : ℕ = slots_of plan.channels to in
+    let one : slots_of (channel_between plan.channels from to media ∷ []) who ≡ part (from == who) (length media) + part (to == who) (length media) =
+    slots_one ends who ∙ ap (λ (n : ℕ). part (from == who) n + part (to == who) n) (length_tunnels near far media) in
+    omega (
+      arith,
+      slots_append plan.channels (ends ∷ []) who,
+      one,
+      fits_by from to who (length media) (slots_of plan.channels) may.apart may.near_slots may.far_slots (laid.slots who),
+    )
+
+one_all : (ends : ChannelState) → length ends.tunnels ≤ 8 → All (λ (e : ChannelState). length e.tunnels ≤ 8) (ends ∷ [])
+one_all ends few = grind (arith, common_steps)
+
+joined_by : (plan : PlanState) (from to : ℕ) (media : List Medium) → IsLaidOut plan → MayJoin plan from to media → IsLaidOut (joined plan from to media)
+joined_by plan from to media laid may =
+    let ends : ChannelState = channel_between plan.channels from to media in
+    let near : ℕ = slots_of plan.channels from in
+    let far : ℕ = slots_of plan.channels to in
+    let places : places_among (plan.channels ++ channel_between plan.channels from to media ∷ []) ≡ places_among plan.channels ++ places_within (channel_between plan.channels from to media) = places_joined plan.channels ends in
+    let few : length (tunnels_from (slots_of plan.channels from) (slots_of plan.channels to) media) ≤ 8 = omega (arith, length_tunnels near far media, may.tunnels) in
+    record {
+      boxes = laid.boxes;
+      channels = omega (arith, length-append plan.channels (ends ∷ []), may.channels);
+      tunnels = All-append (λ (e : ChannelState). length e.tunnels ≤ 8) plan.channels (ends ∷ []) laid.tunnels (one_all ends few);
+      slots = λ who. joined_slots plan from to media who laid may;
+      there = subst (AreThere (length plan.boxes)) (sym places) (there_append (length plan.boxes) (places_among plan.channels) (places_within ends) laid.there (channel_there ends media near far (length plan.boxes) may.near may.far));
+      ordered = subst AreInOrder (sym places) (ordered_append (places_among plan.channels) (places_within ends) laid.ordered (channel_ordered ends media near far (slots_of plan.channels) may.apart refl refl));
+    }
+
+-- where the channel breaks no rule
+pub joined_laid_out : (plan : PlanState) (from to : ℕ) (media : List Medium) → IsLaidOut plan → join_fault plan from to media ≡ None → IsLaidOut (joined plan from to media)
+joined_laid_out plan from to media laid none = joined_by plan from to media laid (may_join plan from to media none)

@@ -1,0 +1,25 @@
+-- What a plan keeps: that its channels join its boxes slot by slot, within the limits.
+use Rattle.std.specs.Prelude.{◌≡◌, ℕ, ◌<◌, ◌≤◌, List, All, count_by, length, slice_index_or, take}
+use Rattle.mc_world.specs.Worlds.{places_among}
+use Rattle.mc_plan.specs.Plans.{PlanState, is_of, slots_of}
+
+-- the box and local number of a slot, by its number among these
+abbrev pub place_at : List (ℕ × ℕ) → ℕ → ℕ × ℕ
+place_at places s = slice_index_or places s (0, 0)
+
+-- the box of each slot is one of so many
+abbrev pub AreThere : ℕ → List (ℕ × ℕ) → Type 0
+AreThere boxes places = (s : ℕ) → s < length places → (place_at places s).0 < boxes
+
+-- the local number of each slot is how many slots of its box stand before it
+abbrev pub AreInOrder : List (ℕ × ℕ) → Type 0
+AreInOrder places = (s : ℕ) → s < length places → (place_at places s).1 ≡ count_by (is_of (place_at places s).0) (take s places)
+
+-- at most 256 boxes of 64 slots, and 1,024 channels of 8 tunnels: each slot's box is there, and the slots of a box are numbered in the order of tunnels
+pub record IsLaidOut (plan : PlanState) : Type 0 where
+  pub boxes : length plan.boxes ≤ 256
+  pub channels : length plan.channels ≤ 1024
+  pub tunnels : All (λ ends. length ends.tunnels ≤ 8) plan.channels
+  pub slots : (who : ℕ) → slots_of plan.channels who ≤ 64
+  pub there : AreThere (length plan.boxes) (places_among plan.channels)
+  pub ordered : AreInOrder (places_among plan.channels)

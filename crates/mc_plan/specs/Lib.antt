@@ -1,0 +1,4 @@
+pub mod LaidOut
+pub mod PlanLaws
+pub mod Plans
+pub mod Refusals

@@ -1,0 +1,59 @@
+-- A plan as clauses see it, what boxes and channels add to it, and its first world.
+use Rattle.std.specs.Prelude.{ℕ, ◌+◌, ◌==◌, Bool, List, [], ◌∷◌, ◌++◌, count_by}
+use Rattle.mc_signal.specs.declared.Medium.{Medium}
+use Rattle.mc_box.specs.Boxes.{BoxState, first_box}
+use Rattle.mc_world.specs.Setups.{setups_of}
+use Rattle.mc_world.specs.Worlds.{ChannelState, WorldState, first_world, places_among}
+use Rattle.mc_world.specs.declared.network.Tunnel.{Tunnel}
+use Rattle.mc_plan.specs.declared.plan.BoxPlan.{BoxPlan}
+
+-- the boxes that are planned, in the order of their numbers, and the channels between them
+pub record PlanState : Type 0 where
+  pub boxes : List BoxPlan
+  pub channels : List ChannelState
+
+-- nothing is planned yet
+abbrev pub empty_plan : PlanState
+empty_plan = record { boxes = []; channels = [] }
+
+-- ---- boxes and channels more
+
+-- a box comes last
+abbrev pub with_box : PlanState → BoxPlan → PlanState
+with_box plan planned = record plan { boxes = plan.boxes ++ planned ∷ [] }
+
+-- whether a slot is of a box
+abbrev pub is_of : ℕ → ℕ × ℕ → Bool
+is_of who place = place.0 == who
+
+-- how many slots a box has at these channels
+abbrev pub slots_of : List ChannelState → ℕ → ℕ
+slots_of channels who = count_by (is_of who) (places_among channels)
+
+-- tunnels of these media, whose slots have local numbers from `near` and from `far` on
+abbrev pub tunnels_from : (near far : ℕ) → List Medium → List Tunnel
+tunnels_from near far [] = []
+tunnels_from near far (medium ∷ media) = record { medium = medium; from = near; to = far } ∷ tunnels_from (near + 1) (far + 1) media
+
+-- a channel between two boxes: each of its tunnels takes the next slot of both
+abbrev pub channel_between : List ChannelState → (from to : ℕ) → List Medium → ChannelState
+channel_between channels from to media = record { from = from; to = to; tunnels = tunnels_from (slots_of channels from) (slots_of channels to) media }
+
+-- that channel comes last
+abbrev pub joined : PlanState → (from to : ℕ) → List Medium → PlanState
+joined plan from to media = record plan { channels = plan.channels ++ channel_between plan.channels from to media ∷ [] }
+
+-- ---- the first world
+
+-- a planned box as new, with a slot for each tunnel that leads to it
+abbrev pub box_from : List ChannelState → (who : ℕ) → BoxPlan → BoxState
+box_from channels who planned = first_box planned.kind who planned.codecs planned.sends planned.first_version (setups_of channels who)
+
+-- these boxes, numbered from a number on
+abbrev pub boxes_from : List ChannelState → (who : ℕ) → List BoxPlan → List BoxState
+boxes_from channels who [] = []
+boxes_from channels who (planned ∷ plans) = box_from channels who planned ∷ boxes_from channels (who + 1) plans
+
+-- the planned boxes and channels, with nothing under way
+abbrev pub world_of : PlanState → WorldState
+world_of plan = first_world (boxes_from plan.channels 0 plan.boxes) plan.channels

@@ -1,0 +1,44 @@
+-- When a box or a channel isn't added to a plan.
+use Rattle.std.specs.Prelude.{◌≡◌, ℕ, ◌+◌, ◌==◌, ◌||◌, Bool, if◌then◌else◌, List, length, nat_le, nat_lt, Option, Some, None, Result, Ok, Err}
+use Rattle.mc_signal.specs.declared.Medium.{Medium}
+use Rattle.mc_plan.specs.Plans.{PlanState, slots_of}
+use Rattle.mc_plan.specs.declared.fault.PlanFault.{PlanFault}
+use Rattle.mc_plan.specs.declared.fault.PlanFault.TheVariants.{NoBox, SameBox, NoTunnels, TooManyTunnels, BoxesFull, ChannelsFull, SlotsFull, NoMemory}
+
+-- this fault where a rule is broken, and else the first of the others
+abbrev pub unless : Bool → PlanFault → Option PlanFault → Option PlanFault
+unless broken fault others = if broken then Some fault else others
+
+-- why a box isn't added
+abbrev pub add_fault : PlanState → Option PlanFault
+add_fault plan = unless (nat_le 256 (length plan.boxes)) BoxesFull None
+
+-- whether a box would have more than 64 slots
+abbrev pub overfills : PlanState → (who more : ℕ) → Bool
+overfills plan who more = nat_lt 64 (slots_of plan.channels who + more)
+
+-- why a channel isn't added: the first rule that it breaks
+abbrev pub join_fault : PlanState → (from to : ℕ) → List Medium → Option PlanFault
+join_fault plan from to media =
+    unless (nat_le (length plan.boxes) from || nat_le (length plan.boxes) to) NoBox
+    (unless (from == to) SameBox
+    (unless (length media == 0) NoTunnels
+    (unless (nat_lt 8 (length media)) TooManyTunnels
+    (unless (nat_le 1024 (length plan.channels)) ChannelsFull
+    (unless (overfills plan from (length media) || overfills plan to (length media)) SlotsFull None)))))
+
+-- a refusal is the fault that there is; memory is asked for only where there is none
+abbrev pub IsRefusal : PlanFault → Option PlanFault → Type 0
+IsRefusal (NoMemory e) fault = fault ≡ None
+IsRefusal NoBox fault = fault ≡ Some NoBox
+IsRefusal SameBox fault = fault ≡ Some SameBox
+IsRefusal NoTunnels fault = fault ≡ Some NoTunnels
+IsRefusal TooManyTunnels fault = fault ≡ Some TooManyTunnels
+IsRefusal BoxesFull fault = fault ≡ Some BoxesFull
+IsRefusal ChannelsFull fault = fault ≡ Some ChannelsFull
+IsRefusal SlotsFull fault = fault ≡ Some SlotsFull
+
+-- a call answers the fault if there is one, and else this number or that memory ran out
+abbrev pub Gives : Result ℕ PlanFault → Option PlanFault → ℕ → Type 0
+Gives (Ok x) fault number = (fault ≡ None) × (x ≡ number)
+Gives (Err refusal) fault number = IsRefusal refusal fault

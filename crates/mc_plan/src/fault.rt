@@ -1,0 +1,35 @@
+// Why a plan refuses a box or a channel.
+
+ghost use Rattle.std.specs.Prelude.{◌≡◌};
+ghost use Rattle.mc_plan.specs.declared.fault.PlanFault.TheVariants.{NoMemory};
+
+use std::alloc::AllocError;
+
+/// Why a box or a channel isn't added to a plan: the first of these rules that it breaks. The plan is as it was then.
+#[derive(Debug, Drop)]
+pub enum PlanFault {
+    /// One of the channel's two boxes isn't there.
+    NoBox,
+    /// The channel would join a box to itself.
+    SameBox,
+    /// The channel would have no tunnel.
+    NoTunnels,
+    /// The channel would have more than 8 tunnels.
+    TooManyTunnels,
+    /// The plan has 256 boxes.
+    BoxesFull,
+    /// The plan has 1,024 channels.
+    ChannelsFull,
+    /// One of the channel's two boxes would have more than 64 slots.
+    SlotsFull,
+    /// Memory ran out. It breaks no rule.
+    NoMemory(AllocError),
+}
+
+impl From<AllocError> for PlanFault {
+    ghost from_gives = { λ e fault. fault ≡ NoMemory e };
+
+    fn from(e: AllocError) -> Self {
+        PlanFault::NoMemory(e)
+    }
+}

@@ -1,0 +1,9 @@
+//! Networks that are laid out by hand: boxes and the channels between them, and their first world.
+#![tactic(auto)]
+
+mod fault;
+mod plan;
+mod tunnels;
+
+pub use fault::PlanFault;
+pub use plan::{BoxPlan, Plan};

@@ -1,0 +1,165 @@
+// The plan of a network.
+
+ghost use Rattle.std.specs.Prelude.{◌≡◌, ◌≤◌, length, OnOk, OnErr};
+ghost use Rattle.mc_plan.specs.LaidOut.{IsLaidOut};
+ghost use Rattle.mc_plan.specs.Plans.{empty_plan, joined, slots_of, with_box};
+ghost use Rattle.mc_plan.specs.Refusals.{add_fault, join_fault, overfills, Gives};
+
+use crate::fault::PlanFault;
+use crate::tunnels::{slots_of, tunnels_from};
+use mc_box::Kind;
+use mc_signal::{CodecList, Medium};
+use mc_world::Channel;
+use std::alloc::{AllocError, Global};
+use std::marker::Model;
+
+// How many boxes and channels a plan may have, tunnels a channel, and slots a box.
+const MOST_BOXES: usize = 256;
+
+const MOST_CHANNELS: usize = 1024;
+
+const MOST_TUNNELS: usize = 8;
+
+const MOST_SLOTS: usize = 64;
+
+/// A box that is planned: its kind, the codecs that it receives and those that it sends, and the version that its
+/// descriptors begin at.
+#[derive(Clone, Copy, PartialEq, Eq, Debug)]
+pub struct BoxPlan {
+    pub kind: Kind,
+    pub codecs: CodecList,
+    pub sends: CodecList,
+    pub first_version: u32,
+}
+
+/// The plan of a network: at most 256 boxes, numbered from 0 on in the order in which they were added, and at most
+/// 1,024 channels between them. A box has at most 64 slots. They are numbered from 0 on too, in the order of the
+/// channels that lead to it and of the tunnels of each.
+#[derive(Debug, Drop)]
+pub struct Plan {
+    boxes: Vec<BoxPlan>,
+    channels: Vec<Channel>,
+    alloc: Global,
+}
+
+impl Model for Plan {
+    ghost use Rattle.mc_plan.specs.Plans.{PlanState};
+
+    ghost Value = { PlanState };
+
+    ghost use Rattle.mc_plan.specs.LaidOut.{IsLaidOut};
+
+    ghost view = { λ plan. record { boxes = plan.boxes.items; channels = plan.channels.items } };
+
+    ghost invariant = { λ plan. IsLaidOut (record { boxes = plan.boxes.items; channels = plan.channels.items }) };
+}
+
+impl Plan {
+    /// A plan of nothing.
+    pub fn new(alloc: Global) -> Plan
+        ensures { result ≡ empty_plan }
+    {
+        Plan {
+            boxes: Vec::new(alloc),
+            channels: Vec::new(alloc),
+            alloc,
+        }
+    }
+
+    /// What every plan keeps, for a caller to rest on.
+    pub fn keeps(&self)
+        ensures { IsLaidOut self.now }
+    {
+        let _ = self.boxes.len();
+    }
+
+    /// The boxes, in the order of their numbers.
+    pub fn boxes(&self) -> &[BoxPlan]
+        ensures { result.now ≡ self.now.boxes }
+    {
+        &self.boxes
+    }
+
+    /// The channels, in the order of their numbers.
+    pub fn channels(&self) -> &[Channel]
+        ensures { result.now ≡ self.now.channels }
+    {
+        &self.channels
+    }
+
+    /// How many slots a box has so far, at most 64: 0 where there is no such box.
+    pub fn slots(&self, who: u32) -> usize
+        ensures slots { result ≡ slots_of self.now.channels who }
+        ensures few { result ≤ 64 }
+    {
+        slots_of(&self.channels, who)
+    }
+
+    /// Adds a box, and answers its number. It is refused where the plan has 256 boxes.
+    pub fn add(&mut self, planned: BoxPlan) -> Result<u32, PlanFault>
+        ensures answer { Gives result (add_fault self.old) (length self.old.boxes) }
+        ensures added { OnOk result (self.new ≡ with_box self.old planned) }
+        ensures unchanged { OnErr result (self.new ≡ self.old) }
+    {
+        let number = self.boxes.len();
+        if number >= MOST_BOXES {
+            return Err(PlanFault::BoxesFull);
+        }
+        self.boxes.push(planned).map_err(AllocError::from)?;
+        Ok(number as u32)
+    }
+
+    /// Joins two boxes by a channel with a tunnel for each of these media, and answers the channel's number. The box
+    /// `from` is the initiator. Each tunnel takes the next slot of both boxes. It is refused by the first rule that
+    /// the channel breaks, in the order of `PlanFault`.
+    pub fn join(&mut self, from: u32, to: u32, media: &[Medium]) -> Result<u32, PlanFault>
+        ensures answer { Gives result (join_fault self.old from to media.now) (length self.old.channels) }
+        ensures joined { OnOk result (self.new ≡ joined self.old from to media.now) }
+        ensures unchanged { OnErr result (self.new ≡ self.old) }
+    {
+        if let Some(fault) = self.join_fault(from, to, media) {
+            return Err(fault);
+        }
+        let near = slots_of(&self.channels, from) as u8;
+        let far = slots_of(&self.channels, to) as u8;
+        let number = self.channels.len() as u32;
+        let tunnels = tunnels_from(self.alloc, near, far, media)?;
+        let channel = Channel { from, to, tunnels };
+        self.channels.push(channel).map_err(AllocError::from)?;
+        Ok(number)
+    }
+
+    // The first rule that a channel would break.
+    fn join_fault(&self, from: u32, to: u32, media: &[Medium]) -> Option<PlanFault>
+        ensures { result ≡ join_fault self.now from to media.now }
+    {
+        let boxes = self.boxes.len();
+        if boxes <= from as usize || boxes <= to as usize {
+            return Some(PlanFault::NoBox);
+        }
+        if from == to {
+            return Some(PlanFault::SameBox);
+        }
+        if media.is_empty() {
+            return Some(PlanFault::NoTunnels);
+        }
+        if MOST_TUNNELS < media.len() {
+            return Some(PlanFault::TooManyTunnels);
+        }
+        if MOST_CHANNELS <= self.channels.len() {
+            return Some(PlanFault::ChannelsFull);
+        }
+        if self.overfills(from, media.len()) || self.overfills(to, media.len()) {
+            return Some(PlanFault::SlotsFull);
+        }
+        None
+    }
+
+    // Whether a box would have too many slots.
+    fn overfills(&self, who: u32, more: usize) -> bool
+        requires { more ≤ 8 }
+        ensures { result ≡ overfills self.now who more }
+    {
+        MOST_SLOTS < self.slots(who) + more
+    }
+}
