@@ -1,7 +1,9 @@
 //! Networks that are laid out by hand: boxes and the channels between them, and their first world.
 #![tactic(auto)]
 
+mod boxes;
 mod fault;
+pub mod laws;
 mod plan;
 mod tunnels;
 

@@ -1,15 +1,16 @@
 // The plan of a network.
 
-ghost use Rattle.std.specs.Prelude.{◌≡◌, ◌≤◌, length, OnOk, OnErr};
+ghost use Rattle.std.specs.Prelude.{◌≡◌, ◌≤◌, length, IfOk, OnOk, OnErr};
 ghost use Rattle.mc_plan.specs.LaidOut.{IsLaidOut};
-ghost use Rattle.mc_plan.specs.Plans.{empty_plan, joined, slots_of, with_box};
+ghost use Rattle.mc_plan.specs.Plans.{empty_plan, joined, slots_of, with_box, world_of};
 ghost use Rattle.mc_plan.specs.Refusals.{add_fault, join_fault, overfills, Gives};
 
+use crate::boxes::new_boxes;
 use crate::fault::PlanFault;
 use crate::tunnels::{slots_of, tunnels_from};
 use mc_box::Kind;
 use mc_signal::{CodecList, Medium};
-use mc_world::Channel;
+use mc_world::{Channel, World};
 use std::alloc::{AllocError, Global};
 use std::marker::Model;
 
@@ -127,6 +128,14 @@ impl Plan {
         let channel = Channel { from, to, tunnels };
         self.channels.push(channel).map_err(AllocError::from)?;
         Ok(number)
+    }
+
+    /// The first world of the plan: its boxes are new, and nothing is under way.
+    pub fn world(self) -> Result<World, AllocError>
+        ensures { IfOk result (λ world. world ≡ world_of self) }
+    {
+        let boxes = new_boxes(self.alloc, &self.boxes, &self.channels)?;
+        World::new(self.alloc, boxes, self.channels)
     }
 
     // The first rule that a channel would break.

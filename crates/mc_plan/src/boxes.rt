@@ -1,0 +1,107 @@
+// The new boxes that a plan gives: a slot for each tunnel that leads to a box.
+
+ghost use Rattle.std.specs.Prelude.{◌≡◌, ◌+◌, ◌<◌, ◌≤◌, ◌++◌, ◌^◌, All, IfOk, OnOk, length};
+ghost use Rattle.mc_world.specs.Setups.{setup_if, setups_of, setups_within};
+ghost use Rattle.mc_plan.specs.LaidOut.{IsLaidOut};
+ghost use Rattle.mc_plan.specs.Plans.{box_from, boxes_from, slots_of};
+
+use crate::plan::BoxPlan;
+use mc_box::{MediaBox, Setup, SlotSetup};
+use mc_world::Channel;
+use std::alloc::{AllocError, Global};
+
+// The boxes of these plans, in the order of their numbers.
+pub fn new_boxes(
+    alloc: Global,
+    plans: &[BoxPlan],
+    channels: &[Channel],
+) -> Result<Vec<MediaBox>, AllocError>
+    requires { IsLaidOut (record { boxes = plans.now; channels = channels.now }) }
+    ensures { IfOk result (λ boxes. boxes.items ≡ boxes_from channels.now 0 plans.now) }
+{
+    let mut boxes = Vec::new(alloc);
+    for who in 0..plans.len() {
+        let made = new_box(alloc, channels, who as u32, plans[who])?;
+        boxes.push(made)?;
+    }
+    Ok(boxes)
+}
+
+// A planned box as new.
+fn new_box(
+    alloc: Global,
+    channels: &[Channel],
+    who: u32,
+    planned: BoxPlan,
+) -> Result<MediaBox, AllocError>
+    requires channels { length channels.now ≤ 1024 }
+    requires tunnels { All (λ ends. length ends.tunnels ≤ 8) channels.now }
+    requires slots { slots_of channels.now who ≤ 64 }
+    requires number { who < 256 }
+    ensures { IfOk result (λ made. made ≡ box_from channels.now who planned) }
+{
+    let slots = setups_of(alloc, channels, who)?;
+    let setup = Setup {
+        kind: planned.kind,
+        number: who,
+        codecs: planned.codecs,
+        sends: planned.sends,
+        first_version: planned.first_version,
+        slots,
+    };
+    MediaBox::new(alloc, setup)
+}
+
+// The slots of a box, in the order of their local numbers.
+fn setups_of(alloc: Global, channels: &[Channel], who: u32) -> Result<Vec<SlotSetup>, AllocError>
+    requires channels { length channels.now ≤ 1024 }
+    requires tunnels { All (λ ends. length ends.tunnels ≤ 8) channels.now }
+    ensures { IfOk result (λ setups. setups.items ≡ setups_of channels.now who) }
+{
+    let mut setups = Vec::new(alloc);
+    let mut count = 0;
+    for channel in channels {
+        add_setups(channel, who, count, &mut setups)?;
+        count += channel.tunnels.len() as u32;
+    }
+    Ok(setups)
+}
+
+// Adds the slots of a box at a channel, whose tunnels are counted from `count` on.
+fn add_setups(
+    channel: &Channel,
+    who: u32,
+    count: u32,
+    setups: &mut Vec<SlotSetup>,
+) -> Result<(), AllocError>
+    requires { count + length channel.now.tunnels ≤ 2 ^ 16 }
+    ensures { OnOk result (setups.new.items ≡ setups.old.items ++ setups_within who count channel.now channel.now.tunnels) }
+{
+    for i in 0..channel.tunnels.len() {
+        let medium = channel.tunnels[i].medium;
+        let origin = 2 * (count + i as u32);
+        let near = SlotSetup {
+            origin,
+            medium,
+            initiator: true,
+        };
+        let far = SlotSetup {
+            origin: origin + 1,
+            medium,
+            initiator: false,
+        };
+        add_if(channel.from == who, near, setups)?;
+        add_if(channel.to == who, far, setups)?;
+    }
+    Ok(())
+}
+
+// Adds a slot, if it is of the box.
+fn add_if(here: bool, setup: SlotSetup, setups: &mut Vec<SlotSetup>) -> Result<(), AllocError>
+    ensures { OnOk result (setups.new.items ≡ setups.old.items ++ setup_if here setup.origin setup.medium setup.initiator) }
+{
+    if here {
+        setups.push(setup)?;
+    }
+    Ok(())
+}

@@ -1,0 +1,9 @@
+//! Laws of plans, over their definitions alone: each function's contract is the law's sentence.
+
+ghost use Rattle.mc_plan.specs.PlanLaws.{PlansAreNumbered};
+
+/// Whatever network is laid out, its boxes are new, and the tunnels of its channels join each of their slots once,
+/// with the numbers of the rules: so its first world is sound.
+pub fn plans_are_numbered()
+    ensures { PlansAreNumbered }
+{}
