@@ -14,11 +14,7 @@ use Rattle.mc_plan.proofs.Counts.{count_append, count_cons}
 abbrev pub AreFrom : (ℕ → ℕ) → List (ℕ × ℕ) → Type 0
 AreFrom start places = (s : ℕ) → s < length places → (place_at places s).1 ≡ start (place_at places s).0 + count_by (is_of (place_at places s).0) (take s places)
 
--- a place, and those that stand before it
-Follows : ℕ × ℕ → List (ℕ × ℕ) → Type 0
-Follows place before = place.1 ≡ count_by (is_of place.0) before
-
--- what fails to be before a place is behind it
+-- how far a number is from an earlier one
 record Behind (n s : ℕ) : Type 0 where
   more : ℕ
   is : n + more ≡ s
@@ -68,7 +64,6 @@ from_none start s inside = absurd (omega arith)
 from_cons : (start next : ℕ → ℕ) (place : ℕ × ℕ) (places : List (ℕ × ℕ)) → place.1 ≡ start place.0 → ((who : ℕ) → next who ≡ start who + cond (place.0 == who) 1 0) → AreFrom next places → AreFrom start (place ∷ places)
 from_cons start next place places here steps later zero inside = omega (arith, here)
 from_cons start next place places here steps later (suc s) inside =
-    let who : ℕ = (place_at places s).0 in
     omega (arith, later s (omega arith), steps (place_at places s).0, count_cons (is_of (place_at places s).0) place (take s places))
 
 there_cons : (boxes : ℕ) (place : ℕ × ℕ) (places : List (ℕ × ℕ)) → place.0 < boxes → AreThere boxes places → AreThere boxes (place ∷ places)

@@ -5,6 +5,8 @@ mod boxes;
 mod fault;
 pub mod laws;
 mod plan;
+#[cfg(test)]
+mod tests;
 mod tunnels;
 
 pub use fault::PlanFault;

@@ -67,7 +67,8 @@ impl Plan {
         }
     }
 
-    /// What every plan keeps, for a caller to rest on.
+    /// What every plan keeps, for a caller to rest on: it is within the limits, and the slots of each box are numbered
+    /// in the order of tunnels.
     pub fn keeps(&self)
         ensures { IsLaidOut self.now }
     {
