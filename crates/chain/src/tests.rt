@@ -1,0 +1,166 @@
+// Networks stepped by lists of turns, and what their paths are then.
+
+use crate::call::take_at;
+use crate::fault::ChainFault;
+use crate::network::{CALLEE, CALLER, chain, device, feature, link_through};
+use mc_box::{Change, Event, Turn};
+use mc_path::paths;
+use mc_plan::Plan;
+use mc_signal::Medium;
+use mc_slot::{Goal, SlotGoal, State};
+use mc_view::{EndView, PathView};
+use mc_world::{StepFault, World};
+use std::alloc::{AllocError, Global};
+use std::process::Abort;
+
+const ALICE: u32 = 0;
+
+const FEATURE: u32 = 1;
+
+const BOB: u32 = 2;
+
+// The turns of a call through a feature: alice opens and bob holds, then bob closes, alice tries again, and is refused.
+const TURNS: [(u32, Event); 23] = [
+    (FEATURE, Event::Set(Change::Link(0, 1))),
+    (ALICE, Event::Set(Change::End(0, Goal::Open))),
+    (BOB, Event::Set(Change::End(0, Goal::Hold))),
+    (FEATURE, Event::Take(0)),
+    (BOB, Event::Take(0)),
+    (FEATURE, Event::Take(1)),
+    (ALICE, Event::Take(0)),
+    (FEATURE, Event::Take(1)),
+    (FEATURE, Event::Take(0)),
+    (ALICE, Event::Take(0)),
+    (BOB, Event::Take(0)),
+    // it flows
+    (BOB, Event::Set(Change::End(0, Goal::Close))),
+    (FEATURE, Event::Take(1)),
+    (BOB, Event::Take(0)),
+    (ALICE, Event::Take(0)),
+    (FEATURE, Event::Take(0)),
+    // it is closed, and alice owes a retry
+    (ALICE, Event::Retry(0)),
+    (FEATURE, Event::Take(0)),
+    (BOB, Event::Take(0)),
+    (FEATURE, Event::Take(1)),
+    (BOB, Event::Take(0)),
+    (ALICE, Event::Take(0)),
+    (FEATURE, Event::Take(0)),
+];
+
+// Alice, a feature and bob, with an audio channel from alice to the feature and one from there to bob.
+fn feature_between(alloc: Global) -> Result<World, ChainFault> {
+    let mut plan = Plan::new(alloc);
+    plan.add(device())?;
+    plan.add(feature())?;
+    plan.add(device())?;
+    plan.join(ALICE, FEATURE, &[Medium::Audio])?;
+    plan.join(FEATURE, BOB, &[Medium::Audio])?;
+    Ok(plan.world()?)
+}
+
+// Two features that are joined by two channels.
+fn two_features(alloc: Global) -> Result<World, ChainFault> {
+    let mut plan = Plan::new(alloc);
+    plan.add(feature())?;
+    plan.add(feature())?;
+    plan.join(0, 1, &[Medium::Audio])?;
+    plan.join(0, 1, &[Medium::Audio])?;
+    Ok(plan.world()?)
+}
+
+fn step_by(world: &mut World, turns: &[(u32, Event)]) -> Result<(), ChainFault> {
+    for turn in turns {
+        world.step(turn.0, turn.1)?;
+    }
+    Ok(())
+}
+
+// The one path of a world where nothing is under way.
+fn only_path<R: Abort + AllocGlobal>(rt: &R, world: &World) -> Result<PathView, ChainFault> {
+    assert!(rt; world.quiet());
+    let views = paths(rt.alloc(), world)?;
+    assert_eq!(rt; views.len(), 1);
+    Ok(views[0])
+}
+
+// The box and local number of an end, its goal, and the codec that it hears.
+fn end_of(view: EndView) -> (u32, u8, Goal, Option<u8>) {
+    (view.who, view.local, view.goal, view.hears)
+}
+
+#[test]
+fn a_feature_passes_a_call_on(rt: HostRuntime) -> Result<(), ChainFault> {
+    let mut world = feature_between(rt.alloc())?;
+    step_by(&mut world, &TURNS[..11])?;
+    let path = only_path(&rt, &world)?;
+    assert_eq!(rt; end_of(path.low), (ALICE, 0, Goal::Open, Some(0)));
+    assert_eq!(rt; end_of(path.high), (BOB, 0, Goal::Hold, Some(0)));
+    assert!(rt; path.flowing);
+    assert_eq!(rt; path.tunnels, 2);
+    Ok(())
+}
+
+#[test]
+fn a_refused_caller_owes_a_retry(rt: HostRuntime) -> Result<(), ChainFault> {
+    let mut world = feature_between(rt.alloc())?;
+    step_by(&mut world, &TURNS[..16])?;
+    let path = only_path(&rt, &world)?;
+    assert!(rt; !path.flowing);
+    assert_eq!(rt; end_of(path.low), (ALICE, 0, Goal::Open, None));
+    assert_eq!(rt; end_of(path.high), (BOB, 0, Goal::Close, None));
+    let alice = world.boxes().get(ALICE as usize);
+    assert!(rt; alice.is_some_and(|alice| alice.enabled(&Event::Retry(0))));
+    step_by(&mut world, &TURNS[16..])?;
+    assert!(rt; !only_path(&rt, &world)?.flowing);
+    Ok(())
+}
+
+#[test]
+fn links_both_ways_make_a_ring(rt: HostRuntime) -> Result<(), ChainFault> {
+    let mut world = two_features(rt.alloc())?;
+    world.step(0, Event::Set(Change::Link(0, 1)))?;
+    assert_eq!(rt; world.ring(), None);
+    world.step(1, Event::Set(Change::Link(0, 1)))?;
+    assert_eq!(rt; world.ring(), Some(0));
+
+    let mut world = feature_between(rt.alloc())?;
+    step_by(&mut world, &TURNS[..1])?;
+    assert_eq!(rt; world.ring(), None);
+    Ok(())
+}
+
+// The lowest slot for which something waits at the front of its lane.
+fn lowest_waiting(world: &World) -> Option<u32> {
+    world.keeps();
+    for slot in 0..world.slot_count() {
+        if world.front(slot as u32).is_some() {
+            return Some(slot as u32);
+        }
+    }
+    None
+}
+
+#[test]
+fn calls_go_over_chains_of_any_length(rt: HostRuntime) -> Result<(), ChainFault> {
+    for tunnels in [1, 2, 8, 64] {
+        let mut world = chain(rt.alloc(), tunnels)?;
+        link_through(&mut world)?;
+        world.step(CALLER, Event::Set(Change::End(0, Goal::Open)))?;
+        world.step(CALLEE, Event::Set(Change::End(0, Goal::Hold)))?;
+        for _turn in 0..10_000 {
+            match lowest_waiting(&world) {
+                Some(slot) => {
+                    take_at(&mut world, slot)?;
+                }
+                None => break,
+            }
+        }
+        let path = only_path(&rt, &world)?;
+        assert_eq!(rt; end_of(path.low), (CALLER, 0, Goal::Open, Some(0)));
+        assert_eq!(rt; end_of(path.high), (CALLEE, 0, Goal::Hold, Some(0)));
+        assert!(rt; path.flowing);
+        assert_eq!(rt; path.tunnels, tunnels);
+    }
+    Ok(())
+}
