@@ -12,6 +12,7 @@ use Rattle.mc_world.specs.Worlds.{WorldState, goal_of, joints, places, slot_coun
 use Rattle.mc_world.proofs.RingWalks.{end_is_met, met_is_other}
 use Rattle.mc_path.specs.PathLaws.{EachEndOnce, is_end_of}
 use Rattle.mc_path.proofs.Returns.{end_back, walk_back}
+use Rattle.mc_world.proofs.Numbers.{some_same}
 
 -- ---- counting
 
@@ -102,9 +103,6 @@ record OtherPath (s t i : ℕ) (path : PathEnds) : Type 0 where
   below : i < path.high
   from : i ≡ s → path.high ≡ t
   to : path.high ≡ s → i ≡ t
-
-pub some_same : (s t : ℕ) → Some s ≡ Some t → s ≡ t
-some_same s t same = cc
 
 other_path : (world : WorldState) (s t i : ℕ) (path : PathEnds) → IsSound world → i < slot_count world → other_end world s ≡ Some t → path_from world i ≡ Some path → OtherPath s t i path
 other_path world s t i path sound inside walk is =

@@ -17,7 +17,7 @@ use Rattle.mc_slot.specs.declared.State.{State}
 use Rattle.mc_link.specs.LinkTurn.{IsLinkAtRest, link_due}
 use Rattle.mc_link.specs.declared.Side.{Side}
 use Rattle.mc_link.proofs.Mirror.{link_mirror}
-use Rattle.mc_box.specs.BoxSound.{IsLinked, RestsAt}
+use Rattle.mc_box.specs.BoxSound.{RestsAt}
 use Rattle.mc_box.specs.Boxes.{BoxState, slot_at}
 use Rattle.mc_box.proofs.Options.{then_some}
 use Rattle.mc_world.specs.Paths.{end_goal, end_goal_of, is_end_goal, walk_by, walked}
@@ -25,6 +25,7 @@ use Rattle.mc_world.specs.Settles.{is_empty, is_quiet}
 use Rattle.mc_world.specs.Sound.{IsSound}
 use Rattle.mc_world.specs.Worlds.{WorldState, box_at, far, for_tunnel, goal_of, joint_of, lane_of, list_to, number, own_descriptor, own_sender, place, slot_count, slot_of}
 use Rattle.mc_world.proofs.ActedWorlds.{far_inside}
+use Rattle.mc_world.proofs.Partners.{is_partner}
 use Rattle.mc_path.specs.PathLaws.{passed, passed_by}
 use Rattle.mc_path.proofs.Chains.{AllAre, Joined, last_slot}
 
@@ -92,27 +93,18 @@ record Linked (world : WorldState) (s next : ℕ) : Type 0 where
   inside : next < slot_count world
   rests : IsLinkAtRest (slot_of world s) (slot_of world next)
 
--- the slot of this box and local number
-numbered_as : (world : WorldState) (who local s next : ℕ) → number world (place world s).0 (place world s).1 ≡ Some s → place world s ≡ (who, local) → number world who local ≡ Some next → s ≡ next
-numbered_as world who local s next once at is =
-    let here : number world who local ≡ Some s = subst (λ (p : ℕ × ℕ). number world p.0 p.1 ≡ Some s) at once in
-    let same : Some s ≡ Some next = sym here ∙ is in
-    cc
-
 -- where a walk goes on, it does at the partner
 linked : (world : WorldState) (s partner next : ℕ) → IsSound world → s < slot_count world → goal_of world s ≡ Link partner → number world (place world s).0 partner ≡ Some next → Linked world s next
 linked world s partner next sound inside aims is =
-    let placed = sound.numbered.placed s inside in
-    let link : IsLinked (box_at world (place world s).0) (place world s).1 partner =
-    (sound.boxes (place world s).0 placed).wired.links (place world s).1 partner aims in
-    let there = sound.numbered.all (place world s).0 partner placed link.inside in
-    let same : there.0 ≡ next = numbered_as world (place world s).0 partner there.0 next (sound.numbered.once there.0 there.1) there.2 is in
+    let there = is_partner world s partner next sound inside aims is in
     let rests : IsLinkAtRest (slot_of world s) (slot_at (box_at world (place world s).0) partner) =
     link_rests (box_at world (place world s).0) (place world s).1 partner
     (subst (λ (g : SlotGoal). RestsAt g (box_at world (place world s).0) (place world s).1) aims (goal_rests world s sound inside)) in
-    let rests_there : IsLinkAtRest (slot_of world s) (slot_of world there.0) =
-    subst (λ (p : ℕ × ℕ). IsLinkAtRest (slot_of world s) (slot_at (box_at world p.0) p.1)) (sym there.2) rests in
-    record { inside = subst (λ (n : ℕ). n < slot_count world) same there.1; rests = subst (λ (n : ℕ). IsLinkAtRest (slot_of world s) (slot_of world n)) same rests_there }
+    record {
+      inside = there.inside;
+      rests = subst (λ (who : ℕ). IsLinkAtRest (slot_of world s) (slot_at (box_at world who) (place world next).1)) (sym there.who)
+          (subst (λ (local : ℕ). IsLinkAtRest (slot_of world s) (slot_at (box_at world (place world s).0) local)) (sym there.local) rests);
+    }
 
 -- ---- a walk
 
@@ -166,7 +158,7 @@ goes_on world most partner s next t link is tunnel more = record {
 }
 
 -- a walk ends at once
-at_end : (further : ℕ → Option ℕ) (world : WorldState) (goal : Goal) (s t : ℕ) → walk_by further world (End goal) s ≡ Some t → s ≡ t
+pub at_end : (further : ℕ → Option ℕ) (world : WorldState) (goal : Goal) (s t : ℕ) → walk_by further world (End goal) s ≡ Some t → s ≡ t
 at_end further world goal s t walk = cc
 
 -- what is beyond a slot to which a walk has come, by the tunnels that it may still go over

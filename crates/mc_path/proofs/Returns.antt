@@ -5,39 +5,16 @@ use Rattle.std.proofs.lemmas.List.{append-nil, reverse-append}
 use Rattle.mc_slot.specs.declared.Goal.{Goal}
 use Rattle.mc_slot.specs.declared.SlotGoal.{SlotGoal}
 use Rattle.mc_slot.specs.declared.SlotGoal.TheVariants.{End, Link}
-use Rattle.mc_box.specs.BoxSound.{IsLinked}
-use Rattle.mc_box.specs.Boxes.{goal_at}
 use Rattle.mc_box.proofs.Options.{then_some}
 use Rattle.mc_world.specs.Paths.{is_end_goal, other_end, walk_by, walked}
 use Rattle.mc_world.specs.Sound.{IsSound}
-use Rattle.mc_world.specs.Worlds.{WorldState, box_at, far, goal_of, joints, number, place, slot_count}
+use Rattle.mc_world.specs.Worlds.{WorldState, far, goal_of, joints, number, place, slot_count}
 use Rattle.mc_world.proofs.ActedWorlds.{far_inside}
-use Rattle.mc_world.proofs.Numbers.{far_back, number_is}
+use Rattle.mc_world.proofs.Numbers.{far_back}
+use Rattle.mc_world.proofs.Partners.{IsPartner, is_partner}
 use Rattle.mc_path.specs.PathLaws.{passed, passed_by, slots_on}
+use Rattle.mc_path.proofs.QuietWalks.{at_end}
 use Rattle.mc_path.proofs.Walking.{walked_by}
-
--- ---- a link from both sides
-
--- the slot at which a walk goes on from a linked slot is linked back with it
-pub record LinkedBack (world : WorldState) (s next : ℕ) : Type 0 where
-  pub inside : next < slot_count world
-  pub goal_is : goal_of world next ≡ Link (place world s).1
-  pub number_is : number world (place world next).0 (place world s).1 ≡ Some s
-
--- links are mutual, by the numbers of slots
-pub linked_back : (world : WorldState) (s partner next : ℕ) → IsSound world → s < slot_count world → goal_of world s ≡ Link partner → number world (place world s).0 partner ≡ Some next
-    → LinkedBack world s next
-linked_back world s partner next sound inside aims is =
-    let placed = sound.numbered.placed s inside in
-    let link : IsLinked (box_at world (place world s).0) (place world s).1 partner =
-    (sound.boxes (place world s).0 placed).wired.links (place world s).1 partner aims in
-    let there = number_is world (place world s).0 partner next is in
-    record {
-      inside = there.0;
-      goal_is = ap (λ (who : ℕ). goal_at (box_at world who) (place world next).1) there.1
-          ∙ (ap (λ (local : ℕ). goal_at (box_at world (place world s).0) local) there.2 ∙ link.back);
-      number_is = ap (λ (who : ℕ). number world who (place world s).1) there.1 ∙ sound.numbered.once s inside;
-    }
 
 -- ---- slots passed
 
@@ -80,22 +57,22 @@ back_once world most s = record {
 }
 
 -- from a linked slot the walk back goes over the partner's tunnel
-over_link : (world : WorldState) (s next left : ℕ) → LinkedBack world (far s) next
+over_link : (world : WorldState) (s partner next left : ℕ) → IsPartner world (far s) partner next
     → walk_by (walked world (suc left)) world (goal_of world next) next ≡ walk_by (walked world left) world (goal_of world s) s
-over_link world s next left link =
-    ap (λ (goal : SlotGoal). walk_by (walked world (suc left)) world goal next) link.goal_is
-    ∙ (ap (option_and_then (walked world (suc left))) link.number_is
+over_link world s partner next left link =
+    ap (λ (goal : SlotGoal). walk_by (walked world (suc left)) world goal next) link.goal
+    ∙ (ap (option_and_then (walked world (suc left))) link.number
     ∙ walked_by world left (far s) s (goal_of world s) (sym (far_back s)) refl)
 
 one_more : (steps left total : ℕ) → steps + 1 + left ≡ total → steps + suc left ≡ total
 one_more steps left total sum = omega arith
 
 -- and over one more
-pub back_on : (world : WorldState) (most s next t : ℕ) → LinkedBack world (far s) next → Returns world most next t → Returns world (suc most) s t
-back_on world most s next t link more = record {
+pub back_on : (world : WorldState) (most s partner next t : ℕ) → IsPartner world (far s) partner next → Returns world most next t → Returns world (suc most) s t
+back_on world most s partner next t link more = record {
   steps = more.steps + 1;
   few = omega (arith, more.few);
-  back = λ left total sum. more.back (suc left) total (one_more more.steps left total sum) ∙ over_link world s next left link;
+  back = λ left total sum. more.back (suc left) total (one_more more.steps left total sum) ∙ over_link world s partner next left link;
 }
 
 -- what a walk from s within so many tunnels comes to: an end from which the walk passes the same slots the other way round
@@ -120,31 +97,27 @@ ends_over world most s t goal inside aims same = subst (λ (n : ℕ). WalkBack w
 })
 
 -- the slots that the walk back passes from a linked slot on
-slots_over : (world : WorldState) (s next left : ℕ) → LinkedBack world (far s) next
+slots_over : (world : WorldState) (s partner next left : ℕ) → IsPartner world (far s) partner next
     → passed_by (passed world (suc left)) world (goal_of world next) next ≡ far s ∷ s ∷ passed_by (passed world left) world (goal_of world s) s
-slots_over world s next left link =
-    ap (λ (goal : SlotGoal). passed_by (passed world (suc left)) world goal next) link.goal_is
-    ∙ (ap (λ (o : Option ℕ). unwrap_or (option_map (passed world (suc left)) o) []) link.number_is
+slots_over world s partner next left link =
+    ap (λ (goal : SlotGoal). passed_by (passed world (suc left)) world goal next) link.goal
+    ∙ (ap (λ (o : Option ℕ). unwrap_or (option_map (passed world (suc left)) o) []) link.number
     ∙ passed_one world left (far s) s (sym (far_back s)))
 
 -- a tunnel to a linked slot, and the walk from its partner
-ends_beyond : (world : WorldState) (most s next t : ℕ) → LinkedBack world (far s) next → passed world (suc most) s ≡ s ∷ far s ∷ passed world most next → WalkBack world most next t
+ends_beyond : (world : WorldState) (most s partner next t : ℕ) → IsPartner world (far s) partner next → passed world (suc most) s ≡ s ∷ far s ∷ passed world most next → WalkBack world most next t
     → WalkBack world (suc most) s t
 unfolding back_on
-ends_beyond world most s next t link forth more = record {
+ends_beyond world most s partner next t link forth more = record {
   inside = more.inside;
   aims = more.aims;
-  returns = back_on world most s next t link more.returns;
+  returns = back_on world most s partner next t link more.returns;
   slots = λ left total sum.
       more.slots (suc left) total (one_more more.returns.steps left total sum)
-      ∙ (ap (λ (l : List ℕ). reverse (passed world most next) ++ l) (slots_over world s next left link)
+      ∙ (ap (λ (l : List ℕ). reverse (passed world most next) ++ l) (slots_over world s partner next left link)
       ∙ (turned (passed world most next) (passed_by (passed world left) world (goal_of world s) s) s (far s)
       ∙ ap (λ (l : List ℕ). reverse l ++ passed_by (passed world left) world (goal_of world s) s) (sym forth)));
 }
-
--- a walk ends at once
-at_end : (further : ℕ → Option ℕ) (world : WorldState) (goal : Goal) (s t : ℕ) → walk_by further world (End goal) s ≡ Some t → s ≡ t
-at_end further world goal s t walk = cc
 
 -- over a tunnel to a slot with this goal
 back_over : (most : ℕ) (goal : SlotGoal) (world : WorldState) (s t : ℕ) → IsSound world → s < slot_count world → goal_of world (far s) ≡ goal
@@ -155,8 +128,8 @@ back_over zero (Link partner) world s t sound inside aims walk =
     absurd (cc)
 back_over (suc most) (Link partner) world s t sound inside aims walk =
     let on = then_some (walked world (suc most)) (number world (place world (far s)).0 partner) t walk in
-    let link = linked_back world (far s) partner on.0 sound (far_inside world s inside) aims on.1 in
-    ends_beyond world (suc most) s on.0 t link (passed_on world (suc most) s partner on.0 aims on.1)
+    let link = is_partner world (far s) partner on.0 sound (far_inside world s inside) aims on.1 in
+    ends_beyond world (suc most) s partner on.0 t link (passed_on world (suc most) s partner on.0 aims on.1)
     (back_over most (goal_of world (far on.0)) world on.0 t sound link.inside refl on.2)
 
 -- from whichever slot

@@ -15,10 +15,12 @@ use Rattle.mc_world.specs.Sound.{IsSound}
 use Rattle.mc_world.specs.Worlds.{WorldState, far, goal_of, joints, number, place, places, slot_count}
 use Rattle.mc_world.proofs.ActedWorlds.{far_inside}
 use Rattle.mc_world.specs.Rings.{IsOnRing}
+use Rattle.mc_world.proofs.Partners.{is_partner}
 use Rattle.mc_world.proofs.RingWalks.{rings_meet_no_end}
 use Rattle.mc_path.specs.PathLaws.{EachEndOnce, EachSlotOnce, is_end_of, is_on, passed, passed_by}
-use Rattle.mc_path.proofs.Ends.{each_end_once, count_none, high_ends, listed, low_ends, parts_of, some_same}
-use Rattle.mc_path.proofs.Returns.{Returns, back_on, back_once, comes_back, linked_back, slots_back, slots_beyond, walk_back}
+use Rattle.mc_path.proofs.Ends.{each_end_once, count_none, high_ends, listed, low_ends, parts_of}
+use Rattle.mc_path.proofs.Returns.{Returns, back_on, back_once, comes_back, slots_back, slots_beyond, walk_back}
+use Rattle.mc_world.proofs.Numbers.{some_same}
 
 -- ---- slots of a list
 
@@ -79,11 +81,11 @@ on_beyond : (most : ℕ) (goal : SlotGoal) (world : WorldState) (s t u : ℕ) �
 on_beyond most (End goal) world s t u sound inside aims later walk is = absurd (cc)
 on_beyond most (Link partner) world s t u sound inside aims later walk is =
     let on = then_some (walked world most) (number world (place world (far s)).0 partner) u walk in
-    let link = linked_back world (far s) partner on.0 sound (far_inside world s inside) aims on.1 in
+    let link = is_partner world (far s) partner on.0 sound (far_inside world s inside) aims on.1 in
     let here : has t (passed world most on.0) ≡ true = sym (ap (λ (o : Option ℕ). has t (unwrap_or (option_map (passed world most) o) [])) on.1) ∙ is in
     elim (later on.0 link.inside on.2 here) [
       | inl goes ↦ inl (further most world t u goes)
-      | inr returns ↦ inr (back_on world most s on.0 t link returns)
+      | inr returns ↦ inr (back_on world most s partner on.0 t link returns)
     ]
 
 -- from whichever slot that it passes

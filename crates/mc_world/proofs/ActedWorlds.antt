@@ -1,5 +1,5 @@
 -- One slot of a world acts: what is then of each slot, and under way to it.
-use Rattle.std.proofs.Common.{◌≡◌, ◌≢◌, ◌<◌, ◌++◌, inl, inr, ℕ, Some, List, [], map, ap, sym, ◌∙◌, subst}
+use Rattle.std.proofs.Common.{◌≡◌, ◌≢◌, ◌<◌, ◌++◌, inl, inr, ℕ, List, [], map, ap, sym, ◌∙◌, subst}
 use Rattle.std.proofs.Math.ListN.{get_or, set}
 use Rattle.std.proofs.lemmas.Bool.{cases_eq}
 use Rattle.mc_signal.specs.declared.Signal.{Signal}
@@ -12,7 +12,7 @@ use Rattle.mc_world.specs.Worlds.{WorldState, box_at, far, for_tunnel, joint_of,
 use Rattle.mc_world.proofs.ActedBoxes.{SameSlot, NewSlot, put_at, slot_here, slot_else}
 use Rattle.mc_world.proofs.Joints.{two_each}
 use Rattle.mc_world.proofs.LanesKept.{tagged_for, changed_first, changed_second, changed_other, far_lane, lane_apart, lane_in, sent_another, sent_own}
-use Rattle.mc_world.proofs.Numbers.{far_in}
+use Rattle.mc_world.proofs.Numbers.{some_same, far_in}
 
 -- the world after slot s, which is a box's slot by its local number, has become another slot with a goal, its lane has become another, and signals have gone to the end of its far slot's lane
 abbrev pub acted_at : WorldState → ℕ → ℕ → ℕ → Slot → SlotGoal → List Tagged → List Signal → WorldState
@@ -31,9 +31,6 @@ acted_world world s last goal left signals = acted_at world (place world s).0 (p
 pub far_inside : (world : WorldState) (s : ℕ) → s < slot_count world → far s < slot_count world
 far_inside world s inside =
     subst (λ (n : ℕ). far s < n) (sym (two_each world.channels 0)) (far_in s _ (subst (λ (n : ℕ). s < n) (two_each world.channels 0) inside))
-
-some_same : (s t : ℕ) → Some s ≡ Some t → s ≡ t
-some_same s t same = cc
 
 -- slots of one place are the same
 pub place_apart : (world : WorldState) (s t : ℕ) → IsNumbered world → s < slot_count world → t < slot_count world

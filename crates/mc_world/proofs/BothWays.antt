@@ -10,7 +10,7 @@ use Rattle.mc_world.specs.Worlds.{WorldState, far, joints, places, slot_count}
 use Rattle.mc_world.proofs.ActedWorlds.{far_inside}
 use Rattle.mc_world.proofs.Joints.{two_each}
 use Rattle.mc_world.proofs.Numbers.{far_back}
-use Rattle.mc_world.proofs.Partners.{next_is, partners}
+use Rattle.mc_world.proofs.Partners.{are_linked, next_is}
 use Rattle.mc_world.proofs.RingChains.{after_sum, ring_by}
 use Rattle.mc_world.proofs.RingWalks.{goes_round, ring_after, ring_before, ring_partner, rings_meet_no_end}
 
@@ -31,7 +31,7 @@ pub both_on : (world : WorldState) (s done ahead behind next last : ℕ) → IsS
 both_on world s done ahead behind next last sound walk to_next to_last =
     let one : done + 1 ≡ suc done = omega arith in
     let first : done + 1 ≡ 1 + done = omega arith in
-    let link = partners world behind last sound walk.behind_inside to_last in
+    let link = are_linked world behind last sound walk.behind_inside to_last in
     let back : next_slot world (far last) ≡ Some behind = ap (partner_of world) (far_back last) ∙ link.back in
     record {
       ahead_inside = (next_is world ahead next sound walk.ahead_inside to_next).inside;

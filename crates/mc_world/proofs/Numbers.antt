@@ -6,6 +6,10 @@ use Rattle.std.proofs.lemmas.List.Quantifiers.{position-Some}
 use Rattle.mc_box.specs.Boxes.{BoxState, is_slot}
 use Rattle.mc_world.specs.Worlds.{WorldState, far, is_place, number, place, places, slot_count}
 
+-- an option has one value
+pub some_same : (s t : ℕ) → Some s ≡ Some t → s ≡ t
+some_same s t same = cc
+
 -- far slots are each other's
 pub far_back : (s : ℕ) → far (far s) ≡ s
 far_back s = grind (arith, common_steps)

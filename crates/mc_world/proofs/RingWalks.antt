@@ -11,14 +11,12 @@ use Rattle.mc_world.specs.Worlds.{WorldState, far, goal_of, joints, number, plac
 use Rattle.mc_world.proofs.ActedWorlds.{far_inside}
 use Rattle.mc_world.proofs.Partners.{by_goal, has_partner, linked_with, next_is, one_before}
 use Rattle.mc_world.proofs.RingChains.{after_inside, after_parts, after_sum, no_way_back, ring_by}
+use Rattle.mc_world.proofs.Numbers.{some_same}
 
 -- ---- walks by their chains
 
 none_or_some : (s : ℕ) → Some s ≡ None → ⊥
 none_or_some s is = cc
-
-one_of : (s t : ℕ) → Some s ≡ Some t → s ≡ t
-one_of s t same = cc
 
 -- a walk that meets no end goes on at a partner
 on_by : (world : WorldState) (most s : ℕ) (goal : SlotGoal) → IsSound world → s < slot_count world → goal_of world s ≡ goal → walk_by (walked world most) world goal s ≡ None
@@ -26,8 +24,7 @@ on_by : (world : WorldState) (most s : ℕ) (goal : SlotGoal) → IsSound world 
 on_by world most s (End goal) sound inside aims walk = absurd (none_or_some s walk)
 on_by world most s (Link partner) sound inside aims walk =
     let link = has_partner world s partner sound inside aims in
-    let is : number world (place world s).0 partner ≡ Some link.0 = sym (by_goal world s (Link partner) aims) ∙ link.1 in
-    (link.0, link.1, sym (ap (λ (o : Option ℕ). option_and_then (walked world most) o) is) ∙ walk)
+    (link.0, by_goal world s (Link partner) aims ∙ link.1, sym (ap (λ (o : Option ℕ). option_and_then (walked world most) o) link.1) ∙ walk)
 
 -- so its chain goes on for as long as the walk meets no end
 chain_of : (world : WorldState) (done left s : ℕ) → IsSound world → s < slot_count world → walked world (left + done) s ≡ None
@@ -101,7 +98,7 @@ one_back world s t count sound inside is ring back =
     }
 
 pub ring_before : (world : WorldState) (s t count : ℕ) → IsSound world → s < slot_count world → slot_after world count s ≡ Some t → IsOnRing world t → IsOnRing world s
-ring_before world s t zero sound inside is ring = subst (IsOnRing world) (sym (one_of s t is)) ring
+ring_before world s t zero sound inside is ring = subst (IsOnRing world) (sym (some_same s t is)) ring
 ring_before world s t (suc count) sound inside is ring =
     let last = then_some (next_slot world) (slot_after world count s) t is in
     let there = after_inside world count s last.0 sound inside last.1 in
@@ -154,7 +151,7 @@ end_is_met world s sound inside end =
 last_of : (world : WorldState) (most s t : ℕ) (goal : SlotGoal) → goal_of world (far s) ≡ goal → walk_by (walked world most) world goal (far s) ≡ Some t
     → ((next : ℕ) → next_slot world s ≡ Some next → walked world most next ≡ Some t → (count : ℕ) × (last : ℕ) × (slot_after world count next ≡ Some last) × (far last ≡ t))
     → (count : ℕ) × (last : ℕ) × (slot_after world count s ≡ Some last) × (far last ≡ t)
-last_of world most s t (End goal) aims walk more = (0, s, refl, one_of (far s) t walk)
+last_of world most s t (End goal) aims walk more = (0, s, refl, some_same (far s) t walk)
 last_of world most s t (Link partner) aims walk more =
     let on = then_some (walked world most) (number world (place world (far s)).0 partner) t walk in
     let next : next_slot world s ≡ Some on.0 = by_goal world (far s) (Link partner) aims ∙ on.1 in

@@ -12,7 +12,7 @@ use Rattle.mc_world.specs.Steps.{pushed, sent_out}
 use Rattle.mc_world.specs.Worlds.{WorldState, far, for_tunnel, joint_of, lane_of, number, place, slot_count}
 use Rattle.mc_world.proofs.ActedWorlds.{far_inside}
 use Rattle.mc_world.proofs.LanesKept.{lane_apart, lane_in, sent_another, sent_own, tagged_for}
-use Rattle.mc_world.proofs.Numbers.{far_back, number_is}
+use Rattle.mc_world.proofs.Numbers.{some_same, far_back, number_is}
 use Rattle.mc_world.proofs.Parts.{part_else, part_here, part_more, part_none, part_of}
 
 -- the signals under way to a slot, where the lanes are these
@@ -72,9 +72,6 @@ none_came world lanes who sendings none = record {
 
 nothing_is : (s : ℕ) → None ≡ Some s → ⊥
 nothing_is s is = cc
-
-some_same : (s t : ℕ) → Some s ≡ Some t → s ≡ t
-some_same s t same = cc
 
 -- where a slot has the place, its number is found
 place_found : (world : WorldState) (who local t : ℕ) → AreOnce world → t < slot_count world → (place world t).0 ≡ who → (place world t).1 ≡ local → number world who local ≡ Some t
