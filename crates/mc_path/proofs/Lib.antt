@@ -4,6 +4,8 @@ pub mod CleanPaths
 pub mod CleanSteps
 pub mod CleanTunnels
 pub mod Ends
+mod Lengths
+mod OneMedium
 pub mod Quiet
 pub mod QuietWalks
 pub mod Returns

@@ -146,7 +146,7 @@ with_first P None rest here more = more
 with_first P (Some path) rest here more = All-cons P path rest (here path refl) more
 
 -- what holds of the path of each slot holds of all
-each_from : (P : PathEnds → Type 0) (f : ℕ → Option PathEnds) (slots : List (ℕ × ℕ)) (first count : ℕ) → first + length slots ≡ count
+pub each_from : (P : PathEnds → Type 0) (f : ℕ → Option PathEnds) (slots : List (ℕ × ℕ)) (first count : ℕ) → first + length slots ≡ count
     → ((s : ℕ) → s < count → (path : PathEnds) → f s ≡ Some path → P path)
     → All P (filter_map (λ entry. f entry.0) (enumerate_from first slots))
 each_from P f [] first count whole each = All-nil P

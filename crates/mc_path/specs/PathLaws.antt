@@ -16,7 +16,7 @@ use Rattle.mc_world.specs.Shapes.{owes_of}
 use Rattle.mc_world.specs.LinkFree.{IsLinkFree, LinkNone}
 use Rattle.mc_world.specs.Sound.{IsSound}
 use Rattle.mc_world.specs.Steps.{run}
-use Rattle.mc_world.specs.Worlds.{WorldState, far, goal_of, joints, list_to, number, own_descriptor, own_sender, place, slot_count, slot_of}
+use Rattle.mc_world.specs.Worlds.{WorldState, far, goal_of, joint_of, joints, list_to, number, own_descriptor, own_sender, place, slot_count, slot_of}
 use Rattle.mc_box.specs.declared.event.Turn.{Turn}
 
 -- both end slots of a path are in a state
@@ -42,6 +42,10 @@ passed world (suc most) s = s ∷ far s ∷ passed_by (passed world most) world 
 -- all slots of a path, from its lower end to its higher
 abbrev pub slots_on : WorldState → PathEnds → List ℕ
 slots_on world path = passed world (length (joints world)) path.low
+
+-- all slots of a path of a sound world have one medium, that of its lower end's tunnel
+abbrev pub PathsOfOneMedium : Type 0
+PathsOfOneMedium = (world : WorldState) → IsSound world → All (λ path. All (λ s. (slot_of world s).medium ≡ (joint_of world path.low).medium) (slots_on world path)) (paths world)
 
 -- what a path is where nothing is under way: closed, or flowing with ends that hear each other, and all its slots are as its ends; closed where an end closes, and flowing where one opens and owes no retry
 pub record IsQuietPath (world : WorldState) (path : PathEnds) : Type 0 where

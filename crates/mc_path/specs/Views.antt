@@ -1,5 +1,5 @@
 -- What is shown of a path.
-use Rattle.std.specs.Prelude.{ℕ, ◌+◌, zero, suc, Bool, true, false, length, Option}
+use Rattle.std.specs.Prelude.{◌≡◌, ℕ, ◌+◌, ◌*◌, zero, suc, Bool, true, false, length, Option}
 use Rattle.std.specs.Option.{option_and_then, option_map, unwrap_or}
 use Rattle.mc_signal.specs.declared.Selector.{Selector}
 use Rattle.mc_slot.specs.declared.SlotGoal.{SlotGoal}
@@ -11,6 +11,7 @@ use Rattle.mc_view.specs.declared.PathView.{PathView}
 use Rattle.mc_box.specs.BoxShapes.{is_device}
 use Rattle.mc_world.specs.Paths.{PathEnds, end_goal}
 use Rattle.mc_world.specs.Worlds.{WorldState, box_at, far, goal_of, joint_of, joints, number, own_descriptor, own_sender, place, slot_of}
+use Rattle.mc_path.specs.PathLaws.{slots_on}
 
 abbrev pub is_flowing : State → Bool
 is_flowing Flowing = true
@@ -52,3 +53,7 @@ view_of world path = record {
   medium = (joint_of world path.low).medium;
   tunnels = crossed world (length (joints world)) path.low;
 }
+
+-- a path goes over two slots for each tunnel that is shown
+abbrev pub TwoSlotsATunnel : Type 0
+TwoSlotsATunnel = (world : WorldState) (path : PathEnds) → length (slots_on world path) ≡ 2 * (view_of world path).tunnels

@@ -1,7 +1,8 @@
 //! Laws of paths, over the definitions alone: each function's contract is the law's sentence. They hold for paths of every
 //! length, but for the two laws on settles, which are asked of worlds without links.
 
-ghost use Rattle.mc_path.specs.PathLaws.{EachEndOnce, EachSlotOnce, QuietPaths, CleanPaths, SettledPathsHold};
+ghost use Rattle.mc_path.specs.PathLaws.{EachEndOnce, EachSlotOnce, PathsOfOneMedium, QuietPaths, CleanPaths, SettledPathsHold};
+ghost use Rattle.mc_path.specs.Views.{TwoSlotsATunnel};
 
 /// Each end of a sound world is an end of exactly one of its paths: the walk from there comes to another end, and from that
 /// end back.
@@ -12,6 +13,16 @@ pub fn each_end_once()
 /// Each slot of a sound world stands on a ring, and no path goes over it, or on none, and exactly one path goes over it.
 pub fn each_slot_once()
     ensures { EachSlotOnce }
+{}
+
+/// All slots of a path of a sound world have one medium, which is that of its lower end's tunnel.
+pub fn paths_of_one_medium()
+    ensures { PathsOfOneMedium }
+{}
+
+/// A path goes over two slots for each tunnel that is shown of it.
+pub fn two_slots_a_tunnel()
+    ensures { TwoSlotsATunnel }
 {}
 
 /// Where nothing is under way in a sound world, each path, over however many tunnels and links, is closed at all its

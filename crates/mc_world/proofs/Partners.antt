@@ -3,10 +3,10 @@ use Rattle.std.proofs.Common.{◌≡◌, ◌≢◌, ◌<◌, ℕ, Some, refl, ap
 use Rattle.mc_slot.specs.declared.SlotGoal.{SlotGoal}
 use Rattle.mc_slot.specs.declared.SlotGoal.TheVariants.{End, Link}
 use Rattle.mc_box.specs.BoxSound.{IsLinked}
-use Rattle.mc_box.specs.Boxes.{goal_at}
+use Rattle.mc_box.specs.Boxes.{goal_at, slot_at}
 use Rattle.mc_world.specs.Rings.{next_slot, partner_by, partner_of}
 use Rattle.mc_world.specs.Sound.{IsSound}
-use Rattle.mc_world.specs.Worlds.{WorldState, box_at, far, goal_of, number, place, slot_count}
+use Rattle.mc_world.specs.Worlds.{WorldState, box_at, far, goal_of, number, place, slot_count, slot_of}
 use Rattle.mc_world.proofs.ActedWorlds.{far_inside}
 use Rattle.mc_world.proofs.Numbers.{some_same, far_back, number_is}
 
@@ -27,6 +27,7 @@ pub record IsPartner (world : WorldState) (s partner t : ℕ) : Type 0 where
   pub local : (place world t).1 ≡ partner
   pub goal : goal_of world t ≡ Link (place world s).1
   pub number : number world (place world t).0 (place world s).1 ≡ Some s
+  pub medium : (slot_of world t).medium ≡ (slot_of world s).medium
 
 -- links are mutual, by the numbers of slots
 pub is_partner : (world : WorldState) (s partner t : ℕ) → IsSound world → s < slot_count world → goal_of world s ≡ Link partner → number world (place world s).0 partner ≡ Some t
@@ -44,6 +45,8 @@ is_partner world s partner t sound inside aims is =
       goal = ap (λ (who : ℕ). goal_at (box_at world who) (place world t).1) there.1
           ∙ (ap (λ (local : ℕ). goal_at (box_at world (place world s).0) local) there.2 ∙ link.back);
       number = ap (λ (who : ℕ). number world who (place world s).1) there.1 ∙ sound.numbered.once s inside;
+      medium = ap (λ (who : ℕ). (slot_at (box_at world who) (place world t).1).medium) there.1
+          ∙ (ap (λ (local : ℕ). (slot_at (box_at world (place world s).0) local).medium) there.2 ∙ link.medium);
     }
 
 -- a linked slot has a partner
