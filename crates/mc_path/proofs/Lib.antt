@@ -8,6 +8,7 @@ mod Lengths
 mod OneMedium
 pub mod Quiet
 pub mod QuietWalks
+mod RestTables
 pub mod Returns
 pub mod SettledHold
 pub mod Shown

@@ -1,3 +1,4 @@
 pub mod PathLaws
+pub mod Rests
 pub mod Views
 pub mod Walks

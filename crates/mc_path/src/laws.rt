@@ -1,7 +1,9 @@
-//! Laws of paths, over the definitions alone: each function's contract is the law's sentence. They hold for paths of every
-//! length, but for the two laws on settles, which are asked of worlds without links.
+//! Laws of paths, and of what may be at rest on one side of a box, over the definitions alone: each function's contract is
+//! the law's sentence. Those of paths hold for paths of every length, but for the two laws on settles, which are asked of
+//! worlds without links.
 
 ghost use Rattle.mc_path.specs.PathLaws.{EachEndOnce, EachSlotOnce, PathsOfOneMedium, QuietPaths, CleanPaths, SettledPathsHold};
+ghost use Rattle.mc_path.specs.Rests.{EndsAtRest, LinksAtRest};
 ghost use Rattle.mc_path.specs.Views.{TwoSlotsATunnel};
 
 /// Each end of a sound world is an end of exactly one of its paths: the walk from there comes to another end, and from that
@@ -44,4 +46,18 @@ pub fn clean_paths()
 /// their own.
 pub fn settled_paths_hold()
     ensures { SettledPathsHold }
+{}
+
+/// An end, whose slot keeps what its state allows, is at rest exactly where the table by its goal and its state has it:
+/// under close it is closed or closing; else it isn't opened, and where it flows it has sent its own descriptor and the
+/// choice for what it got.
+pub fn ends_at_rest()
+    ensures { EndsAtRest }
+{}
+
+/// A link, whose slots keep what their states allow, is at rest exactly where the table by their states has it: one of
+/// them is opening or closing, or both are closed, or both flow and each has sent on the descriptor that the other got,
+/// and the selector that the other got, where that answers what it got itself.
+pub fn links_at_rest()
+    ensures { LinksAtRest }
 {}
