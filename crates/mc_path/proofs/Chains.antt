@@ -1,14 +1,11 @@
 -- A chain of tunnels with nothing under way, joined by links at rest, with an end at rest at each side: all its slots are closed, or all flow, and what its ends have of each other has passed along it.
-use Rattle.std.proofs.Common.{◌≡◌, ◌⊎◌, inl, inr, Bool, true, false, Some, List, [], ◌∷◌, refl, ap, ◌∙◌, arith}
-use Rattle.std.specs.Option.{option_eq}
+use Rattle.std.proofs.Common.{◌≡◌, ◌⊎◌, inl, inr, true, Option, Some, List, [], ◌∷◌, refl, ap, ◌∙◌, subst, arith}
 use Rattle.std.proofs.lemmas.Grind.{common_steps}
 use Rattle.mc_signal.specs.Choice.{selector_of}
-use Rattle.mc_signal.specs.Same.{is_same_descriptor, is_same_selector}
 use Rattle.mc_signal.specs.declared.Descriptor.{Descriptor}
 use Rattle.mc_signal.specs.declared.Selector.{Selector}
 use Rattle.mc_signal.specs.declared.Sender.{Sender}
-use Rattle.mc_signal.proofs.Equal.{option_descriptor_eq, option_selector_eq}
-use Rattle.mc_slot.specs.EndTurn.{IsAtRest}
+use Rattle.mc_slot.specs.EndTurn.{IsAtRest, describing, due_live, selecting_again}
 use Rattle.mc_slot.specs.Moves.{is_live}
 use Rattle.mc_slot.specs.Outlook.{waits}
 use Rattle.mc_slot.specs.Tunnel.{Agree, Kept, TunnelSound}
@@ -18,6 +15,7 @@ use Rattle.mc_slot.specs.declared.State.{State}
 use Rattle.mc_slot.specs.declared.State.TheVariants.{Closed, Opening, Opened, Flowing}
 use Rattle.mc_link.specs.LinkTurn.{IsLinkAtRest, choosing, is_answer, leaning, passing}
 use Rattle.mc_link.proofs.Parts.{Quiet, quiet}
+use Rattle.mc_path.proofs.RestTables.{both_empty, chooses, described, passes, selected}
 use Rattle.mc_world.specs.PathTable.{Hears}
 
 -- ---- chains
@@ -52,23 +50,21 @@ never_opened goal a own me rest is = grind (arith)
 first_state : (goal : Goal) (a : Slot) (own : Descriptor) (me : Sender) → IsAtRest goal a own me → waits a.state ≡ 0 → (a.state ≡ Closed) ⊎ ((a.state ≡ Opening) ⊎ (a.state ≡ Flowing))
 first_state goal a own me rest calm = grind (arith)
 
--- where it flows it has sent its own descriptor
-sent_by : (same : Bool) (goal : Goal) (a : Slot) (own : Descriptor) (me : Sender) → a.state ≡ Flowing → IsAtRest goal a own me
-    → option_eq is_same_descriptor a.sent (Some own) ≡ same → a.sent ≡ Some own
-sent_by true goal a own me is rest e = option_descriptor_eq a.sent own e
-sent_by false goal a own me is rest e = absurd (grind (arith))
+-- where it flows it sends neither a describe nor a select
+flowing_end : (goal : Goal) (a : Slot) (own : Descriptor) (me : Sender) → a.state ≡ Flowing → IsAtRest goal a own me
+    → (describing a.sent own ≡ []) × (selecting_again a.got a.sel_out me ≡ [])
+flowing_end goal a own me is rest =
+    let due : due_live Flowing a own me ≡ [] = grind (arith) in
+    (both_empty (describing a.sent own) (selecting_again a.got a.sel_out me)).0 due
 
+-- so it has sent its own descriptor
 sent_own : (goal : Goal) (a : Slot) (own : Descriptor) (me : Sender) → a.state ≡ Flowing → IsAtRest goal a own me → a.sent ≡ Some own
-sent_own goal a own me is rest = sent_by (option_eq is_same_descriptor a.sent (Some own)) goal a own me is rest refl
+sent_own goal a own me is rest = (described a.sent own).0 (flowing_end goal a own me is rest).0
 
 -- and the choice for what it got
-chose_by : (same : Bool) (goal : Goal) (a : Slot) (own got : Descriptor) (me : Sender) → a.state ≡ Flowing → IsAtRest goal a own me → a.sent ≡ Some own
-    → a.got ≡ Some got → option_eq is_same_selector a.sel_out (Some (selector_of got me)) ≡ same → a.sel_out ≡ Some (selector_of got me)
-chose_by true goal a own got me is rest sent had e = option_selector_eq a.sel_out (selector_of got me) e
-chose_by false goal a own got me is rest sent had e = absurd (grind (arith))
-
 chose : (goal : Goal) (a : Slot) (own got : Descriptor) (me : Sender) → a.state ≡ Flowing → IsAtRest goal a own me → a.got ≡ Some got → a.sel_out ≡ Some (selector_of got me)
-chose goal a own got me is rest had = chose_by (option_eq is_same_selector a.sel_out (Some (selector_of got me))) goal a own got me is rest (sent_own goal a own me is rest) had refl
+chose goal a own got me is rest had =
+    (selected a.sel_out (selector_of got me)).0 (subst (λ (o : Option Descriptor). selecting_again o a.sel_out me ≡ []) had (flowing_end goal a own me is rest).1)
 
 -- ---- a tunnel with nothing under way
 
@@ -123,23 +119,13 @@ flowing_rest : (a b : Slot) → leaning a b ≡ [] → a.state ≡ Flowing → b
 flowing_rest a b rest is was = quiet a b (ap is_live is) (ap is_live was) rest
 
 -- so the one has sent the descriptor that the other got
-passed_by : (same : Bool) (a b : Slot) (own : Descriptor) → a.state ≡ Flowing → b.got ≡ Some own → option_eq is_same_descriptor a.sent (Some own) ≡ same → passing a b ≡ []
-    → a.sent ≡ Some own
-passed_by true a b own is had e none = option_descriptor_eq a.sent own e
-passed_by false a b own is had e none = absurd (grind (arith))
-
 passed : (a b : Slot) (own : Descriptor) → a.state ≡ Flowing → b.got ≡ Some own → passing a b ≡ [] → a.sent ≡ Some own
-passed a b own is had none = passed_by (option_eq is_same_descriptor a.sent (Some own)) a b own is had refl none
+passed a b own is had none = (passes a b is (rw had refl)).0 none ∙ had
 
 -- and the choice that the other got, where that answers what it got itself
-chosen_by : (same : Bool) (a b : Slot) (own : Descriptor) (choice : Selector) → a.got ≡ Some own → b.sel_in ≡ Some choice → is_answer choice own ≡ true
-    → option_eq is_same_selector a.sel_out (Some choice) ≡ same → choosing a b ≡ [] → a.sel_out ≡ Some choice
-chosen_by true a b own choice had heard answers e none = option_selector_eq a.sel_out choice e
-chosen_by false a b own choice had heard answers e none = absurd (grind (arith))
-
 chosen : (a b : Slot) (own : Descriptor) (choice : Selector) → a.got ≡ Some own → b.sel_in ≡ Some choice → is_answer choice own ≡ true → choosing a b ≡ []
     → a.sel_out ≡ Some choice
-chosen a b own choice had heard answers none = chosen_by (option_eq is_same_selector a.sel_out (Some choice)) a b own choice had heard answers refl none
+chosen a b own choice had heard answers none = (chooses b.sel_in a.got a.sel_out).0 none choice own heard had answers
 
 -- a choice for a descriptor answers it
 answers_own : (own : Descriptor) (me : Sender) → is_answer (selector_of own me) own ≡ true
