@@ -4,9 +4,11 @@ use Rattle.std.proofs.Math.ListN.{get_or}
 use Rattle.std.proofs.lemmas.List.{take-take}
 use Rattle.std.proofs.lemmas.List.Sums.{count_by_more_yes, sum_by-append, sum_by-cons, sum_by-take-le}
 
+-- one more at the front
 pub count_cons : {X : Type 0} (p : X → Bool) (x : X) (xs : List X) → count_by p (x ∷ xs) ≡ cond (p x) 1 0 + count_by p xs
 count_cons {X} p x xs = sum_by-cons (λ (y : X). cond (p y) 1 0) x xs
 
+-- in two lists
 pub count_append : {X : Type 0} (p : X → Bool) (xs ys : List X) → count_by p (xs ++ ys) ≡ count_by p xs + count_by p ys
 count_append {X} p xs ys = sum_by-append (λ (y : X). cond (p y) 1 0) xs ys
 
@@ -26,6 +28,7 @@ pub record Reached (X : Type 0) (p : X → Bool) (xs : List X) (n : ℕ) (d : X)
   pub passes : p (get_or xs at d) ≡ true
   pub count : count_by p (take at xs) ≡ n
 
+-- whether the first passes or not
 reached_by : {X : Type 0} (here : Bool) (p : X → Bool) (x : X) (xs : List X) (n : ℕ) (d : X) → p x ≡ here → n < cond here 1 0 + count_by p xs
     → ((m : ℕ) → m < count_by p xs → Reached X p xs m d) → Reached X p (x ∷ xs) n d
 reached_by true p x xs zero d is below later = record { at = 0; inside = omega arith; passes = is; count = refl }

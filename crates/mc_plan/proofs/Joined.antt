@@ -21,6 +21,7 @@ record MayJoin (plan : PlanState) (from to : ℕ) (media : List Medium) : Type 0
   near_slots : slots_of plan.channels from + length media ≤ 64
   far_slots : slots_of plan.channels to + length media ≤ 64
 
+-- by what is asked before
 may_join : (plan : PlanState) (from to : ℕ) (media : List Medium) → join_fault plan from to media ≡ None → MayJoin plan from to media
 may_join plan from to media none = record {
   near = grind (arith, common_steps);
@@ -36,9 +37,11 @@ may_join plan from to media none = record {
 fits_by : (from to who more : ℕ) (slots : ℕ → ℕ) → from ≢ to → slots from + more ≤ 64 → slots to + more ≤ 64 → slots who ≤ 64 → slots who + (part (from == who) more + part (to == who) more) ≤ 64
 fits_by from to who more slots apart one two three = grind (arith, common_steps)
 
+-- the places of the new channel come last
 places_joined : (channels : List ChannelState) (ends : ChannelState) → places_among (channels ++ ends ∷ []) ≡ places_among channels ++ places_within ends
 places_joined channels ends = flat_map-append places_within channels (ends ∷ []) ∙ ap (λ (l : List (ℕ × ℕ)). places_among channels ++ l) (append-nil (places_within ends))
 
+-- no box has too many slots then
 joined_slots : (plan : PlanState) (from to : ℕ) (media : List Medium) (who : ℕ) → IsLaidOut plan → MayJoin plan from to media
     → slots_of (plan.channels ++ channel_between plan.channels from to media ∷ []) who ≤ 64
 joined_slots plan from to media who laid may =
@@ -54,9 +57,11 @@ joined_slots plan from to media who laid may =
       fits_by from to who (length media) (slots_of plan.channels) may.apart may.near_slots may.far_slots (laid.slots who),
     )
 
+-- the new channel has few tunnels
 one_all : (ends : ChannelState) → length ends.tunnels ≤ 8 → All (λ (e : ChannelState). length e.tunnels ≤ 8) (ends ∷ [])
 one_all ends few = grind (arith, common_steps)
 
+-- all that a plan keeps
 joined_by : (plan : PlanState) (from to : ℕ) (media : List Medium) → IsLaidOut plan → MayJoin plan from to media → IsLaidOut (joined plan from to media)
 joined_by plan from to media laid may =
     let ends : ChannelState = channel_between plan.channels from to media in

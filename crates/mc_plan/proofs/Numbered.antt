@@ -26,6 +26,7 @@ record Made (channels : List ChannelState) (who : ℕ) (box : BoxState) : Type 0
   planned : BoxPlan
   is : box ≡ box_from channels who planned
 
+-- each of the boxes is
 made_from : (channels : List ChannelState) (plans : List BoxPlan) (first i : ℕ) → i < length plans → Made channels (first + i) (get_or (boxes_from channels first plans) i no_box)
 made_from channels [] first i inside = absurd (omega arith)
 made_from channels (planned ∷ plans) first zero inside =
@@ -49,13 +50,16 @@ boxes_more channels (here ∷ plans) first (suc i) planned inside is =
     ∙ ap (λ (l : List BoxState). box_from channels first here ∷ l)
     (boxes_more channels plans (first + 1) i planned (omega arith) is ∙ ap (λ (n : ℕ). boxes_from channels (first + 1) (take i plans) ++ box_from channels n planned ∷ []) next)
 
+-- one for each plan
 length_boxes : (channels : List ChannelState) (plans : List BoxPlan) (first : ℕ) → length (boxes_from channels first plans) ≡ length plans
 length_boxes channels [] first = refl
 length_boxes channels (planned ∷ plans) first = ap suc (length_boxes channels plans (first + 1))
 
+-- each box of the world
 box_made : (plan : PlanState) (who : ℕ) → who < length plan.boxes → Made plan.channels who (box_at (world_of plan) who)
 box_made plan who inside = subst (λ (n : ℕ). Made plan.channels n (box_at (world_of plan) who)) (zero-add who) (made_from plan.channels plan.boxes 0 who inside)
 
+-- each slot of it has its goal and its media
 whole_from : (channels : List ChannelState) (who : ℕ) (planned : BoxPlan) → IsBox (box_from channels who planned)
 whole_from channels who planned =
     let setups : List SlotSetup = setups_of channels who in
@@ -66,6 +70,7 @@ whole_from channels who planned =
 slots_from : (channels : List ChannelState) (who : ℕ) (planned : BoxPlan) → length (box_from channels who planned).slots ≡ slots_of channels who
 slots_from channels who planned = length-map (setups_of channels who) first_slot ∙ length_setups channels who
 
+-- it is new, within the limits
 new_from : (channels : List ChannelState) (who : ℕ) (planned : BoxPlan) → slots_of channels who ≤ 64 → who < 256 → IsNewBox (box_from channels who planned)
 new_from channels who planned few below =
     first_is_new planned.kind who planned.codecs planned.sends planned.first_version (setups_of channels who)
@@ -73,6 +78,7 @@ new_from channels who planned few below =
 
 -- ---- the slots
 
+-- what stands where no setup is
 no_setup : SlotSetup
 no_setup = record { origin = 0; medium = Audio; initiator = true }
 
@@ -82,6 +88,7 @@ record IsSetUp (box : BoxState) (local : ℕ) (setup : SlotSetup) : Type 0 where
   medium : (slot_at box local).medium ≡ setup.medium
   side : (slot_at box local).initiator ≡ setup.initiator
 
+-- each slot is
 set_up : (channels : List ChannelState) (who : ℕ) (planned : BoxPlan) (local : ℕ) → local < length (setups_of channels who) → IsSetUp (box_from channels who planned) local (get_or (setups_of channels who) local no_setup)
 set_up channels who planned local inside =
     let setups : List SlotSetup = setups_of channels who in
@@ -99,6 +106,7 @@ record SlotFits (world : WorldState) (box : BoxState) (s : ℕ) : Type 0 where
   medium : (slot_at box (place world s).1).medium ≡ (joint_of world s).medium
   side : (slot_at box (place world s).1).initiator ≡ (s % 2 == 0)
 
+-- each slot of a box that is made from its plan
 fits_from : (plan : PlanState) (s : ℕ) (planned : BoxPlan) → IsLaidOut plan → s < slot_count (world_of plan)
     → SlotFits (world_of plan) (box_from plan.channels (place (world_of plan) s).0 planned) s
 fits_from plan s planned laid inside =
@@ -118,6 +126,7 @@ fits_from plan s planned laid inside =
       side = there.side ∙ is.side_is;
     }
 
+-- each slot of the world
 slot_fits : (plan : PlanState) (s : ℕ) → IsLaidOut plan → s < slot_count (world_of plan) → SlotFits (world_of plan) (box_at (world_of plan) (place (world_of plan) s).0) s
 slot_fits plan s laid inside =
     let made : Made plan.channels (place (world_of plan) s).0 (box_at (world_of plan) (place (world_of plan) s).0) = box_made plan (place (world_of plan) s).0 (laid.there s inside) in
@@ -125,22 +134,27 @@ slot_fits plan s laid inside =
 
 -- ---- the world
 
+-- there is a plan for each box
 there_are : (plan : PlanState) (who : ℕ) → who < length (world_of plan).boxes → who < length plan.boxes
 there_are plan who below = subst (λ (n : ℕ). who < n) (length_boxes plan.channels plan.boxes 0) below
 
+-- a box has its number
 numbered_boxes : (plan : PlanState) (who : ℕ) → who < length plan.boxes → (box_at (world_of plan) who).number ≡ who
 numbered_boxes plan who below = ap (λ (box : BoxState). box.number) (box_made plan who below).is
 
+-- and is whole
 whole_boxes : (plan : PlanState) (who : ℕ) → who < length plan.boxes → IsBox (box_at (world_of plan) who)
 whole_boxes plan who below =
     let made : Made plan.channels who (box_at (world_of plan) who) = box_made plan who below in
     subst IsBox (sym made.is) (whole_from plan.channels who made.planned)
 
+-- its slots are those that lead to it
 box_slots : (plan : PlanState) (who : ℕ) → who < length plan.boxes → length (box_at (world_of plan) who).slots ≡ slots_of plan.channels who
 box_slots plan who below =
     let made : Made plan.channels who (box_at (world_of plan) who) = box_made plan who below in
     ap (λ (box : BoxState). length box.slots) made.is ∙ slots_from plan.channels who made.planned
 
+-- what a laid-out plan gives is numbered
 pub laid_out_is_numbered : (plan : PlanState) → IsLaidOut plan → IsNumbered (world_of plan)
 laid_out_is_numbered plan laid = record {
   boxes = λ who below. numbered_boxes plan who (there_are plan who below);
@@ -155,13 +169,16 @@ laid_out_is_numbered plan laid = record {
   sides = λ s inside. (slot_fits plan s laid inside).side;
 }
 
+-- each box is new
 new_boxes : (plan : PlanState) (who : ℕ) → IsLaidOut plan → who < length plan.boxes → IsNewBox (box_at (world_of plan) who)
 new_boxes plan who laid below =
     let made : Made plan.channels who (box_at (world_of plan) who) = box_made plan who below in
     subst IsNewBox (sym made.is) (new_from plan.channels who made.planned (laid.slots who) (omega (arith, laid.boxes)))
 
+-- all of them are
 pub laid_out_is_new : (plan : PlanState) → IsLaidOut plan → AreNew (world_of plan).boxes
 laid_out_is_new plan laid = λ who below. new_boxes plan who laid (there_are plan who below)
 
+-- the law
 pub plans_are_numbered : PlansAreNumbered
 plans_are_numbered plan laid = (laid_out_is_new plan laid, laid_out_is_numbered plan laid)

@@ -19,9 +19,11 @@ record Behind (n s : ℕ) : Type 0 where
   more : ℕ
   is : n + more ≡ s
 
+-- where it is no less
 behind : (n s : ℕ) → n ≤ s → Behind n s
 behind n s above = record { more = s - n; is = omega arith }
 
+-- a slot that comes later has its order by those before the list and in it
 ordered_behind : (xs ys : List (ℕ × ℕ)) (s : ℕ) → AreFrom (λ who. count_by (is_of who) xs) ys → s < length ys
     → (place_at (xs ++ ys) (length xs + s)).1 ≡ count_by (is_of (place_at (xs ++ ys) (length xs + s)).0) (take (length xs + s) (xs ++ ys))
 ordered_behind xs ys s later inside =
@@ -29,6 +31,7 @@ ordered_behind xs ys s later inside =
     (subst (λ (l : List (ℕ × ℕ)). (place_at ys s).1 ≡ count_by (is_of (place_at ys s).0) l) (sym (take-append-add xs ys s))
     (later s inside ∙ sym (count_append (is_of (place_at ys s).0) xs (take s ys))))
 
+-- a slot that was there keeps its order
 ordered_before : (xs ys : List (ℕ × ℕ)) (s : ℕ) → AreInOrder xs → s < length xs
     → (place_at (xs ++ ys) s).1 ≡ count_by (is_of (place_at (xs ++ ys) s).0) (take s (xs ++ ys))
 ordered_before xs ys s first inside =
@@ -57,6 +60,7 @@ there_append boxes xs ys first later s inside = elim (cases_lt s (length xs)) [
 
 -- ---- the slots of a new channel
 
+-- nothing
 from_none : (start : ℕ → ℕ) → AreFrom start []
 from_none start s inside = absurd (omega arith)
 
@@ -66,13 +70,16 @@ from_cons start next place places here steps later zero inside = omega (arith, h
 from_cons start next place places here steps later (suc s) inside =
     omega (arith, later s (omega arith), steps (place_at places s).0, count_cons (is_of (place_at places s).0) place (take s places))
 
+-- a box that is there, and others
 there_cons : (boxes : ℕ) (place : ℕ × ℕ) (places : List (ℕ × ℕ)) → place.0 < boxes → AreThere boxes places → AreThere boxes (place ∷ places)
 there_cons boxes place places here later zero inside = here
 there_cons boxes place places here later (suc s) inside = later s (omega arith)
 
+-- a slot of the box
 one_here : (a : ℕ) → ◌≡◌ {A = ℕ} (cond (a == a) 1 0) 1
 one_here a = grind (arith, common_steps)
 
+-- a slot of another box
 none_there : (a b : ℕ) → a ≢ b → ◌≡◌ {A = ℕ} (cond (a == b) 1 0) 0
 none_there a b apart = grind (arith, common_steps)
 
@@ -96,6 +103,7 @@ channel_ordered ends (medium ∷ media) near far start apart one two =
     from_cons start (after_one ends start) (ends.from, near) ((ends.to, far) ∷ flat_map (places_of ends) (tunnels_from (near + 1) (far + 1) media)) one (λ who. refl)
     (from_cons (after_one ends start) (after_both ends start) (ends.to, far) (flat_map (places_of ends) (tunnels_from (near + 1) (far + 1) media)) far_now (λ who. refl) rest)
 
+-- both boxes are there
 pub channel_there : (ends : ChannelState) (media : List Medium) (near far boxes : ℕ) → ends.from < boxes → ends.to < boxes → AreThere boxes (flat_map (places_of ends) (tunnels_from near far media))
 channel_there ends [] near far boxes one two = λ s inside. absurd (omega arith)
 channel_there ends (medium ∷ media) near far boxes one two =

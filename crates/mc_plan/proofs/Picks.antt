@@ -18,6 +18,7 @@ pick p [] ys = []
 pick p (x ∷ xs) [] = []
 pick {X} {Y} p (x ∷ xs) (y ∷ ys) = cond (p x) (y ∷ []) [] ++ pick p xs ys
 
+-- what comes first is left out
 skip : {Y : Type 0} (here : Bool) (y : Y) (rest : List Y) (n : ℕ) (d : Y) → get_or (cond here (y ∷ []) [] ++ rest) (cond here 1 0 + n) d ≡ get_or rest n d
 skip true y rest n d = let one : 1 + n ≡ suc n = omega arith in ap (λ (k : ℕ). get_or (y ∷ rest) k d) one
 skip false y rest n d = ap (λ (k : ℕ). get_or rest k d) (zero-add n)
@@ -32,16 +33,19 @@ picked {X} {Y} p (x ∷ xs) (y ∷ ys) (suc s) c d same inside passes =
     ap (λ (n : ℕ). get_or (cond (p x) (y ∷ []) [] ++ pick p xs ys) n d) (count_cons p x (take s xs))
     ∙ (skip (p x) y (pick p xs ys) (count_by p (take s xs)) d ∙ picked p xs ys s c d (omega arith) (omega arith) passes)
 
+-- how many are picked, by the first
 one_length : {Y : Type 0} (here : Bool) (y : Y) (rest : List Y) → length (cond here (y ∷ []) [] ++ rest) ≡ cond here 1 0 + length rest
 one_length true y rest = omega arith
 one_length false y rest = omega arith
 
+-- as many are picked as pass
 pub length_pick : {X Y : Type 0} (p : X → Bool) (xs : List X) (ys : List Y) → length ys ≡ length xs → length (pick p xs ys) ≡ count_by p xs
 length_pick p [] ys same = refl
 length_pick p (x ∷ xs) [] same = absurd (omega arith)
 length_pick p (x ∷ xs) (y ∷ ys) same =
     one_length (p x) y (pick p xs ys) ∙ (ap (λ (n : ℕ). cond (p x) 1 0 + n) (length_pick p xs ys (omega arith)) ∙ sym (count_cons p x xs))
 
+-- from two lists each
 pub pick_append : {X Y : Type 0} (p : X → Bool) (xs later : List X) (ys others : List Y) → length ys ≡ length xs → pick p (xs ++ later) (ys ++ others) ≡ pick p xs ys ++ pick p later others
 pick_append p [] later [] others same = refl
 pick_append p [] later (y ∷ ys) others same = absurd (omega arith)
@@ -51,15 +55,18 @@ pick_append {X} {Y} p (x ∷ xs) later (y ∷ ys) others same =
 
 -- ---- the slots of all tunnels, in the order of their numbers
 
+-- the two slots of each tunnel, which are counted from a number on
 abbrev pub all_slots : ℕ → List Joint → List SlotSetup
 all_slots count [] = []
 all_slots count (joint ∷ joints) =
     record { origin = 2 * count; medium = joint.medium; initiator = true } ∷ record { origin = 2 * count + 1; medium = joint.medium; initiator = false } ∷ all_slots (count + 1) joints
 
+-- two for each tunnel
 pub length_all : (count : ℕ) (joints : List Joint) → length (all_slots count joints) ≡ 2 * length joints
 length_all count [] = refl
 length_all count (joint ∷ joints) = omega (arith, length_all (count + 1) joints)
 
+-- some tunnels, and others
 all_append : (count : ℕ) (first later : List Joint) → all_slots count (first ++ later) ≡ all_slots count first ++ all_slots (count + length first) later
 all_append count [] later = ap (λ (n : ℕ). all_slots n later) (omega arith)
 all_append count (joint ∷ first) later =
@@ -73,6 +80,7 @@ pub record SlotIs (setup : SlotSetup) (origin : ℕ) (joint : Joint) (s : ℕ) :
   pub medium_is : setup.medium ≡ joint.medium
   pub side_is : setup.initiator ≡ (s % 2 == 0)
 
+-- it is that of its tunnel and its side
 pub slot_is : (joints : List Joint) (count s : ℕ) (d : SlotSetup) → s < 2 * length joints → SlotIs (get_or (all_slots count joints) s d) (2 * count + s) (get_or joints (s / 2) no_joint) s
 slot_is [] count s d inside = absurd (omega arith)
 slot_is (joint ∷ joints) count zero d inside = record { origin_is = omega arith; medium_is = refl; side_is = refl }
@@ -89,10 +97,12 @@ slot_is (joint ∷ joints) count (suc (suc s)) d inside =
 
 -- ---- those of a box are its setups
 
+-- a channel numbers all of its tunnels
 length_within : (tunnels : List Tunnel) (channel within : ℕ) → length (joints_within channel within tunnels) ≡ length tunnels
 length_within [] channel within = refl
 length_within (tunnel ∷ tunnels) channel within = ap suc (length_within tunnels channel (within + 1))
 
+-- at the tunnels of one channel
 within_picked : (who channel within count : ℕ) (ends : ChannelState) (tunnels : List Tunnel)
     → setups_within who count ends tunnels ≡ pick (is_of who) (flat_map (places_of ends) tunnels) (all_slots count (joints_within channel within tunnels))
 within_picked who channel within count ends [] = refl
@@ -102,6 +112,7 @@ within_picked who channel within count ends (tunnel ∷ tunnels) =
     ap (λ (l : List SlotSetup). near ++ far ++ l) (within_picked who channel (within + 1) (count + 1) ends tunnels)
     ∙ append_assoc near far (pick (is_of who) (flat_map (places_of ends) tunnels) (all_slots (count + 1) (joints_within channel (within + 1) tunnels)))
 
+-- at all channels
 from_picked : (who first count : ℕ) (channels : List ChannelState)
     → setups_from who count channels ≡ pick (is_of who) (places_among channels) (all_slots count (joints_from first channels))
 from_picked who first count [] = refl
@@ -116,6 +127,7 @@ from_picked who first count (ends ∷ channels) =
     ∙ (sym (pick_append (is_of who) (places_within ends) (places_among channels) (all_slots count here) (all_slots (count + length here) there) even)
     ∙ ap (λ (l : List SlotSetup). pick (is_of who) (places_within ends ++ places_among channels) l) (sym (all_append count here there)))))
 
+-- there is a slot for each place
 long_enough : (channels : List ChannelState) → length (all_slots 0 (joints_from 0 channels)) ≡ length (places_among channels)
 long_enough channels = omega (arith, length_all 0 (joints_from 0 channels), two_each channels 0)
 

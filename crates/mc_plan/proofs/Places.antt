@@ -17,19 +17,24 @@ position_is p xs s d inside before here =
     let first : position_or_len p xs ≡ s = position_or_len_is p xs s d (omega arith) before (λ below. here) in
     ap (λ (n : ℕ). cond (nat_lt n (length xs)) (Some n) None) first ∙ ap (λ (b : Bool). cond b (Some s) None) (lt-ltb s (length xs) inside)
 
+-- what can't be true
 not_true : (b : Bool) → (b ≡ true → ⊥) → b ≡ false
 not_true true never = absurd (never refl)
 not_true false never = refl
 
+-- a place is itself
 both_same : (a b : ℕ) → (a == a && b == b) ≡ true
 both_same a b = grind (arith, common_steps)
 
+-- places are one by their parts
 both_parts : (a b c d : ℕ) → (a == b && c == d) ≡ true → (b ≡ a) × (d ≡ c)
 both_parts a b c d is = grind (arith, common_steps)
 
+-- a box is itself
 pub same_box : (a : ℕ) → (a == a) ≡ true
 same_box a = grind (arith, common_steps)
 
+-- boxes of one number
 of_box : (a b : ℕ) → (a == b) ≡ true → a ≡ b
 of_box a b is = grind (arith, common_steps)
 
@@ -63,6 +68,7 @@ local_inside places s ordered inside =
     let whole : count_by (is_of (place_at places s).0) (take (length places) places) ≡ count_by (is_of (place_at places s).0) places = ap (count_by (is_of who)) (take-length places) in
     omega (arith, less, whole, ordered s inside)
 
+-- a place by its parts
 pair_is : (place : ℕ × ℕ) (who local : ℕ) → place.0 ≡ who → place.1 ≡ local → place ≡ (who, local)
 pair_is place who local one two = ap (λ (n : ℕ). (n, place.1)) one ∙ ap (λ (n : ℕ). (who, n)) two
 

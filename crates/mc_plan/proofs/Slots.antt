@@ -13,12 +13,14 @@ use Rattle.mc_plan.proofs.Counts.{count_append, count_cons}
 abbrev pub part : Bool → ℕ → ℕ
 part here n = cond here n 0
 
+-- one tunnel more
 one_more : (a b : Bool) (n : ℕ) → cond a 1 0 + (cond b 1 0 + (part a n + part b n)) ≡ part a (suc n) + part b (suc n)
 one_more true true n = omega arith
 one_more true false n = omega arith
 one_more false true n = omega arith
 one_more false false n = omega arith
 
+-- without tunnels
 no_more : (a b : Bool) → 0 ≡ part a 0 + part b 0
 no_more true true = omega arith
 no_more true false = omega arith
@@ -36,9 +38,11 @@ slots_within ends (tunnel ∷ tunnels) who =
     ∙ (ap (λ (n : ℕ). cond (ends.from == who) 1 0 + (cond (ends.to == who) 1 0 + n)) (slots_within ends tunnels who)
     ∙ one_more (ends.from == who) (ends.to == who) (length tunnels)))
 
+-- the slots at some channels, and at others
 pub slots_append : (before after : List ChannelState) (who : ℕ) → slots_of (before ++ after) who ≡ slots_of before who + slots_of after who
 slots_append before after who = ap (count_by (is_of who)) (flat_map-append places_within before after) ∙ count_append (is_of who) (places_among before) (places_among after)
 
+-- at one channel
 pub slots_one : (ends : ChannelState) (who : ℕ) → slots_of (ends ∷ []) who ≡ part (ends.from == who) (length ends.tunnels) + part (ends.to == who) (length ends.tunnels)
 slots_one ends who = omega (arith, count_append (is_of who) (places_within ends) [], slots_within ends ends.tunnels who)
 
@@ -66,6 +70,7 @@ two_sides ends who near far one two = omega (arith, slots_one ends who)
 
 -- ---- the tunnels of a new channel
 
+-- a tunnel for each medium
 pub length_tunnels : (near far : ℕ) (media : List Medium) → length (tunnels_from near far media) ≡ length media
 length_tunnels near far [] = refl
 length_tunnels near far (medium ∷ media) = ap suc (length_tunnels (near + 1) (far + 1) media)

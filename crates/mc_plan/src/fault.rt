@@ -1,9 +1,9 @@
 // Why a plan refuses a box or a channel.
 
-ghost use Rattle.std.specs.Prelude.{◌≡◌};
+ghost use Rattle.std.specs.Prelude.{◌≡◌, alloc_error};
 ghost use Rattle.mc_plan.specs.declared.fault.PlanFault.TheVariants.{NoMemory};
 
-use std::alloc::AllocError;
+use std::alloc::{AllocError, AllocFailed};
 
 /// Why a box or a channel isn't added to a plan: the first of these rules that it breaks. The plan is as it was then.
 #[derive(Debug, Drop)]
@@ -31,5 +31,13 @@ impl From<AllocError> for PlanFault {
 
     fn from(e: AllocError) -> Self {
         PlanFault::NoMemory(e)
+    }
+}
+
+impl<T: Drop> From<AllocFailed<T>> for PlanFault {
+    ghost from_gives = { λ _ fault. fault ≡ NoMemory alloc_error };
+
+    fn from(e: AllocFailed<T>) -> Self {
+        PlanFault::NoMemory(AllocError::from(e))
     }
 }

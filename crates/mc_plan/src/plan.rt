@@ -104,10 +104,10 @@ impl Plan {
         ensures unchanged { OnErr result (self.new ≡ self.old) }
     {
         let number = self.boxes.len();
-        if number >= MOST_BOXES {
+        if MOST_BOXES <= number {
             return Err(PlanFault::BoxesFull);
         }
-        self.boxes.push(planned).map_err(AllocError::from)?;
+        self.boxes.push(planned)?;
         Ok(number as u32)
     }
 
@@ -126,8 +126,7 @@ impl Plan {
         let far = slots_of(&self.channels, to) as u8;
         let number = self.channels.len() as u32;
         let tunnels = tunnels_from(self.alloc, near, far, media)?;
-        let channel = Channel { from, to, tunnels };
-        self.channels.push(channel).map_err(AllocError::from)?;
+        self.channels.push(Channel { from, to, tunnels })?;
         Ok(number)
     }
 

@@ -6,7 +6,7 @@ use Rattle.mc_plan.specs.Refusals.{join_fault}
 use Rattle.mc_plan.proofs.Joined.{joined_laid_out}
 use Rattle.mc_plan.proofs.plan.Plan.join.Goals as goal
 
-abbrev plan_of : goal.In_ok-map_err → PlanState
+abbrev plan_of : goal.In_ok-push → PlanState
 plan_of c = record { boxes = c.self.inside.boxes.items; channels = c.self.inside.channels.items }
 
 pub invariant_of-self-2 : goal.invariant_of-self-2
