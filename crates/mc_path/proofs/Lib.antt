@@ -9,6 +9,7 @@ mod OneMedium
 pub mod Quiet
 pub mod QuietWalks
 mod RestTables
+mod Repeats
 pub mod Returns
 pub mod SettledHold
 pub mod Shown

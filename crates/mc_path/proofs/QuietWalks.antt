@@ -4,6 +4,7 @@ use Rattle.std.specs.List.{list_all}
 use Rattle.std.specs.Option.{option_map, unwrap_or}
 use Rattle.std.proofs.lemmas.Bool.{cases_lt}
 use Rattle.std.proofs.lemmas.Grind.{common_steps}
+use Rattle.std.proofs.lemmas.List.{nil_from_length}
 use Rattle.std.proofs.lemmas.List.Elements.{All-nil, All-cons}
 use Rattle.mc_signal.specs.declared.Signal.{Signal}
 use Rattle.mc_signal.specs.declared.Tagged.{Tagged}
@@ -64,15 +65,11 @@ pub end_rests : (world : WorldState) (s : ℕ) → IsSound world → s < slot_co
     → IsAtRest (end_goal world s) (slot_of world s) (own_descriptor world s) (own_sender world s)
 end_rests world s sound inside aims = subst (λ (g : SlotGoal). RestsAt g (box_at world (place world s).0) (place world s).1) aims (goal_rests world s sound inside)
 
-no_length : (l : List (Side × Signal)) → length l ≡ 0 → l ≡ []
-no_length [] is = refl
-no_length (first ∷ rest) is = absurd (omega arith)
-
 -- a link at rest rests whichever slot is called the first
 rest_turns : (a b : Slot) → IsLinkAtRest a b → IsLinkAtRest b a
 rest_turns a b rest =
     let same : length (link_due b a None) ≡ length (link_due a b None) = (link_mirror a b None).2 in
-    no_length (link_due b a None) (same ∙ ap (λ (l : List (Side × Signal)). length l) rest)
+    nil_from_length (link_due b a None) (same ∙ ap (λ (l : List (Side × Signal)). length l) rest)
 
 -- so from either of its slots
 link_rests : (box : BoxState) (local partner : ℕ) → RestsAt (Link partner) box local → IsLinkAtRest (slot_at box local) (slot_at box partner)

@@ -1,5 +1,5 @@
 -- Laws of paths: what each path of a quiet world is, and that after a settle it is as the path table says.
-use Rattle.std.specs.Prelude.{◌≡◌, ◌≢◌, ◌⊎◌, ◌<◌, ◌==◌, ◌||◌, ℕ, zero, suc, ◌+◌, Bool, false, List, [], ◌∷◌, length, IsTrue, Some}
+use Rattle.std.specs.Prelude.{◌≡◌, ◌≢◌, ◌⊎◌, ◌<◌, ◌==◌, ◌||◌, ℕ, zero, suc, ◌+◌, Bool, false, List, [], ◌∷◌, length, slice_index_or, IsTrue, Some}
 use Rattle.std.specs.List.{All, count_by, list_all, list_any}
 use Rattle.std.specs.Option.{option_map, unwrap_or}
 use Rattle.mc_slot.specs.Outlook.{acks, closes}
@@ -94,3 +94,11 @@ is_on world s path = list_any (λ n. n == s) (slots_on world path)
 abbrev pub EachSlotOnce : Type 0
 EachSlotOnce = (world : WorldState) (s : ℕ) → IsSound world → s < slot_count world
     → (IsOnRing world s → count_by (is_on world s) (paths world) ≡ 0) × ((IsOnRing world s → ⊥) → count_by (is_on world s) (paths world) ≡ 1)
+
+-- no slot stands in the list twice
+abbrev pub HasNoRepeats : List ℕ → Type 0
+HasNoRepeats slots = (i j : ℕ) → i < j → j < length slots → slice_index_or slots i 0 ≢ slice_index_or slots j 0
+
+-- no path of a sound world goes over a slot twice
+abbrev pub PathsPassOnce : Type 0
+PathsPassOnce = (world : WorldState) → IsSound world → All (λ path. HasNoRepeats (slots_on world path)) (paths world)

@@ -2,7 +2,7 @@
 //! the law's sentence. Those of paths hold for paths of every length, but for the two laws on settles, which are asked of
 //! worlds without links.
 
-ghost use Rattle.mc_path.specs.PathLaws.{EachEndOnce, EachSlotOnce, PathsOfOneMedium, QuietPaths, CleanPaths, SettledPathsHold};
+ghost use Rattle.mc_path.specs.PathLaws.{EachEndOnce, EachSlotOnce, PathsOfOneMedium, PathsPassOnce, QuietPaths, CleanPaths, SettledPathsHold};
 ghost use Rattle.mc_path.specs.Rests.{EndsAtRest, LinksAtRest};
 ghost use Rattle.mc_path.specs.Views.{TwoSlotsATunnel};
 
@@ -15,6 +15,11 @@ pub fn each_end_once()
 /// Each slot of a sound world stands on a ring, and no path goes over it, or on none, and exactly one path goes over it.
 pub fn each_slot_once()
     ensures { EachSlotOnce }
+{}
+
+/// No path of a sound world goes over a slot twice, nor over a tunnel.
+pub fn paths_pass_once()
+    ensures { PathsPassOnce }
 {}
 
 /// All slots of a path of a sound world have one medium, which is that of its lower end's tunnel.
