@@ -13,11 +13,10 @@ ghost use Rattle.mc_net.specs.Readings.{Declares, Makes};
 ghost use Rattle.mc_net.specs.Programs.{new_part, has_goal, lacks_goal, goal_rules, part_goal_after, part_link_rules, part_link_after, state_limit, state_of, has_no_room, when_is_rules, when_told_rules, is_transition, with_transition, words_of, when_rules, part_when_after, told_after, waits_for, IsToldLine};
 
 use crate::fault::ReadFault;
-use crate::places::{is_misspelt, is_overlong};
 use crate::section::WaitWord;
 use mc_box::Shape;
 use mc_script::LineFault;
-use mc_script::places::{fixed_goal, known_slot};
+use mc_script::places::{fixed_goal, is_misspelt, is_overlong, known_slot};
 use mc_slot::{SlotGoal, State};
 use mc_text::{Names, Parts, Words};
 use std::alloc::{AllocError, Global};

@@ -2,12 +2,12 @@
 
 ghost use Rattle.std.specs.Prelude.{◌≡◌};
 ghost use Rattle.std.specs.Option.{option_copied};
-ghost use Rattle.mc_script.specs.Places.{is_misspelt, is_no, is_overlong, meant, unless};
+ghost use Rattle.mc_script.specs.Places.{is_no, meant, unless};
 ghost use Rattle.mc_net.specs.Rules.{begins_digit, begins_hash, is_skipped, is_version, medium_of};
 
 use mc_script::LineFault;
 use mc_signal::Medium;
-use mc_text::{Words, is_spelt};
+use mc_text::Words;
 
 /// The medium that a word spells. Fault 5 where it spells none.
 pub fn fixed_medium(word: Option<&[u8]>) -> Result<Option<Medium>, LineFault>
@@ -29,26 +29,6 @@ fn medium_of(word: &[u8]) -> Option<Medium>
         Some(Medium::Video)
     } else {
         None
-    }
-}
-
-/// Whether a word isn't spelt as a name, whatever its length.
-pub fn is_misspelt(word: Option<&[u8]>) -> bool
-    ensures { result ≡ is_misspelt (option_copied word.entry) }
-{
-    match word {
-        Some(word) => !is_spelt(word),
-        None => false,
-    }
-}
-
-/// Whether a word is spelt as a name but for its more than 16 bytes.
-pub fn is_overlong(word: Option<&[u8]>) -> bool
-    ensures { result ≡ is_overlong (option_copied word.entry) }
-{
-    match word {
-        Some(word) => is_spelt(word) && 16 < word.len(),
-        None => false,
     }
 }
 

@@ -40,16 +40,3 @@ fn a_feature_stands_between_two_devices(rt: HostRuntime) -> Result<(), PlanFault
     }
     Ok(())
 }
-
-#[test]
-fn a_refusal_changes_nothing(rt: HostRuntime) -> Result<(), PlanFault> {
-    let mut plan = Plan::new(rt.alloc());
-    let caller = plan.add(planned(Kind::Device))?;
-    let callee = plan.add(planned(Kind::Device))?;
-    let refusal = plan.join(caller, caller, &[Medium::Audio]);
-    assert!(rt; matches!(refusal, Err(PlanFault::SameBox)));
-    assert_eq!(rt; plan.slots(caller), 0);
-    let channel = plan.join(caller, callee, &[Medium::Audio])?;
-    assert_eq!(rt; channel, 0);
-    Ok(())
-}

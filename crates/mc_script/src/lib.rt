@@ -14,4 +14,4 @@ mod tests;
 pub use command::{Batch, Command, JournalLine, JournalText, LineFault};
 pub use line::{check_bytes, read_command, read_kind};
 pub use lines::{hear_line, link_line, set_line, settle_line, talk_line, tell_line};
-pub use print::print_command;
+pub use print::{goal_word, print_command};

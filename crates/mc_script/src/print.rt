@@ -115,7 +115,8 @@ fn put_next(word: &[u8], out: &mut Vec<u8>) -> Result<(), AllocError>
     out.extend_from_slice(word)
 }
 
-fn goal_word(goal: Goal) -> &'static [u8]
+/// The word of a goal.
+pub fn goal_word(goal: Goal) -> &'static [u8]
     ensures { result.now ≡ goal_word goal }
 {
     match goal {

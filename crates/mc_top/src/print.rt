@@ -1,12 +1,11 @@
 // What is printed at a settle, and for a faulty text.
 ghost use Rattle.std.specs.Prelude.{◌≡◌, ◌++◌, [], ◌∷◌, codes, map, take, All, IfOk, OnOk};
-ghost use Rattle.mc_script.specs.Meaning.{goal_word};
 ghost use Rattle.mc_top.specs.Printed.{line_of, medium_word, codec_word, fault_line, IsNamed};
 ghost use Rattle.mc_top.specs.Shown.{end_word, flow_word, hearing_line, view_line, view_text, views_text, IsNamedEnd, IsNamedView};
 
 use mc_net::TextFault;
+use mc_script::goal_word;
 use mc_signal::Medium;
-use mc_slot::Goal;
 use mc_text::Names;
 use mc_view::{EndView, PathView};
 use std::alloc::{AllocError, Global};
@@ -22,16 +21,6 @@ fn put_line(first: &[u8], others: &[&[u8]], out: &mut Vec<u8>) -> Result<(), All
     }
     out.push(b'\n')?;
     Ok(())
-}
-
-fn goal_word(goal: Goal) -> &'static [u8]
-    ensures { result.now ≡ goal_word goal }
-{
-    match goal {
-        Goal::Open => b"open",
-        Goal::Close => b"close",
-        Goal::Hold => b"hold",
-    }
 }
 
 fn flow_word(flowing: bool) -> &'static [u8]

@@ -15,12 +15,12 @@ use crate::codec_words::{
     codec_words, has_bad_version, is_overfull, listed, lists_undeclared, version_of,
 };
 use crate::fault::ReadFault;
-use crate::places::{is_misspelt, is_overlong};
 use crate::reader::{BoxMedia, Reader};
 use crate::section::Section;
 use crate::word_list::has_repeat;
 use mc_box::{BoxShape, Kind};
 use mc_script::LineFault;
+use mc_script::places::{is_misspelt, is_overlong};
 use mc_signal::CodecList;
 use mc_text::{Parts, Words};
 use std::alloc::AllocError;

@@ -13,12 +13,12 @@ ghost use Rattle.mc_net.specs.Readings.{Declares, ReadsAsBy};
 ghost use Rattle.mc_net.specs.Rules.{channel_rules, slot_limit};
 
 use crate::fault::ReadFault;
-use crate::places::{fixed_medium, is_misspelt, is_overlong};
+use crate::places::fixed_medium;
 use crate::reader::Reader;
 use crate::section::Section;
 use mc_box::Shape;
 use mc_script::LineFault;
-use mc_script::places::known_box;
+use mc_script::places::{is_misspelt, is_overlong, known_box};
 use mc_signal::Medium;
 use mc_text::{Parts, Words};
 use mc_world::{Channel, Tunnel};

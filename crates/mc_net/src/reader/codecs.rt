@@ -10,10 +10,10 @@ ghost use Rattle.mc_net.specs.Readings.{Declares, ReadsAsBy};
 ghost use Rattle.mc_net.specs.Rules.{codec_rules};
 
 use crate::fault::ReadFault;
-use crate::places::{is_misspelt, is_overlong};
 use crate::reader::Reader;
 use crate::section::Section;
 use mc_script::LineFault;
+use mc_script::places::{is_misspelt, is_overlong};
 use mc_text::{Parts, Words};
 use std::alloc::AllocError;
 
