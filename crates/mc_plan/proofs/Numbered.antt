@@ -13,11 +13,14 @@ use Rattle.mc_world.specs.StepLaws.{AreNew, IsNewBox}
 use Rattle.mc_world.specs.Worlds.{ChannelState, Joint, WorldState, box_at, joint_of, joints_from, no_joint, place, places_among, slot_count}
 use Rattle.mc_world.proofs.NewWorlds.{first_is_new}
 use Rattle.mc_plan.specs.LaidOut.{IsLaidOut, place_at}
-use Rattle.mc_plan.specs.PlanLaws.{PlansAreNumbered}
+use Rattle.mc_plan.specs.PlanLaws.{PlansAreNumbered, PlansStaySound}
 use Rattle.mc_plan.specs.Plans.{PlanState, box_from, boxes_from, slots_of, world_of}
 use Rattle.mc_plan.specs.declared.plan.BoxPlan.{BoxPlan}
 use Rattle.mc_plan.proofs.Picks.{SlotIs, length_setups, setup_of_slot}
 use Rattle.mc_plan.proofs.Places.{each_found, found_once, local_inside, same_box}
+use Rattle.mc_world.proofs.Firsts.{run_keeps_served}
+use Rattle.mc_world.proofs.NewWorlds.{first_is_sound}
+use Rattle.mc_world.proofs.StepGoes.{first_is_served}
 
 -- ---- the boxes
 
@@ -182,3 +185,9 @@ laid_out_is_new plan laid = λ who below. new_boxes plan who laid (there_are pla
 -- the law
 pub plans_are_numbered : PlansAreNumbered
 plans_are_numbered plan laid = (laid_out_is_new plan laid, laid_out_is_numbered plan laid)
+
+-- and what runs lead to stays sound
+pub plans_stay_sound : PlansStaySound
+plans_stay_sound plan turns next laid goes =
+    run_keeps_served (world_of plan) next turns (first_is_sound (world_of plan).boxes plan.channels (laid_out_is_new plan laid) (laid_out_is_numbered plan laid))
+    (first_is_served (world_of plan).boxes plan.channels) goes

@@ -1,9 +1,15 @@
 //! Laws of plans, over their definitions alone: each function's contract is the law's sentence.
 
-ghost use Rattle.mc_plan.specs.PlanLaws.{PlansAreNumbered};
+ghost use Rattle.mc_plan.specs.PlanLaws.{PlansAreNumbered, PlansStaySound};
 
 /// Whatever network is laid out, its boxes are new, and the tunnels of its channels join each of their slots once,
 /// with the numbers of the rules: so its first world is sound.
 pub fn plans_are_numbered()
     ensures { PlansAreNumbered }
+{}
+
+/// Whatever network is laid out, and whatever its boxes do by turns, each world that they reach is sound: each signal at a
+/// front is lawful for its slot, and as long as one is under way some slot can take one.
+pub fn plans_stay_sound()
+    ensures { PlansStaySound }
 {}
