@@ -2,7 +2,7 @@
 use Rattle.std.proofs.Common.{◌≡◌, ◌≢◌, ◌+◌, ◌<◌, ◌≤◌, ◌==◌, ℕ, None, All, List, [], ◌∷◌, ◌++◌, length, length-append, refl, ap, sym, ◌∙◌, subst, arith, append-nil}
 use Rattle.std.proofs.lemmas.Grind.{common_steps}
 use Rattle.std.proofs.lemmas.List.Concat.{flat_map-append}
-use Rattle.std.proofs.lemmas.List.Elements.{All-append}
+use Rattle.std.proofs.lemmas.List.Elements.{All-append, All-cons, All-nil}
 use Rattle.mc_signal.specs.declared.Medium.{Medium}
 use Rattle.mc_world.specs.Worlds.{ChannelState, places_among, places_within}
 use Rattle.mc_plan.specs.LaidOut.{AreInOrder, AreThere, IsLaidOut}
@@ -16,6 +16,7 @@ record MayJoin (plan : PlanState) (from to : ℕ) (media : List Medium) : Type 0
   near : from < length plan.boxes
   far : to < length plan.boxes
   apart : from ≢ to
+  some : 0 < length media
   tunnels : length media ≤ 8
   channels : length plan.channels < 1024
   near_slots : slots_of plan.channels from + length media ≤ 64
@@ -27,6 +28,7 @@ may_join plan from to media none = record {
   near = grind (arith, common_steps);
   far = grind (arith, common_steps);
   apart = grind (arith, common_steps);
+  some = grind (arith, common_steps);
   tunnels = grind (arith, common_steps);
   channels = grind (arith, common_steps);
   near_slots = grind (arith, common_steps);
@@ -57,9 +59,9 @@ joined_slots plan from to media who laid may =
       fits_by from to who (length media) (slots_of plan.channels) may.apart may.near_slots may.far_slots (laid.slots who),
     )
 
--- the new channel has few tunnels
-one_all : (ends : ChannelState) → length ends.tunnels ≤ 8 → All (λ (e : ChannelState). length e.tunnels ≤ 8) (ends ∷ [])
-one_all ends few = grind (arith, common_steps)
+-- what holds of the new channel holds of it alone
+one_all : (P : ChannelState → Type 0) (ends : ChannelState) → P ends → All P (ends ∷ [])
+one_all P ends holds = All-cons P ends [] holds (All-nil P)
 
 -- all that a plan keeps
 joined_by : (plan : PlanState) (from to : ℕ) (media : List Medium) → IsLaidOut plan → MayJoin plan from to media → IsLaidOut (joined plan from to media)
@@ -69,10 +71,13 @@ joined_by plan from to media laid may =
     let far : ℕ = slots_of plan.channels to in
     let places : places_among (plan.channels ++ channel_between plan.channels from to media ∷ []) ≡ places_among plan.channels ++ places_within (channel_between plan.channels from to media) = places_joined plan.channels ends in
     let few : length (tunnels_from (slots_of plan.channels from) (slots_of plan.channels to) media) ≤ 8 = omega (arith, length_tunnels near far media, may.tunnels) in
+    let any : 0 < length (tunnels_from (slots_of plan.channels from) (slots_of plan.channels to) media) = omega (arith, length_tunnels near far media, may.some) in
     record {
       boxes = laid.boxes;
       channels = omega (arith, length-append plan.channels (ends ∷ []), may.channels);
-      tunnels = All-append (λ (e : ChannelState). length e.tunnels ≤ 8) plan.channels (ends ∷ []) laid.tunnels (one_all ends few);
+      some = All-append (λ (e : ChannelState). 0 < length e.tunnels) plan.channels (ends ∷ []) laid.some (one_all (λ (e : ChannelState). 0 < length e.tunnels) ends any);
+      tunnels = All-append (λ (e : ChannelState). length e.tunnels ≤ 8) plan.channels (ends ∷ []) laid.tunnels (one_all (λ (e : ChannelState). length e.tunnels ≤ 8) ends few);
+      apart = All-append (λ (e : ChannelState). e.from ≢ e.to) plan.channels (ends ∷ []) laid.apart (one_all (λ (e : ChannelState). e.from ≢ e.to) ends may.apart);
       slots = λ who. joined_slots plan from to media who laid may;
       there = subst (AreThere (length plan.boxes)) (sym places) (there_append (length plan.boxes) (places_among plan.channels) (places_within ends) laid.there (channel_there ends media near far (length plan.boxes) may.near may.far));
       ordered = subst AreInOrder (sym places) (ordered_append (places_among plan.channels) (places_within ends) laid.ordered (channel_ordered ends media near far (slots_of plan.channels) may.apart refl refl));

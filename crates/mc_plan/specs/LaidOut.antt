@@ -1,5 +1,5 @@
 -- What a plan keeps: that its channels join its boxes slot by slot, within the limits.
-use Rattle.std.specs.Prelude.{◌≡◌, ℕ, ◌<◌, ◌≤◌, List, All, count_by, length, slice_index_or, take}
+use Rattle.std.specs.Prelude.{◌≡◌, ◌≢◌, ℕ, ◌<◌, ◌≤◌, List, All, count_by, length, slice_index_or, take}
 use Rattle.mc_world.specs.Worlds.{places_among}
 use Rattle.mc_plan.specs.Plans.{PlanState, is_of, slots_of}
 
@@ -15,11 +15,13 @@ AreThere boxes places = (s : ℕ) → s < length places → (place_at places s).
 abbrev pub AreInOrder : List (ℕ × ℕ) → Type 0
 AreInOrder places = (s : ℕ) → s < length places → (place_at places s).1 ≡ count_by (is_of (place_at places s).0) (take s places)
 
--- at most 256 boxes of 64 slots, and 1,024 channels of 8 tunnels: each slot's box is there, and the slots of a box are numbered in the order of tunnels
+-- at most 256 boxes of 64 slots, and 1,024 channels of one to 8 tunnels between different boxes: each slot's box is there, and the slots of a box are numbered in the order of tunnels
 pub record IsLaidOut (plan : PlanState) : Type 0 where
   pub boxes : length plan.boxes ≤ 256
   pub channels : length plan.channels ≤ 1024
+  pub some : All (λ ends. 0 < length ends.tunnels) plan.channels
   pub tunnels : All (λ ends. length ends.tunnels ≤ 8) plan.channels
+  pub apart : All (λ ends. ends.from ≢ ends.to) plan.channels
   pub slots : (who : ℕ) → slots_of plan.channels who ≤ 64
   pub there : AreThere (length plan.boxes) (places_among plan.channels)
   pub ordered : AreInOrder (places_among plan.channels)
