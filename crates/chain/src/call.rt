@@ -1,5 +1,6 @@
 // Calls, and the turns that they take.
 
+use crate::fault::ChainFault;
 use crate::network::{CALLEE, CALLER};
 use mc_box::{Change, Event};
 use mc_slot::Goal;
@@ -10,14 +11,15 @@ const MOST_SWEEPS: u32 = 1_000_000;
 
 /// The caller opens and the callee holds, and all boxes take what comes to them until nothing is under way. How many
 /// turns that takes.
-pub fn call(world: &mut World) -> Result<u64, StepFault> {
+pub fn call(world: &mut World) -> Result<u64, ChainFault> {
     world.step(CALLEE, Event::Set(Change::End(0, Goal::Hold)))?;
     world.step(CALLER, Event::Set(Change::End(0, Goal::Open)))?;
     sweep_until_quiet(world)
 }
 
-/// The caller closes, and so does the callee, and all boxes take what comes to them.
-pub fn hang_up(world: &mut World) -> Result<u64, StepFault> {
+/// The caller closes, and so does the callee, and all boxes take what comes to them, as in a call. How many turns that
+/// takes.
+pub fn hang_up(world: &mut World) -> Result<u64, ChainFault> {
     world.step(CALLER, Event::Set(Change::End(0, Goal::Close)))?;
     world.step(CALLEE, Event::Set(Change::End(0, Goal::Close)))?;
     sweep_until_quiet(world)
@@ -34,16 +36,16 @@ pub fn take_at(world: &mut World, slot: u32) -> Result<bool, StepFault> {
 }
 
 // Sweeps over all slots, forth and back, until nothing is under way.
-fn sweep_until_quiet(world: &mut World) -> Result<u64, StepFault> {
+fn sweep_until_quiet(world: &mut World) -> Result<u64, ChainFault> {
     let mut turns: u64 = 0;
     for _sweep in 0..MOST_SWEEPS {
         if world.quiet() {
-            break;
+            return Ok(turns);
         }
         turns = turns.saturating_add(sweep_forth(world)?);
         turns = turns.saturating_add(sweep_back(world)?);
     }
-    Ok(turns)
+    Err(ChainFault::Unsettled)
 }
 
 // Each slot in turn takes what waits for it.

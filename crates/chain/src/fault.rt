@@ -13,6 +13,8 @@ pub enum ChainFault {
     /// An event can't happen.
     Step(StepFault),
     NoMemory(AllocError),
+    /// Signals are still under way after all the sweeps that a call may take.
+    Unsettled,
     /// A line can't be written.
     Write(io::Error),
 }

@@ -15,9 +15,9 @@ use crate::fault::ChainFault;
 use crate::network::{chain, link_through};
 use mc_path::paths;
 use mc_world::World;
+use std::env;
 use std::process::ExitCode;
 use std::rt::Env;
-use std::{env, io};
 
 const USAGE: u8 = 2;
 
@@ -40,7 +40,10 @@ fn asked<R: Env + AllocGlobal>(rt: &R) -> Option<(u32, Job, u32)> {
         _ => return None,
     };
     let times = words.next()?.parse::<u32>().ok()?;
-    Some((tunnels, job, times))
+    match words.next() {
+        Some(_) => None,
+        None => Some((tunnels, job, times)),
+    }
 }
 
 // Prints each path of a world.
@@ -98,10 +101,14 @@ fn run(rt: &HostRuntime, tunnels: u32, job: Job, times: u32) -> Result<(), Chain
 
 fn main(rt: HostRuntime) -> ExitCode {
     let Some((tunnels, job, times)) = asked(&rt) else {
+        let _ = eprintln!(&rt; "usage: chain TUNNELS calls|rings|paths TIMES");
         return ExitCode::from(USAGE);
     };
     match run(&rt, tunnels, job, times) {
         Ok(()) => ExitCode::SUCCESS,
-        Err(_) => ExitCode::FAILURE,
+        Err(fault) => {
+            let _ = eprintln!(&rt; "chain: {fault:?}");
+            ExitCode::FAILURE
+        }
     }
 }

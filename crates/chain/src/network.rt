@@ -2,14 +2,15 @@
 
 use crate::fault::ChainFault;
 use mc_box::{Change, Event, Kind};
-use mc_plan::{BoxPlan, Plan, PlanFault};
+use mc_plan::{BoxPlan, Plan};
 use mc_signal::{CodecList, Medium};
 use mc_world::{StepFault, World};
 use std::alloc::Global;
 
-/// The number of the caller, and of the callee. Features have the numbers behind them.
+/// The number of the box that calls.
 pub const CALLER: u32 = 0;
 
+/// The number of the box that is called. Features have the numbers behind it.
 pub const CALLEE: u32 = 1;
 
 // How many features a network has room for.

@@ -3,14 +3,14 @@
 use crate::call::take_at;
 use crate::fault::ChainFault;
 use crate::network::{CALLEE, CALLER, chain, device, feature, link_through};
-use mc_box::{Change, Event, Turn};
+use mc_box::{Change, Event};
 use mc_path::paths;
 use mc_plan::Plan;
 use mc_signal::Medium;
-use mc_slot::{Goal, SlotGoal, State};
+use mc_slot::Goal;
 use mc_view::{EndView, PathView};
-use mc_world::{StepFault, World};
-use std::alloc::{AllocError, Global};
+use mc_world::World;
+use std::alloc::Global;
 use std::process::Abort;
 
 const ALICE: u32 = 0;

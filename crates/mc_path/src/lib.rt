@@ -6,9 +6,9 @@ ghost use Rattle.std.specs.Option.{option_map};
 ghost use Rattle.mc_path.specs.PathLaws.{IsQuietPath};
 ghost use Rattle.mc_path.specs.Views.{end_view, is_flowing, view_of};
 ghost use Rattle.mc_path.specs.Walks.{walk_from};
-ghost use Rattle.mc_world.specs.Paths.{end_goal_of, is_end_goal, path_from, paths};
+ghost use Rattle.mc_world.specs.Paths.{end_goal_of, path_from, paths};
 ghost use Rattle.mc_world.specs.Settles.{is_quiet};
-ghost use Rattle.mc_world.specs.Worlds.{goal_of, slot_count};
+ghost use Rattle.mc_world.specs.Worlds.{slot_count};
 
 pub mod laws;
 mod walk;

@@ -4,7 +4,7 @@ use Rattle.std.specs.List.{enumerate_from, list_any}
 use Rattle.std.specs.Option.{is_none, is_some, option_and_then}
 use Rattle.std.proofs.lemmas.Bool.{cases_eq, cases_lt}
 use Rattle.mc_world.specs.Paths.{has_ring, other_end}
-use Rattle.mc_world.specs.Rings.{IsOnRing, IsRing, NoneBefore, next_slot, partner_of, slot_after}
+use Rattle.mc_world.specs.Rings.{IsOnRing, IsLeastOnRing, NoneBefore, next_slot, partner_of, slot_after}
 use Rattle.mc_world.specs.Sound.{IsSound}
 use Rattle.mc_world.specs.Worlds.{WorldState, far, joints, places, slot_count}
 use Rattle.mc_world.proofs.ActedWorlds.{far_inside}
@@ -125,7 +125,7 @@ not_none None some = absurd (some refl)
 not_none (Some s) some = refl
 
 -- there is a ring exactly where there is a least slot on one
-pub has_by : (world : WorldState) (ring : Option ℕ) → IsSound world → IsRing world ring → has_ring world ≡ is_some ring
+pub has_by : (world : WorldState) (ring : Option ℕ) → IsSound world → IsLeastOnRing world ring → has_ring world ≡ is_some ring
 has_by world (Some s) sound is =
     any_passes (places world) 0 s (λ (t : ℕ). is_none (other_end world t)) (omega arith) (omega (arith, is.inside))
     (ap (λ (o : Option ℕ). is_none o) ((rings_meet_no_end world s sound is.inside).1 is.on))

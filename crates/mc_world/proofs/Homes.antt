@@ -88,7 +88,6 @@ tunnel_there ways count who local s laid inside is =
 pub room_from : (lanes : List Lane) (ways : Ways) (count who most : ℕ) → IsLaid ways count
     → ((local : ℕ) → local < length (numbers_of ways who) → HasRoom lanes (lane_by ways (far (get_or (numbers_of ways who) local 0))) most) → HasRoomFrom lanes ways who (length ways.places.items) most
 room_from lanes ways count who most laid room s below is =
-    let local : ℕ = (get_or ways.places.items s (0, 0)).1 in
     let here : slice_get (numbers_of ways who) (get_or ways.places.items s (0, 0)).1 ≡ Some s =
     laid.found who (get_or ways.places.items s (0, 0)).1
     ∙ subst (λ (w : ℕ). position (is_place (w, (get_or ways.places.items s (0, 0)).1)) ways.places.items ≡ Some s) is (laid.once s below) in

@@ -8,7 +8,7 @@ use Rattle.mc_world.specs.Rings.{next_slot, partner_by, partner_of}
 use Rattle.mc_world.specs.Sound.{IsSound}
 use Rattle.mc_world.specs.Worlds.{WorldState, box_at, far, goal_of, number, place, slot_count, slot_of}
 use Rattle.mc_world.proofs.ActedWorlds.{far_inside}
-use Rattle.mc_world.proofs.Numbers.{some_same, far_back, number_is}
+use Rattle.mc_world.proofs.Numbers.{far_back, number_is, some_same}
 
 -- the partner of a slot by its goal
 pub by_goal : (world : WorldState) (s : ℕ) (goal : SlotGoal) → goal_of world s ≡ goal → partner_of world s ≡ partner_by world goal s

@@ -7,7 +7,7 @@ use Rattle.mc_world.specs.Rings.{IsOnRing, next_slot, partner_of, slot_after}
 use Rattle.mc_world.specs.Sound.{IsSound}
 use Rattle.mc_world.specs.Worlds.{WorldState, far, joints, slot_count}
 use Rattle.mc_world.proofs.Joints.{two_each}
-use Rattle.mc_world.proofs.Numbers.{far_back, far_other, half_in}
+use Rattle.mc_world.proofs.Numbers.{far_back, far_other, half_in, some_same}
 use Rattle.mc_world.proofs.Partners.{IsNext, next_is}
 use Rattle.mc_world.proofs.Repeats.{Repeated, repeated}
 
@@ -20,7 +20,7 @@ pub record IsChain (mate : ℕ → Option ℕ) (x : ℕ → ℕ) (most : ℕ) : 
   pub other : (k : ℕ) → k < most → x (suc k) ≢ far (x k)
 
 one_mate : (o : Option ℕ) (a b : ℕ) → o ≡ Some a → o ≡ Some b → a ≡ b
-one_mate o a b one two = let same : Some a ≡ Some b = sym one ∙ two in cc
+one_mate o a b one two = some_same a b (sym one ∙ two)
 
 -- where two slots of a chain are the same, so are those before them
 alike_before : (mate : ℕ → Option ℕ) (x : ℕ → ℕ) (most i j : ℕ) → IsChain mate x most → i < most → j < most → x (suc i) ≡ x (suc j) → x i ≡ x j
@@ -92,7 +92,7 @@ after_parts world a (suc b) s t is =
 
 -- all of them are there
 pub after_inside : (world : WorldState) (count s t : ℕ) → IsSound world → s < slot_count world → slot_after world count s ≡ Some t → t < slot_count world
-after_inside world zero s t sound inside is = subst (λ (n : ℕ). n < slot_count world) (let same : Some s ≡ Some t = is in cc) inside
+after_inside world zero s t sound inside is = subst (λ (n : ℕ). n < slot_count world) (some_same s t is) inside
 after_inside world (suc count) s t sound inside is =
     let last = then_some (next_slot world) (slot_after world count s) t is in
     (next_is world last.0 t sound (after_inside world count s last.0 sound inside last.1) last.2).inside
@@ -129,7 +129,6 @@ chain_from world most s t sound inside is =
 -- where a chain goes over as many tunnels as there are, its slot stands on a ring
 pub ring_by : (world : WorldState) (s t : ℕ) → IsSound world → s < slot_count world → slot_after world (length (joints world)) s ≡ Some t → IsOnRing world s
 ring_by world s t sound inside is =
-    let most : ℕ = length (joints world) in
     let two : slot_count world ≡ 2 * length (joints world) = two_each world.channels 0 in
     let below : (k : ℕ) → k ≤ length (joints world) → slots_from world s k / 2 < length (joints world) =
     λ k within. half_in (slots_from world s k) (length (joints world))

@@ -40,10 +40,10 @@ pub record IsFirstOnRing (world : WorldState) (s : ℕ) : Type 0 where
   pub on : IsOnRing world s
   pub least : NoneBefore world s
 
--- the least slot on a ring, and none where there is no ring
-abbrev pub IsRing : WorldState → Option ℕ → Type 0
-IsRing world (Some s) = IsFirstOnRing world s
-IsRing world None = NoneBefore world (slot_count world)
+-- this is the least slot on a ring, or none where there is no ring
+abbrev pub IsLeastOnRing : WorldState → Option ℕ → Type 0
+IsLeastOnRing world (Some s) = IsFirstOnRing world s
+IsLeastOnRing world None = NoneBefore world (slot_count world)
 
 -- a walk over as many tunnels as there are meets no end exactly where its slot stands on a ring, to which it comes back
 abbrev pub RingsMeetNoEnd : Type 0

@@ -1,9 +1,8 @@
 // Lanes as they change, each given by its place among all lanes.
 
-ghost use Rattle.std.specs.Prelude.{◌≡◌, ◌≤◌, ℕ, ◌+◌, ◌<◌, ◌++◌, [], ◌∷◌, length, slice_index_or, OnOk};
+ghost use Rattle.std.specs.Prelude.{◌≡◌, ℕ, ◌+◌, ◌<◌, [], length, slice_index_or, OnOk};
 ghost use Rattle.mc_slot.specs.Sending.{sends_of};
-ghost use Rattle.mc_world.specs.Lanes.{signals_of, without_front, one_sent, all_sent, lane_by, IsLaid, HasRoom, HasRoomFrom};
-ghost use Rattle.mc_world.specs.Worlds.{far};
+ghost use Rattle.mc_world.specs.Lanes.{signals_of, without_front, one_sent, all_sent, IsLaid, HasRoom, HasRoomFrom};
 
 use crate::ways::Ways;
 use mc_lane::Lane;

@@ -1,9 +1,9 @@
 // Rings of a world.
 
-ghost use Rattle.std.specs.Prelude.{◌≡◌, ◌↔◌, ◌<◌, IfSome, IsTrue, length};
+ghost use Rattle.std.specs.Prelude.{◌≡◌, ◌↔◌, ◌<◌, IfSome, IsTrue};
 ghost use Rattle.std.specs.Option.{is_some};
 ghost use Rattle.mc_world.specs.Paths.{has_ring};
-ghost use Rattle.mc_world.specs.Rings.{IsOnRing, IsRing, NoneBefore, partner_of};
+ghost use Rattle.mc_world.specs.Rings.{IsOnRing, IsLeastOnRing, NoneBefore, partner_of};
 ghost use Rattle.mc_world.specs.Sound.{IsSound};
 ghost use Rattle.mc_world.specs.Worlds.{slot_count};
 
@@ -28,7 +28,7 @@ impl World {
 
     /// The least slot that stands on a ring, a closed chain of tunnels and links; none where there is no ring.
     pub fn ring(&self) -> Option<u32>
-        ensures least { IsRing self.now result }
+        ensures least { IsLeastOnRing self.now result }
         ensures has { has_ring self.now ≡ is_some result }
     {
         self.keeps();
@@ -41,8 +41,8 @@ impl World {
     }
 
     // Whether a slot stands on a ring, where none before it does. Two walks go from it, one each way, until one meets
-    // an end or a slot before this one, or the first comes back. So each walk is about as long as the shorter of the
-    // two ways to such a slot, and all of them together have few more tunnels than the world has slots.
+    // an end or a slot before this one, or the first comes back. So they are about as long as the shorter of the two
+    // ways to such a slot, and the walks from all `n` slots together go over about `n log n` tunnels.
     fn is_on_ring(&self, slot: u32) -> bool
         requires sound { IsSound self.now }
         requires inside { slot < slot_count self.now }
