@@ -13,6 +13,7 @@ pub mod Options
 pub mod SentBy
 pub mod Sums
 pub mod TakeThree
+pub mod TakeTurns
 pub mod Taking
 pub mod TurnActs
 pub mod TurnGoes

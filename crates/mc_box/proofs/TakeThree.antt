@@ -34,10 +34,10 @@ use Rattle.mc_box.proofs.GoalTurns.{end_form, pair_form}
 
 -- ---- a taken close, by sides
 
-closed_first : (signal : Signal) (state : State) → side_closed (closes_by signal state) First ≡ closed_by signal state First
+pub closed_first : (signal : Signal) (state : State) → side_closed (closes_by signal state) First ≡ closed_by signal state First
 closed_first signal state = grind (arith)
 
-closed_second : (signal : Signal) (state : State) → side_closed (closes_by signal state) Second ≡ flipped (closed_by signal state First)
+pub closed_second : (signal : Signal) (state : State) → side_closed (closes_by signal state) Second ≡ flipped (closed_by signal state First)
 closed_second signal state = grind (arith)
 
 -- ---- an end
@@ -53,7 +53,7 @@ no_length : (l : List (Side × Signal)) → length l ≡ 0 → l ≡ []
 no_length [] is = refl
 no_length (x ∷ l) is = absurd (omega arith)
 
-mirror_rests : (a b : Slot) → IsLinkAtRest a b → IsLinkAtRest b a
+pub mirror_rests : (a b : Slot) → IsLinkAtRest a b → IsLinkAtRest b a
 mirror_rests a b rest =
     let same : length (link_due b a None) ≡ length (link_due a b None) = (link_mirror a b None).2 in
     no_length (link_due b a None) (same ∙ ap (λ (l : List (Side × Signal)). length l) rest)

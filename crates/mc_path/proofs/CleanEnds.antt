@@ -22,7 +22,7 @@ endings-append [] second = omega arith
 endings-append (signal ∷ signals) second = omega (arith, endings-append signals second)
 
 -- an end that holds or opens sends none of its own
-due_ends_none : (goal : Goal) (slot : Slot) (pushed : Bool) (own : Descriptor) (me : Sender) → goal ≢ ToClose → endings (due goal slot pushed own me) ≡ 0
+pub due_ends_none : (goal : Goal) (slot : Slot) (pushed : Bool) (own : Descriptor) (me : Sender) → goal ≢ ToClose → endings (due goal slot pushed own me) ≡ 0
 due_ends_none goal slot pushed own me stays = grind (arith)
 
 -- what is sent doesn't close a slot at once
@@ -30,7 +30,7 @@ sent_open : (a after : Slot) (signal : Signal) → sent a signal ≡ Some after 
 sent_open a after signal goes is = grind (arith)
 
 -- nor do several sendings
-all_open : (signals : List Signal) (a after : Slot) → sent_all a signals ≡ Some after → a.state ≢ Closed → after.state ≢ Closed
+pub all_open : (signals : List Signal) (a after : Slot) → sent_all a signals ≡ Some after → a.state ≢ Closed → after.state ≢ Closed
 all_open [] a after goes begun = let same : a ≡ after = cc in subst (λ (x : Slot). x.state ≢ Closed) same begun
 all_open (signal ∷ signals) a after goes begun =
     let one = then_some (λ (next : Slot). sent_all next signals) (sent a signal) after goes in
@@ -41,7 +41,7 @@ pub retry_opens : (goal : Goal) (slot after : Slot) (own : Descriptor) (me : Sen
 retry_opens goal slot after own me owed goes is = grind (arith)
 
 -- what is no close and no closeack isn't answered, and closes no slot
-took_open : (a after : Slot) (signal : Signal) (answer : Option Signal) → taken a signal ≡ Some record { answer = answer; after = after } → close_of signal + ack_of signal ≡ 0
+pub took_open : (a after : Slot) (signal : Signal) (answer : Option Signal) → taken a signal ≡ Some record { answer = answer; after = after } → close_of signal + ack_of signal ≡ 0
     → (answer ≡ None) × (a.state ≢ Closed → after.state ≢ Closed)
 took_open a after signal answer goes none = (grind (arith), λ begun is. grind (arith))
 
@@ -58,7 +58,7 @@ parts_none : (close ack closes acks : ℕ) → (close + closes) + (ack + acks) �
 parts_none close ack closes acks none = (omega arith, omega arith)
 
 -- so the first signal is none, and none follows it
-front_none : (signal : Signal) (rest : List Signal) → endings (signal ∷ rest) ≡ 0 → (close_of signal + ack_of signal ≡ 0) × (endings rest ≡ 0)
+pub front_none : (signal : Signal) (rest : List Signal) → endings (signal ∷ rest) ≡ 0 → (close_of signal + ack_of signal ≡ 0) × (endings rest ≡ 0)
 front_none signal rest none = parts_none (close_of signal) (ack_of signal) (closes rest) (acks rest) none
 
 -- an end that takes its next signal
@@ -72,14 +72,4 @@ take_ends goal slot middle last own me signal answer rest goes turns = record {
   leaves_none = λ none. (front_none signal rest none).1;
   stays = λ none begun.
       all_open (due goal middle (pushed_by signal middle.state) own me) middle last turns ((took_open slot middle signal answer goes (front_none signal rest none).0).1 begun);
-}
-
--- an end whose Retry comes
-pub retry_ends : (goal : Goal) (slot last : Slot) (own : Descriptor) (me : Sender) (coming : List Signal)
-    → owes goal slot ≡ true → sent_all slot (due goal slot true own me) ≡ Some last
-    → EndsNone goal slot coming (due goal slot true own me) last coming
-retry_ends goal slot last own me coming owed turns = record {
-  sends_none = λ holds none. due_ends_none goal slot true own me holds;
-  leaves_none = λ none. none;
-  stays = λ none begun. retry_opens goal slot last own me owed turns;
 }

@@ -1,163 +1,222 @@
--- A Take or a Retry of a sound world: which end acts, under the goal that it has, and the world after it.
-use Rattle.std.proofs.Common.{◌≡◌, ◌≢◌, ◌<◌, ◌&&◌, nat_lt, ℕ, true, false, Some, None, List, map, length, drop, refl, ap, sym, ◌∙◌, subst, arith}
+-- While only Takes and Retries come, goals stay; a slot to which no close and no closeack comes sends none, unless it is an end that closes, and isn't closed by what comes.
+use Rattle.std.proofs.Common.{◌≡◌, ◌≢◌, ◌<◌, ◌+◌, inl, inr, ℕ, true, Some, None, List, ◌∷◌, refl, ap, sym, ◌∙◌, subst, arith}
+use Rattle.std.proofs.lemmas.Bool.{cases_eq}
 use Rattle.std.proofs.lemmas.Grind.{common_steps}
+use Rattle.mc_link.specs.LinkLaws.{closed_by}
+use Rattle.mc_link.specs.LinkTurn.{link_due, sent_by_first, sent_by_second}
+use Rattle.mc_link.specs.declared.Side.TheVariants.{First}
 use Rattle.mc_signal.specs.declared.Signal.{Signal}
-use Rattle.mc_signal.specs.declared.Tagged.{Tagged}
-use Rattle.mc_slot.specs.EndTurn.{due, owes}
-use Rattle.mc_slot.specs.Moves.{sent_all}
-use Rattle.mc_slot.specs.Sending.{pair_of}
+use Rattle.mc_slot.specs.Outlook.{ack_of, close_of}
 use Rattle.mc_slot.specs.declared.Goal.{Goal}
+use Rattle.mc_slot.specs.declared.Goal.TheVariants.{Close as ToClose}
 use Rattle.mc_slot.specs.declared.Slot.{Slot}
 use Rattle.mc_slot.specs.declared.SlotGoal.{SlotGoal}
-use Rattle.mc_slot.specs.declared.SlotGoal.TheVariants.{End}
+use Rattle.mc_slot.specs.declared.SlotGoal.TheVariants.{End, Link}
 use Rattle.mc_slot.specs.declared.State.TheVariants.{Closed}
-use Rattle.mc_box.specs.BoxEvents.{BoxStep, box_event, goal_turn}
-use Rattle.mc_box.specs.Boxes.{BoxState, goal_owes, is_slot, owes_at}
-use Rattle.mc_world.specs.Settles.{is_retry_of, takes_or_retries}
-use Rattle.mc_world.specs.LinkFree.{IsLinkFree}
-use Rattle.mc_world.specs.Steps.{made, step, step_by, with_lane}
-use Rattle.mc_world.specs.Worlds.{WorldState, box_at, for_tunnel, goal_of, joint_of, lane_of, lane_to, list_to, own_descriptor, own_sender, place, slot_count, slot_of}
+use Rattle.mc_box.specs.Acting.{sent_by}
+use Rattle.mc_box.specs.Boxes.{BoxState, slot_at}
 use Rattle.mc_box.specs.declared.event.Event.{Event}
 use Rattle.mc_box.specs.declared.event.Event.TheVariants.{Take, Set, Media, Tell, Retry, Shift}
 use Rattle.mc_box.specs.declared.event.Turn.{Turn}
-use Rattle.mc_world.proofs.ActedWorlds.{acted_world}
-use Rattle.mc_world.proofs.BoxSound.{put}
-use Rattle.mc_world.proofs.CommandsGo.{both_true}
-use Rattle.mc_world.proofs.LinkFree.{goals_rest}
-use Rattle.mc_world.proofs.StepForms.{TurnForm, end_goal, if_some, lane_back, made_is, map_some, same_goal, turn_form}
-use Rattle.mc_world.proofs.StepKeeps.{box_inside, slot_inside}
-use Rattle.mc_world.proofs.TakeForms.{TakeForm, sends_of, take_of_form}
-use Rattle.mc_path.proofs.CleanEnds.{EndsNone, retry_ends, retry_opens, take_ends}
+use Rattle.mc_box.proofs.TakeTurns.{EndTook, Idle, LinkTook, TookBy}
+use Rattle.mc_world.specs.Rings.{partner_of}
+use Rattle.mc_world.specs.Settles.{is_retry_of, takes_or_retries}
+use Rattle.mc_world.specs.Sound.{IsSound}
+use Rattle.mc_world.specs.Stepped.{Stepped}
+use Rattle.mc_world.specs.Steps.{step}
+use Rattle.mc_world.specs.Worlds.{WorldState, box_at, goal_of, list_to, own_descriptor, own_sender, place, slot_count, slot_of}
+use Rattle.mc_world.proofs.ActedWorlds.{place_apart}
+use Rattle.mc_world.proofs.Partners.{IsPartner, by_goal, has_partner, is_partner}
+use Rattle.mc_world.proofs.Reaches.{GoalsStay}
+use Rattle.mc_world.proofs.StepActs.{TakeHappened, take_happened}
+use Rattle.mc_world.proofs.TakeParts.{RetryHappened, apart_local, first_goes, idle_sends, idle_stays, others_left, part_idle, part_sent, part_stays, retry_goals_stay, retry_is, sent_here, take_goals_stay, took_is}
+use Rattle.mc_path.proofs.CleanEnds.{all_open, due_ends_none, endings, front_none, retry_opens, take_ends, took_open}
+use Rattle.mc_path.proofs.CleanLinks.{partner_sends_none, taker_sends_none}
+
+-- what a Take or a Retry does of closes and closeacks, slot by slot
+pub record Calm (world next : WorldState) (turn : Turn) : Type 0 where
+  pub who : ℕ
+  pub stepped : Stepped world next who
+  pub goals : GoalsStay next world
+  pub leaves : (t : ℕ) → t < slot_count world → endings (list_to world t) ≡ 0 → endings (stepped.left t) ≡ 0
+  pub sends : (t : ℕ) → t < slot_count world → goal_of world t ≢ End ToClose → endings (list_to world t) ≡ 0
+      → ((p : ℕ) → partner_of world t ≡ Some p → endings (list_to world p) ≡ 0) → endings (stepped.sent t) ≡ 0
+  pub stays : (t : ℕ) → t < slot_count world → endings (list_to world t) ≡ 0 → (slot_of world t).state ≢ Closed → (slot_at (box_at next (place world t).0) (place world t).1).state ≢ Closed
+  pub opens : (t : ℕ) → t < slot_count world → is_retry_of (place world t).0 (place world t).1 turn ≡ true → (slot_at (box_at next (place world t).0) (place world t).1).state ≢ Closed
+
+-- ---- a Take
+
+-- what is left to each slot
+take_leaves : (world next : WorldState) (s t : ℕ) (took : TakeHappened world next s) → IsSound world → t < slot_count world → endings (list_to world t) ≡ 0 → endings (took.happened.stepped.left t) ≡ 0
+take_leaves world next s t took sound inside none = elim (cases_eq t s) [
+  | inl same ↦
+      let first : endings (took.signal ∷ took.happened.stepped.left s) ≡ 0 = ap endings (sym (first_goes world next s took sound)) ∙ subst (λ (x : ℕ). endings (list_to world x) ≡ 0) same none in
+      subst (λ (x : ℕ). endings (took.happened.stepped.left x) ≡ 0) (sym same) (front_none took.signal (took.happened.stepped.left s) first).1
+  | inr apart ↦ ap endings (others_left world next s t took sound inside apart) ∙ none
+]
+
+-- the signal that is taken is none
+signal_none : (world next : WorldState) (s : ℕ) (took : TakeHappened world next s) → IsSound world → endings (list_to world s) ≡ 0 → close_of took.signal + ack_of took.signal ≡ 0
+signal_none world next s took sound none = (front_none took.signal (took.happened.stepped.left s) (ap endings (sym (first_goes world next s took sound)) ∙ none)).0
+
+-- the slot that takes, as the box's event leaves it
+taker_now : (world next : WorldState) (s : ℕ) (took : TakeHappened world next s) → slot_at (box_at next (place world s).0) (place world s).1 ≡ slot_at took.happened.step.after (place world s).1
+taker_now world next s took = ap (λ (b : BoxState). slot_at b (place world s).1) took.happened.after
+
+end_calm : (world next : WorldState) (who local s : ℕ) (goal : Goal) (took : TakeHappened world next s) → IsSound world → goal_of world s ≡ End goal
+    → EndTook (box_at world (place world s).0) (place world s).1 goal took.signal took.happened.step → Calm world next (record { who = who; event = Take local })
+end_calm world next who local s goal took sound aims did =
+    let mine = own_descriptor world s in
+    let me = own_sender world s in
+    let rest : List Signal = took.happened.stepped.left s in
+    let ends = take_ends goal (slot_of world s) did.middle (slot_at took.happened.step.after (place world s).1) mine me took.signal did.answer rest did.takes did.goes in
+    let first : endings (list_to world s) ≡ 0 → endings (took.signal ∷ took.happened.stepped.left s) ≡ 0 = λ none. ap endings (sym (first_goes world next s took sound)) ∙ none in
+    record {
+      who = (place world s).0;
+      stepped = took.happened.stepped;
+      goals = take_goals_stay world next s took sound;
+      leaves = λ t inside none. take_leaves world next s t took sound inside none;
+      sends = λ t inside holds_open none partners. elim (cases_eq t s) [
+        | inl same ↦
+            let holds : goal ≢ ToClose = λ closes. subst (λ (x : ℕ). goal_of world x ≢ End ToClose) same holds_open (aims ∙ ap (λ (g : Goal). End g) closes) in
+            subst (λ (x : ℕ). endings (took.happened.stepped.sent x) ≡ 0) (sym same)
+            (ap endings (sent_here world next s s took refl ∙ did.sends) ∙ ends.sends_none holds (first (subst (λ (x : ℕ). endings (list_to world x) ≡ 0) same none)))
+        | inr apart ↦ ap endings (idle_sends world next s t took (λ here. did.others (place world t).1 (apart_local world s t sound took.inside inside apart here)))
+      ];
+      stays = λ t inside none begun. elim (cases_eq t s) [
+        | inl same ↦
+            subst (λ (x : ℕ). (slot_at (box_at next (place world x).0) (place world x).1).state ≢ Closed) (sym same)
+            (subst (λ (a : Slot). a.state ≢ Closed) (sym (taker_now world next s took))
+            (ends.stays (first (subst (λ (x : ℕ). endings (list_to world x) ≡ 0) same none)) (subst (λ (x : ℕ). (slot_of world x).state ≢ Closed) same begun)))
+        | inr apart ↦
+            subst (λ (a : Slot). a.state ≢ Closed)
+            (sym (idle_stays world next s (place world t).0 (place world t).1 took (λ here. did.others (place world t).1 (apart_local world s t sound took.inside inside apart here)))) begun
+      ];
+      opens = λ t inside is. absurd (cc);
+    }
+
+link_calm : (world next : WorldState) (who local s p partner : ℕ) (took : TakeHappened world next s) → IsSound world → goal_of world s ≡ Link partner → IsPartner world s partner p
+    → LinkTook (box_at world (place world s).0) (place world s).1 partner took.signal took.happened.step → Calm world next (record { who = who; event = Take local })
+link_calm world next who local s p partner took sound aims pair did =
+    let b : Slot = slot_at (box_at world (place world s).0) partner in
+    let after : BoxState = took.happened.step.after in
+    let due_first : List Signal = sent_by_first (link_due did.middle (slot_at (box_at world (place world s).0) partner) (closed_by took.signal did.middle.state First)) in
+    let due_second : List Signal = sent_by_second (link_due did.middle (slot_at (box_at world (place world s).0) partner) (closed_by took.signal did.middle.state First)) in
+    let back : partner_of world p ≡ Some s = by_goal world p (Link (place world s).1) pair.goal ∙ pair.number in
+    let idle : (t : ℕ) → t < slot_count world → t ≢ s → t ≢ p → (place world t).0 ≡ (place world s).0 → Idle (box_at world (place world s).0) took.happened.step (place world t).1 =
+    λ t inside apart beyond here. did.others (place world t).1 (apart_local world s t sound took.inside inside apart here)
+    (λ is. beyond (place_apart world t p sound.numbered inside pair.inside (here ∙ sym pair.who) (is ∙ sym pair.local))) in
+    let p_sends : took.happened.stepped.sent p ≡ due_second =
+    sent_here world next s p took pair.who ∙ (ap (λ (k : ℕ). sent_by k took.happened.step.sent) pair.local ∙ did.partner_sends) in
+    let p_now : slot_at (box_at next (place world p).0) (place world p).1 ≡ slot_at after partner =
+    ap (λ (w : ℕ). slot_at (box_at next w) (place world p).1) pair.who ∙ (ap (λ (k : ℕ). slot_at (box_at next (place world s).0) k) pair.local ∙ ap (λ (x : BoxState). slot_at x partner) took.happened.after) in
+    let p_was : slot_of world p ≡ slot_at (box_at world (place world s).0) partner =
+    ap (λ (w : ℕ). slot_at (box_at world w) (place world p).1) pair.who ∙ ap (λ (k : ℕ). slot_at (box_at world (place world s).0) k) pair.local in
+    record {
+      who = (place world s).0;
+      stepped = took.happened.stepped;
+      goals = take_goals_stay world next s took sound;
+      leaves = λ t inside none. take_leaves world next s t took sound inside none;
+      sends = λ t inside holds_open none partners. elim (cases_eq t s) [
+        | inl same ↦
+            subst (λ (x : ℕ). endings (took.happened.stepped.sent x) ≡ 0) (sym same)
+            (ap endings (sent_here world next s s took refl ∙ did.sends)
+            ∙ taker_sends_none (slot_of world s) b did.middle took.signal did.answer did.takes (signal_none world next s took sound (subst (λ (x : ℕ). endings (list_to world x) ≡ 0) same none)))
+        | inr apart ↦ elim (cases_eq t p) [
+          | inl same ↦
+              let near : endings (list_to world s) ≡ 0 = partners s (ap (partner_of world) same ∙ back) in
+              subst (λ (x : ℕ). endings (took.happened.stepped.sent x) ≡ 0) (sym same)
+              (ap endings p_sends ∙ partner_sends_none b did.middle took.signal (signal_none world next s took sound near))
+          | inr beyond ↦ ap endings (idle_sends world next s t took (idle t inside apart beyond))
+        ]
+      ];
+      stays = λ t inside none begun. elim (cases_eq t s) [
+        | inl same ↦
+            let quiet = signal_none world next s took sound (subst (λ (x : ℕ). endings (list_to world x) ≡ 0) same none) in
+            subst (λ (x : ℕ). (slot_at (box_at next (place world x).0) (place world x).1).state ≢ Closed) (sym same)
+            (subst (λ (a : Slot). a.state ≢ Closed) (sym (taker_now world next s took))
+            (all_open due_first did.middle (slot_at after (place world s).1) did.first
+            ((took_open (slot_of world s) did.middle took.signal did.answer did.takes quiet).1 (subst (λ (x : ℕ). (slot_of world x).state ≢ Closed) same begun))))
+        | inr apart ↦ elim (cases_eq t p) [
+          | inl same ↦
+              subst (λ (x : ℕ). (slot_at (box_at next (place world x).0) (place world x).1).state ≢ Closed) (sym same)
+              (subst (λ (a : Slot). a.state ≢ Closed) (sym p_now)
+              (all_open due_second b (slot_at after partner) did.second
+              (subst (λ (a : Slot). a.state ≢ Closed) p_was (subst (λ (x : ℕ). (slot_of world x).state ≢ Closed) same begun))))
+          | inr beyond ↦
+              subst (λ (a : Slot). a.state ≢ Closed) (sym (idle_stays world next s (place world t).0 (place world t).1 took (idle t inside apart beyond))) begun
+        ]
+      ];
+      opens = λ t inside is. absurd (cc);
+    }
+
+goal_calm : (goal : SlotGoal) (world next : WorldState) (who local s : ℕ) (took : TakeHappened world next s) → IsSound world → goal_of world s ≡ goal
+    → TookBy goal (box_at world (place world s).0) (place world s).1 took.signal took.happened.step → Calm world next (record { who = who; event = Take local })
+goal_calm (End goal) world next who local s took sound aims did = end_calm world next who local s goal took sound aims did
+goal_calm (Link partner) world next who local s took sound aims did =
+    let there = has_partner world s partner sound took.inside aims in
+    link_calm world next who local s there.0 partner took sound aims (is_partner world s partner there.0 sound took.inside aims there.1) did
 
 -- ---- a Retry
 
--- slot s, an end's that owes a retry, is pushed
-record RetryForm (world next : WorldState) (s : ℕ) : Type 0 where
-  goal : Goal
-  last : Slot
-  aims : goal_of world s ≡ End goal
-  owed : owes goal (slot_of world s) ≡ true
-  turns : sent_all (slot_of world s) (due goal (slot_of world s) true (own_descriptor world s) (own_sender world s)) ≡ Some last
-  is : next ≡ acted_world world s last (End goal) (lane_to world s) (due goal (slot_of world s) true (own_descriptor world s) (own_sender world s))
+-- whose retry a Retry is
+retry_at : (who local : ℕ) (at other : ℕ × ℕ) → at ≡ (who, local) → is_retry_of other.0 other.1 (record { who = who; event = Retry local }) ≡ true → (other.0 ≡ at.0) × (other.1 ≡ at.1)
+retry_at who local at other there is =
+    let numbers = same_numbers who local other.0 other.1 is in
+    (numbers.0 ∙ ap (λ (p : ℕ × ℕ). p.0) (sym there), numbers.1 ∙ ap (λ (p : ℕ × ℕ). p.1) (sym there))
+  where
+    same_numbers : (who local other slot : ℕ) → is_retry_of other slot (record { who = who; event = Retry local }) ≡ true → (other ≡ who) × (slot ≡ local)
+    same_numbers who local other slot is = (grind (arith, common_steps), grind (arith, common_steps))
 
--- what the box does, in the world
-retry_made : (world next : WorldState) (s : ℕ) (goal : Goal) (turn : BoxStep) → IsLinkFree world → s < slot_count world
-    → goal_of world s ≡ End goal → goal_owes (goal_of world s) (slot_of world s) ≡ true
-    → TurnForm (box_at world (place world s).0) (place world s).1 goal true (slot_of world s) (own_descriptor world s) (own_sender world s) turn
-    → made world (place world s).0 turn ≡ next → RetryForm world next s
-retry_made world next s goal turn sound inside aims owed form goes =
-    let signals : List Signal = due goal (slot_of world s) true (own_descriptor world s) (own_sender world s) in
-    let box : BoxState = box_at world (place world s).0 in
+retried_calm : (world next : WorldState) (who local s : ℕ) (retried : RetryHappened world next s) → IsSound world → place world s ≡ (who, local) → Calm world next (record { who = who; event = Retry local })
+retried_calm world next who local s retried sound at =
+    let did = retried.did in
+    let mine = own_descriptor world s in
+    let me = own_sender world s in
+    let idle : (t : ℕ) → t < slot_count world → t ≢ s → (place world t).0 ≡ (place world s).0 → Idle (box_at world (place world s).0) retried.happened.step (place world t).1 =
+    λ t inside apart here. retried.did.turned.others (place world t).1 (apart_local world s t sound retried.inside inside apart here) in
+    let now : slot_at (box_at next (place world s).0) (place world s).1 ≡ slot_at retried.happened.step.after (place world s).1 = ap (λ (b : BoxState). slot_at b (place world s).1) retried.happened.after in
+    let opened : (slot_at (box_at next (place world s).0) (place world s).1).state ≢ Closed =
+    subst (λ (a : Slot). a.state ≢ Closed) (sym now)
+    (retry_opens retried.did.goal (slot_of world s) (slot_at retried.happened.step.after (place world s).1) (own_descriptor world s) (own_sender world s) retried.did.owed retried.did.turned.goes) in
     record {
-      goal = goal;
-      last = form.last;
-      aims = aims;
-      owed = ap (λ (g : SlotGoal). goal_owes g (slot_of world s)) (sym aims) ∙ owed;
-      turns = form.goes;
-      is = sym goes
-          ∙ (ap (λ (w : WorldState). made w (place world s).0 turn) (sym (lane_back world (lane_of world s)))
-          ∙ (ap (made (with_lane world (lane_of world s) (lane_to world s)) (place world s).0) (sym form.is ∙ ap (λ (b : BoxState). record { sent = map (pair_of (place world s).1) signals; after = b }) (same_goal box (place world s).1 form.last goal aims))
-          ∙ made_is world (place world s).0 (place world s).1 s (lane_to world s) (put box (place world s).1 form.last (End goal)) signals sound.sound.numbered inside (sound.sound.numbered.once s inside)));
+      who = (place world s).0;
+      stepped = retried.happened.stepped;
+      goals = retry_goals_stay world next s retried;
+      leaves = λ t inside none. ap endings (retried.happened.lefts t) ∙ none;
+      sends = λ t inside holds_open none partners. elim (cases_eq t s) [
+        | inl same ↦
+            let holds : retried.did.goal ≢ ToClose = λ closes. subst (λ (x : ℕ). goal_of world x ≢ End ToClose) same holds_open (retried.did.aims ∙ ap (λ (g : Goal). End g) closes) in
+            subst (λ (x : ℕ). endings (retried.happened.stepped.sent x) ≡ 0) (sym same)
+            (ap endings (part_sent world next (place world s).0 s (Retry (place world s).1) None world.lanes retried.happened refl ∙ retried.did.turned.sends)
+            ∙ due_ends_none retried.did.goal (slot_of world s) true (own_descriptor world s) (own_sender world s) holds)
+        | inr apart ↦ ap endings (part_idle world next (place world s).0 t (Retry (place world s).1) None world.lanes retried.happened (idle t inside apart))
+      ];
+      stays = λ t inside none begun. elim (cases_eq t s) [
+        | inl same ↦ subst (λ (x : ℕ). (slot_at (box_at next (place world x).0) (place world x).1).state ≢ Closed) (sym same) opened
+        | inr apart ↦
+            subst (λ (a : Slot). a.state ≢ Closed)
+            (sym (part_stays world next (place world s).0 (place world t).0 (place world t).1 (Retry (place world s).1) None world.lanes retried.happened (idle t inside apart))) begun
+      ];
+      opens = λ t inside is.
+          let own = retry_at who local (place world s) (place world t) at is in
+          subst (λ (x : ℕ). (slot_at (box_at next (place world x).0) (place world x).1).state ≢ Closed)
+          (sym (place_apart world t s sound.numbered inside retried.inside own.0 own.1)) opened;
     }
-
--- by the place of the slot
-retry_at : (world next : WorldState) (s : ℕ) (turn : BoxStep) → IsLinkFree world → s < slot_count world
-    → owes_at (box_at world (place world s).0) (place world s).1 ≡ true → goal_turn (box_at world (place world s).0) (place world s).1 true false ≡ Some turn → made world (place world s).0 turn ≡ next → RetryForm world next s
-retry_at world next s turn sound inside owes goes made_is =
-    let aim = end_goal (goal_of world s) world s (goals_rest world s sound inside) in
-    retry_made world next s aim.0 turn sound inside aim.1 owes
-    (turn_form (box_at world (place world s).0) (place world s).1 aim.0 true false (slot_of world s) (own_descriptor world s) (own_sender world s) turn aim.1 refl refl refl goes)
-    made_is
-
--- by the box and the local number
-retry_there : (world next : WorldState) (who local s : ℕ) (turn : BoxStep) → IsLinkFree world → s < slot_count world → place world s ≡ (who, local)
-    → owes_at (box_at world who) local ≡ true → goal_turn (box_at world who) local true false ≡ Some turn → made world who turn ≡ next → RetryForm world next s
-retry_there world next who local s turn sound inside at owes goes made_is =
-    retry_at world next s turn sound inside
-    (subst (λ (p : ℕ × ℕ). owes_at (box_at world p.0) p.1 ≡ true) (sym at) owes)
-    (subst (λ (p : ℕ × ℕ). goal_turn (box_at world p.0) p.1 true false ≡ Some turn) (sym at) goes)
-    (subst (λ (p : ℕ × ℕ). made world p.0 turn ≡ next) (sym at) made_is)
-
--- the step of each Retry
-retry_of_form : (world next : WorldState) (who local : ℕ) → IsLinkFree world → who < length world.boxes
-    → step_by world who (Retry local) ≡ Some next → (s : ℕ) × (s < slot_count world) × (place world s ≡ (who, local)) × RetryForm world next s
-retry_of_form world next who local sound below goes =
-    let one = map_some (made world who) (box_event (box_at world who) (Retry local) None) next goes in
-    let two = if_some (is_slot (box_at world who) local && owes_at (box_at world who) local) (goal_turn (box_at world who) local true false) one.0 one.1 in
-    let parts = both_true (is_slot (box_at world who) local) (owes_at (box_at world who) local) two.0 in
-    let found = sound.sound.numbered.all who local below (slot_inside (box_at world who) local parts.0) in
-    (found.0, found.1, found.2, retry_there world next who local found.0 one.0 sound found.1 found.2 parts.1 two.1 one.2)
 
 -- ---- a Take or a Retry
 
--- slot s, an end's, acts under the goal that it has; where the turn is a Retry, it is the slot's, which isn't closed after it
-pub record EndStep (world next : WorldState) (turn : Turn) : Type 0 where
-  pub s : ℕ
-  pub goal : Goal
-  pub last : Slot
-  pub left : List Tagged
-  pub signals : List Signal
-  pub inside : s < slot_count world
-  pub aims : goal_of world s ≡ End goal
-  pub others : (other : ℕ) → other ≢ (joint_of world s).within → for_tunnel other left ≡ for_tunnel other (lane_to world s)
-  pub is : next ≡ acted_world world s last (End goal) left signals
-  pub ends : EndsNone goal (slot_of world s) (list_to world s) signals last (for_tunnel (joint_of world s).within left)
-  pub retried : (who local : ℕ) → is_retry_of who local turn ≡ true → (place world s ≡ (who, local)) × (last.state ≢ Closed)
+event_calm : (event : Event) (world next : WorldState) (who : ℕ) → IsSound world → takes_or_retries event ≡ true → step world (record { who = who; event = event }) ≡ Some next → Calm world next (record { who = who; event = event })
+event_calm (Take local) world next who sound is goes =
+    let took = take_happened world next who local sound goes in
+    goal_calm (goal_of world took.0) world next who local took.0 took.1 sound refl (took_is world next took.0 took.1 sound)
+event_calm (Retry local) world next who sound is goes =
+    let retried = retry_is world next who local sound goes in
+    retried_calm world next who local retried.0 retried.2 sound retried.1
+event_calm (Set change) world next who sound is goes = absurd (cc)
+event_calm (Media change) world next who sound is goes = absurd (cc)
+event_calm (Tell word) world next who sound is goes = absurd (cc)
+event_calm Shift world next who sound is goes = absurd (cc)
 
--- from a Take
-take_step : (world next : WorldState) (who local : ℕ) → TakeForm world next → EndStep world next (record { who = who; event = Take local })
-take_step world next who local form = record {
-  s = form.s;
-  goal = form.goal;
-  last = form.last;
-  left = drop 1 (lane_to world form.s);
-  signals = sends_of world form.s form.goal form.signal form.answer form.middle;
-  inside = form.inside;
-  aims = form.aims;
-  others = form.fronts.others;
-  is = form.is;
-  ends = subst (λ (l : List Signal). EndsNone form.goal (slot_of world form.s) l (sends_of world form.s form.goal form.signal form.answer form.middle) form.last
-      (for_tunnel (joint_of world form.s).within (drop 1 (lane_to world form.s)))) (sym form.fronts.next)
-      (take_ends form.goal (slot_of world form.s) form.middle form.last (own_descriptor world form.s) (own_sender world form.s) form.signal form.answer
-      (for_tunnel (joint_of world form.s).within (drop 1 (lane_to world form.s))) form.takes form.turns);
-  retried = λ who local is. absurd (cc);
-}
-
--- whose retry a Retry is
-retry_is : (who local other slot : ℕ) (at : ℕ × ℕ) → at ≡ (other, slot) → is_retry_of who local (record { who = other; event = Retry slot }) ≡ true → at ≡ (who, local)
-retry_is who local other slot at there is = grind (arith, common_steps)
-
--- from a Retry
-retried_step : (world next : WorldState) (who local s : ℕ) → s < slot_count world → place world s ≡ (who, local) → RetryForm world next s
-    → EndStep world next (record { who = who; event = Retry local })
-retried_step world next who local s inside at form = record {
-  s = s;
-  goal = form.goal;
-  last = form.last;
-  left = lane_to world s;
-  signals = due form.goal (slot_of world s) true (own_descriptor world s) (own_sender world s);
-  inside = inside;
-  aims = form.aims;
-  others = λ other apart. refl;
-  is = form.is;
-  ends = retry_ends form.goal (slot_of world s) form.last (own_descriptor world s) (own_sender world s) (list_to world s) form.owed form.turns;
-  retried = λ owner own_local is.
-      (retry_is owner own_local who local (place world s) at is, retry_opens form.goal (slot_of world s) form.last (own_descriptor world s) (own_sender world s) form.owed form.turns);
-}
-
--- by the event
-event_step : (event : Event) (world next : WorldState) (who : ℕ) → IsLinkFree world → takes_or_retries event ≡ true → step world (record { who = who; event = event }) ≡ Some next
-    → EndStep world next (record { who = who; event = event })
-event_step (Take local) world next who sound is goes = take_step world next who local (take_of_form world next who local sound goes)
-event_step (Retry local) world next who sound is goes =
-    let one = if_some (nat_lt who (length world.boxes)) (step_by world who (Retry local)) next goes in
-    let form = retry_of_form world next who local sound (box_inside world who one.0) one.1 in
-    retried_step world next who local form.0 form.1 form.2 form.3
-event_step (Set change) world next who sound is goes = absurd (cc)
-event_step (Media change) world next who sound is goes = absurd (cc)
-event_step (Tell word) world next who sound is goes = absurd (cc)
-event_step Shift world next who sound is goes = absurd (cc)
-
--- each Take and each Retry
-pub end_step : (world next : WorldState) (turn : Turn) → IsLinkFree world → takes_or_retries turn.event ≡ true → step world turn ≡ Some next → EndStep world next turn
-end_step world next turn sound is goes = event_step turn.event world next turn.who sound is goes
+pub step_calm : (world next : WorldState) (turn : Turn) → IsSound world → takes_or_retries turn.event ≡ true → step world turn ≡ Some next → Calm world next turn
+step_calm world next turn sound is goes = event_calm turn.event world next turn.who sound is goes

@@ -1,8 +1,9 @@
 pub mod Chains
 pub mod CleanEnds
+pub mod CleanLinks
 pub mod CleanPaths
 pub mod CleanSteps
-pub mod CleanTunnels
+pub mod CleanWalks
 pub mod Ends
 mod Lengths
 mod OneMedium
@@ -15,5 +16,4 @@ pub mod SettledHold
 pub mod Shown
 pub mod Standing
 pub mod TableHolds
-pub mod Tunnels
 pub mod Walking

@@ -1,5 +1,5 @@
 -- What a path is where nothing is under way, over however many tunnels: closed, or flowing with ends that hear each other.
-use Rattle.std.proofs.Common.{◌≡◌, ◌<◌, ◌+◌, ◌*◌, ◌⊎◌, inl, inr, ℕ, zero, suc, false, nat_lt, Option, Some, None, IsTrue, List, [], ◌∷◌, All, length, refl, ap, sym, ◌∙◌, subst, arith}
+use Rattle.std.proofs.Common.{◌≡◌, ◌<◌, ◌+◌, ◌⊎◌, inl, inr, ℕ, zero, suc, false, nat_lt, Option, Some, None, IsTrue, List, [], ◌∷◌, All, length, refl, ap, sym, ◌∙◌, subst, arith}
 use Rattle.std.specs.List.{cons_option, enumerate_from, filter_map}
 use Rattle.std.specs.Option.{option_and_then}
 use Rattle.std.proofs.lemmas.List.Elements.{All-nil, All-cons}
@@ -157,9 +157,3 @@ each_from P f (slot ∷ slots) first count whole each =
 pub quiet_paths : QuietPaths
 quiet_paths world sound quiet =
     each_from (IsQuietPath world) (path_from world) (places world) 0 (slot_count world) (omega arith) (λ s inside path is. path_of world s path sound quiet inside is)
-
--- ---- tunnels
-
--- the lower slot of a tunnel is there with the higher
-pub low_in : (t slots : ℕ) → 2 * t + 1 < slots → 2 * t < slots
-low_in t slots inside = omega arith

@@ -1,5 +1,5 @@
 -- After a settled segment each path is as the path table says: each owed Retry has come, and opened its slot.
-use Rattle.std.proofs.Common.{◌≡◌, ◌≢◌, ◌<◌, ◌≤◌, ◌+◌, ◌*◌, ◌++◌, ◌⊎◌, inl, inr, if◌then◌else◌, ℕ, Bool, true, false, Option, Some, IsTrue, List, [], ◌∷◌, All, get_or, length, take, drop, count_by, refl, ap, sym, ◌∙◌, subst, arith}
+use Rattle.std.proofs.Common.{◌≡◌, ◌≢◌, ◌<◌, ◌≤◌, ◌++◌, ◌⊎◌, inl, inr, if◌then◌else◌, ℕ, Bool, true, false, Option, Some, IsTrue, List, [], ◌∷◌, All, get_or, length, take, drop, count_by, refl, ap, sym, ◌∙◌, subst, arith}
 use Rattle.std.specs.List.{list_all}
 use Rattle.std.specs.Option.{option_and_then, unwrap_or}
 use Rattle.std.proofs.lemmas.Grind.{common_steps}
@@ -11,26 +11,25 @@ use Rattle.mc_slot.specs.declared.SlotGoal.{SlotGoal}
 use Rattle.mc_slot.specs.declared.SlotGoal.TheVariants.{End, Link}
 use Rattle.mc_slot.specs.declared.State.{State}
 use Rattle.mc_slot.specs.declared.State.TheVariants.{Closed, Opening, Opened, Flowing, Closing}
-use Rattle.mc_box.specs.Boxes.{goal_owes}
-use Rattle.mc_world.specs.Paths.{end_goal, end_goal_of, paths}
+use Rattle.mc_box.specs.Boxes.{goal_at, goal_owes}
+use Rattle.mc_world.specs.Paths.{PathEnds, end_goal, end_goal_of, is_end_goal, other_end, path_from, paths}
 use Rattle.mc_world.specs.Settles.{IsLastRest, is_quiet, is_retry_of, owes_retry, takes_or_retries}
 use Rattle.mc_world.specs.Shapes.{owes_of}
-use Rattle.mc_world.specs.LinkFree.{IsLinkFree, LinkNone}
+use Rattle.mc_world.specs.Sound.{IsSound}
 use Rattle.mc_world.specs.Steps.{after, run, step}
-use Rattle.mc_world.specs.Worlds.{WorldState, box_at, far, goal_of, place, slot_count, slot_of}
+use Rattle.mc_world.specs.Worlds.{ChannelState, WorldState, box_at, goal_of, joints, place, places, slot_count, slot_of}
 use Rattle.mc_box.specs.declared.event.Turn.{Turn}
-use Rattle.mc_world.proofs.ActedWorlds.{far_inside}
+use Rattle.mc_world.proofs.GoalsKept.{Stay, run_stays}
 use Rattle.mc_world.proofs.NoPrograms.{quiet_rests}
-use Rattle.mc_world.proofs.ShapesKept.{run_keeps_shape}
+use Rattle.mc_world.proofs.StepKeeps.{run_keeps_sound}
 use Rattle.mc_world.proofs.StepForms.{then_some}
 use Rattle.mc_world.proofs.StepGoes.{below_test}
-use Rattle.mc_world.proofs.LinkFree.{first_link_none, rests_link_none, run_keeps_link_free, settled_link_none}
 use Rattle.mc_path.specs.PathLaws.{SettledPathsHold}
-use Rattle.mc_path.proofs.CleanPaths.{goals_before, quiet_clean, same_count}
-use Rattle.mc_path.proofs.CleanTunnels.{CleanTunnel, run_opens}
-use Rattle.mc_path.proofs.Quiet.{low_in, quiet_paths}
+use Rattle.mc_path.proofs.CleanWalks.{IsBetween, between_before, end_between, quiet_clean, run_opens}
+use Rattle.mc_path.proofs.Ends.{parts_of}
+use Rattle.mc_path.proofs.Quiet.{each_from, quiet_paths}
+use Rattle.mc_path.proofs.Returns.{end_back, walk_back}
 use Rattle.mc_path.proofs.TableHolds.{OwesNone, table_holds}
-use Rattle.mc_path.proofs.Tunnels.{each_path, far_of_low}
 
 -- ---- two parts of a run
 
@@ -76,11 +75,11 @@ closed_or_not Flowing = inl (λ is. cc)
 closed_or_not Closing = inl (λ is. cc)
 
 -- a slot that owes a retry owes it by its box and its local number
-owes_by_place : (world : WorldState) (t : ℕ) → IsLinkFree world → t < slot_count world → owes_of world t ≡ true → owes_retry world (place world t).0 (place world t).1 ≡ true
+owes_by_place : (world : WorldState) (t : ℕ) → IsSound world → t < slot_count world → owes_of world t ≡ true → owes_retry world (place world t).0 (place world t).1 ≡ true
 owes_by_place world t sound within owed =
     rw (
-      below_test (place world t).0 (length world.boxes) (sound.sound.numbered.placed t within),
-      below_test (place world t).1 (length (box_at world (place world t).0).slots) (sound.sound.numbered.slots t within),
+      below_test (place world t).0 (length world.boxes) (sound.numbered.placed t within),
+      below_test (place world t).1 (length (box_at world (place world t).0).slots) (sound.numbered.slots t within),
     ) owed
 
 -- where a retry was owed, one came
@@ -89,7 +88,7 @@ some_retry true count is owes = omega arith
 some_retry false count is owes = absurd (cc)
 
 -- it isn't closed, or its Retry is to come
-begun_or_retried : (world : WorldState) (turns : List Turn) (t : ℕ) → IsLinkFree world → t < slot_count world → end_goal world t ≡ ToOpen
+begun_or_retried : (world : WorldState) (turns : List Turn) (t : ℕ) → IsSound world → t < slot_count world → end_goal world t ≡ ToOpen
     → ((who local : ℕ) → count_by (is_retry_of who local) turns ≡ (if owes_retry world who local then 1 else 0))
     → ((slot_of world t).state ≢ Closed) ⊎ (1 ≤ count_by (is_retry_of (place world t).0 (place world t).1) turns)
 begun_or_retried world turns t sound within aims retries = elim (closed_or_not (slot_of world t).state) [
@@ -104,50 +103,65 @@ begun_or_retried world turns t sound within aims retries = elim (closed_or_not (
 to_open : (goal : Goal) → goal ≡ ToOpen → goal ≢ ToClose
 to_open goal opens closes = cc
 
--- once each Retry has come that was owed when nothing was under way, an end that is to open owes none, unless the other end closes
-owes_none : (world last : WorldState) (turns : List Turn) (t : ℕ) → IsLinkFree world → IsTrue (is_quiet world)
+-- the goal of an end at the end of the turns is that of the beginning
+goal_before : (world last : WorldState) (t : ℕ) → Stay world last → end_goal last t ≡ end_goal world t
+goal_before world last t stay =
+    let at : place last t ≡ place world t = ap (λ (c : List ChannelState). place (record world { channels = c }) t) stay.channels in
+    ap end_goal_of (ap (λ (p : ℕ × ℕ). goal_at (box_at last p.0) p.1) at ∙ stay.goals (place world t).0 (place world t).1)
+
+-- once each Retry has come that was owed when nothing was under way, an end that is to open owes none, unless the other end of its path closes
+owes_none : (world last : WorldState) (turns : List Turn) (s t : ℕ) → IsSound world → IsTrue (is_quiet world)
     → list_all (λ turn. takes_or_retries turn.event) turns ≡ true → run world turns ≡ Some last
     → ((who local : ℕ) → count_by (is_retry_of who local) turns ≡ (if owes_retry world who local then 1 else 0))
-    → t < slot_count last → end_goal last t ≡ ToOpen → end_goal last (far t) ≢ ToClose → owes_of last t ≡ false
-owes_none world last turns t sound quiet all goes retries inside opens far_stays =
-    let within : t < slot_count world = subst (λ (n : ℕ). t < n) (same_count last world (run_keeps_shape world last turns sound.sound goes)) inside in
-    let aims : end_goal world t ≡ ToOpen = sym (goals_before world last turns t sound within all goes) ∙ opens in
-    let clean : CleanTunnel world t = quiet_clean world t quiet (to_open (end_goal world t) aims)
-    (λ is. far_stays (goals_before world last turns (far t) sound (far_inside world t within) all goes ∙ is)) in
-    owes_begun (goal_of last t) (slot_of last t) (run_opens turns world last t sound within all goes clean (begun_or_retried world turns t sound within aims retries))
+    → s < slot_count last → is_end_goal (goal_of last s) ≡ true → other_end last s ≡ Some t → end_goal last s ≡ ToOpen → end_goal last t ≢ ToClose → owes_of last s ≡ false
+owes_none world last turns s t sound quiet all goes retries inside aims walk opens far_stays =
+    let stay = run_stays turns world last sound all goes in
+    let between : IsBetween world s = between_before world last s stay.channels stay.goals
+    (end_between last s t inside aims walk (to_open (end_goal last s) opens) far_stays) in
+    owes_begun (goal_of last s) (slot_of last s)
+    (run_opens turns world last s sound between all goes (quiet_clean world quiet) (begun_or_retried world turns s sound between.inside (sym (goal_before world last s stay) ∙ opens) retries))
 
 -- ---- paths
 
--- the lower slot of a tunnel is the far slot of the other
-far_of_high : (t : ℕ) → far (2 * t + 1) ≡ 2 * t
-far_of_high t = grind (arith, common_steps)
+-- both ends of the path of which a slot is the lower end
+path_owes_none : (world last : WorldState) (turns : List Turn) (s : ℕ) (path : PathEnds) → IsSound world → IsTrue (is_quiet world)
+    → list_all (λ turn. takes_or_retries turn.event) turns ≡ true → run world turns ≡ Some last
+    → ((who local : ℕ) → count_by (is_retry_of who local) turns ≡ (if owes_retry world who local then 1 else 0))
+    → s < slot_count last → path_from last s ≡ Some path → OwesNone last path
+path_owes_none world last turns s path sound quiet all goes retries inside is =
+    let parts = parts_of last s path is in
+    let kept = (run_stays turns world last sound all goes).sound in
+    let more = walk_back (length (joints last)) last s path.high kept inside parts.leads in
+    let back : other_end last path.high ≡ Some s = end_back last s path.high kept inside parts.aims parts.leads in
+    record {
+      low = λ opens stays.
+          subst (λ (n : ℕ). owes_of last n ≡ false) (sym parts.low_is)
+          (owes_none world last turns s path.high sound quiet all goes retries inside parts.aims parts.leads (subst (λ (n : ℕ). end_goal last n ≡ ToOpen) parts.low_is opens) stays);
+      high = λ opens stays.
+          owes_none world last turns path.high s sound quiet all goes retries more.inside more.aims back opens (subst (λ (n : ℕ). end_goal last n ≢ ToClose) parts.low_is stays);
+    }
 
 -- from the last rest on, to the end
-rest_owes_none : (world last : WorldState) (turns : List Turn) → IsLinkFree world → IsTrue (is_quiet world)
+rest_owes_none : (world last : WorldState) (turns : List Turn) → IsSound world → IsTrue (is_quiet world)
     → list_all (λ turn. takes_or_retries turn.event) turns ≡ true → run world turns ≡ Some last
     → ((who local : ℕ) → count_by (is_retry_of who local) turns ≡ (if owes_retry world who local then 1 else 0))
     → All (OwesNone last) (paths last)
 rest_owes_none world last turns sound quiet all goes retries =
-    each_path last (OwesNone last) (run_keeps_link_free world last turns sound (rests_link_none turns all) goes) (λ t inside. record {
-      low = λ opens stays. owes_none world last turns (2 * t) sound quiet all goes retries (low_in t (slot_count last) inside) opens
-          (subst (λ (x : ℕ). end_goal last x ≢ ToClose) (sym (far_of_low t)) stays);
-      high = λ opens stays. owes_none world last turns (2 * t + 1) sound quiet all goes retries inside opens
-          (subst (λ (x : ℕ). end_goal last x ≢ ToClose) (sym (far_of_high t)) stays);
-    })
+    each_from (OwesNone last) (path_from last) (places last) 0 (slot_count last) (omega arith)
+    (λ s inside path is. path_owes_none world last turns s path sound quiet all goes retries inside is)
 
 -- the last rest begins where the turns of its moment lead
-settled_owes_none : (world last : WorldState) (batch turns : List Turn) (moment : ℕ) → IsLinkFree world → LinkNone turns → run world turns ≡ Some last → IsLastRest world batch turns moment
+settled_owes_none : (world last : WorldState) (batch turns : List Turn) (moment : ℕ) → IsSound world → run world turns ≡ Some last → IsLastRest world batch turns moment
     → All (OwesNone last) (paths last)
-settled_owes_none world last batch turns moment sound none goes rest =
+settled_owes_none world last batch turns moment sound goes rest =
     let halves = run_halves (take moment turns) (drop moment turns) world last (ap (run world) (take-append-drop moment turns) ∙ goes) in
     rest_owes_none (after world (take moment turns)) last (drop moment turns)
-    (run_keeps_link_free world (after world (take moment turns)) (take moment turns) sound (first_link_none turns moment none) halves.0)
+    (run_keeps_sound world (after world (take moment turns)) (take moment turns) sound halves.0)
     (quiet_rests (after world (take moment turns)) ∙ rest.at_rest) rest.besides halves.1 rest.retries
 
 -- so each path is as the path table says
 pub settled_paths_hold : SettledPathsHold
-settled_paths_hold world last batch turns sound links settled k path below =
-    let none = settled_link_none world last batch turns links settled in
-    let quiet = quiet_paths last (run_keeps_link_free world last turns sound none settled.runs).sound (quiet_rests last ∙ settled.at_rest) in
+settled_paths_hold world last batch turns sound settled k path below =
+    let quiet = quiet_paths last (run_keeps_sound world last turns sound settled.runs) (quiet_rests last ∙ settled.at_rest) in
     table_holds last (get_or (paths last) k path) (quiet k path below)
-    (settled_owes_none world last batch turns settled.moment sound none settled.runs settled.last_rest k path below)
+    (settled_owes_none world last batch turns settled.moment sound settled.runs settled.last_rest k path below)

@@ -4,11 +4,10 @@ use Rattle.std.specs.Option.{option_and_then, option_map, unwrap_or}
 use Rattle.mc_slot.specs.declared.Goal.{Goal}
 use Rattle.mc_slot.specs.declared.SlotGoal.{SlotGoal}
 use Rattle.mc_slot.specs.declared.SlotGoal.TheVariants.{End, Link}
-use Rattle.mc_world.specs.Paths.{walk_by, walked}
+use Rattle.mc_world.specs.Paths.{crossed, crossed_by, walk_by, walked}
 use Rattle.mc_world.specs.Worlds.{WorldState, far, goal_of, joints, number, place, slot_count}
 use Rattle.mc_world.proofs.Joints.{two_each}
 use Rattle.mc_world.proofs.Numbers.{number_is}
-use Rattle.mc_path.specs.Views.{crossed, crossed_by}
 use Rattle.mc_path.specs.Walks.{walk_from}
 use Rattle.mc_path.specs.declared.walk.Walked.{Walked}
 

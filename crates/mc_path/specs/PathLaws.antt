@@ -13,7 +13,6 @@ use Rattle.mc_world.specs.Paths.{PathEnds, end_goal, is_end_goal, paths}
 use Rattle.mc_world.specs.Rings.{IsOnRing}
 use Rattle.mc_world.specs.Settles.{IsSettled, is_quiet, takes_or_retries}
 use Rattle.mc_world.specs.Shapes.{owes_of}
-use Rattle.mc_world.specs.LinkFree.{IsLinkFree, LinkNone}
 use Rattle.mc_world.specs.Sound.{IsSound}
 use Rattle.mc_world.specs.Steps.{run}
 use Rattle.mc_world.specs.Worlds.{WorldState, far, goal_of, joint_of, joints, list_to, number, own_descriptor, own_sender, place, slot_count, slot_of}
@@ -65,18 +64,18 @@ pub record IsClean (world : WorldState) (s : ℕ) : Type 0 where
   pub none : closes (list_to world s) + acks (list_to world s) ≡ 0
   pub state : (slot_of world s).state ≢ Closing
 
--- the ends of a path are clean, unless one of them closes
+-- all slots of a path are clean, unless one of its ends closes
 abbrev pub IsCleanPath : WorldState → PathEnds → Type 0
-IsCleanPath world path = end_goal world path.low ≢ ToClose → end_goal world path.high ≢ ToClose → IsClean world path.low × IsClean world path.high
+IsCleanPath world path = end_goal world path.low ≢ ToClose → end_goal world path.high ≢ ToClose → All (λ s. IsClean world s) (slots_on world path)
 
--- without links, after a moment at which nothing was under way, while only Takes and Retries come, no close is ever under way on a path without an end that closes
+-- after a moment at which nothing was under way, while only Takes and Retries come, no close is ever under way on a path without an end that closes
 abbrev pub CleanPaths : Type 0
-CleanPaths = (world next : WorldState) (turns : List Turn) → IsLinkFree world → IsTrue (is_quiet world)
+CleanPaths = (world next : WorldState) (turns : List Turn) → IsSound world → IsTrue (is_quiet world)
     → IsTrue (list_all (λ turn. takes_or_retries turn.event) turns) → run world turns ≡ Some next → All (IsCleanPath next) (paths next)
 
--- without links, after each settled segment, whatever the order of its turns, each path is as the path table says
+-- after each settled segment, whatever the order of its turns, each path is as the path table says
 abbrev pub SettledPathsHold : Type 0
-SettledPathsHold = (world last : WorldState) (batch turns : List Turn) → IsLinkFree world → LinkNone batch → IsSettled world batch turns last → All (PathHolds last) (paths last)
+SettledPathsHold = (world last : WorldState) (batch turns : List Turn) → IsSound world → IsSettled world batch turns last → All (PathHolds last) (paths last)
 
 -- whether a slot is an end of a path
 abbrev pub is_end_of : ℕ → PathEnds → Bool

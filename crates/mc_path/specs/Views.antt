@@ -1,16 +1,14 @@
 -- What is shown of a path.
-use Rattle.std.specs.Prelude.{◌≡◌, ℕ, ◌+◌, ◌*◌, zero, suc, Bool, true, false, length, Option}
-use Rattle.std.specs.Option.{option_and_then, option_map, unwrap_or}
+use Rattle.std.specs.Prelude.{◌≡◌, ℕ, ◌*◌, Bool, true, false, length, Option}
+use Rattle.std.specs.Option.{option_and_then}
 use Rattle.mc_signal.specs.declared.Selector.{Selector}
-use Rattle.mc_slot.specs.declared.SlotGoal.{SlotGoal}
-use Rattle.mc_slot.specs.declared.SlotGoal.TheVariants.{End, Link}
 use Rattle.mc_slot.specs.declared.State.{State}
 use Rattle.mc_slot.specs.declared.State.TheVariants.{Flowing}
 use Rattle.mc_view.specs.declared.EndView.{EndView}
 use Rattle.mc_view.specs.declared.PathView.{PathView}
 use Rattle.mc_box.specs.BoxShapes.{is_device}
-use Rattle.mc_world.specs.Paths.{PathEnds, end_goal}
-use Rattle.mc_world.specs.Worlds.{WorldState, box_at, far, goal_of, joint_of, joints, number, own_descriptor, own_sender, place, slot_of}
+use Rattle.mc_world.specs.Paths.{PathEnds, crossed, end_goal}
+use Rattle.mc_world.specs.Worlds.{WorldState, box_at, joint_of, joints, own_descriptor, own_sender, place, slot_of}
 use Rattle.mc_path.specs.PathLaws.{slots_on}
 
 abbrev pub is_flowing : State → Bool
@@ -33,16 +31,6 @@ end_view world s = record {
   sends = (own_sender world s).codecs;
   device = is_device (box_at world (place world s).0).kind;
 }
-
--- the tunnels that a walk goes over from the far side of a tunnel, until it comes to an end
-abbrev pub crossed_by : (ℕ → ℕ) → WorldState → SlotGoal → ℕ → ℕ
-crossed_by further world (End goal) s = 0
-crossed_by further world (Link partner) s = unwrap_or (option_map further (number world (place world s).0 partner)) 0
-
--- the tunnels that a walk goes over from a slot, within so many
-abbrev pub crossed : WorldState → ℕ → ℕ → ℕ
-crossed world zero s = 0
-crossed world (suc most) s = 1 + crossed_by (crossed world most) world (goal_of world (far s)) (far s)
 
 -- a path, by its two end slots: it flows where its lower end does
 abbrev pub view_of : WorldState → PathEnds → PathView

@@ -1,9 +1,8 @@
 -- The walk from a slot, over its tunnel and then from link to link.
 use Rattle.std.specs.Prelude.{ℕ, length, Option}
 use Rattle.std.specs.Option.{option_map}
-use Rattle.mc_path.specs.Views.{crossed}
 use Rattle.mc_path.specs.declared.walk.Walked.{Walked}
-use Rattle.mc_world.specs.Paths.{other_end}
+use Rattle.mc_world.specs.Paths.{crossed, other_end}
 use Rattle.mc_world.specs.Worlds.{WorldState, joints}
 
 -- the end slot to which the walk from a slot comes, and how many tunnels it goes over; none where the slot is on a ring

@@ -1,6 +1,5 @@
 //! Laws of paths, and of what may be at rest on one side of a box, over the definitions alone: each function's contract is
-//! the law's sentence. Those of paths hold for paths of every length, but for the two laws on settles, which are asked of
-//! worlds without links.
+//! the law's sentence. Those of paths hold for paths of every length.
 
 ghost use Rattle.mc_path.specs.PathLaws.{EachEndOnce, EachSlotOnce, PathsOfOneMedium, PathsPassOnce, QuietPaths, CleanPaths, SettledPathsHold};
 ghost use Rattle.mc_path.specs.Rests.{EndsAtRest, LinksAtRest};
@@ -39,16 +38,15 @@ pub fn quiet_paths()
     ensures { QuietPaths }
 {}
 
-/// In a world without links, after a moment at which nothing was under way, while only Takes and Retries come, no close
-/// is ever under way on a path without an end that closes.
+/// After a moment at which nothing was under way, while only Takes and Retries come, no close is ever under way on a path
+/// without an end that closes, over however many tunnels and links.
 pub fn clean_paths()
     ensures { CleanPaths }
 {}
 
-/// In a world without links, after each settled segment of a batch that sets no link, whatever the order of its turns,
-/// each path is as the path table says: closed where an end closes, flowing where one opens and none closes, either of
-/// the two for hold against hold; and where it flows its ends have each other's newest descriptor and the choice for
-/// their own.
+/// After each settled segment, whatever its batch and the order of its turns, each path is as the path table says: closed
+/// where an end closes, flowing where one opens and none closes, either of the two for hold against hold; and where it
+/// flows its ends have each other's newest descriptor and the choice for their own.
 pub fn settled_paths_hold()
     ensures { SettledPathsHold }
 {}

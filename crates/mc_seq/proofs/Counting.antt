@@ -7,7 +7,7 @@ use Rattle.mc_box.specs.Boxes.{is_slot, owes_at}
 use Rattle.mc_world.specs.Measures.{total}
 use Rattle.mc_world.specs.Settles.{is_retry_of, owes_retry}
 use Rattle.mc_world.specs.Shapes.{owes_of, retry_of}
-use Rattle.mc_world.specs.LinkFree.{IsLinkFree}
+use Rattle.mc_world.specs.Sound.{IsSound}
 use Rattle.mc_world.specs.Worlds.{WorldState, box_at, place, slot_count}
 use Rattle.mc_box.specs.declared.event.Turn.{Turn}
 use Rattle.mc_world.proofs.ActedWorlds.{place_apart}
@@ -84,12 +84,12 @@ owed_here world s who local at =
 -- ---- all owed retries
 
 -- of a slot that is there
-owed_there : (world : WorldState) (s who local : ℕ) → IsLinkFree world → s < slot_count world → place world s ≡ (who, local)
+owed_there : (world : WorldState) (s who local : ℕ) → IsSound world → s < slot_count world → place world s ≡ (who, local)
     → count_by (is_retry_of who local) (owed_retries world) ≡ (if owes_at (box_at world who) local then 1 else 0)
 owed_there world s who local sound inside at =
     owed_total world who local (slot_count world)
     ∙ (total_one (λ (t : ℕ). count_by (is_retry_of who local) (owed_at world t)) (slot_count world) s inside
-    (λ t within apart. owed_else world t who local (λ who_is local_is. apart (place_apart world t s sound.sound.numbered within inside
+    (λ t within apart. owed_else world t who local (λ who_is local_is. apart (place_apart world t s sound.numbered within inside
     (who_is ∙ sym (ap (λ (p : ℕ × ℕ). p.0) at)) (local_is ∙ sym (ap (λ (p : ℕ × ℕ). p.1) at)))))
     ∙ owed_here world s who local at)
 
@@ -98,20 +98,20 @@ not_both : (a b : Bool) → (a && b) ≡ false → a ≡ true → b ≡ true →
 not_both a b none one two = grind arith
 
 -- no place is that of a slot that isn't there
-not_placed : (world : WorldState) (t who local : ℕ) → IsLinkFree world → t < slot_count world → (nat_lt who (length world.boxes) && is_slot (box_at world who) local) ≡ false
+not_placed : (world : WorldState) (t who local : ℕ) → IsSound world → t < slot_count world → (nat_lt who (length world.boxes) && is_slot (box_at world who) local) ≡ false
     → (place world t).0 ≡ who → (place world t).1 ≡ local → ⊥
 not_placed world t who local sound within none who_is local_is =
     not_both (nat_lt who (length world.boxes)) (is_slot (box_at world who) local) none
-    (subst (λ (v : ℕ). nat_lt v (length world.boxes) ≡ true) who_is (below_test (place world t).0 (length world.boxes) (sound.sound.numbered.placed t within)))
+    (subst (λ (v : ℕ). nat_lt v (length world.boxes) ≡ true) who_is (below_test (place world t).0 (length world.boxes) (sound.numbered.placed t within)))
     (subst (λ (v : ℕ). is_slot (box_at world v) local ≡ true) who_is
-    (subst (λ (l : ℕ). is_slot (box_at world (place world t).0) l ≡ true) local_is (below_test (place world t).1 (length (box_at world (place world t).0).slots) (sound.sound.numbered.slots t within))))
+    (subst (λ (l : ℕ). is_slot (box_at world (place world t).0) l ≡ true) local_is (below_test (place world t).1 (length (box_at world (place world t).0).slots) (sound.numbered.slots t within))))
 
 -- by whether the slot is there
-owed_by : (there : Bool) (world : WorldState) (who local : ℕ) → (nat_lt who (length world.boxes) && is_slot (box_at world who) local) ≡ there → IsLinkFree world
+owed_by : (there : Bool) (world : WorldState) (who local : ℕ) → (nat_lt who (length world.boxes) && is_slot (box_at world who) local) ≡ there → IsSound world
     → count_by (is_retry_of who local) (owed_retries world) ≡ (if owes_retry world who local then 1 else 0)
 owed_by true world who local is sound =
     let parts = both_true (nat_lt who (length world.boxes)) (is_slot (box_at world who) local) is in
-    let found = sound.sound.numbered.all who local (box_inside world who parts.0) (slot_inside (box_at world who) local parts.1) in
+    let found = sound.numbered.all who local (box_inside world who parts.0) (slot_inside (box_at world who) local parts.1) in
     owed_there world found.0 who local sound found.1 found.2
     ∙ sym (ap (λ (b : Bool). if b && owes_at (box_at world who) local then 1 else 0) is)
 owed_by false world who local is sound =
@@ -120,7 +120,7 @@ owed_by false world who local is sound =
     ∙ sym (ap (λ (b : Bool). if b && owes_at (box_at world who) local then 1 else 0) is))
 
 -- each retry that is owed is there once, and no other
-pub owed_once : (world : WorldState) (who local : ℕ) → IsLinkFree world → count_by (is_retry_of who local) (owed_retries world) ≡ (if owes_retry world who local then 1 else 0)
+pub owed_once : (world : WorldState) (who local : ℕ) → IsSound world → count_by (is_retry_of who local) (owed_retries world) ≡ (if owes_retry world who local then 1 else 0)
 owed_once world who local sound = owed_by (nat_lt who (length world.boxes) && is_slot (box_at world who) local) world who local refl sound
 
 -- Takes are no retries

@@ -8,7 +8,8 @@ use Rattle.std.proofs.lemmas.List.Folds.{list_all-append}
 use Rattle.std.proofs.lemmas.List.Sums.{sum_by-append}
 use Rattle.mc_world.specs.Settles.{IsSettled, commands_of, is_command, is_quiet, is_retry_of, owes_retry, takes_or_retries}
 use Rattle.mc_world.specs.Shapes.{owes_of, retry_of}
-use Rattle.mc_world.specs.LinkFree.{IsLinkFree, LinkNone}
+use Rattle.mc_world.specs.Paths.{has_ring}
+use Rattle.mc_world.specs.Sound.{IsSound}
 use Rattle.mc_world.specs.Steps.{after, run}
 use Rattle.mc_world.specs.Worlds.{WorldState, slot_count}
 use Rattle.mc_box.specs.declared.event.Event.{Event}
@@ -16,10 +17,9 @@ use Rattle.mc_box.specs.declared.event.Event.TheVariants.{Take, Set, Media, Tell
 use Rattle.mc_box.specs.declared.event.Turn.{Turn}
 use Rattle.mc_world.proofs.CommandsGo.{both_true}
 use Rattle.mc_world.proofs.NoPrograms.{quiet_rests}
-use Rattle.mc_world.proofs.LinkFree.{rests_link_none, run_keeps_link_free}
+use Rattle.mc_world.proofs.StepKeeps.{run_keeps_sound}
 use Rattle.mc_seq.specs.PlainOrder.{IsPlain, PlainOrderSettles, TakesUp, TookAll, owed_at, owed_below, owed_retries}
 use Rattle.mc_seq.proofs.Counting.{owed_once, takes_count}
-use Rattle.mc_world.proofs.Rings.{no_ring}
 use Rattle.mc_seq.proofs.Runs.{run-append, takes_quiet, takes_run}
 
 -- ---- Takes and retries
@@ -48,7 +48,7 @@ owed_besides_by true world s = refl
 owed_besides_by false world s = refl
 
 -- and what all slots below a number owe
-owed_besides : (world : WorldState) (n : ℕ) → all_besides (owed_below world n) ≡ true
+pub owed_besides : (world : WorldState) (n : ℕ) → all_besides (owed_below world n) ≡ true
 owed_besides world zero = refl
 owed_besides world (suc n) = besides_both (owed_below world n) (owed_at world n) (owed_besides world n) (owed_besides_by (owes_of world n) world n)
 
@@ -77,18 +77,18 @@ commands_before one two who all =
 -- ---- the segment
 
 -- from the turns before the moment at which the world rests, and those behind it
-settled_at : (world rested last : WorldState) (batch begun rest : List Turn) → IsLinkFree last → run world begun ≡ Some rested → run rested rest ≡ Some last
+settled_at : (world rested last : WorldState) (batch begun rest : List Turn) → has_ring last ≡ false → run world begun ≡ Some rested → run rested rest ≡ Some last
     → IsTrue (is_quiet rested) → IsTrue (is_quiet last) → ((who : ℕ) → commands_of who begun ≡ commands_of who batch)
     → ((who local : ℕ) → count_by (is_retry_of who local) rest ≡ (if owes_retry rested who local then 1 else 0)) → all_besides rest ≡ true
     → IsSettled world batch (begun ++ rest) last
-settled_at world rested last batch begun rest sound ran goes quiet_then quiet used counts besides =
+settled_at world rested last batch begun rest free ran goes quiet_then quiet used counts besides =
     let runs : run world (begun ++ rest) ≡ Some last = run-append begun rest world rested ran ∙ goes in
     let at : after world (take (length begun) (begun ++ rest)) ≡ rested = ap (after world) (take-append_seam begun rest) ∙ ap (λ (o : Option WorldState). unwrap_or o world) ran in
     record {
       runs = runs;
       commands = λ who. commands_before begun rest who besides ∙ used who;
       at_rest = sym (quiet_rests last) ∙ quiet;
-      no_ring = no_ring last sound;
+      no_ring = free;
       moment = length begun;
       last_rest = record {
         within = rw (length-append begun rest) (omega arith);
@@ -100,7 +100,7 @@ settled_at world rested last batch begun rest sound ran goes quiet_then quiet us
     }
 
 -- each retry that is owed at the rest comes once behind it
-counts_once : (rested retried last : WorldState) (others : List Turn) (who local : ℕ) → IsLinkFree rested → TakesUp retried others last
+counts_once : (rested retried last : WorldState) (others : List Turn) (who local : ℕ) → IsSound rested → TakesUp retried others last
     → count_by (is_retry_of who local) (owed_retries rested ++ others) ≡ (if owes_retry rested who local then 1 else 0)
 counts_once rested retried last others who local sound ends =
     let both : count_by (is_retry_of who local) (owed_retries rested ++ others) ≡ count_by (is_retry_of who local) (owed_retries rested) + count_by (is_retry_of who local) others
@@ -110,25 +110,23 @@ counts_once rested retried last others who local sound ends =
     sum ∙ owed_once rested who local sound
 
 -- from the parts of the plain order
-settled_by : (world commanded rested retried last : WorldState) (batch first others : List Turn) → IsLinkFree world → LinkNone batch → run world batch ≡ Some commanded → TakesUp commanded first rested
+settled_by : (world commanded rested retried last : WorldState) (batch first others : List Turn) → IsSound world → has_ring last ≡ false → run world batch ≡ Some commanded → TakesUp commanded first rested
     → run rested (owed_retries rested) ≡ Some retried → TakesUp retried others last → IsSettled world batch ((batch ++ first) ++ (owed_retries rested ++ others)) last
-settled_by world commanded rested retried last batch first others sound links commands takes retries ends =
-    let free : IsLinkFree rested = run_keeps_link_free commanded rested first (run_keeps_link_free world commanded batch sound links commands) (rests_link_none first (takes_besides first commanded rested takes)) (takes_run first commanded rested takes) in
+settled_by world commanded rested retried last batch first others sound free commands takes retries ends =
     let besides = besides_both (owed_retries rested) others (owed_besides rested (slot_count rested)) (takes_besides others retried last ends) in
     let goes = run-append (owed_retries rested) others rested retried retries ∙ takes_run others retried last ends in
     let begins : run world (batch ++ first) ≡ Some rested = run-append batch first world commanded commands ∙ takes_run first commanded rested takes in
-    settled_at world rested last batch (batch ++ first) (owed_retries rested ++ others)
-    (run_keeps_link_free rested last (owed_retries rested ++ others) free (rests_link_none (owed_retries rested ++ others) besides) goes) begins goes
+    settled_at world rested last batch (batch ++ first) (owed_retries rested ++ others) free begins goes
     (takes_quiet first commanded rested takes) (takes_quiet others retried last ends)
     (λ who. commands_before batch first who (takes_besides first commanded rested takes))
-    (λ who local. counts_once rested retried last others who local free ends)
+    (λ who local. counts_once rested retried last others who local (run_keeps_sound world rested (batch ++ first) sound begins) ends)
     besides
 
 -- all together
 pub plain_order_settles : PlainOrderSettles
-plain_order_settles world last batch turns sound links plain =
+plain_order_settles world last batch turns sound free plain =
     subst (λ (t : List Turn). IsSettled world batch t last) (append_assoc batch plain.first (owed_retries plain.rested ++ plain.others) ∙ sym plain.are)
-    (settled_by world plain.commanded plain.rested plain.retried last batch plain.first plain.others sound links plain.commands plain.takes plain.retries plain.ends)
+    (settled_by world plain.commanded plain.rested plain.retried last batch plain.first plain.others sound free plain.commands plain.takes plain.retries plain.ends)
 
 -- ---- a settle
 

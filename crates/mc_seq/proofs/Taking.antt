@@ -1,7 +1,7 @@
 -- Takes of the lowest slots, one after another.
 use Rattle.std.proofs.Common.{◌≡◌, ◌++◌, ℕ, List, [], ◌∷◌, Some, IsSome, IsTrue, append_assoc, append-nil, ap, refl, sym, ◌∙◌, subst}
 use Rattle.mc_world.specs.Settles.{is_quiet}
-use Rattle.mc_world.specs.LinkFree.{IsLinkFree}
+use Rattle.mc_world.specs.Sound.{IsSound}
 use Rattle.mc_world.specs.Steps.{step}
 use Rattle.mc_world.specs.Worlds.{WorldState, front, place}
 use Rattle.mc_box.specs.declared.event.Event.TheVariants.{Take}
@@ -22,10 +22,10 @@ pub goes_first : (start : WorldState) (before : List Turn) → GoesOn start befo
 goes_first start before more last takes = record { turns = more; takes = takes; logged = refl }
 
 -- the lowest slot can take its front
-pub lowest_goes : (world : WorldState) (s : ℕ) (at : ℕ × ℕ) → IsLinkFree world → IsLowest world s → at ≡ place world s → IsSome (step world (take_by at))
+pub lowest_goes : (world : WorldState) (s : ℕ) (at : ℕ × ℕ) → IsSound world → IsLowest world s → at ≡ place world s → IsSome (step world (take_by at))
 lowest_goes world s at sound lowest is =
     let signal = some_of (front world s) lowest.can in
-    subst (λ (p : ℕ × ℕ). IsSome (step world (take_by p))) (sym is) (front_step_goes world s signal.0 sound.sound lowest.inside signal.1)
+    subst (λ (p : ℕ × ℕ). IsSome (step world (take_by p))) (sym is) (front_step_goes world s signal.0 sound lowest.inside signal.1)
 
 -- one Take more
 pub goes_more : (start now next : WorldState) (before old new : List Turn) (s : ℕ) (at : ℕ × ℕ) → IsLowest now s → at ≡ place now s → step now (take_by at) ≡ Some next

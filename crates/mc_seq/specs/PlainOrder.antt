@@ -1,12 +1,16 @@
 -- The plain order of a settle: the commands, then Takes of the lowest slot, then the owed retries, then Takes again.
-use Rattle.std.specs.Prelude.{◌≡◌, ◌<◌, ℕ, zero, suc, if◌then◌else◌, List, [], ◌∷◌, ◌++◌, Some, None, IsSome, IsTrue}
-use Rattle.mc_world.specs.Settles.{IsSettled, is_quiet}
+use Rattle.std.specs.Prelude.{◌≡◌, ◌<◌, ℕ, zero, suc, false, if◌then◌else◌, List, [], ◌∷◌, ◌++◌, Some, None, IsSome, IsTrue}
+use Rattle.mc_world.specs.Settles.{IsSettled, IsStopped, is_quiet}
 use Rattle.mc_world.specs.Shapes.{owes_of, retry_of}
-use Rattle.mc_world.specs.LinkFree.{IsLinkFree, LinkNone}
+use Rattle.mc_world.specs.Paths.{has_ring}
+use Rattle.mc_world.specs.Rings.{IsFirstOnRing}
+use Rattle.mc_world.specs.Sound.{IsSound}
 use Rattle.mc_world.specs.StepLaws.{take_of}
-use Rattle.mc_world.specs.Steps.{run, step}
+use Rattle.mc_world.specs.Steps.{after, run, step}
 use Rattle.mc_world.specs.Worlds.{WorldState, front, slot_count}
 use Rattle.mc_box.specs.declared.event.Turn.{Turn}
+use Rattle.mc_seq.specs.declared.fault.SettleFault.{SettleFault}
+use Rattle.mc_seq.specs.declared.fault.SettleFault.TheVariants.{Ring, NoMemory}
 
 -- slot s can take its front, and no slot below it can
 pub record IsLowest (world : WorldState) (s : ℕ) : Type 0 where
@@ -52,6 +56,11 @@ pub record IsPlain (world : WorldState) (batch turns : List Turn) (last : WorldS
   pub retries : run rested (owed_retries rested) ≡ Some retried
   pub ends : TakesUp retried others last
 
--- without links, such turns are a settled segment
+-- where no ring is left, such turns are a settled segment
 abbrev pub PlainOrderSettles : Type 0
-PlainOrderSettles = (world last : WorldState) (batch turns : List Turn) → IsLinkFree world → LinkNone batch → IsPlain world batch turns last → IsSettled world batch turns last
+PlainOrderSettles = (world last : WorldState) (batch turns : List Turn) → IsSound world → has_ring last ≡ false → IsPlain world batch turns last → IsSettled world batch turns last
+
+-- a settle that stopped at a ring has used up its batch, which left it
+abbrev pub StopsBy : WorldState → List Turn → SettleFault → Type 0
+StopsBy world batch (Ring at) = IsStopped world batch batch (after world batch) × IsFirstOnRing (after world batch) at
+StopsBy world batch (NoMemory e) = Unit {0}

@@ -2,7 +2,7 @@
 
 ghost use Rattle.mc_seq.specs.PlainOrder.{PlainOrderSettles};
 
-/// Turns in the plain order are a settled segment for their batch, where no slot is linked and the batch sets no link.
+/// Turns in the plain order are a settled segment for their batch, where they leave no ring.
 pub fn plain_order_settles()
     ensures { PlainOrderSettles }
 {}

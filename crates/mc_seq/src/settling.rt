@@ -1,14 +1,15 @@
 // A settle in the plain order.
 
-ghost use Rattle.std.specs.Prelude.{◌≡◌, ◌<◌, ◌++◌, [], ◌∷◌, Some, IsSome, IsNone, IsTrue, IfSome, IfOk, OnOk};
+ghost use Rattle.std.specs.Prelude.{◌≡◌, ◌<◌, ◌++◌, [], ◌∷◌, false, Some, IsSome, IsNone, IsTrue, IfSome, IfOk, IfErr, OnOk};
 ghost use Rattle.std.specs.List.{All};
-ghost use Rattle.mc_seq.specs.PlainOrder.{IsLowest, IsPlain, TookAll, owed_at, owed_retries};
-ghost use Rattle.mc_world.specs.LinkFree.{HasNoLinks};
+ghost use Rattle.mc_seq.specs.PlainOrder.{IsLowest, IsPlain, StopsBy, TookAll, owed_at, owed_retries};
+ghost use Rattle.mc_world.specs.Paths.{has_ring};
 ghost use Rattle.mc_world.specs.Settles.{IsSettled, is_quiet};
 ghost use Rattle.mc_world.specs.Shapes.{is_allowed, owes_of};
-ghost use Rattle.mc_world.specs.Steps.{run, step};
+ghost use Rattle.mc_world.specs.Steps.{after, run, step};
 ghost use Rattle.mc_world.specs.Worlds.{slot_count};
 
+use crate::fault::SettleFault;
 use mc_box::{Event, Turn};
 use mc_goal::owes;
 use mc_slot::SlotGoal;
@@ -17,18 +18,36 @@ use std::alloc::{AllocError, Global};
 
 /// Settles a batch in the plain order: every command in its order; then Takes, the lowest slot first, until
 /// nothing is under way; then each retry that is owed then, by slot; then Takes again. Each command is one that
-/// the shapes of the boxes allow, and no slot is linked. It always comes to rest, unless memory runs out.
+/// the shapes of the boxes allow, and leaves no ring with the others. It always comes to rest, unless memory runs out.
 pub fn settle_in_order(alloc: Global, world: World, batch: &[Turn]) -> Result<Settled, AllocError>
-    requires free { HasNoLinks world }
     requires allowed { All (λ turn. IsTrue (is_allowed world turn)) batch.now }
+    requires free { has_ring (after world batch.now) ≡ false }
     ensures plain { IfOk result (λ done. IsPlain world batch.now done.turns.items done.world) }
     ensures settled { IfOk result (λ done. IsSettled world batch.now done.turns.items done.world) }
-    ensures free { IfOk result (λ done. HasNoLinks done.world) }
+{
+    world.keeps();
+    match settle_or_ring(alloc, world, batch) {
+        Ok(done) => Ok(done),
+        Err(SettleFault::NoMemory(e)) => Err(e),
+        Err(SettleFault::Ring(_)) => unreachable!(),
+    }
+}
+
+/// The same for any batch that can happen, one event after another, whether it sets links or not: where it leaves a ring,
+/// the settle stops when the batch is used up, and answers the least slot on a ring.
+pub fn settle_or_ring(alloc: Global, world: World, batch: &[Turn]) -> Result<Settled, SettleFault>
+    requires goes { IsSome (run world batch.now) }
+    ensures plain { IfOk result (λ done. IsPlain world batch.now done.turns.items done.world) }
+    ensures settled { IfOk result (λ done. IsSettled world batch.now done.turns.items done.world) }
+    ensures stops { IfErr result (StopsBy world batch.now) }
 {
     world.keeps();
     let turns = Vec::new(alloc);
     let mut settled = Settled { world, turns };
     command(&mut settled, batch)?;
+    if let Some(slot) = settled.world.ring() {
+        return Err(SettleFault::Ring(slot));
+    }
     take_all(&mut settled)?;
     retry_all(&mut settled)?;
     take_all(&mut settled)?;
@@ -51,9 +70,7 @@ fn make(settled: &mut Settled, turn: Turn) -> Result<(), AllocError>
 
 // Makes the commands of a batch, in their order.
 fn command(settled: &mut Settled, batch: &[Turn]) -> Result<(), AllocError>
-    requires free { HasNoLinks settled.old.world }
-    requires allowed { All (λ turn. IsTrue (is_allowed settled.old.world turn)) batch.now }
-    ensures free { OnOk result (HasNoLinks settled.new.world) }
+    requires goes { IsSome (run settled.old.world batch.now) }
     ensures ran { OnOk result (run settled.old.world batch.now ≡ Some settled.new.world) }
     ensures logged { OnOk result (settled.new.turns.items ≡ settled.old.turns.items ++ batch.now) }
 {
@@ -79,10 +96,10 @@ fn lowest_front(world: &World) -> Option<u32>
     None
 }
 
-// Makes Takes, each of the lowest slot that can take its front, until nothing is under way.
+// Makes Takes, each of the lowest slot that can take its front, until nothing is under way. Where there is no ring, that ends.
 fn take_all(settled: &mut Settled) -> Result<(), AllocError>
-    requires free { HasNoLinks settled.old.world }
-    ensures free { OnOk result (HasNoLinks settled.new.world) }
+    requires free { has_ring settled.old.world ≡ false }
+    ensures free { OnOk result (has_ring settled.new.world ≡ false) }
     ensures took { OnOk result (TookAll settled.old.world settled.old.turns.items settled.new.world settled.new.turns.items) }
 {
     settled.world.keeps();
@@ -122,8 +139,7 @@ fn retry(settled: &mut Settled, slot: u32) -> Result<(), AllocError>
 
 // Makes each retry that is owed at the beginning, the lowest slot first.
 fn retry_all(settled: &mut Settled) -> Result<(), AllocError>
-    requires free { HasNoLinks settled.old.world }
-    ensures free { OnOk result (HasNoLinks settled.new.world) }
+    ensures rings { OnOk result (has_ring settled.new.world ≡ has_ring settled.old.world) }
     ensures ran { OnOk result (run settled.old.world (owed_retries settled.old.world) ≡ Some settled.new.world) }
     ensures logged { OnOk result (settled.new.turns.items ≡ settled.old.turns.items ++ owed_retries settled.old.world) }
 {

@@ -1,6 +1,7 @@
 -- A script that is run: what its journal and its output have so far, and what follows.
-use Rattle.std.proofs.Common.{◌≡◌, ◌<◌, ◌≤◌, ◌&&◌, ◌++◌, ◌∷◌, [], ℕ, ◌+◌, Bool, not, Some, List, All, IsTrue, drop, nat_lt, length, map, slice_index_or, refl, ap, sym, ◌∙◌, add-one, subst, append-nil, append_assoc, arith, suc}
+use Rattle.std.proofs.Common.{◌≡◌, ◌<◌, ◌≤◌, ◌&&◌, ◌++◌, ◌∷◌, [], ℕ, ◌+◌, Bool, not, false, Option, Some, None, List, All, IsTrue, drop, nat_lt, length, map, slice_index_or, refl, ap, sym, ◌∙◌, add-one, subst, append-nil, append_assoc, arith, suc}
 use Rattle.std.specs.List.{AllByRecursion}
+use Rattle.std.specs.Option.{unwrap_or}
 use Rattle.std.proofs.Math.Seq.{drop-cons}
 use Rattle.std.proofs.lemmas.List.{drop_all, get_or-map, length-map}
 use Rattle.mc_signal.specs.Choice.{codecs_of}
@@ -9,13 +10,15 @@ use Rattle.mc_box.specs.Boxes.{BoxState}
 use Rattle.mc_world.specs.Settles.{IsSettled, can_shift, is_quiet}
 use Rattle.mc_world.specs.Shapes.{HasShape, allows, is_allowed}
 use Rattle.mc_world.specs.LinkFree.{IsLinkFree, LinkNone}
-use Rattle.mc_world.specs.Steps.{run, step}
+use Rattle.mc_world.specs.Paths.{has_ring}
+use Rattle.mc_world.specs.Steps.{after, run, step}
 use Rattle.mc_world.specs.Worlds.{WorldState, box_at}
 use Rattle.mc_box.specs.declared.event.Change.TheVariants.{End as NewEnd, Link as NewLink}
 use Rattle.mc_box.specs.declared.event.Event.{Event}
 use Rattle.mc_box.specs.declared.event.Event.TheVariants.{Take, Set, Media, Tell, Retry, Shift}
 use Rattle.mc_box.specs.declared.event.Turn.{Turn}
 use Rattle.mc_world.proofs.CommandsGo.{both_true}
+use Rattle.mc_world.proofs.Rings.{no_ring}
 use Rattle.mc_world.proofs.ShapesKept.{run_keeps_shape, same_shape, shape_both}
 use Rattle.mc_world.proofs.StepForms.{then_some}
 use Rattle.mc_world.proofs.LinkFree.{allowed_link_none, run_keeps_link_free, settled_link_none}
@@ -70,6 +73,14 @@ after_settle names world last batch turns sound none all settled = record {
   quiet = (both_true (is_quiet last) (not (can_shift last)) settled.at_rest).0;
 }
 
+-- a batch that sets no link leaves no ring
+free_by : (o : Option WorldState) (world : WorldState) (batch : List Turn) → IsLinkFree world → LinkNone batch → run world batch ≡ o → has_ring (unwrap_or o world) ≡ false
+free_by None world batch sound none goes = no_ring world sound
+free_by (Some next) world batch sound none goes = no_ring next (run_keeps_link_free world next batch sound none goes)
+
+pub batch_leaves_none : (world : WorldState) (batch : List Turn) → IsLinkFree world → LinkNone batch → has_ring (after world batch) ≡ false
+batch_leaves_none world batch sound none = free_by (run world batch) world batch sound none refl
+
 -- ---- journals
 
 -- replaying the turns of a run leads where the run does
@@ -99,7 +110,7 @@ journal_holds (batch ∷ waiting) world journal sound none (turns, last, rest, i
     let whole : journal ≡ map Made turns ++ (Settled ∷ rest) = is ∙ append_assoc (map Made turns) (Settled ∷ []) rest in
     subst (λ (lines : List JournalLine). HoldsAtSettles world lines) (sym whole)
     (holds_after turns world last (Settled ∷ rest) settled.runs (
-      settled_paths_hold world last batch turns sound none.0 settled,
+      settled_paths_hold world last batch turns sound.sound settled,
       journal_holds waiting last rest (run_keeps_link_free world last turns sound (settled_link_none world last batch turns none.0 settled) settled.runs) none.1 later,
     ))
 

@@ -16,15 +16,17 @@ use Rattle.mc_slot.specs.declared.State.{State}
 use Rattle.mc_slot.specs.declared.State.TheVariants.{Closed, Opening, Opened, Flowing, Closing}
 use Rattle.mc_box.specs.Boxes.{BoxState, media_at, own_of}
 use Rattle.mc_world.specs.PathTable.{PathHolds, heard, high_hears, low_hears, path_state}
-use Rattle.mc_world.specs.Paths.{PathEnds, end_goal, paths}
-use Rattle.mc_world.specs.LinkFree.{IsLinkFree}
-use Rattle.mc_world.specs.Worlds.{WorldState, box_at, joint_of, own_descriptor, own_sender, place, slot_count, slot_of}
+use Rattle.mc_world.specs.Paths.{PathEnds, end_goal, path_from, paths}
+use Rattle.mc_world.specs.Sound.{IsSound}
+use Rattle.mc_world.specs.Worlds.{WorldState, box_at, joint_of, joints, own_descriptor, own_sender, place, places, slot_count, slot_of}
 use Rattle.mc_box.specs.declared.event.Kind.{Kind}
 use Rattle.mc_box.specs.declared.event.Kind.TheVariants.{Device, Feature}
 use Rattle.mc_box.specs.declared.setup.SlotMedia.{SlotMedia}
 use Rattle.mc_path.specs.PathLaws.{AreIn, HearEachOther, IsQuietPath}
 use Rattle.mc_path.specs.Views.{end_view, is_flowing, selected, view_of}
-use Rattle.mc_path.proofs.Tunnels.{each_path}
+use Rattle.mc_path.proofs.Ends.{parts_of}
+use Rattle.mc_path.proofs.Quiet.{each_from}
+use Rattle.mc_path.proofs.Returns.{walk_back}
 use Rattle.mc_text.specs.NameLists.{NameLists}
 use Rattle.mc_script.specs.Meaning.{goal_word}
 use Rattle.mc_net.specs.Nets.{NamesAll}
@@ -141,19 +143,19 @@ none_named : (names : NameLists) (selector : Option Selector) → selector ≡ N
 none_named names selector is = subst (λ (o : Option Selector). IsNamed names (selected o)) (sym is) tt
 
 -- an end has names, where what it hears has one
-end_named : (names : NameLists) (world : WorldState) (s : ℕ) → NamesAll names world → IsLinkFree world → s < slot_count world → IsNamed names (selected (slot_of world s).sel_in) → IsNamedEnd names (end_view world s)
+end_named : (names : NameLists) (world : WorldState) (s : ℕ) → NamesAll names world → IsSound world → s < slot_count world → IsNamed names (selected (slot_of world s).sel_in) → IsNamedEnd names (end_view world s)
 end_named names world s all sound inside heard = record {
-  box = subst (λ (n : ℕ). (place world s).0 < n) (sym all.boxes) (sound.sound.numbered.placed s inside);
-  slot = subst (λ (n : ℕ). (place world s).1 < n) (sym (all.slots (place world s).0 (sound.sound.numbered.placed s inside))) (sound.sound.numbered.slots s inside);
+  box = subst (λ (n : ℕ). (place world s).0 < n) (sym all.boxes) (sound.numbered.placed s inside);
+  slot = subst (λ (n : ℕ). (place world s).1 < n) (sym (all.slots (place world s).0 (sound.numbered.placed s inside))) (sound.numbered.slots s inside);
   codec = heard;
 }
 
 -- both ends of a quiet path have
-ends_named : (names : NameLists) (world : WorldState) (path : PathEnds) → NamesAll names world → IsLinkFree world → path.low < slot_count world → path.high < slot_count world
+ends_named : (names : NameLists) (world : WorldState) (path : PathEnds) → NamesAll names world → IsSound world → path.low < slot_count world → path.high < slot_count world
     → AreIn world path Closed ⊎ (AreIn world path Flowing × HearEachOther world path) → IsNamedView names (view_of world path)
 ends_named names world path all sound low high (inl closed) = record {
-  low = end_named names world path.low all sound low (none_named names (slot_of world path.low).sel_in (closed_none (slot_of world path.low) (sound.sound.tunnels path.low low).first_kept closed.low));
-  high = end_named names world path.high all sound high (none_named names (slot_of world path.high).sel_in (closed_none (slot_of world path.high) (sound.sound.tunnels path.high high).first_kept closed.high));
+  low = end_named names world path.low all sound low (none_named names (slot_of world path.low).sel_in (closed_none (slot_of world path.low) (sound.tunnels path.low low).first_kept closed.low));
+  high = end_named names world path.high all sound high (none_named names (slot_of world path.high).sel_in (closed_none (slot_of world path.high) (sound.tunnels path.high high).first_kept closed.high));
 }
 ends_named names world path all sound low high (inr flowing) = record {
   low = end_named names world path.low all sound low (heard_named names world path.low (own_sender world path.high) (slot_of world path.low).sel_in all flowing.1.low.chosen);
@@ -164,11 +166,15 @@ ends_named names world path all sound low high (inr flowing) = record {
 abbrev AreInside : WorldState → PathEnds → Type 0
 AreInside world path = (path.low < slot_count world) × (path.high < slot_count world)
 
-are_inside : (world : WorldState) → IsLinkFree world → All (AreInside world) (paths world)
-are_inside world sound = each_path world (AreInside world) sound (λ t inside. (omega arith, inside))
+are_inside : (world : WorldState) → IsSound world → All (AreInside world) (paths world)
+are_inside world sound =
+    each_from (AreInside world) (path_from world) (places world) 0 (slot_count world) (omega arith)
+    (λ s inside path is.
+    let parts = parts_of world s path is in
+    (subst (λ (n : ℕ). n < slot_count world) (sym parts.low_is) inside, (walk_back (length (joints world)) world s path.high sound inside parts.leads).inside))
 
 -- so all that is shown has names
-pub views_named : (names : NameLists) (world : WorldState) → NamesAll names world → IsLinkFree world → All (IsQuietPath world) (paths world)
+pub views_named : (names : NameLists) (world : WorldState) → NamesAll names world → IsSound world → All (IsQuietPath world) (paths world)
     → All (IsNamedView names) (map (view_of world) (paths world))
 views_named names world all sound quiet =
     All-map (IsNamedView names) (view_of world) (paths world)

@@ -103,7 +103,7 @@ none_yet world s before off t below ring = elim (cases_eq t s) [
 -- ---- whether there is a ring
 
 -- one of the numbered entries passes
-any_passes : (entries : List (ℕ × ℕ)) (first s : ℕ) (p : ℕ → Bool) → first ≤ s → s < first + length entries → p s ≡ true → list_any (λ entry. p entry.0) (enumerate_from first entries) ≡ true
+pub any_passes : (entries : List (ℕ × ℕ)) (first s : ℕ) (p : ℕ → Bool) → first ≤ s → s < first + length entries → p s ≡ true → list_any (λ entry. p entry.0) (enumerate_from first entries) ≡ true
 any_passes [] first s p from below passes = absurd (omega (arith, from, below))
 any_passes (entry ∷ entries) first s p from below passes = elim (cases_eq first s) [
   | inl same ↦ ap (λ (b : Bool). b || list_any (λ entry. p entry.0) (enumerate_from (first + 1) entries)) (ap p same ∙ passes)

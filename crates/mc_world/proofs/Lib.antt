@@ -9,10 +9,11 @@ mod WorldSteps
 pub mod ActedBoxes
 pub mod ActedWorlds
 pub mod Acting
-mod BothWays
+pub mod BothWays
 pub mod BoxSound
 pub mod CommandsGo
 pub mod Firsts
+pub mod GoalsKept
 pub mod Joints
 pub mod LaneSums
 pub mod LanesKept
@@ -23,6 +24,7 @@ pub mod NoPrograms
 pub mod Numbers
 pub mod Partners
 pub mod Parts
+pub mod Reaches
 mod Repeats
 pub mod RingChains
 pub mod RingWalks
@@ -35,5 +37,5 @@ pub mod StepGoes
 pub mod StepKeeps
 pub mod SteppedKeeps
 pub mod Sums
-pub mod TakeForms
+pub mod TakeParts
 pub mod TwoPhones

@@ -40,13 +40,13 @@ chain_of world (suc done) left s sound inside walk =
     (on.0, ap (λ (o : Option ℕ). option_and_then (next_slot world) o) before.1 ∙ on.1, on.2)
 
 -- at a slot with a partner a walk meets no end
-meets_none : (world : WorldState) (most s t : ℕ) → partner_of world s ≡ Some t → walk_by (walked world most) world (goal_of world s) s ≡ walked world most t
+pub meets_none : (world : WorldState) (most s t : ℕ) → partner_of world s ≡ Some t → walk_by (walked world most) world (goal_of world s) s ≡ walked world most t
 meets_none world most s t is =
     let link = linked_with world s t (goal_of world s) is in
     ap (λ (g : SlotGoal). walk_by (walked world most) world g s) link.1 ∙ ap (λ (o : Option ℕ). option_and_then (walked world most) o) link.2
 
 -- and over a chain none
-no_end : (world : WorldState) (most s t : ℕ) → slot_after world most s ≡ Some t → walked world most s ≡ None
+pub no_end : (world : WorldState) (most s t : ℕ) → slot_after world most s ≡ Some t → walked world most s ≡ None
 no_end world zero s t is = refl
 no_end world (suc most) s t is =
     let one : suc most ≡ 1 + most = omega arith in

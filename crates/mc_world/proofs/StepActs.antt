@@ -55,6 +55,20 @@ pub record Turned (world next : WorldState) (who : ℕ) (event : Event) : Type 0
   pub after : box_at next who ≡ step.after
   pub sound : IsSoundBox (box_at next who)
 
+-- the same, with what each slot has sent, and what is left to it on these lanes
+pub record Happened (world next : WorldState) (who : ℕ) (event : Event) (signal : Option Signal) (lanes : List (List Tagged)) : Type 0 where
+  pub stepped : Stepped world next who
+  pub step : BoxStep
+  pub goes : box_event (box_at world who) event signal ≡ Some step
+  pub after : box_at next who ≡ step.after
+  pub sound : IsSoundBox (box_at next who)
+  pub parts : (s : ℕ) → stepped.sent s ≡ part_of who (place world s) step.sent
+  pub lefts : (s : ℕ) → stepped.left s ≡ list_in world lanes s
+
+turned_by : (world next : WorldState) (who : ℕ) (event : Event) (signal : Option Signal) (lanes : List (List Tagged)) → Happened world next who event signal lanes → Turned world next who event
+turned_by world next who event signal lanes happened =
+    record { stepped = happened.stepped; signal = signal; step = happened.step; goes = happened.goes; after = happened.after; sound = happened.sound }
+
 -- what comes to the slots of a box, and what is left there
 abbrev pub comes : WorldState → ℕ → List (List Tagged) → ℕ → List Signal
 comes world who lanes local = list_in world lanes (slot_no world who local)
@@ -116,18 +130,20 @@ made_stepped world who step lanes after numbered below left acts sent = record {
 }
 
 -- a box that acts makes a step of its world, by whichever of its slots it sends
-pub box_turns : (world next : WorldState) (who : ℕ) (event : Event) (signal : Option Signal) (step : BoxStep) (lanes : List (List Tagged)) → IsNumbered world → who < length world.boxes
+pub box_happens : (world next : WorldState) (who : ℕ) (event : Event) (signal : Option Signal) (step : BoxStep) (lanes : List (List Tagged)) → IsNumbered world → who < length world.boxes
     → box_event (box_at world who) event signal ≡ Some step → Left world who lanes
-    → BoxActs (box_at world who) (comes world who world.lanes) step (comes world who lanes) → made (record world { lanes = lanes }) who step ≡ next → Turned world next who event
-box_turns world next who event signal step lanes numbered below happens left acts goes =
+    → BoxActs (box_at world who) (comes world who world.lanes) step (comes world who lanes) → made (record world { lanes = lanes }) who step ≡ next → Happened world next who event signal lanes
+unfolding made_stepped
+box_happens world next who event signal step lanes numbered below happens left acts goes =
     let out = sends_out step.sent world (set world.boxes who step.after) lanes who numbered.once (left.count ∙ numbered.lanes) in
-    subst (λ (w : WorldState). Turned world w who event) (sym out.1 ∙ goes) (record {
+    subst (λ (w : WorldState). Happened world w who event signal lanes) (sym out.1 ∙ goes) (record {
       stepped = made_stepped world who step lanes out.0 numbered below left acts out.2;
-      signal = signal;
       step = step;
       goes = happens;
       after = get_or-set_same world.boxes who step.after no_box below;
       sound = subst (λ (b : BoxState). IsSoundBox b) (sym (get_or-set_same world.boxes who step.after no_box below)) acts.sound;
+      parts = λ s. refl;
+      lefts = λ s. refl;
     })
 
 -- ---- nothing leaves its lane
@@ -136,24 +152,28 @@ all_left : (world : WorldState) (who : ℕ) → Left world who world.lanes
 all_left world who = record { count = refl; rest = λ lane. inl refl; others = λ s inside away. refl }
 
 -- an event that takes nothing
+act_happens : (event : Event) (world next : WorldState) (who : ℕ) (step : BoxStep) → IsSound world → who < length world.boxes → box_event (box_at world who) event None ≡ Some step
+    → made world who step ≡ next → Happened world next who event None world.lanes
+act_happens event world next who step sound below goes made_is =
+    box_happens world next who event None step world.lanes sound.numbered below goes (all_left world who)
+    (event_acts (box_at world who) event step (comes world who world.lanes) (comes world who world.lanes) (sound.boxes who below) goes (λ k inside. refl)) made_is
+
 act_turns : (event : Event) (world next : WorldState) (who : ℕ) (step : BoxStep) → IsSound world → who < length world.boxes → box_event (box_at world who) event None ≡ Some step
     → made world who step ≡ next → Turned world next who event
-act_turns event world next who step sound below goes made_is =
-    box_turns world next who event None step world.lanes sound.numbered below goes (all_left world who)
-    (event_acts (box_at world who) event step (comes world who world.lanes) (comes world who world.lanes) (sound.boxes who below) goes (λ k inside. refl)) made_is
+act_turns event world next who step sound below goes made_is = turned_by world next who event None world.lanes (act_happens event world next who step sound below goes made_is)
 
 -- ---- a front leaves its lane
 
 -- these lanes, without the front of the lane to a slot
-abbrev without : WorldState → ℕ → List (List Tagged)
+abbrev pub without : WorldState → ℕ → List (List Tagged)
 without world s = set world.lanes (lane_of world s) (drop 1 (lane_to world s))
 
 -- what is left to the slot
-left_here : (world : WorldState) (s : ℕ) → lane_of world s < length world.lanes → list_in world (without world s) s ≡ for_tunnel (joint_of world s).within (drop 1 (lane_to world s))
+pub left_here : (world : WorldState) (s : ℕ) → lane_of world s < length world.lanes → list_in world (without world s) s ≡ for_tunnel (joint_of world s).within (drop 1 (lane_to world s))
 left_here world s there = ap (for_tunnel (joint_of world s).within) (get_or-set_same world.lanes (lane_of world s) (drop 1 (lane_to world s)) [] there)
 
 -- and to each other slot, which may be on the same lane
-left_else : (world : WorldState) (s t : ℕ) (signal : Signal) → lane_of world s < length world.lanes → s < slot_count world → t < slot_count world → t ≢ s
+pub left_else : (world : WorldState) (s t : ℕ) (signal : Signal) → lane_of world s < length world.lanes → s < slot_count world → t < slot_count world → t ≢ s
     → Fronts (joint_of world s).within signal (lane_to world s) → list_in world (without world s) t ≡ list_to world t
 left_else world s t signal there one two apart fronts = elim (cases_eq (lane_of world t) (lane_of world s)) [
   | inl shared ↦
@@ -188,9 +208,9 @@ comes_else world who s local k signal numbered below there inside local_is front
     subst (λ (t : ℕ). list_in world (without world s) t ≡ list_to world t) (sym no) (left_else world s found.0 signal there inside found.1 other fronts)
 
 -- a Take
-take_turns : (world next : WorldState) (who local s : ℕ) (signal : Signal) (step : BoxStep) → IsSound world → who < length world.boxes → number world who local ≡ Some s → front world s ≡ Some signal
-    → box_event (box_at world who) (Take local) (Some signal) ≡ Some step → made (popped world s) who step ≡ next → Turned world next who (Take local)
-take_turns world next who local s signal step sound below is first goes made_is =
+take_happens : (world next : WorldState) (who local s : ℕ) (signal : Signal) (step : BoxStep) → IsSound world → who < length world.boxes → number world who local ≡ Some s → front world s ≡ Some signal
+    → box_event (box_at world who) (Take local) (Some signal) ≡ Some step → made (popped world s) who step ≡ next → Happened world next who (Take local) (Some signal) (without world s)
+take_happens world next who local s signal step sound below is first goes made_is =
     let found = number_is world who local s is in
     let there : lane_of world s < length world.lanes = subst (λ (n : ℕ). lane_of world s < n) (sym sound.numbered.lanes) (lane_in world s found.0) in
     let fronts : Fronts (joint_of world s).within signal (lane_to world s) = front_next (joint_of world s).within signal (lane_to world s) first in
@@ -198,9 +218,14 @@ take_turns world next who local s signal step sound below is first goes made_is 
     let first_is : comes world who world.lanes local ≡ signal ∷ comes world who (without world s) local =
     subst (λ (t : ℕ). list_to world t ≡ signal ∷ list_in world (without world s) t) (sym no)
     (fronts.next ∙ ap (λ (l : List Signal). signal ∷ l) (sym (left_here world s there))) in
-    box_turns world next who (Take local) (Some signal) step (without world s) sound.numbered below goes (front_left world who s signal there found.0 found.1 fronts)
+    box_happens world next who (Take local) (Some signal) step (without world s) sound.numbered below goes (front_left world who s signal there found.0 found.1 fronts)
     (take_acts (box_at world who) local signal step (comes world who world.lanes) (comes world who (without world s)) (sound.boxes who below) goes first_is
     (λ k within apart. comes_else world who s local k signal sound.numbered below there found.0 found.2 fronts within apart)) made_is
+
+take_turns : (world next : WorldState) (who local s : ℕ) (signal : Signal) (step : BoxStep) → IsSound world → who < length world.boxes → number world who local ≡ Some s → front world s ≡ Some signal
+    → box_event (box_at world who) (Take local) (Some signal) ≡ Some step → made (popped world s) who step ≡ next → Turned world next who (Take local)
+take_turns world next who local s signal step sound below is first goes made_is =
+    turned_by world next who (Take local) (Some signal) (without world s) (take_happens world next who local s signal step sound below is first goes made_is)
 
 -- ---- each turn
 
@@ -228,3 +253,39 @@ step_turns world next turn sound goes =
 
 pub step_acts : StepActs
 step_acts world next turn sound goes = (step_turns world next turn sound goes).stepped
+
+-- ---- a Take, and an event that takes nothing, with what each slot does
+
+-- slot s takes the front of its lane
+pub record TakeHappened (world next : WorldState) (s : ℕ) : Type 0 where
+  pub inside : s < slot_count world
+  pub signal : Signal
+  pub fronts : Fronts (joint_of world s).within signal (lane_to world s)
+  pub happened : Happened world next (place world s).0 (Take (place world s).1) (Some signal) (without world s)
+
+pub take_happened : (world next : WorldState) (who local : ℕ) → IsSound world → step world (record { who = who; event = Take local }) ≡ Some next → (s : ℕ) × TakeHappened world next s
+take_happened world next who local sound goes =
+    let open_step = if_some (nat_lt who (length world.boxes)) (step_by world who (Take local)) next goes in
+    let below = box_inside world who open_step.0 in
+    let one = then_some (take_at world who local) (number world who local) next open_step.1 in
+    let two = then_some (λ (signal : Signal). option_map (made (popped world one.0) who) (box_event (box_at world who) (Take local) (Some signal))) (front world one.0) next one.2 in
+    let three = map_some (made (popped world one.0) who) (box_event (box_at world who) (Take local) (Some two.0)) next two.2 in
+    let found = number_is world who local one.0 one.1 in (
+      one.0,
+      record {
+        inside = found.0;
+        signal = two.0;
+        fronts = front_next (joint_of world one.0).within two.0 (lane_to world one.0) two.1;
+        happened = subst (λ (w : ℕ). Happened world next w (Take (place world one.0).1) (Some two.0) (without world one.0)) (sym found.1)
+            (subst (λ (l : ℕ). Happened world next who (Take l) (Some two.0) (without world one.0)) (sym found.2)
+            (take_happens world next who local one.0 two.0 three.0 sound below one.1 two.1 three.1 three.2));
+      },
+    )
+
+pub retry_happened : (world next : WorldState) (who local : ℕ) → IsSound world → step world (record { who = who; event = Retry local }) ≡ Some next
+    → (who < length world.boxes) × Happened world next who (Retry local) None world.lanes
+retry_happened world next who local sound goes =
+    let open_step = if_some (nat_lt who (length world.boxes)) (step_by world who (Retry local)) next goes in
+    let below = box_inside world who open_step.0 in
+    let one = map_some (made world who) (box_event (box_at world who) (Retry local) None) next open_step.1 in
+    (below, act_happens (Retry local) world next who one.0 sound below one.1 one.2)

@@ -1,5 +1,6 @@
 -- Sums over the numbers below a count, and how they change; what lists weigh.
 use Rattle.std.proofs.Common.{◌≡◌, ◌≢◌, ◌<◌, ◌≤◌, ◌+◌, ◌*◌, inl, inr, ℕ, zero, suc, List, [], ◌∷◌, ◌++◌, length, refl, ap, sym, arith}
+use Rattle.std.proofs.Math.Nat.{mul-le-mul_left}
 use Rattle.std.proofs.lemmas.Bool.{cases_eq, cases_lt}
 use Rattle.mc_signal.specs.declared.Signal.{Signal}
 use Rattle.mc_signal.specs.declared.Signal.TheVariants.{Open, Oack, Close, Closeack, Describe, Select}
@@ -103,16 +104,23 @@ pub weights-append : (n : ℕ) (first second : List Signal) → weights n (first
 weights-append n [] second = omega arith
 weights-append n (signal ∷ first) second = omega (arith, weights-append n first second)
 
--- in a tunnel of its own no signal weighs more than an open
-weight_most : (signal : Signal) → weight 2 signal ≤ 8
-weight_most (Open medium d) = omega arith
-weight_most (Oack d) = omega arith
-weight_most (Describe d) = omega arith
-weight_most Close = omega arith
-weight_most (Select s) = omega arith
-weight_most Closeack = omega arith
+-- powers rise
+cube_most : (n : ℕ) → 1 ≤ n → n ≤ n * (n * n)
+cube_most n some =
+    let one : n * 1 ≤ n * n = mul-le-mul_left n some in
+    let two : n * n * 1 ≤ n * n * n = mul-le-mul_left (n * n) some in
+    omega (arith, one, two)
 
--- so a list weighs at most 8 for each signal
-pub weights_most : (signals : List Signal) → weights 2 signals ≤ 8 * length signals
-weights_most [] = omega arith
-weights_most (signal ∷ signals) = omega (arith, weight_most signal, weights_most signals)
+-- no signal weighs more than an open
+weight_most : (n : ℕ) (signal : Signal) → 1 ≤ n → weight n signal ≤ n * (n * n)
+weight_most n (Open medium d) some = omega arith
+weight_most n (Oack d) some = let one : n * n * 1 ≤ n * n * n = mul-le-mul_left (n * n) some in omega (arith, one)
+weight_most n (Describe d) some = omega (arith, cube_most n some)
+weight_most n Close some = omega (arith, cube_most n some)
+weight_most n (Select s) some = omega (arith, some, cube_most n some)
+weight_most n Closeack some = omega (arith, some, cube_most n some)
+
+-- so a list weighs at most as many opens as it has signals
+pub weights_most : (n : ℕ) → 1 ≤ n → (signals : List Signal) → weights n signals ≤ n * (n * n) * length signals
+weights_most n some [] = omega arith
+weights_most n some (signal ∷ signals) = omega (arith, weight_most n signal some, weights_most n some signals)

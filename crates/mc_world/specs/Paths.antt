@@ -1,7 +1,7 @@
 -- Paths and rings: chains of tunnels and links.
-use Rattle.std.specs.Prelude.{ℕ, zero, suc, Bool, true, false, if◌then◌else◌, List, length, nat_lt, Option, Some, None}
+use Rattle.std.specs.Prelude.{ℕ, ◌+◌, zero, suc, Bool, true, false, if◌then◌else◌, List, length, nat_lt, Option, Some, None}
 use Rattle.std.specs.List.{enumerate_from, filter_map, list_any}
-use Rattle.std.specs.Option.{option_and_then, is_none}
+use Rattle.std.specs.Option.{option_and_then, option_map, is_none, unwrap_or}
 use Rattle.mc_slot.specs.declared.Goal.{Goal}
 use Rattle.mc_slot.specs.declared.Goal.TheVariants.{Close as ToClose}
 use Rattle.mc_slot.specs.declared.SlotGoal.{SlotGoal}
@@ -21,6 +21,16 @@ walked world (suc most) s = walk_by (walked world most) world (goal_of world (fa
 -- the other end of the path of a slot; none where the slot is on a ring
 abbrev pub other_end : WorldState → ℕ → Option ℕ
 other_end world s = walked world (length (joints world)) s
+
+-- the tunnels that a walk goes over from the far side of a tunnel, until it comes to an end
+abbrev pub crossed_by : (ℕ → ℕ) → WorldState → SlotGoal → ℕ → ℕ
+crossed_by further world (End goal) s = 0
+crossed_by further world (Link partner) s = unwrap_or (option_map further (number world (place world s).0 partner)) 0
+
+-- the tunnels that a walk goes over from a slot, within so many
+abbrev pub crossed : WorldState → ℕ → ℕ → ℕ
+crossed world zero s = 0
+crossed world (suc most) s = 1 + crossed_by (crossed world most) world (goal_of world (far s)) (far s)
 
 abbrev pub is_end_goal : SlotGoal → Bool
 is_end_goal (End goal) = true

@@ -1,11 +1,15 @@
 -- Rings: closed chains of tunnels and links, which come to no end.
-use Rattle.std.specs.Prelude.{◌≡◌, ◌<◌, ◌↔◌, ℕ, zero, suc, Option, Some, None}
+use Rattle.std.specs.Prelude.{◌≡◌, ◌<◌, ◌↔◌, ℕ, zero, suc, List, IsTrue, Option, Some, None}
+use Rattle.std.specs.List.{list_all}
 use Rattle.std.specs.Option.{option_and_then}
 use Rattle.mc_slot.specs.declared.SlotGoal.{SlotGoal}
 use Rattle.mc_slot.specs.declared.SlotGoal.TheVariants.{End, Link}
-use Rattle.mc_world.specs.Paths.{other_end}
+use Rattle.mc_world.specs.Paths.{has_ring, other_end}
+use Rattle.mc_world.specs.Settles.{takes_or_retries}
 use Rattle.mc_world.specs.Sound.{IsSound}
+use Rattle.mc_world.specs.Steps.{run}
 use Rattle.mc_world.specs.Worlds.{WorldState, far, goal_of, number, place, slot_count}
+use Rattle.mc_box.specs.declared.event.Turn.{Turn}
 
 abbrev pub partner_by : WorldState → SlotGoal → ℕ → Option ℕ
 partner_by world (End goal) s = None
@@ -48,3 +52,7 @@ IsLeastOnRing world None = NoneBefore world (slot_count world)
 -- a walk over as many tunnels as there are meets no end exactly where its slot stands on a ring, to which it comes back
 abbrev pub RingsMeetNoEnd : Type 0
 RingsMeetNoEnd = (world : WorldState) (s : ℕ) → IsSound world → s < slot_count world → (other_end world s ≡ None) ↔ IsOnRing world s
+
+-- Takes and Retries change no link, so there is a ring after them where there was one before
+abbrev pub RestKeepsRings : Type 0
+RestKeepsRings = (world next : WorldState) (turns : List Turn) → IsSound world → IsTrue (list_all (λ turn. takes_or_retries turn.event) turns) → run world turns ≡ Some next → has_ring next ≡ has_ring world

@@ -2,8 +2,8 @@
 
 ghost use Rattle.mc_world.specs.Exchanges.{WorkedExchanges};
 ghost use Rattle.mc_world.specs.LinkFree.{RunKeepsLinkFree};
-ghost use Rattle.mc_world.specs.Measures.{TakeLowers, TakesEnd, MeasureBound};
-ghost use Rattle.mc_world.specs.Rings.{RingsMeetNoEnd};
+ghost use Rattle.mc_world.specs.Measures.{TakeLowers, TakesEnd, MeasureBound, TakesBound};
+ghost use Rattle.mc_world.specs.Rings.{RingsMeetNoEnd, RestKeepsRings};
 ghost use Rattle.mc_world.specs.Shapes.{StepKeepsShape, RunKeepsShape, CommandGoes, RetryGoes};
 ghost use Rattle.mc_world.specs.StepLaws.{StepActs, StepKeepsSound, RunKeepsSound, FrontIsTaken, FrontStepGoes, StepKeepsServed, FirstIsServed, UnderWayGoes, RunKeepsServed, FirstIsSound, TwoPhonesStaySound};
 ghost use Rattle.mc_world.specs.Stepped.{SteppedStays};
@@ -82,19 +82,25 @@ pub fn two_phones_stay_sound()
     ensures { TwoPhonesStaySound }
 {}
 
-/// In a sound world without links each Take lowers the measure: what is still to come of all slots.
+/// In a sound world without a ring each Take lowers the measure: what is still to come of all slots.
 pub fn take_lowers()
     ensures { TakeLowers }
 {}
 
-/// A run of Takes alone, from a sound world without links, ends: it has at most as many turns as the measure.
+/// A run of Takes alone, from a sound world without a ring, ends: it has at most as many turns as the measure.
 pub fn takes_end()
     ensures { TakesEnd }
 {}
 
-/// The measure of a sound world is at most 8 for each signal under way and each slot.
+/// The measure of a sound world is at most the fourth power of one more than its tunnels, for each signal under way and
+/// each slot.
 pub fn measure_bound()
     ensures { MeasureBound }
+{}
+
+/// So a run of Takes alone, from a sound world without a ring, has at most that many turns.
+pub fn takes_bound()
+    ensures { TakesBound }
 {}
 
 /// A run of turns that set no link leaves a sound world without links so.
@@ -126,4 +132,9 @@ pub fn retry_goes()
 /// back to the slot then, since it can't go over a tunnel both ways, and links are mutual.
 pub fn rings_meet_no_end()
     ensures { RingsMeetNoEnd }
+{}
+
+/// Takes and Retries make no ring and break none.
+pub fn rest_keeps_rings()
+    ensures { RestKeepsRings }
 {}

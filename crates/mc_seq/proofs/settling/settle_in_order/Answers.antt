@@ -1,13 +1,14 @@
-use Rattle.std.proofs.Common.{◌++◌, ◌∙◌, List, ap}
-use Rattle.mc_box.specs.declared.event.Turn.{Turn}
-use Rattle.mc_world.proofs.LinkFree.{allowed_link_none}
-use Rattle.mc_seq.proofs.OrderSettles.{plain_is, plain_order_settles}
+use Rattle.std.proofs.Common.{subst}
+use Rattle.mc_seq.specs.PlainOrder.{StopsBy}
+use Rattle.mc_seq.specs.declared.fault.SettleFault.{SettleFault}
+use Rattle.mc_seq.proofs.Commanding.{allowed_goes}
+use Rattle.mc_seq.proofs.Runs.{never_on_ring}
 use Rattle.mc_seq.proofs.settling.settle_in_order.Goals as goal
 
-pub returns-clause-settled : goal.returns-clause-settled
-returns-clause-settled c =
-    plain_order_settles c.args.world c.take_all-2.new.settled.world c.args.batch.now c.take_all-2.new.settled.turns.items
-    (record { sound = c.keeps.ensures.sound; free = c.requires.free }) (allowed_link_none c.args.world c.args.batch.now c.requires.allowed)
-    (plain_is c.args.world c.command.new.settled.world c.take_all.new.settled.world c.retry_all.new.settled.world c.take_all-2.new.settled.world c.args.batch.now
-    c.command.new.settled.turns.items c.take_all.new.settled.turns.items c.retry_all.new.settled.turns.items c.take_all-2.new.settled.turns.items
-    c.in_ok-command.ensures.ran (c.in_ok-command.ensures.logged ∙ ap (λ (turns : List Turn). turns ++ c.args.batch.now) c.new-turns.ensures.items) c.in_ok-take_all.ensures.took c.in_ok-retry_all.ensures.ran c.in_ok-retry_all.ensures.logged c.in_ok-take_all-2.ensures.took)
+pub settle_or_ring-requires : goal.settle_or_ring-requires
+settle_or_ring-requires c = record { goes = allowed_goes c.args.world c.args.batch.now c.keeps.ensures.sound c.requires.allowed }
+
+pub unreachable-requires : goal.unreachable-requires
+unreachable-requires c =
+    let stops = subst (λ (fault : SettleFault). StopsBy c.args.world c.args.batch.now fault) c.in-Err-Ring.field-0-is c.in-Err-Ring.ensures.stops in
+    never_on_ring c.args.world c.args.batch.now c.in-Err-Ring.field-0-0 c.keeps.ensures.sound c.requires.free stops.0.runs stops.1

@@ -1,15 +1,14 @@
 use Rattle.std.proofs.Common.{refl}
-use Rattle.mc_world.proofs.Lowers.{take_lowers}
-use Rattle.mc_world.proofs.LinkFree.{step_keeps_link_free}
-use Rattle.mc_seq.proofs.Taking.{goes_last, goes_more, lowest_goes, take_by}
+use Rattle.mc_world.proofs.Lowers.{take_lowers, take_stays_free}
+use Rattle.mc_seq.proofs.Taking.{goes_last, goes_more, lowest_goes}
 use Rattle.mc_seq.proofs.settling.take_all.Goals as goal
 
 pub make-requires : goal.make-requires
-make-requires c = lowest_goes c.loop-slot.settled.world c.in-Some.slot c.place-who.result c.loop-slot.invariant.sound c.in-Some.ensures.some c.place-who.ensures
+make-requires c = lowest_goes c.loop-slot.settled.world c.in-Some.slot c.place-who.result c.loop-slot.invariant.sound.sound c.in-Some.ensures.some c.place-who.ensures
 
 pub loop-slot-preserved : goal.loop-slot-preserved
 loop-slot-preserved c = record {
-  sound = step_keeps_link_free c.loop-slot.settled.world c.make.new.settled.world (take_by c.place-who.result) c.loop-slot.invariant.sound refl c.in_ok-make.ensures.made;
+  sound = take_stays_free c.loop-slot.settled.world c.make.new.settled.world c.place-who.result.0 c.place-who.result.1 c.loop-slot.invariant.sound c.in_ok-make.ensures.made;
   takes = goes_more c.args.settled.now.world c.loop-slot.settled.world c.make.new.settled.world c.args.settled.now.turns.items c.loop-slot.settled.turns.items c.make.new.settled.turns.items
       c.in-Some.slot c.place-who.result c.in-Some.ensures.some c.place-who.ensures c.in_ok-make.ensures.made c.in_ok-make.ensures.logged c.loop-slot.invariant.takes;
 }

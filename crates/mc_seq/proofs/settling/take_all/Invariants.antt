@@ -1,12 +1,11 @@
-use Rattle.mc_world.specs.Measures.{measure}
-use Rattle.mc_world.specs.LinkFree.{IsLinkFree}
+use Rattle.mc_world.specs.Measures.{IsRingFree, measure}
 use Rattle.mc_seq.proofs.Taking.{GoesOn}
 use Rattle.mc_seq.proofs.settling.take_all.Given as goal
 
 -- whatever Takes come, they go on from here
 abbrev pub invariant-loop-slot : goal.invariant-loop-slot
 invariant-loop-slot l = record {
-  sound : IsLinkFree l.settled.world;
+  sound : IsRingFree l.settled.world;
   takes : GoesOn l.initial.settled.world l.initial.settled.turns.items l.settled.world l.settled.turns.items;
 }
 

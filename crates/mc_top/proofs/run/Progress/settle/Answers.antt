@@ -5,7 +5,7 @@ use Rattle.mc_world.proofs.LinkFree.{allowed_link_none}
 use Rattle.mc_path.proofs.SettledHold.{settled_paths_hold}
 use Rattle.mc_top.specs.Scripts.{ScriptState, Settling}
 use Rattle.mc_top.specs.Shown.{views_text}
-use Rattle.mc_top.proofs.Running.{after_settle}
+use Rattle.mc_top.proofs.Running.{after_settle, batch_leaves_none}
 use Rattle.mc_top.proofs.Viewing.{settle_is, views_named}
 use Rattle.mc_top.proofs.run.Progress.settle.Goals as goal
 
@@ -13,7 +13,7 @@ pub print_settle-requires : goal.print_settle-requires
 print_settle-requires c =
     let after = after_settle c.args.names.now c.self.inside.world c.in_ok-settled.settled.world _ _ (record { sound = c.keeps.ensures.sound; free = subst (λ (s : ScriptState). HasNoLinks s.world) (sym c.self.view_is) c.requires.free }) (allowed_link_none c.self.inside.world c.args.batch.now (subst (λ (s : ScriptState). All (λ turn. IsTrue (is_allowed s.world turn)) c.args.batch.now) (sym c.self.view_is) c.requires.allowed)) (rw (← c.self.view_is) at c.requires.named) c.in_ok-settled.ensures.settled in
     rw (c.deref-2.ensures.value, c.in_ok-views.ensures.views)
-    (views_named c.args.names.now c.in_ok-settled.settled.world after.named after.sound (c.in_ok-views.ensures.quiet after.quiet))
+    (views_named c.args.names.now c.in_ok-settled.settled.world after.named after.sound.sound (c.in_ok-views.ensures.quiet after.quiet))
 
 pub returns : goal.returns
 returns c =
@@ -21,7 +21,7 @@ returns c =
     let number = c.args.number in
     let last = c.in_ok-settled.settled.world in
     let settled = c.in_ok-settled.ensures.settled in
-    let holds = settled_paths_hold c.self.inside.world last _ _ (record { sound = c.keeps.ensures.sound; free = subst (λ (s : ScriptState). HasNoLinks s.world) (sym c.self.view_is) c.requires.free }) (allowed_link_none c.self.inside.world c.args.batch.now (subst (λ (s : ScriptState). All (λ turn. IsTrue (is_allowed s.world turn)) c.args.batch.now) (sym c.self.view_is) c.requires.allowed)) settled in
+    let holds = settled_paths_hold c.self.inside.world last _ _ c.keeps.ensures.sound settled in
     subst (λ (s : ScriptState). Settling names number c.args.batch.now s (record {
       world = last;
       journal = c.log.new.journal.items;
@@ -33,3 +33,9 @@ returns c =
       output = c.in_ok-print_settle.ensures
           ∙ ap (λ (text : List ℕ). c.self.inside.output.items ++ text) (ap (views_text names number) (c.deref-2.ensures.value ∙ c.in_ok-views.ensures.views) ∙ settle_is names number last holds);
     })
+
+pub settle_in_order-requires-clause-free : goal.settle_in_order-requires-clause-free
+settle_in_order-requires-clause-free c =
+    batch_leaves_none c.self.inside.world c.args.batch.now
+    (record { sound = c.keeps.ensures.sound; free = subst (λ (s : ScriptState). HasNoLinks s.world) (sym c.self.view_is) c.requires.free })
+    (allowed_link_none c.self.inside.world c.args.batch.now (subst (λ (s : ScriptState). All (λ turn. IsTrue (is_allowed s.world turn)) c.args.batch.now) (sym c.self.view_is) c.requires.allowed))
