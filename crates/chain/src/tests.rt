@@ -3,11 +3,13 @@
 use crate::call::take_at;
 use crate::fault::ChainFault;
 use crate::network::{CALLEE, CALLER, chain, device, feature, link_through};
-use mc_box::{Change, Event};
+use mc_box::{Change, Event, Turn};
 use mc_path::paths;
 use mc_plan::Plan;
+use mc_seq::{SettleFault, fits, settle_one};
 use mc_signal::Medium;
 use mc_slot::Goal;
+use mc_text::Draws;
 use mc_view::{EndView, PathView};
 use mc_world::World;
 use std::alloc::Global;
@@ -161,6 +163,101 @@ fn calls_go_over_chains_of_any_length(rt: HostRuntime) -> Result<(), ChainFault>
         assert_eq!(rt; end_of(path.high), (CALLEE, 0, Goal::Hold, Some(0)));
         assert!(rt; path.flowing);
         assert_eq!(rt; path.tunnels, tunnels);
+    }
+    Ok(())
+}
+
+const fn turn(who: u32, event: Event) -> Turn {
+    Turn { who, event }
+}
+
+// A settle by draws makes just these turns, and leaves the draws at this state.
+fn settles_by<R: Abort + AllocGlobal>(
+    rt: &R,
+    world: World,
+    batch: &[Turn],
+    state: u32,
+    want: &[Turn],
+    after: u32,
+) -> Result<(), ChainFault> {
+    let mut draws = Draws { state };
+    assert!(rt; fits(&world, batch));
+    match settle_one(rt.alloc(), world, batch, &mut draws) {
+        Ok(done) => {
+            assert_eq!(rt; done.turns.as_slice(), want);
+            assert_eq!(rt; draws.state, after);
+        }
+        Err(_) => assert!(rt; false),
+    }
+    Ok(())
+}
+
+fn two_devices(alloc: Global) -> Result<World, ChainFault> {
+    let mut plan = Plan::new(alloc);
+    plan.add(device())?;
+    plan.add(device())?;
+    plan.join(0, 1, &[Medium::Audio])?;
+    Ok(plan.world()?)
+}
+
+// The state of the draws after so many.
+fn drawn_from(mut state: u32, count: u32) -> u32 {
+    let mut draws = Draws { state };
+    for _done in 0..count {
+        let _ = draws.draw();
+    }
+    state = draws.state;
+    state
+}
+
+#[test]
+fn a_call_is_settled_by_draws(rt: HostRuntime) -> Result<(), ChainFault> {
+    let open = turn(0, Event::Set(Change::End(0, Goal::Open)));
+    let hold = turn(1, Event::Set(Change::End(0, Goal::Hold)));
+    let one = turn(0, Event::Take(0));
+    let two = turn(1, Event::Take(0));
+    settles_by(
+        &rt,
+        two_devices(rt.alloc())?,
+        &[open, hold],
+        1,
+        &[open, hold, two, one, two, one],
+        drawn_from(1, 6),
+    )
+}
+
+#[test]
+fn a_refused_call_is_settled_by_draws(rt: HostRuntime) -> Result<(), ChainFault> {
+    let open = turn(0, Event::Set(Change::End(0, Goal::Open)));
+    let one = turn(0, Event::Take(0));
+    let two = turn(1, Event::Take(0));
+    let again = turn(0, Event::Retry(0));
+    settles_by(
+        &rt,
+        two_devices(rt.alloc())?,
+        &[open],
+        1,
+        &[open, two, one, two, again, two, one, two],
+        drawn_from(1, 7),
+    )
+}
+
+#[test]
+fn draws_stop_at_a_ring(rt: HostRuntime) -> Result<(), ChainFault> {
+    let link = turn(0, Event::Set(Change::Link(0, 1)));
+    let back = turn(1, Event::Set(Change::Link(0, 1)));
+    let mut draws = Draws { state: 1 };
+    let world = two_features(rt.alloc())?;
+    let batch = [link, back];
+    assert!(rt; fits(&world, &batch));
+    let outcome = settle_one(rt.alloc(), world, &batch, &mut draws);
+    match &outcome {
+        Err(SettleFault::Ring(stop)) => {
+            assert_eq!(rt; stop.at, 0);
+            assert_eq!(rt; stop.turns.as_slice(), [link, back].as_slice());
+            assert_eq!(rt; draws.state, drawn_from(1, 2));
+        }
+        _ => assert!(rt; false),
     }
     Ok(())
 }

@@ -19,7 +19,7 @@ use Rattle.mc_seq.specs.PlainOrder.{TakesUp, owed_at, owed_below, owed_retries}
 -- ---- sums
 
 -- no number has anything
-total_none : (f : ℕ → ℕ) (n : ℕ) → ((t : ℕ) → t < n → f t ≡ 0) → total f n ≡ 0
+pub total_none : (f : ℕ → ℕ) (n : ℕ) → ((t : ℕ) → t < n → f t ≡ 0) → total f n ≡ 0
 total_none f zero none = refl
 total_none f (suc n) none =
     let here : f n ≡ 0 = none n (omega arith) in
@@ -27,7 +27,7 @@ total_none f (suc n) none =
     omega arith
 
 -- one number alone has something
-total_one : (f : ℕ → ℕ) (n s : ℕ) → s < n → ((t : ℕ) → t < n → t ≢ s → f t ≡ 0) → total f n ≡ f s
+pub total_one : (f : ℕ → ℕ) (n s : ℕ) → s < n → ((t : ℕ) → t < n → t ≢ s → f t ≡ 0) → total f n ≡ f s
 total_one f zero s inside others = absurd (omega arith)
 total_one f (suc n) s inside others = elim (cases_eq n s) [
   | inl same ↦
@@ -52,11 +52,11 @@ owed_total world who local (suc n) =
     omega arith
 
 -- the test of a slot with itself
-same_test : (a b : ℕ) → (a == a && b == b) ≡ true
+pub same_test : (a b : ℕ) → (a == a && b == b) ≡ true
 same_test a b = grind (arith, common_steps)
 
 -- the test of another slot
-other_test : (a b c d : ℕ) → (a ≡ b → c ≡ d → ⊥) → (a == b && c == d) ≡ false
+pub other_test : (a b c d : ℕ) → (a ≡ b → c ≡ d → ⊥) → (a == b && c == d) ≡ false
 other_test a b c d other = grind (arith, common_steps)
 
 -- the retry of another slot doesn't count

@@ -25,15 +25,15 @@ use Rattle.mc_seq.proofs.Runs.{run-append, takes_quiet, takes_run}
 -- ---- Takes and retries
 
 -- whether all of these turns are Takes and retries
-abbrev all_besides : List Turn → Bool
+abbrev pub all_besides : List Turn → Bool
 all_besides turns = list_all (λ turn. takes_or_retries turn.event) turns
 
 -- two tests that hold
-both_there : (a b : Bool) → a ≡ true → b ≡ true → (a && b) ≡ true
+pub both_there : (a b : Bool) → a ≡ true → b ≡ true → (a && b) ≡ true
 both_there a b one two = rw (one, two) refl
 
 -- two lists of such turns are one
-besides_both : (one two : List Turn) → all_besides one ≡ true → all_besides two ≡ true → all_besides (one ++ two) ≡ true
+pub besides_both : (one two : List Turn) → all_besides one ≡ true → all_besides two ≡ true → all_besides (one ++ two) ≡ true
 besides_both one two first second = list_all-append (λ (turn : Turn). takes_or_retries turn.event) one two ∙ both_there (all_besides one) (all_besides two) first second
 
 -- Takes of the lowest slots are such turns
@@ -77,7 +77,7 @@ commands_before one two who all =
 -- ---- the segment
 
 -- from the turns before the moment at which the world rests, and those behind it
-settled_at : (world rested last : WorldState) (batch begun rest : List Turn) → has_ring last ≡ false → run world begun ≡ Some rested → run rested rest ≡ Some last
+pub settled_at : (world rested last : WorldState) (batch begun rest : List Turn) → has_ring last ≡ false → run world begun ≡ Some rested → run rested rest ≡ Some last
     → IsTrue (is_quiet rested) → IsTrue (is_quiet last) → ((who : ℕ) → commands_of who begun ≡ commands_of who batch)
     → ((who local : ℕ) → count_by (is_retry_of who local) rest ≡ (if owes_retry rested who local then 1 else 0)) → all_besides rest ≡ true
     → IsSettled world batch (begun ++ rest) last

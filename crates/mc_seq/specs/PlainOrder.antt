@@ -10,7 +10,7 @@ use Rattle.mc_world.specs.Steps.{after, run, step}
 use Rattle.mc_world.specs.Worlds.{WorldState, front, slot_count}
 use Rattle.mc_box.specs.declared.event.Turn.{Turn}
 use Rattle.mc_seq.specs.declared.fault.SettleFault.{SettleFault}
-use Rattle.mc_seq.specs.declared.fault.SettleFault.TheVariants.{Ring, NoMemory}
+use Rattle.mc_seq.specs.declared.fault.SettleFault.TheVariants.{Ring, NoMemory, VersionEnd}
 
 -- slot s can take its front, and no slot below it can
 pub record IsLowest (world : WorldState) (s : ℕ) : Type 0 where
@@ -62,5 +62,6 @@ PlainOrderSettles = (world last : WorldState) (batch turns : List Turn) → IsSo
 
 -- a settle that stopped at a ring has used up its batch, which left it
 abbrev pub StopsBy : WorldState → List Turn → SettleFault → Type 0
-StopsBy world batch (Ring at) = IsStopped world batch batch (after world batch) × IsFirstOnRing (after world batch) at
+StopsBy world batch (Ring stop) = (stop.turns.items ≡ batch) × IsStopped world batch batch (after world batch) × IsFirstOnRing (after world batch) stop.at
+StopsBy world batch (VersionEnd stop) = ⊥
 StopsBy world batch (NoMemory e) = Unit {0}

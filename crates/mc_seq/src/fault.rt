@@ -3,13 +3,23 @@
 ghost use Rattle.std.specs.Prelude.{◌≡◌};
 ghost use Rattle.mc_seq.specs.declared.fault.SettleFault.TheVariants.{NoMemory};
 
+use mc_box::Turn;
 use std::alloc::AllocError;
+
+/// The slot at which a settle stopped, and the turns until then.
+#[derive(Debug, Drop)]
+pub struct Stopped {
+    pub at: u32,
+    pub turns: Vec<Turn>,
+}
 
 /// Why a batch isn't settled.
 #[derive(Debug, Drop)]
 pub enum SettleFault {
+    /// The next command of a box is a Hear of a slot whose descriptor has the last version.
+    VersionEnd(Stopped),
     /// The batch is used up, and this is the least slot on a ring then.
-    Ring(u32),
+    Ring(Stopped),
     NoMemory(AllocError),
 }
 

@@ -1,8 +1,45 @@
-//! Laws of the plain order, over the definitions alone.
+//! Laws of settles on one thread, over the definitions alone.
 
+ghost use Rattle.mc_seq.specs.Draws.{DrawsEnd, ScheduleIsOne, ScheduleSettles, TakesEndDraws};
 ghost use Rattle.mc_seq.specs.PlainOrder.{PlainOrderSettles};
+ghost use Rattle.mc_seq.specs.Ready.{CountIsSum, FrontsStay, KthIsFound};
 
 /// Turns in the plain order are a settled segment for their batch, where they leave no ring.
 pub fn plain_order_settles()
     ensures { PlainOrderSettles }
+{}
+
+/// Turns by the schedule of draws are a settled segment for their batch.
+pub fn schedule_settles()
+    ensures { ScheduleSettles }
+{}
+
+/// There are no two such lists of turns for one world, batch and state of the draws.
+pub fn schedule_is_one()
+    ensures { ScheduleIsOne }
+{}
+
+/// Where a search in the sums of what each box lists ends, there is the k-th candidate.
+pub fn kth_is_found()
+    ensures { KthIsFound }
+{}
+
+/// There are as many candidates as that sum.
+pub fn count_is_sum()
+    ensures { CountIsSum }
+{}
+
+/// A step changes the fronts of those lanes alone that lead to slots of its box, or to the other ends of their tunnels.
+pub fn fronts_stay()
+    ensures { FrontsStay }
+{}
+
+/// While commands are left, drawn turns are few, whether links make a ring or not.
+pub fn draws_end()
+    ensures { DrawsEnd }
+{}
+
+/// Where none are left, and there is no ring, each drawn turn lowers the measure of Takes.
+pub fn takes_end_draws()
+    ensures { TakesEndDraws }
 {}

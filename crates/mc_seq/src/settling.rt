@@ -9,7 +9,7 @@ ghost use Rattle.mc_world.specs.Shapes.{is_allowed, owes_of};
 ghost use Rattle.mc_world.specs.Steps.{after, run, step};
 ghost use Rattle.mc_world.specs.Worlds.{slot_count};
 
-use crate::fault::SettleFault;
+use crate::fault::{SettleFault, Stopped};
 use mc_box::{Event, Turn};
 use mc_goal::owes;
 use mc_slot::SlotGoal;
@@ -30,6 +30,7 @@ pub fn settle_in_order(alloc: Global, world: World, batch: &[Turn]) -> Result<Se
         Ok(done) => Ok(done),
         Err(SettleFault::NoMemory(e)) => Err(e),
         Err(SettleFault::Ring(_)) => unreachable!(),
+        Err(SettleFault::VersionEnd(_)) => unreachable!(),
     }
 }
 
@@ -45,8 +46,9 @@ pub fn settle_or_ring(alloc: Global, world: World, batch: &[Turn]) -> Result<Set
     let turns = Vec::new(alloc);
     let mut settled = Settled { world, turns };
     command(&mut settled, batch)?;
-    if let Some(slot) = settled.world.ring() {
-        return Err(SettleFault::Ring(slot));
+    if let Some(at) = settled.world.ring() {
+        let Settled { world: _, turns } = settled;
+        return Err(SettleFault::Ring(Stopped { at, turns }));
     }
     take_all(&mut settled)?;
     retry_all(&mut settled)?;
@@ -55,7 +57,7 @@ pub fn settle_or_ring(alloc: Global, world: World, batch: &[Turn]) -> Result<Set
 }
 
 // Makes a turn that can happen, and writes it down.
-fn make(settled: &mut Settled, turn: Turn) -> Result<(), AllocError>
+pub fn make(settled: &mut Settled, turn: Turn) -> Result<(), AllocError>
     requires { IsSome (step settled.old.world turn) }
     ensures made { OnOk result (step settled.old.world turn ≡ Some settled.new.world) }
     ensures logged { OnOk result (settled.new.turns.items ≡ settled.old.turns.items ++ turn ∷ []) }

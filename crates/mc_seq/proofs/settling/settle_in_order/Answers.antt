@@ -11,4 +11,4 @@ settle_or_ring-requires c = record { goes = allowed_goes c.args.world c.args.bat
 pub unreachable-requires : goal.unreachable-requires
 unreachable-requires c =
     let stops = subst (λ (fault : SettleFault). StopsBy c.args.world c.args.batch.now fault) c.in-Err-Ring.field-0-is c.in-Err-Ring.ensures.stops in
-    never_on_ring c.args.world c.args.batch.now c.in-Err-Ring.field-0-0 c.keeps.ensures.sound c.requires.free stops.0.runs stops.1
+    never_on_ring c.args.world c.args.batch.now c.in-Err-Ring.field-0-0.at c.keeps.ensures.sound c.requires.free stops.1.runs stops.2

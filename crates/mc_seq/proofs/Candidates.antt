@@ -1,0 +1,143 @@
+-- Each candidate is the next command of its box, or a Take of a signal that waits; and where there is none, the batch is used up and nothing is under way.
+use Rattle.std.proofs.Common.{◌≡◌, ◌<◌, ◌==◌, ◌⊎◌, inl, inr, cond, if◌then◌else◌, ℕ, Bool, true, false, List, [], ◌∷◌, All, length, slice_get, Option, Some, None, IsTrue, IsSome, refl, ap, sym, ◌∙◌, subst, arith}
+use Rattle.std.specs.List.{find, list_all}
+use Rattle.std.specs.Option.{is_some, option_and_then, option_to_list}
+use Rattle.std.proofs.lemmas.Bool.{and_parts}
+use Rattle.std.proofs.lemmas.Grind.{common_steps}
+use Rattle.std.proofs.lemmas.List.Elements.{All-append}
+use Rattle.std.proofs.lemmas.Option.{slice_get_within, get_or_from_slice_get}
+use Rattle.mc_signal.specs.declared.Signal.{Signal}
+use Rattle.mc_box.specs.declared.event.Event.TheVariants.{Take}
+use Rattle.mc_box.specs.declared.event.Turn.{Turn}
+use Rattle.mc_world.specs.Served.{LanesServed}
+use Rattle.mc_world.specs.Settles.{is_quiet}
+use Rattle.mc_world.specs.Sound.{IsSound}
+use Rattle.mc_world.specs.Steps.{step}
+use Rattle.mc_world.specs.Worlds.{WorldState, box_at, front, number, place, slot_count}
+use Rattle.mc_world.proofs.Numbers.{box_inside, number_is}
+use Rattle.mc_world.proofs.StepForms.{then_some}
+use Rattle.mc_world.proofs.StepGoes.{front_step_goes, some_of}
+use Rattle.mc_seq.specs.Draws.{AreFit}
+use Rattle.mc_seq.specs.Schedule.{Standing, candidates, drawn, drawn_place, is_fit, is_urgent, listed, next_of, of_box, take_turn, take_where, takes_of, waits}
+use Rattle.mc_seq.proofs.ForEach.{append_none, each_all, each_none, none_all, one_all}
+use Rattle.mc_seq.proofs.Fronts.{none_quiet}
+
+-- ---- what is listed
+
+-- a Take of a signal that waits
+pub record IsTake (world : WorldState) (turn : Turn) : Type 0 where
+  pub local : ℕ
+  pub event : turn.event ≡ Take local
+  pub waiting : waits world turn.who local ≡ true
+
+abbrev pub IsListed : WorldState → List Turn → Bool → Turn → Type 0
+IsListed world left urgent turn = (next_of turn.who left ≡ Some turn) ⊎ ((urgent ≡ false) × IsTake world turn)
+
+-- what is found passes the test
+found_by : (b : Bool) (p : Turn → Bool) (t x : Turn) (later : Option Turn) → p t ≡ b → cond b (Some t) later ≡ Some x → (later ≡ Some x → p x ≡ true) → p x ≡ true
+found_by true p t x later is found rest = let same : t ≡ x = cc in subst (λ (y : Turn). p y ≡ true) same is
+found_by false p t x later is found rest = rest found
+
+pub found_passes : (p : Turn → Bool) (xs : List Turn) (x : Turn) → find p xs ≡ Some x → p x ≡ true
+found_passes p [] x found = absurd (cc)
+found_passes p (t ∷ xs) x found = found_by (p t) p t x (find p xs) refl found (found_passes p xs x)
+
+same_number : (a b : ℕ) → (a == b) ≡ true → a ≡ b
+same_number a b is = grind (arith, common_steps)
+
+-- the next command of a box is that box's
+pub next_who : (who : ℕ) (left : List Turn) (turn : Turn) → next_of who left ≡ Some turn → turn.who ≡ who
+next_who who left turn found = same_number turn.who who (found_passes (λ (t : Turn). t.who == who) left turn found)
+
+option_all : (P : Turn → Type 0) (o : Option Turn) → ((x : Turn) → o ≡ Some x → P x) → All P (option_to_list o)
+option_all P None all = none_all P
+option_all P (Some x) all = one_all P x (all x refl)
+
+where_by : (there : Bool) (world : WorldState) (left : List Turn) (who local : ℕ) → waits world who local ≡ there → All (IsListed world left false) (if there then take_turn who local ∷ [] else [])
+where_by true world left who local is = one_all (IsListed world left false) (take_turn who local) (inr (refl, record { local = local; event = refl; waiting = is }))
+where_by false world left who local is = none_all (IsListed world left false)
+
+takes_by : (urgent : Bool) (world : WorldState) (left : List Turn) (who : ℕ) → All (IsListed world left urgent) (if urgent then [] else takes_of world who)
+takes_by true world left who = none_all (IsListed world left true)
+takes_by false world left who = each_all (IsListed world left false) (take_where world who) (length (box_at world who).slots) (λ local below. where_by (waits world who local) world left who local refl)
+
+box_listed : (world : WorldState) (left : List Turn) (urgent : Bool) (who : ℕ) → All (IsListed world left urgent) (of_box world left urgent who)
+box_listed world left urgent who =
+    All-append (IsListed world left urgent) (option_to_list (next_of who left)) (if urgent then [] else takes_of world who)
+    (option_all (IsListed world left urgent) (next_of who left) (λ turn is. inl (ap (λ (w : ℕ). next_of w left) (next_who who left turn is) ∙ is)))
+    (takes_by urgent world left who)
+
+pub all_listed : (world : WorldState) (left : List Turn) (urgent : Bool) → All (IsListed world left urgent) (listed world left urgent)
+all_listed world left urgent = each_all (IsListed world left urgent) (of_box world left urgent) (length world.boxes) (λ who below. box_listed world left urgent who)
+
+got_all : (P : Turn → Type 0) (xs : List Turn) (k : ℕ) (x : Turn) → All P xs → slice_get xs k ≡ Some x → P x
+got_all P xs k x all got = subst P (get_or_from_slice_get xs k x x got) (all k x (slice_get_within xs k x got))
+
+-- so is the one that is drawn
+pub drawn_listed : (now : Standing) (turn : Turn) → drawn now ≡ Some turn → IsListed now.world now.left (is_urgent now.left now.since) turn
+drawn_listed now turn is =
+    got_all (IsListed now.world now.left (is_urgent now.left now.since)) (candidates now) (drawn_place now.draws (length (candidates now))) turn
+    (all_listed now.world now.left (is_urgent now.left now.since)) is
+
+-- ---- a Take goes
+
+take_by : (world : WorldState) (who local s : ℕ) (signal : Signal) → IsSound world → number world who local ≡ Some s → front world s ≡ Some signal → IsSome (step world (take_turn who local))
+take_by world who local s signal sound numbered fronts =
+    let at = number_is world who local s numbered in
+    let goes = front_step_goes world s signal sound at.0 fronts in
+    subst (λ (l : ℕ). IsSome (step world (take_turn who l))) at.2
+    (subst (λ (w : ℕ). IsSome (step world (take_turn w (place world s).1))) at.1 goes)
+
+pub wait_goes : (world : WorldState) (who local : ℕ) → IsSound world → waits world who local ≡ true → IsSome (step world (take_turn who local))
+wait_goes world who local sound waiting =
+    let signal = some_of (option_and_then (front world) (number world who local)) waiting in
+    let parts = then_some (front world) (number world who local) signal.0 signal.1 in
+    take_by world who local parts.0 signal.0 sound parts.1 parts.2
+
+-- a Take, as it is written
+pub take_same : (turn : Turn) (local : ℕ) → turn.event ≡ Take local → take_turn turn.who local ≡ turn
+take_same turn local is = ap (λ e. let t : Turn = record { who = turn.who; event = e } in t) (sym is)
+
+pub take_goes : (world : WorldState) (turn : Turn) → IsSound world → IsTake world turn → IsSome (step world turn)
+take_goes world turn sound take = subst (λ (t : Turn). IsSome (step world t)) (take_same turn take.local take.event) (wait_goes world turn.who take.local sound take.waiting)
+
+-- ---- nothing is listed
+
+self_test : (a : ℕ) → (a == a) ≡ true
+self_test a = grind (arith, common_steps)
+
+first_by : (b : Bool) (t : Turn) (later : Option Turn) → b ≡ true → option_to_list (cond b (Some t) later) ≡ [] → ⊥
+first_by true t later is none = cc
+first_by false t later is none = cc
+
+-- each command that is left is listed with its box
+pub none_left : (world : WorldState) (left : List Turn) (urgent : Bool) → AreFit world left → listed world left urgent ≡ [] → left ≡ []
+none_left world [] urgent fit none = refl
+none_left world (turn ∷ left) urgent fit none =
+    let parts = and_parts (is_fit world turn) (list_all (is_fit world) left) fit in
+    let here = and_parts _ _ parts.0 in
+    let inside = box_inside world turn.who (and_parts _ _ here.0).1 in
+    let box = each_none (of_box world (turn ∷ left) urgent) (length world.boxes) turn.who none inside in
+    let next = (append_none (option_to_list (next_of turn.who (turn ∷ left))) (if urgent then [] else takes_of world turn.who) box).0 in
+    absurd (first_by (turn.who == turn.who) turn (find (λ t. t.who == turn.who) left) (self_test turn.who) next)
+
+unlisted_by : (there : Bool) (who local : ℕ) → (if there then take_turn who local ∷ [] else []) ≡ [] → there ≡ false
+unlisted_by true who local none = absurd (cc)
+unlisted_by false who local none = refl
+
+no_front : (o : Option Signal) → is_some o ≡ false → o ≡ None
+no_front None is = refl
+no_front (Some x) is = absurd (cc)
+
+-- where the batch is used up, and nothing is listed, no slot can take its front
+none_waits : (world : WorldState) → IsSound world → listed world [] false ≡ [] → (s : ℕ) → s < slot_count world → front world s ≡ None
+none_waits world sound none s inside =
+    let who : ℕ = (place world s).0 in
+    let local : ℕ = (place world s).1 in
+    let takes : takes_of world who ≡ [] = each_none (of_box world [] false) (length world.boxes) who none (sound.numbered.placed s inside) in
+    let take : take_where world who local ≡ [] = each_none (take_where world who) (length (box_at world who).slots) local takes (sound.numbered.slots s inside) in
+    let waiting : waits world who local ≡ false = unlisted_by (waits world who local) who local take in
+    no_front (front world s) (ap (λ (o : Option ℕ). is_some (option_and_then (front world) o)) (sym (sound.numbered.once s inside)) ∙ waiting)
+
+pub listed_quiet : (world : WorldState) → IsSound world → LanesServed world → listed world [] false ≡ [] → IsTrue (is_quiet world)
+listed_quiet world sound served none = none_quiet world served (none_waits world sound none)

@@ -1,0 +1,49 @@
+-- Draws end.
+use Rattle.std.proofs.Common.{◌≡◌, ◌≢◌, ◌<◌, ◌≤◌, ◌+◌, List, [], ◌∷◌, length, Some, ap, sym, ◌∙◌, arith}
+use Rattle.mc_box.specs.declared.event.Event.TheVariants.{Take}
+use Rattle.mc_box.specs.declared.event.Turn.{Turn}
+use Rattle.mc_world.specs.Measures.{IsRingFree, measure}
+use Rattle.mc_world.specs.Sound.{IsSound}
+use Rattle.mc_world.specs.Steps.{step}
+use Rattle.mc_world.proofs.Lowers.{take_lowers, take_stays_free}
+use Rattle.mc_world.proofs.ShapesKept.{step_keeps_shape}
+use Rattle.mc_world.proofs.StepKeeps.{step_keeps_sound}
+use Rattle.mc_seq.specs.Draws.{AreFit, DrawsEnd, TakesEndDraws}
+use Rattle.mc_seq.specs.Schedule.{AreDrawn, Standing, is_fit, left_by, moved, since_by}
+use Rattle.mc_seq.proofs.Candidates.{drawn_listed, take_same}
+use Rattle.mc_seq.proofs.FitCommands.{fits_kept, left_pass}
+use Rattle.mc_seq.proofs.Scheduled.{drawn_takes}
+use Rattle.mc_seq.proofs.Sittings.{drawn_take, empty_is, listed_lowers, take_left, to_come}
+
+few_draws : (turns : List Turn) (now last : Standing) → IsSound now.world → AreFit now.world now.left → length last.left ≢ 0 → AreDrawn now turns last
+    → length turns + to_come last.left last.since ≤ to_come now.left now.since
+few_draws [] now last sound fit some draws =
+    let same : to_come last.left last.since ≡ to_come now.left now.since = ap (λ (s : Standing). to_come s.left s.since) (sym draws) in
+    omega arith
+few_draws (turn ∷ turns) now last sound fit some draws =
+    let here : length now.left ≢ 0 = λ none. some (ap length (drawn_takes (turn ∷ turns) now last (empty_is now.left none) draws).left) in
+    let after = step_keeps_sound now.world draws.0 turn sound draws.3 in
+    let fits = fits_kept (left_by turn now.left) now.world draws.0 sound after (step_keeps_shape now.world draws.0 turn sound draws.3) (left_pass (is_fit now.world) turn now.left fit) in
+    let lower : to_come (left_by turn now.left) (since_by turn now.since) < to_come now.left now.since = listed_lowers now.world turn now.left now.since fit here (drawn_listed now turn draws.2) in
+    let rest : length turns + to_come last.left last.since ≤ to_come (left_by turn now.left) (since_by turn now.since) = few_draws turns (moved now turn draws.0) last after fits some draws.4 in
+    omega arith
+
+pub draws_end : DrawsEnd
+draws_end now last turns sound fit draws some =
+    let few = few_draws turns now last sound fit (λ none. some (empty_is last.left none)) draws in
+    omega arith
+
+few_takes : (turns : List Turn) (now last : Standing) → now.left ≡ [] → IsRingFree now.world → AreDrawn now turns last → length turns + measure last.world ≤ measure now.world
+few_takes [] now last none free draws =
+    let same : measure last.world ≡ measure now.world = ap (λ (s : Standing). measure s.world) (sym draws) in
+    omega arith
+few_takes (turn ∷ turns) now last none free draws =
+    let take = drawn_take now turn none draws.2 in
+    let goes : step now.world (record { who = turn.who; event = Take take.local }) ≡ Some draws.0 = ap (step now.world) (take_same turn take.local take.event) ∙ draws.3 in
+    let lower : measure draws.0 < measure now.world = take_lowers now.world draws.0 turn.who take.local free goes in
+    let rest : length turns + measure last.world ≤ measure draws.0 =
+    few_takes turns (moved now turn draws.0) last (take_left turn now.left now.world take ∙ none) (take_stays_free now.world draws.0 turn.who take.local free goes) draws.4 in
+    omega arith
+
+pub takes_end_draws : TakesEndDraws
+takes_end_draws now last turns none free draws = few_takes turns now last none free draws

@@ -1,0 +1,59 @@
+-- The Hear of a slot at the last version.
+use Rattle.std.proofs.Common.{◌≡◌, ◌&&◌, inl, inr, nat_lt, ℕ, Bool, true, false, length, Option, Some, None, IsSome, IsTrue, IsFalse, refl, sym, ◌∙◌, subst}
+use Rattle.std.proofs.lemmas.Bool.{and_parts}
+use Rattle.mc_box.specs.BoxEvents.{is_version_end}
+use Rattle.mc_box.specs.BoxShapes.{is_device}
+use Rattle.mc_box.specs.Boxes.{is_slot}
+use Rattle.mc_box.specs.declared.event.Event.{Event}
+use Rattle.mc_box.specs.declared.event.Event.TheVariants.{Take, Set, Media, Tell, Retry, Shift}
+use Rattle.mc_box.specs.declared.event.MediaChange.TheVariants.{Hear, Talk}
+use Rattle.mc_box.specs.declared.event.Turn.{Turn}
+use Rattle.mc_world.specs.Sound.{IsSound}
+use Rattle.mc_world.specs.StepAnswers.{ends_version, ends_version_at}
+use Rattle.mc_world.specs.Steps.{step}
+use Rattle.mc_world.specs.Worlds.{WorldState, box_at, number}
+use Rattle.mc_world.proofs.Numbers.{box_inside, slot_inside}
+use Rattle.mc_seq.specs.Drawing.{MayCome}
+use Rattle.mc_seq.specs.Schedule.{heard_local}
+
+-- an event that ends a version is the Hear of a slot that is there
+local_by : (event : Event) (world : WorldState) (who : ℕ) → ends_version_at world who event ≡ true → (local : ℕ) × (heard_local event ≡ Some local) × (is_slot (box_at world who) local ≡ true)
+local_by (Media (Hear local on)) world who ends =
+    let two = and_parts (is_version_end (box_at world who) (Media (Hear local on))) (is_device (box_at world who).kind && is_slot (box_at world who) local) ends in
+    let three = and_parts (is_device (box_at world who).kind) (is_slot (box_at world who) local) two.1 in
+    (local, refl, three.1)
+local_by (Media (Talk local on)) world who ends = absurd (cc)
+local_by (Take local) world who ends = absurd (cc)
+local_by (Set change) world who ends = absurd (cc)
+local_by (Tell word) world who ends = absurd (cc)
+local_by (Retry local) world who ends = absurd (cc)
+local_by Shift world who ends = absurd (cc)
+
+some_is : (a b : ℕ) → Some a ≡ Some b → a ≡ b
+some_is a b is = cc
+
+-- which has a number
+pub hears_somewhere : (world : WorldState) (turn : Turn) (local : ℕ) → IsSound world → IsTrue (ends_version world turn) → heard_local turn.event ≡ Some local → number world turn.who local ≡ None → ⊥
+hears_somewhere world turn local sound ends is none =
+    let one = and_parts (nat_lt turn.who (length world.boxes)) (ends_version_at world turn.who turn.event) ends in
+    let found = local_by turn.event world turn.who one.1 in
+    let same : found.0 ≡ local = some_is found.0 local (sym found.1 ∙ is) in
+    let inside : is_slot (box_at world turn.who) local ≡ true = subst (λ (l : ℕ). is_slot (box_at world turn.who) l ≡ true) same found.2 in
+    let slot = sound.numbered.all turn.who local (box_inside world turn.who one.0) (slot_inside (box_at world turn.who) local inside) in
+    let there : number world turn.who local ≡ Some slot.0 = subst (λ (p : ℕ × ℕ). number world p.0 p.1 ≡ Some slot.0) slot.2 (sound.numbered.once slot.0 slot.1) in
+    cc (there, none)
+
+some_none : (o : Option WorldState) → IsSome o → o ≡ None → ⊥
+some_none None some none = cc
+some_none (Some x) some none = cc
+
+true_false : (b : Bool) → IsTrue b → IsFalse b → ⊥
+true_false true one two = cc
+true_false false one two = cc
+
+-- a turn that may come isn't refused
+pub never_refused : (world : WorldState) (turn : Turn) → MayCome world turn → step world turn ≡ None → IsFalse (ends_version world turn) → ⊥
+never_refused world turn may none other = elim may [
+  | inl goes ↦ some_none (step world turn) goes none
+  | inr ends ↦ true_false (ends_version world turn) ends other
+]

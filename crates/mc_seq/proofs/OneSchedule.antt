@@ -1,0 +1,54 @@
+-- The schedule leaves no choice.
+use Rattle.std.proofs.Common.{◌≡◌, ◌++◌, List, [], ◌∷◌, length, slice_get, Option, Some, None, refl, ap, sym, ◌∙◌, subst}
+use Rattle.mc_box.specs.declared.event.Turn.{Turn}
+use Rattle.mc_world.specs.Steps.{run, step}
+use Rattle.mc_world.specs.Worlds.{WorldState}
+use Rattle.mc_seq.specs.Draws.{ScheduleIsOne}
+use Rattle.mc_seq.specs.Schedule.{AreDrawn, Standing, begun, candidates, drawn, drawn_place, moved, round}
+
+-- where nothing is listed, nothing is drawn
+none_drawn : (now : Standing) (turn : Turn) → candidates now ≡ [] → drawn now ≡ Some turn → ⊥
+none_drawn now turn none is =
+    let nothing : drawn now ≡ None = ap (λ (l : List Turn). slice_get l (drawn_place now.draws (length l))) none in
+    cc (nothing, is)
+
+record AreOne (one two : List Turn) (last other : Standing) : Type 0 where
+  pub turns : one ≡ two
+  pub stands : last ≡ other
+
+same_turn : (o : Option Turn) (s t : Turn) → o ≡ Some s → o ≡ Some t → s ≡ t
+same_turn o s t one two = cc
+
+same_world : (world n m : WorldState) (s t : Turn) → s ≡ t → step world s ≡ Some n → step world t ≡ Some m → n ≡ m
+same_world world n m s t is one two = cc
+
+drawn_one : (one two : List Turn) (now last other : Standing) → AreDrawn now one last → candidates last ≡ [] → AreDrawn now two other → candidates other ≡ [] → AreOne one two last other
+drawn_one [] [] now last other first none second nothing = record { turns = refl; stands = sym first ∙ second }
+drawn_one [] (t ∷ two) now last other first none second nothing = absurd (none_drawn now t (ap candidates first ∙ none) second.2)
+drawn_one (s ∷ one) [] now last other first none second nothing = absurd (none_drawn now s (ap candidates second ∙ nothing) first.2)
+drawn_one (s ∷ one) (t ∷ two) now last other first none second nothing =
+    let same = same_turn (drawn now) s t first.2 second.2 in
+    let world = same_world now.world first.0 second.0 s t same first.3 second.3 in
+    let rest : AreDrawn (moved now s first.0) two other =
+    subst (λ (w : WorldState). AreDrawn (moved now s w) two other) (sym world) (subst (λ (x : Turn). AreDrawn (moved now x second.0) two other) (sym same) second.4) in
+    let later = drawn_one one two (moved now s first.0) last other first.4 none rest nothing in
+    record { turns = ap (λ (x : Turn). x ∷ one) same ∙ ap (λ (l : List Turn). t ∷ l) later.turns; stands = later.stands }
+
+same_run : (world other n m : WorldState) → world ≡ other → run world (round world) ≡ Some n → run other (round other) ≡ Some m → n ≡ m
+same_run world other n m is one two = let both : run world (round world) ≡ run other (round other) = ap (λ (w : WorldState). run w (round w)) is in cc
+
+pub schedule_is_one : ScheduleIsOne
+schedule_is_one world last other batch turns more state end until one two =
+    let first = drawn_one one.first two.first (begun world batch state) one.rested two.rested one.draws one.none two.draws two.none in
+    let worlds = same_run one.rested.world two.rested.world one.retried two.retried (ap (λ (s : Standing). s.world) first.stands) one.retries two.retries in
+    let again : AreDrawn (record one.rested { world = one.retried }) two.others two.ended =
+    subst (λ (w : WorldState). AreDrawn (record one.rested { world = w }) two.others two.ended) (sym worlds)
+    (subst (λ (s : Standing). AreDrawn (record s { world = two.retried }) two.others two.ended) (sym first.stands) two.more) in
+    let later = drawn_one one.others two.others (record one.rested { world = one.retried }) one.ended two.ended one.more one.nothing again two.nothing in
+    record {
+      turns_same = one.are ∙ (ap (λ (l : List Turn). l ++ (round one.rested.world ++ one.others)) first.turns
+          ∙ (ap (λ (s : Standing). two.first ++ (round s.world ++ one.others)) first.stands
+          ∙ (ap (λ (l : List Turn). two.first ++ (round two.rested.world ++ l)) later.turns ∙ sym two.are)));
+      worlds_same = sym one.to_last ∙ (ap (λ (s : Standing). s.world) later.stands ∙ two.to_last);
+      ends_same = sym one.to_end ∙ (ap (λ (s : Standing). s.draws) later.stands ∙ two.to_end);
+    }

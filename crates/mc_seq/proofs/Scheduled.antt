@@ -1,0 +1,222 @@
+-- Turns by the schedule are a settled segment, and those of a settle that stops are a stopped one.
+use Rattle.std.proofs.Common.{◌≡◌, ◌+◌, ◌++◌, ◌==◌, ◌&&◌, inl, inr, cond, if◌then◌else◌, ℕ, Bool, true, false, List, [], ◌∷◌, length, take, count_by, Some, IsTrue, append_assoc, append-nil, refl, ap, sym, ◌∙◌, subst, arith}
+use Rattle.std.specs.List.{list_all}
+use Rattle.std.specs.Option.{option_and_then}
+use Rattle.std.proofs.Math.Seq.{take-append_seam}
+use Rattle.std.proofs.lemmas.Bool.{and_parts}
+use Rattle.std.proofs.lemmas.List.Elements.{filter-append}
+use Rattle.std.proofs.lemmas.List.Sums.{sum_by-append}
+use Rattle.mc_box.specs.declared.event.Event.{Event}
+use Rattle.mc_box.specs.declared.event.Turn.{Turn}
+use Rattle.mc_world.specs.Paths.{has_ring}
+use Rattle.mc_world.specs.Rings.{IsFirstOnRing}
+use Rattle.mc_world.specs.Served.{LanesServed}
+use Rattle.mc_world.specs.Settles.{IsSettled, IsStopped, commands_of, is_command, is_quiet, is_retry_of, owes_retry, takes_or_retries}
+use Rattle.mc_world.specs.Sound.{IsSound}
+use Rattle.mc_world.specs.Steps.{run}
+use Rattle.mc_world.specs.Worlds.{WorldState}
+use Rattle.mc_world.proofs.Firsts.{run_keeps_served}
+use Rattle.mc_world.proofs.GoalsKept.{rest_keeps_rings}
+use Rattle.mc_world.proofs.ShapesKept.{run_keeps_shape}
+use Rattle.mc_seq.specs.Draws.{AreFit, IsScheduled, ScheduleSettles, StopsAtRing, StopsAtVersion}
+use Rattle.mc_seq.specs.Drawing.{DrewAll, RanOut, Rested}
+use Rattle.mc_seq.specs.Schedule.{AreDrawn, Standing, begun, candidates, is_fit, is_urgent, left_by, listed, moved, round, without_next}
+use Rattle.mc_seq.proofs.Candidates.{IsListed, drawn_listed, listed_quiet, none_left, take_same}
+use Rattle.mc_seq.proofs.FitCommands.{fit_parts, fits_kept, left_pass, next_pass, two_there}
+use Rattle.mc_seq.proofs.Nexts.{next_first}
+use Rattle.mc_seq.proofs.OrderSettles.{all_besides, besides_both, settled_at}
+use Rattle.mc_seq.proofs.Rounds.{round_besides, round_once}
+use Rattle.mc_seq.proofs.Runs.{run-append}
+use Rattle.mc_seq.proofs.Sittings.{drawn_take, take_left, take_none}
+
+-- ---- drawn turns are a run
+
+pub drawn_run : (turns : List Turn) (now last : Standing) → AreDrawn now turns last → run now.world turns ≡ Some last.world
+drawn_run [] now last draws = ap (λ (s : Standing). Some s.world) draws
+drawn_run (turn ∷ turns) now last draws = ap (option_and_then (λ (w : WorldState). run w turns)) draws.3 ∙ drawn_run turns (moved now turn draws.0) last draws.4
+
+-- what all that is left passes
+drawn_pass : (p : Turn → Bool) (turns : List Turn) (now last : Standing) → list_all p now.left ≡ true → AreDrawn now turns last → list_all p last.left ≡ true
+drawn_pass p [] now last all draws = subst (λ (s : Standing). list_all p s.left ≡ true) draws all
+drawn_pass p (turn ∷ turns) now last all draws = drawn_pass p turns (moved now turn draws.0) last (left_pass p turn now.left all) draws.4
+
+-- ---- their commands
+
+abbrev is_ordered : Turn → Bool
+is_ordered turn = is_command turn.event
+
+fit_commands : (left : List Turn) (world : WorldState) → AreFit world left → list_all is_ordered left ≡ true
+fit_commands [] world fit = refl
+fit_commands (turn ∷ left) world fit =
+    let parts = and_parts (is_fit world turn) (list_all (is_fit world) left) fit in
+    two_there (is_ordered turn) (list_all is_ordered left) (fit_parts world turn parts.0).command (fit_commands left world parts.1)
+
+moved_commands : (world : WorldState) (left : List Turn) (urgent : Bool) (turn : Turn) (who : ℕ) → list_all is_ordered left ≡ true → IsListed world left urgent turn
+    → commands_of who (turn ∷ []) ++ commands_of who (left_by turn left) ≡ commands_of who left
+moved_commands world left urgent turn who all is = elim is [
+  | inl next ↦
+      ap (λ (b : Bool). commands_of who (turn ∷ []) ++ commands_of who (if b then without_next turn.who left else left)) (next_pass is_ordered turn.who left turn all next)
+      ∙ next_first left turn who next
+  | inr take ↦
+      ap (λ (turns : List Turn). commands_of who (turn ∷ []) ++ commands_of who turns) (take_left turn left world take.1)
+      ∙ ap (λ (b : Bool). cond (b && turn.who == who) (turn ∷ []) [] ++ commands_of who left) (take_none turn take.1.local take.1.event)
+]
+
+-- box by box the drawn commands, and then those that are left, are those that were left before
+drawn_commands : (turns : List Turn) (now last : Standing) (who : ℕ) → list_all is_ordered now.left ≡ true → AreDrawn now turns last → commands_of who turns ++ commands_of who last.left ≡ commands_of who now.left
+drawn_commands [] now last who all draws = ap (λ (s : Standing). commands_of who s.left) (sym draws)
+drawn_commands (turn ∷ turns) now last who all draws =
+    ap (λ (l : List Turn). l ++ commands_of who last.left) (filter-append (λ (t : Turn). is_command t.event && t.who == who) (turn ∷ []) turns)
+    ∙ (append_assoc (commands_of who (turn ∷ [])) (commands_of who turns) (commands_of who last.left)
+    ∙ (ap (λ (l : List Turn). commands_of who (turn ∷ []) ++ l) (drawn_commands turns (moved now turn draws.0) last who (left_pass is_ordered turn now.left all) draws.4)
+    ∙ moved_commands now.world now.left (is_urgent now.left now.since) turn who all (drawn_listed now turn draws.2)))
+
+-- so they are a stopped segment
+pub drawn_stopped : (world : WorldState) (batch turns : List Turn) (state : ℕ) (last : Standing) → AreFit world batch → AreDrawn (begun world batch state) turns last → IsStopped world batch turns last.world
+drawn_stopped world batch turns state last fit draws = record {
+  runs = drawn_run turns (begun world batch state) last draws;
+  commands = λ who.
+      sym (take-append_seam (commands_of who turns) (commands_of who last.left))
+      ∙ ap (take (length (commands_of who turns))) (drawn_commands turns (begun world batch state) last who (fit_commands batch world fit) draws);
+}
+
+-- ---- where the batch is used up
+
+-- drawn turns are Takes
+pub record AreTakes (turns : List Turn) (last : Standing) : Type 0 where
+  pub besides : all_besides turns ≡ true
+  pub left : last.left ≡ []
+  pub count : (who local : ℕ) → count_by (is_retry_of who local) turns ≡ 0
+
+pub drawn_takes : (turns : List Turn) (now last : Standing) → now.left ≡ [] → AreDrawn now turns last → AreTakes turns last
+drawn_takes [] now last none draws = record { besides = refl; left = ap (λ (s : Standing). s.left) (sym draws) ∙ none; count = λ who local. refl }
+drawn_takes (turn ∷ turns) now last none draws =
+    let take = drawn_take now turn none draws.2 in
+    let rest = drawn_takes turns (moved now turn draws.0) last (take_left turn now.left now.world take ∙ none) draws.4 in
+    record {
+      besides = ap (λ (e : Event). takes_or_retries e && all_besides turns) take.event ∙ rest.besides;
+      left = rest.left;
+      count = λ who local. ap (λ (t : Turn). count_by (is_retry_of who local) (t ∷ turns)) (sym (take_same turn take.local take.event)) ∙ rest.count who local;
+    }
+
+-- nothing is under way where nothing is listed
+rested_quiet : (now : Standing) → IsSound now.world → LanesServed now.world → now.left ≡ [] → candidates now ≡ [] → IsTrue (is_quiet now.world)
+rested_quiet now sound served left none =
+    listed_quiet now.world sound served (subst (λ (l : List Turn). listed now.world l (is_urgent l now.since) ≡ []) left none)
+
+-- ---- the segment
+
+-- what is known where nothing is listed the first time
+record First (world : WorldState) (batch first : List Turn) (rested : Standing) : Type 0 where
+  pub ran : run world first ≡ Some rested.world
+  pub sound : IsSound rested.world
+  pub served : LanesServed rested.world
+  pub left : rested.left ≡ []
+  pub quiet : IsTrue (is_quiet rested.world)
+  pub used : (who : ℕ) → commands_of who first ≡ commands_of who batch
+
+first_is : (world : WorldState) (batch first : List Turn) (state : ℕ) (rested : Standing) → IsSound world → LanesServed world → AreFit world batch
+    → AreDrawn (begun world batch state) first rested → candidates rested ≡ [] → First world batch first rested
+first_is world batch first state rested sound served fit draws none =
+    let ran : run world first ≡ Some rested.world = drawn_run first (begun world batch state) rested draws in
+    let kept = run_keeps_served world rested.world first sound served ran in
+    let fits = fits_kept rested.left world rested.world sound kept.0 (run_keeps_shape world rested.world first sound ran) (drawn_pass (is_fit world) first (begun world batch state) rested fit draws) in
+    let left = none_left rested.world rested.left (is_urgent rested.left rested.since) fits none in
+    record {
+      ran = ran;
+      sound = kept.0;
+      served = kept.1;
+      left = left;
+      quiet = rested_quiet rested kept.0 kept.1 left none;
+      used = λ who.
+          sym (append-nil (commands_of who first))
+          ∙ (ap (λ (l : List Turn). commands_of who first ++ commands_of who l) (sym left)
+          ∙ drawn_commands first (begun world batch state) rested who (fit_commands batch world fit) draws);
+    }
+
+-- each retry that is owed comes once behind it
+counted : (world : WorldState) (others : List Turn) (who local : ℕ) → count_by (is_retry_of who local) others ≡ 0 → count_by (is_retry_of who local) (round world ++ others) ≡ (if owes_retry world who local then 1 else 0)
+counted world others who local none =
+    let both : count_by (is_retry_of who local) (round world ++ others) ≡ count_by (is_retry_of who local) (round world) + count_by (is_retry_of who local) others
+    = sum_by-append (λ (turn : Turn). cond (is_retry_of who local turn) 1 0) (round world) others in
+    let sum : count_by (is_retry_of who local) (round world ++ others) ≡ count_by (is_retry_of who local) (round world) = omega arith in
+    sum ∙ round_once world who local
+
+settled_by : (world retried : WorldState) (batch first others : List Turn) (rested ended : Standing) → First world batch first rested → has_ring rested.world ≡ false
+    → run rested.world (round rested.world) ≡ Some retried → AreDrawn (record rested { world = retried }) others ended → candidates ended ≡ []
+    → IsSettled world batch (first ++ (round rested.world ++ others)) ended.world
+settled_by world retried batch first others rested ended begins free retries draws none =
+    let takes = drawn_takes others (record rested { world = retried }) ended begins.left draws in
+    let goes : run rested.world (round rested.world ++ others) ≡ Some ended.world = run-append (round rested.world) others rested.world retried retries ∙ drawn_run others (record rested { world = retried }) ended draws in
+    let besides = besides_both (round rested.world) others (round_besides rested.world (length rested.world.boxes)) takes.besides in
+    let kept = run_keeps_served rested.world ended.world (round rested.world ++ others) begins.sound begins.served goes in
+    settled_at world rested.world ended.world batch first (round rested.world ++ others)
+    (rest_keeps_rings rested.world ended.world (round rested.world ++ others) begins.sound besides goes ∙ free)
+    begins.ran goes begins.quiet (rested_quiet ended kept.0 kept.1 takes.left none) begins.used
+    (λ who local. counted rested.world others who local (takes.count who local)) besides
+
+pub schedule_settles : ScheduleSettles
+schedule_settles world last batch turns state end sound served fit scheduled =
+    subst (λ (t : List Turn). IsSettled world batch t last) (sym scheduled.are)
+    (subst (λ (w : WorldState). IsSettled world batch (scheduled.first ++ (round scheduled.rested.world ++ scheduled.others)) w) scheduled.to_last
+    (settled_by world scheduled.retried batch scheduled.first scheduled.others scheduled.rested scheduled.ended
+    (first_is world batch scheduled.first state scheduled.rested sound served fit scheduled.draws scheduled.none) scheduled.no_ring scheduled.retries scheduled.more scheduled.nothing))
+
+-- ---- a settle
+
+-- drawn turns behind drawn turns
+drawn_both : (one two : List Turn) (now next last : Standing) → AreDrawn now one next → AreDrawn next two last → AreDrawn now (one ++ two) last
+drawn_both [] two now next last first second = subst (λ (s : Standing). AreDrawn s two last) (sym first) second
+drawn_both (turn ∷ one) two now next last first second = (first.0, first.1, first.2, first.3, drawn_both one two (moved now turn first.0) next last first.4 second)
+
+-- the parts of a settle, as they were written down one after another, are by the schedule
+pub scheduled_is : (world : WorldState) (batch : List Turn) (state : ℕ) (start used rested again ended : Standing) (none one two three four : List Turn) → start ≡ begun world batch state → none ≡ []
+    → DrewAll start none used one → Rested used one rested two → again ≡ record rested { world = again.world } → run rested.world (round rested.world) ≡ Some again.world → three ≡ two ++ round rested.world
+    → Rested again three ended four → IsScheduled world batch state four ended.world ended.draws
+scheduled_is world batch state start used rested again ended none one two three four begins nothing first second stays retries third last = record {
+  rested = rested;
+  retried = again.world;
+  ended = ended;
+  first = first.turns ++ second.drew.turns;
+  others = last.drew.turns;
+  are = last.drew.logged ∙ (ap (λ (t : List Turn). t ++ last.drew.turns)
+      (third ∙ ap (λ (t : List Turn). t ++ round rested.world) (second.drew.logged ∙ ap (λ (t : List Turn). t ++ second.drew.turns) (first.logged ∙ ap (λ (t : List Turn). t ++ first.turns) nothing)))
+      ∙ append_assoc (first.turns ++ second.drew.turns) (round rested.world) last.drew.turns);
+  draws = subst (λ (s : Standing). AreDrawn s (first.turns ++ second.drew.turns) rested) begins (drawn_both first.turns second.drew.turns start used rested first.draws second.drew.draws);
+  none = second.none;
+  no_ring = second.free;
+  retries = retries;
+  more = subst (λ (s : Standing). AreDrawn s last.drew.turns ended) stays last.drew.draws;
+  nothing = last.none;
+  to_last = refl;
+  to_end = refl;
+}
+
+first_drawn : (world : WorldState) (batch : List Turn) (state : ℕ) (start used : Standing) (none one : List Turn) → start ≡ begun world batch state → none ≡ [] → DrewAll start none used one → AreDrawn (begun world batch state) one used
+first_drawn world batch state start used none one begins nothing first =
+    subst (λ (t : List Turn). AreDrawn (begun world batch state) t used) (sym (first.logged ∙ ap (λ (t : List Turn). t ++ first.turns) nothing))
+    (subst (λ (s : Standing). AreDrawn s first.turns used) begins first.draws)
+
+-- a settle that stops at a ring
+pub ring_is : (world : WorldState) (batch : List Turn) (state at : ℕ) (start used : Standing) (none one : List Turn) → start ≡ begun world batch state → none ≡ [] → AreFit world batch
+    → DrewAll start none used one → used.left ≡ [] → IsFirstOnRing used.world at → StopsAtRing world batch state one used.draws at
+ring_is world batch state at start used none one begins nothing fit first left least =
+    let draws = first_drawn world batch state start used none one begins nothing first in
+    record { last = used; draws = draws; used_up = left; least = least; to_end = refl; stopped = drawn_stopped world batch one state used fit draws }
+
+-- and one that stops at the last version
+pub version_is : (world : WorldState) (batch : List Turn) (state at : ℕ) (start used : Standing) (none one : List Turn) → start ≡ begun world batch state → none ≡ [] → AreFit world batch
+    → RanOut start none used one at → StopsAtVersion world batch state one used.draws at
+version_is world batch state at start used none one begins nothing fit out =
+    let draws = first_drawn world batch state start out.last none out.until begins nothing out.drew in
+    let same : AreDrawn (begun world batch state) one out.last = subst (λ (t : List Turn). AreDrawn (begun world batch state) t out.last) (sym out.ends.logged) draws in
+    record {
+      last = out.last;
+      turn = out.ends.turn;
+      draws = same;
+      is_drawn = out.ends.is_drawn;
+      version = out.ends.version;
+      slot = out.ends.slot;
+      to_end = sym (ap (λ (s : Standing). s.draws) out.ends.stays);
+      stopped = drawn_stopped world batch one state out.last fit same;
+    }

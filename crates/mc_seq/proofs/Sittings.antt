@@ -1,0 +1,208 @@
+-- Turns drawn one after another, while a settle goes on.
+use Rattle.std.proofs.Common.{◌≡◌, ◌≢◌, ◌<◌, ◌+◌, ◌-◌, ◌*◌, ◌++◌, ◌==◌, ◌&&◌, inl, inr, if◌then◌else◌, nat_lt, not, ℕ, Bool, true, false, List, [], ◌∷◌, length, slice_get, Some, IsTrue, append_assoc, append-nil, refl, ap, sym, ◌∙◌, subst, arith}
+use Rattle.std.proofs.lemmas.Bool.{and_parts}
+use Rattle.std.proofs.lemmas.Grind.{common_steps}
+use Rattle.mc_box.specs.declared.event.Event.{Event}
+use Rattle.mc_box.specs.declared.event.Event.TheVariants.{Take}
+use Rattle.mc_box.specs.declared.event.Turn.{Turn}
+use Rattle.mc_world.specs.Measures.{IsRingFree, measure}
+use Rattle.mc_world.specs.Paths.{has_ring}
+use Rattle.mc_world.specs.Settles.{is_command}
+use Rattle.mc_world.specs.Sound.{IsSound}
+use Rattle.mc_world.specs.StepAnswers.{ends_version, ends_version_at}
+use Rattle.mc_world.specs.Steps.{step}
+use Rattle.mc_world.specs.Worlds.{WorldState}
+use Rattle.mc_world.proofs.Lowers.{take_lowers, take_stays_free}
+use Rattle.mc_world.proofs.ShapesKept.{step_keeps_shape}
+use Rattle.mc_world.proofs.StepKeeps.{step_keeps_sound}
+use Rattle.mc_seq.specs.Draws.{AreFit}
+use Rattle.mc_seq.specs.Drawing.{Comes, DrewAll, Ends, Made, RanOut, Rested, TurnMade, stands, written}
+use Rattle.mc_seq.specs.Schedule.{AreDrawn, MayGo, Standing, candidates, drawn, drawn_place, is_fit, is_urgent, left_by, listed, moved, next_of, since_by, without_next}
+use Rattle.mc_seq.specs.declared.drawing.Draw.TheVariants.{Nothing}
+use Rattle.mc_seq.specs.declared.drawing.Sitting.{Sitting}
+use Rattle.mc_seq.proofs.Candidates.{IsListed, IsTake, drawn_listed, none_left, take_same}
+use Rattle.mc_seq.proofs.FitCommands.{fit_parts, fits_kept, left_pass, next_pass}
+use Rattle.mc_seq.proofs.Nexts.{without_less}
+
+-- ---- one draw
+
+some_length : (xs : List Turn) → length xs ≢ 0 → 0 < length xs
+some_length xs some = omega arith
+
+-- what was made is what was drawn
+pub made_is : (old new : Sitting) (state next : ℕ) (turn : Turn) → drawn (stands old state) ≡ Some turn → TurnMade old new turn → stands new next ≡ moved (stands old state) turn new.settled.world
+    → Made (stands old state) (written old) (stands new next) (written new)
+made_is old new state next turn is made moves = record { turn = turn; is_drawn = is; goes = made.goes; moves = moves; logged = made.logged }
+
+-- ---- several draws
+
+-- whatever is drawn from here goes on from what was written down
+abbrev pub GoesOn : Standing → List Turn → Standing → List Turn → Type 0
+GoesOn start before now after = (more : List Turn) (last : Standing) → AreDrawn now more last → DrewAll start before last (after ++ more)
+
+pub goes_first : (start : Standing) (before : List Turn) → GoesOn start before start before
+goes_first start before more last draws = record { turns = more; draws = draws; logged = refl }
+
+pub goes_more : (start now next : Standing) (before old new : List Turn) → MayGo now → Made now old next new → GoesOn start before now old → GoesOn start before next new
+goes_more start now next before old new may made so_far more last draws =
+    subst (λ (turns : List Turn). DrewAll start before last turns) (sym (ap (λ (turns : List Turn). turns ++ more) made.logged ∙ append_assoc old (made.turn ∷ []) more))
+    (so_far (made.turn ∷ more) last (next.world, may, made.is_drawn, made.goes, subst (λ (s : Standing). AreDrawn s more last) made.moves draws))
+
+pub goes_last : (start last : Standing) (before after : List Turn) → GoesOn start before last after → DrewAll start before last after
+goes_last start last before after so_far = subst (λ (turns : List Turn). DrewAll start before last turns) (append-nil after) (so_far [] last refl)
+
+-- ---- while commands are left
+
+-- what a drawn turn is
+pub made_listed : (now next : Standing) (old new : List Turn) → (made : Made now old next new) → IsListed now.world now.left (is_urgent now.left now.since) made.turn
+made_listed now next old new made = drawn_listed now made.turn made.is_drawn
+
+pub made_sound : (now next : Standing) (old new : List Turn) → Made now old next new → IsSound now.world → IsSound next.world
+made_sound now next old new made sound = step_keeps_sound now.world next.world made.turn sound made.goes
+
+-- commands that fit go on to fit
+pub made_fit : (now next : Standing) (old new : List Turn) → Made now old next new → IsSound now.world → AreFit now.world now.left → AreFit next.world next.left
+made_fit now next old new made sound fit =
+    subst (λ (left : List Turn). AreFit next.world left) (sym (ap (λ (s : Standing). s.left) made.moves))
+    (fits_kept (left_by made.turn now.left) now.world next.world sound (made_sound now next old new made sound) (step_keeps_shape now.world next.world made.turn sound made.goes)
+    (left_pass (is_fit now.world) made.turn now.left fit))
+
+-- how many turns may come until the batch is used up
+abbrev pub to_come : List Turn → ℕ → ℕ
+to_come left since = 64 * length left + (63 - since)
+
+lower_command : (less all since : ℕ) → less + 1 ≡ all → 64 * less + (63 - 0) < 64 * all + (63 - since)
+lower_command less all since one = omega arith
+
+lower_take : (all since : ℕ) → since < 63 → 64 * all + (63 - (since + 1)) < 64 * all + (63 - since)
+lower_take all since few = omega arith
+
+not_urgent : (count since : ℕ) → count ≢ 0 → (not (count == 0) && not (nat_lt since 63)) ≡ false → nat_lt since 63 ≡ true
+not_urgent count since some is = grind (arith, common_steps)
+
+few_by : (a b : ℕ) → nat_lt a b ≡ true → a < b
+few_by a b is = grind (arith, common_steps)
+
+command_lowers : (turn : Turn) (left : List Turn) (since : ℕ) → is_command turn.event ≡ true → next_of turn.who left ≡ Some turn → to_come (left_by turn left) (since_by turn since) < to_come left since
+command_lowers turn left since is next =
+    subst (λ (b : Bool). to_come (if b then without_next turn.who left else left) (if b then 0 else (if nat_lt since 63 then since + 1 else since)) < to_come left since) (sym is)
+    (lower_command (length (without_next turn.who left)) (length left) since (without_less turn.who left turn next))
+
+-- a Take is no command
+pub take_none : (turn : Turn) (local : ℕ) → turn.event ≡ Take local → is_command turn.event ≡ false
+take_none turn local is = ap is_command is
+
+take_down : (turn : Turn) (left : List Turn) (since : ℕ) → is_command turn.event ≡ false → nat_lt since 63 ≡ true → to_come (left_by turn left) (since_by turn since) < to_come left since
+take_down turn left since is few =
+    subst (λ (b : Bool). to_come (if b then without_next turn.who left else left) (if b then 0 else (if nat_lt since 63 then since + 1 else since)) < to_come left since) (sym is)
+    (subst (λ (b : Bool). to_come left (if b then since + 1 else since) < to_come left since) (sym few) (lower_take (length left) since (few_by since 63 few)))
+
+pub listed_lowers : (world : WorldState) (turn : Turn) (left : List Turn) (since : ℕ) → AreFit world left → length left ≢ 0 → IsListed world left (is_urgent left since) turn
+    → to_come (left_by turn left) (since_by turn since) < to_come left since
+listed_lowers world turn left since fit some is = elim is [
+  | inl next ↦ command_lowers turn left since (fit_parts world turn (next_pass (is_fit world) turn.who left turn fit next)).command next
+  | inr take ↦ take_down turn left since (take_none turn take.1.local take.1.event) (not_urgent (length left) since some take.0)
+]
+
+-- each drawn turn lowers it, whether links make a ring or not
+pub made_lowers : (now next : Standing) (old new : List Turn) → Made now old next new → AreFit now.world now.left → length now.left ≢ 0 → to_come next.left next.since < to_come now.left now.since
+made_lowers now next old new made fit some =
+    subst (λ (s : Standing). to_come s.left s.since < to_come now.left now.since) (sym made.moves)
+    (listed_lowers now.world made.turn now.left now.since fit some (made_listed now next old new made))
+
+-- where commands are left, something is listed
+pub some_listed : (now : Standing) → AreFit now.world now.left → length now.left ≢ 0 → candidates now ≡ [] → ⊥
+some_listed now fit some none = some (ap length (none_left now.world now.left (is_urgent now.left now.since) fit none))
+
+pub left_goes : (now : Standing) → length now.left ≢ 0 → MayGo now
+left_goes now some none = absurd (some (ap length none))
+
+pub empty_is : (xs : List Turn) → length xs ≡ 0 → xs ≡ []
+empty_is [] is = refl
+empty_is (x ∷ xs) is = absurd (omega arith)
+
+-- ---- where the batch is used up
+
+take_by : (world : WorldState) (left : List Turn) (urgent : Bool) (turn : Turn) → left ≡ [] → IsListed world left urgent turn → IsTake world turn
+take_by world left urgent turn none is = elim is [
+  | inl next ↦ absurd (let there : next_of turn.who [] ≡ Some turn = subst (λ (l : List Turn). next_of turn.who l ≡ Some turn) none next in cc (there))
+  | inr take ↦ take.1
+]
+
+-- only Takes are drawn
+pub drawn_take : (now : Standing) (turn : Turn) → now.left ≡ [] → drawn now ≡ Some turn → IsTake now.world turn
+drawn_take now turn none is = take_by now.world now.left (is_urgent now.left now.since) turn none (drawn_listed now turn is)
+
+made_step : (now next : Standing) (old new : List Turn) (made : Made now old next new) (take : IsTake now.world made.turn) → step now.world (record { who = made.turn.who; event = Take take.local }) ≡ Some next.world
+made_step now next old new made take = ap (step now.world) (take_same made.turn take.local take.event) ∙ made.goes
+
+pub take_lower : (now next : Standing) (old new : List Turn) → Made now old next new → now.left ≡ [] → IsRingFree now.world → measure next.world < measure now.world
+take_lower now next old new made none free =
+    let take = drawn_take now made.turn none made.is_drawn in
+    take_lowers now.world next.world made.turn.who take.local free (made_step now next old new made take)
+
+pub take_free : (now next : Standing) (old new : List Turn) → Made now old next new → now.left ≡ [] → IsRingFree now.world → IsRingFree next.world
+take_free now next old new made none free =
+    let take = drawn_take now made.turn none made.is_drawn in
+    take_stays_free now.world next.world made.turn.who take.local free (made_step now next old new made take)
+
+left_none : (b : Bool) (who : ℕ) (left : List Turn) → b ≡ false → (if b then without_next who left else left) ≡ left
+left_none true who left is = absurd (cc)
+left_none false who left is = refl
+
+pub take_left : (turn : Turn) (left : List Turn) (world : WorldState) → IsTake world turn → left_by turn left ≡ left
+take_left turn left world take = left_none (is_command turn.event) turn.who left (take_none turn take.local take.event)
+
+pub made_none : (now next : Standing) (old new : List Turn) → Made now old next new → now.left ≡ [] → next.left ≡ []
+made_none now next old new made none =
+    ap (λ (s : Standing). s.left) made.moves ∙ (take_left made.turn now.left now.world (drawn_take now made.turn none made.is_drawn) ∙ none)
+
+-- ---- what is picked
+
+-- a list that code looked at is the list of candidates
+pub list_is : (now : Standing) (list seen looked : List Turn) (urgent : Bool) → list ≡ listed now.world seen urgent → seen ≡ now.left → urgent ≡ is_urgent looked now.since → looked ≡ now.left → list ≡ candidates now
+list_is now list seen looked urgent is left by looks =
+    is ∙ (ap (λ (l : List Turn). listed now.world l urgent) left ∙ ap (listed now.world now.left) (by ∙ ap (λ (l : List Turn). is_urgent l now.since) looks))
+
+-- what was picked of it is drawn
+pub picked : (now : Standing) (shown : List Turn) (turn : Turn) → shown ≡ candidates now → slice_get shown (drawn_place now.draws (length shown)) ≡ Some turn → drawn now ≡ Some turn
+picked now shown turn is got = subst (λ (l : List Turn). slice_get l (drawn_place now.draws (length l)) ≡ Some turn) is got
+
+pub some_by : (b : Bool) (n : ℕ) → b ≡ (n == 0) → b ≡ false → n ≢ 0
+some_by b n is other same = grind (arith, common_steps)
+
+-- ---- the last version
+
+-- a Take ends no version
+version_apart : (turn : Turn) (local : ℕ) (world : WorldState) → turn.event ≡ Take local → IsTrue (ends_version world turn) → ⊥
+version_apart turn local world is ends =
+    let same : ends_version world turn ≡ (nat_lt turn.who (length world.boxes) && ends_version_at world turn.who (Take local)) = ap (λ (e : Event). nat_lt turn.who (length world.boxes) && ends_version_at world turn.who e) is in
+    let parts = and_parts (nat_lt turn.who (length world.boxes)) false (sym same ∙ ends) in
+    cc (parts.1)
+
+pub never_ends : (now next : Standing) (old new : List Turn) (at : ℕ) → now.left ≡ [] → Ends now old next new at → ⊥
+never_ends now next old new at none ends =
+    let take = drawn_take now ends.turn none ends.is_drawn in
+    version_apart ends.turn take.local now.world take.event ends.version
+
+-- ---- the ends
+
+-- a draw that finds nothing changes nothing
+pub rested_is : (start now next : Standing) (before old new : List Turn) → GoesOn start before now old → now.left ≡ [] → IsRingFree now.world → Comes now old next new Nothing → Rested start before next new
+rested_is start now next before old new so_far none free comes =
+    let drew : DrewAll start before next new = subst (λ (s : Standing). DrewAll start before s new) (sym comes.1) (subst (λ (turns : List Turn). DrewAll start before now turns) (sym comes.2) (goes_last start now before old so_far)) in
+    record {
+      drew = drew;
+      none = ap candidates comes.1 ∙ comes.0;
+      left = ap (λ (s : Standing). s.left) comes.1 ∙ none;
+      free = ap (λ (s : Standing). has_ring s.world) comes.1 ∙ free.free;
+    }
+
+pub ran_out : (start now next : Standing) (before old new : List Turn) (at : ℕ) → GoesOn start before now old → Ends now old next new at → RanOut start before next new at
+ran_out start now next before old new at so_far ends = record { last = now; until = old; drew = goes_last start now before old so_far; ends = ends }
+
+zero_by : (b : Bool) (n : ℕ) → b ≡ (n == 0) → b ≡ true → n ≡ 0
+zero_by b n is other = grind (arith, common_steps)
+
+pub none_by : (b : Bool) (left : List Turn) → b ≡ (length left == 0) → b ≡ true → left ≡ []
+none_by b left is none = empty_is left (zero_by b (length left) is none)

@@ -1,0 +1,5 @@
+use Rattle.mc_seq.proofs.Scheduled.{schedule_settles}
+use Rattle.mc_seq.proofs.laws.schedule_settles.Goals as goal
+
+pub returns : goal.returns
+returns c = schedule_settles

@@ -1,0 +1,85 @@
+-- A settle by draws: its turns are those of the schedule, and so is how it stops.
+use Rattle.std.specs.Prelude.{◌≡◌, ◌≢◌, ◌≤◌, ◌+◌, ◌*◌, ℕ, length, false, List, [], ◌++◌, Some, IsTrue}
+use Rattle.std.specs.List.{list_all}
+use Rattle.mc_text.specs.Draws.{next_state}
+use Rattle.mc_box.specs.declared.event.Turn.{Turn}
+use Rattle.mc_world.specs.Measures.{IsRingFree, measure}
+use Rattle.mc_world.specs.Paths.{has_ring}
+use Rattle.mc_world.specs.Rings.{IsFirstOnRing}
+use Rattle.mc_world.specs.Settles.{IsSettled, IsStopped}
+use Rattle.mc_world.specs.Sound.{IsSound}
+use Rattle.mc_world.specs.Served.{LanesServed}
+use Rattle.mc_world.specs.StepAnswers.{ends_version}
+use Rattle.mc_world.specs.Steps.{run}
+use Rattle.mc_world.specs.Worlds.{WorldState}
+use Rattle.mc_seq.specs.Schedule.{AreDrawn, Standing, begun, candidates, drawn, heard_slot, is_fit, round}
+use Rattle.mc_seq.specs.declared.fault.SettleFault.{SettleFault}
+use Rattle.mc_seq.specs.declared.fault.SettleFault.TheVariants.{NoMemory, Ring, VersionEnd}
+
+-- the turns settle a batch by the schedule: they are drawn until nothing is listed; then comes a round of retries, without draws; then they are drawn again until nothing is listed. The draws begin at one state and end at another
+pub record IsScheduled (world : WorldState) (batch : List Turn) (state : ℕ) (turns : List Turn) (last : WorldState) (end : ℕ) : Type 0 where
+  pub rested : Standing
+  pub retried : WorldState
+  pub ended : Standing
+  pub first : List Turn
+  pub others : List Turn
+  pub are : turns ≡ first ++ (round rested.world ++ others)
+  pub draws : AreDrawn (begun world batch state) first rested
+  pub none : candidates rested ≡ []
+  pub no_ring : has_ring rested.world ≡ false
+  pub retries : run rested.world (round rested.world) ≡ Some retried
+  pub more : AreDrawn (record rested { world = retried }) others ended
+  pub nothing : candidates ended ≡ []
+  pub to_last : ended.world ≡ last
+  pub to_end : ended.draws ≡ end
+
+-- drawn turns use up the batch, which leaves a ring, of which this slot is the least
+pub record StopsAtRing (world : WorldState) (batch : List Turn) (state : ℕ) (turns : List Turn) (end at : ℕ) : Type 0 where
+  pub last : Standing
+  pub draws : AreDrawn (begun world batch state) turns last
+  pub used_up : last.left ≡ []
+  pub least : IsFirstOnRing last.world at
+  pub to_end : last.draws ≡ end
+  pub stopped : IsStopped world batch turns last.world
+
+-- behind drawn turns the Hear of this slot is drawn, whose descriptor has the last version
+pub record StopsAtVersion (world : WorldState) (batch : List Turn) (state : ℕ) (turns : List Turn) (end at : ℕ) : Type 0 where
+  pub last : Standing
+  pub turn : Turn
+  pub draws : AreDrawn (begun world batch state) turns last
+  pub is_drawn : drawn last ≡ Some turn
+  pub version : IsTrue (ends_version last.world turn)
+  pub slot : heard_slot last.world turn ≡ Some at
+  pub to_end : next_state last.draws ≡ end
+  pub stopped : IsStopped world batch turns last.world
+
+-- how a settle by draws stops
+abbrev pub StopsByDraws : WorldState → List Turn → ℕ → ℕ → SettleFault → Type 0
+StopsByDraws world batch state end (Ring stop) = StopsAtRing world batch state stop.turns.items end stop.at
+StopsByDraws world batch state end (VersionEnd stop) = StopsAtVersion world batch state stop.turns.items end stop.at
+StopsByDraws world batch state end (NoMemory e) = Unit {0}
+
+-- each command fits the shape of its box
+abbrev pub AreFit : WorldState → List Turn → Type 0
+AreFit world batch = IsTrue (list_all (is_fit world) batch)
+
+-- turns by the schedule are a settled segment
+abbrev pub ScheduleSettles : Type 0
+ScheduleSettles = (world last : WorldState) (batch turns : List Turn) (state end : ℕ) → IsSound world → LanesServed world → AreFit world batch → IsScheduled world batch state turns last end → IsSettled world batch turns last
+
+-- and the schedule leaves no choice: there is one such list of turns, with one world and one state of the draws after it
+pub record IsSame (turns more : List Turn) (last other : WorldState) (end until : ℕ) : Type 0 where
+  pub turns_same : turns ≡ more
+  pub worlds_same : last ≡ other
+  pub ends_same : end ≡ until
+
+abbrev pub ScheduleIsOne : Type 0
+ScheduleIsOne = (world last other : WorldState) (batch turns more : List Turn) (state end until : ℕ) → IsScheduled world batch state turns last end → IsScheduled world batch state more other until → IsSame turns more last other end until
+
+-- while commands are left, at most 63 turns that are none stand before the next, and so there are at most so many turns, whether links make a ring or not
+abbrev pub DrawsEnd : Type 0
+DrawsEnd = (now last : Standing) (turns : List Turn) → IsSound now.world → AreFit now.world now.left → AreDrawn now turns last → last.left ≢ [] → length turns ≤ 64 * length now.left + 63
+
+-- and where none are left, each turn lowers the measure of Takes
+abbrev pub TakesEndDraws : Type 0
+TakesEndDraws = (now last : Standing) (turns : List Turn) → now.left ≡ [] → IsRingFree now.world → AreDrawn now turns last → length turns + measure last.world ≤ measure now.world

@@ -1,0 +1,132 @@
+-- The schedule of a settle by draws: what can come next, and which of that is drawn.
+use Rattle.std.specs.Prelude.{◌≡◌, ℕ, zero, suc, ◌+◌, ◌/◌, ◌%◌, ◌==◌, ◌&&◌, not, if◌then◌else◌, Bool, false, List, [], ◌∷◌, ◌++◌, length, nat_lt, slice_get, Option, Some, None}
+use Rattle.std.specs.List.{find}
+use Rattle.std.specs.Option.{is_some, option_and_then, option_to_list}
+use Rattle.mc_text.specs.Draws.{next_state}
+use Rattle.mc_box.specs.BoxEvents.{is_enabled}
+use Rattle.mc_box.specs.Boxes.{owes_at}
+use Rattle.mc_box.specs.declared.event.Event.{Event}
+use Rattle.mc_box.specs.declared.event.Event.TheVariants.{Take, Media, Retry}
+use Rattle.mc_box.specs.declared.event.MediaChange.TheVariants.{Hear}
+use Rattle.mc_box.specs.declared.event.Turn.{Turn}
+use Rattle.mc_world.specs.Paths.{has_ring}
+use Rattle.mc_world.specs.Settles.{is_command}
+use Rattle.mc_world.specs.Steps.{step}
+use Rattle.mc_world.specs.Worlds.{WorldState, box_at, front, number}
+
+-- where a settle stands: its world, the commands that are left, how many turns came since its last command or its beginning, counted to 63, and the state of the draws
+pub record Standing : Type 0 where
+  pub world : WorldState
+  pub left : List Turn
+  pub since : ℕ
+  pub draws : ℕ
+
+-- at the beginning all commands are left
+abbrev pub begun : WorldState → List Turn → ℕ → Standing
+begun world batch draws = record { world = world; left = batch; since = 0; draws = draws }
+
+-- what a function gives for each number below a count, in rising order
+abbrev pub for_each : (ℕ → List Turn) → ℕ → List Turn
+for_each f zero = []
+for_each f (suc n) = for_each f n ++ f n
+
+-- ---- the candidates
+
+-- the next command of a box
+abbrev pub next_of : ℕ → List Turn → Option Turn
+next_of who left = find (λ turn. turn.who == who) left
+
+abbrev pub take_turn : ℕ → ℕ → Turn
+take_turn who local = record { who = who; event = Take local }
+
+-- whether a signal waits that a box's slot can take now
+abbrev pub waits : WorldState → ℕ → ℕ → Bool
+waits world who local = is_some (option_and_then (front world) (number world who local))
+
+abbrev pub take_where : WorldState → ℕ → ℕ → List Turn
+take_where world who local = if waits world who local then take_turn who local ∷ [] else []
+
+-- a Take for each local slot of a box at which one waits, in rising order
+abbrev pub takes_of : WorldState → ℕ → List Turn
+takes_of world who = for_each (take_where world who) (length (box_at world who).slots)
+
+-- whether commands alone are listed: some are left, and the last 63 turns were none
+abbrev pub is_urgent : List Turn → ℕ → Bool
+is_urgent left since = not (length left == 0) && not (nat_lt since 63)
+
+-- the candidates of a box: its next command; then its Takes, unless commands alone are listed. The Shift of its program would stand behind them
+abbrev pub of_box : WorldState → List Turn → Bool → ℕ → List Turn
+of_box world left urgent who = option_to_list (next_of who left) ++ (if urgent then [] else takes_of world who)
+
+-- the candidates of all boxes, box by box
+abbrev pub listed : WorldState → List Turn → Bool → List Turn
+listed world left urgent = for_each (of_box world left urgent) (length world.boxes)
+
+abbrev pub candidates : Standing → List Turn
+candidates now = listed now.world now.left (is_urgent now.left now.since)
+
+-- ---- a turn
+
+-- the place of the candidate that is drawn: the next draw modulo their number
+abbrev pub drawn_place : ℕ → ℕ → ℕ
+drawn_place draws count = next_state draws / 65536 % count
+
+-- the candidate that is drawn; none where there is none
+abbrev pub drawn : Standing → Option Turn
+drawn now = slice_get (candidates now) (drawn_place now.draws (length (candidates now)))
+
+-- commands without the next one of a box
+abbrev pub without_next : ℕ → List Turn → List Turn
+without_next who [] = []
+without_next who (turn ∷ rest) = if turn.who == who then rest else turn ∷ without_next who rest
+
+abbrev pub left_by : Turn → List Turn → List Turn
+left_by turn left = if is_command turn.event then without_next turn.who left else left
+
+abbrev pub since_by : Turn → ℕ → ℕ
+since_by turn since = if is_command turn.event then 0 else (if nat_lt since 63 then since + 1 else since)
+
+-- the standing after a drawn turn that led to this world
+abbrev pub moved : Standing → Turn → WorldState → Standing
+moved now turn next = record { world = next; left = left_by turn now.left; since = since_by turn now.since; draws = next_state now.draws }
+
+-- where the batch is used up there is no ring
+abbrev pub MayGo : Standing → Type 0
+MayGo now = now.left ≡ [] → has_ring now.world ≡ false
+
+-- turns that are drawn one after another lead from one standing to another
+abbrev pub AreDrawn : Standing → List Turn → Standing → Type 0
+AreDrawn now [] last = now ≡ last
+AreDrawn now (turn ∷ turns) last = (next : WorldState) × MayGo now × (drawn now ≡ Some turn) × (step now.world turn ≡ Some next) × AreDrawn (moved now turn next) turns last
+
+-- ---- a round of retries
+
+abbrev pub retry_turn : ℕ → ℕ → Turn
+retry_turn who local = record { who = who; event = Retry local }
+
+abbrev pub retry_where : WorldState → ℕ → ℕ → List Turn
+retry_where world who local = if owes_at (box_at world who) local then retry_turn who local ∷ [] else []
+
+abbrev pub retries_of : WorldState → ℕ → List Turn
+retries_of world who = for_each (retry_where world who) (length (box_at world who).slots)
+
+-- each owed retry, by box and local slot in rising order
+abbrev pub round : WorldState → List Turn
+round world = for_each (retries_of world) (length world.boxes)
+
+-- ---- the last version
+
+-- the local slot of a Hear
+abbrev pub heard_local : Event → Option ℕ
+heard_local (Media (Hear local on)) = Some local
+heard_local event = None
+
+-- its slot
+abbrev pub heard_slot : WorldState → Turn → Option ℕ
+heard_slot world turn = option_and_then (number world turn.who) (heard_local turn.event)
+
+-- ---- the batch
+
+-- a command that a box can have by its shape: its box is there and has its slots, and is of the kind that it asks for
+abbrev pub is_fit : WorldState → Turn → Bool
+is_fit world turn = is_command turn.event && nat_lt turn.who (length world.boxes) && is_enabled (box_at world turn.who) turn.event

@@ -1,0 +1,322 @@
+// A settle by draws.
+
+ghost use Rattle.std.specs.Prelude.{◌≡◌, ◌≢◌, ◌==◌, ◌<◌, ◌++◌, ℕ, [], false, length, position, Some, IsTrue, IfOk, IfErr, OnOk, slice_get};
+ghost use Rattle.std.specs.List.{list_all};
+ghost use Rattle.mc_text.specs.Draws.{next_state};
+ghost use Rattle.mc_box.specs.Boxes.{owes_at};
+ghost use Rattle.mc_world.specs.Paths.{has_ring};
+ghost use Rattle.mc_world.specs.Settles.{IsSettled, is_command};
+ghost use Rattle.mc_world.specs.StepAnswers.{ends_version};
+ghost use Rattle.mc_world.specs.Steps.{run};
+ghost use Rattle.mc_world.specs.Worlds.{box_at};
+ghost use Rattle.mc_seq.specs.Draws.{AreFit, IsScheduled, StopsByDraws};
+ghost use Rattle.mc_seq.specs.Drawing.{Becomes, Comes, MayCome, Rested, UsedUp, stands, written};
+ghost use Rattle.mc_seq.specs.Schedule.{drawn_place, heard_local, heard_slot, is_fit, left_by, retries_of, retry_where, round, since_by, without_next};
+
+use crate::fault::{SettleFault, Stopped};
+use crate::listing::{is_urgent, listed};
+use crate::settling::make;
+use mc_box::{Event, MediaChange, Turn};
+use mc_text::Draws;
+use mc_world::{Settled, StepFault, World};
+use std::alloc::{AllocError, Global};
+
+// Where a settle stands: its world and its turns so far, the commands that are left, and how many turns came since
+// the last command or the beginning, counted to 63.
+#[derive(Debug, Drop)]
+struct Sitting {
+    settled: Settled,
+    left: Vec<Turn>,
+    since: u8,
+}
+
+// What a draw comes to.
+#[derive(Clone, Copy, PartialEq, Eq, Debug)]
+enum Draw {
+    // A turn was drawn, and made.
+    Drawn,
+    // Nothing is listed, so nothing was drawn.
+    Nothing,
+    // The Hear of this slot was drawn, which has the last version.
+    VersionEnd(u32),
+}
+
+/// Settles a batch by draws. Each turn is drawn among those that can come: the next command of each box, and a Take of
+/// each slot for which a signal waits. After 63 turns that were no commands only commands are drawn, while any are left.
+/// Where the batch is used up and nothing can come, each retry that is owed is made, once in a settle, and turns are drawn again.
+///
+/// Each command is one that its box can have by its shape. It always ends: at rest, at a ring of links that the batch left,
+/// or at a Hear of a descriptor that has the last version; or for want of memory.
+pub fn settle_one(
+    alloc: Global,
+    world: World,
+    batch: &[Turn],
+    draws: &mut Draws,
+) -> Result<Settled, SettleFault>
+    requires fit { AreFit world batch.now }
+    ensures scheduled { IfOk result (λ done. IsScheduled world batch.now draws.old.state done.turns.items done.world draws.new.state) }
+    ensures settled { IfOk result (λ done. IsSettled world batch.now done.turns.items done.world) }
+    ensures stops { IfErr result (StopsByDraws world batch.now draws.old.state draws.new.state) }
+{
+    world.keeps();
+    let left = copied(alloc, batch)?;
+    let turns = Vec::new(alloc);
+    let settled = Settled { world, turns };
+    let mut sitting = Sitting {
+        settled,
+        left,
+        since: 0,
+    };
+    if let Some(at) = use_up(alloc, &mut sitting, draws)? {
+        return Err(SettleFault::VersionEnd(stopped(sitting, at)));
+    }
+    if let Some(at) = sitting.settled.world.ring() {
+        return Err(SettleFault::Ring(stopped(sitting, at)));
+    }
+    come_to_rest(alloc, &mut sitting, draws)?;
+    retry_all(&mut sitting.settled)?;
+    come_to_rest(alloc, &mut sitting, draws)?;
+    Ok(settled_by(sitting))
+}
+
+/// Whether each command fits the shape of its box, so that the batch can be settled.
+pub fn fits(world: &World, batch: &[Turn]) -> bool
+    ensures { result ≡ list_all (is_fit world.now) batch.now }
+{
+    batch.iter().all(|turn| is_fit(world, *turn))
+}
+
+// Whether a command fits the shape of its box.
+fn is_fit(world: &World, turn: Turn) -> bool
+    ensures { result ≡ is_fit world.now turn }
+{
+    let boxes = world.boxes();
+    is_command(turn.event)
+        && (turn.who as usize) < boxes.len()
+        && boxes[turn.who as usize].enabled(&turn.event)
+}
+
+// The commands of a batch, to take them from.
+fn copied(alloc: Global, batch: &[Turn]) -> Result<Vec<Turn>, AllocError>
+    ensures { IfOk result (λ left. left.items ≡ batch.now) }
+{
+    batch.iter().copied().collect(alloc)
+}
+
+// The turns of a settle that stops.
+fn stopped(sitting: Sitting, at: u32) -> Stopped
+    ensures at { result.at ≡ at }
+    ensures turns { result.turns.items ≡ written sitting }
+{
+    let Sitting {
+        settled,
+        left: _,
+        since: _,
+    } = sitting;
+    let Settled { world: _, turns } = settled;
+    Stopped { at, turns }
+}
+
+// What a settle that ends leaves.
+fn settled_by(sitting: Sitting) -> Settled
+    ensures { result ≡ sitting.settled }
+{
+    let Sitting {
+        settled,
+        left: _,
+        since: _,
+    } = sitting;
+    settled
+}
+
+// Draws until the batch is used up, or to the last version of a slot.
+fn use_up(
+    alloc: Global,
+    sitting: &mut Sitting,
+    draws: &mut Draws,
+) -> Result<Option<u32>, AllocError>
+    requires { AreFit sitting.old.settled.world sitting.old.left.items }
+    ensures { IfOk result (UsedUp (stands sitting.old draws.old.state) (written sitting.old) (stands sitting.new draws.new.state) (written sitting.new)) }
+{
+    sitting.settled.world.keeps();
+    'commands: while !is_used_up(&sitting.left) {
+        match draw_once(alloc, sitting, draws)? {
+            Draw::Drawn => {}
+            Draw::Nothing => unreachable!(),
+            Draw::VersionEnd(at) => return Ok(Some(at)),
+        }
+    }
+    Ok(None)
+}
+
+// Whether no command is left.
+fn is_used_up(left: &[Turn]) -> bool
+    ensures { result ≡ (length left.now == 0) }
+{
+    left.is_empty()
+}
+
+// Draws until nothing is listed, where the batch is used up. Where there is no ring, that ends.
+fn come_to_rest(alloc: Global, sitting: &mut Sitting, draws: &mut Draws) -> Result<(), AllocError>
+    requires used_up { sitting.old.left.items ≡ [] }
+    requires free { has_ring sitting.old.settled.world ≡ false }
+    ensures { OnOk result (Rested (stands sitting.old draws.old.state) (written sitting.old) (stands sitting.new draws.new.state) (written sitting.new)) }
+{
+    sitting.settled.world.keeps();
+    'takes: loop {
+        match draw_once(alloc, sitting, draws)? {
+            Draw::Drawn => {}
+            Draw::Nothing => return Ok(()),
+            Draw::VersionEnd(_) => unreachable!(),
+        }
+    }
+}
+
+// Draws once, where anything is listed, and makes the turn that is drawn.
+fn draw_once(alloc: Global, sitting: &mut Sitting, draws: &mut Draws) -> Result<Draw, AllocError>
+    requires { AreFit sitting.old.settled.world sitting.old.left.items }
+    ensures { IfOk result (Comes (stands sitting.old draws.old.state) (written sitting.old) (stands sitting.new draws.new.state) (written sitting.new)) }
+{
+    sitting.settled.world.keeps();
+    let urgent = is_urgent(&sitting.left, sitting.since);
+    let list = listed(alloc, &sitting.settled.world, &sitting.left, urgent)?;
+    if list.is_empty() {
+        return Ok(Draw::Nothing);
+    }
+    let turn = pick(&list, draws);
+    make_drawn(sitting, turn)
+}
+
+// The candidate that is drawn.
+fn pick(list: &[Turn], draws: &mut Draws) -> Turn
+    requires { 0 < length list.now }
+    ensures is { slice_get list.now (drawn_place draws.old.state (length list.now)) ≡ Some result }
+    ensures state { draws.new.state ≡ next_state draws.old.state }
+{
+    let draw = draws.draw() as usize;
+    list[draw % list.len()]
+}
+
+// Makes a turn that was drawn.
+fn make_drawn(sitting: &mut Sitting, turn: Turn) -> Result<Draw, AllocError>
+    requires { MayCome sitting.old.settled.world turn }
+    ensures { IfOk result (Becomes sitting.old sitting.new turn) }
+{
+    match sitting.settled.world.step(turn.who, turn.event) {
+        Ok(()) => {
+            sitting.settled.turns.push(turn)?;
+            count(&mut sitting.left, &mut sitting.since, turn);
+            Ok(Draw::Drawn)
+        }
+        Err(StepFault::VersionEnd) => {
+            Ok(Draw::VersionEnd(heard_slot(&sitting.settled.world, turn)))
+        }
+        Err(StepFault::NoMemory(e)) => Err(e),
+        Err(StepFault::NotEnabled) => unreachable!(),
+    }
+}
+
+// The slot of a Hear.
+fn heard_slot(world: &World, turn: Turn) -> u32
+    requires { IsTrue (ends_version world.now turn) }
+    ensures { heard_slot world.now turn ≡ Some result }
+{
+    world.keeps();
+    let Some(local) = heard_local(turn.event) else {
+        unreachable!()
+    };
+    let Some(slot) = world.number(turn.who, local) else {
+        unreachable!()
+    };
+    slot
+}
+
+// The local slot of a Hear.
+fn heard_local(event: Event) -> Option<u8>
+    ensures { result ≡ heard_local event }
+{
+    match event {
+        Event::Media(MediaChange::Hear(local, _)) => Some(local),
+        _ => None,
+    }
+}
+
+// Counts a turn that was made; a command isn't left any more.
+fn count(left: &mut Vec<Turn>, since: &mut u8, turn: Turn)
+    ensures left { left.new.items ≡ left_by turn left.old.items }
+    ensures since { since.new ≡ since_by turn since.old }
+{
+    if is_command(turn.event) {
+        drop_next(left, turn.who);
+        *since = 0;
+    } else if *since < 63 {
+        *since += 1;
+    }
+}
+
+// Whether an event comes from a command.
+fn is_command(event: Event) -> bool
+    ensures { result ≡ is_command event }
+{
+    matches!(event, Event::Set(_) | Event::Media(_) | Event::Tell(_))
+}
+
+// Takes the next command of a box from those that are left.
+fn drop_next(left: &mut Vec<Turn>, who: u32)
+    ensures { left.new.items ≡ without_next who left.old.items }
+{
+    if let Some(place) = place_of(who, left) {
+        left.remove(place);
+    }
+}
+
+// Where the next command of a box stands.
+fn place_of(who: u32, left: &[Turn]) -> Option<usize>
+    ensures { result ≡ position (λ turn. turn.who == who) left.now }
+{
+    left.iter().position(|turn| turn.who == who)
+}
+
+// Makes the retry of a slot, if it owes one.
+fn retry(settled: &mut Settled, who: u32, local: u8) -> Result<(), AllocError>
+    requires here { who < length settled.old.world.boxes }
+    requires inside { local < length (box_at settled.old.world who).slots }
+    ensures ran { OnOk result (run settled.old.world (retry_where settled.old.world who local) ≡ Some settled.new.world) }
+    ensures logged { OnOk result (settled.new.turns.items ≡ settled.old.turns.items ++ retry_where settled.old.world who local) }
+{
+    settled.world.keeps();
+    let event = Event::Retry(local);
+    if !settled.world.boxes()[who as usize].enabled(&event) {
+        return Ok(());
+    }
+    make(settled, Turn { who, event })
+}
+
+// Makes each retry that the slots of a box owe at the beginning, in rising order.
+fn retry_box(settled: &mut Settled, who: u32) -> Result<(), AllocError>
+    requires here { who < length settled.old.world.boxes }
+    ensures ran { OnOk result (run settled.old.world (retries_of settled.old.world who) ≡ Some settled.new.world) }
+    ensures others { OnOk result ((other local : ℕ) → other ≢ who → owes_at (box_at settled.new.world other) local ≡ owes_at (box_at settled.old.world other) local) }
+    ensures logged { OnOk result (settled.new.turns.items ≡ settled.old.turns.items ++ retries_of settled.old.world who) }
+{
+    settled.world.keeps();
+    let slots = settled.world.boxes()[who as usize].slots().len();
+    for local in 0..slots {
+        retry(settled, who, local as u8)?;
+    }
+    Ok(())
+}
+
+// Makes each retry that is owed at the beginning, by box and local slot in rising order.
+fn retry_all(settled: &mut Settled) -> Result<(), AllocError>
+    ensures rings { OnOk result (has_ring settled.new.world ≡ has_ring settled.old.world) }
+    ensures ran { OnOk result (run settled.old.world (round settled.old.world) ≡ Some settled.new.world) }
+    ensures logged { OnOk result (settled.new.turns.items ≡ settled.old.turns.items ++ round settled.old.world) }
+{
+    settled.world.keeps();
+    let boxes = settled.world.boxes().len();
+    for who in 0..boxes {
+        retry_box(settled, who as u32)?;
+    }
+    Ok(())
+}

@@ -1,0 +1,76 @@
+// The k-th candidate, found without a list of them.
+
+ghost use Rattle.std.specs.Prelude.{◌≡◌, ◌<◌, ◌≤◌, Some, length, map, slice_get};
+ghost use Rattle.mc_world.specs.Worlds.{box_at};
+ghost use Rattle.mc_seq.specs.Schedule.{listed, of_box, take_where, takes_of};
+ghost use Rattle.mc_seq.specs.Sums.{AreSums, CountsEach, level_at};
+
+use crate::listing::{next_of, waits};
+use crate::sums::find;
+use mc_box::{Event, Turn};
+use mc_world::World;
+
+/// The k-th candidate, where a tree of sums has how many candidates each box has.
+pub fn kth(levels: &[Vec<u64>], world: &World, left: &[Turn], urgent: bool, k: u64) -> Turn
+    requires sums { AreSums (map (λ level. level.items) levels.now) }
+    requires counts { CountsEach (of_box world.now left.now urgent) (level_at (map (λ level. level.items) levels.now) 0) (length world.now.boxes) }
+    requires inside { k < length (listed world.now left.now urgent) }
+    ensures { slice_get (listed world.now left.now urgent) k ≡ Some result }
+{
+    world.keeps();
+    let (who, rest) = find(levels, k);
+    kth_of_box(world, left, urgent, who as u32, rest)
+}
+
+// The k-th candidate of a box.
+fn kth_of_box(world: &World, left: &[Turn], urgent: bool, who: u32, k: u64) -> Turn
+    requires here { who < length world.now.boxes }
+    requires inside { k < length (of_box world.now left.now urgent who) }
+    ensures { slice_get (of_box world.now left.now urgent who) k ≡ Some result }
+{
+    match next_of(who, left) {
+        Some(turn) => {
+            if k == 0 {
+                turn
+            } else {
+                kth_take(world, who, k - 1)
+            }
+        }
+        None => kth_take(world, who, k),
+    }
+}
+
+// The k-th Take of a box.
+fn kth_take(world: &World, who: u32, k: u64) -> Turn
+    requires here { who < length world.now.boxes }
+    requires inside { k < length (takes_of world.now who) }
+    ensures { slice_get (takes_of world.now who) k ≡ Some result }
+{
+    let slots = slots_of(world, who);
+    let mut rest = k;
+    for local in 0..slots {
+        let takes = takes_at(world, who, local as u8);
+        if rest < takes {
+            let event = Event::Take(local as u8);
+            return Turn { who, event };
+        }
+        rest -= takes;
+    }
+    unreachable!()
+}
+
+// How many slots a box has.
+fn slots_of(world: &World, who: u32) -> usize
+    requires { who < length world.now.boxes }
+    ensures slots { result ≡ length (box_at world.now who).slots }
+    ensures few { result ≤ 64 }
+{
+    world.boxes()[who as usize].slots().len()
+}
+
+// How many Takes a slot has: one, or none.
+fn takes_at(world: &World, who: u32, local: u8) -> u64
+    ensures { result ≡ length (take_where world.now who local) }
+{
+    if waits(world, who, local) { 1 } else { 0 }
+}

@@ -1,0 +1,92 @@
+// What can come next in a settle by draws.
+
+ghost use Rattle.std.specs.Prelude.{◌≡◌, ◌<◌, ◌++◌, length, OnOk, IfOk};
+ghost use Rattle.mc_seq.specs.Schedule.{is_urgent, listed, next_of, of_box, take_where, takes_of, waits};
+
+use mc_box::{Event, Turn};
+use mc_world::World;
+use std::alloc::{AllocError, Global};
+
+// Whether a signal waits that a box's slot can take now.
+pub fn waits(world: &World, who: u32, local: u8) -> bool
+    ensures { result ≡ waits world.now who local }
+{
+    match world.number(who, local) {
+        Some(slot) => world.front(slot).is_some(),
+        None => false,
+    }
+}
+
+// Lists the Take of a box's slot, if one can come.
+fn list_take(world: &World, who: u32, local: u8, list: &mut Vec<Turn>) -> Result<(), AllocError>
+    ensures { OnOk result (list.new.items ≡ list.old.items ++ take_where world.now who local) }
+{
+    if waits(world, who, local) {
+        let event = Event::Take(local);
+        list.push(Turn { who, event })?;
+    }
+    Ok(())
+}
+
+// Lists the Takes of a box.
+fn list_takes(world: &World, who: u32, list: &mut Vec<Turn>) -> Result<(), AllocError>
+    requires { who < length world.now.boxes }
+    ensures { OnOk result (list.new.items ≡ list.old.items ++ takes_of world.now who) }
+{
+    let actor = &world.boxes()[who as usize];
+    for local in 0..actor.slots().len() {
+        list_take(world, who, local as u8, list)?;
+    }
+    Ok(())
+}
+
+// The next command of a box.
+pub fn next_of(who: u32, left: &[Turn]) -> Option<Turn>
+    ensures { result ≡ next_of who left.now }
+{
+    left.iter().copied().find(|turn| turn.who == who)
+}
+
+// Lists the candidates of a box.
+fn list_box(
+    world: &World,
+    left: &[Turn],
+    urgent: bool,
+    who: u32,
+    list: &mut Vec<Turn>,
+) -> Result<(), AllocError>
+    requires { who < length world.now.boxes }
+    ensures { OnOk result (list.new.items ≡ list.old.items ++ of_box world.now left.now urgent who) }
+{
+    if let Some(turn) = next_of(who, left) {
+        list.push(turn)?;
+    }
+    if urgent {
+        return Ok(());
+    }
+    list_takes(world, who, list)
+}
+
+// The candidates of all boxes, box by box.
+pub fn listed(
+    alloc: Global,
+    world: &World,
+    left: &[Turn],
+    urgent: bool,
+) -> Result<Vec<Turn>, AllocError>
+    ensures { IfOk result (λ list. list.items ≡ listed world.now left.now urgent) }
+{
+    world.keeps();
+    let mut list = Vec::new(alloc);
+    for who in 0..world.boxes().len() {
+        list_box(world, left, urgent, who as u32, &mut list)?;
+    }
+    Ok(list)
+}
+
+// Whether commands alone are listed.
+pub fn is_urgent(left: &[Turn], since: u8) -> bool
+    ensures { result ≡ is_urgent left.now since }
+{
+    !left.is_empty() && !(since < 63)
+}

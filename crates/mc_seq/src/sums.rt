@@ -1,0 +1,76 @@
+// A tree of sums, in which the place of the k-th of all that is counted is found by as many steps as it has levels.
+
+ghost use Rattle.std.specs.Prelude.{◌≡◌, ◌<◌, ◌≤◌, ◌+◌, ◌-◌, ◌^◌, length, map, slice_index_or, slice_set, sum, take};
+ghost use Rattle.mc_seq.specs.Sums.{AreSums, level_at};
+
+/// Where the k-th of all that is counted stands: at which count, and how many of that count come before it.
+pub fn find(levels: &[Vec<u64>], k: u64) -> (usize, u64)
+    requires sums { AreSums (map (λ level. level.items) levels.now) }
+    requires inside { k < sum (level_at (map (λ level. level.items) levels.now) 0) }
+    ensures before { sum (take result.0 (level_at (map (λ level. level.items) levels.now) 0)) + result.1 ≡ k }
+    ensures within { result.1 < slice_index_or (level_at (map (λ level. level.items) levels.now) 0) result.0 0 }
+    ensures place { result.0 < length (level_at (map (λ level. level.items) levels.now) 0) }
+{
+    let mut place = 0;
+    let mut rest = k;
+    let mut depth = levels.len() - 1;
+    'down: while depth > 0 {
+        depth -= 1;
+        let first = at(levels, depth, 2 * place);
+        if rest < first {
+            place = 2 * place;
+        } else {
+            rest -= first;
+            place = 2 * place + 1;
+        }
+    }
+    (place, rest)
+}
+
+/// Changes a count, and one number of each level with it.
+pub fn put(levels: &mut [Vec<u64>], place: usize, count: u64)
+    requires sums { AreSums (map (λ level. level.items) levels.old) }
+    requires inside { place < length (level_at (map (λ level. level.items) levels.old) 0) }
+    requires fits { sum (level_at (map (λ level. level.items) levels.old) 0) + count < 2 ^ 64 }
+    ensures sums { AreSums (map (λ level. level.items) levels.new) }
+    ensures counts { level_at (map (λ level. level.items) levels.new) 0 ≡ slice_set (level_at (map (λ level. level.items) levels.old) 0) place count }
+{
+    let was = at(levels, 0, place);
+    let mut here = place;
+    'up: for depth in 0..levels.len() {
+        change(levels, depth, here, was, count);
+        here /= 2;
+    }
+}
+
+// Changes a number of a level, which counts one thing in place of another.
+fn change(levels: &mut [Vec<u64>], depth: usize, place: usize, was: u64, count: u64)
+    requires depth { depth < length levels.old }
+    requires inside { place < length (level_at (map (λ level. level.items) levels.old) depth) }
+    requires less { was ≤ slice_index_or (level_at (map (λ level. level.items) levels.old) depth) place 0 }
+    requires fits { slice_index_or (level_at (map (λ level. level.items) levels.old) depth) place 0 + count < 2 ^ 64 }
+    ensures { map (λ level. level.items) levels.new
+        ≡ slice_set (map (λ level. level.items) levels.old) depth
+        (slice_set (level_at (map (λ level. level.items) levels.old) depth) place (slice_index_or (level_at (map (λ level. level.items) levels.old) depth) place 0 - was + count)) }
+{
+    change_level(&mut levels[depth], place, was, count);
+}
+
+// The same for one level.
+fn change_level(level: &mut Vec<u64>, place: usize, was: u64, count: u64)
+    requires inside { place < length level.old.items }
+    requires less { was ≤ slice_index_or level.old.items place 0 }
+    requires fits { slice_index_or level.old.items place 0 + count < 2 ^ 64 }
+    ensures { level.new.items ≡ slice_set level.old.items place (slice_index_or level.old.items place 0 - was + count) }
+{
+    level[place] = level[place] - was + count;
+}
+
+// A number of a level; 0 past its end.
+fn at(levels: &[Vec<u64>], depth: usize, place: usize) -> u64
+    requires { depth < length levels.now }
+    ensures { result ≡ slice_index_or (level_at (map (λ level. level.items) levels.now) depth) place 0 }
+{
+    let level = &levels[depth];
+    if place < level.len() { level[place] } else { 0 }
+}
