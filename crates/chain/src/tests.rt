@@ -167,6 +167,83 @@ fn calls_go_over_chains_of_any_length(rt: HostRuntime) -> Result<(), ChainFault>
     Ok(())
 }
 
+const FIRST_FEATURE: u32 = 2;
+
+const SECOND_FEATURE: u32 = 3;
+
+// How many Takes can come of a call over three tunnels while one signal is under way: half of the delivery bound, which
+// is 2 (T + 1)^4 (q + 2 T) for T tunnels and q signals.
+const MOST_TAKES: usize = 4 * 4 * 4 * 4 * (1 + 2 * 3);
+
+// The Takes of a call through two features, whose caller opens and whose callee holds, in three orders.
+const ORDERS: [[(u32, u8); 12]; 3] = [
+    // the lowest slot for which something waits takes first
+    [
+        (FIRST_FEATURE, 0),
+        (SECOND_FEATURE, 0),
+        (CALLEE, 0),
+        (SECOND_FEATURE, 1),
+        (FIRST_FEATURE, 1),
+        (CALLER, 0),
+        (FIRST_FEATURE, 0),
+        (SECOND_FEATURE, 0),
+        (SECOND_FEATURE, 1),
+        (FIRST_FEATURE, 1),
+        (CALLER, 0),
+        (CALLEE, 0),
+    ],
+    // the highest takes first
+    [
+        (FIRST_FEATURE, 0),
+        (SECOND_FEATURE, 0),
+        (CALLEE, 0),
+        (SECOND_FEATURE, 1),
+        (SECOND_FEATURE, 1),
+        (FIRST_FEATURE, 1),
+        (FIRST_FEATURE, 1),
+        (CALLER, 0),
+        (FIRST_FEATURE, 0),
+        (SECOND_FEATURE, 0),
+        (CALLEE, 0),
+        (CALLER, 0),
+    ],
+    // what comes from the callee goes on to the caller first
+    [
+        (FIRST_FEATURE, 0),
+        (SECOND_FEATURE, 0),
+        (CALLEE, 0),
+        (SECOND_FEATURE, 1),
+        (FIRST_FEATURE, 1),
+        (SECOND_FEATURE, 1),
+        (CALLER, 0),
+        (FIRST_FEATURE, 1),
+        (CALLER, 0),
+        (FIRST_FEATURE, 0),
+        (SECOND_FEATURE, 0),
+        (CALLEE, 0),
+    ],
+];
+
+#[test]
+fn takes_come_to_rest_in_each_order(rt: HostRuntime) -> Result<(), ChainFault> {
+    for takes in ORDERS {
+        let mut world = chain(rt.alloc(), 3)?;
+        link_through(&mut world)?;
+        world.step(CALLER, Event::Set(Change::End(0, Goal::Open)))?;
+        world.step(CALLEE, Event::Set(Change::End(0, Goal::Hold)))?;
+        for take in takes {
+            world.step(take.0, Event::Take(take.1))?;
+        }
+        assert!(rt; takes.len() <= MOST_TAKES);
+        let path = only_path(&rt, &world)?;
+        assert_eq!(rt; end_of(path.low), (CALLER, 0, Goal::Open, Some(0)));
+        assert_eq!(rt; end_of(path.high), (CALLEE, 0, Goal::Hold, Some(0)));
+        assert!(rt; path.flowing);
+        assert_eq!(rt; path.tunnels, 3);
+    }
+    Ok(())
+}
+
 const fn turn(who: u32, event: Event) -> Turn {
     Turn { who, event }
 }
