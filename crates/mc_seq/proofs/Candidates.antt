@@ -30,6 +30,7 @@ pub record IsTake (world : WorldState) (turn : Turn) : Type 0 where
   pub event : turn.event ≡ Take local
   pub waiting : waits world turn.who local ≡ true
 
+-- what a listed turn is: the next command of its box, or, where not only commands are listed, a Take that waits
 abbrev pub IsListed : WorldState → List Turn → Bool → Turn → Type 0
 IsListed world left urgent turn = (next_of turn.who left ≡ Some turn) ⊎ ((urgent ≡ false) × IsTake world turn)
 
@@ -38,10 +39,12 @@ found_by : (b : Bool) (p : Turn → Bool) (t x : Turn) (later : Option Turn) →
 found_by true p t x later is found rest = let same : t ≡ x = cc in subst (λ (y : Turn). p y ≡ true) same is
 found_by false p t x later is found rest = rest found
 
+-- what is found passes the test
 pub found_passes : (p : Turn → Bool) (xs : List Turn) (x : Turn) → find p xs ≡ Some x → p x ≡ true
 found_passes p [] x found = absurd (cc)
 found_passes p (t ∷ xs) x found = found_by (p t) p t x (find p xs) refl found (found_passes p xs x)
 
+-- numbers that pass the test are equal
 same_number : (a b : ℕ) → (a == b) ≡ true → a ≡ b
 same_number a b is = grind (arith, common_steps)
 
@@ -49,27 +52,33 @@ same_number a b is = grind (arith, common_steps)
 pub next_who : (who : ℕ) (left : List Turn) (turn : Turn) → next_of who left ≡ Some turn → turn.who ≡ who
 next_who who left turn found = same_number turn.who who (found_passes (λ (t : Turn). t.who == who) left turn found)
 
+-- what holds of the value of an option holds of its list
 option_all : (P : Turn → Type 0) (o : Option Turn) → ((x : Turn) → o ≡ Some x → P x) → All P (option_to_list o)
 option_all P None all = none_all P
 option_all P (Some x) all = one_all P x (all x refl)
 
+-- the Take of a slot is listed where its signal waits
 where_by : (there : Bool) (world : WorldState) (left : List Turn) (who local : ℕ) → waits world who local ≡ there → All (IsListed world left false) (if there then take_turn who local ∷ [] else [])
 where_by true world left who local is = one_all (IsListed world left false) (take_turn who local) (inr (refl, record { local = local; event = refl; waiting = is }))
 where_by false world left who local is = none_all (IsListed world left false)
 
+-- so are the Takes of a box
 takes_by : (urgent : Bool) (world : WorldState) (left : List Turn) (who : ℕ) → All (IsListed world left urgent) (if urgent then [] else takes_of world who)
 takes_by true world left who = none_all (IsListed world left true)
 takes_by false world left who = each_all (IsListed world left false) (take_where world who) (length (box_at world who).slots) (λ local below. where_by (waits world who local) world left who local refl)
 
+-- each candidate of a box is listed
 box_listed : (world : WorldState) (left : List Turn) (urgent : Bool) (who : ℕ) → All (IsListed world left urgent) (of_box world left urgent who)
 box_listed world left urgent who =
     All-append (IsListed world left urgent) (option_to_list (next_of who left)) (if urgent then [] else takes_of world who)
     (option_all (IsListed world left urgent) (next_of who left) (λ turn is. inl (ap (λ (w : ℕ). next_of w left) (next_who who left turn is) ∙ is)))
     (takes_by urgent world left who)
 
+-- and so is each candidate of all boxes
 pub all_listed : (world : WorldState) (left : List Turn) (urgent : Bool) → All (IsListed world left urgent) (listed world left urgent)
 all_listed world left urgent = each_all (IsListed world left urgent) (of_box world left urgent) (length world.boxes) (λ who below. box_listed world left urgent who)
 
+-- what holds of all holds of the one at a place
 got_all : (P : Turn → Type 0) (xs : List Turn) (k : ℕ) (x : Turn) → All P xs → slice_get xs k ≡ Some x → P x
 got_all P xs k x all got = subst P (get_or_from_slice_get xs k x x got) (all k x (slice_get_within xs k x got))
 
@@ -81,6 +90,7 @@ drawn_listed now turn is =
 
 -- ---- a Take goes
 
+-- a waiting Take can happen: by the slot's number
 take_by : (world : WorldState) (who local s : ℕ) (signal : Signal) → IsSound world → number world who local ≡ Some s → front world s ≡ Some signal → IsSome (step world (take_turn who local))
 take_by world who local s signal sound numbered fronts =
     let at = number_is world who local s numbered in
@@ -88,6 +98,7 @@ take_by world who local s signal sound numbered fronts =
     subst (λ (l : ℕ). IsSome (step world (take_turn who l))) at.2
     (subst (λ (w : ℕ). IsSome (step world (take_turn w (place world s).1))) at.1 goes)
 
+-- by its box and local number
 pub wait_goes : (world : WorldState) (who local : ℕ) → IsSound world → waits world who local ≡ true → IsSome (step world (take_turn who local))
 wait_goes world who local sound waiting =
     let signal = some_of (option_and_then (front world) (number world who local)) waiting in
@@ -98,14 +109,17 @@ wait_goes world who local sound waiting =
 pub take_same : (turn : Turn) (local : ℕ) → turn.event ≡ Take local → take_turn turn.who local ≡ turn
 take_same turn local is = ap (λ e. let t : Turn = record { who = turn.who; event = e } in t) (sym is)
 
+-- and as a turn
 pub take_goes : (world : WorldState) (turn : Turn) → IsSound world → IsTake world turn → IsSome (step world turn)
 take_goes world turn sound take = subst (λ (t : Turn). IsSome (step world t)) (take_same turn take.local take.event) (wait_goes world turn.who take.local sound take.waiting)
 
 -- ---- nothing is listed
 
+-- a number passes its own test
 self_test : (a : ℕ) → (a == a) ≡ true
 self_test a = grind (arith, common_steps)
 
+-- a box's first command is listed
 first_by : (b : Bool) (t : Turn) (later : Option Turn) → b ≡ true → option_to_list (cond b (Some t) later) ≡ [] → ⊥
 first_by true t later is none = cc
 first_by false t later is none = cc
@@ -121,10 +135,12 @@ none_left world (turn ∷ left) urgent fit none =
     let next = (append_none (option_to_list (next_of turn.who (turn ∷ left))) (if urgent then [] else takes_of world turn.who) box).0 in
     absurd (first_by (turn.who == turn.who) turn (find (λ t. t.who == turn.who) left) (self_test turn.who) next)
 
+-- where no Take is listed none waits
 unlisted_by : (there : Bool) (who local : ℕ) → (if there then take_turn who local ∷ [] else []) ≡ [] → there ≡ false
 unlisted_by true who local none = absurd (cc)
 unlisted_by false who local none = refl
 
+-- an option that is no value is none
 no_front : (o : Option Signal) → is_some o ≡ false → o ≡ None
 no_front None is = refl
 no_front (Some x) is = absurd (cc)
@@ -139,5 +155,6 @@ none_waits world sound none s inside =
     let waiting : waits world who local ≡ false = unlisted_by (waits world who local) who local take in
     no_front (front world s) (ap (λ (o : Option ℕ). is_some (option_and_then (front world) o)) (sym (sound.numbered.once s inside)) ∙ waiting)
 
+-- where nothing is listed nothing is under way
 pub listed_quiet : (world : WorldState) → IsSound world → LanesServed world → listed world [] false ≡ [] → IsTrue (is_quiet world)
 listed_quiet world sound served none = none_quiet world served (none_waits world sound none)

@@ -15,6 +15,7 @@ use Rattle.mc_seq.proofs.FitCommands.{fits_kept, left_pass}
 use Rattle.mc_seq.proofs.Scheduled.{drawn_takes}
 use Rattle.mc_seq.proofs.Sittings.{drawn_take, empty_is, listed_lowers, take_left, to_come}
 
+-- each turn lowers what may still come while commands are left
 few_draws : (turns : List Turn) (now last : Standing) → IsSound now.world → AreFit now.world now.left → length last.left ≢ 0 → AreDrawn now turns last
     → length turns + to_come last.left last.since ≤ to_come now.left now.since
 few_draws [] now last sound fit some draws =
@@ -28,11 +29,13 @@ few_draws (turn ∷ turns) now last sound fit some draws =
     let rest : length turns + to_come last.left last.since ≤ to_come (left_by turn now.left) (since_by turn now.since) = few_draws turns (moved now turn draws.0) last after fits some draws.4 in
     omega arith
 
+-- at the beginning that is at most 64 for each command and 63
 pub draws_end : DrawsEnd
 draws_end now last turns sound fit draws some =
     let few = few_draws turns now last sound fit (λ none. some (empty_is last.left none)) draws in
     omega arith
 
+-- each Take lowers the measure
 few_takes : (turns : List Turn) (now last : Standing) → now.left ≡ [] → IsRingFree now.world → AreDrawn now turns last → length turns + measure last.world ≤ measure now.world
 few_takes [] now last none free draws =
     let same : measure last.world ≡ measure now.world = ap (λ (s : Standing). measure s.world) (sym draws) in
@@ -45,5 +48,6 @@ few_takes (turn ∷ turns) now last none free draws =
     few_takes turns (moved now turn draws.0) last (take_left turn now.left now.world take ∙ none) (take_stays_free now.world draws.0 turn.who take.local free goes) draws.4 in
     omega arith
 
+-- so drawn Takes end
 pub takes_end_draws : TakesEndDraws
 takes_end_draws now last turns none free draws = few_takes turns now last none free draws

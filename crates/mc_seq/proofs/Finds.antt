@@ -10,6 +10,7 @@ has_by true who local zero low = refl
 has_by true who local (suc rest) low = absurd (omega arith)
 has_by false who local rest low = absurd (omega arith)
 
+-- where the search among a box's Takes ends, there is the k-th
 pub found_take : (world : WorldState) (who local k rest takes : ℕ) → local < length (box_at world who).slots → takes ≡ length (take_where world who local) → rest < takes
     → length (for_each (take_where world who) local) + rest ≡ k → slice_get (takes_of world who) k ≡ Some (take_turn who local)
 found_take world who local k rest takes inside is low at =

@@ -16,13 +16,16 @@ pub each_all : (P : Turn → Type 0) (f : ℕ → List Turn) (n : ℕ) → ((t :
 each_all P f zero all = λ k none within. absurd (omega arith)
 each_all P f (suc n) all = All-append P (for_each f n) (f n) (each_all P f n (λ t below. all t (omega arith))) (all n (omega arith))
 
+-- what holds of the one item holds at each place of its list
 one_at : (P : Turn → Type 0) (x : Turn) → P x → (k : ℕ) (d : Turn) → k < 1 → P (get_or (x ∷ []) k d)
 one_at P x here zero d within = here
 one_at P x here (suc k) d within = absurd (omega arith)
 
+-- and of all of it
 pub one_all : (P : Turn → Type 0) (x : Turn) → P x → All P (x ∷ [])
 one_all P x here = one_at P x here
 
+-- of an empty list all holds
 pub none_all : (P : Turn → Type 0) → All P []
 none_all P = λ k d within. absurd (omega arith)
 
@@ -31,6 +34,7 @@ pub append_none : (xs ys : List Turn) → xs ++ ys ≡ [] → (xs ≡ []) × (ys
 append_none [] ys none = (refl, none)
 append_none (x ∷ xs) ys none = absurd (cc)
 
+-- where there is nothing in all, nothing is given for any number
 pub each_none : (f : ℕ → List Turn) (n t : ℕ) → for_each f n ≡ [] → t < n → f t ≡ []
 each_none f zero t none below = absurd (omega arith)
 each_none f (suc n) t none below =

@@ -18,6 +18,7 @@ record SameLane (old new : WorldState) (lane : ℕ) : Type 0 where
   pub channels : new.channels ≡ old.channels
   pub signals : get_or new.lanes lane [] ≡ get_or old.lanes lane []
 
+-- a lane that stays twice stays
 both_same : (old mid new : WorldState) (lane : ℕ) → SameLane old mid lane → SameLane mid new lane → SameLane old new lane
 both_same old mid new lane one two = record { channels = two.channels ∙ one.channels; signals = two.signals ∙ one.signals }
 
@@ -29,6 +30,7 @@ NoneTo world who lane = (local s : ℕ) → number world who local ≡ Some s �
 abbrev sent_one : WorldState → Signal → Option ℕ → WorldState
 sent_one world signal found = unwrap_or (option_map (λ s. pushed world signal (far s)) found) world
 
+-- a signal that goes to another lane leaves this one
 one_same : (found : Option ℕ) (world : WorldState) (who local lane : ℕ) (signal : Signal) → number world who local ≡ found → NoneTo world who lane → SameLane world (sent_one world signal found) lane
 one_same None world who local lane signal is none = record { channels = refl; signals = refl }
 one_same (Some s) world who local lane signal is none = record {
@@ -36,10 +38,12 @@ one_same (Some s) world who local lane signal is none = record {
   signals = get_or-set_other world.lanes (lane_of world (far s)) lane _ [] (none local s is);
 }
 
+-- after it the box still sends nothing there
 one_none : (found : Option ℕ) (world : WorldState) (who lane : ℕ) (signal : Signal) → NoneTo world who lane → NoneTo (sent_one world signal found) who lane
 one_none None world who lane signal none = none
 one_none (Some s) world who lane signal none = none
 
+-- so all that a box sends leaves such a lane
 out_same : (sent : List (ℕ × Signal)) (world : WorldState) (who lane : ℕ) → NoneTo world who lane → SameLane world (sent_out world who sent) lane
 out_same [] world who lane none = record { channels = refl; signals = refl }
 out_same (sending ∷ rest) world who lane none =
@@ -54,14 +58,17 @@ made_same world who lane turn none =
     let out = out_same turn.sent (with_box world who turn.after) who lane none in
     record { channels = out.channels; signals = out.signals }
 
+-- nothing is sent into a lane that is away
 away_none : (world : WorldState) (who lane : ℕ) → IsAway world who lane → NoneTo world who lane
 away_none world who lane away local s is = (away s (number_is world who local s is).1).1
 
+-- an event that takes nothing leaves it
 act_same : (world next : WorldState) (who lane : ℕ) (o : Option BoxStep) → option_map (made world who) o ≡ Some next → IsAway world who lane → SameLane world next lane
 act_same world next who lane o goes away =
     let parts = map_some (made world who) o next goes in
     subst (λ (w : WorldState). SameLane world w lane) parts.2 (made_same world who lane parts.0 (away_none world who lane away))
 
+-- and so does a Take
 take_same : (world next : WorldState) (who local s lane : ℕ) → number world who local ≡ Some s → take_at world who local s ≡ Some next → IsAway world who lane → SameLane world next lane
 take_same world next who local s lane is goes away =
     let first = then_some (λ (signal : Signal). option_map (made (popped world s) who) (box_event (box_at world who) (Take local) (Some signal))) (front world s) next goes in
@@ -70,6 +77,7 @@ take_same world next who local s lane is goes away =
     both_same world (popped world s) next lane pop
     (subst (λ (w : WorldState). SameLane (popped world s) w lane) parts.2 (made_same (popped world s) who lane parts.0 (away_none world who lane away)))
 
+-- and so each event
 event_same : (event : Event) (world next : WorldState) (who lane : ℕ) → step_by world who event ≡ Some next → IsAway world who lane → SameLane world next lane
 event_same (Take local) world next who lane goes away =
     let parts = then_some (take_at world who local) (number world who local) next goes in
@@ -80,6 +88,7 @@ event_same (Tell word) world next who lane goes away = act_same world next who l
 event_same (Retry local) world next who lane goes away = act_same world next who lane (box_event (box_at world who) (Retry local) None) goes away
 event_same Shift world next who lane goes away = act_same world next who lane (box_event (box_at world who) Shift None) goes away
 
+-- so a step changes no front of such a lane
 pub fronts_stay : FrontsStay
 fronts_stay world next turn t goes away =
     let made = if_some (nat_lt turn.who (length world.boxes)) (step_by world turn.who turn.event) next goes in

@@ -29,6 +29,7 @@ local_by (Tell word) world who ends = absurd (cc)
 local_by (Retry local) world who ends = absurd (cc)
 local_by Shift world who ends = absurd (cc)
 
+-- an option has one value
 some_is : (a b : ℕ) → Some a ≡ Some b → a ≡ b
 some_is a b is = cc
 
@@ -43,10 +44,12 @@ hears_somewhere world turn local sound ends is none =
     let there : number world turn.who local ≡ Some slot.0 = subst (λ (p : ℕ × ℕ). number world p.0 p.1 ≡ Some slot.0) slot.2 (sound.numbered.once slot.0 slot.1) in
     cc (there, none)
 
+-- an option is not both some and none
 some_none : (o : Option WorldState) → IsSome o → o ≡ None → ⊥
 some_none None some none = cc
 some_none (Some x) some none = cc
 
+-- a test is not both true and false
 true_false : (b : Bool) → IsTrue b → IsFalse b → ⊥
 true_false true one two = cc
 true_false false one two = cc

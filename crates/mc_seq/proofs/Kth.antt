@@ -7,16 +7,19 @@ use Rattle.mc_seq.specs.Schedule.{for_each}
 use Rattle.mc_seq.specs.Sums.{CountsEach}
 use Rattle.mc_seq.proofs.TreeSums.{take_one}
 
+-- a place within the first of two lists
 got_before : (xs ys : List Turn) (k : ℕ) (x : Turn) → slice_get xs k ≡ Some x → slice_get (xs ++ ys) k ≡ Some x
 got_before [] ys k x got = absurd (cc)
 got_before (t ∷ xs) ys zero x got = got
 got_before (t ∷ xs) ys (suc k) x got = got_before xs ys k x got
 
+-- a place behind it
 got_behind : (xs ys : List Turn) (k j : ℕ) → j ≡ length xs + k → slice_get (xs ++ ys) j ≡ slice_get ys k
 got_behind [] ys k j is = ap (slice_get ys) (let e : j ≡ k = omega arith in e)
 got_behind (t ∷ xs) ys k zero is = absurd (omega arith)
 got_behind (t ∷ xs) ys k (suc j) is = got_behind xs ys k j (omega arith)
 
+-- within a list something stands at each place
 there_is : (xs : List Turn) (k : ℕ) → k < length xs → (x : Turn) × (slice_get xs k ≡ Some x)
 there_is [] k inside = absurd (omega arith)
 there_is (t ∷ xs) zero inside = (t, refl)
@@ -53,6 +56,7 @@ kth_is f counts n k place rest each inside before within =
     let at : k ≡ length (for_each f place) + rest = omega arith in
     ap (slice_get (for_each f n)) at ∙ (each_got f n place rest some.0 below some.1 ∙ sym some.1)
 
+-- all of a list are the list
 take_whole : (xs : List ℕ) → take (length xs) xs ≡ xs
 take_whole [] = refl
 take_whole (x ∷ xs) = ap (λ (l : List ℕ). x ∷ l) (take_whole xs)

@@ -8,10 +8,12 @@ use Rattle.mc_seq.specs.Schedule.{next_of, without_next}
 
 -- ---- by place
 
+-- what is removed one place further on, behind a turn that stays
 at_by : (here : Bool) (t : Turn) (left less : List Turn) (n : ℕ) → remove left n ≡ less → remove (t ∷ left) (cond here 0 (suc n)) ≡ (if here then left else t ∷ less)
 at_by true t left less n is = refl
 at_by false t left less n is = ap (λ (turns : List Turn). t ∷ turns) is
 
+-- the place of what is found, counted on
 len_by : (here : Bool) (n : ℕ) → cond (not here) (1 + n) 0 ≡ cond here 0 (suc n)
 len_by true n = refl
 len_by false n = omega arith
@@ -23,18 +25,22 @@ removed_is who (t ∷ left) =
     let rest : ℕ = position_or_len (λ t. t.who == who) left in
     ap (remove (t ∷ left)) (len_by (t.who == who) rest) ∙ at_by (t.who == who) t left (without_next who left) rest (removed_is who left)
 
+-- of a list of one, the place that is found is 0
 found_place : (b : Bool) (n k : ℕ) → cond b (Some n) None ≡ Some k → n ≡ k
 found_place true n k is = cc
 found_place false n k is = absurd (cc)
 
+-- to remove the turn at the place of a box's next command is to leave that one out
 pub removed_next : (who : ℕ) (left : List Turn) (k : ℕ) → position (λ t. t.who == who) left ≡ Some k → remove left k ≡ without_next who left
 removed_next who left k is =
     ap (remove left) (sym (found_place (nat_lt (position_or_len (λ t. t.who == who) left) (length left)) (position_or_len (λ t. t.who == who) left) k is)) ∙ removed_is who left
 
+-- a place that is found one further on is no longer the first
 past_by : (here : Bool) (n m : ℕ) → cond (nat_lt (cond (not here) (1 + n) 0) (suc m)) (Some (cond (not here) (1 + n) 0)) None ≡ None → (here ≡ false) × (cond (nat_lt n m) (Some n) None ≡ None)
 past_by true n m none = absurd (grind (arith, common_steps))
 past_by false n m none = (refl, grind (arith, common_steps))
 
+-- without a command of the box all stay
 kept_by : (here : Bool) (t : Turn) (left less : List Turn) → here ≡ false → less ≡ left → (if here then left else t ∷ less) ≡ t ∷ left
 kept_by true t left less is same = absurd (cc)
 kept_by false t left less is same = ap (λ (turns : List Turn). t ∷ turns) same
@@ -48,11 +54,13 @@ without_none who (t ∷ left) none =
 
 -- ---- one less
 
+-- one is fewer where the command is found
 less_by : (here : Bool) (t x : Turn) (left less : List Turn) (later : Option Turn) → (later ≡ Some x → length less + 1 ≡ length left) → cond here (Some t) later ≡ Some x
     → length (if here then left else t ∷ less) + 1 ≡ length (t ∷ left)
 less_by true t x left less later rest found = omega arith
 less_by false t x left less later rest found = let one = rest found in omega arith
 
+-- without its box's next command a batch is one shorter
 pub without_less : (who : ℕ) (left : List Turn) (turn : Turn) → next_of who left ≡ Some turn → length (without_next who left) + 1 ≡ length left
 without_less who [] turn found = absurd (cc)
 without_less who (t ∷ left) turn found = less_by (t.who == who) t turn left (without_next who left) (next_of who left) (without_less who left turn) found
@@ -63,18 +71,22 @@ without_less who (t ∷ left) turn found = less_by (t.who == who) t turn left (w
 abbrev of_who : ℕ → Turn → Bool
 of_who who turn = is_command turn.event && turn.who == who
 
+-- a turn that passes stands first among those that pass
 same_by : (b : Bool) (t : Turn) (rest : List Turn) → cond b (t ∷ []) [] ++ rest ≡ cond b (t ∷ rest) rest
 same_by true t rest = refl
 same_by false t rest = refl
 
+-- a turn that is of another box stays where it is
 pass_by : (one two : Bool) (t x : Turn) (less rest : List Turn) → (one ≡ true → two ≡ true → ⊥) → cond two (x ∷ []) [] ++ less ≡ rest → cond two (x ∷ []) [] ++ cond one (t ∷ less) less ≡ cond one (t ∷ rest) rest
 pass_by true true t x less rest apart is = absurd (apart refl refl)
 pass_by true false t x less rest apart is = ap (λ (turns : List Turn). t ∷ turns) is
 pass_by false two t x less rest apart is = is
 
-apart_tests : (a b w v who : ℕ) (x y : Bool) → (w == v) ≡ false → (x && w == who) ≡ true → (y && v == who) ≡ true → ⊥
-apart_tests a b w v who x y other one two = grind (arith, common_steps)
+-- a turn isn't of two boxes
+apart_tests : (w v who : ℕ) (x y : Bool) → (w == v) ≡ false → (x && w == who) ≡ true → (y && v == who) ≡ true → ⊥
+apart_tests w v who x y other one two = grind (arith, common_steps)
 
+-- one more turn stands before the others: it is the next command, or is passed
 first_by : (here : Bool) (who : ℕ) (t x : Turn) (left less : List Turn) (later : Option Turn) → (t.who == x.who) ≡ here
     → (later ≡ Some x → commands_of who (x ∷ []) ++ commands_of who less ≡ commands_of who left) → cond here (Some t) later ≡ Some x
     → commands_of who (x ∷ []) ++ commands_of who (if here then left else t ∷ less) ≡ commands_of who (t ∷ left)
@@ -83,8 +95,9 @@ first_by true who t x left less later is rest found =
     ap (λ (y : Turn). commands_of who (y ∷ []) ++ commands_of who left) same ∙ same_by (of_who who t) t (commands_of who left)
 first_by false who t x left less later is rest found =
     pass_by (of_who who t) (of_who who x) t x (commands_of who less) (commands_of who left)
-    (λ one two. apart_tests 0 0 t.who x.who who (is_command t.event) (is_command x.event) is one two) (rest found)
+    (λ one two. apart_tests t.who x.who who (is_command t.event) (is_command x.event) is one two) (rest found)
 
+-- so of each box the commands are that one, where it is its own, and then those that are left
 pub next_first : (left : List Turn) (turn : Turn) (who : ℕ) → next_of turn.who left ≡ Some turn → commands_of who (turn ∷ []) ++ commands_of who (without_next turn.who left) ≡ commands_of who left
 next_first [] turn who found = absurd (cc)
 next_first (t ∷ left) turn who found =

@@ -16,12 +16,15 @@ record AreOne (one two : List Turn) (last other : Standing) : Type 0 where
   pub turns : one ≡ two
   pub stands : last ≡ other
 
+-- an option has one value
 same_turn : (o : Option Turn) (s t : Turn) → o ≡ Some s → o ≡ Some t → s ≡ t
 same_turn o s t one two = cc
 
+-- one turn leads to one world
 same_world : (world n m : WorldState) (s t : Turn) → s ≡ t → step world s ≡ Some n → step world t ≡ Some m → n ≡ m
 same_world world n m s t is one two = cc
 
+-- from one standing the same turns are drawn, up to one at which nothing is listed
 drawn_one : (one two : List Turn) (now last other : Standing) → AreDrawn now one last → candidates last ≡ [] → AreDrawn now two other → candidates other ≡ [] → AreOne one two last other
 drawn_one [] [] now last other first none second nothing = record { turns = refl; stands = sym first ∙ second }
 drawn_one [] (t ∷ two) now last other first none second nothing = absurd (none_drawn now t (ap candidates first ∙ none) second.2)
@@ -34,9 +37,11 @@ drawn_one (s ∷ one) (t ∷ two) now last other first none second nothing =
     let later = drawn_one one two (moved now s first.0) last other first.4 none rest nothing in
     record { turns = ap (λ (x : Turn). x ∷ one) same ∙ ap (λ (l : List Turn). t ∷ l) later.turns; stands = later.stands }
 
+-- one world has one round, and one world after it
 same_run : (world other n m : WorldState) → world ≡ other → run world (round world) ≡ Some n → run other (round other) ≡ Some m → n ≡ m
 same_run world other n m is one two = let both : run world (round world) ≡ run other (round other) = ap (λ (w : WorldState). run w (round w)) is in cc
 
+-- so a settle by draws has one schedule
 pub schedule_is_one : ScheduleIsOne
 schedule_is_one world last other batch turns more state end until one two =
     let first = drawn_one one.first two.first (begun world batch state) one.rested two.rested one.draws one.none two.draws two.none in

@@ -33,6 +33,7 @@ form_owes world next s w l apart retried =
     part_stays world next (place world s).0 w l (Retry (place world s).1) None world.lanes retried.happened (λ here. retried.did.turned.others l (apart here)) in
     ap (λ (g : SlotGoal). goal_owes g (slot_at (box_at next w) l)) goal ∙ ap (λ (a : Slot). goal_owes (goal_at (box_at world w) l) a) slot
 
+-- after a Retry, or none, other slots owe what they owed
 retries_by : (owes : Bool) (world next : WorldState) (who local w l : ℕ) → IsSound world → (w ≡ who → l ≢ local)
     → run world (if owes then retry_turn who local ∷ [] else []) ≡ Some next → owes_at (box_at next w) l ≡ owes_at (box_at world w) l
 retries_by true world next who local w l sound apart goes =
@@ -51,6 +52,7 @@ retry_else world next who local w l sound apart goes = retries_by (owes_at (box_
 
 -- ---- the slots of a box
 
+-- what a slot owes decides whether its Retry is in the round
 where_same : (now start : WorldState) (who local : ℕ) → owes_at (box_at now who) local ≡ owes_at (box_at start who) local → retry_where now who local ≡ retry_where start who local
 where_same now start who local same = ap (λ (b : Bool). if b then retry_turn who local ∷ [] else []) same
 
@@ -62,6 +64,7 @@ pub record BoxRetried (start : WorldState) (before : List Turn) (now : WorldStat
   pub logged : logs ≡ before ++ for_each (retry_where start who) number
   pub others : (w l : ℕ) → (w ≡ who → number ≤ l) → owes_at (box_at now w) l ≡ owes_at (box_at start w) l
 
+-- one more slot of a box has had its turn
 pub box_more : (start now next : WorldState) (before logs more : List Turn) (who number : ℕ) → BoxRetried start before now logs who number
     → run now (retry_where now who number) ≡ Some next → more ≡ logs ++ retry_where now who number → BoxRetried start before next more who (number + 1)
 box_more start now next before logs more who number so_far goes logged =
@@ -87,11 +90,13 @@ pub record AllRetried (start : WorldState) (before : List Turn) (now : WorldStat
   pub logged : logs ≡ before ++ for_each (retries_of start) number
   pub others : (w l : ℕ) → number ≤ w → owes_at (box_at now w) l ≡ owes_at (box_at start w) l
 
+-- boxes of one shape that owe the same have the same Retries
 box_same : (now start : WorldState) (who : ℕ) → HasShape now start → ((l : ℕ) → owes_at (box_at now who) l ≡ owes_at (box_at start who) l) → retries_of now who ≡ retries_of start who
 box_same now start who shape same =
     each_same (retry_where now who) (retry_where start who) (length (box_at now who).slots) (λ l. where_same now start who l (same l))
     ∙ ap (for_each (retry_where start who)) (shape.alike who).slots
 
+-- one more box has had its turns
 pub all_more : (start now next : WorldState) (before logs more : List Turn) (number : ℕ) → AllRetried start before now logs number
     → run now (retries_of now number) ≡ Some next → more ≡ logs ++ retries_of now number → ((w l : ℕ) → w ≢ number → owes_at (box_at next w) l ≡ owes_at (box_at now w) l) → AllRetried start before next more (number + 1)
 all_more start now next before logs more number so_far goes logged others =
@@ -110,10 +115,12 @@ all_more start now next before logs more number so_far goes logged others =
 
 -- ---- Takes and retries
 
+-- a round is Retries and nothing else: of one slot
 where_besides : (owes : Bool) (who local : ℕ) → all_besides (if owes then retry_turn who local ∷ [] else []) ≡ true
 where_besides true who local = refl
 where_besides false who local = refl
 
+-- of all boxes
 pub round_besides : (world : WorldState) (n : ℕ) → all_besides (for_each (retries_of world) n) ≡ true
 round_besides world n =
     each_pass (λ turn. takes_or_retries turn.event) (retries_of world) n
@@ -126,23 +133,29 @@ else_by : (owes : Bool) (w l who local : ℕ) → is_retry_of who local (retry_t
 else_by true w l who local is = rw is refl
 else_by false w l who local is = refl
 
+-- the Retry of a slot counts where it is owed
 here_by : (owes : Bool) (w l who local : ℕ) → is_retry_of who local (retry_turn w l) ≡ true → count_by (is_retry_of who local) (if owes then retry_turn w l ∷ [] else []) ≡ (if owes then 1 else 0)
 here_by true w l who local is = rw is refl
 here_by false w l who local is = refl
 
+-- that of another slot doesn't
 where_else : (world : WorldState) (w l who local : ℕ) → (w ≡ who → l ≡ local → ⊥) → count_by (is_retry_of who local) (retry_where world w l) ≡ 0
 where_else world w l who local apart = else_by (owes_at (box_at world w) l) w l who local (other_test l local w who (λ at here. apart here at))
 
+-- in a box the Retry of each of its slots comes once
 box_count : (world : WorldState) (w who local : ℕ) → count_by (is_retry_of who local) (retries_of world w) ≡ total (λ (l : ℕ). count_by (is_retry_of who local) (retry_where world w l)) (length (box_at world w).slots)
 box_count world w who local = each_count (is_retry_of who local) (retry_where world w) (length (box_at world w).slots)
 
+-- and that of no slot of another box
 box_else : (world : WorldState) (w who local : ℕ) → w ≢ who → count_by (is_retry_of who local) (retries_of world w) ≡ 0
 box_else world w who local apart =
     box_count world w who local ∙ total_none (λ (l : ℕ). count_by (is_retry_of who local) (retry_where world w l)) (length (box_at world w).slots) (λ l below. where_else world w l who local (λ here at. apart here))
 
+-- a number that isn't below a limit by the test isn't below it
 missing : (k n : ℕ) → nat_lt k n ≡ false → k < n → ⊥
 missing k n off below = grind (arith, common_steps)
 
+-- a slot of the box: its Retry comes as often as the slot is there and owes it
 box_here : (there : Bool) (world : WorldState) (who local : ℕ) → is_slot (box_at world who) local ≡ there
     → count_by (is_retry_of who local) (retries_of world who) ≡ (if there && owes_at (box_at world who) local then 1 else 0)
 box_here true world who local is =
@@ -154,6 +167,7 @@ box_here false world who local is =
     ∙ total_none (λ (l : ℕ). count_by (is_retry_of who local) (retry_where world who l)) (length (box_at world who).slots)
     (λ l below. where_else world who l who local (λ here at. missing local (length (box_at world who).slots) is (subst (λ (k : ℕ). k < length (box_at world who).slots) at below)))
 
+-- a box that is there, or isn't
 round_by : (there : Bool) (world : WorldState) (who local : ℕ) → nat_lt who (length world.boxes) ≡ there
     → count_by (is_retry_of who local) (round world) ≡ (if there && is_slot (box_at world who) local && owes_at (box_at world who) local then 1 else 0)
 round_by true world who local is =
@@ -165,5 +179,6 @@ round_by false world who local is =
     ∙ total_none (λ (w : ℕ). count_by (is_retry_of who local) (retries_of world w)) (length world.boxes)
     (λ w below. box_else world w who local (λ here. missing who (length world.boxes) is (subst (λ (k : ℕ). k < length world.boxes) here below)))
 
+-- in a round each owed Retry comes once, and no other
 pub round_once : (world : WorldState) (who local : ℕ) → count_by (is_retry_of who local) (round world) ≡ (if owes_retry world who local then 1 else 0)
 round_once world who local = round_by (nat_lt who (length world.boxes)) world who local refl

@@ -31,6 +31,7 @@ use Rattle.mc_seq.proofs.Sittings.{drawn_take, take_left, take_none}
 
 -- ---- drawn turns are a run
 
+-- turns that are drawn are a run
 pub drawn_run : (turns : List Turn) (now last : Standing) → AreDrawn now turns last → run now.world turns ≡ Some last.world
 drawn_run [] now last draws = ap (λ (s : Standing). Some s.world) draws
 drawn_run (turn ∷ turns) now last draws = ap (option_and_then (λ (w : WorldState). run w turns)) draws.3 ∙ drawn_run turns (moved now turn draws.0) last draws.4
@@ -42,15 +43,18 @@ drawn_pass p (turn ∷ turns) now last all draws = drawn_pass p turns (moved now
 
 -- ---- their commands
 
+-- the turn is a command
 abbrev is_ordered : Turn → Bool
 is_ordered turn = is_command turn.event
 
+-- commands that fit are commands
 fit_commands : (left : List Turn) (world : WorldState) → AreFit world left → list_all is_ordered left ≡ true
 fit_commands [] world fit = refl
 fit_commands (turn ∷ left) world fit =
     let parts = and_parts (is_fit world turn) (list_all (is_fit world) left) fit in
     two_there (is_ordered turn) (list_all is_ordered left) (fit_parts world turn parts.0).command (fit_commands left world parts.1)
 
+-- a drawn turn and what is left behind it are the commands that were left, box by box
 moved_commands : (world : WorldState) (left : List Turn) (urgent : Bool) (turn : Turn) (who : ℕ) → list_all is_ordered left ≡ true → IsListed world left urgent turn
     → commands_of who (turn ∷ []) ++ commands_of who (left_by turn left) ≡ commands_of who left
 moved_commands world left urgent turn who all is = elim is [
@@ -88,6 +92,7 @@ pub record AreTakes (turns : List Turn) (last : Standing) : Type 0 where
   pub left : last.left ≡ []
   pub count : (who local : ℕ) → count_by (is_retry_of who local) turns ≡ 0
 
+-- behind the last command only Takes are drawn
 pub drawn_takes : (turns : List Turn) (now last : Standing) → now.left ≡ [] → AreDrawn now turns last → AreTakes turns last
 drawn_takes [] now last none draws = record { besides = refl; left = ap (λ (s : Standing). s.left) (sym draws) ∙ none; count = λ who local. refl }
 drawn_takes (turn ∷ turns) now last none draws =
@@ -115,6 +120,7 @@ record First (world : WorldState) (batch first : List Turn) (rested : Standing) 
   pub quiet : IsTrue (is_quiet rested.world)
   pub used : (who : ℕ) → commands_of who first ≡ commands_of who batch
 
+-- what the turns up to the first rest are
 first_is : (world : WorldState) (batch first : List Turn) (state : ℕ) (rested : Standing) → IsSound world → LanesServed world → AreFit world batch
     → AreDrawn (begun world batch state) first rested → candidates rested ≡ [] → First world batch first rested
 first_is world batch first state rested sound served fit draws none =
@@ -142,6 +148,7 @@ counted world others who local none =
     let sum : count_by (is_retry_of who local) (round world ++ others) ≡ count_by (is_retry_of who local) (round world) = omega arith in
     sum ∙ round_once world who local
 
+-- with the round and the Takes behind it they are a settled segment
 settled_by : (world retried : WorldState) (batch first others : List Turn) (rested ended : Standing) → First world batch first rested → has_ring rested.world ≡ false
     → run rested.world (round rested.world) ≡ Some retried → AreDrawn (record rested { world = retried }) others ended → candidates ended ≡ []
     → IsSettled world batch (first ++ (round rested.world ++ others)) ended.world
@@ -155,6 +162,7 @@ settled_by world retried batch first others rested ended begins free retries dra
     begins.ran goes begins.quiet (rested_quiet ended kept.0 kept.1 takes.left none) begins.used
     (λ who local. counted rested.world others who local (takes.count who local)) besides
 
+-- so turns by the schedule settle their batch
 pub schedule_settles : ScheduleSettles
 schedule_settles world last batch turns state end sound served fit scheduled =
     subst (λ (t : List Turn). IsSettled world batch t last) (sym scheduled.are)
@@ -192,6 +200,7 @@ scheduled_is world batch state start used rested again ended none one two three 
   to_end = refl;
 }
 
+-- turns drawn to the end of the batch and then to the first rest are drawn turns
 first_drawn : (world : WorldState) (batch : List Turn) (state : ℕ) (start used : Standing) (none one : List Turn) → start ≡ begun world batch state → none ≡ [] → DrewAll start none used one → AreDrawn (begun world batch state) one used
 first_drawn world batch state start used none one begins nothing first =
     subst (λ (t : List Turn). AreDrawn (begun world batch state) t used) (sym (first.logged ∙ ap (λ (t : List Turn). t ++ first.turns) nothing))

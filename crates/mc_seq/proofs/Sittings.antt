@@ -26,6 +26,7 @@ use Rattle.mc_seq.proofs.Nexts.{without_less}
 
 -- ---- one draw
 
+-- a list that isn't empty has a length above 0
 some_length : (xs : List Turn) → length xs ≢ 0 → 0 < length xs
 some_length xs some = omega arith
 
@@ -40,14 +41,17 @@ made_is old new state next turn is made moves = record { turn = turn; is_drawn =
 abbrev pub GoesOn : Standing → List Turn → Standing → List Turn → Type 0
 GoesOn start before now after = (more : List Turn) (last : Standing) → AreDrawn now more last → DrewAll start before last (after ++ more)
 
+-- so it is at the beginning
 pub goes_first : (start : Standing) (before : List Turn) → GoesOn start before start before
 goes_first start before more last draws = record { turns = more; draws = draws; logged = refl }
 
+-- and after one more drawn turn
 pub goes_more : (start now next : Standing) (before old new : List Turn) → MayGo now → Made now old next new → GoesOn start before now old → GoesOn start before next new
 goes_more start now next before old new may made so_far more last draws =
     subst (λ (turns : List Turn). DrewAll start before last turns) (sym (ap (λ (turns : List Turn). turns ++ more) made.logged ∙ append_assoc old (made.turn ∷ []) more))
     (so_far (made.turn ∷ more) last (next.world, may, made.is_drawn, made.goes, subst (λ (s : Standing). AreDrawn s more last) made.moves draws))
 
+-- at the end what was drawn is all that was written down
 pub goes_last : (start last : Standing) (before after : List Turn) → GoesOn start before last after → DrewAll start before last after
 goes_last start last before after so_far = subst (λ (turns : List Turn). DrewAll start before last turns) (append-nil after) (so_far [] last refl)
 
@@ -57,6 +61,7 @@ goes_last start last before after so_far = subst (λ (turns : List Turn). DrewAl
 pub made_listed : (now next : Standing) (old new : List Turn) → (made : Made now old next new) → IsListed now.world now.left (is_urgent now.left now.since) made.turn
 made_listed now next old new made = drawn_listed now made.turn made.is_drawn
 
+-- a drawn turn leaves a sound world
 pub made_sound : (now next : Standing) (old new : List Turn) → Made now old next new → IsSound now.world → IsSound next.world
 made_sound now next old new made sound = step_keeps_sound now.world next.world made.turn sound made.goes
 
@@ -71,18 +76,23 @@ made_fit now next old new made sound fit =
 abbrev pub to_come : List Turn → ℕ → ℕ
 to_come left since = 64 * length left + (63 - since)
 
+-- a command lowers it by 64, and gives back 63 at most
 lower_command : (less all since : ℕ) → less + 1 ≡ all → 64 * less + (63 - 0) < 64 * all + (63 - since)
 lower_command less all since one = omega arith
 
+-- a turn that is none lowers it by one
 lower_take : (all since : ℕ) → since < 63 → 64 * all + (63 - (since + 1)) < 64 * all + (63 - since)
 lower_take all since few = omega arith
 
+-- where commands are left and not they alone are listed, fewer than 63 turns came since the last
 not_urgent : (count since : ℕ) → count ≢ 0 → (not (count == 0) && not (nat_lt since 63)) ≡ false → nat_lt since 63 ≡ true
 not_urgent count since some is = grind (arith, common_steps)
 
+-- a number that is below a limit by the test is below it
 few_by : (a b : ℕ) → nat_lt a b ≡ true → a < b
 few_by a b is = grind (arith, common_steps)
 
+-- so a drawn command lowers it
 command_lowers : (turn : Turn) (left : List Turn) (since : ℕ) → is_command turn.event ≡ true → next_of turn.who left ≡ Some turn → to_come (left_by turn left) (since_by turn since) < to_come left since
 command_lowers turn left since is next =
     subst (λ (b : Bool). to_come (if b then without_next turn.who left else left) (if b then 0 else (if nat_lt since 63 then since + 1 else since)) < to_come left since) (sym is)
@@ -92,11 +102,13 @@ command_lowers turn left since is next =
 pub take_none : (turn : Turn) (local : ℕ) → turn.event ≡ Take local → is_command turn.event ≡ false
 take_none turn local is = ap is_command is
 
+-- and so does a Take
 take_down : (turn : Turn) (left : List Turn) (since : ℕ) → is_command turn.event ≡ false → nat_lt since 63 ≡ true → to_come (left_by turn left) (since_by turn since) < to_come left since
 take_down turn left since is few =
     subst (λ (b : Bool). to_come (if b then without_next turn.who left else left) (if b then 0 else (if nat_lt since 63 then since + 1 else since)) < to_come left since) (sym is)
     (subst (λ (b : Bool). to_come left (if b then since + 1 else since) < to_come left since) (sym few) (lower_take (length left) since (few_by since 63 few)))
 
+-- each listed turn is one of the two
 pub listed_lowers : (world : WorldState) (turn : Turn) (left : List Turn) (since : ℕ) → AreFit world left → length left ≢ 0 → IsListed world left (is_urgent left since) turn
     → to_come (left_by turn left) (since_by turn since) < to_come left since
 listed_lowers world turn left since fit some is = elim is [
@@ -114,15 +126,18 @@ made_lowers now next old new made fit some =
 pub some_listed : (now : Standing) → AreFit now.world now.left → length now.left ≢ 0 → candidates now ≡ [] → ⊥
 some_listed now fit some none = some (ap length (none_left now.world now.left (is_urgent now.left now.since) fit none))
 
+-- while commands are left a ring stops nothing
 pub left_goes : (now : Standing) → length now.left ≢ 0 → MayGo now
 left_goes now some none = absurd (some (ap length none))
 
+-- a list of length 0 is empty
 pub empty_is : (xs : List Turn) → length xs ≡ 0 → xs ≡ []
 empty_is [] is = refl
 empty_is (x ∷ xs) is = absurd (omega arith)
 
 -- ---- where the batch is used up
 
+-- what is listed there is a Take that waits
 take_by : (world : WorldState) (left : List Turn) (urgent : Bool) (turn : Turn) → left ≡ [] → IsListed world left urgent turn → IsTake world turn
 take_by world left urgent turn none is = elim is [
   | inl next ↦ absurd (let there : next_of turn.who [] ≡ Some turn = subst (λ (l : List Turn). next_of turn.who l ≡ Some turn) none next in cc (there))
@@ -133,26 +148,32 @@ take_by world left urgent turn none is = elim is [
 pub drawn_take : (now : Standing) (turn : Turn) → now.left ≡ [] → drawn now ≡ Some turn → IsTake now.world turn
 drawn_take now turn none is = take_by now.world now.left (is_urgent now.left now.since) turn none (drawn_listed now turn is)
 
+-- the drawn turn is a step, as a Take
 made_step : (now next : Standing) (old new : List Turn) (made : Made now old next new) (take : IsTake now.world made.turn) → step now.world (record { who = made.turn.who; event = Take take.local }) ≡ Some next.world
 made_step now next old new made take = ap (step now.world) (take_same made.turn take.local take.event) ∙ made.goes
 
+-- it lowers the measure
 pub take_lower : (now next : Standing) (old new : List Turn) → Made now old next new → now.left ≡ [] → IsRingFree now.world → measure next.world < measure now.world
 take_lower now next old new made none free =
     let take = drawn_take now made.turn none made.is_drawn in
     take_lowers now.world next.world made.turn.who take.local free (made_step now next old new made take)
 
+-- and leaves the world without a ring
 pub take_free : (now next : Standing) (old new : List Turn) → Made now old next new → now.left ≡ [] → IsRingFree now.world → IsRingFree next.world
 take_free now next old new made none free =
     let take = drawn_take now made.turn none made.is_drawn in
     take_stays_free now.world next.world made.turn.who take.local free (made_step now next old new made take)
 
+-- no command is taken from those that are left by a turn that is none
 left_none : (b : Bool) (who : ℕ) (left : List Turn) → b ≡ false → (if b then without_next who left else left) ≡ left
 left_none true who left is = absurd (cc)
 left_none false who left is = refl
 
+-- a Take leaves the commands that are left
 pub take_left : (turn : Turn) (left : List Turn) (world : WorldState) → IsTake world turn → left_by turn left ≡ left
 take_left turn left world take = left_none (is_command turn.event) turn.who left (take_none turn take.local take.event)
 
+-- so none are left after it
 pub made_none : (now next : Standing) (old new : List Turn) → Made now old next new → now.left ≡ [] → next.left ≡ []
 made_none now next old new made none =
     ap (λ (s : Standing). s.left) made.moves ∙ (take_left made.turn now.left now.world (drawn_take now made.turn none made.is_drawn) ∙ none)
@@ -168,6 +189,7 @@ list_is now list seen looked urgent is left by looks =
 pub picked : (now : Standing) (shown : List Turn) (turn : Turn) → shown ≡ candidates now → slice_get shown (drawn_place now.draws (length shown)) ≡ Some turn → drawn now ≡ Some turn
 picked now shown turn is got = subst (λ (l : List Turn). slice_get l (drawn_place now.draws (length l)) ≡ Some turn) is got
 
+-- the test whether nothing is left says no
 pub some_by : (b : Bool) (n : ℕ) → b ≡ (n == 0) → b ≡ false → n ≢ 0
 some_by b n is other same = grind (arith, common_steps)
 
@@ -180,6 +202,7 @@ version_apart turn local world is ends =
     let parts = and_parts (nat_lt turn.who (length world.boxes)) false (sym same ∙ ends) in
     cc (parts.1)
 
+-- no version ends there
 pub never_ends : (now next : Standing) (old new : List Turn) (at : ℕ) → now.left ≡ [] → Ends now old next new at → ⊥
 never_ends now next old new at none ends =
     let take = drawn_take now ends.turn none ends.is_drawn in
@@ -198,11 +221,14 @@ rested_is start now next before old new so_far none free comes =
       free = ap (λ (s : Standing). has_ring s.world) comes.1 ∙ free.free;
     }
 
+-- a version ends behind what was drawn
 pub ran_out : (start now next : Standing) (before old new : List Turn) (at : ℕ) → GoesOn start before now old → Ends now old next new at → RanOut start before next new at
 ran_out start now next before old new at so_far ends = record { last = now; until = old; drew = goes_last start now before old so_far; ends = ends }
 
+-- the test says yes
 zero_by : (b : Bool) (n : ℕ) → b ≡ (n == 0) → b ≡ true → n ≡ 0
 zero_by b n is other = grind (arith, common_steps)
 
+-- and then nothing is left
 pub none_by : (b : Bool) (left : List Turn) → b ≡ (length left == 0) → b ≡ true → left ≡ []
 none_by b left is none = empty_is left (zero_by b (length left) is none)

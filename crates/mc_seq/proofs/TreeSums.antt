@@ -5,6 +5,7 @@ use Rattle.mc_seq.specs.Sums.{AreSums, halved, level_at}
 
 -- ---- sums
 
+-- a sum that begins at a number
 fold_from : (a : ℕ) (xs : List ℕ) → fold (λ (s : ℕ) (x : ℕ). s + x) a xs ≡ a + sum xs
 fold_from a [] = omega arith
 fold_from a (x ∷ xs) =
@@ -12,6 +13,7 @@ fold_from a (x ∷ xs) =
     let two : fold (λ (s : ℕ) (x : ℕ). s + x) (0 + x) xs ≡ (0 + x) + sum xs = fold_from (0 + x) xs in
     omega arith
 
+-- the sum of a list by its first number
 pub sum_cons : (x : ℕ) (xs : List ℕ) → sum (x ∷ xs) ≡ x + sum xs
 sum_cons x xs = let one : fold (λ (s : ℕ) (x : ℕ). s + x) (0 + x) xs ≡ (0 + x) + sum xs = fold_from (0 + x) xs in omega arith
 
@@ -21,6 +23,7 @@ past [] i end = refl
 past (x ∷ xs) zero end = absurd (omega arith)
 past (x ∷ xs) (suc i) end = past xs i (omega arith)
 
+-- where a number is above 0 its place is within the list
 pub there : (xs : List ℕ) (i n : ℕ) → n < get_or xs i 0 → i < length xs
 there [] i n some = absurd (omega arith)
 there (x ∷ xs) zero n some = omega arith
@@ -28,9 +31,11 @@ there (x ∷ xs) (suc i) n some = let rest = there xs i n some in omega arith
 
 -- ---- halves
 
+-- twice one more is two more
 two_more : (i : ℕ) → 2 * suc i ≡ suc (suc (2 * i))
 two_more i = omega arith
 
+-- and one more than that
 two_and : (i : ℕ) → 2 * suc i + 1 ≡ suc (suc (2 * i + 1))
 two_and i = omega arith
 
@@ -49,6 +54,7 @@ halved_at (x ∷ y ∷ xs) (suc i) =
     let rest : get_or (halved xs) i 0 ≡ get_or xs (2 * i) 0 + get_or xs (2 * i + 1) 0 = halved_at xs i in
     omega arith
 
+-- nothing taken of nothing
 take_none : (i : ℕ) → take i (let nothing : List ℕ = [] in nothing) ≡ []
 take_none zero = refl
 take_none (suc i) = refl
@@ -69,6 +75,7 @@ halved_before (x ∷ y ∷ xs) (suc i) =
     let three : sum (y ∷ take (2 * i) xs) ≡ y + sum (take (2 * i) xs) = sum_cons y (take (2 * i) xs) in
     omega arith
 
+-- sums of neighbours have the same sum
 pub sum_halved : (xs : List ℕ) → sum (halved xs) ≡ sum xs
 sum_halved [] = refl
 sum_halved (x ∷ []) = refl
@@ -88,6 +95,7 @@ level_sum levels (suc depth) sums inside =
     let step : level_at levels (suc depth) ≡ halved (level_at levels depth) = subst (λ (n : ℕ). level_at levels n ≡ halved (level_at levels depth)) (add-one depth) (sums.halves depth (omega arith)) in
     ap sum step ∙ (sum_halved (level_at levels depth) ∙ level_sum levels depth sums (omega arith))
 
+-- a list of one number at most has that as its sum
 single : (xs : List ℕ) → length xs ≤ 1 → get_or xs 0 0 ≡ sum xs
 single [] few = refl
 single (x ∷ []) few = let one = sum_cons x [] in omega arith
@@ -103,6 +111,7 @@ pub record IsAt (levels : List (List ℕ)) (k depth place rest : ℕ) : Type 0 w
   pub before : sum (take place (level_at levels depth)) + rest ≡ k
   pub within : rest < get_or (level_at levels depth) place 0
 
+-- the search begins at the top
 pub starts : (levels : List (List ℕ)) (k : ℕ) → AreSums levels → k < sum (level_at levels 0) → IsAt levels k (length levels - 1) 0 k
 starts levels k sums low = record {
   inside = let some = sums.some in omega arith;
@@ -110,6 +119,7 @@ starts levels k sums low = record {
   within = subst (λ (n : ℕ). k < n) (sym (top_is levels sums)) low;
 }
 
+-- one level down is the list whose halves stand above
 step_down : (levels : List (List ℕ)) (depth : ℕ) → AreSums levels → 0 < depth → depth < length levels → level_at levels depth ≡ halved (level_at levels (depth - 1))
 step_down levels zero sums some inside = absurd (omega arith)
 step_down levels (suc depth) sums some inside =
@@ -127,6 +137,7 @@ goes_first levels k depth place rest sums some at low =
     let inside = at.inside in
     record { inside = omega arith; before = omega arith; within = low }
 
+-- one more number is taken
 pub take_one : (xs : List ℕ) (i : ℕ) → sum (take (suc i) xs) ≡ sum (take i xs) + get_or xs i 0
 take_one [] zero = refl
 take_one [] (suc i) = refl
@@ -152,6 +163,7 @@ goes_second levels k depth place rest sums some at high =
     let within = at.within in
     record { inside = omega arith; before = omega arith; within = omega arith }
 
+-- the place where a search is fits
 pub place_fits : (levels : List (List ℕ)) (k depth place rest : ℕ) → AreSums levels → IsAt levels k depth place rest → place < 2 ^ 32
 place_fits levels k depth place rest sums at =
     let few = sums.few depth in
