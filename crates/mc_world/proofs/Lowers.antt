@@ -1,8 +1,8 @@
 -- Each Take of a sound world without a ring lowers its measure, and the measure is small.
-use Rattle.std.proofs.Common.{◌≡◌, ◌≢◌, ◌<◌, ◌≤◌, ◌+◌, ◌*◌, ◌++◌, ◌&&◌, ℕ, zero, suc, Bool, true, false, Some, List, [], ◌∷◌, length, ap, refl, sym, ◌∙◌, subst, arith}
+use Rattle.std.proofs.Common.{◌≡◌, ◌≢◌, ◌<◌, ◌≤◌, ◌+◌, ◌*◌, ◌^◌, ◌++◌, ◌&&◌, ℕ, zero, suc, Bool, true, false, Some, List, [], ◌∷◌, length, ap, refl, sym, ◌∙◌, subst, arith}
 use Rattle.std.specs.List.{list_all}
 use Rattle.std.proofs.lemmas.Grind.{common_steps}
-use Rattle.std.proofs.Math.Nat.{mul-le-mul_left}
+use Rattle.std.proofs.Math.Nat.{mul-le-mul_left, mul-one, mul_assoc, pow-succ', pow-zero}
 use Rattle.mc_link.specs.LinkLaws.{closed_by}
 use Rattle.mc_link.specs.LinkTurn.{link_due, sent_by_first, sent_by_second}
 use Rattle.mc_link.specs.LinkWeights.{stored_link}
@@ -386,14 +386,34 @@ bound_sum n sum lists lanes slots most fewer =
     let more : n * (lists + slots) ≤ n * (lanes + slots) = mul-le-mul_left n (omega (arith, fewer)) in omega (arith, most, more)
 
 -- the measure is at most the fourth power of the base for each signal under way and each slot
-pub measure_bound : MeasureBound
-measure_bound world sound =
+measure_most : (world : WorldState) → IsSound world → measure world ≤ base world * (base world * (base world * base world)) * (under_way world + slot_count world)
+measure_most world sound =
     bound_sum (base world * (base world * (base world * base world))) (measure world) (total (λ (s : ℕ). length (list_to world s)) (slot_count world)) (under_way world) (slot_count world)
     (total_most (to_come (base world) (reach world) world) (λ s. length (list_to world s)) (base world * (base world * (base world * base world))) (slot_count world)
     (λ s within. part_most (base world) (base world * (base world * base world)) (reach world (far s)) (weights (base world) (list_to world s)) (length (list_to world s)) (reach world s) (stored_of (goal_of world s) world s)
     (omega (arith, crossed_most (length (joints world)) world (far s))) (omega (arith, crossed_most (length (joints world)) world s))
     (weights_most (base world) (omega arith) (list_to world s)) (stored_most (goal_of world s) world s)))
     (lists_most world sound.numbered)
+
+-- a fourth power, by its factors
+fourth_power : (n : ℕ) → n ^ 4 ≡ n * (n * (n * n))
+fourth_power n =
+    let one : n ^ 1 ≡ n = pow-succ' n 0 ∙ (ap (λ (k : ℕ). n * k) (pow-zero n) ∙ mul-one n) in
+    pow-succ' n 3 ∙ ap (λ (k : ℕ). n * k) (pow-succ' n 2 ∙ ap (λ (k : ℕ). n * k) (pow-succ' n 1 ∙ ap (λ (k : ℕ). n * k) one))
+
+twice : (few most : ℕ) → few ≤ most → 2 * few ≤ 2 * most
+twice few most less = omega arith
+
+-- twice what is at most a product
+twice_most : (few power part n : ℕ) → few ≤ power * part → n ≡ power → 2 * few ≤ 2 * n * part
+twice_most few power part n most is =
+    subst (λ (m : ℕ). 2 * few ≤ m) (sym (mul_assoc 2 n part)) (twice few (n * part) (subst (λ (m : ℕ). few ≤ m * part) (sym is) most))
+
+-- so twice the measure is at most the bound
+pub measure_bound : MeasureBound
+measure_bound world sound =
+    subst (λ (slots : ℕ). 2 * measure world ≤ 2 * base world ^ 4 * (under_way world + slots)) (two_each world.channels 0)
+    (twice_most (measure world) (base world * (base world * (base world * base world))) (under_way world + slot_count world) (base world ^ 4) (measure_most world sound) (fourth_power (base world)))
 
 -- and so is a run of Takes
 pub takes_bound : TakesBound

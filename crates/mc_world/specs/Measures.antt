@@ -1,5 +1,5 @@
 -- A number that each Take of a world without a ring lowers, so that Takes alone come to an end.
-use Rattle.std.specs.Prelude.{◌≡◌, ◌≤◌, ◌<◌, ◌+◌, ◌*◌, ℕ, zero, suc, false, List, length, IsTrue, Some}
+use Rattle.std.specs.Prelude.{◌≡◌, ◌≤◌, ◌<◌, ◌+◌, ◌*◌, ◌^◌, ℕ, zero, suc, false, List, length, IsTrue, Some}
 use Rattle.std.specs.List.{list_all, sum_by}
 use Rattle.mc_link.specs.LinkWeights.{stored_link}
 use Rattle.mc_slot.specs.declared.SlotGoal.{SlotGoal}
@@ -61,11 +61,15 @@ abbrev pub TakesEnd : Type 0
 TakesEnd = (world next : WorldState) (turns : List Turn) → IsRingFree world → IsTrue (list_all (λ turn. is_take turn.event) turns) → run world turns ≡ Some next
     → length turns + measure next ≤ measure world
 
--- and the measure is at most the fourth power of the base for each signal under way and each slot
-abbrev pub MeasureBound : Type 0
-MeasureBound = (world : WorldState) → IsSound world → measure world ≤ base world * (base world * (base world * base world)) * (under_way world + slot_count world)
+-- a bound on the Takes that may come, by the tunnels T and the signals under way q: 2 (T + 1)⁴ (q + 2 T)
+abbrev pub delivery_bound : WorldState → ℕ
+delivery_bound world = 2 * base world ^ 4 * (under_way world + 2 * length (joints world))
 
--- so with both: Takes alone come to an end within that many turns, however they are chosen
+-- the measure is at most half of it
+abbrev pub MeasureBound : Type 0
+MeasureBound = (world : WorldState) → IsSound world → 2 * measure world ≤ delivery_bound world
+
+-- and so is a run of Takes alone, however they are chosen
 abbrev pub TakesBound : Type 0
 TakesBound = (world next : WorldState) (turns : List Turn) → IsRingFree world → IsTrue (list_all (λ turn. is_take turn.event) turns) → run world turns ≡ Some next
-    → length turns ≤ base world * (base world * (base world * base world)) * (under_way world + slot_count world)
+    → 2 * length turns ≤ delivery_bound world

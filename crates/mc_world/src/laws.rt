@@ -92,13 +92,13 @@ pub fn takes_end()
     ensures { TakesEnd }
 {}
 
-/// The measure of a sound world is at most the fourth power of one more than its tunnels, for each signal under way and
-/// each slot.
+/// The measure of a sound world is at most half of its delivery bound: the fourth power of one more than its tunnels, for
+/// each signal under way and each slot.
 pub fn measure_bound()
     ensures { MeasureBound }
 {}
 
-/// So a run of Takes alone, from a sound world without a ring, has at most that many turns.
+/// So a run of Takes alone, from a sound world without a ring, has at most half as many turns as the delivery bound.
 pub fn takes_bound()
     ensures { TakesBound }
 {}
