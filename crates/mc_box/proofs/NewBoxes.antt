@@ -7,6 +7,7 @@ use Rattle.mc_signal.specs.declared.codec_list.CodecList.{CodecList}
 use Rattle.mc_signal.specs.declared.Descriptor.{Descriptor}
 use Rattle.mc_signal.specs.declared.Sender.{Sender}
 use Rattle.mc_slot.specs.EndTurn.{IsAtRest}
+use Rattle.mc_slot.specs.Moves.{closed_slot}
 use Rattle.mc_slot.specs.Tunnel.{Kept}
 use Rattle.mc_slot.specs.declared.Goal.TheVariants.{Close as ToClose}
 use Rattle.mc_slot.specs.declared.Slot.{Slot}
@@ -14,7 +15,7 @@ use Rattle.mc_slot.specs.declared.SlotGoal.{SlotGoal}
 use Rattle.mc_slot.specs.declared.SlotGoal.TheVariants.{End, Link}
 use Rattle.mc_slot.specs.declared.State.TheVariants.{Closed}
 use Rattle.mc_box.specs.BoxSound.{IsLinked, IsSoundBox, RestsAt}
-use Rattle.mc_box.specs.Boxes.{BoxState, first_box, first_slot, first_goal, first_media, no_slot, slot_at, goal_at, own, sender}
+use Rattle.mc_box.specs.Boxes.{BoxState, IsNewBox, first_box, first_slot, first_goal, first_media, no_slot, slot_at, goal_at, own, sender}
 use Rattle.mc_box.specs.declared.event.Kind.{Kind}
 use Rattle.mc_box.specs.declared.setup.SlotSetup.{SlotSetup}
 
@@ -71,3 +72,23 @@ pub first_sound : (box : BoxState) (kind : Kind) (number : ℕ) (receives sends 
 first_sound box kind number receives sends version setups few address is =
     subst (λ (b : BoxState). IsSoundBox b) (sym is)
     (new_sound (first_box kind number receives sends version setups) setups version refl refl refl few address)
+
+-- whatever a box is made of, it is new
+pub first_is_new : (kind : Kind) (number : ℕ) (receives sends : CodecList) (version : ℕ) (setups : List SlotSetup)
+    → length setups ≤ 64 → address_of number < 2 ^ 32 → IsNewBox (first_box kind number receives sends version setups)
+first_is_new kind number receives sends version setups few address = record { version = version; setups = setups; few = few; address = address; is = refl }
+
+-- and a box that is new is sound
+pub new_box_sound : (box : BoxState) → IsNewBox box → IsSoundBox box
+new_box_sound box new = first_sound box box.kind box.number box.receives box.sends new.version new.setups new.few new.address new.is
+
+-- each of its slots is closed
+first_closed : (setups : List SlotSetup) (local : ℕ)
+    → get_or (map first_slot setups) local no_slot ≡ closed_slot (get_or (map first_slot setups) local no_slot).medium (get_or (map first_slot setups) local no_slot).initiator
+first_closed [] local = refl
+first_closed (setup ∷ setups) zero = refl
+first_closed (setup ∷ setups) (suc local) = first_closed setups local
+
+pub new_slot_closed : (box : BoxState) (local : ℕ) → IsNewBox box → slot_at box local ≡ closed_slot (slot_at box local).medium (slot_at box local).initiator
+new_slot_closed box local new =
+    subst (λ (b : BoxState). slot_at b local ≡ closed_slot (slot_at b local).medium (slot_at b local).initiator) (sym new.is) (first_closed new.setups local)

@@ -1,7 +1,7 @@
 -- A box as clauses see it, and what it is as new.
-use Rattle.std.specs.Prelude.{◌≡◌, ℕ, Bool, true, false, List, [], map, length, nat_lt, slice_index_or, slice_set}
+use Rattle.std.specs.Prelude.{◌≡◌, ◌<◌, ◌≤◌, ◌^◌, ℕ, Bool, true, false, List, [], map, length, nat_lt, slice_index_or, slice_set}
 use Rattle.mc_signal.specs.Empty.{no_codecs}
-use Rattle.mc_signal.specs.Own.{device_descriptor, device_sender, feature_descriptor, feature_sender}
+use Rattle.mc_signal.specs.Own.{address_of, device_descriptor, device_sender, feature_descriptor, feature_sender}
 use Rattle.mc_signal.specs.declared.codec_list.CodecList.{CodecList}
 use Rattle.mc_signal.specs.declared.Descriptor.{Descriptor}
 use Rattle.mc_signal.specs.declared.Medium.TheVariants.{Audio}
@@ -111,6 +111,14 @@ first_box kind number receives sends version setups = record {
   goals = map first_goal setups;
   media = map (first_media version) setups;
 }
+
+-- a box is new, within the limits: some version and slots give it
+pub record IsNewBox (box : BoxState) : Type 0 where
+  pub version : ℕ
+  pub setups : List SlotSetup
+  pub few : length setups ≤ 64
+  pub address : address_of box.number < 2 ^ 32
+  pub is : box ≡ first_box box.kind box.number box.receives box.sends version setups
 
 -- what stands where no box is
 abbrev pub no_box : BoxState

@@ -4,6 +4,7 @@ pub mod Blocks
 pub mod CodecLists
 pub mod Declaring
 pub mod Faults
+pub mod FirstBoxes
 pub mod FirstBroken
 pub mod FirstBytes
 pub mod Fitting

@@ -4,14 +4,14 @@ use Rattle.std.proofs.Math.ListN.{get_or}
 use Rattle.std.proofs.lemmas.List.{get_or-map, length-map, length-replicate}
 use Rattle.mc_signal.specs.declared.Medium.TheVariants.{Audio}
 use Rattle.mc_slot.specs.declared.Slot.{Slot}
-use Rattle.mc_box.specs.Boxes.{BoxState, IsBox, first_goal, first_media, first_slot, media_at, no_box, no_media, no_slot, slot_at}
+use Rattle.mc_box.specs.Boxes.{BoxState, IsBox, IsNewBox, first_goal, first_media, first_slot, media_at, no_box, no_media, no_slot, slot_at}
 use Rattle.mc_box.specs.declared.setup.SlotMedia.{SlotMedia}
 use Rattle.mc_box.specs.declared.setup.SlotSetup.{SlotSetup}
 use Rattle.mc_world.specs.Setups.{setups_of}
 use Rattle.mc_world.specs.Sound.{IsNumbered}
-use Rattle.mc_world.specs.StepLaws.{AreNew, IsNewBox}
+use Rattle.mc_world.specs.StepLaws.{AreNew}
 use Rattle.mc_world.specs.Worlds.{ChannelState, Joint, WorldState, box_at, joint_of, joints_from, no_joint, place, places_among, slot_count}
-use Rattle.mc_world.proofs.NewWorlds.{first_is_new}
+use Rattle.mc_box.proofs.NewBoxes.{first_is_new}
 use Rattle.mc_plan.specs.LaidOut.{IsLaidOut, place_at}
 use Rattle.mc_plan.specs.PlanLaws.{PlansAreNumbered, PlansStaySound}
 use Rattle.mc_plan.specs.Plans.{PlanState, box_from, boxes_from, slots_of, world_of}

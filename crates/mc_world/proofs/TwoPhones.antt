@@ -2,15 +2,15 @@
 use Rattle.std.proofs.Common.{◌≡◌, ◌<◌, ◌%◌, ◌==◌, ℕ, zero, suc, false, List, [], ◌∷◌, length, Some, refl, inl, inr, arith}
 use Rattle.std.proofs.lemmas.Grind.{common_steps}
 use Rattle.mc_signal.specs.declared.codec_list.CodecList.{CodecList}
-use Rattle.mc_box.specs.Boxes.{IsBox, media_at}
+use Rattle.mc_box.specs.Boxes.{IsBox, IsNewBox, media_at}
 use Rattle.mc_world.specs.PathTable.{PathHolds}
 use Rattle.mc_world.specs.Settles.{IsSettled, owes_retry}
 use Rattle.mc_world.specs.Setups.{setups_of, world_of_devices}
-use Rattle.mc_world.specs.StepLaws.{IsNewBox}
 use Rattle.mc_world.specs.TwoPhones.{IsIdle, TwoPhonesAreIdle, one_channel, the_path}
 use Rattle.mc_world.specs.Worlds.{WorldState, box_at, joint_of, number, place, slot_of}
 use Rattle.mc_box.specs.declared.event.Kind.TheVariants.{Device}
-use Rattle.mc_world.proofs.NewWorlds.{first_is_new, first_is_sound}
+use Rattle.mc_box.proofs.NewBoxes.{first_is_new}
+use Rattle.mc_world.proofs.NewWorlds.{first_is_sound}
 
 abbrev forth : CodecList → CodecList → WorldState
 forth a b = world_of_devices (one_channel 0 1) (a ∷ b ∷ [])

@@ -1,12 +1,9 @@
 -- Laws of steps and runs: a sound world stays sound, its slots may take what is under way to them, and something can be taken as long as anything is under way.
-use Rattle.std.specs.Prelude.{◌≡◌, ◌<◌, ◌≤◌, ◌^◌, ℕ, false, List, length, slice_index_or, Some, IsSome}
+use Rattle.std.specs.Prelude.{◌≡◌, ◌<◌, ℕ, false, List, length, slice_index_or, Some, IsSome}
 use Rattle.mc_signal.specs.declared.codec_list.CodecList.{CodecList}
-use Rattle.mc_signal.specs.Own.{address_of}
 use Rattle.mc_signal.specs.declared.Signal.{Signal}
-use Rattle.mc_slot.specs.Moves.{closed_slot, taken}
-use Rattle.mc_slot.specs.declared.Goal.TheVariants.{Close as ToClose}
-use Rattle.mc_slot.specs.declared.SlotGoal.TheVariants.{End}
-use Rattle.mc_box.specs.Boxes.{BoxState, goal_at, no_box, slot_at}
+use Rattle.mc_slot.specs.Moves.{taken}
+use Rattle.mc_box.specs.Boxes.{BoxState, IsNewBox, no_box}
 use Rattle.mc_world.specs.Served.{LanesServed}
 use Rattle.mc_world.specs.Settles.{is_quiet}
 use Rattle.mc_world.specs.Setups.{world_of_devices}
@@ -58,14 +55,7 @@ UnderWayGoes = (world : WorldState) → IsSound world → LanesServed world → 
 abbrev pub RunKeepsServed : Type 0
 RunKeepsServed = (world next : WorldState) (turns : List Turn) → IsSound world → LanesServed world → run world turns ≡ Some next → IsSound next × LanesServed next
 
--- a box as new, within the limits: its slots are closed and keep nothing, and its goals are close
-pub record IsNewBox (box : BoxState) : Type 0 where
-  pub few : length box.slots ≤ 64
-  pub address : address_of box.number < 2 ^ 32
-  pub slots : (local : ℕ) → slot_at box local ≡ closed_slot (slot_at box local).medium (slot_at box local).initiator
-  pub goals : (local : ℕ) → goal_at box local ≡ End ToClose
-
--- all of them
+-- each of these boxes is new
 abbrev pub AreNew : List BoxState → Type 0
 AreNew boxes = (who : ℕ) → who < length boxes → IsNewBox (slice_index_or boxes who no_box)
 
