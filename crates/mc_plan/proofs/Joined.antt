@@ -4,7 +4,7 @@ use Rattle.std.proofs.lemmas.Grind.{common_steps}
 use Rattle.std.proofs.lemmas.List.Concat.{flat_map-append}
 use Rattle.std.proofs.lemmas.List.Elements.{All-append, All-cons, All-nil}
 use Rattle.mc_signal.specs.declared.Medium.{Medium}
-use Rattle.mc_world.specs.Worlds.{ChannelState, places_among, places_within}
+use Rattle.mc_world.specs.Worlds.{ChannelState, HasTunnels, places_among, places_within}
 use Rattle.mc_plan.specs.LaidOut.{AreInOrder, AreThere, IsLaidOut}
 use Rattle.mc_plan.specs.Plans.{PlanState, channel_between, joined, slots_of, tunnels_from}
 use Rattle.mc_plan.specs.Refusals.{join_fault}
@@ -75,8 +75,7 @@ joined_by plan from to media laid may =
     record {
       boxes = laid.boxes;
       channels = omega (arith, length-append plan.channels (ends ∷ []), may.channels);
-      some = All-append (λ (e : ChannelState). 0 < length e.tunnels) plan.channels (ends ∷ []) laid.some (one_all (λ (e : ChannelState). 0 < length e.tunnels) ends any);
-      tunnels = All-append (λ (e : ChannelState). length e.tunnels ≤ 8) plan.channels (ends ∷ []) laid.tunnels (one_all (λ (e : ChannelState). length e.tunnels ≤ 8) ends few);
+      tunnels = All-append HasTunnels plan.channels (ends ∷ []) laid.tunnels (one_all HasTunnels ends (record { some = any; few = few }));
       apart = All-append (λ (e : ChannelState). e.from ≢ e.to) plan.channels (ends ∷ []) laid.apart (one_all (λ (e : ChannelState). e.from ≢ e.to) ends may.apart);
       slots = λ who. joined_slots plan from to media who laid may;
       there = subst (AreThere (length plan.boxes)) (sym places) (there_append (length plan.boxes) (places_among plan.channels) (places_within ends) laid.there (channel_there ends media near far (length plan.boxes) may.near may.far));

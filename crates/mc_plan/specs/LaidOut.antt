@@ -1,6 +1,6 @@
 -- What a plan keeps: that its channels join its boxes slot by slot, within the limits.
 use Rattle.std.specs.Prelude.{◌≡◌, ◌≢◌, ℕ, ◌<◌, ◌≤◌, List, All, count_by, length, slice_index_or, take}
-use Rattle.mc_world.specs.Worlds.{places_among}
+use Rattle.mc_world.specs.Worlds.{HasTunnels, places_among}
 use Rattle.mc_plan.specs.Plans.{PlanState, is_of, slots_of}
 
 -- the box and local number of a slot, by its number among these
@@ -19,8 +19,7 @@ AreInOrder places = (s : ℕ) → s < length places → (place_at places s).1 �
 pub record IsLaidOut (plan : PlanState) : Type 0 where
   pub boxes : length plan.boxes ≤ 256
   pub channels : length plan.channels ≤ 1024
-  pub some : All (λ ends. 0 < length ends.tunnels) plan.channels
-  pub tunnels : All (λ ends. length ends.tunnels ≤ 8) plan.channels
+  pub tunnels : All HasTunnels plan.channels
   pub apart : All (λ ends. ends.from ≢ ends.to) plan.channels
   pub slots : (who : ℕ) → slots_of plan.channels who ≤ 64
   pub there : AreThere (length plan.boxes) (places_among plan.channels)

@@ -1,6 +1,7 @@
 -- When a box or a channel isn't added to a plan.
 use Rattle.std.specs.Prelude.{◌≡◌, ℕ, ◌+◌, ◌==◌, ◌||◌, Bool, if◌then◌else◌, List, length, nat_le, nat_lt, Option, Some, None, Result, Ok, Err}
 use Rattle.mc_signal.specs.declared.Medium.{Medium}
+use Rattle.mc_world.specs.Worlds.{tunnel_limit}
 use Rattle.mc_plan.specs.Plans.{PlanState, slots_of}
 use Rattle.mc_plan.specs.declared.fault.PlanFault.{PlanFault}
 use Rattle.mc_plan.specs.declared.fault.PlanFault.TheVariants.{NoBox, SameBox, NoTunnels, TooManyTunnels, BoxesFull, ChannelsFull, SlotsFull, NoMemory}
@@ -23,7 +24,7 @@ join_fault plan from to media =
     unless (nat_le (length plan.boxes) from || nat_le (length plan.boxes) to) NoBox
     (unless (from == to) SameBox
     (unless (length media == 0) NoTunnels
-    (unless (nat_lt 8 (length media)) TooManyTunnels
+    (unless (nat_lt tunnel_limit (length media)) TooManyTunnels
     (unless (nat_le 1024 (length plan.channels)) ChannelsFull
     (unless (overfills plan from (length media) || overfills plan to (length media)) SlotsFull None)))))
 

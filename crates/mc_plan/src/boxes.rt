@@ -2,6 +2,7 @@
 
 ghost use Rattle.std.specs.Prelude.{◌≡◌, ◌+◌, ◌<◌, ◌≤◌, ◌++◌, ◌^◌, All, IfOk, OnOk, length};
 ghost use Rattle.mc_world.specs.Setups.{setup_if, setups_of, setups_within};
+ghost use Rattle.mc_world.specs.Worlds.{HasTunnels};
 ghost use Rattle.mc_plan.specs.LaidOut.{IsLaidOut};
 ghost use Rattle.mc_plan.specs.Plans.{box_from, boxes_from, slots_of};
 
@@ -35,7 +36,7 @@ fn new_box(
     planned: BoxPlan,
 ) -> Result<MediaBox, AllocError>
     requires channels { length channels.now ≤ 1024 }
-    requires tunnels { All (λ ends. length ends.tunnels ≤ 8) channels.now }
+    requires tunnels { All HasTunnels channels.now }
     requires slots { slots_of channels.now who ≤ 64 }
     requires number { who < 256 }
     ensures { IfOk result (λ made. made ≡ box_from channels.now who planned) }
@@ -55,7 +56,7 @@ fn new_box(
 // The slots of a box, in the order of their local numbers.
 fn setups_of(alloc: Global, channels: &[Channel], who: u32) -> Result<Vec<SlotSetup>, AllocError>
     requires channels { length channels.now ≤ 1024 }
-    requires tunnels { All (λ ends. length ends.tunnels ≤ 8) channels.now }
+    requires tunnels { All HasTunnels channels.now }
     ensures { IfOk result (λ setups. setups.items ≡ setups_of channels.now who) }
 {
     let mut setups = Vec::new(alloc);

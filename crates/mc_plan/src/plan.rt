@@ -1,6 +1,7 @@
 // The plan of a network.
 
 ghost use Rattle.std.specs.Prelude.{◌≡◌, ◌≤◌, length, IfOk, OnOk, OnErr};
+ghost use Rattle.mc_world.specs.Worlds.{tunnel_limit};
 ghost use Rattle.mc_plan.specs.LaidOut.{IsLaidOut};
 ghost use Rattle.mc_plan.specs.Plans.{empty_plan, joined, slots_of, with_box, world_of};
 ghost use Rattle.mc_plan.specs.Refusals.{add_fault, join_fault, overfills, Gives};
@@ -166,7 +167,7 @@ impl Plan {
 
     // Whether a box would have too many slots.
     fn overfills(&self, who: u32, more: usize) -> bool
-        requires { more ≤ 8 }
+        requires { more ≤ tunnel_limit }
         ensures { result ≡ overfills self.now who more }
     {
         MOST_SLOTS < self.slots(who) + more

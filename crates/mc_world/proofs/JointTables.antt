@@ -3,7 +3,7 @@ use Rattle.std.proofs.Common.{◌≡◌, ℕ, ◌+◌, ◌*◌, ◌/◌, ◌<◌
 use Rattle.std.proofs.lemmas.Grind.{common_steps}
 use Rattle.mc_world.proofs.Joints.{channel_in, two_each, within_slots}
 use Rattle.mc_world.specs.Tables.{channel_of}
-use Rattle.mc_world.specs.Worlds.{ChannelState, Joint, joints_from, joints_within, no_joint, places_among, places_within}
+use Rattle.mc_world.specs.Worlds.{ChannelState, HasTunnels, Joint, joints_from, joints_within, no_joint, places_among, places_within}
 use Rattle.mc_world.specs.declared.network.Tunnel.{Tunnel}
 
 -- ---- one tunnel more, and one channel more
@@ -38,11 +38,11 @@ channel_added channels i ends tunnels before after below is tunnels_are so_far a
 -- ---- how many there are
 
 -- so few that their numbers fit
-pub few_slots : (channels : List ChannelState) → All (λ ends. length ends.tunnels ≤ 8) channels → length (places_among channels) ≤ 16 * length channels
+pub few_slots : (channels : List ChannelState) → All HasTunnels channels → length (places_among channels) ≤ 16 * length channels
 few_slots [] few = omega arith
 few_slots (ends ∷ channels) few =
     let rest : length (places_among channels) ≤ 16 * length channels = few_slots channels (λ k d below. few (suc k) d (omega arith)) in
-    let here : length ends.tunnels ≤ 8 = few 0 ends (omega arith) in
+    let here : length ends.tunnels ≤ 8 = (few 0 ends (omega arith)).few in
     omega (arith, within_slots ends ends.tunnels, length-append (places_within ends) (places_among channels))
 
 -- ---- the table of tunnels

@@ -143,6 +143,7 @@ step_tables inside world who event boxes lanes has view here goes =
     let kept = stays_sound world (world_of (record inside { boxes = boxes; lanes = lanes })) who event
     (subst (λ (w : WorldState). IsSound w) view has.sound) (subst (λ (w : WorldState). LanesServed w) view has.served) here goes in
     record {
+      channels = has.channels;
       places = has.places;
       joints = has.joints;
       found = has.found;

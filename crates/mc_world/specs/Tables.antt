@@ -4,7 +4,7 @@ use Rattle.std.specs.List.{slice_get}
 use Rattle.mc_world.specs.Lanes.{numbers_of}
 use Rattle.mc_world.specs.Served.{LanesServed}
 use Rattle.mc_world.specs.Sound.{IsSound}
-use Rattle.mc_world.specs.Worlds.{Joint, WorldState, is_place, joints_from, places_among}
+use Rattle.mc_world.specs.Worlds.{AreChannels, Joint, WorldState, is_place, joints_from, places_among}
 use Rattle.mc_world.specs.declared.network.World.TheInside.{Inside}
 
 abbrev pub world_of : Inside → WorldState
@@ -14,8 +14,9 @@ world_of inside = record { boxes = inside.boxes.items; channels = inside.channel
 abbrev pub channel_of : Joint → ℕ × ℕ
 channel_of joint = (joint.channel, joint.within)
 
--- places and channels are found by number, numbers of slots by their boxes, those numbers fit, each channel has its two lanes, and the world is sound with each signal on the lane of its slot
+-- the channels are within the limits, places and channels are found by number, numbers of slots by their boxes, those numbers fit, each channel has its two lanes, and the world is sound with each signal on the lane of its slot
 pub record HasTables (inside : Inside) : Type 0 where
+  pub channels : AreChannels inside.channels.items
   pub places : inside.ways.places.items ≡ places_among inside.channels.items
   pub joints : inside.ways.joints.items ≡ map channel_of (joints_from 0 inside.channels.items)
   pub found : (who local : ℕ) → slice_get (numbers_of inside.ways who) local ≡ position (is_place (who, local)) inside.ways.places.items

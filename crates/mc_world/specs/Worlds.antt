@@ -1,5 +1,5 @@
 -- A world as clauses see it: boxes, channels and lanes, and the numbers of its slots.
-use Rattle.std.specs.Prelude.{ℕ, ◌+◌, ◌-◌, ◌*◌, ◌/◌, ◌%◌, ◌==◌, ◌&&◌, Bool, if◌then◌else◌, List, [], ◌∷◌, ◌++◌, length, replicate, position, slice_index_or, Option, Some, None}
+use Rattle.std.specs.Prelude.{ℕ, ◌+◌, ◌-◌, ◌*◌, ◌/◌, ◌%◌, ◌^◌, ◌==◌, ◌&&◌, ◌<◌, ◌≤◌, Bool, if◌then◌else◌, List, [], ◌∷◌, ◌++◌, All, length, replicate, position, slice_index_or, Option, Some, None}
 use Rattle.std.specs.List.{flat_map}
 use Rattle.mc_signal.specs.declared.Descriptor.{Descriptor}
 use Rattle.mc_signal.specs.declared.Medium.{Medium}
@@ -17,6 +17,24 @@ pub record ChannelState : Type 0 where
   pub from : ℕ
   pub to : ℕ
   pub tunnels : List Tunnel
+
+-- the most channels of a world: so few that the numbers of their slots fit
+abbrev pub channel_limit : ℕ
+channel_limit = 2 ^ 28
+
+-- the most tunnels of a channel
+abbrev pub tunnel_limit : ℕ
+tunnel_limit = 8
+
+-- a channel has one to eight tunnels
+pub record HasTunnels (channel : ChannelState) : Type 0 where
+  pub some : 0 < length channel.tunnels
+  pub few : length channel.tunnels ≤ tunnel_limit
+
+-- channels within the limits: not too many, and each has one to eight tunnels
+pub record AreChannels (channels : List ChannelState) : Type 0 where
+  pub few : length channels ≤ channel_limit
+  pub tunnels : All HasTunnels channels
 
 -- boxes, channels, and for each channel and direction a lane of the signals under way. Lane 2k leads to the initiator's end of channel k, and lane 2k + 1 to the other
 pub record WorldState : Type 0 where

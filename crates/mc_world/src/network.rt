@@ -1,13 +1,13 @@
 // Channels, and the world that they join.
 
-ghost use Rattle.std.specs.Prelude.{◌≡◌, ◌+◌, ◌<◌, ◌≤◌, ◌*◌, ◌^◌, ◌++◌, if◌then◌else◌, [], map, length, replicate, slice_index_or, ◌==◌, All, IfOk, OnOk};
+ghost use Rattle.std.specs.Prelude.{◌≡◌, ◌+◌, ◌<◌, ◌≤◌, ◌*◌, ◌^◌, ◌++◌, if◌then◌else◌, [], map, length, replicate, slice_index_or, ◌==◌, IfOk, OnOk};
 ghost use Rattle.std.specs.List.{list_all};
 ghost use Rattle.mc_world.specs.Settles.{is_quiet, rests};
 ghost use Rattle.mc_world.specs.Served.{LanesServed};
 ghost use Rattle.mc_world.specs.Sound.{IsNumbered, IsSound};
 ghost use Rattle.mc_world.specs.StepLaws.{AreNew};
 ghost use Rattle.mc_world.specs.Tables.{channel_of};
-ghost use Rattle.mc_world.specs.Worlds.{first_world, slot_count, place, number, far, joint_of, lane_of, front, front_for, slot_of, goal_of, places_among, places_within, joints_from, joints_within};
+ghost use Rattle.mc_world.specs.Worlds.{AreChannels, tunnel_limit, first_world, slot_count, place, number, far, joint_of, lane_of, front, front_for, slot_of, goal_of, places_among, places_within, joints_from, joints_within};
 
 mod rings;
 mod step;
@@ -73,14 +73,14 @@ impl Model for World {
 
 impl World {
     /// A world as new: nothing is under way. The boxes are new, and the channels join each of their slots once,
-    /// with the numbers of the rules; there are few enough tunnels for their slots to have numbers.
+    /// with the numbers of the rules. There are at most 2^28 channels, each of one to eight tunnels, so that their slots
+    /// have numbers.
     pub fn new(
         alloc: Global,
         boxes: Vec<MediaBox>,
         channels: Vec<Channel>,
     ) -> Result<World, AllocError>
-        requires channels { length channels.items ≤ 2 ^ 28 }
-        requires tunnels { All (λ channel. length channel.tunnels ≤ 8) channels.items }
+        requires channels { AreChannels channels.items }
         requires fresh { AreNew boxes.items }
         requires numbered { IsNumbered (first_world boxes.items channels.items) }
         ensures { IfOk result (λ world. world ≡ first_world boxes.items channels.items) }
@@ -103,10 +103,12 @@ impl World {
         })
     }
 
-    /// What every world keeps, for a caller to rest on: it is sound, each signal under way is on the lane of its slot, and the numbers of slots fit.
+    /// What every world keeps, for a caller to rest on: it is sound, each signal under way is on the lane of its slot, its
+    /// channels are within the limits, and the numbers of slots fit.
     pub fn keeps(&self)
         ensures sound { IsSound self.now }
         ensures served { LanesServed self.now }
+        ensures channels { AreChannels self.now.channels }
         ensures few { slot_count self.now ≤ 2 ^ 32 }
     {
         let _ = self.ways.places.len();
@@ -275,8 +277,7 @@ fn add_places(channel: &Channel, places: &mut Vec<(u32, u8)>) -> Result<(), Allo
 
 // The channel of each tunnel of these channels, and its number within the channel.
 fn joints_among(alloc: Global, channels: &[Channel]) -> Result<Vec<(u32, u8)>, AllocError>
-    requires channels { length channels.now ≤ 2 ^ 28 }
-    requires tunnels { All (λ channel. length channel.tunnels ≤ 8) channels.now }
+    requires { AreChannels channels.now }
     ensures { IfOk result (λ joints. joints.items ≡ map channel_of (joints_from 0 channels.now)) }
 {
     let mut joints = Vec::new(alloc);
@@ -293,7 +294,7 @@ fn add_joints(
     tunnels: &[Tunnel],
     joints: &mut Vec<(u32, u8)>,
 ) -> Result<(), AllocError>
-    requires { length tunnels.now ≤ 8 }
+    requires { length tunnels.now ≤ tunnel_limit }
     ensures { OnOk result (joints.new.items ≡ joints.old.items ++ map channel_of (joints_within channel 0 tunnels.now)) }
 {
     for within in 0..tunnels.len() {

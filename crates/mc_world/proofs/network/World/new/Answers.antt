@@ -1,4 +1,4 @@
-use Rattle.std.proofs.Common.{◌≡◌, ◌*◌, ◌≤◌, ap, [], length, map, position, ℕ, List, Vec, Global, ◌∙◌, subst, sym, rules, arith}
+use Rattle.std.proofs.Common.{◌≡◌, ◌*◌, ◌≤◌, ◌^◌, ap, [], length, map, position, ℕ, List, Vec, Global, ◌∙◌, subst, sym, rules, arith}
 use Rattle.std.proofs.Math.ListN.{replicate}
 use Rattle.std.proofs.lemmas.List.{length-map, length-replicate}
 use Rattle.mc_lane.specs.Queue.{Queue}
@@ -20,7 +20,7 @@ world_with boxes channels lanes = record { boxes = boxes; channels = channels; l
 
 pub invariant_of-result : goal.invariant_of-result
 invariant_of-result c =
-    let few : length (places_among c.args.channels.items) ≤ 16 * length c.args.channels.items = few_slots c.args.channels.items c.requires.tunnels in
+    let few : length (places_among c.args.channels.items) ≤ 16 * length c.args.channels.items = few_slots c.args.channels.items c.requires.channels.tunnels in
     let places : c.in_ok-places.places.items ≡ places_among c.args.channels.items = search rules in
     let lanes : length c.in_ok-lanes.lanes.items ≡ 2 * c.len.result =
     sym (length-map c.in_ok-lanes.lanes.items (λ (lane : Queue Tagged). lane.items)) ∙ ap (λ (l : List (List Tagged)). length l) c.in_ok-lanes.ensures ∙ length-replicate (2 * c.len.result) _ in
@@ -28,7 +28,9 @@ invariant_of-result c =
     let homes : map (λ (numbers : Vec ℕ Global). numbers.items) c.in_ok-homes.homes.items ≡ map origins c.args.boxes.items = search rules in
     let first : first_world c.args.boxes.items c.args.channels.items ≡ world_with c.args.boxes.items c.args.channels.items (signals_of c.in_ok-lanes.lanes.items) =
     ap (world_with c.args.boxes.items c.args.channels.items) (sym none) in
+    let most : length c.args.channels.items ≤ 2 ^ 28 = c.requires.channels.few in
     record {
+      channels = c.requires.channels;
       places = places;
       joints = search rules;
       found = λ who local.
