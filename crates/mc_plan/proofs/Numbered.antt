@@ -18,9 +18,8 @@ use Rattle.mc_plan.specs.Plans.{PlanState, box_from, boxes_from, slots_of, world
 use Rattle.mc_plan.specs.declared.plan.BoxPlan.{BoxPlan}
 use Rattle.mc_plan.proofs.Picks.{SlotIs, length_setups, setup_of_slot}
 use Rattle.mc_plan.proofs.Places.{each_found, found_once, local_inside, same_box}
-use Rattle.mc_world.proofs.Firsts.{run_keeps_served}
 use Rattle.mc_world.proofs.NewWorlds.{first_is_sound}
-use Rattle.mc_world.proofs.StepGoes.{first_is_served}
+use Rattle.mc_world.proofs.StepKeeps.{run_keeps_sound}
 
 -- ---- the boxes
 
@@ -189,5 +188,4 @@ plans_are_numbered plan laid = (laid_out_is_new plan laid, laid_out_is_numbered 
 -- and what runs lead to stays sound
 pub plans_stay_sound : PlansStaySound
 plans_stay_sound plan turns next laid goes =
-    run_keeps_served (world_of plan) next turns (first_is_sound (world_of plan).boxes plan.channels (laid_out_is_new plan laid) (laid_out_is_numbered plan laid))
-    (first_is_served (world_of plan).boxes plan.channels) goes
+    run_keeps_sound (world_of plan) next turns (first_is_sound (world_of plan).boxes plan.channels (laid_out_is_new plan laid) (laid_out_is_numbered plan laid)) goes

@@ -1,6 +1,5 @@
 -- Laws of plans: the world that a plan lays out is one that a call can be set up in, and stays so whatever its boxes do.
 use Rattle.std.specs.Prelude.{◌≡◌, List, Some}
-use Rattle.mc_world.specs.Served.{LanesServed}
 use Rattle.mc_world.specs.Sound.{IsNumbered, IsSound}
 use Rattle.mc_world.specs.StepLaws.{AreNew}
 use Rattle.mc_world.specs.Steps.{run}
@@ -13,6 +12,6 @@ use Rattle.mc_plan.specs.Plans.{PlanState, world_of}
 abbrev pub PlansAreNumbered : Type 0
 PlansAreNumbered = (plan : PlanState) → IsLaidOut plan → AreNew (world_of plan).boxes × IsNumbered (world_of plan)
 
--- each world that a run reaches from there is sound, with each signal on the lane of its slot
+-- each world that a run reaches from there is sound
 abbrev pub PlansStaySound : Type 0
-PlansStaySound = (plan : PlanState) (turns : List Turn) (next : WorldState) → IsLaidOut plan → run (world_of plan) turns ≡ Some next → IsSound next × LanesServed next
+PlansStaySound = (plan : PlanState) (turns : List Turn) (next : WorldState) → IsLaidOut plan → run (world_of plan) turns ≡ Some next → IsSound next

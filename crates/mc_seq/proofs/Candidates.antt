@@ -9,7 +9,6 @@ use Rattle.std.proofs.lemmas.Option.{slice_get_within, get_or_from_slice_get}
 use Rattle.mc_signal.specs.declared.Signal.{Signal}
 use Rattle.mc_box.specs.declared.event.Event.TheVariants.{Take}
 use Rattle.mc_box.specs.declared.event.Turn.{Turn}
-use Rattle.mc_world.specs.Served.{LanesServed}
 use Rattle.mc_world.specs.Settles.{is_quiet}
 use Rattle.mc_world.specs.Sound.{IsSound}
 use Rattle.mc_world.specs.Steps.{step}
@@ -156,5 +155,5 @@ none_waits world sound none s inside =
     no_front (front world s) (ap (λ (o : Option ℕ). is_some (option_and_then (front world) o)) (sym (sound.numbered.once s inside)) ∙ waiting)
 
 -- where nothing is listed nothing is under way
-pub listed_quiet : (world : WorldState) → IsSound world → LanesServed world → listed world [] false ≡ [] → IsTrue (is_quiet world)
-listed_quiet world sound served none = none_quiet world served (none_waits world sound none)
+pub listed_quiet : (world : WorldState) → IsSound world → listed world [] false ≡ [] → IsTrue (is_quiet world)
+listed_quiet world sound none = none_quiet world sound (none_waits world sound none)

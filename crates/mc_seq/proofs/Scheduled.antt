@@ -10,14 +10,13 @@ use Rattle.mc_box.specs.declared.event.Event.{Event}
 use Rattle.mc_box.specs.declared.event.Turn.{Turn}
 use Rattle.mc_world.specs.Paths.{has_ring}
 use Rattle.mc_world.specs.Rings.{IsFirstOnRing}
-use Rattle.mc_world.specs.Served.{LanesServed}
 use Rattle.mc_world.specs.Settles.{IsSettled, IsStopped, commands_of, is_command, is_quiet, is_retry_of, owes_retry, takes_or_retries}
 use Rattle.mc_world.specs.Sound.{IsSound}
 use Rattle.mc_world.specs.Steps.{run}
 use Rattle.mc_world.specs.Worlds.{WorldState}
-use Rattle.mc_world.proofs.Firsts.{run_keeps_served}
 use Rattle.mc_world.proofs.GoalsKept.{rest_keeps_rings}
 use Rattle.mc_world.proofs.ShapesKept.{run_keeps_shape}
+use Rattle.mc_world.proofs.StepKeeps.{run_keeps_sound}
 use Rattle.mc_seq.specs.Draws.{AreFit, IsScheduled, ScheduleSettles, StopsAtRing, StopsAtVersion}
 use Rattle.mc_seq.specs.Drawing.{DrewAll, RanOut, Rested}
 use Rattle.mc_seq.specs.Schedule.{AreDrawn, Standing, begun, candidates, is_fit, is_urgent, left_by, listed, moved, round, without_next}
@@ -105,9 +104,9 @@ drawn_takes (turn ∷ turns) now last none draws =
     }
 
 -- nothing is under way where nothing is listed
-rested_quiet : (now : Standing) → IsSound now.world → LanesServed now.world → now.left ≡ [] → candidates now ≡ [] → IsTrue (is_quiet now.world)
-rested_quiet now sound served left none =
-    listed_quiet now.world sound served (subst (λ (l : List Turn). listed now.world l (is_urgent l now.since) ≡ []) left none)
+rested_quiet : (now : Standing) → IsSound now.world → now.left ≡ [] → candidates now ≡ [] → IsTrue (is_quiet now.world)
+rested_quiet now sound left none =
+    listed_quiet now.world sound (subst (λ (l : List Turn). listed now.world l (is_urgent l now.since) ≡ []) left none)
 
 -- ---- the segment
 
@@ -115,25 +114,23 @@ rested_quiet now sound served left none =
 record First (world : WorldState) (batch first : List Turn) (rested : Standing) : Type 0 where
   pub ran : run world first ≡ Some rested.world
   pub sound : IsSound rested.world
-  pub served : LanesServed rested.world
   pub left : rested.left ≡ []
   pub quiet : IsTrue (is_quiet rested.world)
   pub used : (who : ℕ) → commands_of who first ≡ commands_of who batch
 
 -- what the turns up to the first rest are
-first_is : (world : WorldState) (batch first : List Turn) (state : ℕ) (rested : Standing) → IsSound world → LanesServed world → AreFit world batch
+first_is : (world : WorldState) (batch first : List Turn) (state : ℕ) (rested : Standing) → IsSound world → AreFit world batch
     → AreDrawn (begun world batch state) first rested → candidates rested ≡ [] → First world batch first rested
-first_is world batch first state rested sound served fit draws none =
+first_is world batch first state rested sound fit draws none =
     let ran : run world first ≡ Some rested.world = drawn_run first (begun world batch state) rested draws in
-    let kept = run_keeps_served world rested.world first sound served ran in
-    let fits = fits_kept rested.left world rested.world sound kept.0 (run_keeps_shape world rested.world first sound ran) (drawn_pass (is_fit world) first (begun world batch state) rested fit draws) in
+    let kept = run_keeps_sound world rested.world first sound ran in
+    let fits = fits_kept rested.left world rested.world sound kept (run_keeps_shape world rested.world first sound ran) (drawn_pass (is_fit world) first (begun world batch state) rested fit draws) in
     let left = none_left rested.world rested.left (is_urgent rested.left rested.since) fits none in
     record {
       ran = ran;
-      sound = kept.0;
-      served = kept.1;
+      sound = kept;
       left = left;
-      quiet = rested_quiet rested kept.0 kept.1 left none;
+      quiet = rested_quiet rested kept left none;
       used = λ who.
           sym (append-nil (commands_of who first))
           ∙ (ap (λ (l : List Turn). commands_of who first ++ commands_of who l) (sym left)
@@ -156,19 +153,19 @@ settled_by world retried batch first others rested ended begins free retries dra
     let takes = drawn_takes others (record rested { world = retried }) ended begins.left draws in
     let goes : run rested.world (round rested.world ++ others) ≡ Some ended.world = run-append (round rested.world) others rested.world retried retries ∙ drawn_run others (record rested { world = retried }) ended draws in
     let besides = besides_both (round rested.world) others (round_besides rested.world (length rested.world.boxes)) takes.besides in
-    let kept = run_keeps_served rested.world ended.world (round rested.world ++ others) begins.sound begins.served goes in
+    let kept = run_keeps_sound rested.world ended.world (round rested.world ++ others) begins.sound goes in
     settled_at world rested.world ended.world batch first (round rested.world ++ others)
     (rest_keeps_rings rested.world ended.world (round rested.world ++ others) begins.sound besides goes ∙ free)
-    begins.ran goes begins.quiet (rested_quiet ended kept.0 kept.1 takes.left none) begins.used
+    begins.ran goes begins.quiet (rested_quiet ended kept takes.left none) begins.used
     (λ who local. counted rested.world others who local (takes.count who local)) besides
 
 -- so turns by the schedule settle their batch
 pub schedule_settles : ScheduleSettles
-schedule_settles world last batch turns state end sound served fit scheduled =
+schedule_settles world last batch turns state end sound fit scheduled =
     subst (λ (t : List Turn). IsSettled world batch t last) (sym scheduled.are)
     (subst (λ (w : WorldState). IsSettled world batch (scheduled.first ++ (round scheduled.rested.world ++ scheduled.others)) w) scheduled.to_last
     (settled_by world scheduled.retried batch scheduled.first scheduled.others scheduled.rested scheduled.ended
-    (first_is world batch scheduled.first state scheduled.rested sound served fit scheduled.draws scheduled.none) scheduled.no_ring scheduled.retries scheduled.more scheduled.nothing))
+    (first_is world batch scheduled.first state scheduled.rested sound fit scheduled.draws scheduled.none) scheduled.no_ring scheduled.retries scheduled.more scheduled.nothing))
 
 -- ---- a settle
 

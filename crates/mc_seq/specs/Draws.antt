@@ -8,7 +8,6 @@ use Rattle.mc_world.specs.Paths.{has_ring}
 use Rattle.mc_world.specs.Rings.{IsFirstOnRing}
 use Rattle.mc_world.specs.Settles.{IsSettled, IsStopped}
 use Rattle.mc_world.specs.Sound.{IsSound}
-use Rattle.mc_world.specs.Served.{LanesServed}
 use Rattle.mc_world.specs.StepAnswers.{ends_version}
 use Rattle.mc_world.specs.Steps.{run}
 use Rattle.mc_world.specs.Worlds.{WorldState}
@@ -65,7 +64,7 @@ AreFit world batch = IsTrue (list_all (is_fit world) batch)
 
 -- turns by the schedule are a settled segment
 abbrev pub ScheduleSettles : Type 0
-ScheduleSettles = (world last : WorldState) (batch turns : List Turn) (state end : ℕ) → IsSound world → LanesServed world → AreFit world batch → IsScheduled world batch state turns last end → IsSettled world batch turns last
+ScheduleSettles = (world last : WorldState) (batch turns : List Turn) (state end : ℕ) → IsSound world → AreFit world batch → IsScheduled world batch state turns last end → IsSettled world batch turns last
 
 -- and the schedule leaves no choice: there is one such list of turns, with one world and one state of the draws after it
 pub record IsSame (turns more : List Turn) (last other : WorldState) (end until : ℕ) : Type 0 where

@@ -1,12 +1,14 @@
 -- Worlds as new are sound.
-use Rattle.std.proofs.Common.{◌≡◌, ◌<◌, ◌*◌, ◌%◌, ◌+◌, ◌==◌, not, ℕ, Bool, List, [], length, ap, sym, ◌∙◌, subst, arith}
-use Rattle.std.proofs.Math.ListN.{get_or}
+use Rattle.std.proofs.Common.{◌≡◌, ◌<◌, ◌*◌, ◌%◌, ◌+◌, ◌==◌, not, ℕ, zero, suc, Bool, List, [], length, refl, ap, sym, ◌∙◌, subst, arith}
+use Rattle.std.proofs.Math.ListN.{get_or, replicate}
 use Rattle.std.proofs.lemmas.Grind.{common_steps}
 use Rattle.mc_signal.specs.declared.Signal.{Signal}
+use Rattle.mc_signal.specs.declared.Tagged.{Tagged}
 use Rattle.mc_slot.specs.Moves.{closed_slot}
 use Rattle.mc_slot.specs.Tunnel.{TunnelSound}
 use Rattle.mc_slot.specs.declared.Slot.{Slot}
 use Rattle.mc_box.specs.Boxes.{BoxState, IsNewBox, no_box}
+use Rattle.mc_world.specs.Served.{AllServed, LanesServed}
 use Rattle.mc_world.specs.Sound.{IsNumbered}
 use Rattle.mc_world.specs.StepLaws.{FirstIsSound}
 use Rattle.mc_world.specs.Worlds.{ChannelState, WorldState, Joint, box_at, far, first_world, for_tunnel, joint_of, lane_of, list_to, place, slot_count, slot_of}
@@ -14,7 +16,17 @@ use Rattle.mc_box.proofs.NewBoxes.{new_box_sound, new_slot_closed}
 use Rattle.mc_world.proofs.ActedWorlds.{far_inside}
 use Rattle.mc_world.proofs.LanesKept.{far_joint}
 use Rattle.mc_world.proofs.Numbers.{far_side}
-use Rattle.mc_world.proofs.StepGoes.{none_under_way}
+
+-- ---- nothing is under way
+
+none_under_way : (n lane : ℕ) → get_or (replicate n (let nothing : List Tagged = [] in nothing)) lane [] ≡ []
+none_under_way zero lane = refl
+none_under_way (suc n) zero = refl
+none_under_way (suc n) (suc lane) = none_under_way n lane
+
+first_is_served : (boxes : List BoxState) (channels : List ChannelState) → LanesServed (first_world boxes channels)
+first_is_served boxes channels lane =
+    subst (λ (l : List Tagged). AllServed (first_world boxes channels) lane l) (sym (none_under_way (2 * length channels) lane)) tt
 
 -- ---- a world as new
 
@@ -55,4 +67,5 @@ first_is_sound boxes channels new numbered =
           (subst (λ (l : List Signal). TunnelSound (slot_of world s) [] (slot_of world (far s)) l) (sym (list_none boxes channels (far s))) (first_tunnel boxes channels s new numbered inside));
       boxes = λ who below. new_box_sound (get_or boxes who no_box) (new who below);
       numbered = numbered;
+      served = first_is_served boxes channels;
     }

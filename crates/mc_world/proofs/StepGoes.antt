@@ -1,21 +1,19 @@
 -- In a sound world some slot can take its front as long as anything is under way.
-use Rattle.std.proofs.Common.{◌≡◌, ◌<◌, ◌*◌, nat_lt, ℕ, zero, suc, true, false, Option, Some, None, IsSome, List, [], ◌∷◌, length, refl, ap, sym, ◌∙◌, subst, arith}
+use Rattle.std.proofs.Common.{◌≡◌, ◌<◌, nat_lt, ℕ, zero, suc, true, false, Option, Some, None, IsSome, List, [], ◌∷◌, length, refl, ap, ◌∙◌, subst, arith}
 use Rattle.std.specs.List.{list_all}
-use Rattle.std.proofs.Math.ListN.{get_or, replicate}
+use Rattle.std.proofs.Math.ListN.{get_or}
 use Rattle.std.proofs.lemmas.Grind.{common_steps}
 use Rattle.mc_signal.specs.declared.Signal.{Signal}
 use Rattle.mc_signal.specs.declared.Tagged.{Tagged}
 use Rattle.mc_box.specs.BoxEvents.{BoxStep, box_event}
 use Rattle.mc_world.specs.Served.{AllServed, IsFor}
 use Rattle.mc_world.specs.Settles.{is_empty}
-use Rattle.mc_world.specs.StepLaws.{FirstIsServed, FrontStepGoes, StepKeepsServed, UnderWayGoes, take_of}
+use Rattle.mc_world.specs.StepLaws.{FrontStepGoes, UnderWayGoes, take_of}
 use Rattle.mc_world.specs.Steps.{step}
-use Rattle.mc_world.specs.Worlds.{WorldState, box_at, first_world, front, front_for, joint_of, number, place}
+use Rattle.mc_world.specs.Worlds.{WorldState, box_at, front, front_for, joint_of, number, place}
 use Rattle.mc_box.specs.declared.event.Event.TheVariants.{Take}
 use Rattle.mc_box.proofs.EventGoes.{take_goes as box_take_goes}
-use Rattle.mc_world.proofs.StepActs.{step_acts}
 use Rattle.mc_world.proofs.StepKeeps.{front_is_taken}
-use Rattle.mc_world.proofs.SteppedKeeps.{served_stays}
 
 -- ---- a front is taken
 
@@ -39,20 +37,6 @@ front_step_goes world s signal sound inside fronts =
     let turn = some_of (box_event (box_at world (place world s).0) (Take (place world s).1) (Some signal))
     (box_take_goes (box_at world (place world s).0) (place world s).1 signal (sound.boxes (place world s).0 placed) (sound.numbered.slots s inside) (front_is_taken world s signal sound inside fronts)) in
     take_goes world s signal turn.0 (below_test (place world s).0 (length world.boxes) placed) (sound.numbered.once s inside) fronts turn.1
-
--- ---- each signal stays on the lane of its slot
-
-pub step_keeps_served : StepKeepsServed
-step_keeps_served world next turn sound served goes = served_stays world next turn.who (step_acts world next turn sound goes) served
-
-pub none_under_way : (n lane : ℕ) → get_or (replicate n (let nothing : List Tagged = [] in nothing)) lane [] ≡ []
-none_under_way zero lane = refl
-none_under_way (suc n) zero = refl
-none_under_way (suc n) (suc lane) = none_under_way n lane
-
-pub first_is_served : FirstIsServed
-first_is_served boxes channels lane =
-    subst (λ (l : List Tagged). AllServed (first_world boxes channels) lane l) (sym (none_under_way (2 * length channels) lane)) tt
 
 -- ---- something goes
 
@@ -84,7 +68,7 @@ served_front world lane s tagged rest is served =
     ∙ (ap (front_for (joint_of world s).within) is ∙ front_there (joint_of world s).within tagged rest served.within)
 
 pub under_way_goes : UnderWayGoes
-under_way_goes world sound served some =
+under_way_goes world sound some =
     let found = waits_some world.lanes some in
-    let all : AllServed world found.lane (found.tagged ∷ found.rest) = subst (λ (l : List Tagged). AllServed world found.lane l) found.is (served found.lane) in
+    let all : AllServed world found.lane (found.tagged ∷ found.rest) = subst (λ (l : List Tagged). AllServed world found.lane l) found.is (sound.served found.lane) in
     (all.0.0, all.0.1.inside, front_step_goes world all.0.0 found.tagged.signal sound all.0.1.inside (served_front world found.lane all.0.0 found.tagged found.rest found.is all.0.1))

@@ -17,7 +17,7 @@ use Rattle.mc_box.specs.declared.event.Turn.{Turn}
 use Rattle.mc_world.proofs.LanesKept.{front_next}
 use Rattle.mc_world.proofs.StepActs.{Turned, step_turns}
 use Rattle.mc_world.proofs.StepForms.{then_some}
-use Rattle.mc_world.proofs.SteppedKeeps.{after_is, numbers_stay, tunnels_stay}
+use Rattle.mc_world.proofs.SteppedKeeps.{after_is, numbers_stay, served_stays, tunnels_stay}
 pub use Rattle.mc_world.proofs.Numbers.{box_inside, slot_inside}
 
 -- a Take by the place in place of the box's and the local number
@@ -42,6 +42,7 @@ turned_sound world next who event sound turned = record {
       (λ box below. box_sound world next.boxes next.lanes who box event sound (subst (λ (w : WorldState). Turned world w who event) (after_is world next who turned.stepped) turned)
       (subst (λ (n : ℕ). box < n) turned.stepped.count below));
   numbered = numbers_stay world next who turned.stepped sound.tunnels sound.numbered;
+  served = served_stays world next who turned.stepped sound.served;
 }
 
 pub step_keeps_sound : StepKeepsSound

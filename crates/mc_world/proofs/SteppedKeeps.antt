@@ -122,11 +122,11 @@ served_stays old new who step served =
 
 -- all together
 pub stepped_stays : SteppedStays
-stepped_stays old new who step sound numbered = record {
+stepped_stays old new who step sound numbered served = record {
   tunnels = tunnels_stay old new who step sound;
   numbered = numbers_stay old new who step sound numbered;
   media = λ s inside. (slot_stays old new who s step sound inside).0;
   sides = λ s inside. (slot_stays old new who s step sound inside).1;
-  served = served_stays old new who step;
+  served = served_stays old new who step served;
   shape = shape_stays old new who step;
 }

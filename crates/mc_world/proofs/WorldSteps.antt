@@ -12,7 +12,6 @@ use Rattle.mc_box.specs.BoxEvents.{BoxStep, box_event, is_enabled, is_take, is_v
 use Rattle.mc_box.specs.Boxes.{BoxState, slot_at}
 use Rattle.mc_world.specs.Lanes.{all_sent, signals_of, without_front}
 use Rattle.mc_world.specs.Sound.{IsNumbered, IsSound}
-use Rattle.mc_world.specs.Served.{LanesServed}
 use Rattle.mc_world.specs.Steps.{made, popped, step, step_by, with_box}
 use Rattle.mc_world.specs.Worlds.{WorldState, box_at, front, joints, lane_of, number, place, places, slot_of}
 use Rattle.mc_box.specs.declared.event.Event.{Event}
@@ -22,7 +21,7 @@ use Rattle.mc_world.specs.declared.ways.Ways.{Ways}
 use Rattle.mc_world.specs.Tables.{HasTables, channel_of, world_of}
 use Rattle.mc_box.proofs.EventGoes.{event_goes, version_end_stops}
 use Rattle.mc_world.proofs.Numbers.{number_is}
-use Rattle.mc_world.proofs.StepGoes.{below_test, front_step_goes, step_keeps_served}
+use Rattle.mc_world.proofs.StepGoes.{below_test, front_step_goes}
 use Rattle.mc_world.proofs.StepKeeps.{step_keeps_sound}
 use Rattle.mc_world.proofs.WayLanes.{sent_out_by}
 
@@ -105,11 +104,11 @@ act_is world ways who event step other goes at through =
 
 -- ---- a sound world after a step of one of its boxes
 
-pub stays_sound : (world next : WorldState) (who : ℕ) (event : Event) → IsSound world → LanesServed world → who < length world.boxes → step_by world who event ≡ Some next → IsSound next × LanesServed next
-stays_sound world next who event sound served here goes =
+pub stays_sound : (world next : WorldState) (who : ℕ) (event : Event) → IsSound world → who < length world.boxes → step_by world who event ≡ Some next → IsSound next
+stays_sound world next who event sound here goes =
     let there : nat_lt who (length world.boxes) ≡ true = below_test who (length world.boxes) here in
     let stepped : step world (record { who = who; event = event }) ≡ Some next = rw there goes in
-    (step_keeps_sound world next (record { who = who; event = event }) sound stepped, step_keeps_served world next (record { who = who; event = event }) sound served stepped)
+    step_keeps_sound world next (record { who = who; event = event }) sound stepped
 
 -- ---- the world that code leaves
 
@@ -140,15 +139,14 @@ act_made inside world who event step lanes has view other goes lanes_is =
 pub step_tables : (inside : Inside) (world : WorldState) (who : ℕ) (event : Event) (boxes : Vec BoxState Global) (lanes : Vec (Queue Tagged) Global) → HasTables inside → world_of inside ≡ world
     → who < length world.boxes → step_by world who event ≡ Some (world_of (record inside { boxes = boxes; lanes = lanes })) → HasTables (record inside { boxes = boxes; lanes = lanes })
 step_tables inside world who event boxes lanes has view here goes =
-    let kept = stays_sound world (world_of (record inside { boxes = boxes; lanes = lanes })) who event
-    (subst (λ (w : WorldState). IsSound w) view has.sound) (subst (λ (w : WorldState). LanesServed w) view has.served) here goes in
+    let kept : IsSound (world_of (record inside { boxes = boxes; lanes = lanes })) =
+    stays_sound world (world_of (record inside { boxes = boxes; lanes = lanes })) who event (subst (λ (w : WorldState). IsSound w) view has.sound) here goes in
     record {
       channels = has.channels;
       places = has.places;
       joints = has.joints;
       found = has.found;
       few = has.few;
-      lanes = sym (length-map lanes.items (λ (lane : Queue Tagged). lane.items)) ∙ kept.0.numbered.lanes;
-      sound = kept.0;
-      served = kept.1;
+      lanes = sym (length-map lanes.items (λ (lane : Queue Tagged). lane.items)) ∙ kept.numbered.lanes;
+      sound = kept;
     }

@@ -3,6 +3,7 @@ use Rattle.std.specs.Prelude.{◌≡◌, ℕ, ◌*◌, ◌%◌, ◌<◌, ◌==�
 use Rattle.mc_slot.specs.Tunnel.{TunnelSound}
 use Rattle.mc_box.specs.BoxSound.{IsSoundBox}
 use Rattle.mc_box.specs.Boxes.{IsBox, media_at}
+use Rattle.mc_world.specs.Served.{LanesServed}
 use Rattle.mc_world.specs.Worlds.{WorldState, joint_of, slot_count, place, number, far, box_at, slot_of, list_to}
 
 -- boxes are numbered in order, tunnels join each slot of each box once, and each slot has its number, the medium of its tunnel, and the side that it stands on
@@ -18,8 +19,9 @@ pub record IsNumbered (world : WorldState) : Type 0 where
   pub media : (s : ℕ) → s < slot_count world → (slot_of world s).medium ≡ (joint_of world s).medium
   pub sides : (s : ℕ) → s < slot_count world → (slot_of world s).initiator ≡ (s % 2 == 0)
 
--- each tunnel is sound with what is under way in it, each box is sound, so that its links are mutual and each of its goals is at rest, and all is numbered as it should be
+-- each tunnel is sound with what is under way in it, each box is sound, so that its links are mutual and each of its goals is at rest, all is numbered as it should be, and each signal under way is on the lane of the slot that it is for
 pub record IsSound (world : WorldState) : Type 0 where
   pub tunnels : (s : ℕ) → s < slot_count world → TunnelSound (slot_of world s) (list_to world s) (slot_of world (far s)) (list_to world (far s))
   pub boxes : (who : ℕ) → who < length world.boxes → IsSoundBox (box_at world who)
   pub numbered : IsNumbered world
+  pub served : LanesServed world

@@ -4,7 +4,6 @@ use Rattle.mc_signal.specs.declared.codec_list.CodecList.{CodecList}
 use Rattle.mc_signal.specs.declared.Signal.{Signal}
 use Rattle.mc_slot.specs.Moves.{taken}
 use Rattle.mc_box.specs.Boxes.{BoxState, IsNewBox, no_box}
-use Rattle.mc_world.specs.Served.{LanesServed}
 use Rattle.mc_world.specs.Settles.{is_quiet}
 use Rattle.mc_world.specs.Setups.{world_of_devices}
 use Rattle.mc_world.specs.Sound.{IsNumbered, IsSound}
@@ -39,21 +38,9 @@ take_of world s = record { who = (place world s).0; event = Take (place world s)
 abbrev pub FrontStepGoes : Type 0
 FrontStepGoes = (world : WorldState) (s : ℕ) (signal : Signal) → IsSound world → s < slot_count world → front world s ≡ Some signal → IsSome (step world (take_of world s))
 
--- steps keep each signal on the lane of its slot
-abbrev pub StepKeepsServed : Type 0
-StepKeepsServed = (world next : WorldState) (turn : Turn) → IsSound world → LanesServed world → step world turn ≡ Some next → LanesServed next
-
--- in a world as new nothing is under way
-abbrev pub FirstIsServed : Type 0
-FirstIsServed = (boxes : List BoxState) (channels : List ChannelState) → LanesServed (first_world boxes channels)
-
 -- as long as something is under way, some slot can take its front
 abbrev pub UnderWayGoes : Type 0
-UnderWayGoes = (world : WorldState) → IsSound world → LanesServed world → is_quiet world ≡ false → (s : ℕ) × (s < slot_count world) × IsSome (step world (take_of world s))
-
--- runs keep a world sound, with each signal on the lane of its slot
-abbrev pub RunKeepsServed : Type 0
-RunKeepsServed = (world next : WorldState) (turns : List Turn) → IsSound world → LanesServed world → run world turns ≡ Some next → IsSound next × LanesServed next
+UnderWayGoes = (world : WorldState) → IsSound world → is_quiet world ≡ false → (s : ℕ) × (s < slot_count world) × IsSome (step world (take_of world s))
 
 -- each of these boxes is new
 abbrev pub AreNew : List BoxState → Type 0
@@ -64,7 +51,7 @@ abbrev pub FirstIsSound : Type 0
 FirstIsSound = (boxes : List BoxState) (channels : List ChannelState) → AreNew boxes
     → IsNumbered (first_world boxes channels) → IsSound (first_world boxes channels)
 
--- each run of two phones leads to a sound world that isn't stuck
+-- each run of two phones leads to a sound world
 abbrev pub TwoPhonesStaySound : Type 0
 TwoPhonesStaySound = (channels : List ChannelState) (lists : List CodecList) (turns : List Turn) (next : WorldState) → JoinsTwo channels → length lists ≡ 2
-    → run (world_of_devices channels lists) turns ≡ Some next → IsSound next × LanesServed next
+    → run (world_of_devices channels lists) turns ≡ Some next → IsSound next

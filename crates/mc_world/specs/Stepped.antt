@@ -35,15 +35,15 @@ pub record Stepped (old new : WorldState) (who : ℕ) : Type 0 where
 abbrev pub TunnelsSound : WorldState → Type 0
 TunnelsSound world = (s : ℕ) → s < slot_count world → TunnelSound (slot_of world s) (list_to world s) (slot_of world (far s)) (list_to world (far s))
 
--- what a world keeps whose slots have acted
+-- what holds of a world whose slots have acted
 pub record Stays (old new : WorldState) : Type 0 where
   pub tunnels : TunnelsSound new
   pub numbered : IsNumbered new
   pub media : (s : ℕ) → s < slot_count old → (slot_of new s).medium ≡ (slot_of old s).medium
   pub sides : (s : ℕ) → s < slot_count old → (slot_of new s).initiator ≡ (slot_of old s).initiator
-  pub served : LanesServed old → LanesServed new
+  pub served : LanesServed new
   pub shape : HasShape new old
 
 -- whichever box has acted, and by whichever of its slots
 abbrev pub SteppedStays : Type 0
-SteppedStays = (old new : WorldState) (who : ℕ) → Stepped old new who → TunnelsSound old → IsNumbered old → Stays old new
+SteppedStays = (old new : WorldState) (who : ℕ) → Stepped old new who → TunnelsSound old → IsNumbered old → LanesServed old → Stays old new

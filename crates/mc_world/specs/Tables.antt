@@ -2,7 +2,6 @@
 use Rattle.std.specs.Prelude.{◌≡◌, ℕ, ◌*◌, ◌^◌, ◌≤◌, length, map, position}
 use Rattle.std.specs.List.{slice_get}
 use Rattle.mc_world.specs.Lanes.{numbers_of}
-use Rattle.mc_world.specs.Served.{LanesServed}
 use Rattle.mc_world.specs.Sound.{IsSound}
 use Rattle.mc_world.specs.Worlds.{AreChannels, Joint, WorldState, is_place, joints_from, places_among}
 use Rattle.mc_world.specs.declared.network.World.TheInside.{Inside}
@@ -14,7 +13,7 @@ world_of inside = record { boxes = inside.boxes.items; channels = inside.channel
 abbrev pub channel_of : Joint → ℕ × ℕ
 channel_of joint = (joint.channel, joint.within)
 
--- the channels are within the limits, places and channels are found by number, numbers of slots by their boxes, those numbers fit, each channel has its two lanes, and the world is sound with each signal on the lane of its slot
+-- the channels are within the limits, places and channels are found by number, numbers of slots by their boxes, those numbers fit, each channel has its two lanes, and the world is sound
 pub record HasTables (inside : Inside) : Type 0 where
   pub channels : AreChannels inside.channels.items
   pub places : inside.ways.places.items ≡ places_among inside.channels.items
@@ -23,4 +22,3 @@ pub record HasTables (inside : Inside) : Type 0 where
   pub few : length inside.ways.places.items ≤ 2 ^ 32
   pub lanes : length inside.lanes.items ≡ 2 * length inside.channels.items
   pub sound : IsSound (world_of inside)
-  pub served : LanesServed (world_of inside)

@@ -5,7 +5,7 @@ ghost use Rattle.mc_world.specs.LinkFree.{RunKeepsLinkFree};
 ghost use Rattle.mc_world.specs.Measures.{TakeLowers, TakesEnd, MeasureBound, TakesBound};
 ghost use Rattle.mc_world.specs.Rings.{RingsMeetNoEnd, RestKeepsRings};
 ghost use Rattle.mc_world.specs.Shapes.{StepKeepsShape, RunKeepsShape, CommandGoes, RetryGoes};
-ghost use Rattle.mc_world.specs.StepLaws.{StepActs, StepKeepsSound, RunKeepsSound, FrontIsTaken, FrontStepGoes, StepKeepsServed, FirstIsServed, UnderWayGoes, RunKeepsServed, FirstIsSound, TwoPhonesStaySound};
+ghost use Rattle.mc_world.specs.StepLaws.{StepActs, StepKeepsSound, RunKeepsSound, FrontIsTaken, FrontStepGoes, UnderWayGoes, FirstIsSound, TwoPhonesStaySound};
 ghost use Rattle.mc_world.specs.Stepped.{SteppedStays};
 ghost use Rattle.mc_world.specs.TwoPhones.{TwoPhonesAreIdle};
 
@@ -52,24 +52,9 @@ pub fn front_step_goes()
     ensures { FrontStepGoes }
 {}
 
-/// A turn keeps each signal under way on the lane of the slot that it is for.
-pub fn step_keeps_served()
-    ensures { StepKeepsServed }
-{}
-
-/// A world as new has nothing under way.
-pub fn first_is_served()
-    ensures { FirstIsServed }
-{}
-
 /// A sound world is never stuck: as long as a signal is under way, some slot can take one.
 pub fn under_way_goes()
     ensures { UnderWayGoes }
-{}
-
-/// A run keeps a world sound, with each signal on the lane of its slot.
-pub fn run_keeps_served()
-    ensures { RunKeepsServed }
 {}
 
 /// A world of new boxes is sound where tunnels join their slots, whatever the number of boxes and channels.
@@ -77,7 +62,7 @@ pub fn first_is_sound()
     ensures { FirstIsSound }
 {}
 
-/// Each run of two phones leads to a sound world, in which each signal is on the lane of its slot: it isn't stuck.
+/// Each run of two phones leads to a sound world: it isn't stuck.
 pub fn two_phones_stay_sound()
     ensures { TwoPhonesStaySound }
 {}

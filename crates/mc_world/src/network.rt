@@ -3,7 +3,6 @@
 ghost use Rattle.std.specs.Prelude.{◌≡◌, ◌+◌, ◌<◌, ◌≤◌, ◌*◌, ◌^◌, ◌++◌, if◌then◌else◌, [], map, length, replicate, slice_index_or, ◌==◌, IfOk, OnOk};
 ghost use Rattle.std.specs.List.{list_all};
 ghost use Rattle.mc_world.specs.Settles.{is_quiet, rests};
-ghost use Rattle.mc_world.specs.Served.{LanesServed};
 ghost use Rattle.mc_world.specs.Sound.{IsNumbered, IsSound};
 ghost use Rattle.mc_world.specs.StepLaws.{AreNew};
 ghost use Rattle.mc_world.specs.Tables.{channel_of};
@@ -103,11 +102,10 @@ impl World {
         })
     }
 
-    /// What every world keeps, for a caller to rest on: it is sound, each signal under way is on the lane of its slot, its
-    /// channels are within the limits, and the numbers of slots fit.
+    /// What every world keeps, for a caller to rest on: it is sound, its channels are within the limits, and the
+    /// numbers of slots fit.
     pub fn keeps(&self)
         ensures sound { IsSound self.now }
-        ensures served { LanesServed self.now }
         ensures channels { AreChannels self.now.channels }
         ensures few { slot_count self.now ≤ 2 ^ 32 }
     {

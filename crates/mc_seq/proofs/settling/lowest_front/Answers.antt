@@ -11,4 +11,4 @@ returns-then-is_some-clause-some c = record {
 }
 
 pub returns-clause-none : goal.returns-clause-none
-returns-clause-none c = λ is. none_quiet c.args.world.now c.keeps.ensures.served (λ t within. c.loop-number.invariant t (omega arith))
+returns-clause-none c = λ is. none_quiet c.args.world.now c.keeps.ensures.sound (λ t within. c.loop-number.invariant t (omega arith))

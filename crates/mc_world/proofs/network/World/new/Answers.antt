@@ -5,12 +5,10 @@ use Rattle.mc_lane.specs.Queue.{Queue}
 use Rattle.mc_signal.specs.declared.Tagged.{Tagged}
 use Rattle.mc_box.specs.Boxes.{BoxState}
 use Rattle.mc_world.specs.Lanes.{origins, signals_of}
-use Rattle.mc_world.specs.Served.{LanesServed}
 use Rattle.mc_world.specs.Sound.{IsSound}
 use Rattle.mc_world.specs.Worlds.{ChannelState, WorldState, first_world, is_place, places_among}
 use Rattle.mc_world.proofs.Homes.{found_by}
 use Rattle.mc_world.proofs.NewWorlds.{first_is_sound}
-use Rattle.mc_world.proofs.StepGoes.{first_is_served}
 use Rattle.mc_world.proofs.JointTables.{few_slots}
 use Rattle.mc_world.proofs.network.World.new.Goals as goal
 
@@ -40,5 +38,4 @@ invariant_of-result c =
       few = rw places (omega arith);
       lanes = omega arith;
       sound = subst (λ (world : WorldState). IsSound world) first (first_is_sound c.args.boxes.items c.args.channels.items c.requires.fresh c.requires.numbered);
-      served = subst (λ (world : WorldState). LanesServed world) first (first_is_served c.args.boxes.items c.args.channels.items);
     }
