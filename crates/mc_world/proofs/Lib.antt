@@ -35,6 +35,7 @@ pub mod StepActs
 pub mod StepForms
 pub mod StepGoes
 pub mod StepKeeps
+pub mod StepSendings
 pub mod SteppedKeeps
 pub mod Sums
 pub mod TakeParts

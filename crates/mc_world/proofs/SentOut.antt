@@ -1,12 +1,13 @@
 -- What a box sends, by whichever of its slots and in whatever order: what is under way to each slot then, and on each lane.
-use Rattle.std.proofs.Common.{◌≡◌, ◌≢◌, ◌<◌, ◌*◌, ◌++◌, inl, inr, ℕ, Option, Some, None, List, [], ◌∷◌, length, append_assoc, refl, ap, sym, ◌∙◌, subst}
+use Rattle.std.proofs.Common.{◌≡◌, ◌≢◌, ◌<◌, ◌*◌, ◌==◌, ◌++◌, if◌then◌else◌, inl, inr, ℕ, Bool, true, false, Option, Some, None, List, [], ◌∷◌, length, append_assoc, refl, ap, sym, ◌∙◌, subst}
 use Rattle.std.specs.Option.{option_map, unwrap_or}
 use Rattle.std.proofs.Math.ListN.{get_or, set, length-set}
-use Rattle.std.proofs.lemmas.Bool.{cases_eq}
+use Rattle.std.proofs.lemmas.Bool.{cases_eq, eq-eqb, eqb-true, ne_eqb}
 use Rattle.std.proofs.lemmas.List.{append-nil, get_or-set_same, get_or-set_other}
 use Rattle.mc_signal.specs.declared.Signal.{Signal}
 use Rattle.mc_signal.specs.declared.Tagged.{Tagged}
 use Rattle.mc_box.specs.Boxes.{BoxState}
+use Rattle.mc_world.specs.Sendings.{sent_on, signal_on}
 use Rattle.mc_world.specs.Served.{AllServed}
 use Rattle.mc_world.specs.Steps.{pushed, sent_out}
 use Rattle.mc_world.specs.Worlds.{WorldState, far, for_tunnel, joint_of, lane_of, number, place, slot_count}
@@ -55,19 +56,56 @@ pub served_append : (world : WorldState) (lane : ℕ) (first second : List Tagge
 served_append world lane [] second one two = two
 served_append world lane (tagged ∷ first) second one two = (one.0, served_append world lane first second one.1 two)
 
--- to each slot has come what the slot at the other end of its tunnel has sent, in order, and to each lane what is for its slots
+-- a signal goes to the lane that leads to the far slot
+signal_by : (here : Bool) (tagged : Tagged) → here ≡ true → (if here then tagged ∷ [] else []) ++ [] ≡ tagged ∷ []
+signal_by true tagged is = refl
+signal_by false tagged is = absurd (cc)
+
+on_its_lane : (world : WorldState) (who lane s : ℕ) (sending : ℕ × Signal) → number world who sending.0 ≡ Some s → lane_of world (far s) ≡ lane
+    → sent_on world who lane (sending ∷ []) ≡ tagged_for (joint_of world (far s)).within sending.1 ∷ []
+on_its_lane world who lane s sending is leads =
+    ap (λ (found : Option ℕ). signal_on world lane sending.1 found ++ []) is
+    ∙ signal_by (lane_of world (far s) == lane) (tagged_for (joint_of world (far s)).within sending.1) (eq-eqb (lane_of world (far s)) lane leads)
+
+-- and to no other
+nothing_by : (here : Bool) (tagged : Tagged) → here ≡ false → (if here then tagged ∷ [] else []) ++ [] ≡ []
+nothing_by false tagged is = refl
+nothing_by true tagged is = absurd (cc)
+
+on_no_other : (world : WorldState) (who lane s : ℕ) (sending : ℕ × Signal) → number world who sending.0 ≡ Some s → lane_of world (far s) ≢ lane → sent_on world who lane (sending ∷ []) ≡ []
+on_no_other world who lane s sending is other =
+    ap (λ (found : Option ℕ). signal_on world lane sending.1 found ++ []) is
+    ∙ nothing_by (lane_of world (far s) == lane) (tagged_for (joint_of world (far s)).within sending.1) (ne_eqb (lane_of world (far s)) lane other)
+
+-- what goes to a lane is for its slots
+signal_served : (here : Bool) (world : WorldState) (lane s : ℕ) (signal : Signal) → here ≡ (lane_of world (far s) == lane) → far s < slot_count world
+    → AllServed world lane (if here then tagged_for (joint_of world (far s)).within signal ∷ [] else [])
+signal_served true world lane s signal is inside = ((far s, record { inside = inside; leads = eqb-true (lane_of world (far s)) lane (sym is); within = refl }), tt)
+signal_served false world lane s signal is inside = tt
+
+one_served : (found : Option ℕ) (world : WorldState) (who local lane : ℕ) (signal : Signal) → number world who local ≡ found → AllServed world lane (signal_on world lane signal found)
+one_served None world who local lane signal is = tt
+one_served (Some s) world who local lane signal is = signal_served (lane_of world (far s) == lane) world lane s signal refl (far_inside world s (number_is world who local s is).0)
+
+pub sent_served : (sendings : List (ℕ × Signal)) (world : WorldState) (who lane : ℕ) → AllServed world lane (sent_on world who lane sendings)
+sent_served [] world who lane = tt
+sent_served (sending ∷ rest) world who lane =
+    served_append world lane (signal_on world lane sending.1 (number world who sending.0)) (sent_on world who lane rest)
+    (one_served (number world who sending.0) world who sending.0 lane sending.1 refl) (sent_served rest world who lane)
+
+-- to each slot has come what the slot at the other end of its tunnel has sent, in order, and to each lane what goes there
 pub record Sent (world : WorldState) (lanes : List (List Tagged)) (who : ℕ) (sendings : List (ℕ × Signal)) (after : List (List Tagged)) : Type 0 where
   pub count : length after ≡ length lanes
   pub lists : (t : ℕ) → t < slot_count world → list_in world after t ≡ list_in world lanes t ++ part_of who (place world (far t)) sendings
-  pub grown : (lane : ℕ) → (more : List Tagged) × AllServed world lane more × (get_or after lane [] ≡ get_or lanes lane [] ++ more)
+  pub grown : (lane : ℕ) → get_or after lane [] ≡ get_or lanes lane [] ++ sent_on world who lane sendings
 
 -- nothing came
 none_came : (world : WorldState) (lanes : List (List Tagged)) (who : ℕ) (sendings : List (ℕ × Signal)) → ((t : ℕ) → t < slot_count world → part_of who (place world (far t)) sendings ≡ [])
-    → Sent world lanes who sendings lanes
-none_came world lanes who sendings none = record {
+    → ((lane : ℕ) → sent_on world who lane sendings ≡ []) → Sent world lanes who sendings lanes
+none_came world lanes who sendings none nothing = record {
   count = refl;
   lists = λ t within. sym (ap (λ (part : List Signal). list_in world lanes t ++ part) (none t within) ∙ append-nil (list_in world lanes t));
-  grown = λ lane. ([], tt, sym (append-nil (get_or lanes lane [])));
+  grown = λ lane. sym (ap (λ (more : List Tagged). get_or lanes lane [] ++ more) (nothing lane) ∙ append-nil (get_or lanes lane []));
 }
 
 nothing_is : (s : ℕ) → None ≡ Some s → ⊥
@@ -85,6 +123,7 @@ unknown_sends world lanes who sending once none =
     none_came world lanes who (sending ∷ [])
     (λ t within. part_else who (place world (far t)) sending
     (λ is local. nothing_is (far t) (sym none ∙ place_found world who sending.0 (far t) once (far_inside world t within) is local)))
+    (λ lane. ap (λ (found : Option ℕ). signal_on world lane sending.1 found ++ []) none)
 
 -- one sending of slot s
 slot_sends : (world : WorldState) (lanes : List (List Tagged)) (who s : ℕ) (sending : ℕ × Signal) → AreOnce world → length lanes ≡ 2 * length world.channels → number world who sending.0 ≡ Some s
@@ -111,17 +150,13 @@ slot_sends world lanes who s sending once count is =
             ∙ sym (ap (λ (l : List Signal). list_in world lanes t ++ l) part ∙ append-nil (list_in world lanes t))
       ];
       grown = λ lane. elim (cases_eq lane (lane_of world (far s))) [
-        | inl same ↦ (
-          tagged ∷ [],
-          ((far s, record { inside = away; leads = sym same; within = refl }), tt),
-          subst (λ (k : ℕ). get_or (with_signal world lanes (far s) sending.1) k [] ≡ get_or lanes k [] ++ tagged ∷ []) (sym same)
-              (get_or-set_same lanes (lane_of world (far s)) (get_or lanes (lane_of world (far s)) [] ++ tagged ∷ []) [] inside),
-        )
-        | inr other ↦ (
-          [],
-          tt,
-          get_or-set_other lanes (lane_of world (far s)) lane (get_or lanes (lane_of world (far s)) [] ++ tagged ∷ []) [] other ∙ sym (append-nil (get_or lanes lane [])),
-        )
+        | inl same ↦
+            subst (λ (k : ℕ). get_or (with_signal world lanes (far s) sending.1) k [] ≡ get_or lanes k [] ++ tagged ∷ []) (sym same)
+            (get_or-set_same lanes (lane_of world (far s)) (get_or lanes (lane_of world (far s)) [] ++ tagged ∷ []) [] inside)
+            ∙ ap (λ (more : List Tagged). get_or lanes lane [] ++ more) (sym (on_its_lane world who lane s sending is (sym same)))
+        | inr other ↦
+            get_or-set_other lanes (lane_of world (far s)) lane (get_or lanes (lane_of world (far s)) [] ++ tagged ∷ []) [] other
+            ∙ sym (ap (λ (more : List Tagged). get_or lanes lane [] ++ more) (on_no_other world who lane s sending is (λ same. other (sym same))) ∙ append-nil (get_or lanes lane []))
       ];
     }
 
@@ -136,12 +171,11 @@ both_sent world lanes middle after who sending rest one two = record {
       ∙ (append_assoc (list_in world lanes t) (part_of who (place world (far t)) (sending ∷ [])) (part_of who (place world (far t)) rest)
       ∙ ap (λ (l : List Signal). list_in world lanes t ++ l) (sym (part_more who (place world (far t)) sending rest))));
   grown = λ lane.
-      let first = one.grown lane in
-      let second = two.grown lane in (
-        first.0 ++ second.0,
-        served_append world lane first.0 second.0 first.1 second.1,
-        second.2 ∙ (ap (λ (l : List Tagged). l ++ second.0) first.2 ∙ append_assoc (get_or lanes lane []) first.0 second.0),
-      );
+      two.grown lane
+      ∙ (ap (λ (l : List Tagged). l ++ sent_on world who lane rest) (one.grown lane)
+      ∙ (append_assoc (get_or lanes lane []) (sent_on world who lane (sending ∷ [])) (sent_on world who lane rest)
+      ∙ ap (λ (l : List Tagged). get_or lanes lane [] ++ l)
+      (ap (λ (l : List Tagged). l ++ sent_on world who lane rest) (append-nil (signal_on world lane sending.1 (number world who sending.0))))));
 }
 
 -- what a box sends in a world with these boxes and lanes
@@ -160,7 +194,7 @@ first_sent (Some s) world boxes lanes who sending once count is = (with_signal w
 
 pub sends_out : (sendings : List (ℕ × Signal)) (world : WorldState) (boxes : List BoxState) (lanes : List (List Tagged)) (who : ℕ) → AreOnce world → length lanes ≡ 2 * length world.channels
     → SendsOut world boxes lanes who sendings
-sends_out [] world boxes lanes who once count = (lanes, refl, none_came world lanes who [] (λ t within. part_none who (place world (far t))))
+sends_out [] world boxes lanes who once count = (lanes, refl, none_came world lanes who [] (λ t within. part_none who (place world (far t))) (λ lane. refl))
 sends_out (sending ∷ rest) world boxes lanes who once count =
     let one = first_sent (number world who sending.0) world boxes lanes who sending once count refl in
     let two = sends_out rest world boxes one.0 who once (one.2.count ∙ count) in

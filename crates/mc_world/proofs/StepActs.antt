@@ -11,6 +11,7 @@ use Rattle.mc_box.specs.BoxEvents.{BoxStep, box_event}
 use Rattle.mc_box.specs.Acting.{Acted, BoxActs, IsSameMake, sends, sent_by}
 use Rattle.mc_box.specs.BoxSound.{IsSoundBox}
 use Rattle.mc_box.specs.Boxes.{BoxState, no_box, slot_at}
+use Rattle.mc_world.specs.Sendings.{sent_on}
 use Rattle.mc_world.specs.Sound.{IsNumbered, IsSound}
 use Rattle.mc_world.specs.StepLaws.{StepActs}
 use Rattle.mc_world.specs.Stepped.{Stepped}
@@ -23,7 +24,7 @@ use Rattle.mc_box.proofs.EventActs.{event_acts, take_acts}
 use Rattle.mc_world.proofs.LanesKept.{Fronts, front_next, lane_apart, lane_in}
 use Rattle.mc_world.proofs.Numbers.{box_inside, number_is}
 use Rattle.mc_world.proofs.Parts.{part_of, part_other, part_own}
-use Rattle.mc_world.proofs.SentOut.{Sent, list_in, sends_out}
+use Rattle.mc_world.proofs.SentOut.{Sent, list_in, sends_out, sent_served}
 use Rattle.mc_world.proofs.StepForms.{if_some, map_some, then_some}
 
 -- ---- a box's step in its world
@@ -125,8 +126,7 @@ made_stepped world who step lanes after numbered below left acts sent = record {
   channels = refl;
   lane_count = sent.count ∙ left.count;
   lanes = λ lane.
-      let grown = sent.grown lane in
-      record { left = get_or lanes lane []; more = grown.0; rest = left.rest lane; served = grown.1; is = grown.2 };
+      record { left = get_or lanes lane []; more = sent_on world who lane step.sent; rest = left.rest lane; served = sent_served step.sent world who lane; is = sent.grown lane };
 }
 
 -- a box that acts makes a step of its world, by whichever of its slots it sends

@@ -5,6 +5,7 @@ pub mod Measures
 pub mod PathTable
 pub mod Paths
 pub mod Rings
+pub mod Sendings
 pub mod Served
 pub mod Settles
 pub mod Shapes
