@@ -1,9 +1,10 @@
 -- Chains of tunnels and links: one that is as long as there are tunnels comes back to where it began.
 use Rattle.std.proofs.Common.{◌≡◌, ◌≢◌, ◌<◌, ◌≤◌, ◌+◌, ◌-◌, ◌*◌, ◌/◌, ◌⊎◌, inl, inr, ℕ, zero, suc, Option, Some, length, refl, ap, sym, ◌∙◌, subst, arith}
 use Rattle.std.specs.Option.{option_and_then, unwrap_or}
+use Rattle.std.proofs.lemmas.Bool.{cases_lt}
 use Rattle.std.proofs.lemmas.Grind.{common_steps}
 use Rattle.mc_box.proofs.Options.{then_some}
-use Rattle.mc_world.specs.Rings.{IsOnRing, next_slot, partner_of, slot_after}
+use Rattle.mc_world.specs.Rings.{IsOnRing, WalksNeverTurn, next_slot, partner_of, slot_after}
 use Rattle.mc_world.specs.Sound.{IsSound}
 use Rattle.mc_world.specs.Worlds.{WorldState, far, joints, slot_count}
 use Rattle.mc_world.proofs.Joints.{two_each}
@@ -147,3 +148,18 @@ no_way_back world count s t sound inside is same =
     let last : slots_from world s count ≡ t = ap (λ (o : Option ℕ). unwrap_or o 0) is in
     never_back (partner_of world) (slots_from world s) count 0 count (chain_from world count s t sound inside is) (omega arith)
     (same ∙ ap far (sym last ∙ ap (slots_from world s) (sym sum)))
+
+-- nor does a walk come to the far slot of one from which it went on
+turns_none : (world : WorldState) (s count more t u : ℕ) → IsSound world → s < slot_count world → slot_after world count s ≡ Some t → slot_after world (count + more) s ≡ Some u → t ≢ far u
+turns_none world s count more t u sound inside is later =
+    no_way_back world more t u sound (after_inside world count s t sound inside is) (sym (after_sum world count more s t is) ∙ later)
+
+pub walks_never_turn : WalksNeverTurn
+walks_never_turn world s count other t u sound inside first second = elim (cases_lt count other) [
+  | inl below ↦
+      let sum : count + (other - count) ≡ other = omega (arith, below) in
+      turns_none world s count (other - count) t u sound inside first (ap (λ (n : ℕ). slot_after world n s) sum ∙ second)
+  | inr above ↦
+      let sum : other + (count - other) ≡ count = omega (arith, above) in
+      λ same. turns_none world s other (count - other) u t sound inside second (ap (λ (n : ℕ). slot_after world n s) sum ∙ first) (sym (far_back u) ∙ ap far (sym same))
+]

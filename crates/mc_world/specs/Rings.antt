@@ -1,5 +1,5 @@
 -- Rings: closed chains of tunnels and links, which come to no end.
-use Rattle.std.specs.Prelude.{◌≡◌, ◌<◌, ◌↔◌, ℕ, zero, suc, List, IsTrue, Option, Some, None}
+use Rattle.std.specs.Prelude.{◌≡◌, ◌≢◌, ◌<◌, ◌↔◌, ℕ, zero, suc, List, IsTrue, Option, Some, None}
 use Rattle.std.specs.List.{list_all}
 use Rattle.std.specs.Option.{option_and_then}
 use Rattle.mc_slot.specs.declared.SlotGoal.{SlotGoal}
@@ -52,6 +52,10 @@ IsLeastOnRing world None = NoneBefore world (slot_count world)
 -- a walk over as many tunnels as there are meets no end exactly where its slot stands on a ring, to which it comes back
 abbrev pub RingsMeetNoEnd : Type 0
 RingsMeetNoEnd = (world : WorldState) (s : ℕ) → IsSound world → s < slot_count world → (other_end world s ≡ None) ↔ IsOnRing world s
+
+-- a walk goes over no tunnel both ways: of the slots from which it goes over a tunnel, none is the far slot of another
+abbrev pub WalksNeverTurn : Type 0
+WalksNeverTurn = (world : WorldState) (s count other t u : ℕ) → IsSound world → s < slot_count world → slot_after world count s ≡ Some t → slot_after world other s ≡ Some u → t ≢ far u
 
 -- Takes and Retries change no link, so there is a ring after them where there was one before
 abbrev pub RestKeepsRings : Type 0

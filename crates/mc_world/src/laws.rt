@@ -3,7 +3,7 @@
 ghost use Rattle.mc_world.specs.Exchanges.{WorkedExchanges};
 ghost use Rattle.mc_world.specs.LinkFree.{RunKeepsLinkFree};
 ghost use Rattle.mc_world.specs.Measures.{TakeLowers, TakesEnd, MeasureBound, TakesBound};
-ghost use Rattle.mc_world.specs.Rings.{RingsMeetNoEnd, RestKeepsRings};
+ghost use Rattle.mc_world.specs.Rings.{RingsMeetNoEnd, WalksNeverTurn, RestKeepsRings};
 ghost use Rattle.mc_world.specs.Shapes.{StepKeepsShape, RunKeepsShape, CommandGoes, RetryGoes};
 ghost use Rattle.mc_world.specs.Sendings.{StepAppends};
 ghost use Rattle.mc_world.specs.StepLaws.{StepActs, StepKeepsSound, RunKeepsSound, FrontIsTaken, FrontStepGoes, UnderWayGoes, FirstIsSound, TwoPhonesStaySound};
@@ -124,6 +124,11 @@ pub fn retry_goes()
 /// back to the slot then, since it can't go over a tunnel both ways, and links are mutual.
 pub fn rings_meet_no_end()
     ensures { RingsMeetNoEnd }
+{}
+
+/// In a sound world a walk over tunnels and links goes over no tunnel both ways.
+pub fn walks_never_turn()
+    ensures { WalksNeverTurn }
 {}
 
 /// Takes and Retries make no ring and break none.
