@@ -1,12 +1,8 @@
 -- Worlds without links: each goal is an end's, and stays so while no link is set.
-use Rattle.std.proofs.Common.{◌≡◌, ◌<◌, suc, ◌&&◌, ◌||◌, ◌==◌, ℕ, length, zero, take, nat_lt, Bool, true, false, if◌then◌else◌, Some, List, [], ◌∷◌, All, IsTrue, inl, inr, refl, sym, subst, arith}
-use Rattle.std.specs.List.{list_all, list_any}
+use Rattle.std.proofs.Common.{◌≡◌, suc, ◌&&◌, ◌||◌, ◌==◌, ℕ, length, nat_lt, Bool, true, false, if◌then◌else◌, Some, List, [], ◌∷◌, All, IsTrue, inl, inr, refl, sym, subst, arith}
+use Rattle.std.specs.List.{list_any}
 use Rattle.std.proofs.lemmas.Bool.{cases_eq}
 use Rattle.std.proofs.lemmas.Grind.{common_steps}
-use Rattle.mc_slot.specs.declared.SlotGoal.{SlotGoal}
-use Rattle.mc_slot.specs.declared.SlotGoal.TheVariants.{End, Link}
-use Rattle.mc_box.specs.BoxEvents.{is_take}
-use Rattle.mc_box.specs.BoxSound.{RestsAt}
 use Rattle.mc_box.specs.Boxes.{BoxState}
 use Rattle.mc_box.specs.LinkFree.{is_end, is_linking}
 use Rattle.mc_box.specs.LinkFree as of_box
@@ -14,26 +10,15 @@ use Rattle.mc_box.specs.declared.event.Change.TheVariants.{End as NewEnd, Link a
 use Rattle.mc_box.specs.declared.event.Event.{Event}
 use Rattle.mc_box.specs.declared.event.Event.TheVariants.{Take, Set, Media, Tell, Retry, Shift}
 use Rattle.mc_box.specs.declared.event.Turn.{Turn}
-use Rattle.mc_world.specs.LinkFree.{HasNoLinks, IsLinkFree, LinkNone, RestsBy, RunKeepsLinkFree}
-use Rattle.mc_world.specs.Settles.{IsSettled, commands_of, is_command, takes_or_retries}
+use Rattle.mc_world.specs.LinkFree.{HasNoLinks, IsLinkFree, LinkNone, RunKeepsLinkFree}
+use Rattle.mc_world.specs.Settles.{IsSettled, commands_of, is_command}
 use Rattle.mc_world.specs.Shapes.{allows, is_allowed}
 use Rattle.mc_world.specs.Steps.{run, step}
-use Rattle.mc_world.specs.Worlds.{WorldState, box_at, goal_of, place, slot_count}
+use Rattle.mc_world.specs.Worlds.{WorldState, box_at}
 use Rattle.mc_box.proofs.LinkFree.{event_keeps_link_free}
 use Rattle.mc_world.proofs.StepActs.{Turned, step_turns}
 use Rattle.mc_world.proofs.StepForms.{then_some}
 use Rattle.mc_world.proofs.StepKeeps.{step_keeps_sound}
-
--- ---- goals
-
-rests_in : (goal : SlotGoal) (world : WorldState) (s : ℕ) → is_end goal ≡ true → RestsAt goal (box_at world (place world s).0) (place world s).1 → RestsBy goal world s
-rests_in (End goal) world s end rests = rests
-rests_in (Link partner) world s end rests = absurd (cc)
-
--- the goal of each slot is an end's, and at rest
-pub goals_rest : (world : WorldState) (s : ℕ) → IsLinkFree world → s < slot_count world → RestsBy (goal_of world s) world s
-goals_rest world s free inside =
-    rests_in (goal_of world s) world s (free.free (place world s).0 (place world s).1) ((free.sound.boxes (place world s).0 (free.sound.numbered.placed s inside)).rests (place world s).1)
 
 -- ---- steps and runs
 
@@ -71,36 +56,6 @@ pub run_keeps_link_free : RunKeepsLinkFree
 run_keeps_link_free world next turns free none goes = run_by turns world next free none goes
 
 -- ---- turns that set no link
-
-pub take_links_none : (event : Event) → is_take event ≡ true → is_linking event ≡ false
-take_links_none (Take local) is = refl
-take_links_none (Set change) is = absurd (cc)
-take_links_none (Media change) is = absurd (cc)
-take_links_none (Tell word) is = absurd (cc)
-take_links_none (Retry local) is = absurd (cc)
-take_links_none Shift is = absurd (cc)
-
-pub rest_links_none : (event : Event) → takes_or_retries event ≡ true → is_linking event ≡ false
-rest_links_none (Take local) is = refl
-rest_links_none (Set change) is = absurd (cc)
-rest_links_none (Media change) is = absurd (cc)
-rest_links_none (Tell word) is = absurd (cc)
-rest_links_none (Retry local) is = refl
-rest_links_none Shift is = absurd (cc)
-
-pub rests_link_none : (turns : List Turn) → list_all (λ turn. takes_or_retries turn.event) turns ≡ true → LinkNone turns
-rests_link_none [] all = refl
-rests_link_none (turn ∷ turns) all =
-    let parts = both (takes_or_retries turn.event) (list_all (λ (turn : Turn). takes_or_retries turn.event) turns) all in
-    rw (rest_links_none turn.event parts.0) (rests_link_none turns parts.1)
-
--- the first of these turns
-pub first_link_none : (turns : List Turn) (count : ℕ) → LinkNone turns → LinkNone (take count turns)
-first_link_none turns zero none = refl
-first_link_none [] (suc count) none = refl
-first_link_none (turn ∷ turns) (suc count) none =
-    let parts = neither (is_linking turn.event) (list_any (λ (turn : Turn). is_linking turn.event) turns) none in
-    rw parts.0 (first_link_none turns count parts.1)
 
 allows_no_link : (event : Event) (box : BoxState) → allows box event ≡ true → is_linking event ≡ false
 allows_no_link (Set (NewEnd local goal)) box is = refl

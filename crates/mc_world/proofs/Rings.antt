@@ -5,24 +5,22 @@ use Rattle.std.specs.Option.{is_none}
 use Rattle.mc_slot.specs.declared.SlotGoal.{SlotGoal}
 use Rattle.mc_world.specs.Paths.{has_ring, other_end, walk_by, walked}
 use Rattle.mc_world.specs.LinkFree.{IsLinkFree}
-use Rattle.mc_world.specs.Worlds.{WorldState, far, goal_of, joints, places, slot_count}
-use Rattle.mc_world.proofs.ActedWorlds.{far_inside}
+use Rattle.mc_world.specs.Worlds.{WorldState, box_at, far, joints, place, places, slot_count}
+use Rattle.mc_box.proofs.LinkFree.{end_at}
 use Rattle.mc_world.proofs.Joints.{two_each}
-use Rattle.mc_world.proofs.LinkFree.{goals_rest}
-use Rattle.mc_world.proofs.StepForms.{end_goal}
 
 -- a walk over one tunnel ends at its far slot
-walked_far : (most : ℕ) (world : WorldState) (s : ℕ) → 0 < most → IsLinkFree world → s < slot_count world → walked world most s ≡ Some (far s)
-walked_far zero world s some sound inside = absurd (omega arith)
-walked_far (suc most) world s some sound inside =
-    let aim = end_goal (goal_of world (far s)) world (far s) (goals_rest world (far s) sound (far_inside world s inside)) in
+walked_far : (most : ℕ) (world : WorldState) (s : ℕ) → 0 < most → IsLinkFree world → walked world most s ≡ Some (far s)
+walked_far zero world s some free = absurd (omega arith)
+walked_far (suc most) world s some free =
+    let aim = end_at (box_at world (place world (far s)).0) (place world (far s)).1 (free.free (place world (far s)).0) in
     ap (λ (goal : SlotGoal). walk_by (walked world most) world goal (far s)) aim.1
 
 -- so the path of a slot leads to its far slot
 pub other_far : (world : WorldState) (s : ℕ) → IsLinkFree world → s < slot_count world → other_end world s ≡ Some (far s)
 other_far world s sound inside =
     let pairs : slot_count world ≡ 2 * length (joints world) = two_each world.channels 0 in
-    walked_far (length (joints world)) world s (omega arith) sound inside
+    walked_far (length (joints world)) world s (omega arith) sound
 
 -- no slot from a number on is on a ring
 none_from : (entries : List (ℕ × ℕ)) (first : ℕ) (world : WorldState) → IsLinkFree world → first + length entries ≤ slot_count world

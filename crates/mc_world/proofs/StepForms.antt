@@ -15,11 +15,10 @@ use Rattle.mc_slot.specs.declared.Goal.{Goal}
 use Rattle.mc_slot.specs.declared.Goal.TheVariants.{Close as ToClose}
 use Rattle.mc_slot.specs.declared.Slot.{Slot}
 use Rattle.mc_slot.specs.declared.SlotGoal.{SlotGoal}
-use Rattle.mc_slot.specs.declared.SlotGoal.TheVariants.{End, Link}
+use Rattle.mc_slot.specs.declared.SlotGoal.TheVariants.{End}
 use Rattle.mc_box.specs.BoxEvents.{BoxStep, answering, goal_turn}
 use Rattle.mc_box.specs.Boxes.{BoxState, goal_at, own, sender, slot_at, with_slot}
 use Rattle.mc_box.specs.Acting.{Acted, sends}
-use Rattle.mc_world.specs.LinkFree.{RestsBy}
 use Rattle.mc_world.specs.Sound.{IsNumbered}
 use Rattle.mc_world.specs.Steps.{made, pushed, sent_out, step, with_box, with_lane}
 use Rattle.mc_world.specs.Worlds.{WorldState, far, joint_of, lane_of, lane_to, number, slot_count}
@@ -143,11 +142,6 @@ made_is world who local s left box signals numbered inside is =
       boxes = set world.boxes who box;
       lanes = set (set world.lanes (lane_of world s) left) (lane_of world (far s)) (lane ++ map (tagged_for (joint_of world (far s)).within) signals);
     }) (get_or-set_other world.lanes (lane_of world s) (lane_of world (far s)) left [] (λ same. far_lane world s (sym same)))
-
--- a goal at rest, where none is a link
-pub end_goal : (goal : SlotGoal) (world : WorldState) (s : ℕ) → RestsBy goal world s → (aim : Goal) × (goal ≡ End aim)
-end_goal (End aim) world s rests = (aim, refl)
-end_goal (Link partner) world s rests = absurd rests
 
 -- a lane that is put back where it was
 pub lane_back : (world : WorldState) (lane : ℕ) → with_lane world lane (get_or world.lanes lane []) ≡ world

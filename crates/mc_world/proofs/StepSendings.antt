@@ -1,6 +1,6 @@
 -- After a turn each lane is what is left on it, and then exactly what the turn appends.
-use Rattle.std.proofs.Common.{◌≡◌, ◌<◌, ◌*◌, ◌==◌, ◌++◌, inl, inr, if◌then◌else◌, nat_lt, ℕ, Bool, true, false, Option, Some, None, List, [], length, drop, refl, ap, sym, ◌∙◌, subst}
-use Rattle.std.specs.Option.{option_and_then, option_map, unwrap_or}
+use Rattle.std.proofs.Common.{◌≡◌, ◌<◌, ◌==◌, ◌++◌, inl, inr, if◌then◌else◌, nat_lt, ℕ, Bool, true, false, Some, None, List, [], length, drop, refl, ap, sym, ◌∙◌, subst}
+use Rattle.std.specs.Option.{option_map}
 use Rattle.std.proofs.Math.ListN.{get_or, set, length-set}
 use Rattle.std.proofs.lemmas.Bool.{cases_eq, eq-eqb, ne_eqb}
 use Rattle.std.proofs.lemmas.List.{get_or-set_same, get_or-set_other}
@@ -9,8 +9,8 @@ use Rattle.mc_signal.specs.declared.Tagged.{Tagged}
 use Rattle.mc_box.specs.BoxEvents.{BoxStep, box_event}
 use Rattle.mc_box.specs.declared.event.Event.{Event}
 use Rattle.mc_box.specs.declared.event.Event.TheVariants.{Take, Set, Media, Tell, Retry, Shift}
-use Rattle.mc_world.specs.Sendings.{StepAppends, box_step, left_on, sendings, sent_on, taker}
-use Rattle.mc_world.specs.Sound.{IsNumbered, IsSound}
+use Rattle.mc_world.specs.Sendings.{StepAppends, left_on, sendings, sent_on, taker}
+use Rattle.mc_world.specs.Sound.{IsNumbered}
 use Rattle.mc_world.specs.Steps.{made, popped, step_by, take_at}
 use Rattle.mc_world.specs.Worlds.{WorldState, box_at, front, lane_of, lane_to, number}
 use Rattle.mc_world.proofs.LanesKept.{lane_in}
