@@ -1,6 +1,6 @@
--- After a turn each lane is what is left on it, and then exactly what the turn appends.
-use Rattle.std.proofs.Common.{◌≡◌, ◌<◌, ◌==◌, ◌++◌, inl, inr, if◌then◌else◌, nat_lt, ℕ, Bool, true, false, Some, None, List, [], length, drop, refl, ap, sym, ◌∙◌, subst}
-use Rattle.std.specs.Option.{option_map}
+-- What a turn leaves: its box has made a step, and each lane is what is left on it, and then exactly what the turn appends.
+use Rattle.std.proofs.Common.{◌≡◌, ◌<◌, ◌==◌, ◌++◌, inl, inr, if◌then◌else◌, nat_lt, ℕ, Bool, true, false, Option, Some, None, List, [], length, drop, refl, ap, sym, ◌∙◌, subst}
+use Rattle.std.specs.Option.{option_and_then, option_map}
 use Rattle.std.proofs.Math.ListN.{get_or, set, length-set}
 use Rattle.std.proofs.lemmas.Bool.{cases_eq, eq-eqb, ne_eqb}
 use Rattle.std.proofs.lemmas.List.{get_or-set_same, get_or-set_other}
@@ -9,7 +9,7 @@ use Rattle.mc_signal.specs.declared.Tagged.{Tagged}
 use Rattle.mc_box.specs.BoxEvents.{BoxStep, box_event}
 use Rattle.mc_box.specs.declared.event.Event.{Event}
 use Rattle.mc_box.specs.declared.event.Event.TheVariants.{Take, Set, Media, Tell, Retry, Shift}
-use Rattle.mc_world.specs.Sendings.{StepAppends, left_on, sendings, sent_on, taker}
+use Rattle.mc_world.specs.Sendings.{MakesStep, StepAppends, StepIsMade, left_on, sendings, sent_on, taker}
 use Rattle.mc_world.specs.Sound.{IsNumbered}
 use Rattle.mc_world.specs.Steps.{made, popped, step_by, take_at}
 use Rattle.mc_world.specs.Worlds.{WorldState, box_at, front, lane_of, lane_to, number}
@@ -26,6 +26,13 @@ made_lanes world next who lane lanes step numbered count is =
     let out = sends_out step.sent world (set world.boxes who step.after) lanes who numbered.once (count ∙ numbered.lanes) in
     ap (λ (w : WorldState). get_or w.lanes lane []) (sym is ∙ out.1) ∙ out.2.grown lane
 
+-- and the box is what its step leaves
+made_boxes : (world next : WorldState) (who : ℕ) (lanes : List (List Tagged)) (step : BoxStep) → IsNumbered world → length lanes ≡ length world.lanes
+    → made (record world { lanes = lanes }) who step ≡ next → next.boxes ≡ set world.boxes who step.after
+made_boxes world next who lanes step numbered count is =
+    let out = sends_out step.sent world (set world.boxes who step.after) lanes who numbered.once (count ∙ numbered.lanes) in
+    ap (λ (w : WorldState). w.boxes) (sym is ∙ out.1)
+
 -- ---- an event that takes nothing
 
 act_lanes : (event : Event) (world next : WorldState) (who lane : ℕ) → IsNumbered world → taker world who event ≡ None → option_map (made world who) (box_event (box_at world who) event None) ≡ Some next
@@ -33,6 +40,16 @@ act_lanes : (event : Event) (world next : WorldState) (who lane : ℕ) → IsNum
 act_lanes event world next who lane numbered none goes =
     let one = map_some (made world who) (box_event (box_at world who) event None) next goes in
     rw (none, one.1) (made_lanes world next who lane world.lanes one.0 numbered refl one.2)
+
+act_made : (event : Event) (world next : WorldState) (who : ℕ) → IsNumbered world → taker world who event ≡ None → option_map (made world who) (box_event (box_at world who) event None) ≡ Some next
+    → MakesStep world next who event
+act_made event world next who numbered none goes =
+    let one = map_some (made world who) (box_event (box_at world who) event None) next goes in
+    record {
+      step = one.0;
+      is = ap (λ (o : Option ℕ). box_event (box_at world who) event (option_and_then (front world) o)) none ∙ one.1;
+      boxes = made_boxes world next who world.lanes one.0 numbered refl one.2;
+    }
 
 -- ---- a Take
 
@@ -69,6 +86,18 @@ take_lanes world next who local lane numbered goes =
     ∙ ap (λ (l : List Tagged). l ++ sent_on world who lane three.0.sent) (without_left world s lane there) in
     rw (one.1, two.1, three.1) lanes
 
+take_step_made : (world next : WorldState) (who local : ℕ) → IsNumbered world → step_by world who (Take local) ≡ Some next → MakesStep world next who (Take local)
+take_step_made world next who local numbered goes =
+    let one = then_some (take_at world who local) (number world who local) next goes in
+    let two = then_some (λ (signal : Signal). option_map (made (popped world one.0) who) (box_event (box_at world who) (Take local) (Some signal))) (front world one.0) next one.2 in
+    let three = map_some (made (popped world one.0) who) (box_event (box_at world who) (Take local) (Some two.0)) next two.2 in
+    let taken : option_and_then (front world) (number world who local) ≡ Some two.0 = ap (λ (o : Option ℕ). option_and_then (front world) o) one.1 ∙ two.1 in
+    record {
+      step = three.0;
+      is = ap (λ (o : Option Signal). box_event (box_at world who) (Take local) o) taken ∙ three.1;
+      boxes = made_boxes world next who (without world one.0) three.0 numbered (length-set world.lanes (lane_of world one.0) (drop 1 (lane_to world one.0))) three.2;
+    }
+
 -- ---- each turn
 
 event_lanes : (event : Event) (world next : WorldState) (who lane : ℕ) → IsNumbered world → step_by world who event ≡ Some next
@@ -84,3 +113,16 @@ pub step_appends : StepAppends
 step_appends world next turn lane sound goes =
     let one = if_some (nat_lt turn.who (length world.boxes)) (step_by world turn.who turn.event) next goes in
     event_lanes turn.event world next turn.who lane sound.numbered one.1
+
+event_made : (event : Event) (world next : WorldState) (who : ℕ) → IsNumbered world → step_by world who event ≡ Some next → MakesStep world next who event
+event_made (Take local) world next who numbered goes = take_step_made world next who local numbered goes
+event_made (Set change) world next who numbered goes = act_made (Set change) world next who numbered refl goes
+event_made (Media change) world next who numbered goes = act_made (Media change) world next who numbered refl goes
+event_made (Tell word) world next who numbered goes = act_made (Tell word) world next who numbered refl goes
+event_made (Retry local) world next who numbered goes = act_made (Retry local) world next who numbered refl goes
+event_made Shift world next who numbered goes = act_made Shift world next who numbered refl goes
+
+pub step_is_made : StepIsMade
+step_is_made world next turn sound goes =
+    let one = if_some (nat_lt turn.who (length world.boxes)) (step_by world turn.who turn.event) next goes in
+    event_made turn.event world next turn.who sound.numbered one.1

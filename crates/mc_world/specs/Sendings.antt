@@ -1,5 +1,5 @@
 -- What a turn sends, and what each lane has after it.
-use Rattle.std.specs.Prelude.{◌≡◌, ◌==◌, ℕ, if◌then◌else◌, List, [], ◌∷◌, ◌++◌, drop, slice_index_or, Option, Some, None}
+use Rattle.std.specs.Prelude.{◌≡◌, ◌==◌, ℕ, if◌then◌else◌, List, [], ◌∷◌, ◌++◌, drop, slice_index_or, slice_set, Option, Some, None}
 use Rattle.std.specs.Option.{option_and_then, option_map, unwrap_or}
 use Rattle.mc_signal.specs.declared.Signal.{Signal}
 use Rattle.mc_signal.specs.declared.Tagged.{Tagged}
@@ -25,6 +25,16 @@ box_step world who event = box_event (box_at world who) event (option_and_then (
 -- what the box sends in it, in order, each signal with the local number of its slot
 abbrev pub sendings : WorldState → ℕ → Event → List (ℕ × Signal)
 sendings world who event = unwrap_or (option_map (λ step. step.sent) (box_step world who event)) []
+
+-- the box makes this step, and is what the step leaves; the other boxes stay
+pub record MakesStep (world next : WorldState) (who : ℕ) (event : Event) : Type 0 where
+  pub step : BoxStep
+  pub is : box_step world who event ≡ Some step
+  pub boxes : next.boxes ≡ slice_set world.boxes who step.after
+
+-- in each turn of a sound world the turn's box makes its step
+abbrev pub StepIsMade : Type 0
+StepIsMade = (world next : WorldState) (turn : Turn) → IsSound world → step world turn ≡ Some next → MakesStep world next turn.who turn.event
 
 -- ---- where it goes
 

@@ -5,7 +5,7 @@ ghost use Rattle.mc_world.specs.LinkFree.{RunKeepsLinkFree};
 ghost use Rattle.mc_world.specs.Measures.{TakeLowers, TakesEnd, MeasureBound, TakesBound};
 ghost use Rattle.mc_world.specs.Rings.{RingsMeetNoEnd, WalksNeverTurn, RestKeepsRings};
 ghost use Rattle.mc_world.specs.Shapes.{StepKeepsShape, RunKeepsShape, CommandGoes, RetryGoes};
-ghost use Rattle.mc_world.specs.Sendings.{StepAppends};
+ghost use Rattle.mc_world.specs.Sendings.{StepAppends, StepIsMade};
 ghost use Rattle.mc_world.specs.StepLaws.{StepActs, StepKeepsSound, RunKeepsSound, FrontIsTaken, FrontStepGoes, UnderWayGoes, FirstIsSound, TwoPhonesStaySound};
 ghost use Rattle.mc_world.specs.Stepped.{SteppedStays};
 ghost use Rattle.mc_world.specs.TwoPhones.{TwoPhonesAreIdle};
@@ -25,6 +25,12 @@ pub fn two_phones_are_idle()
 /// sends is under way to the slot at the other end of its tunnel. No other box does anything.
 pub fn step_acts()
     ensures { StepActs }
+{}
+
+/// In a turn of a sound world the turn's box makes its step, in a Take with the front of its slot's lane, and is what the step
+/// leaves. The other boxes stay.
+pub fn step_is_made()
+    ensures { StepIsMade }
 {}
 
 /// After a turn of a sound world each lane is as it was, without its front where the turn takes that, and then exactly what
