@@ -1,4 +1,4 @@
--- After a settled segment each path is as the path table says: each owed Retry has come, and opened its slot.
+-- Once each owed Retry has come, and opened its slot, each path of a quiet world is as the path table says. So it is after a settled segment.
 use Rattle.std.proofs.Common.{◌≡◌, ◌≢◌, ◌<◌, ◌≤◌, ◌++◌, ◌⊎◌, inl, inr, if◌then◌else◌, ℕ, Bool, true, false, Option, Some, IsTrue, List, [], ◌∷◌, All, get_or, length, take, drop, count_by, refl, ap, sym, ◌∙◌, subst, arith}
 use Rattle.std.specs.List.{list_all}
 use Rattle.std.specs.Option.{option_and_then, unwrap_or}
@@ -13,7 +13,7 @@ use Rattle.mc_slot.specs.declared.State.{State}
 use Rattle.mc_slot.specs.declared.State.TheVariants.{Closed, Opening, Opened, Flowing, Closing}
 use Rattle.mc_box.specs.Boxes.{goal_at, goal_owes}
 use Rattle.mc_world.specs.Paths.{PathEnds, end_goal, end_goal_of, is_end_goal, other_end, path_from, paths}
-use Rattle.mc_world.specs.Settles.{IsLastRest, is_quiet, is_retry_of, owes_retry, takes_or_retries}
+use Rattle.mc_world.specs.Settles.{is_quiet, is_retry_of, owes_retry, takes_or_retries}
 use Rattle.mc_world.specs.Shapes.{owes_of}
 use Rattle.mc_world.specs.Sound.{IsSound}
 use Rattle.mc_world.specs.Steps.{after, run, step}
@@ -24,7 +24,7 @@ use Rattle.mc_world.proofs.NoPrograms.{quiet_rests}
 use Rattle.mc_world.proofs.StepKeeps.{run_keeps_sound}
 use Rattle.mc_world.proofs.StepForms.{then_some}
 use Rattle.mc_world.proofs.StepGoes.{below_test}
-use Rattle.mc_path.specs.PathLaws.{SettledPathsHold}
+use Rattle.mc_path.specs.PathLaws.{RestedPathsHold, SettledPathsHold}
 use Rattle.mc_path.proofs.CleanWalks.{IsBetween, between_before, end_between, quiet_clean, run_opens}
 use Rattle.mc_path.proofs.Ends.{parts_of}
 use Rattle.mc_path.proofs.Quiet.{each_from, quiet_paths}
@@ -82,21 +82,14 @@ owes_by_place world t sound within owed =
       below_test (place world t).1 (length (box_at world (place world t).0).slots) (sound.numbered.slots t within),
     ) owed
 
--- where a retry was owed, one came
-some_retry : (owed : Bool) (count : ℕ) → count ≡ (if owed then 1 else 0) → owed ≡ true → 1 ≤ count
-some_retry true count is owes = omega arith
-some_retry false count is owes = absurd (cc)
-
 -- it isn't closed, or its Retry is to come
 begun_or_retried : (world : WorldState) (turns : List Turn) (t : ℕ) → IsSound world → t < slot_count world → end_goal world t ≡ ToOpen
-    → ((who local : ℕ) → count_by (is_retry_of who local) turns ≡ (if owes_retry world who local then 1 else 0))
+    → ((who local : ℕ) → IsTrue (owes_retry world who local) → 1 ≤ count_by (is_retry_of who local) turns)
     → ((slot_of world t).state ≢ Closed) ⊎ (1 ≤ count_by (is_retry_of (place world t).0 (place world t).1) turns)
 begun_or_retried world turns t sound within aims retries = elim (closed_or_not (slot_of world t).state) [
   | inl begun ↦ inl begun
   | inr closed ↦
-      inr (some_retry (owes_retry world (place world t).0 (place world t).1) (count_by (is_retry_of (place world t).0 (place world t).1) turns)
-      (retries (place world t).0 (place world t).1)
-      (owes_by_place world t sound within (owes_closed (goal_of world t) (slot_of world t) aims closed)))
+      inr (retries (place world t).0 (place world t).1 (owes_by_place world t sound within (owes_closed (goal_of world t) (slot_of world t) aims closed)))
 ]
 
 -- to open isn't to close
@@ -112,7 +105,7 @@ goal_before world last t stay =
 -- once each Retry has come that was owed when nothing was under way, an end that is to open owes none, unless the other end of its path closes
 owes_none : (world last : WorldState) (turns : List Turn) (s t : ℕ) → IsSound world → IsTrue (is_quiet world)
     → list_all (λ turn. takes_or_retries turn.event) turns ≡ true → run world turns ≡ Some last
-    → ((who local : ℕ) → count_by (is_retry_of who local) turns ≡ (if owes_retry world who local then 1 else 0))
+    → ((who local : ℕ) → IsTrue (owes_retry world who local) → 1 ≤ count_by (is_retry_of who local) turns)
     → s < slot_count last → is_end_goal (goal_of last s) ≡ true → other_end last s ≡ Some t → end_goal last s ≡ ToOpen → end_goal last t ≢ ToClose → owes_of last s ≡ false
 owes_none world last turns s t sound quiet all goes retries inside aims walk opens far_stays =
     let stay = run_stays turns world last sound all goes in
@@ -126,7 +119,7 @@ owes_none world last turns s t sound quiet all goes retries inside aims walk ope
 -- both ends of the path of which a slot is the lower end
 path_owes_none : (world last : WorldState) (turns : List Turn) (s : ℕ) (path : PathEnds) → IsSound world → IsTrue (is_quiet world)
     → list_all (λ turn. takes_or_retries turn.event) turns ≡ true → run world turns ≡ Some last
-    → ((who local : ℕ) → count_by (is_retry_of who local) turns ≡ (if owes_retry world who local then 1 else 0))
+    → ((who local : ℕ) → IsTrue (owes_retry world who local) → 1 ≤ count_by (is_retry_of who local) turns)
     → s < slot_count last → path_from last s ≡ Some path → OwesNone last path
 path_owes_none world last turns s path sound quiet all goes retries inside is =
     let parts = parts_of last s path is in
@@ -141,27 +134,36 @@ path_owes_none world last turns s path sound quiet all goes retries inside is =
           owes_none world last turns path.high s sound quiet all goes retries more.inside more.aims back opens (subst (λ (n : ℕ). end_goal last n ≢ ToClose) parts.low_is stays);
     }
 
--- from the last rest on, to the end
+-- all paths
 rest_owes_none : (world last : WorldState) (turns : List Turn) → IsSound world → IsTrue (is_quiet world)
     → list_all (λ turn. takes_or_retries turn.event) turns ≡ true → run world turns ≡ Some last
-    → ((who local : ℕ) → count_by (is_retry_of who local) turns ≡ (if owes_retry world who local then 1 else 0))
+    → ((who local : ℕ) → IsTrue (owes_retry world who local) → 1 ≤ count_by (is_retry_of who local) turns)
     → All (OwesNone last) (paths last)
 rest_owes_none world last turns sound quiet all goes retries =
     each_from (OwesNone last) (path_from last) (places last) 0 (slot_count last) (omega arith)
     (λ s inside path is. path_owes_none world last turns s path sound quiet all goes retries inside is)
 
--- the last rest begins where the turns of its moment lead
-settled_owes_none : (world last : WorldState) (batch turns : List Turn) (moment : ℕ) → IsSound world → run world turns ≡ Some last → IsLastRest world batch turns moment
-    → All (OwesNone last) (paths last)
-settled_owes_none world last batch turns moment sound goes rest =
-    let halves = run_halves (take moment turns) (drop moment turns) world last (ap (run world) (take-append-drop moment turns) ∙ goes) in
-    rest_owes_none (after world (take moment turns)) last (drop moment turns)
-    (run_keeps_sound world (after world (take moment turns)) (take moment turns) sound halves.0)
-    (quiet_rests (after world (take moment turns)) ∙ rest.at_rest) rest.besides halves.1 rest.retries
-
 -- so each path is as the path table says
+pub rested_paths_hold : RestedPathsHold
+rested_paths_hold world last turns sound quiet all goes retries rests k path below =
+    table_holds last (get_or (paths last) k path) (quiet_paths last (run_keeps_sound world last turns sound goes) rests k path below)
+    (rest_owes_none world last turns sound quiet all goes retries k path below)
+
+-- ---- settled segments
+
+-- where a retry is owed, one comes
+some_retry : (owed : Bool) (count : ℕ) → count ≡ (if owed then 1 else 0) → owed ≡ true → 1 ≤ count
+some_retry true count is owes = omega arith
+some_retry false count is owes = absurd (cc)
+
+-- from the last rest on, which begins where the turns of its moment lead
 pub settled_paths_hold : SettledPathsHold
-settled_paths_hold world last batch turns sound settled k path below =
-    let quiet = quiet_paths last (run_keeps_sound world last turns sound settled.runs) (quiet_rests last ∙ settled.at_rest) in
-    table_holds last (get_or (paths last) k path) (quiet k path below)
-    (settled_owes_none world last batch turns settled.moment sound settled.runs settled.last_rest k path below)
+settled_paths_hold world last batch turns sound settled =
+    let rest = settled.last_rest in
+    let halves = run_halves (take settled.moment turns) (drop settled.moment turns) world last (ap (run world) (take-append-drop settled.moment turns) ∙ settled.runs) in
+    rested_paths_hold (after world (take settled.moment turns)) last (drop settled.moment turns)
+    (run_keeps_sound world (after world (take settled.moment turns)) (take settled.moment turns) sound halves.0)
+    (quiet_rests (after world (take settled.moment turns)) ∙ rest.at_rest) rest.besides halves.1
+    (λ who local owes.
+    some_retry (owes_retry (after world (take settled.moment turns)) who local) (count_by (is_retry_of who local) (drop settled.moment turns)) (rest.retries who local) owes)
+    (quiet_rests last ∙ settled.at_rest)

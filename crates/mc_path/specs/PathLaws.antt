@@ -1,5 +1,5 @@
 -- Laws of paths: what each path of a quiet world is, and that after a settle it is as the path table says.
-use Rattle.std.specs.Prelude.{◌≡◌, ◌≢◌, ◌⊎◌, ◌<◌, ◌==◌, ◌||◌, ℕ, zero, suc, ◌+◌, Bool, false, List, [], ◌∷◌, length, slice_index_or, IsTrue, Some}
+use Rattle.std.specs.Prelude.{◌≡◌, ◌≢◌, ◌⊎◌, ◌<◌, ◌≤◌, ◌==◌, ◌||◌, ℕ, zero, suc, ◌+◌, Bool, false, List, [], ◌∷◌, length, slice_index_or, IsTrue, Some}
 use Rattle.std.specs.List.{All, count_by, list_all, list_any}
 use Rattle.std.specs.Option.{option_map, unwrap_or}
 use Rattle.mc_slot.specs.Outlook.{acks, closes}
@@ -11,7 +11,7 @@ use Rattle.mc_slot.specs.declared.State.TheVariants.{Closed, Flowing, Closing}
 use Rattle.mc_world.specs.PathTable.{Hears, PathHolds}
 use Rattle.mc_world.specs.Paths.{PathEnds, end_goal, is_end_goal, paths}
 use Rattle.mc_world.specs.Rings.{IsOnRing}
-use Rattle.mc_world.specs.Settles.{IsSettled, is_quiet, takes_or_retries}
+use Rattle.mc_world.specs.Settles.{IsSettled, is_quiet, is_retry_of, owes_retry, takes_or_retries}
 use Rattle.mc_world.specs.Shapes.{owes_of}
 use Rattle.mc_world.specs.Sound.{IsSound}
 use Rattle.mc_world.specs.Steps.{run}
@@ -72,6 +72,13 @@ IsCleanPath world path = end_goal world path.low ≢ ToClose → end_goal world 
 abbrev pub CleanPaths : Type 0
 CleanPaths = (world next : WorldState) (turns : List Turn) → IsSound world → IsTrue (is_quiet world)
     → IsTrue (list_all (λ turn. takes_or_retries turn.event) turns) → run world turns ≡ Some next → All (IsCleanPath next) (paths next)
+
+-- between two moments at which nothing is under way, by Takes and Retries alone, among which each retry comes that is owed at the first: each path is then as the path table says
+abbrev pub RestedPathsHold : Type 0
+RestedPathsHold = (world last : WorldState) (turns : List Turn) → IsSound world → IsTrue (is_quiet world)
+    → IsTrue (list_all (λ turn. takes_or_retries turn.event) turns) → run world turns ≡ Some last
+    → ((who local : ℕ) → IsTrue (owes_retry world who local) → 1 ≤ count_by (is_retry_of who local) turns)
+    → IsTrue (is_quiet last) → All (PathHolds last) (paths last)
 
 -- after each settled segment, whatever the order of its turns, each path is as the path table says
 abbrev pub SettledPathsHold : Type 0

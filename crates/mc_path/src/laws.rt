@@ -1,7 +1,7 @@
 //! Laws of paths, and of what may be at rest on one side of a box, over the definitions alone: each function's contract is
 //! the law's sentence. Those of paths hold for paths of every length.
 
-ghost use Rattle.mc_path.specs.PathLaws.{EachEndOnce, EachSlotOnce, PathsOfOneMedium, PathsPassOnce, QuietPaths, CleanPaths, SettledPathsHold};
+ghost use Rattle.mc_path.specs.PathLaws.{EachEndOnce, EachSlotOnce, PathsOfOneMedium, PathsPassOnce, QuietPaths, CleanPaths, RestedPathsHold, SettledPathsHold};
 ghost use Rattle.mc_path.specs.Rests.{EndsAtRest, LinksAtRest};
 ghost use Rattle.mc_path.specs.Views.{TwoSlotsATunnel};
 
@@ -42,6 +42,12 @@ pub fn quiet_paths()
 /// without an end that closes, over however many tunnels and links.
 pub fn clean_paths()
     ensures { CleanPaths }
+{}
+
+/// Between two moments at which nothing is under way, where only Takes and Retries come, and among them each Retry that is
+/// owed at the first: then each path is as the path table says.
+pub fn rested_paths_hold()
+    ensures { RestedPathsHold }
 {}
 
 /// After each settled segment, whatever its batch and the order of its turns, each path is as the path table says: closed
