@@ -16,6 +16,7 @@ use Rattle.mc_path.specs.PathLaws.{AreIn, HearEachOther, IsQuietPath}
 -- a path that is to be closed, and is
 closed_holds : (world : WorldState) (path : PathEnds) → path_state world path ≡ Closed → AreIn world path Closed → PathHolds world path
 closed_holds world path is closed = record {
+  closed_or_flowing = inl is;
   low = closed.low ∙ sym is;
   high = closed.high ∙ sym is;
   low_hears = λ flows. absurd (cc);
@@ -25,6 +26,7 @@ closed_holds world path is closed = record {
 -- a path that is to flow, and does
 flowing_holds : (world : WorldState) (path : PathEnds) → path_state world path ≡ Flowing → AreIn world path Flowing → HearEachOther world path → PathHolds world path
 flowing_holds world path is flows hear = record {
+  closed_or_flowing = inr is;
   low = flows.low ∙ sym is;
   high = flows.high ∙ sym is;
   low_hears = λ flows. hear.low;

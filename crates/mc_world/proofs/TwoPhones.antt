@@ -52,7 +52,7 @@ forth_settled a b = record {
 }
 
 forth_holds : (a b : CodecList) → PathHolds (forth a b) the_path
-forth_holds a b = record { low = refl; high = refl; low_hears = λ flows. absurd cc; high_hears = λ flows. absurd cc }
+forth_holds a b = record { closed_or_flowing = inl refl; low = refl; high = refl; low_hears = λ flows. absurd cc; high_hears = λ flows. absurd cc }
 
 forth_boxes : (a b : CodecList) (who : ℕ) → who < 2 → (box_at (forth a b) who).number ≡ who
 forth_boxes a b zero below = refl
@@ -126,7 +126,7 @@ back_settled a b = record {
 }
 
 back_holds : (a b : CodecList) → PathHolds (back a b) the_path
-back_holds a b = record { low = refl; high = refl; low_hears = λ flows. absurd cc; high_hears = λ flows. absurd cc }
+back_holds a b = record { closed_or_flowing = inl refl; low = refl; high = refl; low_hears = λ flows. absurd cc; high_hears = λ flows. absurd cc }
 
 back_boxes : (a b : CodecList) (who : ℕ) → who < 2 → (box_at (back a b) who).number ≡ who
 back_boxes a b zero below = refl

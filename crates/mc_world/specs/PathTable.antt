@@ -1,5 +1,5 @@
 -- The path table: the state of a path at a settle by its two end goals, and what is then heard. It knows no slot between, no signal, and no kept value.
-use Rattle.std.specs.Prelude.{◌≡◌, ℕ, Option, Some, None}
+use Rattle.std.specs.Prelude.{◌≡◌, ◌⊎◌, ℕ, Option, Some, None}
 use Rattle.std.specs.Option.{unwrap_or}
 use Rattle.mc_signal.specs.Choice.{codecs_of, shared_codec, selector_of}
 use Rattle.mc_signal.specs.declared.Descriptor.{Descriptor}
@@ -38,8 +38,9 @@ pub record Hears (slot : Slot) (own : Descriptor) (far_own : Descriptor) (far_se
   pub got : slot.got ≡ Some far_own
   pub chosen : slot.sel_in ≡ Some (selector_of own far_sender)
 
--- the two end slots of a path are in its state, and where it flows they have each other's newest descriptor and the choice for it
+-- a path is closed or flowing, its two end slots are in its state, and where it flows they have each other's newest descriptor and the choice for it
 pub record PathHolds (world : WorldState) (path : PathEnds) : Type 0 where
+  pub closed_or_flowing : (path_state world path ≡ Closed) ⊎ (path_state world path ≡ Flowing)
   pub low : (slot_of world path.low).state ≡ path_state world path
   pub high : (slot_of world path.high).state ≡ path_state world path
   pub low_hears : path_state world path ≡ Flowing → Hears (slot_of world path.low) (own_descriptor world path.low) (own_descriptor world path.high) (own_sender world path.high)
