@@ -1,5 +1,5 @@
 -- What is shown of a path.
-use Rattle.std.specs.Prelude.{◌≡◌, ℕ, ◌*◌, Bool, true, false, length, Option}
+use Rattle.std.specs.Prelude.{◌≡◌, ℕ, ◌*◌, ◌&&◌, Bool, true, false, length, Option, None}
 use Rattle.std.specs.Option.{option_and_then}
 use Rattle.mc_signal.specs.declared.Selector.{Selector}
 use Rattle.mc_slot.specs.declared.State.{State}
@@ -15,32 +15,42 @@ abbrev pub is_flowing : State → Bool
 is_flowing Flowing = true
 is_flowing state = false
 
--- the codec of a selector, if there is a selector and it names one
-abbrev pub selected : Option Selector → Option ℕ
-selected selector = option_and_then (λ chosen. chosen.codec) selector
+-- the codec that an end hears: that of the selector that it last got, where there is one and its path flows
+abbrev pub heard_codec : Bool → Option Selector → Option ℕ
+heard_codec true selector = option_and_then (λ chosen. chosen.codec) selector
+heard_codec false selector = None
 
--- an end, by its slot's number: it hears the codec of the selector that it last got
-abbrev pub end_view : WorldState → ℕ → EndView
-end_view world s = record {
+-- an end of a path that flows, or of one that doesn't, by its slot's number
+abbrev pub end_view : WorldState → Bool → ℕ → EndView
+end_view world flowing s = record {
   slot = s;
   who = (place world s).0;
   local = (place world s).1;
   goal = end_goal world s;
   own = own_descriptor world s;
-  hears = selected (slot_of world s).sel_in;
+  hears = heard_codec flowing (slot_of world s).sel_in;
   sends = (own_sender world s).codecs;
   device = is_device (box_at world (place world s).0).kind;
 }
 
--- a path, by its two end slots: it flows where its lower end does
+-- a path flows where the slots of both its ends do
+abbrev pub path_flows : WorldState → PathEnds → Bool
+path_flows world path = is_flowing (slot_of world path.low).state && is_flowing (slot_of world path.high).state
+
+-- a path, by its two end slots
 abbrev pub view_of : WorldState → PathEnds → PathView
 view_of world path = record {
-  low = end_view world path.low;
-  high = end_view world path.high;
-  flowing = is_flowing (slot_of world path.low).state;
+  low = end_view world (path_flows world path) path.low;
+  high = end_view world (path_flows world path) path.high;
+  flowing = path_flows world path;
   medium = (joint_of world path.low).medium;
   tunnels = crossed world (length (joints world)) path.low;
 }
+
+-- no end hears anything on a path that doesn't flow, whatever selector its slot keeps
+abbrev pub SilentUnlessFlowing : Type 0
+SilentUnlessFlowing = (world : WorldState) (path : PathEnds) → (view_of world path).flowing ≡ false
+    → ((view_of world path).low.hears ≡ None) × ((view_of world path).high.hears ≡ None)
 
 -- a path goes over two slots for each tunnel that is shown
 abbrev pub TwoSlotsATunnel : Type 0

@@ -3,7 +3,7 @@
 
 ghost use Rattle.mc_path.specs.PathLaws.{EachEndOnce, EachSlotOnce, PathsOfOneMedium, PathsPassOnce, QuietPaths, CleanPaths, RestedPathsHold, SettledPathsHold};
 ghost use Rattle.mc_path.specs.Rests.{EndsAtRest, LinksAtRest};
-ghost use Rattle.mc_path.specs.Views.{TwoSlotsATunnel};
+ghost use Rattle.mc_path.specs.Views.{SilentUnlessFlowing, TwoSlotsATunnel};
 
 /// Each end of a sound world is an end of exactly one of its paths: the walk from there comes to another end, and from that
 /// end back.
@@ -29,6 +29,11 @@ pub fn paths_of_one_medium()
 /// A path goes over two slots for each tunnel that is shown of it.
 pub fn two_slots_a_tunnel()
     ensures { TwoSlotsATunnel }
+{}
+
+/// No end hears anything on a path that doesn't flow, whatever its slot keeps, in any world.
+pub fn silent_unless_flowing()
+    ensures { SilentUnlessFlowing }
 {}
 
 /// Where nothing is under way in a sound world, each path, over however many tunnels and links, is closed at all its

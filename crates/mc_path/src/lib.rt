@@ -4,7 +4,7 @@
 ghost use Rattle.std.specs.Prelude.{◌≡◌, ◌<◌, map, All, IfOk, IsTrue, Some};
 ghost use Rattle.std.specs.Option.{option_map};
 ghost use Rattle.mc_path.specs.PathLaws.{IsQuietPath};
-ghost use Rattle.mc_path.specs.Views.{end_view, is_flowing, view_of};
+ghost use Rattle.mc_path.specs.Views.{end_view, heard_codec, is_flowing, path_flows, view_of};
 ghost use Rattle.mc_path.specs.Walks.{walk_from};
 ghost use Rattle.mc_world.specs.Paths.{end_goal_of, path_from, paths};
 ghost use Rattle.mc_world.specs.Settles.{is_quiet};
@@ -15,13 +15,14 @@ mod walk;
 
 use crate::walk::{Walked, walk_from};
 use mc_box::Kind;
+use mc_signal::Selector;
 use mc_slot::{Goal, SlotGoal, State};
 use mc_view::{EndView, PathView};
 use mc_world::World;
 use std::alloc::{AllocError, Global};
 
 /// Each path of the world once, in the order of the lower ends: both ends, whether it flows, its medium, and how
-/// many tunnels it goes over. Where nothing is under way, each path is closed at all its slots, or flows at all of
+/// many tunnels it goes over. No end hears anything on a path that doesn't flow. Where nothing is under way, each path is closed at all its slots, or flows at all of
 /// them with ends that hear each other.
 pub fn paths(alloc: Global, world: &World) -> Result<Vec<PathView>, AllocError>
     ensures views { IfOk result (λ views. views.items ≡ map (view_of world.now) (paths world.now)) }
@@ -63,14 +64,23 @@ fn path_view(world: &World, low: u32, walk: Walked) -> PathView
     ensures { result ≡ view_of world.now (record { low = low; high = walk.end }) }
 {
     world.keeps();
-    let slot = world.slot(low);
+    let flowing = path_flows(world, low, walk.end);
     PathView {
-        low: end_view(world, low),
-        high: end_view(world, walk.end),
-        flowing: is_flowing(slot.state),
-        medium: slot.medium,
+        low: end_view(world, flowing, low),
+        high: end_view(world, flowing, walk.end),
+        flowing,
+        medium: world.slot(low).medium,
         tunnels: walk.tunnels,
     }
+}
+
+// Whether a path flows: both its ends' slots do.
+fn path_flows(world: &World, low: u32, high: u32) -> bool
+    requires low { low < slot_count world.now }
+    requires high { high < slot_count world.now }
+    ensures { result ≡ path_flows world.now (record { low = low; high = high }) }
+{
+    is_flowing(world.slot(low).state) && is_flowing(world.slot(high).state)
 }
 
 // Whether media flow.
@@ -80,10 +90,21 @@ fn is_flowing(state: State) -> bool
     matches!(state, State::Flowing)
 }
 
-// An end of a path.
-fn end_view(world: &World, slot: u32) -> EndView
+// The codec that an end hears, by the selector that it last got.
+fn heard_codec(flowing: bool, selector: Option<Selector>) -> Option<u8>
+    ensures { result ≡ heard_codec flowing selector }
+{
+    if flowing {
+        selector.and_then(|chosen| chosen.codec)
+    } else {
+        None
+    }
+}
+
+// An end of a path that flows, or of one that doesn't.
+fn end_view(world: &World, flowing: bool, slot: u32) -> EndView
     requires { slot < slot_count world.now }
-    ensures { result ≡ end_view world.now slot }
+    ensures { result ≡ end_view world.now flowing slot }
 {
     world.keeps();
     let (who, local) = world.place(slot);
@@ -94,7 +115,7 @@ fn end_view(world: &World, slot: u32) -> EndView
         local,
         goal: end_goal(world.goal(slot)),
         own: home.own(local),
-        hears: world.slot(slot).sel_in.and_then(|chosen| chosen.codec),
+        hears: heard_codec(flowing, world.slot(slot).sel_in),
         sends: home.sender(local).codecs,
         device: home.kind() == Kind::Device,
     }

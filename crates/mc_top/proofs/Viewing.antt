@@ -1,5 +1,5 @@
 -- What is shown of the paths of a world has names, and is printed as the table says.
-use Rattle.std.proofs.Common.{◌≡◌, ◌<◌, ◌++◌, ◌∷◌, [], ◌⊎◌, inl, inr, ℕ, Bool, true, false, if◌then◌else◌, Option, Some, None, List, All, codes, find, length, map, slice_index_or, refl, ap, sym, ◌∙◌, subst, arith}
+use Rattle.std.proofs.Common.{◌≡◌, ◌<◌, ◌++◌, ◌&&◌, ◌∷◌, [], ◌⊎◌, inl, inr, ℕ, Bool, true, false, if◌then◌else◌, Option, Some, None, List, All, codes, find, length, map, slice_index_or, refl, ap, sym, ◌∙◌, subst, arith}
 use Rattle.std.specs.List.{AllByRecursion, flat_map}
 use Rattle.std.specs.Fmt.{decimal}
 use Rattle.std.proofs.lemmas.Grind.{common_steps}
@@ -10,8 +10,6 @@ use Rattle.mc_signal.specs.declared.codec_list.CodecList.{CodecList}
 use Rattle.mc_signal.specs.declared.Descriptor.{Descriptor}
 use Rattle.mc_signal.specs.declared.Selector.{Selector}
 use Rattle.mc_signal.specs.declared.Sender.{Sender}
-use Rattle.mc_slot.specs.Tunnel.{Kept}
-use Rattle.mc_slot.specs.declared.Slot.{Slot}
 use Rattle.mc_slot.specs.declared.State.{State}
 use Rattle.mc_slot.specs.declared.State.TheVariants.{Closed, Opening, Opened, Flowing, Closing}
 use Rattle.mc_box.specs.Boxes.{BoxState, media_at, own_of}
@@ -22,8 +20,9 @@ use Rattle.mc_world.specs.Worlds.{WorldState, box_at, joint_of, joints, own_desc
 use Rattle.mc_box.specs.declared.event.Kind.{Kind}
 use Rattle.mc_box.specs.declared.event.Kind.TheVariants.{Device, Feature}
 use Rattle.mc_box.specs.declared.setup.SlotMedia.{SlotMedia}
+use Rattle.mc_view.specs.declared.PathView.{PathView}
 use Rattle.mc_path.specs.PathLaws.{AreIn, HearEachOther, IsQuietPath}
-use Rattle.mc_path.specs.Views.{end_view, is_flowing, selected, view_of}
+use Rattle.mc_path.specs.Views.{end_view, heard_codec, is_flowing, path_flows, view_of}
 use Rattle.mc_path.proofs.Ends.{parts_of}
 use Rattle.mc_path.proofs.Quiet.{each_from}
 use Rattle.mc_path.proofs.Returns.{walk_back}
@@ -35,6 +34,15 @@ use Rattle.mc_top.specs.Shown.{IsNamedEnd, IsNamedView, flow_word, hearing_line,
 
 -- ---- text
 
+-- a path as it is shown, where it flows and where it doesn't
+abbrev view_by : WorldState → PathEnds → Bool → PathView
+view_by world path flowing = record (view_of world path) {
+  low = end_view world flowing path.low;
+  high = end_view world flowing path.high;
+  flowing = flowing;
+}
+
+-- the word for a path that flows, or doesn't
 flow_is : (state : State) → flow_word (is_flowing state) ≡ state_word state
 flow_is Closed = refl
 flow_is Opening = refl
@@ -42,12 +50,39 @@ flow_is Opened = refl
 flow_is Flowing = refl
 flow_is Closing = refl
 
--- an end that got the choice for its own descriptor hears what the table says
-heard_is : (selector : Option Selector) (own : Descriptor) (far_sender : Sender) → selector ≡ Some (selector_of own far_sender) → selected selector ≡ heard own far_sender
-heard_is selector own far_sender chosen = ap selected chosen
+twice : (flowing : Bool) → flowing && flowing ≡ flowing
+twice true = refl
+twice false = refl
 
-line_is : (names : NameLists) (world : WorldState) (path : PathEnds) → (slot_of world path.low).state ≡ path_state world path → view_line names (view_of world path) ≡ path_line names world path
-line_is names world path low =
+-- two slots that are in one state both flow where that is flowing
+both_flow : (state low high : State) → low ≡ state → high ≡ state → is_flowing low && is_flowing high ≡ is_flowing state
+both_flow state low high one two =
+    ap (λ (s : State). is_flowing s && is_flowing high) one ∙ (ap (λ (s : State). is_flowing state && is_flowing s) two ∙ twice (is_flowing state))
+
+-- an end that got the choice for its own descriptor hears what the table says
+heard_is : (selector : Option Selector) (own : Descriptor) (far_sender : Sender) → selector ≡ Some (selector_of own far_sender) → heard_codec true selector ≡ heard own far_sender
+heard_is selector own far_sender chosen = ap (heard_codec true) chosen
+
+hears_is : (names : NameLists) (world : WorldState) (s : ℕ) (codec : Option ℕ) → heard_codec true (slot_of world s).sel_in ≡ codec
+    → hearing_line names (end_view world true s) ≡ hears_line names world s codec
+hears_is names world s codec is = ap (λ (c : Option ℕ). hears_line names world s c) is
+
+-- what is printed of the ends of a path by its state
+lines_by : (state : State) (names : NameLists) (world : WorldState) (path : PathEnds)
+    → (state ≡ Flowing → heard_codec true (slot_of world path.low).sel_in ≡ low_hears world path)
+    → (state ≡ Flowing → heard_codec true (slot_of world path.high).sel_in ≡ high_hears world path)
+    → hearing_lines (is_flowing state) names (view_by world path (is_flowing state)) ≡ hears_lines state names world path
+lines_by Closed names world path low high = refl
+lines_by Opening names world path low high = refl
+lines_by Opened names world path low high = refl
+lines_by Closing names world path low high = refl
+lines_by Flowing names world path low high =
+    ap (λ (line : List ℕ). line ++ hearing_line names (end_view world true path.high)) (hears_is names world path.low (low_hears world path) (low refl))
+    ∙ ap (λ (line : List ℕ). hears_line names world path.low (low_hears world path) ++ line) (hears_is names world path.high (high_hears world path) (high refl))
+
+-- and of the path itself
+line_is : (names : NameLists) (world : WorldState) (path : PathEnds) → view_line names (view_by world path (is_flowing (path_state world path))) ≡ path_line names world path
+line_is names world path =
     ap (λ (word : List ℕ). line_of (
     codes "path"
     ∷ place_word names world path.low
@@ -57,33 +92,18 @@ line_is names world path low =
     ∷ word
     ∷ medium_word (joint_of world path.low).medium
     ∷ []))
-    (ap (λ (state : State). flow_word (is_flowing state)) low ∙ flow_is (path_state world path))
-
-hears_is : (names : NameLists) (world : WorldState) (s : ℕ) (codec : Option ℕ) → selected (slot_of world s).sel_in ≡ codec → hearing_line names (end_view world s) ≡ hears_line names world s codec
-hears_is names world s codec is = ap (λ (c : Option ℕ). hears_line names world s c) is
-
--- by the state of the path
-hears_by : (state : State) (names : NameLists) (world : WorldState) (path : PathEnds)
-    → (state ≡ Flowing → selected (slot_of world path.low).sel_in ≡ low_hears world path)
-    → (state ≡ Flowing → selected (slot_of world path.high).sel_in ≡ high_hears world path)
-    → hearing_lines (is_flowing state) names (view_of world path) ≡ hears_lines state names world path
-hears_by Closed names world path low high = refl
-hears_by Opening names world path low high = refl
-hears_by Opened names world path low high = refl
-hears_by Closing names world path low high = refl
-hears_by Flowing names world path low high =
-    ap (λ (line : List ℕ). line ++ hearing_line names (end_view world path.high)) (hears_is names world path.low (low_hears world path) (low refl))
-    ∙ ap (λ (line : List ℕ). hears_line names world path.low (low_hears world path) ++ line) (hears_is names world path.high (high_hears world path) (high refl))
+    (flow_is (path_state world path))
 
 -- a path that is as the table says is printed so
 pub text_is : (names : NameLists) (world : WorldState) (path : PathEnds) → PathHolds world path → view_text names (view_of world path) ≡ path_text names world path
 text_is names world path holds =
-    ap (λ (line : List ℕ). line ++ hearing_lines (is_flowing (slot_of world path.low).state) names (view_of world path)) (line_is names world path holds.low)
+    let flows : path_flows world path ≡ is_flowing (path_state world path) = both_flow (path_state world path) (slot_of world path.low).state (slot_of world path.high).state holds.low holds.high in
+    ap (λ (flowing : Bool). view_text names (view_by world path flowing)) flows
+    ∙ (ap (λ (line : List ℕ). line ++ hearing_lines (is_flowing (path_state world path)) names (view_by world path (is_flowing (path_state world path)))) (line_is names world path)
     ∙ ap (λ (lines : List ℕ). path_line names world path ++ lines)
-    (ap (λ (state : State). hearing_lines (is_flowing state) names (view_of world path)) holds.low
-    ∙ hears_by (path_state world path) names world path
+    (lines_by (path_state world path) names world path
     (λ flows. heard_is (slot_of world path.low).sel_in (own_descriptor world path.low) (own_sender world path.high) (holds.low_hears flows).chosen)
-    (λ flows. heard_is (slot_of world path.high).sel_in (own_descriptor world path.high) (own_sender world path.low) (holds.high_hears flows).chosen))
+    (λ flows. heard_is (slot_of world path.high).sel_in (own_descriptor world path.high) (own_sender world path.low) (holds.high_hears flows).chosen)))
 
 texts_are : (names : NameLists) (world : WorldState) (ends : List PathEnds) → AllByRecursion (PathHolds world) ends
     → flat_map (view_text names) (map (view_of world) ends) ≡ flat_map (path_text names world) ends
@@ -129,22 +149,16 @@ offered Feature names box media local all = λ k e within. absurd (omega arith)
 
 -- what an end hears has a name
 heard_named : (names : NameLists) (world : WorldState) (s : ℕ) (far_sender : Sender) (selector : Option Selector) → NamesAll names world
-    → selector ≡ Some (selector_of (own_descriptor world s) far_sender) → IsNamed names (selected selector)
+    → selector ≡ Some (selector_of (own_descriptor world s) far_sender) → IsNamed names (heard_codec true selector)
 heard_named names world s far_sender selector all chosen =
-    subst (λ (o : Option Selector). IsNamed names (selected o)) (sym chosen)
+    subst (λ (o : Option Selector). IsNamed names (heard_codec true o)) (sym chosen)
     (shared_named names (codecs_of (own_descriptor world s).codecs) (codecs_of far_sender.codecs) (heard (own_descriptor world s) far_sender)
     (offered (box_at world (place world s).0).kind names (box_at world (place world s).0) (media_at (box_at world (place world s).0) (place world s).1) (place world s).1 (all.codecs (place world s).0)) refl)
 
--- a closed slot hears nothing
-closed_none : (slot : Slot) → Kept slot → slot.state ≡ Closed → slot.sel_in ≡ None
-closed_none slot kept is = grind arith
-
-none_named : (names : NameLists) (selector : Option Selector) → selector ≡ None → IsNamed names (selected selector)
-none_named names selector is = subst (λ (o : Option Selector). IsNamed names (selected o)) (sym is) tt
-
 -- an end has names, where what it hears has one
-end_named : (names : NameLists) (world : WorldState) (s : ℕ) → NamesAll names world → IsSound world → s < slot_count world → IsNamed names (selected (slot_of world s).sel_in) → IsNamedEnd names (end_view world s)
-end_named names world s all sound inside heard = record {
+end_named : (names : NameLists) (world : WorldState) (flowing : Bool) (s : ℕ) → NamesAll names world → IsSound world → s < slot_count world
+    → IsNamed names (heard_codec flowing (slot_of world s).sel_in) → IsNamedEnd names (end_view world flowing s)
+end_named names world flowing s all sound inside heard = record {
   box = subst (λ (n : ℕ). (place world s).0 < n) (sym all.boxes) (sound.numbered.placed s inside);
   slot = subst (λ (n : ℕ). (place world s).1 < n) (sym (all.slots (place world s).0 (sound.numbered.placed s inside))) (sound.numbered.slots s inside);
   codec = heard;
@@ -153,14 +167,18 @@ end_named names world s all sound inside heard = record {
 -- both ends of a quiet path have
 ends_named : (names : NameLists) (world : WorldState) (path : PathEnds) → NamesAll names world → IsSound world → path.low < slot_count world → path.high < slot_count world
     → AreIn world path Closed ⊎ (AreIn world path Flowing × HearEachOther world path) → IsNamedView names (view_of world path)
-ends_named names world path all sound low high (inl closed) = record {
-  low = end_named names world path.low all sound low (none_named names (slot_of world path.low).sel_in (closed_none (slot_of world path.low) (sound.tunnels path.low low).first_kept closed.low));
-  high = end_named names world path.high all sound high (none_named names (slot_of world path.high).sel_in (closed_none (slot_of world path.high) (sound.tunnels path.high high).first_kept closed.high));
-}
-ends_named names world path all sound low high (inr flowing) = record {
-  low = end_named names world path.low all sound low (heard_named names world path.low (own_sender world path.high) (slot_of world path.low).sel_in all flowing.1.low.chosen);
-  high = end_named names world path.high all sound high (heard_named names world path.high (own_sender world path.low) (slot_of world path.high).sel_in all flowing.1.high.chosen);
-}
+ends_named names world path all sound low high (inl closed) =
+    let flows : path_flows world path ≡ false = both_flow Closed (slot_of world path.low).state (slot_of world path.high).state closed.low closed.high in
+    subst (λ (flowing : Bool). IsNamedView names (view_by world path flowing)) (sym flows) (record {
+      low = end_named names world false path.low all sound low tt;
+      high = end_named names world false path.high all sound high tt;
+    })
+ends_named names world path all sound low high (inr flowing) =
+    let flows : path_flows world path ≡ true = both_flow Flowing (slot_of world path.low).state (slot_of world path.high).state flowing.0.low flowing.0.high in
+    subst (λ (flowing : Bool). IsNamedView names (view_by world path flowing)) (sym flows) (record {
+      low = end_named names world true path.low all sound low (heard_named names world path.low (own_sender world path.high) (slot_of world path.low).sel_in all flowing.1.low.chosen);
+      high = end_named names world true path.high all sound high (heard_named names world path.high (own_sender world path.low) (slot_of world path.high).sel_in all flowing.1.high.chosen);
+    })
 
 -- the ends of a path are slots
 abbrev AreInside : WorldState → PathEnds → Type 0
