@@ -12,10 +12,11 @@ use Rattle.mc_slot.specs.Tunnel.{Kept}
 use Rattle.mc_slot.specs.declared.Slot.{Slot}
 use Rattle.mc_slot.specs.declared.State.TheVariants.{Flowing}
 use Rattle.mc_link.specs.LinkLaws.{LinkRestsAfterTurn}
-use Rattle.mc_link.specs.LinkTurn.{can_close, choosing, choosing_for, flowing, is_answer, leaning, passing, passing_in, sent_by_first, sent_by_second}
+use Rattle.mc_link.specs.LinkTurn.{can_close, choosing, choosing_for, flowing, leaning, passing, passing_in, sent_by_first, sent_by_second}
 use Rattle.mc_link.specs.declared.Side.TheVariants.{First, Second}
 use Rattle.mc_link.proofs.Parts.{both, live_both, live_got, split, empty_four}
 use Rattle.mc_link.proofs.Sides.{first_of_four, second_of_four}
+use Rattle.mc_signal.specs.Choice.{answers}
 
 -- a slot that has passed on the other's descriptor
 pub record Passed (slot other next : Slot) : Type 0 where
@@ -48,7 +49,7 @@ pub record Chose (slot : Slot) (heard : Option Selector) (next : Slot) : Type 0 
 
 -- by whether it answers what the slot got, and whether it is what it sent last
 chooses_by : (fits same : Bool) (s : Selector) (d : Descriptor) (slot next : Slot) → slot.state ≡ Flowing → slot.got ≡ Some d
-    → is_answer s d ≡ fits → option_eq is_same_selector slot.sel_out (Some s) ≡ same
+    → answers s d ≡ fits → option_eq is_same_selector slot.sel_out (Some s) ≡ same
     → sent_all slot (choosing_for (Some s) slot.got slot.sel_out) ≡ Some next → Chose slot (Some s) next
 chooses_by true true s d slot next is had fit last goes =
     record { flows = grind (arith); got = grind (arith); sel_in = grind (arith); sent = grind (arith); quiet = grind (arith, selector_refl) }
@@ -61,7 +62,7 @@ chooses_by false same s d slot next is had fit last goes =
 pub chooses : (heard : Option Selector) (d : Descriptor) (slot next : Slot) → slot.state ≡ Flowing → slot.got ≡ Some d
     → sent_all slot (choosing_for heard slot.got slot.sel_out) ≡ Some next → Chose slot heard next
 chooses None d slot next is had goes = record { flows = grind (arith); got = grind (arith); sel_in = grind (arith); sent = grind (arith); quiet = refl }
-chooses (Some s) d slot next is had goes = chooses_by (is_answer s d) (option_eq is_same_selector slot.sel_out (Some s)) s d slot next is had refl refl goes
+chooses (Some s) d slot next is had goes = chooses_by (answers s d) (option_eq is_same_selector slot.sel_out (Some s)) s d slot next is had refl refl goes
 
 -- two slots that have passed all on are at rest
 rest_after : (d f : Descriptor) (a b a_next b_next a_last b_last : Slot) → a.got ≡ Some d → b.got ≡ Some f

@@ -1,5 +1,6 @@
 -- The turn of a link: what its two slots send after a turn that concerns one of them, and in which order.
-use Rattle.std.specs.Prelude.{◌≡◌, ◌==◌, ◌&&◌, ℕ, Option, Some, None, Bool, true, false, if◌then◌else◌, List, [], ◌∷◌, ◌++◌, map}
+use Rattle.std.specs.Prelude.{◌≡◌, ℕ, Option, Some, None, Bool, true, false, if◌then◌else◌, List, [], ◌∷◌, ◌++◌, map}
+use Rattle.mc_signal.specs.Choice.{answers}
 use Rattle.mc_signal.specs.declared.Descriptor.{Descriptor}
 use Rattle.mc_signal.specs.declared.Selector.{Selector}
 use Rattle.mc_signal.specs.declared.Signal.{Signal}
@@ -43,13 +44,9 @@ passing_in state last got = []
 abbrev pub passing : Slot → Slot → List Signal
 passing slot other = passing_in slot.state slot.sent other.got
 
--- the selector has the descriptor's origin and version
-abbrev pub is_answer : Selector → Descriptor → Bool
-is_answer s d = (s.origin == d.origin) && (s.version == d.version)
-
 -- a slot passes on the selector that the other slot got, where it answers what this slot got and differs from the last
 abbrev pub choosing_for : Option Selector → Option Descriptor → Option Selector → List Signal
-choosing_for (Some heard) (Some got) last = if is_answer heard got then selecting_newer last heard else []
+choosing_for (Some heard) (Some got) last = if answers heard got then selecting_newer last heard else []
 choosing_for heard got last = []
 
 -- what it passes on of the other's selector, as both are

@@ -1,7 +1,7 @@
 -- A chain of tunnels with nothing under way, joined by links at rest, with an end at rest at each side: all its slots are closed, or all flow, and what its ends have of each other has passed along it.
 use Rattle.std.proofs.Common.{◌≡◌, ◌⊎◌, inl, inr, true, Option, Some, List, [], ◌∷◌, refl, ap, ◌∙◌, subst, arith}
 use Rattle.std.proofs.lemmas.Grind.{common_steps}
-use Rattle.mc_signal.specs.Choice.{selector_of}
+use Rattle.mc_signal.specs.Choice.{answers, selector_of}
 use Rattle.mc_signal.specs.declared.Descriptor.{Descriptor}
 use Rattle.mc_signal.specs.declared.Selector.{Selector}
 use Rattle.mc_signal.specs.declared.Sender.{Sender}
@@ -13,7 +13,7 @@ use Rattle.mc_slot.specs.declared.Goal.{Goal}
 use Rattle.mc_slot.specs.declared.Slot.{Slot}
 use Rattle.mc_slot.specs.declared.State.{State}
 use Rattle.mc_slot.specs.declared.State.TheVariants.{Closed, Opening, Opened, Flowing}
-use Rattle.mc_link.specs.LinkTurn.{IsLinkAtRest, choosing, is_answer, leaning, passing}
+use Rattle.mc_link.specs.LinkTurn.{IsLinkAtRest, choosing, leaning, passing}
 use Rattle.mc_link.proofs.Parts.{Quiet, quiet}
 use Rattle.mc_path.proofs.RestTables.{both_empty, chooses, described, passes, selected}
 use Rattle.mc_world.specs.PathTable.{Hears}
@@ -123,12 +123,12 @@ passed : (a b : Slot) (own : Descriptor) → a.state ≡ Flowing → b.got ≡ S
 passed a b own is had none = (passes a b is (rw had refl)).0 none ∙ had
 
 -- and the choice that the other got, where that answers what it got itself
-chosen : (a b : Slot) (own : Descriptor) (choice : Selector) → a.got ≡ Some own → b.sel_in ≡ Some choice → is_answer choice own ≡ true → choosing a b ≡ []
+chosen : (a b : Slot) (own : Descriptor) (choice : Selector) → a.got ≡ Some own → b.sel_in ≡ Some choice → answers choice own ≡ true → choosing a b ≡ []
     → a.sel_out ≡ Some choice
 chosen a b own choice had heard answers none = (chooses b.sel_in a.got a.sel_out).0 none choice own heard had answers
 
 -- a choice for a descriptor answers it
-answers_own : (own : Descriptor) (me : Sender) → is_answer (selector_of own me) own ≡ true
+answers_own : (own : Descriptor) (me : Sender) → answers (selector_of own me) own ≡ true
 answers_own own me = grind (arith, common_steps)
 
 -- ---- the states along a chain
@@ -186,7 +186,7 @@ got_on ((near, next) ∷ rest) far own is joined all got =
     got_on rest next own all.1 joined.2 all.2 (have.got_back ∙ had)
 
 -- and a choice for the end's descriptor
-heard_on : (rest : List (Slot × Slot)) (far : Slot) (own : Descriptor) (choice : Selector) → is_answer choice own ≡ true → far.state ≡ Flowing → Joined far rest → AllAre Flowing rest
+heard_on : (rest : List (Slot × Slot)) (far : Slot) (own : Descriptor) (choice : Selector) → answers choice own ≡ true → far.state ≡ Flowing → Joined far rest → AllAre Flowing rest
     → (last_slot far rest).sent ≡ Some own → far.sel_in ≡ Some choice → (last_slot far rest).sel_in ≡ Some choice
 heard_on [] far own choice answers is joined all end heard = heard
 heard_on ((near, next) ∷ rest) far own choice answers is joined all end heard =
@@ -196,7 +196,7 @@ heard_on ((near, next) ∷ rest) far own choice answers is joined all end heard 
     heard_on rest next own choice answers all.1 joined.2 all.2 end (have.heard_back ∙ chose)
 
 -- the end's choice for what it got comes back
-chose_back : (rest : List (Slot × Slot)) (far : Slot) (own : Descriptor) (choice : Selector) → is_answer choice own ≡ true → far.state ≡ Flowing → Joined far rest → AllAre Flowing rest
+chose_back : (rest : List (Slot × Slot)) (far : Slot) (own : Descriptor) (choice : Selector) → answers choice own ≡ true → far.state ≡ Flowing → Joined far rest → AllAre Flowing rest
     → far.got ≡ Some own → (last_slot far rest).sel_out ≡ Some choice → far.sel_out ≡ Some choice
 chose_back [] far own choice answers is joined all got end = end
 chose_back ((near, next) ∷ rest) far own choice answers is joined all got end =

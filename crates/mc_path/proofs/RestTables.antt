@@ -1,7 +1,7 @@
 -- The two tables of what may be at rest on one side of a box have what is at rest, and nothing else.
 use Rattle.std.proofs.Common.{◌≡◌, ◌↔◌, Bool, true, false, if◌then◌else◌, Option, Some, None, IsSome, List, [], ◌∷◌, ◌++◌, refl, ap, sym, ◌∙◌, subst, arith}
 use Rattle.std.specs.Option.{option_eq, option_map}
-use Rattle.mc_signal.specs.Choice.{selector_of}
+use Rattle.mc_signal.specs.Choice.{answers, selector_of}
 use Rattle.mc_signal.specs.Same.{is_same_descriptor, is_same_selector}
 use Rattle.mc_signal.specs.declared.Descriptor.{Descriptor}
 use Rattle.mc_signal.specs.declared.Selector.{Selector}
@@ -17,7 +17,7 @@ use Rattle.mc_slot.specs.declared.Goal.TheVariants.{Close as ToClose}
 use Rattle.mc_slot.specs.declared.Slot.{Slot}
 use Rattle.mc_slot.specs.declared.State.{State}
 use Rattle.mc_slot.specs.declared.State.TheVariants.{Closed, Opened, Flowing, Closing}
-use Rattle.mc_link.specs.LinkTurn.{choosing, choosing_for, flowing, is_answer, leaning_in, passing, passing_in}
+use Rattle.mc_link.specs.LinkTurn.{choosing, choosing_for, flowing, leaning_in, passing, passing_in}
 use Rattle.mc_link.proofs.Parts.{empty_four, live_both, quiet}
 use Rattle.mc_path.specs.Rests.{EndMayRest, EndsAtRest, HavePassedOn, IsPassedOn, LinkMayRest, LinksAtRest}
 
@@ -83,8 +83,8 @@ pub passes : (slot other : Slot) → slot.state ≡ Flowing → IsSome other.got
 passes slot other is there = subst (λ (state : State). (passing_in state slot.sent other.got ≡ []) ↔ (slot.sent ≡ other.got)) (sym is) (passes_by slot.sent other.got there)
 
 -- it sends no selector just where it has passed on the one that the other got, by whether that answers
-chooses_by : (answers : Bool) (h : Selector) (g : Descriptor) (last : Option Selector) → is_answer h g ≡ answers
-    → ((if answers then selecting_newer last h else []) ≡ []) ↔ IsPassedOn (Some h) (Some g) last
+chooses_by : (fits : Bool) (h : Selector) (g : Descriptor) (last : Option Selector) → answers h g ≡ fits
+    → ((if fits then selecting_newer last h else []) ≡ []) ↔ IsPassedOn (Some h) (Some g) last
 chooses_by true h g last is = (λ none other d same same_got answers. (selected last h).0 none ∙ same, λ passed. (selected last h).1 (passed h g refl refl is))
 chooses_by false h g last is = (λ none other d same same_got answers. absurd (grind (arith)), λ passed. refl)
 
@@ -92,7 +92,7 @@ chooses_by false h g last is = (λ none other d same same_got answers. absurd (g
 pub chooses : (heard : Option Selector) (got : Option Descriptor) (last : Option Selector) → (choosing_for heard got last ≡ []) ↔ IsPassedOn heard got last
 chooses None got last = (λ none h g is. absurd (cc), λ passed. refl)
 chooses (Some heard) None last = (λ none h g is was. absurd (cc), λ passed. refl)
-chooses (Some heard) (Some got) last = chooses_by (is_answer heard got) heard got last refl
+chooses (Some heard) (Some got) last = chooses_by (answers heard got) heard got last refl
 
 -- two flowing slots send nothing just where both have passed on what the other got
 flowing_by : (a b : Slot) → a.state ≡ Flowing → b.state ≡ Flowing → KeptIn Flowing a → KeptIn Flowing b → (flowing a b ≡ []) ↔ HavePassedOn a b

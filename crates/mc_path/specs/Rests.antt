@@ -1,7 +1,7 @@
 -- What may be at rest on one side of a box: an end, by its goal and its state, and the two slots of a link, by theirs.
 use Rattle.std.specs.Prelude.{◌≡◌, ◌↔◌, Option, Some, true}
 use Rattle.std.specs.Option.{option_map}
-use Rattle.mc_signal.specs.Choice.{selector_of}
+use Rattle.mc_signal.specs.Choice.{answers, selector_of}
 use Rattle.mc_signal.specs.declared.Descriptor.{Descriptor}
 use Rattle.mc_signal.specs.declared.Selector.{Selector}
 use Rattle.mc_signal.specs.declared.Sender.{Sender}
@@ -12,7 +12,7 @@ use Rattle.mc_slot.specs.declared.Goal.TheVariants.{Close as ToClose}
 use Rattle.mc_slot.specs.declared.Slot.{Slot}
 use Rattle.mc_slot.specs.declared.State.{State}
 use Rattle.mc_slot.specs.declared.State.TheVariants.{Closed, Opened, Flowing, Closing}
-use Rattle.mc_link.specs.LinkTurn.{IsLinkAtRest, is_answer}
+use Rattle.mc_link.specs.LinkTurn.{IsLinkAtRest}
 
 -- what an end at rest may be: under close it is closed or closing; else it isn't opened, and where it flows it has sent its own descriptor and the choice for what it got
 abbrev pub EndMayRest : Goal → State → Slot → Descriptor → Sender → Type 0
@@ -29,7 +29,7 @@ EndsAtRest = (goal : Goal) (slot : Slot) (own : Descriptor) (me : Sender) → Ke
 
 -- a selector that one slot of a link got was sent on by the other, where it answers what that one got
 abbrev pub IsPassedOn : Option Selector → Option Descriptor → Option Selector → Type 0
-IsPassedOn heard got last = (h : Selector) (g : Descriptor) → heard ≡ Some h → got ≡ Some g → is_answer h g ≡ true → last ≡ Some h
+IsPassedOn heard got last = (h : Selector) (g : Descriptor) → heard ≡ Some h → got ≡ Some g → answers h g ≡ true → last ≡ Some h
 
 -- two flowing slots of a link have sent on what the other got
 pub record HavePassedOn (a b : Slot) : Type 0 where

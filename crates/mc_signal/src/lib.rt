@@ -2,7 +2,7 @@
 #![tactic(auto)]
 
 ghost use Rattle.std.specs.Prelude.{◌≡◌, ◌↔◌, IsTrue};
-ghost use Rattle.mc_signal.specs.Choice.{codecs_of, shared_codec, selector_of, Answers};
+ghost use Rattle.mc_signal.specs.Choice.{codecs_of, shared_codec, selector_of, answers};
 
 mod codec_list;
 pub mod laws;
@@ -101,7 +101,7 @@ pub fn choose(d: Descriptor, me: &Sender) -> Selector
 
 /// Whether a selector answers a descriptor: their origins and versions are equal.
 pub fn answers(s: &Selector, d: &Descriptor) -> bool
-    ensures { IsTrue result ↔ Answers s.now d.now }
+    ensures { result ≡ answers s.now d.now }
 {
     s.origin == d.origin && s.version == d.version
 }
