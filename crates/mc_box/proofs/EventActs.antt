@@ -5,13 +5,13 @@ use Rattle.std.proofs.Math.ListN.{get_or, set, length-set}
 use Rattle.std.proofs.lemmas.Bool.{and_parts, cases_eq}
 use Rattle.std.proofs.lemmas.List.{get_or-set_same, get_or-set_other}
 use Rattle.mc_signal.specs.declared.Signal.{Signal}
-use Rattle.mc_slot.specs.EndTurn.{pushed_by}
+use Rattle.mc_slot.specs.EndTurn.{pushed_by, closes_by}
 use Rattle.mc_slot.specs.Moves.{answered, sent_all, taken, Took}
 use Rattle.mc_slot.specs.Sending.{pair_of}
 use Rattle.mc_slot.specs.declared.Slot.{Slot}
 use Rattle.mc_slot.specs.declared.SlotGoal.{SlotGoal}
 use Rattle.mc_box.specs.Acting.{Acted, sends, takes, sent_by, BoxActs, IsSameMake}
-use Rattle.mc_box.specs.BoxEvents.{BoxStep, answering, closes_by, goal_turn, happening, heard, is_enabled, last_version, media_step, set_step, take_step, talked}
+use Rattle.mc_box.specs.BoxEvents.{BoxStep, answering, goal_turn, happening, heard, is_enabled, last_version, media_step, set_step, take_step, talked}
 use Rattle.mc_box.specs.BoxShapes.{is_device}
 use Rattle.mc_box.specs.BoxSound.{IsSoundBox}
 use Rattle.mc_box.specs.Boxes.{BoxState, is_slot, media_at, no_media, no_slot, owes_at, slot_at, with_goals, with_media, with_slot}

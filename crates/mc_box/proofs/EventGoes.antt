@@ -3,9 +3,9 @@ use Rattle.std.proofs.Common.{◌≡◌, ◌==◌, ℕ, Bool, true, false, if◌
 use Rattle.std.specs.Option.{option_map}
 use Rattle.std.proofs.lemmas.Bool.{lt-ltb}
 use Rattle.mc_signal.specs.declared.Signal.{Signal}
-use Rattle.mc_slot.specs.EndTurn.{pushed_by}
+use Rattle.mc_slot.specs.EndTurn.{pushed_by, closes_by}
 use Rattle.mc_slot.specs.Moves.{taken, Took}
-use Rattle.mc_box.specs.BoxEvents.{BoxStep, answering, box_event, closes_by, goal_turn, happening, heard, is_enabled, is_take, is_version_end, last_version, take_step, talked}
+use Rattle.mc_box.specs.BoxEvents.{BoxStep, answering, box_event, goal_turn, happening, heard, is_enabled, is_take, is_version_end, last_version, take_step, talked}
 use Rattle.mc_box.specs.BoxSound.{IsSoundBox}
 use Rattle.mc_box.specs.Boxes.{BoxState, is_slot, media_at, slot_at, with_goals, with_media, with_slot}
 use Rattle.mc_box.specs.EventLaws.{EventGoes, EventWasEnabled, TakeGoes, TakeWasLawful, VersionEndStops}

@@ -5,13 +5,13 @@ use Rattle.std.proofs.Math.ListN.{set, length-set}
 use Rattle.std.proofs.lemmas.List.{get_or-set_other}
 use Rattle.std.proofs.lemmas.Bool.{and_parts}
 use Rattle.mc_signal.specs.declared.Signal.{Signal}
-use Rattle.mc_slot.specs.EndTurn.{pushed_by}
+use Rattle.mc_slot.specs.EndTurn.{pushed_by, closes_by}
 use Rattle.mc_slot.specs.Moves.{taken, Took}
 use Rattle.mc_slot.specs.declared.Slot.{Slot}
 use Rattle.mc_slot.specs.declared.SlotGoal.{SlotGoal}
 use Rattle.mc_slot.specs.declared.SlotGoal.TheVariants.{End, Link}
 use Rattle.mc_tunnel.proofs.Steps.{took_kept, took_medium}
-use Rattle.mc_box.specs.BoxEvents.{BoxStep, answering, box_event, closes_by, goal_turn, happening, heard, is_enabled, last_version, media_step, set_step, take_step, talked}
+use Rattle.mc_box.specs.BoxEvents.{BoxStep, answering, box_event, goal_turn, happening, heard, is_enabled, last_version, media_step, set_step, take_step, talked}
 use Rattle.mc_box.specs.BoxShapes.{is_device}
 use Rattle.mc_box.specs.BoxSound.{IsSoundBox, IsWired}
 use Rattle.mc_box.specs.Boxes.{BoxState, is_slot, no_media, no_slot, slot_at, goal_at, media_at, own_of, owes_at, sender_of, with_goals, with_media, with_slot}

@@ -4,7 +4,7 @@ use Rattle.std.specs.Option.{option_map}
 use Rattle.std.proofs.Math.ListN.{get_or, set, length-set}
 use Rattle.std.proofs.lemmas.Bool.{cases_eq}
 use Rattle.std.proofs.lemmas.List.{get_or-set_same, get_or-set_other, length-map}
-use Rattle.mc_link.specs.LinkTurn.{can_close, choosing, leaning, link_due, numbered, passing, sent_by_first, sent_by_second, IsLinkAtRest}
+use Rattle.mc_link.specs.LinkTurn.{can_close, choosing, leaning, link_due, numbered, passing, sent_by_first, sent_by_second, IsLinkAtRest, side_closed}
 use Rattle.mc_link.specs.declared.Side.{Side}
 use Rattle.mc_link.specs.declared.Side.TheVariants.{First, Second}
 use Rattle.mc_link.proofs.LinkRests.{link_rests}
@@ -23,7 +23,7 @@ use Rattle.mc_slot.specs.declared.Slot.{Slot}
 use Rattle.mc_slot.specs.declared.SlotGoal.{SlotGoal}
 use Rattle.mc_slot.specs.declared.SlotGoal.TheVariants.{End, Link}
 use Rattle.mc_turn.proofs.EndRests.{rests_kept}
-use Rattle.mc_box.specs.BoxEvents.{BoxStep, end_turn, goal_turn, pair_turn, side_closed, side_of, turn_by}
+use Rattle.mc_box.specs.BoxEvents.{BoxStep, end_turn, goal_turn, pair_turn, side_of, turn_by}
 use Rattle.mc_box.specs.BoxSound.{IsWired, RestsAt}
 use Rattle.mc_box.specs.Goals.{most}
 use Rattle.mc_box.specs.Boxes.{BoxState, no_slot, slot_at, goal_at, media_at, own, sender, with_slot}

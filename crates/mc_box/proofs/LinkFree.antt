@@ -9,7 +9,7 @@ use Rattle.mc_signal.specs.declared.codec_list.CodecList.{CodecList}
 use Rattle.mc_signal.specs.declared.Descriptor.{Descriptor}
 use Rattle.mc_signal.specs.declared.Sender.{Sender}
 use Rattle.mc_signal.specs.declared.Signal.{Signal}
-use Rattle.mc_slot.specs.EndTurn.{due, pushed_by}
+use Rattle.mc_slot.specs.EndTurn.{due, pushed_by, closes_by}
 use Rattle.mc_slot.specs.Moves.{answered, sent_all, taken, Took}
 use Rattle.mc_slot.specs.Same.{is_same_goal}
 use Rattle.mc_slot.specs.Sending.{pair_of}
@@ -18,7 +18,7 @@ use Rattle.mc_slot.specs.declared.Goal.TheVariants.{Open as ToOpen, Close as ToC
 use Rattle.mc_slot.specs.declared.Slot.{Slot}
 use Rattle.mc_slot.specs.declared.SlotGoal.{SlotGoal}
 use Rattle.mc_slot.specs.declared.SlotGoal.TheVariants.{End, Link}
-use Rattle.mc_box.specs.BoxEvents.{BoxStep, answering, box_event, closes_by, followed, goal_turn, happening, heard, last_version, take_step, turn_by, turns_of}
+use Rattle.mc_box.specs.BoxEvents.{BoxStep, answering, box_event, followed, goal_turn, happening, heard, last_version, take_step, turn_by, turns_of}
 use Rattle.mc_box.specs.BoxSound.{IsWired}
 use Rattle.mc_box.specs.Boxes.{BoxState, IsBox, first_box, is_slot, media_at, no_slot, own, sender, slot_at, goal_at, with_goals, with_media, with_slot}
 use Rattle.mc_box.specs.Goals.{changed_from, changed_slots, goal_after, goals_after, has_turn, parted}

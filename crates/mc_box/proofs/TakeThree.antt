@@ -1,20 +1,19 @@
 -- A sound box that takes a signal sends at most three.
-use Rattle.std.proofs.Common.{◌≡◌, ◌≢◌, ℕ, ◌+◌, ◌<◌, ◌≤◌, true, false, Option, Some, None, List, [], ◌∷◌, map, inl, inr, length, max, min, nat_lt, refl, ap, sym, ◌∙◌, subst, arith, length-append}
+use Rattle.std.proofs.Common.{◌≡◌, ◌≢◌, ℕ, ◌+◌, ◌<◌, ◌≤◌, true, false, Option, Some, map, inl, inr, length, max, min, nat_lt, refl, ap, ◌∙◌, subst, arith, length-append}
 use Rattle.std.specs.Option.{option_map}
 use Rattle.std.proofs.Math.ListN.{set}
 use Rattle.std.proofs.lemmas.Bool.{cases_lt, lt-ltb, le-ltb}
 use Rattle.std.proofs.lemmas.Grind.{common_steps}
 use Rattle.std.proofs.lemmas.List.{get_or-set_same, get_or-set_other, length-map}
-use Rattle.mc_link.specs.LinkLaws.{closed_by, flipped}
-use Rattle.mc_link.specs.LinkTurn.{link_due, numbered, IsLinkAtRest}
+use Rattle.mc_link.specs.LinkTurn.{link_due, numbered, IsLinkAtRest, side_closed}
 use Rattle.mc_link.specs.declared.Side.{Side}
 use Rattle.mc_link.specs.declared.Side.TheVariants.{First, Second}
 use Rattle.mc_link.proofs.LinkThree.{link_sends_three}
-use Rattle.mc_link.proofs.Mirror.{link_mirror}
+use Rattle.mc_link.proofs.SecondSlot.{second_slot_sends_three}
 use Rattle.mc_signal.specs.declared.Descriptor.{Descriptor}
 use Rattle.mc_signal.specs.declared.Sender.{Sender}
 use Rattle.mc_signal.specs.declared.Signal.{Signal}
-use Rattle.mc_slot.specs.EndTurn.{due, pushed_by, IsAtRest}
+use Rattle.mc_slot.specs.EndTurn.{due, pushed_by, IsAtRest, closes_by}
 use Rattle.mc_slot.specs.Moves.{answered, taken, Took}
 use Rattle.mc_slot.specs.Sending.{pair_of}
 use Rattle.mc_slot.specs.Tunnel.{Kept}
@@ -22,8 +21,7 @@ use Rattle.mc_slot.specs.declared.Goal.{Goal}
 use Rattle.mc_slot.specs.declared.Slot.{Slot}
 use Rattle.mc_slot.specs.declared.SlotGoal.{SlotGoal}
 use Rattle.mc_slot.specs.declared.SlotGoal.TheVariants.{End, Link}
-use Rattle.mc_slot.specs.declared.State.{State}
-use Rattle.mc_box.specs.BoxEvents.{BoxStep, answering, closes_by, end_turn, goal_turn, link_turn, pair_turn, side_closed, side_of, take_step, turn_by}
+use Rattle.mc_box.specs.BoxEvents.{BoxStep, answering, end_turn, goal_turn, link_turn, pair_turn, side_of, take_step, turn_by}
 use Rattle.mc_box.specs.BoxSound.{IsSoundBox, RestsAt}
 use Rattle.mc_box.specs.Boxes.{BoxState, is_slot, no_slot, slot_at, goal_at, media_at, own, sender, with_slot}
 use Rattle.mc_box.specs.EventLaws.{TakeSendsThree}
@@ -32,48 +30,12 @@ use Rattle.mc_box.proofs.Held.{own_put, sender_put}
 use Rattle.mc_box.proofs.Options.{if_some, map_some, then_some}
 use Rattle.mc_box.proofs.GoalTurns.{end_form, pair_form}
 
--- ---- a taken close, by sides
-
-pub closed_first : (signal : Signal) (state : State) → side_closed (closes_by signal state) First ≡ closed_by signal state First
-closed_first signal state = grind (arith)
-
-pub closed_second : (signal : Signal) (state : State) → side_closed (closes_by signal state) Second ≡ flipped (closed_by signal state First)
-closed_second signal state = grind (arith)
-
 -- ---- an end
 
 end_two : (goal : Goal) (slot after : Slot) (mine : Descriptor) (me : Sender) (signal : Signal) (answer : Option Signal)
     → Kept slot → IsAtRest goal slot mine me → taken slot signal ≡ Some record { answer = answer; after = after }
     → length (answered answer) + length (due goal after (pushed_by signal after.state) mine me) ≤ 2
 end_two goal slot after mine me signal answer kept rest goes = grind (arith, common_steps)
-
--- ---- a link
-
-no_length : (l : List (Side × Signal)) → length l ≡ 0 → l ≡ []
-no_length [] is = refl
-no_length (x ∷ l) is = absurd (omega arith)
-
-pub mirror_rests : (a b : Slot) → IsLinkAtRest a b → IsLinkAtRest b a
-mirror_rests a b rest =
-    let same : length (link_due b a None) ≡ length (link_due a b None) = (link_mirror a b None).2 in
-    no_length (link_due b a None) (same ∙ ap (λ (l : List (Side × Signal)). length l) rest)
-
--- the lower slot of a link takes
-low_three : (a b after : Slot) (signal : Signal) (answer : Option Signal) → Kept a → IsLinkAtRest a b → taken a signal ≡ Some record { answer = answer; after = after }
-    → length (answered answer) + length (link_due after b (side_closed (closes_by signal after.state) First)) ≤ 3
-low_three a b after signal answer kept rest goes =
-    subst (λ (closed : Option Side). length (answered answer) + length (link_due after b closed) ≤ 3) (sym (closed_first signal after.state))
-    (link_sends_three a b after signal answer kept rest goes)
-
--- and the higher one
-high_three : (a b after : Slot) (signal : Signal) (answer : Option Signal) → Kept a → IsLinkAtRest b a → taken a signal ≡ Some record { answer = answer; after = after }
-    → length (answered answer) + length (link_due b after (side_closed (closes_by signal after.state) Second)) ≤ 3
-high_three a b after signal answer kept rest goes =
-    let same : length (link_due b after (flipped (closed_by signal after.state First))) ≡ length (link_due after b (closed_by signal after.state First)) =
-    (link_mirror after b (closed_by signal after.state First)).2 in
-    subst (λ (closed : Option Side). length (answered answer) + length (link_due b after closed) ≤ 3) (sym (closed_second signal after.state))
-    (subst (λ (n : ℕ). length (answered answer) + n ≤ 3) (sym same)
-    (link_sends_three a b after signal answer kept (mirror_rests b a rest) goes))
 
 -- ---- a box
 
@@ -127,7 +89,7 @@ link_takes box local partner signal answer after turn sound inside is goes turns
           (subst (λ (k : ℕ). pair_turn (with_slot box local after) local k (side_closed (closes_by signal after.state) (side_of local partner)) ≡ Some turn) high
           (subst (λ (k : ℕ). pair_turn (with_slot box local after) k (max local partner) (side_closed (closes_by signal after.state) (side_of local partner)) ≡ Some turn) low turns)) in
           link_sent (with_slot box local after) local partner (side_closed (closes_by signal after.state) First) after (slot_at box partner) answer turn here there
-          (low_three (slot_at box local) (slot_at box partner) after signal answer (sound.wired.kept local) rests goes) made
+          (link_sends_three (slot_at box local) (slot_at box partner) after signal answer (sound.wired.kept local) rests goes) made
       | inr above ↦
           let low : min local partner ≡ partner = omega arith in
           let high : max local partner ≡ local = omega arith in
@@ -139,7 +101,7 @@ link_takes box local partner signal answer after turn sound inside is goes turns
           (subst (λ (k : ℕ). pair_turn (with_slot box local after) partner k (side_closed (closes_by signal after.state) (side_of local partner)) ≡ Some turn) high
           (subst (λ (k : ℕ). pair_turn (with_slot box local after) k (max local partner) (side_closed (closes_by signal after.state) (side_of local partner)) ≡ Some turn) low turns)) in
           link_sent (with_slot box local after) partner local (side_closed (closes_by signal after.state) Second) (slot_at box partner) after answer turn there here
-          (high_three (slot_at box local) (slot_at box partner) after signal answer (sound.wired.kept local) rests goes) made
+          (second_slot_sends_three (slot_at box partner) (slot_at box local) after signal answer (sound.wired.kept local) rests goes) made
     ]
 
 goal_takes : (goal : SlotGoal) (box : BoxState) (local : ℕ) (signal : Signal) (answer : Option Signal) (after : Slot) (turn : BoxStep) → IsSoundBox box → local < length box.slots

@@ -4,15 +4,15 @@ use Rattle.std.specs.Option.{option_map}
 use Rattle.std.proofs.Math.ListN.{set, length-set}
 use Rattle.std.proofs.lemmas.Bool.{and_parts, cases_lt, lt-ltb, le-ltb}
 use Rattle.std.proofs.lemmas.List.{get_or-set_same, get_or-set_other}
-use Rattle.mc_link.specs.LinkLaws.{closed_by, flipped}
-use Rattle.mc_link.specs.LinkTurn.{IsLinkAtRest, link_due, numbered, sent_by_first, sent_by_second}
+use Rattle.mc_link.specs.LinkLaws.{flipped}
+use Rattle.mc_link.specs.LinkTurn.{IsLinkAtRest, link_due, numbered, sent_by_first, sent_by_second, side_closed}
 use Rattle.mc_link.specs.declared.Side.{Side}
 use Rattle.mc_link.specs.declared.Side.TheVariants.{First, Second}
-use Rattle.mc_link.proofs.Mirror.{link_mirror}
+use Rattle.mc_link.proofs.Mirror.{link_mirror, mirror_rests, side_turned}
 use Rattle.mc_signal.specs.declared.Descriptor.{Descriptor}
 use Rattle.mc_signal.specs.declared.Sender.{Sender}
 use Rattle.mc_signal.specs.declared.Signal.{Signal}
-use Rattle.mc_slot.specs.EndTurn.{due, owes, pushed_by}
+use Rattle.mc_slot.specs.EndTurn.{due, owes, pushed_by, closes_by}
 use Rattle.mc_slot.specs.Moves.{answered, sent_all, taken, Took}
 use Rattle.mc_slot.specs.Sending.{pair_of}
 use Rattle.mc_slot.specs.declared.Goal.{Goal}
@@ -21,7 +21,7 @@ use Rattle.mc_slot.specs.declared.SlotGoal.{SlotGoal}
 use Rattle.mc_slot.specs.declared.SlotGoal.TheVariants.{End, Link}
 use Rattle.mc_slot.specs.declared.State.{State}
 use Rattle.mc_box.specs.Acting.{sent_by}
-use Rattle.mc_box.specs.BoxEvents.{BoxStep, answering, box_event, closes_by, end_turn, goal_turn, link_turn, pair_turn, side_closed, side_of, take_step, turn_by}
+use Rattle.mc_box.specs.BoxEvents.{BoxStep, answering, box_event, end_turn, goal_turn, link_turn, pair_turn, side_of, take_step, turn_by}
 use Rattle.mc_box.specs.BoxSound.{IsWired, IsSoundBox, RestsAt}
 use Rattle.mc_box.specs.Boxes.{BoxState, goal_owes, is_slot, no_slot, owes_at, slot_at, goal_at, media_at, own, sender, with_slot}
 use Rattle.mc_box.specs.declared.event.Event.TheVariants.{Take, Retry}
@@ -30,7 +30,6 @@ use Rattle.mc_box.proofs.GoalTurns.{end_form, pair_else, pair_form, pair_high, p
 use Rattle.mc_box.proofs.Held.{own_put, sender_put}
 use Rattle.mc_box.proofs.Options.{if_some, map_some, then_some}
 use Rattle.mc_box.proofs.SentBy.{sent_by-append, sent_by_own, sent_by_other, sent_by_low, sent_by_high, sent_by_neither}
-use Rattle.mc_box.proofs.TakeThree.{closed_first, closed_second, mirror_rests}
 
 -- ---- one turn
 
@@ -107,7 +106,7 @@ turned_back box local partner a b closed turn turned =
     }
 
 pub link_turned : (box : BoxState) (local partner : ℕ) (signal : Signal) (state : State) (turn : BoxStep) → partner ≢ local → local < length box.slots → partner < length box.slots
-    → link_turn box local partner (closes_by signal state) ≡ Some turn → LinkTurned box local partner (slot_at box local) (slot_at box partner) (closed_by signal state First) turn
+    → link_turn box local partner (closes_by signal state) ≡ Some turn → LinkTurned box local partner (slot_at box local) (slot_at box partner) (side_closed (closes_by signal state) First) turn
 link_turned box local partner signal state turn other here there goes = elim (cases_lt local partner) [
   | inl below ↦
       let low : min local partner ≡ local = omega arith in
@@ -117,8 +116,7 @@ link_turned box local partner signal state turn other here there goes = elim (ca
       subst (λ (s : Side). pair_turn box local partner (side_closed (closes_by signal state) s) ≡ Some turn) side
       (subst (λ (k : ℕ). pair_turn box local k (side_closed (closes_by signal state) (side_of local partner)) ≡ Some turn) high
       (subst (λ (k : ℕ). pair_turn box k (max local partner) (side_closed (closes_by signal state) (side_of local partner)) ≡ Some turn) low goes)) in
-      subst (λ (closed : Option Side). LinkTurned box local partner (slot_at box local) (slot_at box partner) closed turn) (closed_first signal state)
-      (pair_turned box local partner (side_closed (closes_by signal state) First) turn below there made)
+      pair_turned box local partner (side_closed (closes_by signal state) First) turn below there made
   | inr above ↦
       let low : min local partner ≡ partner = omega arith in
       let high : max local partner ≡ local = omega arith in
@@ -127,8 +125,8 @@ link_turned box local partner signal state turn other here there goes = elim (ca
       subst (λ (s : Side). pair_turn box partner local (side_closed (closes_by signal state) s) ≡ Some turn) side
       (subst (λ (k : ℕ). pair_turn box partner k (side_closed (closes_by signal state) (side_of local partner)) ≡ Some turn) high
       (subst (λ (k : ℕ). pair_turn box k (max local partner) (side_closed (closes_by signal state) (side_of local partner)) ≡ Some turn) low goes)) in
-      turned_back box local partner (slot_at box local) (slot_at box partner) (closed_by signal state First) turn
-      (subst (λ (closed : Option Side). LinkTurned box partner local (slot_at box partner) (slot_at box local) closed turn) (closed_second signal state)
+      turned_back box local partner (slot_at box local) (slot_at box partner) (side_closed (closes_by signal state) First) turn
+      (subst (λ (closed : Option Side). LinkTurned box partner local (slot_at box partner) (slot_at box local) closed turn) (side_turned (closes_by signal state))
       (pair_turned box partner local (side_closed (closes_by signal state) Second) turn (omega arith) here made))
 ]
 
@@ -149,10 +147,10 @@ pub record LinkTook (box : BoxState) (local partner : ℕ) (signal : Signal) (st
   pub answer : Option Signal
   pub middle : Slot
   pub takes : taken (slot_at box local) signal ≡ Some record { answer = answer; after = middle }
-  pub first : sent_all middle (sent_by_first (link_due middle (slot_at box partner) (closed_by signal middle.state First))) ≡ Some (slot_at step.after local)
-  pub second : sent_all (slot_at box partner) (sent_by_second (link_due middle (slot_at box partner) (closed_by signal middle.state First))) ≡ Some (slot_at step.after partner)
-  pub sends : sent_by local step.sent ≡ answered answer ++ sent_by_first (link_due middle (slot_at box partner) (closed_by signal middle.state First))
-  pub partner_sends : sent_by partner step.sent ≡ sent_by_second (link_due middle (slot_at box partner) (closed_by signal middle.state First))
+  pub first : sent_all middle (sent_by_first (link_due middle (slot_at box partner) (side_closed (closes_by signal middle.state) First))) ≡ Some (slot_at step.after local)
+  pub second : sent_all (slot_at box partner) (sent_by_second (link_due middle (slot_at box partner) (side_closed (closes_by signal middle.state) First))) ≡ Some (slot_at step.after partner)
+  pub sends : sent_by local step.sent ≡ answered answer ++ sent_by_first (link_due middle (slot_at box partner) (side_closed (closes_by signal middle.state) First))
+  pub partner_sends : sent_by partner step.sent ≡ sent_by_second (link_due middle (slot_at box partner) (side_closed (closes_by signal middle.state) First))
   pub others : (k : ℕ) → k ≢ local → k ≢ partner → Idle box step k
   pub goals : step.after.goals ≡ box.goals
 
@@ -198,7 +196,7 @@ end_answers box local goal signal answer middle turn takes turned = record {
 
 link_answers : (box : BoxState) (local partner : ℕ) (signal : Signal) (answer : Option Signal) (middle : Slot) (turn : BoxStep) → partner ≢ local
     → taken (slot_at box local) signal ≡ Some record { answer = answer; after = middle }
-    → LinkTurned (with_slot box local middle) local partner middle (slot_at box partner) (closed_by signal middle.state First) turn
+    → LinkTurned (with_slot box local middle) local partner middle (slot_at box partner) (side_closed (closes_by signal middle.state) First) turn
     → LinkTook box local partner signal (answering local answer turn)
 link_answers box local partner signal answer middle turn other takes turned = record {
   answer = answer;
@@ -206,8 +204,8 @@ link_answers box local partner signal answer middle turn other takes turned = re
   takes = takes;
   first = turned.first;
   second = turned.second;
-  sends = answer_own local answer turn (sent_by_first (link_due middle (slot_at box partner) (closed_by signal middle.state First))) turned.sends;
-  partner_sends = answer_else local partner answer turn (sent_by_second (link_due middle (slot_at box partner) (closed_by signal middle.state First))) other turned.partner_sends;
+  sends = answer_own local answer turn (sent_by_first (link_due middle (slot_at box partner) (side_closed (closes_by signal middle.state) First))) turned.sends;
+  partner_sends = answer_else local partner answer turn (sent_by_second (link_due middle (slot_at box partner) (side_closed (closes_by signal middle.state) First))) other turned.partner_sends;
   others = λ k apart beyond. idle_still box local k middle answer turn apart (turned.others k apart beyond);
   goals = turned.goals;
 }
@@ -230,8 +228,8 @@ took_by (Link partner) box local signal answer middle turn wired inside is takes
     let here : slot_at (with_slot box local middle) local ≡ middle = get_or-set_same box.slots local middle no_slot inside in
     let there : slot_at (with_slot box local middle) partner ≡ slot_at box partner = get_or-set_other box.slots local partner middle no_slot link.other in
     link_answers box local partner signal answer middle turn link.other takes
-    (subst (λ (b : Slot). LinkTurned (with_slot box local middle) local partner middle b (closed_by signal middle.state First) turn) there
-    (subst (λ (a : Slot). LinkTurned (with_slot box local middle) local partner a (slot_at (with_slot box local middle) partner) (closed_by signal middle.state First) turn) here
+    (subst (λ (b : Slot). LinkTurned (with_slot box local middle) local partner middle b (side_closed (closes_by signal middle.state) First) turn) there
+    (subst (λ (a : Slot). LinkTurned (with_slot box local middle) local partner a (slot_at (with_slot box local middle) partner) (side_closed (closes_by signal middle.state) First) turn) here
     (link_turned (with_slot box local middle) local partner signal middle.state turn link.other
     (subst (λ (n : ℕ). local < n) (sym (length-set box.slots local middle)) inside)
     (subst (λ (n : ℕ). partner < n) (sym (length-set box.slots local middle)) link.inside) goes)))

@@ -2,12 +2,12 @@
 use Rattle.std.proofs.Common.{◌≡◌, ℕ, ◌+◌, ◌<◌, ◌≤◌, Bool, Option, Some, length, map, refl, subst, arith, length-append, length-take-le}
 use Rattle.std.proofs.lemmas.List.{length-map}
 use Rattle.mc_signal.specs.declared.Signal.{Signal}
-use Rattle.mc_slot.specs.EndTurn.{pushed_by}
+use Rattle.mc_slot.specs.EndTurn.{pushed_by, closes_by}
 use Rattle.mc_slot.specs.Moves.{answered, taken}
 use Rattle.mc_slot.specs.Sending.{pair_of, sends_of}
 use Rattle.mc_slot.specs.declared.Slot.{Slot}
 use Rattle.mc_slot.specs.declared.sends.Sends.{Sends}
-use Rattle.mc_box.specs.BoxEvents.{BoxStep, answering, closes_by, goal_turn, take_step}
+use Rattle.mc_box.specs.BoxEvents.{BoxStep, answering, goal_turn, take_step}
 use Rattle.mc_box.specs.BoxSound.{IsSoundBox}
 use Rattle.mc_box.specs.Boxes.{BoxState, slot_at, with_slot}
 use Rattle.mc_box.proofs.TakeThree.{take_three}

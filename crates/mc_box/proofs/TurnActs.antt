@@ -4,7 +4,7 @@ use Rattle.std.specs.Option.{option_map}
 use Rattle.std.proofs.Math.ListN.{get_or, set}
 use Rattle.std.proofs.lemmas.Bool.{cases_eq}
 use Rattle.std.proofs.lemmas.List.{get_or-set_same, get_or-set_other}
-use Rattle.mc_link.specs.LinkTurn.{link_due, numbered, sent_by_first, sent_by_second}
+use Rattle.mc_link.specs.LinkTurn.{link_due, numbered, sent_by_first, sent_by_second, side_closed}
 use Rattle.mc_link.specs.declared.Side.{Side}
 use Rattle.mc_link.proofs.Sides.{sent_both}
 use Rattle.mc_signal.specs.declared.Signal.{Signal}
@@ -15,7 +15,7 @@ use Rattle.mc_slot.specs.declared.Slot.{Slot}
 use Rattle.mc_slot.specs.declared.SlotGoal.{SlotGoal}
 use Rattle.mc_slot.specs.declared.SlotGoal.TheVariants.{End, Link}
 use Rattle.mc_box.specs.Acting.{sent_by, IsSameMake}
-use Rattle.mc_box.specs.BoxEvents.{BoxStep, followed, goal_turn, side_closed, side_of, turn_by, turns_of}
+use Rattle.mc_box.specs.BoxEvents.{BoxStep, followed, goal_turn, side_of, turn_by, turns_of}
 use Rattle.mc_box.specs.BoxSound.{IsWired}
 use Rattle.mc_box.specs.Boxes.{BoxState, no_slot, slot_at, goal_at, own, sender, with_slot}
 use Rattle.mc_box.proofs.Folds.{AreInside}

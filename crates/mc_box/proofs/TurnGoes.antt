@@ -1,7 +1,7 @@
 -- Each goal of a wired box may have its turn: its slots may send all that the turn is to send.
 use Rattle.std.proofs.Common.{◌≡◌, ◌&&◌, ℕ, Bool, true, false, Option, Some, None, List, [], ◌∷◌, ◌++◌, IsSome, length, max, min, refl, ap, sym, ◌∙◌, subst, arith}
 use Rattle.mc_link.specs.LinkLaws.{flipped}
-use Rattle.mc_link.specs.LinkTurn.{can_close, choosing, choosing_for, leaning, link_due, passing, sent_by_first, sent_by_second}
+use Rattle.mc_link.specs.LinkTurn.{can_close, choosing, choosing_for, leaning, link_due, passing, sent_by_first, sent_by_second, side_closed}
 use Rattle.mc_link.specs.declared.Side.{Side}
 use Rattle.mc_link.specs.declared.Side.TheVariants.{First, Second}
 use Rattle.mc_link.proofs.LinkRests.{passes}
@@ -22,7 +22,7 @@ use Rattle.mc_slot.specs.declared.SlotGoal.{SlotGoal}
 use Rattle.mc_slot.specs.declared.SlotGoal.TheVariants.{End, Link}
 use Rattle.mc_slot.specs.declared.State.{State}
 use Rattle.mc_slot.specs.declared.State.TheVariants.{Closed, Opening, Opened, Flowing, Closing}
-use Rattle.mc_box.specs.BoxEvents.{BoxStep, end_turn, goal_turn, pair_turn, side_closed, side_of, turn_by, turns_of}
+use Rattle.mc_box.specs.BoxEvents.{BoxStep, end_turn, goal_turn, pair_turn, side_of, turn_by, turns_of}
 use Rattle.mc_box.specs.BoxSound.{IsWired}
 use Rattle.mc_box.specs.Boxes.{BoxState, slot_at, goal_at, own, sender}
 use Rattle.mc_box.proofs.Folds.{AreInside}

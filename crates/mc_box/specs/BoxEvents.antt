@@ -1,19 +1,16 @@
 -- One event of one box: what it sends, and what it is after that. An event that has no case can't happen.
 use Rattle.std.specs.Prelude.{◌≡◌, ℕ, ◌+◌, ◌==◌, ◌&&◌, Bool, true, false, if◌then◌else◌, not, List, [], ◌∷◌, ◌++◌, map, max, min, nat_lt, Option, Some, None}
 use Rattle.std.specs.Option.{option_map, option_and_then}
-use Rattle.mc_link.specs.LinkTurn.{link_due, numbered, sent_by_first, sent_by_second}
+use Rattle.mc_link.specs.LinkTurn.{link_due, numbered, sent_by_first, sent_by_second, side_closed}
 use Rattle.mc_link.specs.declared.Side.{Side}
 use Rattle.mc_link.specs.declared.Side.TheVariants.{First, Second}
 use Rattle.mc_signal.specs.declared.Signal.{Signal}
-use Rattle.mc_signal.specs.declared.Signal.TheVariants.{Close}
-use Rattle.mc_slot.specs.EndTurn.{due, pushed_by}
+use Rattle.mc_slot.specs.EndTurn.{due, pushed_by, closes_by}
 use Rattle.mc_slot.specs.Moves.{taken, sent_all, answered, is_same_medium}
 use Rattle.mc_slot.specs.Sending.{pair_of}
 use Rattle.mc_slot.specs.declared.Goal.{Goal}
 use Rattle.mc_slot.specs.declared.SlotGoal.{SlotGoal}
 use Rattle.mc_slot.specs.declared.SlotGoal.TheVariants.{End, Link}
-use Rattle.mc_slot.specs.declared.State.{State}
-use Rattle.mc_slot.specs.declared.State.TheVariants.{Closed}
 use Rattle.mc_box.specs.BoxShapes.{is_device, is_feature}
 use Rattle.mc_box.specs.Boxes.{BoxState, is_slot, slot_at, goal_at, media_at, with_goals, with_media, with_slot, own, sender, owes_at}
 use Rattle.mc_box.specs.Goals.{changed_slots, goals_after}
@@ -50,11 +47,6 @@ pair_turn box low high closed =
 abbrev pub side_of : ℕ → ℕ → Side
 side_of local partner = if nat_lt local partner then First else Second
 
--- the side of a link that a taken close has closed, where one has
-abbrev pub side_closed : Bool → Side → Option Side
-side_closed true side = Some side
-side_closed false side = None
-
 -- a link's turn, as seen from one of its slots
 abbrev pub link_turn : BoxState → ℕ → ℕ → Bool → Option BoxStep
 link_turn box local partner closed = pair_turn box (min local partner) (max local partner) (side_closed closed (side_of local partner))
@@ -68,11 +60,6 @@ abbrev pub goal_turn : BoxState → ℕ → Bool → Bool → Option BoxStep
 goal_turn box local pushed closed = turn_by (goal_at box local) box local pushed closed
 
 -- ---- a signal is taken
-
--- a taken close that made the slot closed
-abbrev pub closes_by : Signal → State → Bool
-closes_by Close Closed = true
-closes_by signal state = false
 
 -- an answer stands before what the goal sends
 abbrev pub answering : ℕ → Option Signal → BoxStep → BoxStep

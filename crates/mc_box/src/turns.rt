@@ -1,13 +1,14 @@
 // The turns of a box's goals.
 
 ghost use Rattle.std.specs.Prelude.{◌≡◌, ◌+◌, ◌<◌, ◌≤◌, ◌++◌, length, map, max, min, Some, IsSome, IsTrue};
-ghost use Rattle.mc_link.specs.LinkTurn.{NamesClosed};
+ghost use Rattle.mc_link.specs.LinkTurn.{NamesClosed, side_closed};
 ghost use Rattle.mc_slot.specs.Moves.{answered, taken};
 ghost use Rattle.mc_slot.specs.Sending.{pair_of, sends_of};
-ghost use Rattle.mc_box.specs.BoxEvents.{closes_by, end_turn, goal_turn, link_turn, pair_turn, side_closed, side_of, take_step};
+ghost use Rattle.mc_box.specs.BoxEvents.{end_turn, goal_turn, link_turn, pair_turn, side_of, take_step};
 ghost use Rattle.mc_box.specs.BoxSound.{state_of, IsSoundBox, IsWired};
 ghost use Rattle.mc_box.specs.Boxes.{goal_at, slot_at};
 ghost use Rattle.mc_box.specs.Goals.{most};
+ghost use Rattle.mc_slot.specs.EndTurn.{closes_by};
 
 use crate::parts::Parts;
 use mc_goal::{end_turn, pushes};
@@ -87,7 +88,7 @@ impl Parts {
         let answer = slot.take(s);
         self.slots[local as usize] = slot;
         let mut sends = answering(local, answer);
-        let turn = self.goal_turn(local, pushes(&s, slot.state), closes(&s, slot.state));
+        let turn = self.goal_turn(local, pushes(&s, slot.state), closes_by(&s, slot.state));
         append(&mut sends, &turn);
         sends
     }
@@ -112,7 +113,7 @@ fn side_closed(closed: bool, side: Side) -> Option<Side>
 }
 
 // Whether a taken close made the slot closed.
-fn closes(s: &Signal, after: State) -> bool
+fn closes_by(s: &Signal, after: State) -> bool
     ensures { result ≡ closes_by s.now after }
 {
     matches!((s, after), (Signal::Close, State::Closed))

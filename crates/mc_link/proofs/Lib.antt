@@ -4,5 +4,6 @@ pub mod LinkRests
 pub mod LinkThree
 pub mod Mirror
 pub mod Parts
+pub mod SecondSlot
 pub mod Sides
 pub mod Weights

@@ -1,11 +1,12 @@
 -- A link, seen from its second slot.
 use Rattle.std.proofs.Common.{◌≡◌, ◌+◌, ◌&&◌, Option, Some, None, Bool, true, false, if◌then◌else◌, List, [], ◌∷◌, ◌++◌, length, refl, ap, sym, ◌∙◌, arith}
+use Rattle.std.proofs.lemmas.List.{nil_from_length}
 use Rattle.mc_signal.specs.declared.Signal.{Signal}
 use Rattle.mc_signal.specs.declared.Signal.TheVariants.{Close}
 use Rattle.mc_slot.specs.Moves.{is_live}
 use Rattle.mc_slot.specs.declared.Slot.{Slot}
 use Rattle.mc_link.specs.LinkLaws.{flipped, LinkMirror}
-use Rattle.mc_link.specs.LinkTurn.{can_close, choosing, leaning, link_due, passing, sent_by_first, sent_by_second}
+use Rattle.mc_link.specs.LinkTurn.{IsLinkAtRest, can_close, choosing, leaning, link_due, passing, sent_by_first, sent_by_second, side_closed}
 use Rattle.mc_link.specs.declared.Side.{Side}
 use Rattle.mc_link.specs.declared.Side.TheVariants.{First, Second}
 use Rattle.mc_link.proofs.Parts.{both, live_both}
@@ -70,3 +71,14 @@ pub link_mirror : LinkMirror
 link_mirror a b closed =
     let same = sides_mirror closed a b in
     (same.0, same.1, length_mirror (link_due b a (flipped closed)) (link_due a b closed) same)
+
+-- so a link at rest rests whichever slot is called the first
+pub mirror_rests : (a b : Slot) → IsLinkAtRest a b → IsLinkAtRest b a
+mirror_rests a b rest =
+    let same : length (link_due b a None) ≡ length (link_due a b None) = (link_mirror a b None).2 in
+    nil_from_length (link_due b a None) (same ∙ ap (λ (l : List (Side × Signal)). length l) rest)
+
+-- a side that is named by a taken close, seen from the other side
+pub side_turned : (closed : Bool) → side_closed closed Second ≡ flipped (side_closed closed First)
+side_turned true = refl
+side_turned false = refl

@@ -1,20 +1,13 @@
 -- Laws of a link's turn: when it has come to rest, and how much it sends.
 use Rattle.std.specs.Prelude.{◌≡◌, ◌≤◌, ◌+◌, Option, Some, None, length}
 use Rattle.mc_signal.specs.declared.Signal.{Signal}
-use Rattle.mc_signal.specs.declared.Signal.TheVariants.{Close}
 use Rattle.mc_slot.specs.Moves.{answered, sent_all, taken}
 use Rattle.mc_slot.specs.Tunnel.{Kept}
 use Rattle.mc_slot.specs.declared.Slot.{Slot}
-use Rattle.mc_slot.specs.declared.State.{State}
-use Rattle.mc_slot.specs.declared.State.TheVariants.{Closed}
-use Rattle.mc_link.specs.LinkTurn.{link_due, IsLinkAtRest, sent_by_first, sent_by_second}
+use Rattle.mc_link.specs.LinkTurn.{link_due, IsLinkAtRest, sent_by_first, sent_by_second, side_closed}
 use Rattle.mc_link.specs.declared.Side.{Side}
 use Rattle.mc_link.specs.declared.Side.TheVariants.{First, Second}
-
--- the slot of this side took the signal: it is named where that was a close that made it closed
-abbrev pub closed_by : Signal → State → Side → Option Side
-closed_by Close Closed side = Some side
-closed_by signal state side = None
+use Rattle.mc_slot.specs.EndTurn.{closes_by}
 
 -- the same slot, where the two change their places
 abbrev pub flipped : Option Side → Option Side
@@ -34,7 +27,13 @@ LinkRestsAfterTurn = (a b a_after b_after : Slot) (closed_by_far : Option Side)
 abbrev pub LinkSendsThree : Type 0
 LinkSendsThree = (a b after : Slot) (signal : Signal) (answer : Option Signal)
     → Kept a → IsLinkAtRest a b → taken a signal ≡ Some record { answer = answer; after = after }
-    → length (answered answer) + length (link_due after b (closed_by signal after.state First)) ≤ 3
+    → length (answered answer) + length (link_due after b (side_closed (closes_by signal after.state) First)) ≤ 3
+
+-- and so where the second slot takes one
+abbrev pub SecondSlotSendsThree : Type 0
+SecondSlotSendsThree = (a b after : Slot) (signal : Signal) (answer : Option Signal)
+    → Kept b → IsLinkAtRest a b → taken b signal ≡ Some record { answer = answer; after = after }
+    → length (answered answer) + length (link_due a after (side_closed (closes_by signal after.state) Second)) ≤ 3
 
 -- each slot sends the same, and both send as much, whichever of them is called the first
 abbrev pub LinkMirror : Type 0

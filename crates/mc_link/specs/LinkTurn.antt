@@ -12,6 +12,11 @@ use Rattle.mc_slot.specs.declared.State.TheVariants.{Closed, Opening, Opened, Fl
 use Rattle.mc_link.specs.declared.Side.{Side}
 use Rattle.mc_link.specs.declared.Side.TheVariants.{First, Second}
 
+-- the slot of this side is named where a taken close has made it closed
+abbrev pub side_closed : Bool → Side → Option Side
+side_closed true side = Some side
+side_closed false side = None
+
 -- the slot that is named is closed
 abbrev pub NamesClosed : Option Side → Slot → Slot → Type 0
 NamesClosed None a b = Unit {0}

@@ -7,9 +7,9 @@ use Rattle.mc_slot.specs.declared.Slot.{Slot}
 use Rattle.mc_slot.specs.declared.State.{State}
 use Rattle.mc_slot.specs.declared.State.TheVariants.{Closed, Opening, Opened, Flowing, Closing}
 use Rattle.mc_turn.specs.Weights.{weight, weights}
-use Rattle.mc_link.specs.LinkLaws.{closed_by}
-use Rattle.mc_link.specs.LinkTurn.{link_due, IsLinkAtRest, sent_by_first, sent_by_second}
-use Rattle.mc_link.specs.declared.Side.TheVariants.{First}
+use Rattle.mc_link.specs.LinkTurn.{link_due, IsLinkAtRest, sent_by_first, sent_by_second, side_closed}
+use Rattle.mc_link.specs.declared.Side.TheVariants.{First, Second}
+use Rattle.mc_slot.specs.EndTurn.{closes_by}
 
 -- 1 for a linked slot that is closed, or will be, while the other slot asks for media: an open is still to come from it
 abbrev pub stored_link : State → State → ℕ
@@ -26,10 +26,22 @@ stored_link state other = 0
 abbrev pub LinkPays : Type 0
 LinkPays = (a b middle a_after b_after : Slot) (signal : Signal) (answer : Option Signal) (n x y : ℕ)
     → Kept a → Kept b → IsLinkAtRest a b → taken a signal ≡ Some record { answer = answer; after = middle }
-    → sent_all middle (sent_by_first (link_due middle b (closed_by signal middle.state First))) ≡ Some a_after
-    → sent_all b (sent_by_second (link_due middle b (closed_by signal middle.state First))) ≡ Some b_after
+    → sent_all middle (sent_by_first (link_due middle b (side_closed (closes_by signal middle.state) First))) ≡ Some a_after
+    → sent_all b (sent_by_second (link_due middle b (side_closed (closes_by signal middle.state) First))) ≡ Some b_after
     → 1 ≤ x → 1 ≤ y → y < n
-    → 1 + y * weights n (answered answer ++ sent_by_first (link_due middle b (closed_by signal middle.state First)))
-    + x * weights n (sent_by_second (link_due middle b (closed_by signal middle.state First)))
+    → 1 + y * weights n (answered answer ++ sent_by_first (link_due middle b (side_closed (closes_by signal middle.state) First)))
+    + x * weights n (sent_by_second (link_due middle b (side_closed (closes_by signal middle.state) First)))
     + n * (n * n) * (y * stored_link a_after.state b_after.state + x * stored_link b_after.state a_after.state)
     ≤ (x + 1) * weight n signal + n * (n * n) * (y * stored_link a.state b.state + x * stored_link b.state a.state)
+
+-- the same of a signal that comes to the second slot, for its own tunnel and for y
+abbrev pub SecondSlotPays : Type 0
+SecondSlotPays = (a b middle a_after b_after : Slot) (signal : Signal) (answer : Option Signal) (n x y : ℕ)
+    → Kept a → Kept b → IsLinkAtRest a b → taken b signal ≡ Some record { answer = answer; after = middle }
+    → sent_all a (sent_by_first (link_due a middle (side_closed (closes_by signal middle.state) Second))) ≡ Some a_after
+    → sent_all middle (sent_by_second (link_due a middle (side_closed (closes_by signal middle.state) Second))) ≡ Some b_after
+    → 1 ≤ x → 1 ≤ y → x < n
+    → 1 + x * weights n (answered answer ++ sent_by_second (link_due a middle (side_closed (closes_by signal middle.state) Second)))
+    + y * weights n (sent_by_first (link_due a middle (side_closed (closes_by signal middle.state) Second)))
+    + n * (n * n) * (y * stored_link a_after.state b_after.state + x * stored_link b_after.state a_after.state)
+    ≤ (y + 1) * weight n signal + n * (n * n) * (y * stored_link a.state b.state + x * stored_link b.state a.state)

@@ -1,7 +1,7 @@
 //! Laws of a link's turn, over its definitions alone: each function's contract is the law's sentence.
 
-ghost use Rattle.mc_link.specs.LinkLaws.{LinkMirror, LinkRestsAfterTurn, LinkSendsThree};
-ghost use Rattle.mc_link.specs.LinkWeights.{LinkPays};
+ghost use Rattle.mc_link.specs.LinkLaws.{LinkMirror, LinkRestsAfterTurn, LinkSendsThree, SecondSlotSendsThree};
+ghost use Rattle.mc_link.specs.LinkWeights.{LinkPays, SecondSlotPays};
 
 /// A link's turn that is made a second time sends nothing the second time.
 pub fn link_rests_after_turn()
@@ -18,7 +18,17 @@ pub fn link_sends_three()
     ensures { LinkSendsThree }
 {}
 
+/// And so where the second slot takes one.
+pub fn second_slot_sends_three()
+    ensures { SecondSlotSendsThree }
+{}
+
 /// A signal that the first slot of a link at rest takes weighs more than all that the link then sends.
 pub fn link_pays()
     ensures { LinkPays }
+{}
+
+/// And so does one that the second slot takes.
+pub fn second_slot_pays()
+    ensures { SecondSlotPays }
 {}

@@ -1,10 +1,9 @@
 -- A walk through a quiet world goes along a chain: tunnels with nothing under way, joined by links at rest.
-use Rattle.std.proofs.Common.{◌≡◌, ◌<◌, ℕ, zero, suc, true, Option, Some, None, IsTrue, List, [], ◌∷◌, All, get_or, length, max, min, refl, ap, sym, ◌∙◌, subst, inl, inr, arith}
+use Rattle.std.proofs.Common.{◌≡◌, ◌<◌, ℕ, zero, suc, true, Option, Some, IsTrue, List, [], ◌∷◌, All, get_or, max, min, refl, ap, sym, subst, inl, inr, arith}
 use Rattle.std.specs.List.{list_all}
 use Rattle.std.specs.Option.{option_map, unwrap_or}
 use Rattle.std.proofs.lemmas.Bool.{cases_lt}
 use Rattle.std.proofs.lemmas.Grind.{common_steps}
-use Rattle.std.proofs.lemmas.List.{nil_from_length}
 use Rattle.std.proofs.lemmas.List.Elements.{All-nil, All-cons}
 use Rattle.mc_signal.specs.declared.Signal.{Signal}
 use Rattle.mc_signal.specs.declared.Tagged.{Tagged}
@@ -15,9 +14,8 @@ use Rattle.mc_slot.specs.declared.Slot.{Slot}
 use Rattle.mc_slot.specs.declared.SlotGoal.{SlotGoal}
 use Rattle.mc_slot.specs.declared.SlotGoal.TheVariants.{End, Link}
 use Rattle.mc_slot.specs.declared.State.{State}
-use Rattle.mc_link.specs.LinkTurn.{IsLinkAtRest, link_due}
-use Rattle.mc_link.specs.declared.Side.{Side}
-use Rattle.mc_link.proofs.Mirror.{link_mirror}
+use Rattle.mc_link.specs.LinkTurn.{IsLinkAtRest}
+use Rattle.mc_link.proofs.Mirror.{mirror_rests}
 use Rattle.mc_box.specs.BoxSound.{RestsAt}
 use Rattle.mc_box.specs.Boxes.{BoxState, slot_at}
 use Rattle.mc_box.proofs.Options.{then_some}
@@ -65,13 +63,7 @@ pub end_rests : (world : WorldState) (s : ℕ) → IsSound world → s < slot_co
     → IsAtRest (end_goal world s) (slot_of world s) (own_descriptor world s) (own_sender world s)
 end_rests world s sound inside aims = subst (λ (g : SlotGoal). RestsAt g (box_at world (place world s).0) (place world s).1) aims (goal_rests world s sound inside)
 
--- a link at rest rests whichever slot is called the first
-rest_turns : (a b : Slot) → IsLinkAtRest a b → IsLinkAtRest b a
-rest_turns a b rest =
-    let same : length (link_due b a None) ≡ length (link_due a b None) = (link_mirror a b None).2 in
-    nil_from_length (link_due b a None) (same ∙ ap (λ (l : List (Side × Signal)). length l) rest)
-
--- so from either of its slots
+-- a link rests from either of its slots
 link_rests : (box : BoxState) (local partner : ℕ) → RestsAt (Link partner) box local → IsLinkAtRest (slot_at box local) (slot_at box partner)
 link_rests box local partner rests = elim (cases_lt local partner) [
   | inl below ↦
@@ -81,7 +73,7 @@ link_rests box local partner rests = elim (cases_lt local partner) [
   | inr above ↦
       let low : min local partner ≡ partner = omega arith in
       let high : max local partner ≡ local = omega arith in
-      rest_turns (slot_at box partner) (slot_at box local)
+      mirror_rests (slot_at box partner) (slot_at box local)
       (subst (λ (k : ℕ). IsLinkAtRest (slot_at box partner) (slot_at box k)) high (subst (λ (k : ℕ). IsLinkAtRest (slot_at box k) (slot_at box (max local partner))) low rests))
 ]
 

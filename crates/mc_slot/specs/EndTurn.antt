@@ -66,3 +66,8 @@ owes goal slot = owes_in goal slot.state
 abbrev pub pushed_by : Signal → State → Bool
 pushed_by Closeack Closed = true
 pushed_by signal state = false
+
+-- a taken close made the slot closed
+abbrev pub closes_by : Signal → State → Bool
+closes_by Close Closed = true
+closes_by signal state = false

@@ -3,14 +3,13 @@ use Rattle.std.proofs.Common.{◌≡◌, ◌≢◌, ◌<◌, ◌≤◌, ◌+◌,
 use Rattle.std.specs.List.{list_all}
 use Rattle.std.proofs.lemmas.Grind.{common_steps}
 use Rattle.std.proofs.Math.Nat.{mul-le-mul_left, mul-one, mul_assoc, pow-succ', pow-zero}
-use Rattle.mc_link.specs.LinkLaws.{closed_by}
-use Rattle.mc_link.specs.LinkTurn.{link_due, sent_by_first, sent_by_second}
+use Rattle.mc_link.specs.LinkTurn.{link_due, sent_by_first, sent_by_second, side_closed}
 use Rattle.mc_link.specs.LinkWeights.{stored_link}
 use Rattle.mc_link.specs.declared.Side.TheVariants.{First}
 use Rattle.mc_link.proofs.LinkPays.{link_pays}
 use Rattle.mc_signal.specs.declared.Signal.{Signal}
 use Rattle.mc_signal.specs.declared.Tagged.{Tagged}
-use Rattle.mc_slot.specs.EndTurn.{due, pushed_by, IsAtRest}
+use Rattle.mc_slot.specs.EndTurn.{due, pushed_by, IsAtRest, closes_by}
 use Rattle.mc_slot.specs.Moves.{answered}
 use Rattle.mc_slot.specs.declared.Goal.{Goal}
 use Rattle.mc_slot.specs.declared.Slot.{Slot}
@@ -204,8 +203,8 @@ link_lowers world boxes lanes s p n tunnels partner took sound far_from aims pai
     let left : ℕ → List Signal = took.happened.stepped.left in
     let sent : ℕ → List Signal = took.happened.stepped.sent in
     let after : BoxState = took.happened.step.after in
-    let signals : List Signal = answered did.answer ++ sent_by_first (link_due did.middle (slot_at box partner) (closed_by took.signal did.middle.state First)) in
-    let others : List Signal = sent_by_second (link_due did.middle (slot_at box partner) (closed_by took.signal did.middle.state First)) in
+    let signals : List Signal = answered did.answer ++ sent_by_first (link_due did.middle (slot_at box partner) (side_closed (closes_by took.signal did.middle.state) First)) in
+    let others : List Signal = sent_by_second (link_due did.middle (slot_at box partner) (side_closed (closes_by took.signal did.middle.state) First)) in
     let box_sound = sound.boxes (place world s).0 (sound.numbered.placed s took.inside) in
     let stay : GoalsStay next world = take_goals_stay world next s took sound in
     let idle_slot = λ (who k : ℕ) (away : who ≡ (place world s).0 → k ≢ local) (beyond : who ≡ (place world s).0 → k ≢ partner). idle_stays world next s who k took (λ same. did.others k (away same) (beyond same)) in
