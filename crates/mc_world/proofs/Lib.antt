@@ -9,6 +9,7 @@ mod WorldSteps
 pub mod ActedBoxes
 pub mod ActedWorlds
 pub mod Acting
+mod BatchMade
 pub mod BothWays
 pub mod BoxSound
 pub mod CommandsGo

@@ -8,6 +8,8 @@ use Rattle.mc_box.specs.Boxes.{is_slot, owes_at}
 use Rattle.mc_world.specs.Paths.{has_ring}
 use Rattle.mc_world.specs.Steps.{run, after}
 use Rattle.mc_world.specs.Worlds.{WorldState, box_at}
+use Rattle.mc_box.specs.declared.event.Change.{Change}
+use Rattle.mc_box.specs.declared.event.MediaChange.{MediaChange}
 use Rattle.mc_box.specs.declared.event.Event.{Event}
 use Rattle.mc_box.specs.declared.event.Event.TheVariants.{Take, Set, Media, Tell, Retry, Shift}
 use Rattle.mc_box.specs.declared.event.Turn.{Turn}
@@ -34,6 +36,15 @@ is_command (Set change) = true
 is_command (Media change) = true
 is_command (Tell word) = true
 is_command event = false
+
+-- the table of the events that come from commands: each Set, each Media event and each Tell, and no others
+pub record CommandTable : Type 0 where
+  pub sets : (change : Change) → is_command (Set change) ≡ true
+  pub media : (change : MediaChange) → is_command (Media change) ≡ true
+  pub tells : (word : ℕ) → is_command (Tell word) ≡ true
+  pub takes : (local : ℕ) → is_command (Take local) ≡ false
+  pub retries : (local : ℕ) → is_command (Retry local) ≡ false
+  pub shifts : is_command Shift ≡ false
 
 -- the commands of one box among turns, in order
 abbrev pub commands_of : ℕ → List Turn → List Turn
@@ -77,3 +88,27 @@ pub record IsSettled (world : WorldState) (batch turns : List Turn) (last : Worl
 pub record IsStopped (world : WorldState) (batch turns : List Turn) (last : WorldState) : Type 0 where
   pub runs : run world turns ≡ Some last
   pub commands : (who : ℕ) → commands_of who turns ≡ take (length (commands_of who turns)) (commands_of who batch)
+
+-- the events of three kinds
+abbrev pub is_set : Event → Bool
+is_set (Set change) = true
+is_set event = false
+
+abbrev pub is_media : Event → Bool
+is_media (Media change) = true
+is_media event = false
+
+abbrev pub is_tell : Event → Bool
+is_tell (Tell word) = true
+is_tell event = false
+
+-- the turns of one box among turns whose events are of a kind, in order
+abbrev pub of_kind : (Event → Bool) → ℕ → List Turn → List Turn
+of_kind kind who turns = filter (λ turn. kind turn.event && turn.who == who) turns
+
+-- a settled segment has the Sets, the Media events and the Tells of its batch, box by box and in order, each once, and no others
+abbrev pub SettledMakesItsBatch : Type 0
+SettledMakesItsBatch = (world last : WorldState) (batch turns : List Turn) → IsSettled world batch turns last → (who : ℕ)
+    → (of_kind is_set who turns ≡ of_kind is_set who batch)
+    × (of_kind is_media who turns ≡ of_kind is_media who batch)
+    × (of_kind is_tell who turns ≡ of_kind is_tell who batch)

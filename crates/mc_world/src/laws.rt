@@ -4,6 +4,7 @@ ghost use Rattle.mc_world.specs.Exchanges.{WorkedExchanges};
 ghost use Rattle.mc_world.specs.LinkFree.{RunKeepsLinkFree};
 ghost use Rattle.mc_world.specs.Measures.{TakeLowers, TakesEnd, MeasureBound, TakesBound};
 ghost use Rattle.mc_world.specs.Rings.{RingsMeetNoEnd, WalksNeverTurn, RestKeepsRings};
+ghost use Rattle.mc_world.specs.Settles.{CommandTable, SettledMakesItsBatch};
 ghost use Rattle.mc_world.specs.Shapes.{StepKeepsShape, RunKeepsShape, CommandGoes, RetryGoes};
 ghost use Rattle.mc_world.specs.Sendings.{StepAppends, StepIsMade};
 ghost use Rattle.mc_world.specs.StepLaws.{StepActs, StepKeepsSound, RunKeepsSound, FrontIsTaken, FrontStepGoes, UnderWayGoes, FirstIsSound, TwoPhonesStaySound};
@@ -140,4 +141,15 @@ pub fn walks_never_turn()
 /// Takes and Retries make no ring and break none.
 pub fn rest_keeps_rings()
     ensures { RestKeepsRings }
+{}
+
+/// Events come from commands exactly where they are Sets, Media events or Tells.
+pub fn command_table()
+    ensures { CommandTable }
+{}
+
+/// A settled segment has the Sets, the Media events and the Tells of its batch, box by box and in order, each once, and no
+/// others.
+pub fn settled_makes_its_batch()
+    ensures { SettledMakesItsBatch }
 {}
