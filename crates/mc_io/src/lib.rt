@@ -1,7 +1,9 @@
 //! Where bytes come from, where they go, and where the threads of boxes may be held.
 #![tactic(auto)]
 
+mod count;
 mod gate;
+pub mod laws;
 mod memory_sink;
 mod memory_source;
 mod sink;

@@ -1,10 +1,11 @@
 // A sink in memory, of a fixed size, some of whose calls fail.
-ghost use Rattle.std.specs.Prelude.{◌+◌, ◌-◌, ◌^◌, ◌↔◌, ◌⊎◌, IsErr, min, length, ◌≡◌, ◌≤◌, ◌<◌, [], Some, IfOk, vec_len, vec_capacity};
+ghost use Rattle.std.specs.Prelude.{◌-◌, ◌↔◌, ◌⊎◌, IsErr, min, length, ◌≡◌, ◌≤◌, ◌<◌, [], Some, IfOk, vec_len, vec_capacity};
 ghost use Rattle.std.specs.Io.{WritesAtMost};
 ghost use Rattle.std.specs.Io.KnownBytes.{WriteAppends};
-ghost use Rattle.mc_io.specs.Causes.{HasCause, Rose};
+ghost use Rattle.mc_io.specs.Causes.{faults_after, is_failed_write, next_count};
 ghost use Rattle.mc_io.specs.Bytes.{Fails};
 
+use crate::count::next_count;
 use crate::{Failed, Sink};
 use std::alloc::{AllocError, Global};
 
@@ -60,26 +61,25 @@ impl Sink for MemSink {
         // as in the trait
         ensures bound { WritesAtMost result piece.now }
         ensures bytes { WriteAppends (Some self.old.bytes.items) (Some self.new.bytes.items) result piece.now }
-        ensures cause { HasCause self.old.failed self.new.failed result }
-        ensures none_taken { result ≡ Ok 0 → 0 < length piece.now → Rose self.old.failed self.new.failed }
+        ensures faults { self.new.failed ≡ faults_after self.old.failed (is_failed_write result piece.now) }
 
         // A call fails exactly where its number is in the list, or where it finds no room.
         ensures fails { IsErr result ↔ (Fails self.old.failing.items self.old.calls
             ⊎ ((0 < length piece.now) × (vec_len self.old.bytes ≡ self.old.room))) }
         ensures taken { IfOk result (λ count. count ≡ min (min (length piece.now) (self.old.room - vec_len self.old.bytes)) self.old.per_call) }
-        ensures calls { self.new.calls ≡ min (self.old.calls + 1) (2 ^ 64 - 1) }
+        ensures calls { self.new.calls ≡ next_count self.old.calls }
         ensures rest { (self.new.room ≡ self.old.room) × (self.new.per_call ≡ self.old.per_call) × (self.new.failing ≡ self.old.failing) }
     {
         if self.calls < u64::MAX {
             self.calls += 1;
             if self.failing.contains(&self.calls) {
-                self.failed = self.failed.saturating_add(1);
+                self.failed = next_count(self.failed);
                 return Err(Failed);
             }
         }
         let free = self.room - self.bytes.len();
         if free == 0 && !piece.is_empty() {
-            self.failed = self.failed.saturating_add(1);
+            self.failed = next_count(self.failed);
             return Err(Failed);
         }
         let count = piece.len().min(free).min(self.per_call);

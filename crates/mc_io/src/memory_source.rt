@@ -1,10 +1,11 @@
 // A source over bytes in memory, some of whose calls fail.
-ghost use Rattle.std.specs.Prelude.{◌≡◌, ◌<◌, ◌≤◌, ◌+◌, ◌-◌, ◌^◌, ◌↔◌, IsErr, IfOk, Some, drop, length, min, take, vec_len};
+ghost use Rattle.std.specs.Prelude.{◌≡◌, ◌<◌, ◌≤◌, ◌+◌, ◌-◌, ◌↔◌, IsErr, IfOk, Some, drop, is_err, length, min, take, vec_len};
 ghost use Rattle.std.specs.Io.{ReadsAtMost};
 ghost use Rattle.std.specs.Io.KnownBytes.{ReadConsumes};
-ghost use Rattle.mc_io.specs.Causes.{HasCause};
+ghost use Rattle.mc_io.specs.Causes.{faults_after, next_count};
 ghost use Rattle.mc_io.specs.Bytes.{Fails};
 
+use crate::count::next_count;
 use crate::{Failed, Source};
 
 /// Gives its bytes from `at` on, at most `per_call` in a call. The calls whose numbers, from 1, stand in
@@ -52,18 +53,19 @@ impl Source for MemSource {
         // as in the trait
         ensures bound { ReadsAtMost result buf.new }
         ensures bytes { ReadConsumes (Some (drop self.old.at self.old.bytes.items)) (Some (drop self.new.at self.new.bytes.items)) result buf.new }
-        ensures cause { HasCause self.old.failed self.new.failed result }
+        ensures faults { self.new.failed ≡ faults_after self.old.failed (is_err result) }
 
-        // A call fails exactly where its number is in the list.
+        // A call fails exactly where its number is in the list. Else it gives what is left, as far as there is room
+        // and a call gives.
         ensures fails { IsErr result ↔ Fails self.old.failing.items self.old.calls }
-        ensures given { IfOk result (λ count. count ≤ self.old.per_call) }
-        ensures calls { self.new.calls ≡ min (self.old.calls + 1) (2 ^ 64 - 1) }
+        ensures given { IfOk result (λ count. count ≡ min (min (vec_len self.old.bytes - self.old.at) (length buf.new)) self.old.per_call) }
+        ensures calls { self.new.calls ≡ next_count self.old.calls }
         ensures rest { (self.new.bytes.items ≡ self.old.bytes.items) × (self.new.per_call ≡ self.old.per_call) × (self.new.failing ≡ self.old.failing) }
     {
         if self.calls < u64::MAX {
             self.calls += 1;
             if self.failing.contains(&self.calls) {
-                self.failed = self.failed.saturating_add(1);
+                self.failed = next_count(self.failed);
                 return Err(Failed);
             }
         }

@@ -2,6 +2,7 @@
 // terminal, none.
 ghost use Rattle.std.specs.Prelude.{◌≡◌, None};
 
+use crate::count::next_count;
 use crate::{Failed, Sink, Source};
 use std::io::{Read, Write};
 
@@ -14,7 +15,10 @@ pub struct StdSource<R: Read> {
 
 impl<R: Read> StdSource<R> {
     /// Has not failed yet.
-    pub fn new(reader: R) -> StdSource<R> {
+    pub fn new(reader: R) -> StdSource<R>
+        ensures left { ⟦<StdSource<R> as Source>⟧.left result ≡ R.remaining reader }
+        ensures faults { ⟦<StdSource<R> as Source>⟧.faults result ≡ 0 }
+    {
         StdSource { reader, failed: 0 }
     }
 }
@@ -28,7 +32,7 @@ impl<R: Read> Source for StdSource<R> {
         match self.reader.read(buf) {
             Ok(count) => Ok(count),
             Err(_) => {
-                self.failed = self.failed.saturating_add(1);
+                self.failed = next_count(self.failed);
                 Err(Failed)
             }
         }
@@ -44,7 +48,10 @@ pub struct StdSink<W: Write> {
 
 impl<W: Write> StdSink<W> {
     /// Has not failed yet.
-    pub fn new(writer: W) -> StdSink<W> {
+    pub fn new(writer: W) -> StdSink<W>
+        ensures written { ⟦<StdSink<W> as Sink>⟧.written result ≡ W.contents writer }
+        ensures faults { ⟦<StdSink<W> as Sink>⟧.faults result ≡ 0 }
+    {
         StdSink { writer, failed: 0 }
     }
 }
@@ -58,12 +65,12 @@ impl<W: Write> Sink for StdSink<W> {
         match self.writer.write(piece) {
             Ok(count) => {
                 if count == 0 && !piece.is_empty() {
-                    self.failed = self.failed.saturating_add(1);
+                    self.failed = next_count(self.failed);
                 }
                 Ok(count)
             }
             Err(_) => {
-                self.failed = self.failed.saturating_add(1);
+                self.failed = next_count(self.failed);
                 Err(Failed)
             }
         }

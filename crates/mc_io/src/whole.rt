@@ -1,7 +1,7 @@
 // A whole text read, a whole output written.
-ghost use Rattle.std.specs.Prelude.{◌≡◌, ◌+◌, ◌^◌, ◌<◌, ◌≤◌, ℕ, List, take, length, vec_len, IfOk, IfSome, OnOk, OnErr, IsErrOf};
+ghost use Rattle.std.specs.Prelude.{◌≡◌, ◌+◌, ◌^◌, ◌<◌, ◌≤◌, ℕ, List, is_err, take, length, vec_len, IfOk, IfSome, OnOk, OnErr};
 ghost use Rattle.std.specs.Io.KnownBytes.{Appends, Consumes, IsAtEnd};
-ghost use Rattle.mc_io.specs.Causes.{HasCause, Rose};
+ghost use Rattle.mc_io.specs.Causes.{faults_after, is_failed_read};
 ghost use Rattle.mc_io.specs.Bytes.{AppendsPart, ConsumesAtMost};
 ghost use Rattle.mc_io.specs.declared.whole.ReadFault.TheVariants.{Failed, NoMemory};
 
@@ -51,8 +51,8 @@ pub fn read_up_to<S: Source>(
     // No more is taken from the source, also where it fails.
     ensures at_most { ConsumesAtMost (S.left source.old) (S.left source.new) (limit + 1) }
 
-    ensures faults { S.faults source.old ≤ S.faults source.new }
-    ensures failed { IsErrOf result ReadFault.Failed → Rose (S.faults source.old) (S.faults source.new) }
+    // One call of the source failed where this answers so, and none where it answers anything else.
+    ensures faults { S.faults source.new ≡ faults_after (S.faults source.old) (is_failed_read result) }
 {
     let mut text = Vec::new(alloc);
     let mut chunk = [0; CHUNK];
@@ -72,7 +72,8 @@ pub fn read_up_to<S: Source>(
 pub fn write_whole<K: Sink>(sink: &mut K, bytes: &[u8]) -> Result<(), Failed>
     ensures ok { OnOk result (Appends (K.written sink.old) (K.written sink.new) bytes.now) }
     ensures err { OnErr result (AppendsPart (K.written sink.old) (K.written sink.new) bytes.now) }
-    ensures cause { HasCause (K.faults sink.old) (K.faults sink.new) result }
+    // One call of the sink failed where this fails, and else none.
+    ensures faults { K.faults sink.new ≡ faults_after (K.faults sink.old) (is_err result) }
 {
     let mut at = 0;
     while at < bytes.len() {
