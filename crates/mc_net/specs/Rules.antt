@@ -16,6 +16,7 @@ use Rattle.mc_script.specs.declared.keyword.CommandWord.TheVariants as command
 use Rattle.mc_net.specs.Programs.{BlockState, block_goal_rules, block_link_rules, block_when_rules, in_block, is_unfinished_block, new_part_rules, new_program_rules}
 use Rattle.mc_net.specs.SoFar.{Declared}
 use Rattle.mc_net.specs.WordLists.{has_repeat}
+use Rattle.mc_net.specs.declared.reader.TheConstants.{TEXT_LIMIT}
 use Rattle.mc_net.specs.declared.section.Keyword.{Keyword}
 use Rattle.mc_net.specs.declared.section.Keyword.TheVariants as keyword
 use Rattle.mc_net.specs.declared.section.Section.{Section}
@@ -24,7 +25,11 @@ use Rattle.mc_net.specs.declared.section.Section.TheVariants as section
 -- ---- limits
 
 abbrev pub text_limit : ℕ
-text_limit = 1048576
+text_limit = TEXT_LIMIT
+
+-- how many bytes of a text are read at most: one more than its limit
+abbrev pub read_limit : ℕ
+read_limit = text_limit + 1
 
 abbrev pub codec_limit : ℕ
 codec_limit = 64

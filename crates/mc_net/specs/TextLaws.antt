@@ -1,5 +1,6 @@
 -- Laws of texts: each says something or has a fault, and never both, nor two faults. The first bytes of a long text show its fault.
 use Rattle.std.specs.Prelude.{ℕ, ◌≡◌, ◌⊎◌, List, take}
+use Rattle.mc_net.specs.Rules.{read_limit}
 use Rattle.mc_net.specs.SoFar.{Declared}
 use Rattle.mc_net.specs.Texts.{IsFault, Says}
 
@@ -17,7 +18,7 @@ OneOrTheOther = (text : List ℕ) → ((d : Declared) × Says text d) ⊎ ((numb
 
 -- the bytes up to the one with which a text passes its limit
 abbrev pub first_bytes : List ℕ → List ℕ
-first_bytes text = take 1048577 text
+first_bytes text = take read_limit text
 
 -- the fault of the first bytes is that of the whole text
 abbrev pub FaultsOfTheFirstBytes : Type 0

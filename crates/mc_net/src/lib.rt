@@ -19,4 +19,5 @@ mod word_list;
 pub use fault::{NetFault, TextFault};
 pub use keyword::keyword_of;
 pub use net::{Net, Tail, read_net};
+pub use reader::TEXT_LIMIT;
 pub use section::{Keyword, Section, WaitWord};

@@ -33,7 +33,8 @@ use mc_world::Channel;
 use std::alloc::Global;
 use std::marker::Model;
 
-const TEXT_LIMIT: usize = 1_048_576;
+/// The greatest length of a text, in bytes.
+pub const TEXT_LIMIT: usize = 1_048_576;
 
 /// What the line of a box says of its media: the version that its descriptors begin at, and its codecs.
 #[derive(Clone, Copy)]
