@@ -1,5 +1,5 @@
 -- How a run ends.
-use Rattle.std.proofs.Common.{◌≡◌, ℕ, List, [], map, inl, inr, refl, arith, None, Some}
+use Rattle.std.proofs.Common.{◌≡◌, ◌==◌, ℕ, List, [], map, inl, inr, refl, false, subst, arith, None, Some}
 use Rattle.std.specs.declared.option.Option.{Option}
 use Rattle.std.specs.Io.KnownBytes.{Keeps}
 use Rattle.mc_top.specs.Journals.{IsJournal, HoldsAtSettles}
@@ -30,7 +30,7 @@ ends_worked mode text net old new status due journal output declared settled hol
   };
   refused = λ one. absurd (omega arith);
   stopped = λ ended. elim ended [ inl three ↦ absurd (omega arith) | inr four ↦ absurd (omega arith) ];
-  no_journal = λ some. absurd (some none);
+  no_journal = λ some. cc (subst (λ (n : ℕ). (n == 0) ≡ false) none some);
 }
 
 keeps_same : (old : Option (List ℕ)) → Keeps old old

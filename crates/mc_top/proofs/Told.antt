@@ -1,33 +1,35 @@
 -- What was read of what a source has left.
-use Rattle.std.proofs.Common.{◌≡◌, ◌⊎◌, ℕ, List, ◌≤◌, take, None, Some, IfSome, arith, refl, subst, ◌∙◌}
+use Rattle.std.proofs.Common.{◌≡◌, ◌⊎◌, ◌==◌, ℕ, List, ◌≤◌, Bool, true, None, Some, IfSome, arith, refl, subst, ap, ◌∙◌}
 use Rattle.std.specs.declared.option.Option.{Option}
+use Rattle.mc_io.specs.Causes.{Rose, faults_after, next_count}
 use Rattle.mc_script.specs.declared.command.JournalLine.{JournalLine}
 use Rattle.mc_net.specs.Nets.{DeclaresNet}
 use Rattle.mc_net.specs.SoFar.{Declared}
+use Rattle.mc_net.specs.TextLaws.{first_bytes}
 use Rattle.mc_net.specs.Texts.{IsFault, Says}
 use Rattle.mc_net.specs.declared.net.Net.{Net}
 use Rattle.mc_net.proofs.Faults.{declares_or_faults}
 use Rattle.mc_net.proofs.FirstBytes.{faults_of_the_first_bytes, says_the_whole}
 use Rattle.mc_top.specs.Top.{Ends, ToldDeclares, ToldFault}
-use Rattle.mc_top.specs.Modes.{text_for}
+use Rattle.mc_top.specs.Modes.{IsWorkable}
 use Rattle.mc_top.specs.declared.words.Mode.{Mode}
 use Rattle.mc_top.specs.declared.words.Mode.TheVariants.{Run}
 
 -- the fault of the text that was read is that of what was left
-pub told_fault : (told : Option (List ℕ)) (text : List ℕ) (number line : ℕ) → IfSome told (λ all. text ≡ take 1048577 all) → IsFault text number line → ToldFault told number line
+pub told_fault : (told : Option (List ℕ)) (text : List ℕ) (number line : ℕ) → IfSome told (λ all. text ≡ first_bytes all) → IsFault text number line → ToldFault told number line
 told_fault None text number line read fault = tt
 told_fault (Some all) text number line read fault = faults_of_the_first_bytes all number line (subst (λ (t : List ℕ). IsFault t number line) read fault)
 
 -- the text that was read declares a network, and so does what was left
-pub told_declares : (told : Option (List ℕ)) (text : List ℕ) (net : Net) → IfSome told (λ all. text ≡ take 1048577 all) → DeclaresNet text net → ToldDeclares told net
+pub told_declares : (told : Option (List ℕ)) (text : List ℕ) (net : Net) → IfSome told (λ all. text ≡ first_bytes all) → DeclaresNet text net → ToldDeclares told net
 told_declares None text net read declares = tt
 told_declares (Some all) text net read declares =
-    let says : Says (take 1048577 all) declares.declared = subst (λ (t : List ℕ). Says t declares.declared) read declares.says in
+    let says : Says (first_bytes all) declares.declared = subst (λ (t : List ℕ). Says t declares.declared) read declares.says in
     subst (λ (t : List ℕ). DeclaresNet t net) (read ∙ says_the_whole all declares.declared says) declares
 
 -- what was said of the text that was read holds of what was left
 pub ends_told : (mode : Mode) (told old new : Option (List ℕ)) (text : List ℕ) (status due : ℕ) (journal : List JournalLine)
-    → IfSome told (λ all. text ≡ take 1048577 all) → Ends mode (Some text) old new status due journal → Ends mode told old new status due journal
+    → IfSome told (λ all. text ≡ first_bytes all) → Ends mode (Some text) old new status due journal → Ends mode told old new status due journal
 ends_told mode told old new text status due journal read ends = record {
   worked = λ zero.
       let worked = ends.worked zero in
@@ -44,14 +46,33 @@ fault_says None text d number line fault is says = cc
 fault_says (Some all) text d number line fault is says =
     declares_or_faults all d number line (subst (λ (t : List ℕ). Says t d) (let same : text ≡ all = cc in same) says) fault
 
--- a text without a fault and no counted fault leave only two ends
-pub completes : (mode : Mode) (told old new : Option (List ℕ)) (text : List ℕ) (d : Declared) (status due : ℕ) (journal : List JournalLine)
-    → due ≤ 4 → (due ≡ 2 → ⊥) → (status ≡ due) ⊎ (status ≡ 5) → Ends mode told old new status due journal
-    → told ≡ Some text → Says text d → (due ≡ 4 → ⊥) → (status ≡ 5 → ⊥) → (status ≡ 0) ⊎ (status ≡ 3)
-completes mode told old new text d status due journal small not_two either ends is says not_four not_five =
-    let not_one : due ≡ 1 → ⊥ = λ one. fault_says told text d (ends.refused one).number (ends.refused one).line (ends.refused one).fault is says in
-    grind (arith, not_one, not_two, not_four, not_five)
+-- a text on which a mode's work can be done has no fault
+fault_works : (mode : Mode) (told : Option (List ℕ)) (text : List ℕ) (number line : ℕ) → ToldFault told number line → told ≡ Some text → IsWorkable mode text → ⊥
+fault_works Run told text number line fault is (d, says) = fault_says told text d number line fault is says
 
--- every mode works on the text that is left
-pub same_text : (mode other : Mode) (left : Option (List ℕ)) → text_for mode left ≡ text_for other left
-same_text Run Run left = refl
+le_self : (n : ℕ) → n ≤ n
+le_self n = omega arith
+
+-- a call that failed was counted
+failed_rose : (before now : ℕ) (failed : Bool) → now ≡ faults_after before failed → failed ≡ true → Rose before now
+failed_rose before now failed counted is =
+    let risen : now ≡ next_count before = counted ∙ ap (faults_after before) is in
+    subst (λ (n : ℕ). n ≤ now) risen (le_self now)
+
+-- a status that comes with a counted fault alone doesn't come without one
+pub not_failed : (before now status fault : ℕ) → now ≡ faults_after before (status == fault) → (Rose before now → ⊥) → status ≡ fault → ⊥
+not_failed before now status fault counted unrisen is =
+    let failed : (status == fault) ≡ true = grind (arith, is) in
+    unrisen (failed_rose before now (status == fault) counted failed)
+
+-- a text on which the work can be done and no counted fault leave only two ends
+pub completes : (mode : Mode) (told old new : Option (List ℕ)) (text : List ℕ) (status due : ℕ) (journal : List JournalLine)
+    → (due ≡ 0) ⊎ (due ≡ 1) ⊎ (due ≡ 3) ⊎ (due ≡ 4) → (status ≡ due) ⊎ (status ≡ 5) → Ends mode told old new status due journal
+    → told ≡ Some text → IsWorkable mode text → (due ≡ 4 → ⊥) → (status ≡ 5 → ⊥) → (status ≡ 0) ⊎ (status ≡ 3)
+completes mode told old new text status due journal dues either ends is works not_four not_five =
+    let not_one : due ≡ 1 → ⊥ = λ one. fault_works mode told text (ends.refused one).number (ends.refused one).line (ends.refused one).fault is works in
+    grind (arith, not_one, not_four, not_five)
+
+-- there is one mode
+pub same_mode : (mode other : Mode) → mode ≡ other
+same_mode Run Run = refl

@@ -1,31 +1,33 @@
 -- What the top call promises.
-use Rattle.std.specs.Prelude.{◌≡◌, ◌≢◌, ◌⊎◌, ◌≤◌, ℕ, List, [], ◌∷◌, ◌++◌, codes, length, map, IfSome}
+use Rattle.std.specs.Prelude.{◌≡◌, ◌≢◌, ◌⊎◌, ◌≤◌, ℕ, List, [], ◌∷◌, ◌++◌, codes, length, map, IfSome, IsFalse}
 use Rattle.std.specs.declared.option.Option.{Option}
 use Rattle.std.specs.Io.KnownBytes.{Appends, Consumes, IsAtEnd, Keeps}
 use Rattle.mc_io.specs.Bytes.{AppendsPart}
 use Rattle.mc_net.specs.Nets.{DeclaresNet, turns_of}
-use Rattle.mc_net.specs.Rules.{text_limit}
+use Rattle.mc_net.specs.Rules.{read_limit, text_limit}
 use Rattle.mc_net.specs.Texts.{IsFault}
 use Rattle.mc_net.specs.declared.net.Net.{Net}
 use Rattle.mc_top.specs.Journals.{IsJournal, HoldsAtSettles}
 use Rattle.mc_top.specs.Modes.{output_of}
 use Rattle.mc_top.specs.Printed.{fault_line}
+use Rattle.mc_top.specs.Statuses.{keeps_journal}
 use Rattle.mc_script.specs.declared.command.JournalLine.{JournalLine}
+use Rattle.mc_top.specs.declared.status.TheConstants.{WORKED, FAULTY_TEXT, NO_MEMORY, READ_FAULT, WRITE_FAULT}
 use Rattle.mc_top.specs.declared.words.Mode.{Mode}
 
 -- the one line that is printed for words that are no command
 abbrev pub usage_text : List ℕ
 usage_text = codes "usage" ++ 10 ∷ []
 
--- the output that is due was written whole, or at status 5 a part of it that isn't the whole
+-- the output that is due was written whole, or at a fault in writing a part of it that isn't the whole
 pub record Delivers (status due : ℕ) (old new : Option (List ℕ)) (output : List ℕ) : Type 0 where
   pub whole : status ≡ due → Appends old new output
-  pub part : status ≢ due → (status ≡ 5) × AppendsPart old new output
+  pub part : status ≢ due → (status ≡ WRITE_FAULT) × AppendsPart old new output
 
 -- the text was read to its end, or to the byte past the limit
 pub record ReadsWhole (old new : Option (List ℕ)) (text : List ℕ) : Type 0 where
   pub consumed : Consumes old new text
-  pub within : length text ≤ 1048577
+  pub within : length text ≤ read_limit
   pub at_end : length text ≤ text_limit → IsAtEnd new
 
 -- The journal is one settled segment for each settle, in order, all of them one run from the network's first world: the interleaving of the boxes. At each settle the two end slots of every path are in the state that the path table gives, and where it flows each has the other's newest descriptor and the choice for its own
@@ -48,18 +50,18 @@ pub record Worked (mode : Mode) (told old new : Option (List ℕ)) (status : ℕ
   pub net : Net
   pub declared : ToldDeclares told net
   pub settles : Settles net journal
-  pub delivered : Delivers status 0 old new (output_of mode net journal)
+  pub delivered : Delivers status WORKED old new (output_of mode net journal)
 
 -- a mode refused the text, and delivered the one line that names its first fault
 pub record Refused (told old new : Option (List ℕ)) (status : ℕ) : Type 0 where
   pub number : ℕ
   pub line : ℕ
   pub fault : ToldFault told number line
-  pub delivered : Delivers status 1 old new (fault_line number line)
+  pub delivered : Delivers status FAULTY_TEXT old new (fault_line number line)
 
 -- what a mode printed and kept, for the text that it was told
 pub record Ends (mode : Mode) (told old new : Option (List ℕ)) (status due : ℕ) (journal : List JournalLine) : Type 0 where
-  pub worked : due ≡ 0 → Worked mode told old new status journal
-  pub refused : due ≡ 1 → Refused told old new status
-  pub stopped : (due ≡ 3) ⊎ (due ≡ 4) → (status ≡ due) × Keeps old new
-  pub no_journal : due ≢ 0 → journal ≡ []
+  pub worked : due ≡ WORKED → Worked mode told old new status journal
+  pub refused : due ≡ FAULTY_TEXT → Refused told old new status
+  pub stopped : (due ≡ NO_MEMORY) ⊎ (due ≡ READ_FAULT) → (status ≡ due) × Keeps old new
+  pub no_journal : IsFalse (keeps_journal due) → journal ≡ []

@@ -3,6 +3,7 @@
 
 mod print;
 mod run;
+pub mod status;
 #[cfg(test)]
 mod tests;
 mod top;

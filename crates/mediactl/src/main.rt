@@ -3,13 +3,12 @@
 
 use mc_io::{OpenGate, StdSink, StdSource};
 use mc_top::media_top;
+use mc_top::status::NO_MEMORY;
 use std::alloc::AllocError;
 use std::io::ErrorKind;
 use std::process::ExitCode;
 use std::rt::Env;
 use std::{env, io};
-
-const NO_MEMORY: u8 = 3;
 
 // The words behind the program's name. Where they can't be had as text there are none, and none is no command.
 fn words<R: Env + AllocGlobal>(rt: &R) -> Result<Vec<String>, AllocError> {

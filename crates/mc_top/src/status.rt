@@ -1,0 +1,19 @@
+//! The statuses with which a call of the program ends.
+
+/// The work was done.
+pub const WORKED: u8 = 0;
+
+/// The text has a fault.
+pub const FAULTY_TEXT: u8 = 1;
+
+/// The words are no command.
+pub const USAGE: u8 = 2;
+
+/// Memory ran out.
+pub const NO_MEMORY: u8 = 3;
+
+/// The source failed.
+pub const READ_FAULT: u8 = 4;
+
+/// The sink failed.
+pub const WRITE_FAULT: u8 = 5;
