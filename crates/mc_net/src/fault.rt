@@ -18,11 +18,11 @@ pub struct TextFault {
     pub line: u32,
 }
 
-/// Why a text declares no network.
+/// Why a text declares no network. What is displayed of it tells no number and no line: these are in the fault.
 #[derive(Debug, Drop, Error)]
 pub enum NetFault {
     /// The text isn't in the grammar, or can't be run yet.
-    #[error("fault {} line {}", .0.number, .0.line)]
+    #[error("the text has a fault, or can't be run yet")]
     Line(TextFault),
     /// Memory ran out.
     #[error("out of memory")]
