@@ -1,5 +1,5 @@
 -- The two devices of a network, as they begin.
-use Rattle.std.proofs.Common.{ℕ, ◌<◌, ◌==◌, if◌then◌else◌, zero, suc, Bool, List, [], ◌∷◌, length, arith}
+use Rattle.std.proofs.Common.{ℕ, ◌<◌, ◌==◌, if◌then◌else◌, zero, suc, Bool, [], ◌∷◌, arith}
 use Rattle.mc_signal.specs.declared.codec_list.CodecList.{CodecList}
 use Rattle.mc_signal.specs.declared.Medium.{Medium}
 use Rattle.mc_box.specs.Boxes.{IsNewBox}
