@@ -1,5 +1,5 @@
 -- What the words of the command line ask for, and what a mode prints.
-use Rattle.std.specs.Prelude.{◌≡◌, ℕ, Bool, true, IsTrue, List, [], ◌∷◌, codes, map, string_bytes, String}
+use Rattle.std.specs.Prelude.{◌≡◌, ◌⊎◌, ℕ, Bool, true, IsTrue, List, [], ◌∷◌, Some, codes, drop, map, slice_get, string_bytes, String}
 use Rattle.std.specs.declared.alloc.Global.{Global}
 use Rattle.std.specs.declared.option.Option.{Option}
 use Rattle.mc_top.specs.Printed.{printed}
@@ -10,13 +10,13 @@ use Rattle.mc_script.specs.declared.command.JournalLine.{JournalLine}
 use Rattle.mc_top.specs.declared.words.Mode.{Mode}
 use Rattle.mc_top.specs.declared.words.Mode.TheVariants.{Run}
 
--- the words of a mode
-abbrev pub spelt : Mode → List (List ℕ)
-spelt Run = codes "run" ∷ []
+-- the words, without a first `--`, ask for a mode
+abbrev pub Spells : Mode → List (List ℕ) → Type 0
+Spells Run words = words ≡ codes "run" ∷ []
 
--- the words are those of a mode
+-- the words of the command line ask for a mode: by themselves, or behind a first `--`, which says nothing
 abbrev pub IsCommand : List (String Global) → Mode → Type 0
-IsCommand words mode = map string_bytes words ≡ spelt mode
+IsCommand words mode = Spells mode (map string_bytes words) ⊎ ((slice_get (map string_bytes words) 0 ≡ Some (codes "--")) × Spells mode (map string_bytes (drop 1 words)))
 
 -- a mode's text comes from the source, and isn't the mode's own
 abbrev pub reads : Mode → Bool

@@ -119,7 +119,19 @@ fn calls_and_what_they_print(rt: HostRuntime) -> Result<(), Fail> {
 #[test]
 fn other_words_are_no_command(rt: HostRuntime) -> Result<(), Fail> {
     let alloc = rt.alloc();
-    let table: [&[&str]; 5] = [&["fly"], &[], &["run", "run"], &["Run"], &["--", "run"]];
+    let table: [&[&str]; 11] = [
+        &["fly"],
+        &[],
+        &["run", "run"],
+        &["Run"],
+        &["--"],
+        &["--", "--"],
+        &["--", "--", "run"],
+        &["--", "run", "x"],
+        &["run", "--"],
+        &["--help"],
+        &["--version"],
+    ];
     for words in table {
         let bytes = Vec::from_slice(alloc, PHONES.as_bytes())?;
         let mut source = MemSource::new(bytes, 64, Vec::new(alloc));
@@ -130,6 +142,20 @@ fn other_words_are_no_command(rt: HostRuntime) -> Result<(), Fail> {
         assert_eq!(rt; sink.bytes.as_slice(), b"usage\n".as_slice());
         assert_eq!(rt; source.calls, 0);
     }
+    Ok(())
+}
+
+#[test]
+fn a_first_pair_of_dashes_says_nothing(rt: HostRuntime) -> Result<(), Fail> {
+    let alloc = rt.alloc();
+    let mut bytes = Vec::from_slice(alloc, PHONES.as_bytes())?;
+    bytes.extend_from_slice(b"settle\n")?;
+    let mut source = MemSource::new(bytes, 64, Vec::new(alloc));
+    let mut sink = MemSink::new(alloc, ROOM, 64, Vec::new(alloc))?;
+    let words = words_of(alloc, &["--", "run"])?;
+    let done = media_top(&rt, alloc, words, &mut source, &mut sink, &OpenGate);
+    assert_eq!(rt; done.status, 0);
+    assert_eq!(rt; sink.bytes.as_slice(), CLOSED.as_bytes());
     Ok(())
 }
 
