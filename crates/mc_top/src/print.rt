@@ -1,5 +1,5 @@
 // What is printed at a settle, and for a faulty text.
-ghost use Rattle.std.specs.Prelude.{◌≡◌, ◌++◌, [], ◌∷◌, codes, map, take, All, IfOk, OnOk};
+ghost use Rattle.std.specs.Prelude.{◌≡◌, ◌++◌, [], ◌∷◌, codes, map, take, All, IfOk, OnErr, OnOk};
 ghost use Rattle.mc_top.specs.Printed.{line_of, medium_word, codec_word, fault_line, IsNamed};
 ghost use Rattle.mc_top.specs.Shown.{end_word, flow_word, hearing_line, view_line, view_text, views_text, IsNamedEnd, IsNamedView};
 
@@ -114,8 +114,27 @@ fn put_view(
     put_hears(alloc, names, &view.high, out)
 }
 
-/// Appends the lines of a settle: its number, and each path that is shown, in their order. Boxes, slots and heard
-/// codecs have names.
+// The lines of a settle: its number, and each path that is shown, in their order.
+fn views_text(
+    alloc: Global,
+    names: &Names,
+    number: usize,
+    views: &[PathView],
+) -> Result<Vec<u8>, AllocError>
+    requires { All (IsNamedView names.now) views.now }
+    ensures { IfOk result (λ text. text.items ≡ views_text names.now number views.now) }
+{
+    let word = format!(in alloc; "{number}")?;
+    let mut text = Vec::new(alloc);
+    put_line(b"settle", &[word.as_bytes()], &mut text)?;
+    for view in views {
+        put_view(alloc, names, view, &mut text)?;
+    }
+    Ok(text)
+}
+
+/// Appends the lines of a settle. Boxes, slots and heard codecs have names. Where memory is wanting, nothing is
+/// appended.
 pub fn print_settle(
     alloc: Global,
     names: &Names,
@@ -124,13 +143,11 @@ pub fn print_settle(
     out: &mut Vec<u8>,
 ) -> Result<(), AllocError>
     requires { All (IsNamedView names.now) views.now }
-    ensures { OnOk result (out.new.items ≡ out.old.items ++ views_text names.now number views.now) }
+    ensures ok { OnOk result (out.new.items ≡ out.old.items ++ views_text names.now number views.now) }
+    ensures err { OnErr result (out.new.items ≡ out.old.items) }
 {
-    let word = format!(in alloc; "{number}")?;
-    put_line(b"settle", &[word.as_bytes()], out)?;
-    for view in views {
-        put_view(alloc, names, view, out)?;
-    }
+    let text = views_text(alloc, names, number, views)?;
+    out.extend_from_slice(&text)?;
     Ok(())
 }
 

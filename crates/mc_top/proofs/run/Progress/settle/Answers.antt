@@ -30,7 +30,7 @@ returns c =
       turns = c.in_ok-settled.settled.turns.items;
       settled = settled;
       journal = rw c.deref.ensures.value at c.in_ok-log.ensures;
-      output = c.in_ok-print_settle.ensures
+      output = c.in_ok-print_settle.ensures.ok
           ∙ ap (λ (text : List ℕ). c.self.inside.output.items ++ text) (ap (views_text names number) (c.deref-2.ensures.value ∙ c.in_ok-views.ensures.views) ∙ settle_is names number last holds);
     })
 
