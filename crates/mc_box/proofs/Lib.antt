@@ -4,6 +4,7 @@ pub mod EventActs
 pub mod EventGoes
 pub mod Events
 pub mod Folds
+pub mod FromSlots
 pub mod GoalLoops
 pub mod GoalTurns
 pub mod Held

@@ -1,5 +1,5 @@
 -- Laws of the events of a box: what each keeps, what each slot does in it, how much it sends, and when it can happen.
-use Rattle.std.specs.Prelude.{◌≡◌, ◌≢◌, ◌<◌, ◌≤◌, ◌*◌, ℕ, true, false, length, List, ◌∷◌, Option, Some, None, IsSome, IsTrue}
+use Rattle.std.specs.Prelude.{◌≡◌, ◌≢◌, ◌<◌, ◌≤◌, ◌*◌, ℕ, true, false, length, List, ◌∷◌, Option, Some, None, IsSome, IsTrue, All}
 use Rattle.mc_signal.specs.declared.Signal.{Signal}
 use Rattle.mc_slot.specs.Moves.{taken}
 use Rattle.mc_box.specs.Acting.{BoxActs}
@@ -23,6 +23,11 @@ TakeSendsThree = (box : BoxState) (local : ℕ) (signal : Signal) (step : BoxSte
 abbrev pub EventSendsTwice : Type 0
 EventSendsTwice = (box : BoxState) (event : Event) (step : BoxStep)
     → IsSoundBox box → box_event box event None ≡ Some step → length step.sent ≤ 2 * length box.slots
+
+-- each signal that a sound box sends in an event is sent by one of its slots
+abbrev pub EventSendsFromSlots : Type 0
+EventSendsFromSlots = (box : BoxState) (event : Event) (signal : Option Signal) (step : BoxStep)
+    → IsSoundBox box → box_event box event signal ≡ Some step → All (λ sending. sending.0 < length box.slots) step.sent
 
 -- where a slot takes the first signal that is under way to it, each slot acts: that one takes it, and the others take nothing
 abbrev pub TakeActs : Type 0

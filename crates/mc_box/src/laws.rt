@@ -1,6 +1,6 @@
 //! Laws of the events of a box, over its definitions alone: each function's contract is the law's sentence.
 
-ghost use Rattle.mc_box.specs.EventLaws.{EventActs, EventGoes, EventKeepsSound, EventSendsTwice, EventWasEnabled, TakeActs, TakeGoes, TakeSendsThree, TakeWasLawful, VersionEndStops};
+ghost use Rattle.mc_box.specs.EventLaws.{EventActs, EventGoes, EventKeepsSound, EventSendsFromSlots, EventSendsTwice, EventWasEnabled, TakeActs, TakeGoes, TakeSendsThree, TakeWasLawful, VersionEndStops};
 ghost use Rattle.mc_box.specs.LinkFree.{EventKeepsLinkFree};
 
 /// Each event of a sound box leaves it sound.
@@ -16,6 +16,11 @@ pub fn take_sends_three()
 /// Any other event of a sound box sends at most twice as many signals as it has slots.
 pub fn event_sends_twice()
     ensures { EventSendsTwice }
+{}
+
+/// Each signal that a sound box sends in an event is sent by one of its slots.
+pub fn event_sends_from_slots()
+    ensures { EventSendsFromSlots }
 {}
 
 /// Where a slot of a sound box takes a signal, that slot takes the first of what is under way to it and then sends
