@@ -5,9 +5,9 @@ use Rattle.std.proofs.lemmas.Bool.{cases_lt, and_parts, eqb-true, eqb-false, eq-
 use Rattle.std.proofs.lemmas.Grind.{common_steps}
 use Rattle.std.proofs.lemmas.List.{get_or_past}
 use Rattle.mc_slot.specs.Moves.{is_same_medium}
-use Rattle.mc_slot.specs.Same.{is_same_goal}
+use Rattle.mc_slot.specs.Same.{is_same_slot_goal}
 use Rattle.mc_slot.specs.declared.Goal.{Goal}
-use Rattle.mc_slot.specs.declared.Goal.TheVariants.{Open as ToOpen, Close as ToClose, Hold as ToHold}
+use Rattle.mc_slot.specs.declared.Goal.TheVariants.{Close as ToClose, Hold as ToHold}
 use Rattle.mc_slot.specs.declared.SlotGoal.{SlotGoal}
 use Rattle.mc_slot.specs.declared.SlotGoal.TheVariants.{End, Link}
 use Rattle.mc_signal.specs.declared.Medium.{Medium}
@@ -22,6 +22,7 @@ use Rattle.mc_box.specs.declared.event.Change.TheVariants.{End as NewEnd, Link a
 use Rattle.mc_box.specs.declared.event.Event.TheVariants.{Set}
 use Rattle.mc_box.specs.declared.event.Kind.{Kind}
 use Rattle.mc_box.specs.declared.event.Kind.TheVariants.{Device, Feature}
+use Rattle.mc_slot.proofs.Equal.{slot_goal_eq}
 use Rattle.mc_box.proofs.Held.{held, Lacks, lacks_first, lacks_more, own_put, RestsBut, rests_same, rests_turned, sender_put}
 
 -- ---- what each goal becomes
@@ -213,20 +214,6 @@ change_wired box change wired enabled = record {
 
 -- ---- goals that have no turn
 
-pub same_goal_is : (a b : SlotGoal) → is_same_goal a b ≡ true → a ≡ b
-same_goal_is (End ToOpen) (End ToOpen) is = refl
-same_goal_is (End ToOpen) (End ToClose) is = absurd (cc)
-same_goal_is (End ToOpen) (End ToHold) is = absurd (cc)
-same_goal_is (End ToClose) (End ToOpen) is = absurd (cc)
-same_goal_is (End ToClose) (End ToClose) is = refl
-same_goal_is (End ToClose) (End ToHold) is = absurd (cc)
-same_goal_is (End ToHold) (End ToOpen) is = absurd (cc)
-same_goal_is (End ToHold) (End ToClose) is = absurd (cc)
-same_goal_is (End ToHold) (End ToHold) is = refl
-same_goal_is (End goal) (Link partner) is = absurd (cc)
-same_goal_is (Link partner) (End goal) is = absurd (cc)
-same_goal_is (Link p) (Link q) is = grind (arith, common_steps)
-
 -- the slots that hold goals which have their turns at these slots
 abbrev pub todo_of : List SlotGoal → List ℕ → List ℕ
 todo_of goals [] = []
@@ -256,15 +243,15 @@ lacks_led (old ∷ olds) (new ∷ news) goals k at (suc i) o is inside also turn
     (lacks_rest (has_turn at old new) goals k at (changed_from (at + 1) olds news) lacks)
 
 -- a goal that leads and whose slot isn't in the list is as it was
-led_by : (same : Bool) (old new : SlotGoal) (o : ℕ) → is_same_goal old new ≡ same → leads o new ≡ true → (has_turn o old new ≡ true → ⊥) → old ≡ new
-led_by true old new o is led none = same_goal_is old new is
+led_by : (same : Bool) (old new : SlotGoal) (o : ℕ) → is_same_slot_goal old new ≡ same → leads o new ≡ true → (has_turn o old new ≡ true → ⊥) → old ≡ new
+led_by true old new o is led none = slot_goal_eq old new is
 led_by false old new o is led none = absurd (none (rw (is, led) refl))
 
 led_same : (box : BoxState) (news : List SlotGoal) (o k : ℕ) → IsWired box → length news ≡ length box.slots → leads o (get_or news o (End ToClose)) ≡ true
     → (Lacks k (held (get_or news o (End ToClose)) o) → ⊥) → Lacks k (todo_of news (changed_slots box.goals news)) → goal_at box o ≡ get_or news o (End ToClose)
 led_same box news o k wired size led mine lacks = elim (cases_lt o (length box.slots)) [
   | inl inside ↦
-      led_by (is_same_goal (goal_at box o) (get_or news o (End ToClose))) (goal_at box o) (get_or news o (End ToClose)) o refl led
+      led_by (is_same_slot_goal (goal_at box o) (get_or news o (End ToClose))) (goal_at box o) (get_or news o (End ToClose)) o refl led
       (λ turns. mine (lacks_led box.goals news news k 0 o o (omega arith) (subst (λ (n : ℕ). o < n) (sym wired.whole.goals) inside) (subst (λ (n : ℕ). o < n) (sym size) inside) turns lacks))
   | inr past ↦
       get_or_past box.goals o (End ToClose) (subst (λ (n : ℕ). n ≤ o) (sym wired.whole.goals) past)

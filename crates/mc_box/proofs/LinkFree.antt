@@ -3,7 +3,6 @@ use Rattle.std.proofs.Common.{◌≡◌, ◌≢◌, ◌==◌, ℕ, ◌+◌, ◌<
 use Rattle.std.specs.Option.{option_map}
 use Rattle.std.proofs.Math.ListN.{get_or, set, length-set}
 use Rattle.std.proofs.lemmas.Bool.{cases_eq, cases_lt, eq-eqb, ne_eqb}
-use Rattle.std.proofs.lemmas.Grind.{common_steps}
 use Rattle.std.proofs.lemmas.List.{append-nil, ext_get_or, get_or-set_same, get_or-set_other, get_or_past, map-append, set-get_or, set-set}
 use Rattle.mc_signal.specs.declared.codec_list.CodecList.{CodecList}
 use Rattle.mc_signal.specs.declared.Descriptor.{Descriptor}
@@ -11,10 +10,11 @@ use Rattle.mc_signal.specs.declared.Sender.{Sender}
 use Rattle.mc_signal.specs.declared.Signal.{Signal}
 use Rattle.mc_slot.specs.EndTurn.{due, pushed_by, closes_by}
 use Rattle.mc_slot.specs.Moves.{answered, sent_all, taken, Took}
-use Rattle.mc_slot.specs.Same.{is_same_goal}
+use Rattle.mc_slot.specs.Same.{is_same_slot_goal}
 use Rattle.mc_slot.specs.Sending.{pair_of}
+use Rattle.mc_slot.proofs.Equal.{slot_goal_eq, slot_goal_refl}
 use Rattle.mc_slot.specs.declared.Goal.{Goal}
-use Rattle.mc_slot.specs.declared.Goal.TheVariants.{Open as ToOpen, Close as ToClose, Hold as ToHold}
+use Rattle.mc_slot.specs.declared.Goal.TheVariants.{Close as ToClose}
 use Rattle.mc_slot.specs.declared.Slot.{Slot}
 use Rattle.mc_slot.specs.declared.SlotGoal.{SlotGoal}
 use Rattle.mc_slot.specs.declared.SlotGoal.TheVariants.{End, Link}
@@ -31,7 +31,7 @@ use Rattle.mc_box.specs.declared.event.Kind.TheVariants.{Device, Feature}
 use Rattle.mc_box.specs.declared.event.MediaChange.{MediaChange}
 use Rattle.mc_box.specs.declared.event.MediaChange.TheVariants.{Hear, Talk}
 use Rattle.mc_box.specs.declared.setup.SlotSetup.{SlotSetup}
-use Rattle.mc_box.proofs.Changes.{at_goals_after, length_goals_from, same_goal_is, slot_inside}
+use Rattle.mc_box.proofs.Changes.{at_goals_after, length_goals_from, slot_inside}
 use Rattle.mc_box.proofs.Events.{event_goes}
 use Rattle.mc_box.proofs.GoalTurns.{end_form}
 use Rattle.mc_box.proofs.Held.{own_put, sender_put}
@@ -273,15 +273,8 @@ take_form box local goal signal step is goes =
 
 -- ---- an end gets a goal
 
--- each goal is the same as itself
-pub same_goal_refl : (goal : SlotGoal) → is_same_goal goal goal ≡ true
-same_goal_refl (End ToOpen) = refl
-same_goal_refl (End ToClose) = refl
-same_goal_refl (End ToHold) = refl
-same_goal_refl (Link p) = grind (arith, common_steps)
-
 same_no_turn : (local : ℕ) (goal : SlotGoal) → has_turn local goal goal ≡ false
-same_no_turn local goal = rw (same_goal_refl goal) refl
+same_no_turn local goal = rw (slot_goal_refl goal) refl
 
 -- goals that stay have no turns
 changed_none : (goals : List SlotGoal) (at : ℕ) → changed_from at goals goals ≡ []
@@ -349,11 +342,11 @@ one_turn box local step goes =
     let is : record one.0 { sent = one.0.sent ++ [] } ≡ step = cc in
     (one.0, one.1, is)
 
-set_by : (same : Bool) (box : BoxState) (local : ℕ) (goal : Goal) (step : BoxStep) → is_same_goal (goal_at box local) (End goal) ≡ same → local < length box.goals
+set_by : (same : Bool) (box : BoxState) (local : ℕ) (goal : Goal) (step : BoxStep) → is_same_slot_goal (goal_at box local) (End goal) ≡ same → local < length box.goals
     → turns_of (with_goals box (set box.goals local (End goal))) (if has_turn local (goal_at box local) (End goal) then local ∷ [] else []) ≡ Some step
     → EndStays box local goal step ⊎ EndChanges box local goal step
 set_by true box local goal step is inside goes =
-    let had : goal_at box local ≡ End goal = same_goal_is (goal_at box local) (End goal) is in
+    let had : goal_at box local ≡ End goal = slot_goal_eq (goal_at box local) (End goal) is in
     let none : has_turn local (goal_at box local) (End goal) ≡ false = rw is refl in
     inl (stays_by box local goal (set box.goals local (End goal)) step had
     (ap (λ (g : SlotGoal). set box.goals local g) (sym had) ∙ set-get_or box.goals local (End ToClose))
@@ -364,7 +357,7 @@ set_by false box local goal step is inside goes =
     (subst (λ (b : Bool). turns_of (with_goals box (set box.goals local (End goal))) (if b then local ∷ [] else []) ≡ Some step) turns goes) in
     let form = end_turns (with_goals box (set box.goals local (End goal))) local goal true false one.0 (get_or-set_same box.goals local (End goal) (End ToClose) inside) one.1 in
     inr (changes_by box local goal (slot_at box local) (own (with_goals box (set box.goals local (End goal))) local) (sender (with_goals box (set box.goals local (End goal))) local) one.0 step form.last
-    (λ had. let same : is_same_goal (goal_at box local) (End goal) ≡ true = ap (λ (g : SlotGoal). is_same_goal g (End goal)) had ∙ same_goal_refl (End goal) in absurd (cc))
+    (λ had. let same : is_same_slot_goal (goal_at box local) (End goal) ≡ true = ap (λ (g : SlotGoal). is_same_slot_goal g (End goal)) had ∙ slot_goal_refl (End goal) in absurd (cc))
     refl
     (own_put box.kind box box.slots (set box.goals local (End goal)) box.media (media_at box local) local)
     (sender_put box.kind box box.slots (set box.goals local (End goal)) box.media (media_at box local) local)
@@ -379,5 +372,5 @@ set_form box local goal step whole free goes =
     let news : goals_after box.goals (NewEnd local goal) ≡ set box.goals local (End goal) = goals_set box.goals local goal free in
     let made : turns_of (with_goals box (set box.goals local (End goal))) (changed_slots box.goals (set box.goals local (End goal))) ≡ Some step =
     subst (λ (l : List SlotGoal). turns_of (with_goals box l) (changed_slots box.goals l) ≡ Some step) news one.1 in
-    set_by (is_same_goal (goal_at box local) (End goal)) box local goal step refl inside
+    set_by (is_same_slot_goal (goal_at box local) (End goal)) box local goal step refl inside
     (subst (λ (l : List ℕ). turns_of (with_goals box (set box.goals local (End goal))) l ≡ Some step) (changed_one box.goals 0 local local (End goal) (omega arith) inside) made)

@@ -2,7 +2,7 @@
 use Rattle.std.proofs.Common.{◌≡◌, ◌≢◌, ◌<◌, ◌≤◌, ◌+◌, ◌*◌, ℕ, Bool, true, false, not, if◌then◌else◌, inl, inr, zero, suc, List, [], ◌∷◌, length, nat_le, nat_lt, refl, ap, sym, ◌∙◌, subst, arith, add-one}
 use Rattle.std.proofs.Math.ListN.{get_or}
 use Rattle.std.proofs.lemmas.Bool.{cases_eq, cases_lt, and_parts, le-leb, lt-leb, lt-ltb, le-ltb}
-use Rattle.mc_slot.specs.Same.{is_same_goal}
+use Rattle.mc_slot.specs.Same.{is_same_slot_goal}
 use Rattle.mc_slot.specs.declared.Goal.TheVariants.{Close as ToClose}
 use Rattle.mc_slot.specs.declared.SlotGoal.{SlotGoal}
 use Rattle.mc_slot.specs.declared.SlotGoal.TheVariants.{End, Link}
@@ -65,7 +65,7 @@ cost_led false goal is = absurd (cc)
 
 -- a goal that has its turn here leads here
 pub turn_cost : (local : ℕ) (old new : SlotGoal) → has_turn local old new ≡ true → most new ≤ cost local new
-turn_cost local old new turns = cost_led (leads local new) new (and_parts (not (is_same_goal old new)) (leads local new) turns).1
+turn_cost local old new turns = cost_led (leads local new) new (and_parts (not (is_same_slot_goal old new)) (leads local new) turns).1
 
 step_by : (turn : Bool) (goals : List SlotGoal) (local : ℕ) (locals : List ℕ) (here sum end : ℕ) → (turn ≡ true → most (get_or goals local (End ToClose)) ≤ here)
     → most_of goals locals + (here + sum) ≤ end → most_of goals (if turn then local ∷ locals else locals) + sum ≤ end

@@ -1,6 +1,6 @@
 -- How the goals of a box change: what each becomes, and which of them have their turn then.
 use Rattle.std.specs.Prelude.{ℕ, ◌+◌, ◌==◌, ◌&&◌, Bool, true, not, if◌then◌else◌, List, [], ◌∷◌, nat_lt}
-use Rattle.mc_slot.specs.Same.{is_same_goal}
+use Rattle.mc_slot.specs.Same.{is_same_slot_goal}
 use Rattle.mc_slot.specs.declared.Goal.TheVariants.{Hold as ToHold}
 use Rattle.mc_slot.specs.declared.SlotGoal.{SlotGoal}
 use Rattle.mc_slot.specs.declared.SlotGoal.TheVariants.{End, Link}
@@ -34,7 +34,7 @@ leads local (Link partner) = nat_lt local partner
 
 -- a goal that is as it was has no turn
 abbrev pub has_turn : ℕ → SlotGoal → SlotGoal → Bool
-has_turn local old new = not (is_same_goal old new) && leads local new
+has_turn local old new = not (is_same_slot_goal old new) && leads local new
 
 -- the slots, from one on, whose goals have their turns, rising
 abbrev pub changed_from : ℕ → List SlotGoal → List SlotGoal → List ℕ

@@ -1,2 +1,3 @@
 mod Blanks
+pub mod Equal
 mod Tables

@@ -1,5 +1,6 @@
 pub mod Blank
 pub mod EndTurn
+pub mod Equality
 pub mod MoveTable
 pub mod Moves
 pub mod Outlook
