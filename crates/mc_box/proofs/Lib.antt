@@ -12,6 +12,7 @@ pub mod LinkFree
 pub mod NewBoxes
 pub mod Options
 pub mod SentBy
+pub mod ShapeEnables
 pub mod Sums
 pub mod TakeThree
 pub mod TakeTurns

@@ -17,7 +17,7 @@ use Rattle.mc_box.specs.Goals.{changed_slots, goals_after}
 use Rattle.mc_box.specs.declared.event.Change.{Change}
 use Rattle.mc_box.specs.declared.event.Change.TheVariants.{End as NewEnd, Link as NewLink}
 use Rattle.mc_box.specs.declared.event.Event.{Event}
-use Rattle.mc_box.specs.declared.event.Event.TheVariants.{Take, Set, Media, Retry}
+use Rattle.mc_box.specs.declared.event.Event.TheVariants.{Take, Set, Media, Tell, Retry}
 use Rattle.mc_box.specs.declared.event.MediaChange.{MediaChange}
 use Rattle.mc_box.specs.declared.event.MediaChange.TheVariants.{Hear, Talk}
 use Rattle.mc_box.specs.declared.setup.SlotMedia.{SlotMedia}
@@ -150,6 +150,13 @@ is_version_end box event = false
 abbrev pub is_take : Event → Bool
 is_take (Take local) = true
 is_take event = false
+
+-- events that come from commands
+abbrev pub is_command : Event → Bool
+is_command (Set change) = true
+is_command (Media change) = true
+is_command (Tell word) = true
+is_command event = false
 
 -- a step was made: the box is this one after it, and what it sends is appended to what was there
 pub record Appends (made : Option BoxStep) (after : BoxState) (before items : List (ℕ × Signal)) : Type 0 where

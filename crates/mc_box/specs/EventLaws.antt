@@ -1,9 +1,10 @@
 -- Laws of the events of a box: what each keeps, what each slot does in it, how much it sends, and when it can happen.
-use Rattle.std.specs.Prelude.{◌≡◌, ◌≢◌, ◌<◌, ◌≤◌, ◌*◌, ℕ, true, false, length, List, ◌∷◌, Option, Some, None, IsSome, IsTrue, All}
+use Rattle.std.specs.Prelude.{◌≡◌, ◌≢◌, ◌<◌, ◌≤◌, ◌*◌, ◌&&◌, ℕ, true, false, length, List, ◌∷◌, Option, Some, None, IsSome, IsTrue, All}
 use Rattle.mc_signal.specs.declared.Signal.{Signal}
 use Rattle.mc_slot.specs.Moves.{taken}
 use Rattle.mc_box.specs.Acting.{BoxActs}
-use Rattle.mc_box.specs.BoxEvents.{BoxStep, box_event, is_enabled, is_take, is_version_end}
+use Rattle.mc_box.specs.BoxEvents.{BoxStep, box_event, is_command, is_enabled, is_take, is_version_end}
+use Rattle.mc_box.specs.BoxShapes.{box_shape, is_enabled_by}
 use Rattle.mc_box.specs.BoxSound.{IsSoundBox}
 use Rattle.mc_box.specs.Boxes.{BoxState, slot_at}
 use Rattle.mc_box.specs.declared.event.Event.{Event}
@@ -58,6 +59,10 @@ TakeWasLawful = (box : BoxState) (local : ℕ) (signal : Signal) (step : BoxStep
 -- an event that happened and took nothing was enabled
 abbrev pub EventWasEnabled : Type 0
 EventWasEnabled = (box : BoxState) (event : Event) (step : BoxStep) → box_event box event None ≡ Some step → is_enabled box event ≡ true
+
+-- what a box's shape enables is each command that is enabled, and nothing else
+abbrev pub ShapeEnables : Type 0
+ShapeEnables = (box : BoxState) (event : Event) → is_enabled_by (box_shape box) event ≡ (is_command event && is_enabled box event)
 
 -- none happens where its slot's version is the last
 abbrev pub VersionEndStops : Type 0
