@@ -1,17 +1,19 @@
 -- The line of a command breaks no rule, and spells that command.
-use Rattle.std.proofs.Common.{◌≡◌, ℕ, ◌<◌, ◌==◌, Bool, true, false, Some, List, [], ◌∷◌, codes, length, refl, slice_index_or, arith}
+use Rattle.std.proofs.Common.{◌≡◌, ℕ, ◌<◌, ◌==◌, ◌&&◌, not, Bool, true, false, Some, List, [], ◌∷◌, codes, length, refl, slice_index_or, arith}
+use Rattle.std.proofs.lemmas.Bool.{and_parts}
+use Rattle.mc_slot.specs.Moves.{is_same_medium}
 use Rattle.mc_slot.specs.declared.Goal.{Goal}
 use Rattle.mc_slot.specs.declared.Goal.TheVariants.{Open as ToOpen, Close as ToClose, Hold as ToHold}
 use Rattle.mc_text.specs.NameLists.{NameLists, AreNames, slots_of}
 use Rattle.mc_text.proofs.Places.{found_again}
-use Rattle.mc_box.specs.BoxShapes.{BoxShapeState}
+use Rattle.mc_box.specs.BoxShapes.{BoxShapeState, has_slot, is_device, is_enabled_by, is_feature, medium_at, shape_of}
 use Rattle.mc_box.specs.declared.event.Change.TheVariants.{End as NewEnd, Link as NewLink}
 use Rattle.mc_box.specs.declared.event.Event.{Event}
 use Rattle.mc_box.specs.declared.event.Event.TheVariants.{Take, Set, Media, Tell, Retry, Shift}
 use Rattle.mc_box.specs.declared.event.MediaChange.TheVariants.{Hear, Talk}
 use Rattle.mc_script.specs.Rules.{goal_of, switch_of}
 use Rattle.mc_script.specs.Meaning.{box_name, slot_name, goal_word, switch_word}
-use Rattle.mc_script.specs.Printed.{IsFoundSlot, IsFound, IsSlot, IsRead, PrintedIsRead, NamedIsFound, HaveNames, IsFoundEvent, AllowsEvent, IsNamedEvent}
+use Rattle.mc_script.specs.Printed.{IsFoundSlot, IsFound, IsSlot, IsRead, PrintedIsRead, NamedIsFound, HaveNames, IsFoundEvent, IsNamedEvent}
 use Rattle.mc_script.specs.declared.command.Command.TheVariants.{Stimulus, Settle}
 use Rattle.mc_script.proofs.Apart.{is_word, name_is_word, line_of}
 
@@ -41,6 +43,10 @@ switch_again false = refl
 found_is_word : (names : List (List ℕ)) (number : ℕ) → IsFound names number → is_word (slice_index_or names number []) ≡ true
 found_is_word names number found = name_is_word (slice_index_or names number []) found.0
 
+-- the tests of a link that a line's rules ask for
+link_parts : (feature one two same medium : Bool) → (feature && one && two && not same && medium) ≡ true → (feature ≡ true) × (same ≡ false) × (medium ≡ true)
+link_parts feature one two same medium is = grind (arith)
+
 module _ (names : NameLists) (shape : List BoxShapeState) where
   -- of each command, the line that is printed breaks no rule and spells it
   settle_is_read : IsRead names shape Settle
@@ -53,37 +59,39 @@ module _ (names : NameLists) (shape : List BoxShapeState) where
       let line = line_of (codes "set" ∷ box_name names who ∷ slot_name names who local ∷ goal_word goal ∷ []) (omega arith) (refl, (found_is_word names.boxes who box, (found_is_word (slots_of names who) local slot, (goal_is_word goal, tt)))) in
       (rw (line.fits, line.plain, line.apart, box.1, goal_again goal, slot.1) refl, rw (line.apart, box.1, goal_again goal, slot.1) refl)
 
-  link_is_read : (who local other : ℕ) → IsFoundSlot names who local → IsFoundSlot names who other → AllowsEvent shape who (Set (NewLink local other)) → IsRead names shape (Stimulus (record { who = who; event = Set (NewLink local other) }))
+  link_is_read : (who local other : ℕ) → IsFoundSlot names who local → IsFoundSlot names who other → is_enabled_by (shape_of shape who) (Set (NewLink local other)) ≡ true → IsRead names shape (Stimulus (record { who = who; event = Set (NewLink local other) }))
   link_is_read who local other found far allowed =
       let box = found.0 in
       let slot = found.1 in
       let two = far.1 in
-      let ne = allowed.1 in
-      let differ : (local == other) ≡ false = grind arith in
+      let kind = is_feature (shape_of shape who).kind in
+      let parts = link_parts kind (has_slot (shape_of shape who) local) (has_slot (shape_of shape who) other) (local == other) (is_same_medium (medium_at shape who local) (medium_at shape who other)) allowed in
       let line = line_of (codes "link" ∷ box_name names who ∷ slot_name names who local ∷ slot_name names who other ∷ []) (omega arith) (refl, (found_is_word names.boxes who box, (found_is_word (slots_of names who) local slot, (found_is_word (slots_of names who) other two, tt)))) in
-      (rw (line.fits, line.plain, line.apart, box.1, allowed.0, slot.1, two.1, differ, allowed.2) refl, rw (line.apart, box.1, slot.1, two.1) refl)
+      (rw (line.fits, line.plain, line.apart, box.1, parts.0, slot.1, two.1, parts.1, parts.2) refl, rw (line.apart, box.1, slot.1, two.1) refl)
 
-  hear_is_read : (who local : ℕ) (on : Bool) → IsFoundSlot names who local → AllowsEvent shape who (Media (Hear local on)) → IsRead names shape (Stimulus (record { who = who; event = Media (Hear local on) }))
+  hear_is_read : (who local : ℕ) (on : Bool) → IsFoundSlot names who local → is_enabled_by (shape_of shape who) (Media (Hear local on)) ≡ true → IsRead names shape (Stimulus (record { who = who; event = Media (Hear local on) }))
   hear_is_read who local on found allowed =
       let box = found.0 in
+      let device = (and_parts (is_device (shape_of shape who).kind) (has_slot (shape_of shape who) local) allowed).0 in
       let slot = found.1 in
       let line = line_of (codes "hear" ∷ box_name names who ∷ slot_name names who local ∷ switch_word on ∷ []) (omega arith) (refl, (found_is_word names.boxes who box, (found_is_word (slots_of names who) local slot, (switch_is_word on, tt)))) in
-      (rw (line.fits, line.plain, line.apart, box.1, allowed, switch_again on, slot.1) refl, rw (line.apart, box.1, switch_again on, slot.1) refl)
+      (rw (line.fits, line.plain, line.apart, box.1, device, switch_again on, slot.1) refl, rw (line.apart, box.1, switch_again on, slot.1) refl)
 
-  talk_is_read : (who local : ℕ) (on : Bool) → IsFoundSlot names who local → AllowsEvent shape who (Media (Talk local on)) → IsRead names shape (Stimulus (record { who = who; event = Media (Talk local on) }))
+  talk_is_read : (who local : ℕ) (on : Bool) → IsFoundSlot names who local → is_enabled_by (shape_of shape who) (Media (Talk local on)) ≡ true → IsRead names shape (Stimulus (record { who = who; event = Media (Talk local on) }))
   talk_is_read who local on found allowed =
       let box = found.0 in
+      let device = (and_parts (is_device (shape_of shape who).kind) (has_slot (shape_of shape who) local) allowed).0 in
       let slot = found.1 in
       let line = line_of (codes "talk" ∷ box_name names who ∷ slot_name names who local ∷ switch_word on ∷ []) (omega arith) (refl, (found_is_word names.boxes who box, (found_is_word (slots_of names who) local slot, (switch_is_word on, tt)))) in
-      (rw (line.fits, line.plain, line.apart, box.1, allowed, switch_again on, slot.1) refl, rw (line.apart, box.1, switch_again on, slot.1) refl)
+      (rw (line.fits, line.plain, line.apart, box.1, device, switch_again on, slot.1) refl, rw (line.apart, box.1, switch_again on, slot.1) refl)
 
-  tell_is_read : (who told : ℕ) → IsFound names.boxes who → IsFound names.told told → AllowsEvent shape who (Tell told) → IsRead names shape (Stimulus (record { who = who; event = Tell told }))
+  tell_is_read : (who told : ℕ) → IsFound names.boxes who → IsFound names.told told → is_enabled_by (shape_of shape who) (Tell told) ≡ true → IsRead names shape (Stimulus (record { who = who; event = Tell told }))
   tell_is_read who told box word allowed =
       let line = line_of (codes "tell" ∷ box_name names who ∷ slice_index_or names.told told [] ∷ []) (omega arith) (refl, (found_is_word names.boxes who box, (found_is_word names.told told word, tt))) in
       (rw (line.fits, line.plain, line.apart, box.1, word.1, allowed) refl, rw (line.apart, box.1, word.1) refl)
 
   -- the same, whatever the event
-  event_is_read : (who : ℕ) (event : Event) → IsFoundEvent names who event → AllowsEvent shape who event → IsRead names shape (Stimulus (record { who = who; event = event }))
+  event_is_read : (who : ℕ) (event : Event) → IsFoundEvent names who event → is_enabled_by (shape_of shape who) event ≡ true → IsRead names shape (Stimulus (record { who = who; event = event }))
   event_is_read who (Set (NewEnd local goal)) found allowed = set_is_read who local goal found
   event_is_read who (Set (NewLink local other)) found allowed = link_is_read who local other found.0 found.1 allowed
   event_is_read who (Media (Hear local on)) found allowed = hear_is_read who local on found allowed

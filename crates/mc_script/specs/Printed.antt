@@ -1,10 +1,9 @@
 -- Commands that can be printed, and that what is printed is read again.
-use Rattle.std.specs.Prelude.{ℕ, ◌≡◌, ◌≢◌, ◌<◌, List, [], length, None, Some, IsTrue, slice_index_or}
-use Rattle.mc_slot.specs.Moves.{is_same_medium}
+use Rattle.std.specs.Prelude.{ℕ, ◌≡◌, ◌<◌, List, [], length, None, Some, IsTrue, slice_index_or}
 use Rattle.mc_text.specs.Lines.{words}
 use Rattle.mc_text.specs.NameLists.{NameLists, AreNames, place_of, slots_of}
 use Rattle.mc_text.specs.Spelling.{is_name}
-use Rattle.mc_box.specs.BoxShapes.{BoxShapeState, is_device, is_feature, medium_at, shape_of}
+use Rattle.mc_box.specs.BoxShapes.{BoxShapeState, is_enabled_by, shape_of}
 use Rattle.mc_box.specs.declared.event.Change.TheVariants.{End as NewEnd, Link as NewLink}
 use Rattle.mc_box.specs.declared.event.Event.{Event}
 use Rattle.mc_box.specs.declared.event.Event.TheVariants.{Set, Media, Tell}
@@ -50,16 +49,9 @@ abbrev pub IsFoundCommand : NameLists → Command → Type 0
 IsFoundCommand names (Stimulus turn) = IsFoundEvent names turn.who turn.event
 IsFoundCommand names Settle = Unit {0}
 
--- the shape of the box allows an event: links on features, between two slots of one medium; media on devices; words for programs
-abbrev pub AllowsEvent : List BoxShapeState → ℕ → Event → Type 0
-AllowsEvent shape who (Set (NewLink local other)) =
-    IsTrue (is_feature (shape_of shape who).kind) × (local ≢ other) × IsTrue (is_same_medium (medium_at shape who local) (medium_at shape who other))
-AllowsEvent shape who (Media change) = IsTrue (is_device (shape_of shape who).kind)
-AllowsEvent shape who (Tell told) = IsTrue (shape_of shape who).programmed
-AllowsEvent shape who event = Unit {0}
-
+-- the shape of the box enables the command
 abbrev pub Allows : List BoxShapeState → Command → Type 0
-Allows shape (Stimulus turn) = AllowsEvent shape turn.who turn.event
+Allows shape (Stimulus turn) = IsTrue (is_enabled_by (shape_of shape turn.who) turn.event)
 Allows shape Settle = Unit {0}
 
 -- ---- laws
