@@ -8,7 +8,9 @@ use Rattle.mc_box.specs.BoxShapes.{box_shape, is_enabled_by}
 use Rattle.mc_box.specs.BoxSound.{IsSoundBox}
 use Rattle.mc_box.specs.Boxes.{BoxState, slot_at}
 use Rattle.mc_box.specs.declared.event.Event.{Event}
-use Rattle.mc_box.specs.declared.event.Event.TheVariants.{Take}
+use Rattle.mc_box.specs.declared.event.Change.{Change}
+use Rattle.mc_box.specs.declared.event.Event.TheVariants.{Take, Set, Media, Tell, Retry, Shift}
+use Rattle.mc_box.specs.declared.event.MediaChange.{MediaChange}
 
 -- each event of a sound box leaves it sound
 abbrev pub EventKeepsSound : Type 0
@@ -59,6 +61,15 @@ TakeWasLawful = (box : BoxState) (local : ℕ) (signal : Signal) (step : BoxStep
 -- an event that happened and took nothing was enabled
 abbrev pub EventWasEnabled : Type 0
 EventWasEnabled = (box : BoxState) (event : Event) (step : BoxStep) → box_event box event None ≡ Some step → is_enabled box event ≡ true
+
+-- the table of the events that come from commands: each Set, each Media event and each Tell, and no others
+pub record CommandTable : Type 0 where
+  pub sets : (change : Change) → is_command (Set change) ≡ true
+  pub media : (change : MediaChange) → is_command (Media change) ≡ true
+  pub tells : (word : ℕ) → is_command (Tell word) ≡ true
+  pub takes : (local : ℕ) → is_command (Take local) ≡ false
+  pub retries : (local : ℕ) → is_command (Retry local) ≡ false
+  pub shifts : is_command Shift ≡ false
 
 -- what a box's shape enables is each command that is enabled, and nothing else
 abbrev pub ShapeEnables : Type 0

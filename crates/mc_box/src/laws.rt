@@ -1,6 +1,6 @@
 //! Laws of the events of a box, over its definitions alone: each function's contract is the law's sentence.
 
-ghost use Rattle.mc_box.specs.EventLaws.{EventActs, EventGoes, EventKeepsSound, EventSendsFromSlots, EventSendsTwice, EventWasEnabled, ShapeEnables, TakeActs, TakeGoes, TakeSendsThree, TakeWasLawful, VersionEndStops};
+ghost use Rattle.mc_box.specs.EventLaws.{CommandTable, EventActs, EventGoes, EventKeepsSound, EventSendsFromSlots, EventSendsTwice, EventWasEnabled, ShapeEnables, TakeActs, TakeGoes, TakeSendsThree, TakeWasLawful, VersionEndStops};
 ghost use Rattle.mc_box.specs.LinkFree.{EventKeepsLinkFree};
 
 /// Each event of a sound box leaves it sound.
@@ -52,6 +52,11 @@ pub fn event_goes()
 /// An event that takes nothing and happens is enabled.
 pub fn event_was_enabled()
     ensures { EventWasEnabled }
+{}
+
+/// Events come from commands exactly where they are Sets, Media events or Tells.
+pub fn command_table()
+    ensures { CommandTable }
 {}
 
 /// The shape of a box enables each command that is enabled, and no other event.

@@ -1,8 +1,8 @@
-pub mod Allowed
 pub mod Batches
 pub mod Blocks
 pub mod CodecLists
 pub mod Declaring
+pub mod EndSets
 pub mod Faults
 pub mod FirstBoxes
 pub mod FirstBroken

@@ -1,15 +1,17 @@
 -- The network that a text declares.
-use Rattle.std.specs.Prelude.{◌≡◌, ◌⊎◌, ◌<◌, ℕ, Bool, if◌then◌else◌, List, [], ◌∷◌, ◌==◌, length, map, slice_index_or, IsTrue}
+use Rattle.std.specs.Prelude.{◌≡◌, ◌⊎◌, ◌<◌, ℕ, ◌&&◌, Bool, false, if◌then◌else◌, List, [], ◌∷◌, ◌==◌, length, map, nat_lt, slice_index_or, IsTrue}
 use Rattle.std.specs.List.{All}
 use Rattle.mc_signal.specs.Choice.{codecs_of}
 use Rattle.mc_signal.specs.declared.Medium.{Medium}
 use Rattle.mc_signal.specs.declared.Medium.TheVariants.{Audio}
 use Rattle.mc_signal.specs.declared.codec_list.CodecList.{CodecList}
 use Rattle.mc_text.specs.NameLists.{NameLists, slots_of}
-use Rattle.mc_box.specs.Boxes.{BoxState, first_box}
+use Rattle.mc_box.specs.Boxes.{BoxState, first_box, is_slot}
 use Rattle.mc_world.specs.Setups.{world_of_devices}
-use Rattle.mc_world.specs.Shapes.{is_allowed}
 use Rattle.mc_world.specs.Worlds.{ChannelState, WorldState, box_at}
+use Rattle.mc_box.specs.declared.event.Change.TheVariants.{End as NewEnd}
+use Rattle.mc_box.specs.declared.event.Event.{Event}
+use Rattle.mc_box.specs.declared.event.Event.TheVariants.{Set}
 use Rattle.mc_box.specs.declared.event.Kind.TheVariants.{Device}
 use Rattle.mc_box.specs.declared.event.Turn.{Turn}
 use Rattle.mc_script.specs.declared.command.Batch.{Batch}
@@ -97,6 +99,15 @@ pub record NamesAll (names : NameLists) (world : WorldState) : Type 0 where
   pub slots : (who : ℕ) → who < length world.boxes → length (slots_of names who) ≡ length (box_at world who).slots
   pub codecs : (who : ℕ) → All (λ codec. codec < length names.codecs) (codecs_of (box_at world who).receives)
 
--- each command of each batch is one that the world allows
-abbrev pub AreAllowed : WorldState → List (List Turn) → Type 0
-AreAllowed world batches = All (λ batch. All (λ turn. IsTrue (is_allowed world turn)) batch) batches
+-- the event makes a slot of the box an end with some goal
+abbrev pub sets_end : BoxState → Event → Bool
+sets_end box (Set (NewEnd local goal)) = is_slot box local
+sets_end box event = false
+
+-- the turn does so, for a box that is there
+abbrev pub is_end_set : WorldState → Turn → Bool
+is_end_set world turn = nat_lt turn.who (length world.boxes) && sets_end (box_at world turn.who) turn.event
+
+-- each command of each batch sets the goal of an end, of a slot that is there
+abbrev pub AreEndSets : WorldState → List (List Turn) → Type 0
+AreEndSets world batches = All (λ batch. All (λ turn. IsTrue (is_end_set world turn)) batch) batches

@@ -3,7 +3,7 @@
 ghost use Rattle.std.specs.Prelude.{◌≡◌, ◌<◌, IfErr, IfOk, length, map};
 ghost use Rattle.mc_world.specs.LinkFree.{HasNoLinks};
 ghost use Rattle.mc_world.specs.Setups.{world_of_devices};
-ghost use Rattle.mc_net.specs.Nets.{AreAllowed, DeclaresNet, IsMadeOf, JoinsPair, NamesAll, batches_of, lists_of, medium_of, one_device, turns_of, two_devices};
+ghost use Rattle.mc_net.specs.Nets.{AreEndSets, DeclaresNet, IsMadeOf, JoinsPair, NamesAll, batches_of, lists_of, medium_of, one_device, turns_of, two_devices};
 ghost use Rattle.mc_net.specs.Texts.{RefusesText};
 
 use crate::fault::NetFault;
@@ -38,7 +38,7 @@ pub struct Net {
 pub fn read_net(alloc: Global, text: &[u8], tail: Tail) -> Result<Net, NetFault>
     ensures declares { IfOk result (DeclaresNet text.now) }
     ensures named { IfOk result (λ net. NamesAll net.names net.world) }
-    ensures allowed { IfOk result (λ net. AreAllowed net.world (map turns_of net.batches.items)) }
+    ensures end_sets { IfOk result (λ net. AreEndSets net.world (map turns_of net.batches.items)) }
     ensures free { IfOk result (λ net. HasNoLinks net.world) }
     ensures refused { IfErr result (RefusesText text.now) }
 {

@@ -9,6 +9,8 @@ use Rattle.std.proofs.lemmas.Option.{slice_get_within, get_or_from_slice_get}
 use Rattle.mc_signal.specs.declared.Signal.{Signal}
 use Rattle.mc_box.specs.declared.event.Event.TheVariants.{Take}
 use Rattle.mc_box.specs.declared.event.Turn.{Turn}
+use Rattle.mc_world.proofs.CommandsGo.{allowed_parts}
+use Rattle.mc_world.specs.Shapes.{is_allowed}
 use Rattle.mc_world.specs.Settles.{is_quiet}
 use Rattle.mc_world.specs.Sound.{IsSound}
 use Rattle.mc_world.specs.Steps.{step}
@@ -16,8 +18,8 @@ use Rattle.mc_world.specs.Worlds.{WorldState, box_at, front, number, place, slot
 use Rattle.mc_world.proofs.Numbers.{box_inside, number_is}
 use Rattle.mc_world.proofs.StepForms.{then_some}
 use Rattle.mc_world.proofs.StepGoes.{front_step_goes, some_of}
-use Rattle.mc_seq.specs.Draws.{AreFit}
-use Rattle.mc_seq.specs.Schedule.{Standing, candidates, drawn, drawn_place, is_fit, is_urgent, listed, next_of, of_box, take_turn, take_where, takes_of, waits}
+use Rattle.mc_seq.specs.Draws.{AreAllowed}
+use Rattle.mc_seq.specs.Schedule.{Standing, candidates, drawn, drawn_place, is_urgent, listed, next_of, of_box, take_turn, take_where, takes_of, waits}
 use Rattle.mc_seq.proofs.ForEach.{append_none, each_all, each_none, none_all, one_all}
 use Rattle.mc_seq.proofs.Fronts.{none_quiet}
 
@@ -124,12 +126,11 @@ first_by true t later is none = cc
 first_by false t later is none = cc
 
 -- each command that is left is listed with its box
-pub none_left : (world : WorldState) (left : List Turn) (urgent : Bool) → AreFit world left → listed world left urgent ≡ [] → left ≡ []
-none_left world [] urgent fit none = refl
-none_left world (turn ∷ left) urgent fit none =
-    let parts = and_parts (is_fit world turn) (list_all (is_fit world) left) fit in
-    let here = and_parts _ _ parts.0 in
-    let inside = box_inside world turn.who (and_parts _ _ here.0).1 in
+pub none_left : (world : WorldState) (left : List Turn) (urgent : Bool) → AreAllowed world left → listed world left urgent ≡ [] → left ≡ []
+none_left world [] urgent allowed none = refl
+none_left world (turn ∷ left) urgent allowed none =
+    let parts = and_parts (is_allowed world turn) (list_all (is_allowed world) left) allowed in
+    let inside = box_inside world turn.who (allowed_parts world turn parts.0).below in
     let box = each_none (of_box world (turn ∷ left) urgent) (length world.boxes) turn.who none inside in
     let next = (append_none (option_to_list (next_of turn.who (turn ∷ left))) (if urgent then [] else takes_of world turn.who) box).0 in
     absurd (first_by (turn.who == turn.who) turn (find (λ t. t.who == turn.who) left) (self_test turn.who) next)

@@ -1,9 +1,9 @@
+mod AllowedCommands
 mod Candidates
 mod Commanding
 mod Counting
 mod DrawsEnd
 mod Finds
-mod FitCommands
 mod ForEach
 mod Fronts
 mod FrontsStay

@@ -6,7 +6,8 @@ use Rattle.std.proofs.Math.Seq.{take-append_seam, drop-append_seam}
 use Rattle.std.proofs.lemmas.List.Elements.{filter-append}
 use Rattle.std.proofs.lemmas.List.Folds.{list_all-append}
 use Rattle.std.proofs.lemmas.List.Sums.{sum_by-append}
-use Rattle.mc_world.specs.Settles.{IsSettled, commands_of, is_command, is_quiet, is_retry_of, owes_retry, takes_or_retries}
+use Rattle.mc_box.specs.BoxEvents.{is_command}
+use Rattle.mc_world.specs.Settles.{IsSettled, commands_of, is_quiet, is_retry_of, owes_retry, takes_or_retries}
 use Rattle.mc_world.specs.Shapes.{owes_of, retry_of}
 use Rattle.mc_world.specs.Paths.{has_ring}
 use Rattle.mc_world.specs.Sound.{IsSound}

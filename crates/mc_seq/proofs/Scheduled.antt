@@ -8,20 +8,23 @@ use Rattle.std.proofs.lemmas.List.Elements.{filter-append}
 use Rattle.std.proofs.lemmas.List.Sums.{sum_by-append}
 use Rattle.mc_box.specs.declared.event.Event.{Event}
 use Rattle.mc_box.specs.declared.event.Turn.{Turn}
+use Rattle.mc_box.specs.BoxEvents.{is_command}
+use Rattle.mc_world.proofs.CommandsGo.{allowed_parts}
+use Rattle.mc_world.specs.Shapes.{is_allowed}
 use Rattle.mc_world.specs.Paths.{has_ring}
 use Rattle.mc_world.specs.Rings.{IsFirstOnRing}
-use Rattle.mc_world.specs.Settles.{IsSettled, IsStopped, commands_of, is_command, is_quiet, is_retry_of, owes_retry, takes_or_retries}
+use Rattle.mc_world.specs.Settles.{IsSettled, IsStopped, commands_of, is_quiet, is_retry_of, owes_retry, takes_or_retries}
 use Rattle.mc_world.specs.Sound.{IsSound}
 use Rattle.mc_world.specs.Steps.{run}
 use Rattle.mc_world.specs.Worlds.{WorldState}
 use Rattle.mc_world.proofs.GoalsKept.{rest_keeps_rings}
 use Rattle.mc_world.proofs.ShapesKept.{run_keeps_shape}
 use Rattle.mc_world.proofs.StepKeeps.{run_keeps_sound}
-use Rattle.mc_seq.specs.Draws.{AreFit, IsScheduled, ScheduleSettles, StopsAtRing, StopsAtVersion}
+use Rattle.mc_seq.specs.Draws.{AreAllowed, IsScheduled, ScheduleSettles, StopsAtRing, StopsAtVersion}
 use Rattle.mc_seq.specs.Drawing.{DrewAll, RanOut, Rested}
-use Rattle.mc_seq.specs.Schedule.{AreDrawn, Standing, begun, candidates, is_fit, is_urgent, left_by, listed, moved, round, without_next}
+use Rattle.mc_seq.specs.Schedule.{AreDrawn, Standing, begun, candidates, is_urgent, left_by, listed, moved, round, without_next}
 use Rattle.mc_seq.proofs.Candidates.{IsListed, drawn_listed, listed_quiet, none_left, take_same}
-use Rattle.mc_seq.proofs.FitCommands.{fit_parts, fits_kept, left_pass, next_pass, two_there}
+use Rattle.mc_seq.proofs.AllowedCommands.{all_kept, left_pass, next_pass, two_there}
 use Rattle.mc_seq.proofs.Nexts.{next_first}
 use Rattle.mc_seq.proofs.OrderSettles.{all_besides, besides_both, settled_at}
 use Rattle.mc_seq.proofs.Rounds.{round_besides, round_once}
@@ -46,12 +49,12 @@ drawn_pass p (turn ∷ turns) now last all draws = drawn_pass p turns (moved now
 abbrev is_ordered : Turn → Bool
 is_ordered turn = is_command turn.event
 
--- commands that fit are commands
-fit_commands : (left : List Turn) (world : WorldState) → AreFit world left → list_all is_ordered left ≡ true
-fit_commands [] world fit = refl
-fit_commands (turn ∷ left) world fit =
-    let parts = and_parts (is_fit world turn) (list_all (is_fit world) left) fit in
-    two_there (is_ordered turn) (list_all is_ordered left) (fit_parts world turn parts.0).command (fit_commands left world parts.1)
+-- allowed commands are commands
+allowed_commands : (left : List Turn) (world : WorldState) → AreAllowed world left → list_all is_ordered left ≡ true
+allowed_commands [] world allowed = refl
+allowed_commands (turn ∷ left) world allowed =
+    let parts = and_parts (is_allowed world turn) (list_all (is_allowed world) left) allowed in
+    two_there (is_ordered turn) (list_all is_ordered left) (allowed_parts world turn parts.0).command (allowed_commands left world parts.1)
 
 -- a drawn turn and what is left behind it are the commands that were left, box by box
 moved_commands : (world : WorldState) (left : List Turn) (urgent : Bool) (turn : Turn) (who : ℕ) → list_all is_ordered left ≡ true → IsListed world left urgent turn
@@ -75,12 +78,12 @@ drawn_commands (turn ∷ turns) now last who all draws =
     ∙ moved_commands now.world now.left (is_urgent now.left now.since) turn who all (drawn_listed now turn draws.2)))
 
 -- so they are a stopped segment
-pub drawn_stopped : (world : WorldState) (batch turns : List Turn) (state : ℕ) (last : Standing) → AreFit world batch → AreDrawn (begun world batch state) turns last → IsStopped world batch turns last.world
-drawn_stopped world batch turns state last fit draws = record {
+pub drawn_stopped : (world : WorldState) (batch turns : List Turn) (state : ℕ) (last : Standing) → AreAllowed world batch → AreDrawn (begun world batch state) turns last → IsStopped world batch turns last.world
+drawn_stopped world batch turns state last allowed draws = record {
   runs = drawn_run turns (begun world batch state) last draws;
   commands = λ who.
       sym (take-append_seam (commands_of who turns) (commands_of who last.left))
-      ∙ ap (take (length (commands_of who turns))) (drawn_commands turns (begun world batch state) last who (fit_commands batch world fit) draws);
+      ∙ ap (take (length (commands_of who turns))) (drawn_commands turns (begun world batch state) last who (allowed_commands batch world allowed) draws);
 }
 
 -- ---- where the batch is used up
@@ -119,13 +122,13 @@ record First (world : WorldState) (batch first : List Turn) (rested : Standing) 
   pub used : (who : ℕ) → commands_of who first ≡ commands_of who batch
 
 -- what the turns up to the first rest are
-first_is : (world : WorldState) (batch first : List Turn) (state : ℕ) (rested : Standing) → IsSound world → AreFit world batch
+first_is : (world : WorldState) (batch first : List Turn) (state : ℕ) (rested : Standing) → IsSound world → AreAllowed world batch
     → AreDrawn (begun world batch state) first rested → candidates rested ≡ [] → First world batch first rested
-first_is world batch first state rested sound fit draws none =
+first_is world batch first state rested sound allowed draws none =
     let ran : run world first ≡ Some rested.world = drawn_run first (begun world batch state) rested draws in
     let kept = run_keeps_sound world rested.world first sound ran in
-    let fits = fits_kept rested.left world rested.world sound kept (run_keeps_shape world rested.world first sound ran) (drawn_pass (is_fit world) first (begun world batch state) rested fit draws) in
-    let left = none_left rested.world rested.left (is_urgent rested.left rested.since) fits none in
+    let still = all_kept rested.left world rested.world sound kept (run_keeps_shape world rested.world first sound ran) (drawn_pass (is_allowed world) first (begun world batch state) rested allowed draws) in
+    let left = none_left rested.world rested.left (is_urgent rested.left rested.since) still none in
     record {
       ran = ran;
       sound = kept;
@@ -134,7 +137,7 @@ first_is world batch first state rested sound fit draws none =
       used = λ who.
           sym (append-nil (commands_of who first))
           ∙ (ap (λ (l : List Turn). commands_of who first ++ commands_of who l) (sym left)
-          ∙ drawn_commands first (begun world batch state) rested who (fit_commands batch world fit) draws);
+          ∙ drawn_commands first (begun world batch state) rested who (allowed_commands batch world allowed) draws);
     }
 
 -- each retry that is owed comes once behind it
@@ -161,11 +164,11 @@ settled_by world retried batch first others rested ended begins free retries dra
 
 -- so turns by the schedule settle their batch
 pub schedule_settles : ScheduleSettles
-schedule_settles world last batch turns state end sound fit scheduled =
+schedule_settles world last batch turns state end sound allowed scheduled =
     subst (λ (t : List Turn). IsSettled world batch t last) (sym scheduled.are)
     (subst (λ (w : WorldState). IsSettled world batch (scheduled.first ++ (round scheduled.rested.world ++ scheduled.others)) w) scheduled.to_last
     (settled_by world scheduled.retried batch scheduled.first scheduled.others scheduled.rested scheduled.ended
-    (first_is world batch scheduled.first state scheduled.rested sound fit scheduled.draws scheduled.none) scheduled.no_ring scheduled.retries scheduled.more scheduled.nothing))
+    (first_is world batch scheduled.first state scheduled.rested sound allowed scheduled.draws scheduled.none) scheduled.no_ring scheduled.retries scheduled.more scheduled.nothing))
 
 -- ---- a settle
 
@@ -204,16 +207,16 @@ first_drawn world batch state start used none one begins nothing first =
     (subst (λ (s : Standing). AreDrawn s first.turns used) begins first.draws)
 
 -- a settle that stops at a ring
-pub ring_is : (world : WorldState) (batch : List Turn) (state at : ℕ) (start used : Standing) (none one : List Turn) → start ≡ begun world batch state → none ≡ [] → AreFit world batch
+pub ring_is : (world : WorldState) (batch : List Turn) (state at : ℕ) (start used : Standing) (none one : List Turn) → start ≡ begun world batch state → none ≡ [] → AreAllowed world batch
     → DrewAll start none used one → used.left ≡ [] → IsFirstOnRing used.world at → StopsAtRing world batch state one used.draws at
-ring_is world batch state at start used none one begins nothing fit first left least =
+ring_is world batch state at start used none one begins nothing allowed first left least =
     let draws = first_drawn world batch state start used none one begins nothing first in
-    record { last = used; draws = draws; used_up = left; least = least; to_end = refl; stopped = drawn_stopped world batch one state used fit draws }
+    record { last = used; draws = draws; used_up = left; least = least; to_end = refl; stopped = drawn_stopped world batch one state used allowed draws }
 
 -- and one that stops at the last version
-pub version_is : (world : WorldState) (batch : List Turn) (state at : ℕ) (start used : Standing) (none one : List Turn) → start ≡ begun world batch state → none ≡ [] → AreFit world batch
+pub version_is : (world : WorldState) (batch : List Turn) (state at : ℕ) (start used : Standing) (none one : List Turn) → start ≡ begun world batch state → none ≡ [] → AreAllowed world batch
     → RanOut start none used one at → StopsAtVersion world batch state one used.draws at
-version_is world batch state at start used none one begins nothing fit out =
+version_is world batch state at start used none one begins nothing allowed out =
     let draws = first_drawn world batch state start out.last none out.until begins nothing out.drew in
     let same : AreDrawn (begun world batch state) one out.last = subst (λ (t : List Turn). AreDrawn (begun world batch state) t out.last) (sym out.ends.logged) draws in
     record {
@@ -224,5 +227,5 @@ version_is world batch state at start used none one begins nothing fit out =
       version = out.ends.version;
       slot = out.ends.slot;
       to_end = sym (ap (λ (s : Standing). s.draws) out.ends.stays);
-      stopped = drawn_stopped world batch one state out.last fit same;
+      stopped = drawn_stopped world batch one state out.last allowed same;
     }

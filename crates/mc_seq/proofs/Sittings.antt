@@ -5,9 +5,11 @@ use Rattle.std.proofs.lemmas.Grind.{common_steps}
 use Rattle.mc_box.specs.declared.event.Event.{Event}
 use Rattle.mc_box.specs.declared.event.Event.TheVariants.{Take}
 use Rattle.mc_box.specs.declared.event.Turn.{Turn}
+use Rattle.mc_box.specs.BoxEvents.{is_command}
+use Rattle.mc_world.proofs.CommandsGo.{allowed_parts}
+use Rattle.mc_world.specs.Shapes.{is_allowed}
 use Rattle.mc_world.specs.Measures.{IsRingFree, measure}
 use Rattle.mc_world.specs.Paths.{has_ring}
-use Rattle.mc_world.specs.Settles.{is_command}
 use Rattle.mc_world.specs.Sound.{IsSound}
 use Rattle.mc_world.specs.StepAnswers.{ends_version, ends_version_at}
 use Rattle.mc_world.specs.Steps.{step}
@@ -15,13 +17,13 @@ use Rattle.mc_world.specs.Worlds.{WorldState}
 use Rattle.mc_world.proofs.Lowers.{take_lowers, take_stays_free}
 use Rattle.mc_world.proofs.ShapesKept.{step_keeps_shape}
 use Rattle.mc_world.proofs.StepKeeps.{step_keeps_sound}
-use Rattle.mc_seq.specs.Draws.{AreFit}
+use Rattle.mc_seq.specs.Draws.{AreAllowed}
 use Rattle.mc_seq.specs.Drawing.{Comes, DrewAll, Ends, Made, RanOut, Rested, TurnMade, stands, written}
-use Rattle.mc_seq.specs.Schedule.{AreDrawn, MayGo, Standing, candidates, drawn, drawn_place, is_fit, is_urgent, left_by, listed, moved, next_of, since_by, without_next}
+use Rattle.mc_seq.specs.Schedule.{AreDrawn, MayGo, Standing, candidates, drawn, drawn_place, is_urgent, left_by, listed, moved, next_of, since_by, without_next}
 use Rattle.mc_seq.specs.declared.drawing.Draw.TheVariants.{Nothing}
 use Rattle.mc_seq.specs.declared.drawing.Sitting.{Sitting}
 use Rattle.mc_seq.proofs.Candidates.{IsListed, IsTake, drawn_listed, none_left, take_same}
-use Rattle.mc_seq.proofs.FitCommands.{fit_parts, fits_kept, left_pass, next_pass}
+use Rattle.mc_seq.proofs.AllowedCommands.{all_kept, left_pass, next_pass}
 use Rattle.mc_seq.proofs.Nexts.{without_less}
 
 -- ---- one draw
@@ -65,12 +67,12 @@ made_listed now next old new made = drawn_listed now made.turn made.is_drawn
 pub made_sound : (now next : Standing) (old new : List Turn) → Made now old next new → IsSound now.world → IsSound next.world
 made_sound now next old new made sound = step_keeps_sound now.world next.world made.turn sound made.goes
 
--- commands that fit go on to fit
-pub made_fit : (now next : Standing) (old new : List Turn) → Made now old next new → IsSound now.world → AreFit now.world now.left → AreFit next.world next.left
-made_fit now next old new made sound fit =
-    subst (λ (left : List Turn). AreFit next.world left) (sym (ap (λ (s : Standing). s.left) made.moves))
-    (fits_kept (left_by made.turn now.left) now.world next.world sound (made_sound now next old new made sound) (step_keeps_shape now.world next.world made.turn sound made.goes)
-    (left_pass (is_fit now.world) made.turn now.left fit))
+-- commands that are allowed stay so
+pub made_allowed : (now next : Standing) (old new : List Turn) → Made now old next new → IsSound now.world → AreAllowed now.world now.left → AreAllowed next.world next.left
+made_allowed now next old new made sound allowed =
+    subst (λ (left : List Turn). AreAllowed next.world left) (sym (ap (λ (s : Standing). s.left) made.moves))
+    (all_kept (left_by made.turn now.left) now.world next.world sound (made_sound now next old new made sound) (step_keeps_shape now.world next.world made.turn sound made.goes)
+    (left_pass (is_allowed now.world) made.turn now.left allowed))
 
 -- how many turns may come until the batch is used up
 abbrev pub to_come : List Turn → ℕ → ℕ
@@ -109,22 +111,22 @@ take_down turn left since is few =
     (subst (λ (b : Bool). to_come left (if b then since + 1 else since) < to_come left since) (sym few) (lower_take (length left) since (few_by since 63 few)))
 
 -- each listed turn is one of the two
-pub listed_lowers : (world : WorldState) (turn : Turn) (left : List Turn) (since : ℕ) → AreFit world left → length left ≢ 0 → IsListed world left (is_urgent left since) turn
+pub listed_lowers : (world : WorldState) (turn : Turn) (left : List Turn) (since : ℕ) → AreAllowed world left → length left ≢ 0 → IsListed world left (is_urgent left since) turn
     → to_come (left_by turn left) (since_by turn since) < to_come left since
-listed_lowers world turn left since fit some is = elim is [
-  | inl next ↦ command_lowers turn left since (fit_parts world turn (next_pass (is_fit world) turn.who left turn fit next)).command next
+listed_lowers world turn left since allowed some is = elim is [
+  | inl next ↦ command_lowers turn left since (allowed_parts world turn (next_pass (is_allowed world) turn.who left turn allowed next)).command next
   | inr take ↦ take_down turn left since (take_none turn take.1.local take.1.event) (not_urgent (length left) since some take.0)
 ]
 
 -- each drawn turn lowers it, whether links make a ring or not
-pub made_lowers : (now next : Standing) (old new : List Turn) → Made now old next new → AreFit now.world now.left → length now.left ≢ 0 → to_come next.left next.since < to_come now.left now.since
-made_lowers now next old new made fit some =
+pub made_lowers : (now next : Standing) (old new : List Turn) → Made now old next new → AreAllowed now.world now.left → length now.left ≢ 0 → to_come next.left next.since < to_come now.left now.since
+made_lowers now next old new made allowed some =
     subst (λ (s : Standing). to_come s.left s.since < to_come now.left now.since) (sym made.moves)
-    (listed_lowers now.world made.turn now.left now.since fit some (made_listed now next old new made))
+    (listed_lowers now.world made.turn now.left now.since allowed some (made_listed now next old new made))
 
 -- where commands are left, something is listed
-pub some_listed : (now : Standing) → AreFit now.world now.left → length now.left ≢ 0 → candidates now ≡ [] → ⊥
-some_listed now fit some none = some (ap length (none_left now.world now.left (is_urgent now.left now.since) fit none))
+pub some_listed : (now : Standing) → AreAllowed now.world now.left → length now.left ≢ 0 → candidates now ≡ [] → ⊥
+some_listed now allowed some none = some (ap length (none_left now.world now.left (is_urgent now.left now.since) allowed none))
 
 -- while commands are left a ring stops nothing
 pub left_goes : (now : Standing) → length now.left ≢ 0 → MayGo now

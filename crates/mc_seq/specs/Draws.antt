@@ -3,6 +3,7 @@ use Rattle.std.specs.Prelude.{◌≡◌, ◌≢◌, ◌≤◌, ◌+◌, ◌*◌,
 use Rattle.std.specs.List.{list_all}
 use Rattle.mc_text.specs.Draws.{next_state}
 use Rattle.mc_box.specs.declared.event.Turn.{Turn}
+use Rattle.mc_world.specs.Shapes.{is_allowed}
 use Rattle.mc_world.specs.Measures.{IsRingFree, measure}
 use Rattle.mc_world.specs.Paths.{has_ring}
 use Rattle.mc_world.specs.Rings.{IsFirstOnRing}
@@ -11,7 +12,7 @@ use Rattle.mc_world.specs.Sound.{IsSound}
 use Rattle.mc_world.specs.StepAnswers.{ends_version}
 use Rattle.mc_world.specs.Steps.{run}
 use Rattle.mc_world.specs.Worlds.{WorldState}
-use Rattle.mc_seq.specs.Schedule.{AreDrawn, Standing, begun, candidates, drawn, heard_slot, is_fit, round}
+use Rattle.mc_seq.specs.Schedule.{AreDrawn, Standing, begun, candidates, drawn, heard_slot, round}
 use Rattle.mc_seq.specs.declared.fault.SettleFault.{SettleFault}
 use Rattle.mc_seq.specs.declared.fault.SettleFault.TheVariants.{NoMemory, Ring, VersionEnd}
 
@@ -58,13 +59,13 @@ StopsByDraws world batch state end (Ring stop) = StopsAtRing world batch state s
 StopsByDraws world batch state end (VersionEnd stop) = StopsAtVersion world batch state stop.turns.items end stop.at
 StopsByDraws world batch state end (NoMemory e) = Unit {0}
 
--- each command fits the shape of its box
-abbrev pub AreFit : WorldState → List Turn → Type 0
-AreFit world batch = IsTrue (list_all (is_fit world) batch)
+-- each command still the shape of its box
+abbrev pub AreAllowed : WorldState → List Turn → Type 0
+AreAllowed world batch = IsTrue (list_all (is_allowed world) batch)
 
 -- turns by the schedule are a settled segment
 abbrev pub ScheduleSettles : Type 0
-ScheduleSettles = (world last : WorldState) (batch turns : List Turn) (state end : ℕ) → IsSound world → AreFit world batch → IsScheduled world batch state turns last end → IsSettled world batch turns last
+ScheduleSettles = (world last : WorldState) (batch turns : List Turn) (state end : ℕ) → IsSound world → AreAllowed world batch → IsScheduled world batch state turns last end → IsSettled world batch turns last
 
 -- and the schedule leaves no choice: there is one such list of turns, with one world and one state of the draws after it
 pub record IsSame (turns more : List Turn) (last other : WorldState) (end until : ℕ) : Type 0 where
@@ -77,7 +78,7 @@ ScheduleIsOne = (world last other : WorldState) (batch turns more : List Turn) (
 
 -- while commands are left, at most 63 turns that are none stand before the next, and so there are at most so many turns, whether links make a ring or not
 abbrev pub DrawsEnd : Type 0
-DrawsEnd = (now last : Standing) (turns : List Turn) → IsSound now.world → AreFit now.world now.left → AreDrawn now turns last → last.left ≢ [] → length turns ≤ 64 * length now.left + 63
+DrawsEnd = (now last : Standing) (turns : List Turn) → IsSound now.world → AreAllowed now.world now.left → AreDrawn now turns last → last.left ≢ [] → length turns ≤ 64 * length now.left + 63
 
 -- and where none are left, each turn lowers the measure of Takes
 abbrev pub TakesEndDraws : Type 0

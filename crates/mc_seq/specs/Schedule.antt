@@ -3,14 +3,13 @@ use Rattle.std.specs.Prelude.{◌≡◌, ℕ, zero, suc, ◌+◌, ◌/◌, ◌%�
 use Rattle.std.specs.List.{find}
 use Rattle.std.specs.Option.{is_some, option_and_then, option_to_list}
 use Rattle.mc_text.specs.Draws.{next_state}
-use Rattle.mc_box.specs.BoxEvents.{is_enabled}
+use Rattle.mc_box.specs.BoxEvents.{is_command}
 use Rattle.mc_box.specs.Boxes.{owes_at}
 use Rattle.mc_box.specs.declared.event.Event.{Event}
 use Rattle.mc_box.specs.declared.event.Event.TheVariants.{Take, Media, Retry}
 use Rattle.mc_box.specs.declared.event.MediaChange.TheVariants.{Hear}
 use Rattle.mc_box.specs.declared.event.Turn.{Turn}
 use Rattle.mc_world.specs.Paths.{has_ring}
-use Rattle.mc_world.specs.Settles.{is_command}
 use Rattle.mc_world.specs.Steps.{step}
 use Rattle.mc_world.specs.Worlds.{WorldState, box_at, front, number}
 
@@ -124,9 +123,3 @@ heard_local event = None
 -- its slot
 abbrev pub heard_slot : WorldState → Turn → Option ℕ
 heard_slot world turn = option_and_then (number world turn.who) (heard_local turn.event)
-
--- ---- the batch
-
--- a command that a box can have by its shape: its box is there and has its slots, and is of the kind that it asks for
-abbrev pub is_fit : WorldState → Turn → Bool
-is_fit world turn = is_command turn.event && nat_lt turn.who (length world.boxes) && is_enabled (box_at world turn.who) turn.event

@@ -4,14 +4,16 @@ ghost use Rattle.std.specs.Prelude.{◌≡◌, ◌≢◌, ◌==◌, ◌<◌, ◌
 ghost use Rattle.std.specs.List.{list_all};
 ghost use Rattle.mc_text.specs.Draws.{next_state};
 ghost use Rattle.mc_box.specs.Boxes.{owes_at};
+ghost use Rattle.mc_box.specs.BoxEvents.{is_command};
+ghost use Rattle.mc_world.specs.Shapes.{is_allowed};
 ghost use Rattle.mc_world.specs.Paths.{has_ring};
-ghost use Rattle.mc_world.specs.Settles.{IsSettled, is_command};
+ghost use Rattle.mc_world.specs.Settles.{IsSettled};
 ghost use Rattle.mc_world.specs.StepAnswers.{ends_version};
 ghost use Rattle.mc_world.specs.Steps.{run};
 ghost use Rattle.mc_world.specs.Worlds.{box_at};
-ghost use Rattle.mc_seq.specs.Draws.{AreFit, IsScheduled, StopsByDraws};
+ghost use Rattle.mc_seq.specs.Draws.{AreAllowed, IsScheduled, StopsByDraws};
 ghost use Rattle.mc_seq.specs.Drawing.{Becomes, Comes, MayCome, Rested, UsedUp, stands, written};
-ghost use Rattle.mc_seq.specs.Schedule.{drawn_place, heard_local, heard_slot, is_fit, left_by, retries_of, retry_where, round, since_by, without_next};
+ghost use Rattle.mc_seq.specs.Schedule.{drawn_place, heard_local, heard_slot, left_by, retries_of, retry_where, round, since_by, without_next};
 
 use crate::fault::{SettleFault, Stopped};
 use crate::listing::{is_urgent, listed};
@@ -45,7 +47,7 @@ enum Draw {
 /// each slot for which a signal waits. After 63 turns that were no commands only commands are drawn, while any are left.
 /// Where the batch is used up and nothing can come, each retry that is owed is made, once in a settle, and turns are drawn again.
 ///
-/// Each command is one that its box can have by its shape. It always ends: at rest, at a ring of links that the batch left,
+/// The world allows each command. It always ends: at rest, at a ring of links that the batch left,
 /// or at a Hear of a descriptor that has the last version; or for want of memory.
 pub fn settle_one(
     alloc: Global,
@@ -53,7 +55,7 @@ pub fn settle_one(
     batch: &[Turn],
     draws: &mut Draws,
 ) -> Result<Settled, SettleFault>
-    requires fit { AreFit world batch.now }
+    requires allowed { AreAllowed world batch.now }
     ensures scheduled { IfOk result (λ done. IsScheduled world batch.now draws.old.state done.turns.items done.world draws.new.state) }
     ensures settled { IfOk result (λ done. IsSettled world batch.now done.turns.items done.world) }
     ensures stops { IfErr result (StopsByDraws world batch.now draws.old.state draws.new.state) }
@@ -79,20 +81,21 @@ pub fn settle_one(
     Ok(settled_by(sitting))
 }
 
-/// Whether each command fits the shape of its box, so that the batch can be settled.
+/// Whether the world allows each command, so that the batch can be settled.
 pub fn fits(world: &World, batch: &[Turn]) -> bool
-    ensures { result ≡ list_all (is_fit world.now) batch.now }
+    ensures { result ≡ list_all (is_allowed world.now) batch.now }
 {
-    batch.iter().all(|turn| is_fit(world, *turn))
+    batch.iter().all(|turn| is_allowed(world, *turn))
 }
 
-// Whether a command fits the shape of its box.
-fn is_fit(world: &World, turn: Turn) -> bool
-    ensures { result ≡ is_fit world.now turn }
+// Whether the world allows a command: its box is there, and enables it.
+#[tactic(auto, using(mc_box::proofs::ShapeEnables::shape_enables))]
+fn is_allowed(world: &World, turn: Turn) -> bool
+    ensures { result ≡ is_allowed world.now turn }
 {
     let boxes = world.boxes();
-    is_command(turn.event)
-        && (turn.who as usize) < boxes.len()
+    (turn.who as usize) < boxes.len()
+        && is_command(turn.event)
         && boxes[turn.who as usize].enabled(&turn.event)
 }
 
@@ -135,7 +138,7 @@ fn use_up(
     sitting: &mut Sitting,
     draws: &mut Draws,
 ) -> Result<Option<u32>, AllocError>
-    requires { AreFit sitting.old.settled.world sitting.old.left.items }
+    requires { AreAllowed sitting.old.settled.world sitting.old.left.items }
     ensures { IfOk result (UsedUp (stands sitting.old draws.old.state) (written sitting.old) (stands sitting.new draws.new.state) (written sitting.new)) }
 {
     sitting.settled.world.keeps();
@@ -174,7 +177,7 @@ fn come_to_rest(alloc: Global, sitting: &mut Sitting, draws: &mut Draws) -> Resu
 
 // Draws once, where anything is listed, and makes the turn that is drawn.
 fn draw_once(alloc: Global, sitting: &mut Sitting, draws: &mut Draws) -> Result<Draw, AllocError>
-    requires { AreFit sitting.old.settled.world sitting.old.left.items }
+    requires { AreAllowed sitting.old.settled.world sitting.old.left.items }
     ensures { IfOk result (Comes (stands sitting.old draws.old.state) (written sitting.old) (stands sitting.new draws.new.state) (written sitting.new)) }
 {
     sitting.settled.world.keeps();

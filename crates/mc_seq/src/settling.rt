@@ -1,11 +1,10 @@
 // A settle in the plain order.
 
 ghost use Rattle.std.specs.Prelude.{◌≡◌, ◌<◌, ◌++◌, [], ◌∷◌, false, Some, IsSome, IsNone, IsTrue, IfSome, IfOk, IfErr, OnOk};
-ghost use Rattle.std.specs.List.{All};
 ghost use Rattle.mc_seq.specs.PlainOrder.{IsLowest, IsPlain, StopsBy, TookAll, owed_at, owed_retries};
 ghost use Rattle.mc_world.specs.Paths.{has_ring};
 ghost use Rattle.mc_world.specs.Settles.{IsSettled, is_quiet};
-ghost use Rattle.mc_world.specs.Shapes.{is_allowed, owes_of};
+ghost use Rattle.mc_world.specs.Shapes.{owes_of};
 ghost use Rattle.mc_world.specs.Steps.{after, run, step};
 ghost use Rattle.mc_world.specs.Worlds.{slot_count};
 
@@ -17,10 +16,10 @@ use mc_world::{Settled, StepFault, World};
 use std::alloc::{AllocError, Global};
 
 /// Settles a batch in the plain order: every command in its order; then Takes, the lowest slot first, until
-/// nothing is under way; then each retry that is owed then, by slot; then Takes again. Each command is one that
-/// the shapes of the boxes allow, and leaves no ring with the others. It always comes to rest, unless memory runs out.
+/// nothing is under way; then each retry that is owed then, by slot; then Takes again. The batch can happen, one event
+/// after another, and leaves no ring. It always comes to rest, unless memory runs out.
 pub fn settle_in_order(alloc: Global, world: World, batch: &[Turn]) -> Result<Settled, AllocError>
-    requires allowed { All (λ turn. IsTrue (is_allowed world turn)) batch.now }
+    requires goes { IsSome (run world batch.now) }
     requires free { has_ring (after world batch.now) ≡ false }
     ensures plain { IfOk result (λ done. IsPlain world batch.now done.turns.items done.world) }
     ensures settled { IfOk result (λ done. IsSettled world batch.now done.turns.items done.world) }

@@ -1,3 +1,4 @@
+mod EndSets
 mod Ending
 pub mod Running
 mod Spaced

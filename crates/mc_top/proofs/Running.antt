@@ -1,34 +1,31 @@
 -- A script that is run: what its journal and its output have so far, and what follows.
-use Rattle.std.proofs.Common.{◌≡◌, ◌<◌, ◌≤◌, ◌&&◌, ◌++◌, ◌∷◌, [], ℕ, ◌+◌, Bool, not, false, Option, Some, None, List, All, IsTrue, drop, nat_lt, length, map, slice_index_or, refl, ap, sym, ◌∙◌, add-one, subst, append-nil, append_assoc, arith, suc}
+use Rattle.std.proofs.Common.{◌≡◌, ◌<◌, ◌≤◌, ◌++◌, ◌∷◌, [], ℕ, ◌+◌, not, false, Option, Some, None, List, All, IsTrue, drop, length, map, slice_index_or, refl, ap, sym, ◌∙◌, add-one, subst, append-nil, append_assoc, arith, suc}
 use Rattle.std.specs.List.{AllByRecursion}
 use Rattle.std.specs.Option.{unwrap_or}
 use Rattle.std.proofs.Math.Seq.{drop-cons}
 use Rattle.std.proofs.lemmas.List.{drop_all, get_or-map, length-map}
 use Rattle.mc_signal.specs.Choice.{codecs_of}
 use Rattle.mc_signal.specs.declared.codec_list.CodecList.{CodecList}
-use Rattle.mc_box.specs.Boxes.{BoxState}
 use Rattle.mc_world.specs.Settles.{IsSettled, can_shift, is_quiet}
-use Rattle.mc_world.specs.Shapes.{HasShape, allows, is_allowed}
+use Rattle.mc_world.specs.Shapes.{HasShape}
 use Rattle.mc_world.specs.LinkFree.{IsLinkFree, LinkNone}
 use Rattle.mc_world.specs.Paths.{has_ring}
 use Rattle.mc_world.specs.Steps.{after, run, step}
-use Rattle.mc_world.specs.Worlds.{WorldState, box_at}
-use Rattle.mc_box.specs.declared.event.Change.TheVariants.{End as NewEnd, Link as NewLink}
-use Rattle.mc_box.specs.declared.event.Event.{Event}
-use Rattle.mc_box.specs.declared.event.Event.TheVariants.{Take, Set, Media, Tell, Retry, Shift}
+use Rattle.mc_world.specs.Worlds.{WorldState}
 use Rattle.mc_box.specs.declared.event.Turn.{Turn}
 use Rattle.mc_world.proofs.CommandsGo.{both_true}
 use Rattle.mc_world.proofs.Rings.{no_ring}
 use Rattle.mc_world.proofs.ShapesKept.{run_keeps_shape, same_shape, shape_both}
 use Rattle.mc_world.proofs.StepForms.{then_some}
-use Rattle.mc_world.proofs.LinkFree.{allowed_link_none, run_keeps_link_free, settled_link_none}
+use Rattle.mc_world.proofs.LinkFree.{run_keeps_link_free, settled_link_none}
 use Rattle.mc_path.proofs.SettledHold.{settled_paths_hold}
 use Rattle.mc_text.specs.NameLists.{NameLists}
 use Rattle.mc_script.specs.declared.command.Batch.{Batch}
-use Rattle.mc_net.specs.Nets.{AreAllowed, NamesAll, turns_of}
+use Rattle.mc_net.specs.Nets.{AreEndSets, NamesAll, is_end_set, turns_of}
 use Rattle.mc_top.specs.Journals.{HoldsAtSettles, IsJournal, lines_for, replayed}
 use Rattle.mc_top.specs.Printed.{printed, settle_text}
 use Rattle.mc_top.specs.Scripts.{ScriptState, Settling, begun}
+use Rattle.mc_top.proofs.EndSets.{end_sets_kept, end_sets_link_none}
 use Rattle.mc_script.specs.declared.command.JournalLine.{JournalLine}
 use Rattle.mc_script.specs.declared.command.JournalLine.TheVariants.{Turn as Made, Settled}
 
@@ -41,24 +38,6 @@ names_kept names new old shape all = record {
   slots = λ who below. all.slots who (subst (λ (n : ℕ). who < n) shape.boxes below) ∙ sym (shape.alike who).slots;
   codecs = λ who. subst (λ (list : CodecList). All (λ codec. codec < length names.codecs) (codecs_of list)) (sym (shape.alike who).receives) (all.codecs who);
 }
-
-allows_alike : (event : Event) (new old : BoxState) → length new.slots ≡ length old.slots → allows new event ≡ allows old event
-allows_alike (Set (NewEnd local goal)) new old same = ap (λ (n : ℕ). nat_lt local n) same
-allows_alike (Set (NewLink first second)) new old same = refl
-allows_alike (Take local) new old same = refl
-allows_alike (Media change) new old same = refl
-allows_alike (Tell word) new old same = refl
-allows_alike (Retry local) new old same = refl
-allows_alike Shift new old same = refl
-
--- and allows the same commands
-allowed_alike : (new old : WorldState) (turn : Turn) → HasShape new old → is_allowed new turn ≡ is_allowed old turn
-allowed_alike new old turn shape =
-    ap (λ (n : ℕ). nat_lt turn.who n && allows (box_at new turn.who) turn.event) shape.boxes
-    ∙ ap (λ (b : Bool). nat_lt turn.who (length old.boxes) && b) (allows_alike turn.event (box_at new turn.who) (box_at old turn.who) (shape.alike turn.who).slots)
-
-pub allowed_kept : (new old : WorldState) (batch : List Turn) → HasShape new old → All (λ turn. IsTrue (is_allowed old turn)) batch → All (λ turn. IsTrue (is_allowed new turn)) batch
-allowed_kept new old batch shape all k turn within = allowed_alike new old (slice_index_or batch k turn) shape ∙ all k turn within
 
 -- after a settle all has its names, the world is sound, and nothing is under way
 pub record IsAfterSettle (names : NameLists) (last : WorldState) : Type 0 where
@@ -174,25 +153,26 @@ goes_next names start all i none now next within free s on =
     goes_settled names start (map turns_of all) (map turns_of (drop (i + 1) all)) i (turns_of (slice_index_or all i none)) now next free s
     (subst (λ (left : List (List Turn)). GoesOn names start (map turns_of all) left i now) (next_left i all none within) on)
 
--- the batch at a place is allowed now
-pub batch_allowed : (names : NameLists) (start : WorldState) (all : List Batch) (i : ℕ) (none : Batch) (rest : List (List Turn)) (now : ScriptState) → i < length all
-    → AreAllowed start (map turns_of all) → GoesOn names start (map turns_of all) rest i now → All (λ turn. IsTrue (is_allowed now.world turn)) (turns_of (slice_index_or all i none))
-batch_allowed names start all i none rest now within allowed on =
-    allowed_kept now.world start (turns_of (slice_index_or all i none)) on.shape
-    (subst (λ (batch : List Turn). All (λ turn. IsTrue (is_allowed start turn)) batch) (get_or-map turns_of all i none (turns_of none) within)
-    (allowed i (turns_of none) (subst (λ (n : ℕ). i < n) (sym (length-map all turns_of)) within)))
+-- the batch at a place
+batch_at : (start : WorldState) (all : List Batch) (i : ℕ) (none : Batch) → i < length all → AreEndSets start (map turns_of all) → All (λ turn. IsTrue (is_end_set start turn)) (turns_of (slice_index_or all i none))
+batch_at start all i none within sets =
+    subst (λ (batch : List Turn). All (λ turn. IsTrue (is_end_set start turn)) batch) (get_or-map turns_of all i none (turns_of none) within)
+    (sets i (turns_of none) (subst (λ (n : ℕ). i < n) (sym (length-map all turns_of)) within))
+
+-- sets the goals of ends now
+pub batch_sets_ends : (names : NameLists) (start : WorldState) (all : List Batch) (i : ℕ) (none : Batch) (rest : List (List Turn)) (now : ScriptState) → i < length all
+    → AreEndSets start (map turns_of all) → GoesOn names start (map turns_of all) rest i now → All (λ turn. IsTrue (is_end_set now.world turn)) (turns_of (slice_index_or all i none))
+batch_sets_ends names start all i none rest now within sets on =
+    end_sets_kept now.world start (turns_of (slice_index_or all i none)) on.shape (batch_at start all i none within sets)
 
 -- and links no slots
-pub batch_links_none : (start : WorldState) (all : List Batch) (i : ℕ) (none : Batch) → i < length all → AreAllowed start (map turns_of all) → LinkNone (turns_of (slice_index_or all i none))
-batch_links_none start all i none within allowed =
-    allowed_link_none start (turns_of (slice_index_or all i none))
-    (subst (λ (batch : List Turn). All (λ turn. IsTrue (is_allowed start turn)) batch) (get_or-map turns_of all i none (turns_of none) within)
-    (allowed i (turns_of none) (subst (λ (n : ℕ). i < n) (sym (length-map all turns_of)) within)))
+pub batch_links_none : (start : WorldState) (all : List Batch) (i : ℕ) (none : Batch) → i < length all → AreEndSets start (map turns_of all) → LinkNone (turns_of (slice_index_or all i none))
+batch_links_none start all i none within sets = end_sets_link_none start (turns_of (slice_index_or all i none)) (batch_at start all i none within sets)
 
 -- nor does any batch
-pub batches_link_none : (start : WorldState) (batches : List (List Turn)) → AreAllowed start batches → AllByRecursion LinkNone batches
-batches_link_none start [] allowed = tt
-batches_link_none start (batch ∷ batches) allowed = (allowed_link_none start batch (allowed 0 batch (omega arith)), batches_link_none start batches (λ k none within. allowed (suc k) none (omega arith)))
+pub batches_link_none : (start : WorldState) (batches : List (List Turn)) → AreEndSets start batches → AllByRecursion LinkNone batches
+batches_link_none start [] sets = tt
+batches_link_none start (batch ∷ batches) sets = (end_sets_link_none start batch (sets 0 batch (omega arith)), batches_link_none start batches (λ k none within. sets (suc k) none (omega arith)))
 
 -- all has its names now
 pub names_now : (names : NameLists) (start : WorldState) (all rest : List (List Turn)) (count : ℕ) (now : ScriptState) → NamesAll names start → GoesOn names start all rest count now → NamesAll names now.world

@@ -1,8 +1,7 @@
 // A script, settle by settle.
 ghost use Rattle.std.specs.Prelude.{◌≡◌, ◌++◌, ◌+◌, map, All, IfOk, OnOk, IsTrue};
 ghost use Rattle.mc_world.specs.LinkFree.{HasNoLinks};
-ghost use Rattle.mc_world.specs.Shapes.{is_allowed};
-ghost use Rattle.mc_net.specs.Nets.{AreAllowed, NamesAll, turns_of};
+ghost use Rattle.mc_net.specs.Nets.{AreEndSets, NamesAll, is_end_set, turns_of};
 ghost use Rattle.mc_top.specs.Journals.{IsJournal, HoldsAtSettles, lines_for};
 ghost use Rattle.mc_top.specs.Printed.{printed};
 ghost use Rattle.mc_top.specs.Scripts.{begun, Settling};
@@ -60,7 +59,7 @@ impl Progress {
         batch: &[Turn],
     ) -> Result<Progress, AllocError>
         requires free { HasNoLinks self.world }
-        requires allowed { All (λ turn. IsTrue (is_allowed self.world turn)) batch.now }
+        requires end_sets { All (λ turn. IsTrue (is_end_set self.world turn)) batch.now }
         requires named { NamesAll names.now self.world }
         ensures { IfOk result (λ next. Settling names.now number batch.now self next) }
     {
@@ -94,7 +93,7 @@ fn log(turns: &[Turn], journal: &mut Vec<JournalLine>) -> Result<(), AllocError>
 }
 
 /// Runs a script: settles its batches one after the other, each in the plain order, and prints the paths after each.
-/// All that the world has is named, no slot is linked, and the boxes allow each command.
+/// All that the world has is named, no slot is linked, and each command sets the goal of an end.
 pub fn run_script(
     alloc: Global,
     names: &Names,
@@ -103,7 +102,7 @@ pub fn run_script(
 ) -> Result<Run, AllocError>
     requires named { NamesAll names.now world }
     requires free { HasNoLinks world }
-    requires allowed { AreAllowed world (map turns_of batches.now) }
+    requires end_sets { AreEndSets world (map turns_of batches.now) }
     ensures settled { IfOk result (λ run. IsJournal world (map turns_of batches.now) run.journal.items) }
     ensures holds { IfOk result (λ run. HoldsAtSettles world run.journal.items) }
     ensures output { IfOk result (λ run. run.output.items ≡ printed names.now 1 world run.journal.items) }

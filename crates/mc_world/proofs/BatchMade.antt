@@ -4,10 +4,8 @@ use Rattle.std.proofs.lemmas.Grind.{common_steps}
 use Rattle.mc_box.specs.declared.event.Event.{Event}
 use Rattle.mc_box.specs.declared.event.Event.TheVariants.{Take, Set, Media, Tell, Retry, Shift}
 use Rattle.mc_box.specs.declared.event.Turn.{Turn}
-use Rattle.mc_world.specs.Settles.{CommandTable, SettledMakesItsBatch, commands_of, is_command, is_media, is_set, is_tell, of_kind}
-
-pub command_table : CommandTable
-command_table = record { sets = λ change. refl; media = λ change. refl; tells = λ word. refl; takes = λ local. refl; retries = λ local. refl; shifts = refl }
+use Rattle.mc_box.specs.BoxEvents.{is_command}
+use Rattle.mc_world.specs.Settles.{SettledMakesItsBatch, commands_of, is_media, is_set, is_tell, of_kind}
 
 -- one turn more, by both tests
 more_filtered : (p q : Turn → Bool) (turn : Turn) (turns : List Turn) (first second : Bool) → p turn ≡ first → q turn ≡ second → (p turn ≡ true → q turn ≡ true)

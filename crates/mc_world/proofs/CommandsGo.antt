@@ -1,21 +1,27 @@
--- A command that a shape allows can happen, and so can an owed retry.
-use Rattle.std.proofs.Common.{◌≡◌, ◌&&◌, nat_lt, ℕ, Bool, true, false, Option, Some, None, IsSome, IsTrue, length, refl, arith}
+-- A command that a world allows can happen, and so can an owed retry.
+use Rattle.std.proofs.Common.{◌≡◌, ◌&&◌, ◌⊎◌, inl, inr, nat_lt, ℕ, Bool, true, false, Option, Some, None, IsSome, IsTrue, length, refl, sym, ◌∙◌, arith}
 use Rattle.std.specs.Option.{option_map}
-use Rattle.mc_box.specs.BoxEvents.{BoxStep, box_event, is_take}
+use Rattle.mc_box.specs.BoxEvents.{BoxStep, box_event, is_command, is_enabled, is_take, is_version_end}
+use Rattle.mc_box.specs.BoxShapes.{box_shape, is_enabled_by}
 use Rattle.mc_box.specs.Boxes.{BoxState, is_slot, owes_at}
 use Rattle.mc_box.proofs.EventGoes.{event_goes}
-use Rattle.mc_world.specs.Shapes.{CommandGoes, RetryGoes, allows}
+use Rattle.mc_box.proofs.ShapeEnables.{shape_enables}
+use Rattle.mc_world.specs.Shapes.{CommandGoes, RetryGoes, is_allowed}
 use Rattle.mc_world.specs.Sound.{IsSound}
+use Rattle.mc_world.specs.StepAnswers.{ends_version}
 use Rattle.mc_world.specs.Steps.{made, step}
 use Rattle.mc_world.specs.Worlds.{WorldState, box_at, place}
-use Rattle.mc_box.specs.declared.event.Change.TheVariants.{End as NewEnd, Link as NewLink}
 use Rattle.mc_box.specs.declared.event.Event.{Event}
 use Rattle.mc_box.specs.declared.event.Event.TheVariants.{Take, Set, Media, Tell, Retry, Shift}
+use Rattle.mc_box.specs.declared.event.Turn.{Turn}
 use Rattle.mc_world.proofs.StepGoes.{below_test, some_of}
 use Rattle.mc_world.proofs.StepKeeps.{box_inside}
 
 pub both_true : (a b : Bool) → IsTrue (a && b) → (a ≡ true) × (b ≡ true)
 both_true a b both = grind arith
+
+pub both_is : (a b : Bool) → a ≡ true → b ≡ true → IsTrue (a && b)
+both_is a b first second = grind arith
 
 -- ---- a command
 
@@ -32,26 +38,51 @@ act_steps world who (Tell word) turn other below goes = rw below (some_mapped (m
 act_steps world who (Retry local) turn other below goes = rw below (some_mapped (made world who) (box_event (box_at world who) (Retry local) None) turn goes)
 act_steps world who Shift turn other below goes = rw below (some_mapped (made world who) (box_event (box_at world who) Shift None) turn goes)
 
-command_by : (event : Event) (world : WorldState) (who : ℕ) → IsSound world → IsTrue (nat_lt who (length world.boxes) && allows (box_at world who) event)
-    → IsSome (step world (record { who = who; event = event }))
-command_by (Set (NewEnd local goal)) world who sound allowed =
-    let both = both_true (nat_lt who (length world.boxes)) (is_slot (box_at world who) local) allowed in
-    let made = some_of (box_event (box_at world who) (Set (NewEnd local goal)) None) (event_goes (box_at world who) (Set (NewEnd local goal)) (sound.boxes who (box_inside world who both.0)) both.1 refl refl) in
-    act_steps world who (Set (NewEnd local goal)) made.0 refl both.0 made.1
-command_by (Set (NewLink first second)) world who sound allowed = absurd (let both = both_true (nat_lt who (length world.boxes)) false allowed in cc (both.1))
-command_by (Take local) world who sound allowed = absurd (let both = both_true (nat_lt who (length world.boxes)) false allowed in cc (both.1))
-command_by (Media change) world who sound allowed = absurd (let both = both_true (nat_lt who (length world.boxes)) false allowed in cc (both.1))
-command_by (Tell word) world who sound allowed = absurd (let both = both_true (nat_lt who (length world.boxes)) false allowed in cc (both.1))
-command_by (Retry local) world who sound allowed = absurd (let both = both_true (nat_lt who (length world.boxes)) false allowed in cc (both.1))
-command_by Shift world who sound allowed = absurd (let both = both_true (nat_lt who (length world.boxes)) false allowed in cc (both.1))
+-- an enabled event that takes nothing and ends no version
+pub enabled_goes : (world : WorldState) (who : ℕ) (event : Event) → IsSound world → nat_lt who (length world.boxes) ≡ true → is_enabled (box_at world who) event ≡ true
+    → is_take event ≡ false → is_version_end (box_at world who) event ≡ false → IsSome (step world (record { who = who; event = event }))
+enabled_goes world who event sound below enabled other stays =
+    let made = some_of (box_event (box_at world who) event None) (event_goes (box_at world who) event (sound.boxes who (box_inside world who below)) enabled other stays) in
+    act_steps world who event made.0 other below made.1
+
+-- what a command that a world allows is
+pub record Allowed (world : WorldState) (turn : Turn) : Type 0 where
+  pub command : is_command turn.event ≡ true
+  pub below : nat_lt turn.who (length world.boxes) ≡ true
+  pub enabled : is_enabled (box_at world turn.who) turn.event ≡ true
+
+pub allowed_parts : (world : WorldState) (turn : Turn) → is_allowed world turn ≡ true → Allowed world turn
+allowed_parts world turn allowed =
+    let box : BoxState = box_at world turn.who in
+    let one = both_true (nat_lt turn.who (length world.boxes)) (is_enabled_by (box_shape box) turn.event) allowed in
+    let two = both_true (is_command turn.event) (is_enabled box turn.event) (sym (shape_enables box turn.event) ∙ one.1) in
+    record { command = two.0; below = one.0; enabled = two.1 }
+
+pub parts_allowed : (world : WorldState) (turn : Turn) → Allowed world turn → is_allowed world turn ≡ true
+parts_allowed world turn parts =
+    let box : BoxState = box_at world turn.who in
+    both_is (nat_lt turn.who (length world.boxes)) (is_enabled_by (box_shape box) turn.event) parts.below
+    (shape_enables box turn.event ∙ both_is (is_command turn.event) (is_enabled box turn.event) parts.command parts.enabled)
+
+takes_none : (event : Event) → is_command event ≡ true → is_take event ≡ false
+takes_none (Take local) is = absurd (cc)
+takes_none (Set change) is = refl
+takes_none (Media change) is = refl
+takes_none (Tell word) is = refl
+takes_none (Retry local) is = absurd (cc)
+takes_none Shift is = absurd (cc)
+
+command_by : (ends : Bool) (world : WorldState) (turn : Turn) → is_version_end (box_at world turn.who) turn.event ≡ ends → IsSound world → Allowed world turn
+    → IsSome (step world turn) ⊎ IsTrue (ends_version world turn)
+command_by true world turn is sound allowed =
+    inr (both_is (nat_lt turn.who (length world.boxes)) (is_version_end (box_at world turn.who) turn.event && is_enabled (box_at world turn.who) turn.event) allowed.below
+    (both_is (is_version_end (box_at world turn.who) turn.event) (is_enabled (box_at world turn.who) turn.event) is allowed.enabled))
+command_by false world turn is sound allowed = inl (enabled_goes world turn.who turn.event sound allowed.below allowed.enabled (takes_none turn.event allowed.command) is)
 
 pub command_goes : CommandGoes
-command_goes world turn sound allowed = command_by turn.event world turn.who sound allowed
+command_goes world turn sound allowed = command_by (is_version_end (box_at world turn.who) turn.event) world turn refl sound (allowed_parts world turn allowed)
 
 -- ---- a retry
-
-both_is : (a b : Bool) → a ≡ true → b ≡ true → IsTrue (a && b)
-both_is a b first second = grind arith
 
 pub retry_goes : RetryGoes
 retry_goes world s sound inside owes =

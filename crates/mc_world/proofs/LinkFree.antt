@@ -1,18 +1,17 @@
 -- Worlds without links: each goal is an end's, and stays so while no link is set.
-use Rattle.std.proofs.Common.{◌≡◌, suc, ◌&&◌, ◌||◌, ◌==◌, ℕ, length, nat_lt, Bool, true, false, if◌then◌else◌, Some, List, [], ◌∷◌, All, IsTrue, inl, inr, refl, sym, subst, arith}
+use Rattle.std.proofs.Common.{◌≡◌, ◌&&◌, ◌||◌, ◌==◌, ℕ, Bool, true, false, if◌then◌else◌, Some, List, [], ◌∷◌, inl, inr, refl, sym, subst, arith}
 use Rattle.std.specs.List.{list_any}
 use Rattle.std.proofs.lemmas.Bool.{cases_eq}
 use Rattle.std.proofs.lemmas.Grind.{common_steps}
+use Rattle.mc_box.specs.BoxEvents.{is_command}
 use Rattle.mc_box.specs.Boxes.{BoxState}
 use Rattle.mc_box.specs.LinkFree.{is_end, is_linking}
 use Rattle.mc_box.specs.LinkFree as of_box
-use Rattle.mc_box.specs.declared.event.Change.TheVariants.{End as NewEnd, Link as NewLink}
 use Rattle.mc_box.specs.declared.event.Event.{Event}
 use Rattle.mc_box.specs.declared.event.Event.TheVariants.{Take, Set, Media, Tell, Retry, Shift}
 use Rattle.mc_box.specs.declared.event.Turn.{Turn}
 use Rattle.mc_world.specs.LinkFree.{HasNoLinks, IsLinkFree, LinkNone, RunKeepsLinkFree}
-use Rattle.mc_world.specs.Settles.{IsSettled, commands_of, is_command}
-use Rattle.mc_world.specs.Shapes.{allows, is_allowed}
+use Rattle.mc_world.specs.Settles.{IsSettled, commands_of}
 use Rattle.mc_world.specs.Steps.{run, step}
 use Rattle.mc_world.specs.Worlds.{WorldState, box_at}
 use Rattle.mc_box.proofs.LinkFree.{event_keeps_link_free}
@@ -57,25 +56,6 @@ run_keeps_link_free world next turns free none goes = run_by turns world next fr
 
 -- ---- turns that set no link
 
-allows_no_link : (event : Event) (box : BoxState) → allows box event ≡ true → is_linking event ≡ false
-allows_no_link (Set (NewEnd local goal)) box is = refl
-allows_no_link (Set (NewLink first second)) box is = absurd (cc)
-allows_no_link (Take local) box is = refl
-allows_no_link (Media change) box is = refl
-allows_no_link (Tell word) box is = refl
-allows_no_link (Retry local) box is = refl
-allows_no_link Shift box is = refl
-
--- a command that a world allows
-pub allowed_links_none : (world : WorldState) (turn : Turn) → IsTrue (is_allowed world turn) → is_linking turn.event ≡ false
-allowed_links_none world turn allowed =
-    allows_no_link turn.event (box_at world turn.who) (both (nat_lt turn.who (length world.boxes)) (allows (box_at world turn.who) turn.event) allowed).1
-
--- and so all of them
-pub allowed_link_none : (world : WorldState) (turns : List Turn) → All (λ turn. IsTrue (is_allowed world turn)) turns → LinkNone turns
-allowed_link_none world [] all = refl
-allowed_link_none world (turn ∷ turns) all =
-    rw (allowed_links_none world turn (all 0 turn (omega arith))) (allowed_link_none world turns (λ k none within. all (suc k) none (omega arith)))
 
 -- what is no command sets no link
 plain_links_none : (event : Event) → is_command event ≡ false → is_linking event ≡ false

@@ -3,13 +3,11 @@ use Rattle.std.specs.Prelude.{◌≡◌, ℕ, ◌≤◌, ◌==◌, ◌&&◌, not
 use Rattle.std.specs.List.{list_all, list_any}
 use Rattle.std.specs.Option.{is_some}
 use Rattle.mc_signal.specs.declared.Tagged.{Tagged}
-use Rattle.mc_box.specs.BoxEvents.{box_event}
+use Rattle.mc_box.specs.BoxEvents.{box_event, is_command}
 use Rattle.mc_box.specs.Boxes.{is_slot, owes_at}
 use Rattle.mc_world.specs.Paths.{has_ring}
 use Rattle.mc_world.specs.Steps.{run, after}
 use Rattle.mc_world.specs.Worlds.{WorldState, box_at}
-use Rattle.mc_box.specs.declared.event.Change.{Change}
-use Rattle.mc_box.specs.declared.event.MediaChange.{MediaChange}
 use Rattle.mc_box.specs.declared.event.Event.{Event}
 use Rattle.mc_box.specs.declared.event.Event.TheVariants.{Take, Set, Media, Tell, Retry, Shift}
 use Rattle.mc_box.specs.declared.event.Turn.{Turn}
@@ -29,22 +27,6 @@ can_shift world = list_any (λ box. is_some (box_event box Shift None)) world.bo
 -- nothing is under way, and no program can go on
 abbrev pub rests : WorldState → Bool
 rests world = is_quiet world && not (can_shift world)
-
--- events that come from commands
-abbrev pub is_command : Event → Bool
-is_command (Set change) = true
-is_command (Media change) = true
-is_command (Tell word) = true
-is_command event = false
-
--- the table of the events that come from commands: each Set, each Media event and each Tell, and no others
-pub record CommandTable : Type 0 where
-  pub sets : (change : Change) → is_command (Set change) ≡ true
-  pub media : (change : MediaChange) → is_command (Media change) ≡ true
-  pub tells : (word : ℕ) → is_command (Tell word) ≡ true
-  pub takes : (local : ℕ) → is_command (Take local) ≡ false
-  pub retries : (local : ℕ) → is_command (Retry local) ≡ false
-  pub shifts : is_command Shift ≡ false
 
 -- the commands of one box among turns, in order
 abbrev pub commands_of : ℕ → List Turn → List Turn

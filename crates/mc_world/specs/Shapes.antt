@@ -1,13 +1,13 @@
--- What no step changes: the channels of a world, and the shapes of its boxes. Which commands a shape allows.
-use Rattle.std.specs.Prelude.{◌≡◌, ◌<◌, ℕ, ◌&&◌, Bool, false, List, length, nat_lt, Some, IsSome, IsTrue}
+-- What no step changes: the channels of a world, and the shapes of its boxes. Which commands these allow.
+use Rattle.std.specs.Prelude.{◌≡◌, ◌<◌, ◌⊎◌, ℕ, ◌&&◌, Bool, List, length, nat_lt, Some, IsSome, IsTrue}
 use Rattle.mc_box.specs.Acting.{IsAlike}
-use Rattle.mc_box.specs.Boxes.{BoxState, goal_owes, is_slot}
+use Rattle.mc_box.specs.BoxShapes.{box_shape, is_enabled_by}
+use Rattle.mc_box.specs.Boxes.{goal_owes}
 use Rattle.mc_world.specs.Sound.{IsSound}
+use Rattle.mc_world.specs.StepAnswers.{ends_version}
 use Rattle.mc_world.specs.Steps.{run, step}
 use Rattle.mc_world.specs.Worlds.{WorldState, box_at, goal_of, place, slot_count, slot_of}
-use Rattle.mc_box.specs.declared.event.Change.TheVariants.{End as NewEnd}
-use Rattle.mc_box.specs.declared.event.Event.{Event}
-use Rattle.mc_box.specs.declared.event.Event.TheVariants.{Set, Retry}
+use Rattle.mc_box.specs.declared.event.Event.TheVariants.{Retry}
 use Rattle.mc_box.specs.declared.event.Turn.{Turn}
 
 -- a world of the same channels and of as many boxes, each alike
@@ -24,17 +24,13 @@ StepKeepsShape = (world next : WorldState) (turn : Turn) → IsSound world → s
 abbrev pub RunKeepsShape : Type 0
 RunKeepsShape = (world next : WorldState) (turns : List Turn) → IsSound world → run world turns ≡ Some next → HasShape next world
 
-abbrev pub allows : BoxState → Event → Bool
-allows box (Set (NewEnd local goal)) = is_slot box local
-allows box event = false
-
--- a command for a box that is there, and for a slot that it has
+-- a command for a box that is there, which the shape of the box enables
 abbrev pub is_allowed : WorldState → Turn → Bool
-is_allowed world turn = nat_lt turn.who (length world.boxes) && allows (box_at world turn.who) turn.event
+is_allowed world turn = nat_lt turn.who (length world.boxes) && is_enabled_by (box_shape (box_at world turn.who)) turn.event
 
--- such a command can happen at any time
+-- such a command can happen at any time, unless it is a Hear of a slot that has the last version
 abbrev pub CommandGoes : Type 0
-CommandGoes = (world : WorldState) (turn : Turn) → IsSound world → IsTrue (is_allowed world turn) → IsSome (step world turn)
+CommandGoes = (world : WorldState) (turn : Turn) → IsSound world → IsTrue (is_allowed world turn) → IsSome (step world turn) ⊎ IsTrue (ends_version world turn)
 
 -- whether a slot owes a retry, by its number
 abbrev pub owes_of : WorldState → ℕ → Bool

@@ -4,7 +4,7 @@ ghost use Rattle.mc_world.specs.Exchanges.{WorkedExchanges};
 ghost use Rattle.mc_world.specs.LinkFree.{RunKeepsLinkFree};
 ghost use Rattle.mc_world.specs.Measures.{TakeLowers, TakesEnd, MeasureBound, TakesBound};
 ghost use Rattle.mc_world.specs.Rings.{RingsMeetNoEnd, WalksNeverTurn, RestKeepsRings};
-ghost use Rattle.mc_world.specs.Settles.{CommandTable, SettledMakesItsBatch};
+ghost use Rattle.mc_world.specs.Settles.{SettledMakesItsBatch};
 ghost use Rattle.mc_world.specs.Shapes.{StepKeepsShape, RunKeepsShape, CommandGoes, RetryGoes};
 ghost use Rattle.mc_world.specs.Sendings.{StepAppends, StepIsMade};
 ghost use Rattle.mc_world.specs.StepLaws.{StepActs, StepKeepsSound, RunKeepsSound, FrontIsTaken, FrontStepGoes, UnderWayGoes, FirstIsSound, TwoPhonesStaySound};
@@ -117,7 +117,8 @@ pub fn run_keeps_shape()
     ensures { RunKeepsShape }
 {}
 
-/// In a sound world, a command that the shape of its box allows can happen at any time.
+/// In a sound world, a command that the shape of its box enables can happen at any time, unless it is a Hear of a slot
+/// that has the last version.
 pub fn command_goes()
     ensures { CommandGoes }
 {}
@@ -141,11 +142,6 @@ pub fn walks_never_turn()
 /// Takes and Retries make no ring and break none.
 pub fn rest_keeps_rings()
     ensures { RestKeepsRings }
-{}
-
-/// Events come from commands exactly where they are Sets, Media events or Tells.
-pub fn command_table()
-    ensures { CommandTable }
 {}
 
 /// A settled segment has the Sets, the Media events and the Tells of its batch, box by box and in order, each once, and no

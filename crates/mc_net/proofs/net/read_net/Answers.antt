@@ -1,5 +1,5 @@
 use Rattle.mc_net.specs.Nets.{DeclaresNet}
-use Rattle.mc_net.proofs.Allowed.{net_allowed, net_named}
+use Rattle.mc_net.proofs.EndSets.{net_named, net_sets_ends}
 use Rattle.mc_net.proofs.Declaring.{AreOf, net_declares, parts_are_two, parts_join}
 use Rattle.mc_net.proofs.LinkFree.{net_free}
 use Rattle.mc_net.proofs.net.read_net.Goals as goal
@@ -25,11 +25,11 @@ returns-clause-named c =
     let declares : DeclaresNet c.args.text.now c.in_ok-make_net.field-0 = net_declares c.args.text.now c.in_ok-read_text.field-0 c.into_parts-parts.result c.in_ok-make_net.field-0 c.in_ok-read_text.ensures.says are c.in_ok-make_net.ensures in
     net_named c.args.text.now c.in_ok-make_net.field-0 declares
 
-pub returns-clause-allowed : goal.returns-clause-allowed
-returns-clause-allowed c =
+pub returns-clause-end_sets : goal.returns-clause-end_sets
+returns-clause-end_sets c =
     let are : AreOf c.in_ok-read_text.field-0 c.into_parts-parts.result = record { names = c.into_parts-parts.ensures.names; shape = c.into_parts-parts.ensures.shape; media = c.into_parts-parts.ensures.media; channels = c.into_parts-parts.ensures.channels; commands = c.into_parts-parts.ensures.commands } in
     let declares : DeclaresNet c.args.text.now c.in_ok-make_net.field-0 = net_declares c.args.text.now c.in_ok-read_text.field-0 c.into_parts-parts.result c.in_ok-make_net.field-0 c.in_ok-read_text.ensures.says are c.in_ok-make_net.ensures in
-    net_allowed c.args.text.now c.in_ok-make_net.field-0 declares
+    net_sets_ends c.args.text.now c.in_ok-make_net.field-0 declares
 
 pub returns-clause-free : goal.returns-clause-free
 returns-clause-free c =

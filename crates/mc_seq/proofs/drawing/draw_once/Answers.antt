@@ -3,7 +3,7 @@ use Rattle.mc_seq.specs.Drawing.{stands}
 use Rattle.mc_seq.specs.Schedule.{Standing, is_urgent, drawn}
 use Rattle.mc_seq.proofs.Candidates.{drawn_listed}
 use Rattle.mc_seq.proofs.Sittings.{list_is, picked}
-use Rattle.mc_seq.proofs.FitCommands.{listed_comes}
+use Rattle.mc_seq.proofs.AllowedCommands.{listed_comes}
 use Rattle.mc_seq.proofs.drawing.draw_once.Goals as goal
 
 pub make_drawn-requires : goal.make_drawn-requires

@@ -14,7 +14,7 @@ returns-in-Some-clause-stops c =
     let used : Standing = stands c.use_up.new.sitting c.use_up.new.draws.state in
     let stops : StopsAtVersion c.args.world c.args.batch.now c.args.draws.now.state (written c.use_up.new.sitting) c.use_up.new.draws.state c.in-Some.at =
     version_is c.args.world c.args.batch.now c.args.draws.now.state c.in-Some.at start used c.new-turns.result.items (written c.use_up.new.sitting)
-    (ap (λ (l : List Turn). begun c.args.world l c.args.draws.now.state) c.in_ok-left.ensures) c.new-turns.ensures.items c.requires.fit
+    (ap (λ (l : List Turn). begun c.args.world l c.args.draws.now.state) c.in_ok-left.ensures) c.new-turns.ensures.items c.requires.allowed
     (subst (UsedUp start c.new-turns.result.items used (written c.use_up.new.sitting)) c.in-Some.is c.in_ok-at.ensures) in
     subst (λ (at : ℕ). StopsAtVersion c.args.world c.args.batch.now c.args.draws.now.state c.stopped.result.turns.items c.use_up.new.draws.state at) (sym c.stopped.ensures.at)
     (subst (λ (turns : List Turn). StopsAtVersion c.args.world c.args.batch.now c.args.draws.now.state turns c.use_up.new.draws.state c.in-Some.at) (sym c.stopped.ensures.turns) stops)
@@ -27,7 +27,7 @@ returns-in-Some-ring-clause-stops c =
     let least : IsFirstOnRing c.use_up.new.sitting.settled.world c.in-Some-ring.at = subst (IsLeastOnRing c.use_up.new.sitting.settled.world) c.in-Some-ring.is c.ring.ensures.least in
     let stops : StopsAtRing c.args.world c.args.batch.now c.args.draws.now.state (written c.use_up.new.sitting) c.use_up.new.draws.state c.in-Some-ring.at =
     ring_is c.args.world c.args.batch.now c.args.draws.now.state c.in-Some-ring.at start used c.new-turns.result.items (written c.use_up.new.sitting)
-    (ap (λ (l : List Turn). begun c.args.world l c.args.draws.now.state) c.in_ok-left.ensures) c.new-turns.ensures.items c.requires.fit first.0 first.1 least in
+    (ap (λ (l : List Turn). begun c.args.world l c.args.draws.now.state) c.in_ok-left.ensures) c.new-turns.ensures.items c.requires.allowed first.0 first.1 least in
     subst (λ (at : ℕ). StopsAtRing c.args.world c.args.batch.now c.args.draws.now.state c.stopped-in-Some-ring.result.turns.items c.use_up.new.draws.state at) (sym c.stopped-in-Some-ring.ensures.at)
     (subst (λ (turns : List Turn). StopsAtRing c.args.world c.args.batch.now c.args.draws.now.state turns c.use_up.new.draws.state c.in-Some-ring.at) (sym c.stopped-in-Some-ring.ensures.turns) stops)
 
@@ -51,4 +51,4 @@ returns-clause-scheduled c = done_is c
 
 pub returns-clause-settled : goal.returns-clause-settled
 returns-clause-settled c =
-    schedule_settles c.args.world c.settled_by.result.world c.args.batch.now c.settled_by.result.turns.items c.args.draws.now.state c.come_to_rest-2.new.draws.state c.keeps.ensures.sound c.requires.fit (done_is c)
+    schedule_settles c.args.world c.settled_by.result.world c.args.batch.now c.settled_by.result.turns.items c.args.draws.now.state c.come_to_rest-2.new.draws.state c.keeps.ensures.sound c.requires.allowed (done_is c)

@@ -2,7 +2,7 @@ use Rattle.std.proofs.Common.{◌==◌, List, length, subst, ap, ◌∙◌}
 use Rattle.mc_box.specs.declared.event.Turn.{Turn}
 use Rattle.mc_seq.specs.Drawing.{Comes, Made, stands, written}
 use Rattle.mc_seq.specs.Schedule.{Standing}
-use Rattle.mc_seq.proofs.Sittings.{goes_last, goes_more, left_goes, made_fit, made_lowers, made_sound, none_by, ran_out, some_by, some_listed}
+use Rattle.mc_seq.proofs.Sittings.{goes_last, goes_more, left_goes, made_allowed, made_lowers, made_sound, none_by, ran_out, some_by, some_listed}
 use Rattle.mc_seq.proofs.drawing.use_up.Goals as goal
 
 pub commands-preserved : goal.commands-preserved
@@ -12,7 +12,7 @@ commands-preserved c =
     let made : Made now (written c.commands.sitting) next (written c.draw_once.new.sitting) = subst (Comes now (written c.commands.sitting) next (written c.draw_once.new.sitting)) c.in-Drawn.is c.in_ok-draw_once.ensures in
     record {
       sound = made_sound now next (written c.commands.sitting) (written c.draw_once.new.sitting) made c.commands.invariant.sound;
-      fit = made_fit now next (written c.commands.sitting) (written c.draw_once.new.sitting) made c.commands.invariant.sound c.commands.invariant.fit;
+      allowed = made_allowed now next (written c.commands.sitting) (written c.draw_once.new.sitting) made c.commands.invariant.sound c.commands.invariant.allowed;
       drew = goes_more (stands c.args.sitting.now c.args.draws.now.state) now next (written c.args.sitting.now) (written c.commands.sitting) (written c.draw_once.new.sitting)
           (left_goes now (some_by c.is_used_up.result (length c.commands.sitting.left.items) (c.is_used_up.ensures ∙ ap (λ (turns : List Turn). length turns == 0) c.deref.ensures.value) c.commands-test.true)) made c.commands.invariant.drew;
     }
@@ -22,14 +22,14 @@ commands-smaller c =
     let now : Standing = stands c.commands.sitting c.commands.draws.state in
     let next : Standing = stands c.draw_once.new.sitting c.draw_once.new.draws.state in
     let made : Made now (written c.commands.sitting) next (written c.draw_once.new.sitting) = subst (Comes now (written c.commands.sitting) next (written c.draw_once.new.sitting)) c.in-Drawn.is c.in_ok-draw_once.ensures in
-    made_lowers now next (written c.commands.sitting) (written c.draw_once.new.sitting) made c.commands.invariant.fit (some_by c.is_used_up.result (length c.commands.sitting.left.items) (c.is_used_up.ensures ∙ ap (λ (turns : List Turn). length turns == 0) c.deref.ensures.value) c.commands-test.true)
+    made_lowers now next (written c.commands.sitting) (written c.draw_once.new.sitting) made c.commands.invariant.allowed (some_by c.is_used_up.result (length c.commands.sitting.left.items) (c.is_used_up.ensures ∙ ap (λ (turns : List Turn). length turns == 0) c.deref.ensures.value) c.commands-test.true)
 
 pub unreachable-requires : goal.unreachable-requires
 unreachable-requires c =
     let now : Standing = stands c.commands.sitting c.commands.draws.state in
     let next : Standing = stands c.draw_once.new.sitting c.draw_once.new.draws.state in
     let nothing = subst (Comes now (written c.commands.sitting) next (written c.draw_once.new.sitting)) c.in-Nothing.is c.in_ok-draw_once.ensures in
-    some_listed now c.commands.invariant.fit (some_by c.is_used_up.result (length c.commands.sitting.left.items) (c.is_used_up.ensures ∙ ap (λ (turns : List Turn). length turns == 0) c.deref.ensures.value) c.commands-test.true) nothing.0
+    some_listed now c.commands.invariant.allowed (some_by c.is_used_up.result (length c.commands.sitting.left.items) (c.is_used_up.ensures ∙ ap (λ (turns : List Turn). length turns == 0) c.deref.ensures.value) c.commands-test.true) nothing.0
 
 pub returns : goal.returns
 returns c = (

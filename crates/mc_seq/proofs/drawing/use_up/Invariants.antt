@@ -1,5 +1,5 @@
 use Rattle.mc_world.specs.Sound.{IsSound}
-use Rattle.mc_seq.specs.Draws.{AreFit}
+use Rattle.mc_seq.specs.Draws.{AreAllowed}
 use Rattle.mc_seq.specs.Drawing.{stands, written}
 use Rattle.mc_seq.proofs.Sittings.{GoesOn, to_come}
 use Rattle.mc_seq.proofs.drawing.use_up.Given as goal
@@ -8,7 +8,7 @@ use Rattle.mc_seq.proofs.drawing.use_up.Given as goal
 abbrev pub invariant-commands : goal.invariant-commands
 invariant-commands l = record {
   sound : IsSound l.sitting.settled.world;
-  fit : AreFit l.sitting.settled.world l.sitting.left.items;
+  allowed : AreAllowed l.sitting.settled.world l.sitting.left.items;
   drew : GoesOn (stands l.initial.sitting l.initial.draws.state) (written l.initial.sitting) (stands l.sitting l.draws.state) (written l.sitting);
 }
 

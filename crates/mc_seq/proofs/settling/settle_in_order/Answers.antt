@@ -1,12 +1,8 @@
 use Rattle.std.proofs.Common.{subst}
 use Rattle.mc_seq.specs.PlainOrder.{StopsBy}
 use Rattle.mc_seq.specs.declared.fault.SettleFault.{SettleFault}
-use Rattle.mc_seq.proofs.Commanding.{allowed_goes}
 use Rattle.mc_seq.proofs.Runs.{never_on_ring}
 use Rattle.mc_seq.proofs.settling.settle_in_order.Goals as goal
-
-pub settle_or_ring-requires : goal.settle_or_ring-requires
-settle_or_ring-requires c = record { goes = allowed_goes c.args.world c.args.batch.now c.keeps.ensures.sound c.requires.allowed }
 
 pub unreachable-requires : goal.unreachable-requires
 unreachable-requires c =

@@ -1,17 +1,17 @@
 use Rattle.std.proofs.Common.{ℕ, List, All, IsTrue, ◌++◌, ◌∙◌, ap, subst, sym}
 use Rattle.mc_world.specs.LinkFree.{HasNoLinks}
-use Rattle.mc_world.specs.Shapes.{is_allowed}
-use Rattle.mc_world.proofs.LinkFree.{allowed_link_none}
 use Rattle.mc_path.proofs.SettledHold.{settled_paths_hold}
+use Rattle.mc_net.specs.Nets.{is_end_set}
 use Rattle.mc_top.specs.Scripts.{ScriptState, Settling}
 use Rattle.mc_top.specs.Shown.{views_text}
+use Rattle.mc_top.proofs.EndSets.{end_sets_go, end_sets_link_none}
 use Rattle.mc_top.proofs.Running.{after_settle, batch_leaves_none}
 use Rattle.mc_top.proofs.Viewing.{settle_is, views_named}
 use Rattle.mc_top.proofs.run.Progress.settle.Goals as goal
 
 pub print_settle-requires : goal.print_settle-requires
 print_settle-requires c =
-    let after = after_settle c.args.names.now c.self.inside.world c.in_ok-settled.settled.world _ _ (record { sound = c.keeps.ensures.sound; free = subst (λ (s : ScriptState). HasNoLinks s.world) (sym c.self.view_is) c.requires.free }) (allowed_link_none c.self.inside.world c.args.batch.now (subst (λ (s : ScriptState). All (λ turn. IsTrue (is_allowed s.world turn)) c.args.batch.now) (sym c.self.view_is) c.requires.allowed)) (rw (← c.self.view_is) at c.requires.named) c.in_ok-settled.ensures.settled in
+    let after = after_settle c.args.names.now c.self.inside.world c.in_ok-settled.settled.world _ _ (record { sound = c.keeps.ensures.sound; free = subst (λ (s : ScriptState). HasNoLinks s.world) (sym c.self.view_is) c.requires.free }) (end_sets_link_none c.self.inside.world c.args.batch.now (subst (λ (s : ScriptState). All (λ turn. IsTrue (is_end_set s.world turn)) c.args.batch.now) (sym c.self.view_is) c.requires.end_sets)) (rw (← c.self.view_is) at c.requires.named) c.in_ok-settled.ensures.settled in
     rw (c.deref-2.ensures.value, c.in_ok-views.ensures.views)
     (views_named c.args.names.now c.in_ok-settled.settled.world after.named after.sound.sound (c.in_ok-views.ensures.quiet after.quiet))
 
@@ -38,4 +38,8 @@ pub settle_in_order-requires-clause-free : goal.settle_in_order-requires-clause-
 settle_in_order-requires-clause-free c =
     batch_leaves_none c.self.inside.world c.args.batch.now
     (record { sound = c.keeps.ensures.sound; free = subst (λ (s : ScriptState). HasNoLinks s.world) (sym c.self.view_is) c.requires.free })
-    (allowed_link_none c.self.inside.world c.args.batch.now (subst (λ (s : ScriptState). All (λ turn. IsTrue (is_allowed s.world turn)) c.args.batch.now) (sym c.self.view_is) c.requires.allowed))
+    (end_sets_link_none c.self.inside.world c.args.batch.now (subst (λ (s : ScriptState). All (λ turn. IsTrue (is_end_set s.world turn)) c.args.batch.now) (sym c.self.view_is) c.requires.end_sets))
+
+pub settle_in_order-requires-clause-goes : goal.settle_in_order-requires-clause-goes
+settle_in_order-requires-clause-goes c =
+    end_sets_go c.self.inside.world c.args.batch.now c.keeps.ensures.sound (subst (λ (s : ScriptState). All (λ turn. IsTrue (is_end_set s.world turn)) c.args.batch.now) (sym c.self.view_is) c.requires.end_sets)

@@ -1,4 +1,4 @@
--- All of a declared network's world has names, and the world allows each command.
+-- All of a declared network's world has names, and each command sets the goal of an end.
 use Rattle.std.proofs.Common.{◌≡◌, inl, inr, ℕ, zero, suc, ◌<◌, List, [], ◌∷◌, length, map, slice_index_or, refl, sym, ap, ◌∙◌, arith}
 use Rattle.std.specs.Prelude.{IsTrue}
 use Rattle.std.proofs.lemmas.Grind.{common_steps}
@@ -9,7 +9,6 @@ use Rattle.mc_signal.specs.declared.Medium.{Medium}
 use Rattle.mc_signal.specs.declared.codec_list.CodecList.{CodecList}
 use Rattle.mc_text.specs.NameLists.{NameLists, slots_of}
 use Rattle.mc_world.specs.Setups.{world_of_devices}
-use Rattle.mc_world.specs.Shapes.{is_allowed}
 use Rattle.mc_world.specs.Worlds.{ChannelState, WorldState, box_at}
 use Rattle.mc_box.specs.declared.event.Change.TheVariants.{End as NewEnd, Link as NewLink}
 use Rattle.mc_box.specs.declared.event.Event.{Event}
@@ -17,7 +16,7 @@ use Rattle.mc_box.specs.declared.event.Event.TheVariants.{Set, Take, Media, Tell
 use Rattle.mc_box.specs.declared.event.Turn.{Turn}
 use Rattle.mc_script.specs.declared.command.Command.{Command}
 use Rattle.mc_script.specs.declared.command.Command.TheVariants.{Stimulus, Settle}
-use Rattle.mc_net.specs.Nets.{AreAllowed, DeclaresNet, IsFirstWorld, JoinsPair, NamesAll, batches_of, before_next, first_channel, turns_of}
+use Rattle.mc_net.specs.Nets.{AreEndSets, DeclaresNet, IsFirstWorld, JoinsPair, NamesAll, batches_of, before_next, first_channel, is_end_set, turns_of}
 use Rattle.mc_net.specs.SoFar.{BoxMedia, Declared}
 use Rattle.mc_net.specs.declared.net.Net.{Net}
 use Rattle.mc_net.proofs.Named.{SetsOrSettles, SetsSlot}
@@ -82,19 +81,19 @@ net_named text net declares = rw declares.names (first_named declares.declared n
 -- ---- commands
 
 module _ (names : NameLists) (world : WorldState) (all : NamesAll names world) where
-  event_allowed : (who : ℕ) (event : Event) → SetsSlot names who event → IsTrue (is_allowed world (record { who = who; event = event }))
-  event_allowed who (Set (NewEnd local goal)) sets =
+  event_sets_end : (who : ℕ) (event : Event) → SetsSlot names who event → IsTrue (is_end_set world (record { who = who; event = event }))
+  event_sets_end who (Set (NewEnd local goal)) sets =
       let boxes = all.boxes in
       let here : who < length world.boxes = let known = sets.0 in omega arith in
       let slots = all.slots who here in
       let there : local < length (box_at world who).slots = let known = sets.1 in omega arith in
       grind (arith, common_steps)
-  event_allowed who (Set (NewLink local other)) sets = absurd sets
-  event_allowed who (Take local) sets = absurd sets
-  event_allowed who (Media change) sets = absurd sets
-  event_allowed who (Tell told) sets = absurd sets
-  event_allowed who (Retry local) sets = absurd sets
-  event_allowed who Shift sets = absurd sets
+  event_sets_end who (Set (NewLink local other)) sets = absurd sets
+  event_sets_end who (Take local) sets = absurd sets
+  event_sets_end who (Media change) sets = absurd sets
+  event_sets_end who (Tell told) sets = absurd sets
+  event_sets_end who (Retry local) sets = absurd sets
+  event_sets_end who Shift sets = absurd sets
 
 -- ---- batches
 
@@ -114,16 +113,16 @@ module _ (P : Turn → Type 0) where
   all_batches (Stimulus turn ∷ commands) all = all_before turn (batches_of commands) (All-head OfTurn (Stimulus turn) commands all) (all_batches commands (All-tail OfTurn (Stimulus turn) commands all))
   all_batches (Settle ∷ commands) all = All-cons (All P) [] (batches_of commands) (All-nil P) (all_batches commands (All-tail OfTurn Settle commands all))
 
-commands_allowed : (names : NameLists) (world : WorldState) (commands : List Command) → NamesAll names world → All (SetsOrSettles names) commands → AreAllowed world (batches_of commands)
-commands_allowed names world commands all set = all_batches (λ turn. IsTrue (is_allowed world turn)) commands (λ k default within. by (slice_index_or commands k default) (set k default within))
+commands_set_ends : (names : NameLists) (world : WorldState) (commands : List Command) → NamesAll names world → All (SetsOrSettles names) commands → AreEndSets world (batches_of commands)
+commands_set_ends names world commands all set = all_batches (λ turn. IsTrue (is_end_set world turn)) commands (λ k default within. by (slice_index_or commands k default) (set k default within))
   where
-    by : (it : Command) → SetsOrSettles names it → OfTurn (λ turn. IsTrue (is_allowed world turn)) it
-    by (Stimulus turn) sets = event_allowed names world all turn.who turn.event sets
+    by : (it : Command) → SetsOrSettles names it → OfTurn (λ turn. IsTrue (is_end_set world turn)) it
+    by (Stimulus turn) sets = event_sets_end names world all turn.who turn.event sets
     by Settle sets = tt
 
--- the world of a declared network allows each of its commands
-pub net_allowed : (text : List ℕ) (net : Net) → DeclaresNet text net → AreAllowed net.world (map turns_of net.batches.items)
-net_allowed text net declares =
+-- each command of a declared network sets the goal of an end
+pub net_sets_ends : (text : List ℕ) (net : Net) → DeclaresNet text net → AreEndSets net.world (map turns_of net.batches.items)
+net_sets_ends text net declares =
     let pair = says_pair text declares.declared declares.says in
     let named : NamesAll declares.declared.names net.world = first_named declares.declared net.world pair declares.world in
-    rw declares.batches (commands_allowed declares.declared.names net.world declares.declared.commands named pair.known.set)
+    rw declares.batches (commands_set_ends declares.declared.names net.world declares.declared.commands named pair.known.set)
