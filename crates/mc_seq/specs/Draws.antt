@@ -59,7 +59,7 @@ StopsByDraws world batch state end (Ring stop) = StopsAtRing world batch state s
 StopsByDraws world batch state end (VersionEnd stop) = StopsAtVersion world batch state stop.turns.items end stop.at
 StopsByDraws world batch state end (NoMemory e) = Unit {0}
 
--- each command still the shape of its box
+-- the world allows each command of a batch
 abbrev pub AreAllowed : WorldState → List Turn → Type 0
 AreAllowed world batch = IsTrue (list_all (is_allowed world) batch)
 
