@@ -4,16 +4,16 @@ use Rattle.std.specs.Option.{option_map}
 use Rattle.std.proofs.Math.ListN.{length-set}
 use Rattle.std.proofs.lemmas.Bool.{and_parts}
 use Rattle.std.proofs.lemmas.List.Elements.{All-append, All-map, All-nil}
-use Rattle.mc_link.specs.LinkTurn.{link_due, numbered}
+use Rattle.mc_link.specs.LinkTurn.{link_due, numbered, side_closed}
 use Rattle.mc_link.specs.declared.Side.{Side}
 use Rattle.mc_link.specs.declared.Side.TheVariants.{First, Second}
 use Rattle.mc_signal.specs.declared.Signal.{Signal}
-use Rattle.mc_slot.specs.EndTurn.{due, pushed_by}
+use Rattle.mc_slot.specs.EndTurn.{due, pushed_by, closes_by}
 use Rattle.mc_slot.specs.Moves.{answered, taken, Took}
 use Rattle.mc_slot.specs.Sending.{pair_of}
 use Rattle.mc_slot.specs.declared.SlotGoal.{SlotGoal}
 use Rattle.mc_slot.specs.declared.SlotGoal.TheVariants.{End, Link}
-use Rattle.mc_box.specs.BoxEvents.{BoxStep, answering, box_event, closes_by, followed, goal_turn, happening, heard, is_enabled, last_version, media_step, set_step, side_closed, side_of, take_step, talked, turn_by, turns_of}
+use Rattle.mc_box.specs.BoxEvents.{BoxStep, answering, box_event, followed, goal_turn, happening, heard, is_enabled, last_version, media_step, set_step, side_of, take_step, talked, turn_by, turns_of}
 use Rattle.mc_box.specs.BoxShapes.{is_device}
 use Rattle.mc_box.specs.BoxSound.{IsSoundBox, IsWired}
 use Rattle.mc_box.specs.Boxes.{BoxState, goal_at, is_slot, media_at, own, owes_at, sender, slot_at, with_goals, with_media, with_slot}
