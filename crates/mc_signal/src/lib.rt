@@ -1,8 +1,8 @@
 //! What the boxes of a call say to each other: descriptors, selectors and the six signals.
 #![tactic(auto)]
 
-ghost use Rattle.std.specs.Prelude.{◌≡◌, ◌↔◌, IsTrue};
-ghost use Rattle.mc_signal.specs.Choice.{codecs_of, shared_codec, selector_of, answers};
+ghost use Rattle.std.specs.Prelude.{◌≡◌};
+ghost use Rattle.mc_signal.specs.Choice.{answers, codecs_of, selector_of, shared_codec};
 
 mod codec_list;
 pub mod laws;
