@@ -1,5 +1,11 @@
 use super::*;
+use mc_box::{Change, Event, Kind, MediaBox, Turn};
+use mc_signal::{CodecList, Descriptor, Medium, Sender};
+use mc_slot::{Goal, Slot, SlotGoal, State};
+use mc_text::Names;
+use mc_world::World;
 use std::alloc::Global;
+use std::process::Abort;
 
 const CODECS: &[u8] = b"media 1\ncodec g711\ncodec g722\n";
 
@@ -56,15 +62,115 @@ fn commands_break_these_rules(rt: HostRuntime) {
     }
 }
 
+// A list of these codecs, as far as they are new and fit.
+fn list_of(codecs: &[u8]) -> CodecList {
+    let mut list = CodecList::none();
+    for codec in codecs {
+        if *codec < 64 && !list.has(*codec) {
+            let _ = list.add(*codec);
+        }
+    }
+    list
+}
+
+// A name of each codec, of each box and of each slot of the phones, and none of a told word.
+fn names_phones(rt: &impl Abort, names: &Names) {
+    assert_eq!(rt; names.codec_count(), 2);
+    assert_eq!(rt; names.codec_name(0), b"g711".as_slice());
+    assert_eq!(rt; names.codec_name(1), b"g729".as_slice());
+    assert_eq!(rt; names.box_count(), 2);
+    assert_eq!(rt; names.box_name(0), b"alice".as_slice());
+    assert_eq!(rt; names.box_name(1), b"bob".as_slice());
+    assert_eq!(rt; names.slot_count(0), 1);
+    assert_eq!(rt; names.slot_name(0, 0), b"a".as_slice());
+    assert_eq!(rt; names.slot_count(1), 1);
+    assert_eq!(rt; names.slot_name(1, 0), b"a".as_slice());
+    assert_eq!(rt; names.told_count(), 0);
+}
+
+// A new device with one slot of audio, which offers this descriptor and sends the same codecs.
+fn is_phone(rt: &impl Abort, home: &MediaBox, number: u32, initiator: bool, own: Descriptor) {
+    assert_eq!(rt; home.kind(), Kind::Device);
+    assert_eq!(rt; home.number(), number);
+    let slot = Slot {
+        state: State::Closed,
+        medium: Medium::Audio,
+        initiator,
+        sent: None,
+        got: None,
+        sel_out: None,
+        sel_in: None,
+    };
+    assert_eq!(rt; home.slots().len(), 1);
+    assert_eq!(rt; home.slots()[0], slot);
+    assert_eq!(rt; home.goal(0), SlotGoal::End(Goal::Close));
+    assert_eq!(rt; home.own(0), own);
+    let sender = Sender {
+        addr: own.addr,
+        port: own.port,
+        codecs: own.codecs,
+    };
+    assert_eq!(rt; home.sender(0), sender);
+}
+
+// The boxes of the world are the two phones.
+fn has_phones(rt: &impl Abort, world: &World) {
+    let boxes = world.boxes();
+    assert_eq!(rt; boxes.len(), 2);
+    let alice = Descriptor {
+        origin: 0,
+        version: 1,
+        addr: 1,
+        port: 5000,
+        codecs: list_of(&[0, 1]),
+    };
+    is_phone(rt, &boxes[0], 0, true, alice);
+    let bob = Descriptor {
+        origin: 1,
+        version: 1,
+        addr: 2,
+        port: 5000,
+        codecs: list_of(&[1]),
+    };
+    is_phone(rt, &boxes[1], 1, false, bob);
+}
+
+// One channel of one tunnel leads from the one phone to the other, and nothing is under way.
+fn has_channel(rt: &impl Abort, world: &World) {
+    assert_eq!(rt; world.slot_count(), 2);
+    assert_eq!(rt; world.place(0), (0, 0));
+    assert_eq!(rt; world.place(1), (1, 0));
+    assert_eq!(rt; world.channel(0), (0, 0));
+    assert_eq!(rt; world.channel(1), (0, 0));
+    assert!(rt; world.quiet());
+}
+
+// The command that sets the goal of a phone's slot.
+fn set(who: u32, goal: Goal) -> Turn {
+    Turn {
+        who,
+        event: Event::Set(Change::End(0, goal)),
+    }
+}
+
 #[test]
 fn two_phones_make_a_net(rt: HostRuntime) -> Result<(), NetFault> {
     let alloc = rt.alloc();
     let mut text = Vec::from_slice(alloc, PHONES)?;
     text.extend_from_slice(b"set alice a open\nset bob a hold\nsettle\nset alice a close")?;
     let net = read_net(alloc, &text, Tail::Nothing)?;
-    assert_eq!(rt; net.world.slot_count(), 2);
+    names_phones(&rt, &net.names);
+    has_phones(&rt, &net.world);
+    has_channel(&rt, &net.world);
+    assert_eq!(rt; net.shape.boxes.len(), 2);
+    for shape in &net.shape.boxes {
+        assert_eq!(rt; shape.kind, Kind::Device);
+        assert_eq!(rt; &shape.media[..], &[Medium::Audio][..]);
+        assert!(rt; !shape.programmed);
+    }
     assert_eq!(rt; net.batches.len(), 1);
-    assert_eq!(rt; net.batches[0].turns.len(), 2);
+    let batch = [set(0, Goal::Open), set(1, Goal::Hold)];
+    assert_eq!(rt; &net.batches[0].turns[..], &batch[..]);
     assert_eq!(rt; net.rest, text.len());
     Ok(())
 }
