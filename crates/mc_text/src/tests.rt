@@ -15,7 +15,7 @@ fn draws_are_the_published_ones(rt: HostRuntime) {
 #[test]
 fn names_are_added_and_printed(rt: HostRuntime) -> Result<(), NameFault> {
     let mut names = Names::new(rt.alloc());
-    names.add_codec(b"g711")?;
+    let codec = names.add_codec(b"g711")?;
     let who = names.add_box(b"alice")?;
     let slot = names.add_slot(who, b"a")?;
     let word = names.add_told(b"paid")?;
@@ -25,5 +25,6 @@ fn names_are_added_and_printed(rt: HostRuntime) -> Result<(), NameFault> {
         .print_slot(who, slot, &mut out)
         .map_err(NameFault::NoMemory)?;
     assert!(rt; out.as_slice() == b"alice/a".as_slice());
+    assert_eq!(rt; codec, 0);
     Ok(())
 }
