@@ -5,8 +5,8 @@ use Rattle.mc_signal.specs.declared.Medium.{Medium}
 use Rattle.mc_box.specs.Boxes.{IsNewBox}
 use Rattle.mc_box.specs.declared.event.Kind.TheVariants.{Device}
 use Rattle.mc_box.proofs.NewBoxes.{first_is_new}
-use Rattle.mc_world.specs.StepLaws.{AreNew}
-use Rattle.mc_world.specs.Worlds.{ChannelState}
+use Rattle.mc_model.specs.Setups.{AreNew}
+use Rattle.mc_model.specs.Worlds.{ChannelState}
 use Rattle.mc_net.specs.Nets.{medium_of, one_device, two_devices}
 
 device_new : (medium : Medium) (who : ℕ) (initiator : Bool) (codecs : CodecList) → who < 2 → IsNewBox (one_device medium who initiator codecs)

@@ -5,9 +5,9 @@ use Rattle.mc_signal.specs.declared.codec_list.CodecList.{CodecList}
 use Rattle.mc_box.specs.Boxes.{no_box}
 use Rattle.mc_box.specs.LinkFree as of_box
 use Rattle.mc_box.specs.declared.event.Kind.TheVariants.{Device, Feature}
-use Rattle.mc_world.specs.LinkFree.{HasNoLinks}
-use Rattle.mc_world.specs.Setups.{devices_from, setups_of}
-use Rattle.mc_world.specs.Worlds.{ChannelState, WorldState}
+use Rattle.mc_model.specs.LinkFree.{HasNoLinks}
+use Rattle.mc_model.specs.Setups.{devices_from, setups_of}
+use Rattle.mc_model.specs.Worlds.{ChannelState, WorldState}
 use Rattle.mc_box.proofs.LinkFree.{first_link_free}
 use Rattle.mc_net.specs.Nets.{DeclaresNet}
 use Rattle.mc_net.specs.declared.net.Net.{Net}

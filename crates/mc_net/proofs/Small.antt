@@ -11,7 +11,7 @@ use Rattle.mc_signal.specs.declared.Medium.{Medium}
 use Rattle.mc_text.specs.Lines.{lines, words}
 use Rattle.mc_text.specs.NameLists.{NameLists, slots_of, with_box, with_codec, with_slot}
 use Rattle.mc_box.specs.BoxShapes.{BoxShapeState, is_device, no_shape}
-use Rattle.mc_world.specs.Worlds.{ChannelState}
+use Rattle.mc_model.specs.Worlds.{ChannelState}
 use Rattle.mc_box.specs.declared.event.Kind.TheVariants.{Device}
 use Rattle.mc_script.specs.Meaning.{command_by}
 use Rattle.mc_script.specs.Places.{are_same, box_at, is_misspelt, meant}

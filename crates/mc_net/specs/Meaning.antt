@@ -7,9 +7,9 @@ use Rattle.mc_text.specs.Lines.{words}
 use Rattle.mc_text.specs.NameLists.{NameLists, place_of, slots_of, with_box, with_codec, with_slot}
 use Rattle.mc_text.specs.Spelling.{number_of}
 use Rattle.mc_box.specs.BoxShapes.{BoxShapeState, shape_of}
-use Rattle.mc_world.specs.Worlds.{ChannelState}
+use Rattle.mc_model.specs.Worlds.{ChannelState}
 use Rattle.mc_box.specs.declared.event.Kind.{Kind}
-use Rattle.mc_world.specs.declared.network.Tunnel.{Tunnel}
+use Rattle.mc_model.specs.declared.channel.Tunnel.{Tunnel}
 use Rattle.mc_box.specs.declared.event.Kind.TheVariants.{Device, Feature}
 use Rattle.mc_script.specs.Meaning.{command_by}
 use Rattle.mc_script.specs.Places.{box_at, meant}

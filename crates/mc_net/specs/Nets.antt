@@ -7,8 +7,8 @@ use Rattle.mc_signal.specs.declared.Medium.TheVariants.{Audio}
 use Rattle.mc_signal.specs.declared.codec_list.CodecList.{CodecList}
 use Rattle.mc_text.specs.NameLists.{NameLists, slots_of}
 use Rattle.mc_box.specs.Boxes.{BoxState, first_box, is_slot}
-use Rattle.mc_world.specs.Setups.{world_of_devices}
-use Rattle.mc_world.specs.Worlds.{ChannelState, WorldState, box_at}
+use Rattle.mc_model.specs.Setups.{world_of_devices}
+use Rattle.mc_model.specs.Worlds.{ChannelState, WorldState, box_at}
 use Rattle.mc_box.specs.declared.event.Change.TheVariants.{End as NewEnd}
 use Rattle.mc_box.specs.declared.event.Event.{Event}
 use Rattle.mc_box.specs.declared.event.Event.TheVariants.{Set}

@@ -1,8 +1,8 @@
 //! The network that a text declares.
 
 ghost use Rattle.std.specs.Prelude.{◌≡◌, ◌<◌, IfErr, IfOk, length, map};
-ghost use Rattle.mc_world.specs.LinkFree.{HasNoLinks};
-ghost use Rattle.mc_world.specs.Setups.{world_of_devices};
+ghost use Rattle.mc_model.specs.LinkFree.{HasNoLinks};
+ghost use Rattle.mc_model.specs.Setups.{world_of_devices};
 ghost use Rattle.mc_net.specs.Nets.{AreEndSets, DeclaresNet, IsMadeOf, JoinsPair, NamesAll, batches_of, lists_of, medium_of, one_device, turns_of, two_devices};
 ghost use Rattle.mc_net.specs.Texts.{RefusesText};
 

@@ -3,9 +3,9 @@ use Rattle.std.proofs.Common.{◌≡◌, ◌*◌, ℕ, zero, suc, Option, Some, 
 use Rattle.std.specs.Option.{option_map, unwrap_or}
 use Rattle.mc_slot.specs.declared.SlotGoal.{SlotGoal}
 use Rattle.mc_slot.specs.declared.SlotGoal.TheVariants.{End, Link}
-use Rattle.mc_world.specs.Paths.{crossed, crossed_by}
-use Rattle.mc_world.specs.Worlds.{WorldState, far, goal_of, joints, number, place}
-use Rattle.mc_path.specs.PathLaws.{passed, passed_by}
+use Rattle.mc_model.specs.Paths.{crossed, crossed_by}
+use Rattle.mc_model.specs.Worlds.{WorldState, far, goal_of, joints, number, place}
+use Rattle.mc_path_laws.specs.PathLaws.{passed, passed_by}
 use Rattle.mc_path.specs.Views.{TwoSlotsATunnel}
 
 -- from a partner, if it has a number

@@ -5,8 +5,8 @@ use Rattle.std.specs.Option.{option_map}
 use Rattle.std.proofs.Math.ListN.{get_or}
 use Rattle.std.proofs.lemmas.List.{append-nil, append_assoc, drop_all, drop_more}
 use Rattle.mc_view.specs.declared.PathView.{PathView}
-use Rattle.mc_world.specs.Paths.{PathEnds, path_from, paths}
-use Rattle.mc_world.specs.Worlds.{WorldState, places, slot_count}
+use Rattle.mc_model.specs.Paths.{PathEnds, path_from, paths}
+use Rattle.mc_model.specs.Worlds.{WorldState, places, slot_count}
 use Rattle.mc_path.specs.Views.{view_of}
 
 -- ---- a list as it is walked

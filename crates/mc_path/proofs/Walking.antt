@@ -4,12 +4,13 @@ use Rattle.std.specs.Option.{option_and_then, option_map, unwrap_or}
 use Rattle.mc_slot.specs.declared.Goal.{Goal}
 use Rattle.mc_slot.specs.declared.SlotGoal.{SlotGoal}
 use Rattle.mc_slot.specs.declared.SlotGoal.TheVariants.{End, Link}
-use Rattle.mc_world.specs.Paths.{crossed, crossed_by, walk_by, walked}
-use Rattle.mc_world.specs.Worlds.{WorldState, far, goal_of, joints, number, place, slot_count}
-use Rattle.mc_world.proofs.Joints.{two_each}
-use Rattle.mc_world.proofs.Numbers.{number_is}
+use Rattle.mc_model.specs.Paths.{crossed, crossed_by, walked}
+use Rattle.mc_model.specs.Worlds.{WorldState, far, goal_of, joints, number, place, slot_count}
+use Rattle.mc_laws.proofs.Joints.{two_each}
+use Rattle.mc_laws.proofs.Numbers.{number_is}
 use Rattle.mc_path.specs.Walks.{walk_from}
 use Rattle.mc_path.specs.declared.walk.Walked.{Walked}
+use Rattle.mc_path_laws.proofs.Returns.{walked_by}
 
 -- after so many tunnels the walk from a slot is at another, and is there what it was at the beginning, within the tunnels that are left
 pub record StillWalks (world : WorldState) (from done at : ℕ) : Type 0 where
@@ -18,11 +19,6 @@ pub record StillWalks (world : WorldState) (from done at : ℕ) : Type 0 where
   pub tunnels_are : (left : ℕ) → done + left ≡ length (joints world) → crossed world (length (joints world)) from ≡ done + crossed world left at
 
 -- ---- one tunnel
-
--- a walk over a tunnel, by its far slot and the goal there
-pub walked_by : (world : WorldState) (left at other : ℕ) (goal : SlotGoal) → other ≡ far at → goal_of world other ≡ goal → walked world (suc left) at ≡ walk_by (walked world left) world goal other
-walked_by world left at other goal same is =
-    ap (λ (s : ℕ). walk_by (walked world left) world (goal_of world s) s) (sym same) ∙ ap (λ (aim : SlotGoal). walk_by (walked world left) world aim other) is
 
 -- and the tunnels that it goes over
 crossed_one : (world : WorldState) (left at other : ℕ) (goal : SlotGoal) → other ≡ far at → goal_of world other ≡ goal

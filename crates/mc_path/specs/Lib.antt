@@ -1,4 +1,2 @@
-pub mod PathLaws
-pub mod Rests
 pub mod Views
 pub mod Walks

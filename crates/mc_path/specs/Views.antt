@@ -7,9 +7,9 @@ use Rattle.mc_slot.specs.declared.State.TheVariants.{Flowing}
 use Rattle.mc_view.specs.declared.EndView.{EndView}
 use Rattle.mc_view.specs.declared.PathView.{PathView}
 use Rattle.mc_box.specs.BoxShapes.{is_device}
-use Rattle.mc_world.specs.Paths.{PathEnds, crossed, end_goal}
-use Rattle.mc_world.specs.Worlds.{WorldState, box_at, joint_of, joints, own_descriptor, own_sender, place, slot_of}
-use Rattle.mc_path.specs.PathLaws.{slots_on}
+use Rattle.mc_model.specs.Paths.{PathEnds, crossed, end_goal}
+use Rattle.mc_model.specs.Worlds.{WorldState, box_at, joint_of, joints, own_descriptor, own_sender, place, slot_of}
+use Rattle.mc_path_laws.specs.PathLaws.{slots_on}
 
 abbrev pub is_flowing : State → Bool
 is_flowing Flowing = true

@@ -2,8 +2,8 @@
 use Rattle.std.specs.Prelude.{ℕ, length, Option}
 use Rattle.std.specs.Option.{option_map}
 use Rattle.mc_path.specs.declared.walk.Walked.{Walked}
-use Rattle.mc_world.specs.Paths.{crossed, other_end}
-use Rattle.mc_world.specs.Worlds.{WorldState, joints}
+use Rattle.mc_model.specs.Paths.{crossed, other_end}
+use Rattle.mc_model.specs.Worlds.{WorldState, joints}
 
 -- the end slot to which the walk from a slot comes, and how many tunnels it goes over; none where the slot is on a ring
 abbrev pub walk_from : WorldState → ℕ → Option Walked

@@ -3,12 +3,12 @@
 
 ghost use Rattle.std.specs.Prelude.{◌≡◌, ◌<◌, map, All, IfOk, IsTrue, Some};
 ghost use Rattle.std.specs.Option.{option_map};
-ghost use Rattle.mc_path.specs.PathLaws.{IsQuietPath};
+ghost use Rattle.mc_path_laws.specs.PathLaws.{IsQuietPath};
 ghost use Rattle.mc_path.specs.Views.{end_view, heard_codec, is_flowing, path_flows, view_of};
 ghost use Rattle.mc_path.specs.Walks.{walk_from};
-ghost use Rattle.mc_world.specs.Paths.{end_goal_of, path_from, paths};
-ghost use Rattle.mc_world.specs.Settles.{is_quiet};
-ghost use Rattle.mc_world.specs.Worlds.{slot_count};
+ghost use Rattle.mc_model.specs.Paths.{end_goal_of, path_from, paths};
+ghost use Rattle.mc_model.specs.Settles.{is_quiet};
+ghost use Rattle.mc_model.specs.Worlds.{slot_count};
 
 pub mod laws;
 mod walk;

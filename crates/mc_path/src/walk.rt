@@ -2,7 +2,7 @@
 
 ghost use Rattle.std.specs.Prelude.{◌≡◌, ◌<◌, IfSome};
 ghost use Rattle.mc_path.specs.Walks.{walk_from};
-ghost use Rattle.mc_world.specs.Worlds.{slot_count};
+ghost use Rattle.mc_model.specs.Worlds.{slot_count};
 
 use mc_slot::SlotGoal;
 use mc_world::World;

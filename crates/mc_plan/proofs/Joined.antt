@@ -4,7 +4,7 @@ use Rattle.std.proofs.lemmas.Grind.{common_steps}
 use Rattle.std.proofs.lemmas.List.Concat.{flat_map-append}
 use Rattle.std.proofs.lemmas.List.Elements.{All-append, All-cons, All-nil}
 use Rattle.mc_signal.specs.declared.Medium.{Medium}
-use Rattle.mc_world.specs.Worlds.{ChannelState, HasTunnels, places_among, places_within}
+use Rattle.mc_model.specs.Worlds.{ChannelState, HasTunnels, places_among, places_within}
 use Rattle.mc_plan.specs.LaidOut.{AreInOrder, AreThere, IsLaidOut}
 use Rattle.mc_plan.specs.Plans.{PlanState, channel_between, joined, slots_of, tunnels_from}
 use Rattle.mc_plan.specs.Refusals.{join_fault}

@@ -7,10 +7,10 @@ use Rattle.mc_slot.specs.declared.Slot.{Slot}
 use Rattle.mc_box.specs.Boxes.{BoxState, IsBox, IsNewBox, first_goal, first_media, first_slot, media_at, no_box, no_media, no_slot, slot_at}
 use Rattle.mc_box.specs.declared.setup.SlotMedia.{SlotMedia}
 use Rattle.mc_box.specs.declared.setup.SlotSetup.{SlotSetup}
-use Rattle.mc_world.specs.Setups.{setups_of}
-use Rattle.mc_world.specs.Sound.{IsNumbered}
-use Rattle.mc_world.specs.StepLaws.{AreNew}
-use Rattle.mc_world.specs.Worlds.{ChannelState, Joint, WorldState, box_at, joint_of, joints_from, no_joint, place, places_among, slot_count}
+use Rattle.mc_model.specs.Setups.{setups_of}
+use Rattle.mc_model.specs.Sound.{IsNumbered}
+use Rattle.mc_model.specs.Setups.{AreNew}
+use Rattle.mc_model.specs.Worlds.{ChannelState, Joint, WorldState, box_at, joint_of, joints_from, no_joint, place, places_among, slot_count}
 use Rattle.mc_box.proofs.NewBoxes.{first_is_new}
 use Rattle.mc_plan.specs.LaidOut.{IsLaidOut, place_at}
 use Rattle.mc_plan.specs.PlanLaws.{PlansAreNumbered, PlansStaySound}
@@ -18,8 +18,8 @@ use Rattle.mc_plan.specs.Plans.{PlanState, box_from, boxes_from, slots_of, world
 use Rattle.mc_plan.specs.declared.plan.BoxPlan.{BoxPlan}
 use Rattle.mc_plan.proofs.Picks.{SlotIs, length_setups, setup_of_slot}
 use Rattle.mc_plan.proofs.Places.{each_found, found_once, local_inside, same_box}
-use Rattle.mc_world.proofs.NewWorlds.{first_is_sound}
-use Rattle.mc_world.proofs.StepKeeps.{run_keeps_sound}
+use Rattle.mc_laws.proofs.NewWorlds.{first_is_sound}
+use Rattle.mc_laws.proofs.StepKeeps.{run_keeps_sound}
 
 -- ---- the boxes
 

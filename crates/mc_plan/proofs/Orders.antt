@@ -5,7 +5,7 @@ use Rattle.std.proofs.lemmas.Bool.{cases_lt}
 use Rattle.std.proofs.lemmas.Grind.{common_steps}
 use Rattle.std.proofs.lemmas.List.{get_or_append_left, get_or-append-add, take-append-le}
 use Rattle.mc_signal.specs.declared.Medium.{Medium}
-use Rattle.mc_world.specs.Worlds.{ChannelState, places_of}
+use Rattle.mc_model.specs.Worlds.{ChannelState, places_of}
 use Rattle.mc_plan.specs.LaidOut.{AreInOrder, AreThere, place_at}
 use Rattle.mc_plan.specs.Plans.{is_of, tunnels_from}
 use Rattle.mc_plan.proofs.Counts.{count_append, count_cons}

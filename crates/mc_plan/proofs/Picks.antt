@@ -2,10 +2,10 @@
 use Rattle.std.proofs.Common.{◌≡◌, ◌+◌, ◌*◌, ◌/◌, ◌%◌, ◌<◌, ◌==◌, ℕ, zero, suc, Bool, true, false, cond, List, [], ◌∷◌, ◌++◌, count_by, length, take, refl, ap, sym, ◌∙◌, subst, arith, append_assoc, flat_map, zero-add}
 use Rattle.std.proofs.Math.ListN.{get_or}
 use Rattle.mc_box.specs.declared.setup.SlotSetup.{SlotSetup}
-use Rattle.mc_world.specs.Setups.{setups_from, setups_of, setups_within}
-use Rattle.mc_world.specs.Worlds.{ChannelState, Joint, joints_from, joints_within, no_joint, places_among, places_of, places_within}
-use Rattle.mc_world.specs.declared.network.Tunnel.{Tunnel}
-use Rattle.mc_world.proofs.Joints.{two_each, within_slots}
+use Rattle.mc_model.specs.Setups.{setups_from, setups_of, setups_within}
+use Rattle.mc_model.specs.Worlds.{ChannelState, Joint, joints_from, joints_within, no_joint, places_among, places_of, places_within}
+use Rattle.mc_model.specs.declared.channel.Tunnel.{Tunnel}
+use Rattle.mc_laws.proofs.Joints.{two_each, within_slots}
 use Rattle.mc_plan.specs.LaidOut.{place_at}
 use Rattle.mc_plan.specs.Plans.{is_of}
 use Rattle.mc_plan.proofs.Counts.{count_cons}

@@ -6,7 +6,7 @@ use Rattle.std.proofs.lemmas.Bool.{lt-ltb}
 use Rattle.std.proofs.lemmas.Grind.{common_steps}
 use Rattle.std.proofs.lemmas.List.Sums.{position_or_len_is}
 use Rattle.std.specs.List.{position_or_len}
-use Rattle.mc_world.specs.Worlds.{is_place}
+use Rattle.mc_model.specs.Worlds.{is_place}
 use Rattle.mc_plan.specs.LaidOut.{AreInOrder, place_at}
 use Rattle.mc_plan.specs.Plans.{is_of}
 use Rattle.mc_plan.proofs.Counts.{Reached, earlier_less, reached}

@@ -4,8 +4,8 @@ use Rattle.std.proofs.Math.ListN.{get_or}
 use Rattle.std.proofs.lemmas.List.{take-append-drop, take_more}
 use Rattle.std.proofs.lemmas.List.Concat.{flat_map-append}
 use Rattle.mc_signal.specs.declared.Medium.{Medium}
-use Rattle.mc_world.specs.Worlds.{ChannelState, places_among, places_of, places_within}
-use Rattle.mc_world.specs.declared.network.Tunnel.{Tunnel}
+use Rattle.mc_model.specs.Worlds.{ChannelState, places_among, places_of, places_within}
+use Rattle.mc_model.specs.declared.channel.Tunnel.{Tunnel}
 use Rattle.mc_plan.specs.Plans.{is_of, slots_of, tunnels_from}
 use Rattle.mc_plan.proofs.Counts.{count_append, count_cons}
 

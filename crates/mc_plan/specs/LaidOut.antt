@@ -1,6 +1,6 @@
 -- What a plan keeps: that its channels join its boxes slot by slot, within the limits.
 use Rattle.std.specs.Prelude.{◌≡◌, ◌≢◌, ℕ, ◌<◌, ◌≤◌, List, All, count_by, length, slice_index_or, take}
-use Rattle.mc_world.specs.Worlds.{HasTunnels, places_among}
+use Rattle.mc_model.specs.Worlds.{HasTunnels, places_among}
 use Rattle.mc_plan.specs.Plans.{PlanState, is_of, slots_of}
 
 -- the box and local number of a slot, by its number among these

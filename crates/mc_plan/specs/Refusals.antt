@@ -1,7 +1,7 @@
 -- When a box or a channel isn't added to a plan.
 use Rattle.std.specs.Prelude.{◌≡◌, ℕ, ◌+◌, ◌==◌, ◌||◌, Bool, if◌then◌else◌, List, length, nat_le, nat_lt, Option, Some, None, Result, Ok, Err}
 use Rattle.mc_signal.specs.declared.Medium.{Medium}
-use Rattle.mc_world.specs.Worlds.{tunnel_limit}
+use Rattle.mc_model.specs.Worlds.{tunnel_limit}
 use Rattle.mc_plan.specs.Plans.{PlanState, slots_of}
 use Rattle.mc_plan.specs.declared.fault.PlanFault.{PlanFault}
 use Rattle.mc_plan.specs.declared.fault.PlanFault.TheVariants.{NoBox, SameBox, NoTunnels, TooManyTunnels, BoxesFull, ChannelsFull, SlotsFull, NoMemory}

@@ -1,7 +1,7 @@
 // The plan of a network.
 
 ghost use Rattle.std.specs.Prelude.{◌≡◌, ◌≤◌, length, IfOk, OnOk, OnErr};
-ghost use Rattle.mc_world.specs.Worlds.{tunnel_limit};
+ghost use Rattle.mc_model.specs.Worlds.{tunnel_limit};
 ghost use Rattle.mc_plan.specs.LaidOut.{IsLaidOut};
 ghost use Rattle.mc_plan.specs.Plans.{empty_plan, joined, slots_of, with_box, world_of};
 ghost use Rattle.mc_plan.specs.Refusals.{add_fault, join_fault, overfills, Gives};

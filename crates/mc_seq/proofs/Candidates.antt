@@ -9,15 +9,15 @@ use Rattle.std.proofs.lemmas.Option.{slice_get_within, get_or_from_slice_get}
 use Rattle.mc_signal.specs.declared.Signal.{Signal}
 use Rattle.mc_box.specs.declared.event.Event.TheVariants.{Take}
 use Rattle.mc_box.specs.declared.event.Turn.{Turn}
-use Rattle.mc_world.proofs.CommandsGo.{allowed_parts}
-use Rattle.mc_world.specs.Shapes.{is_allowed}
-use Rattle.mc_world.specs.Settles.{is_quiet}
-use Rattle.mc_world.specs.Sound.{IsSound}
-use Rattle.mc_world.specs.Steps.{step}
-use Rattle.mc_world.specs.Worlds.{WorldState, box_at, front, number, place, slot_count}
-use Rattle.mc_world.proofs.Numbers.{box_inside, number_is}
-use Rattle.mc_world.proofs.StepForms.{then_some}
-use Rattle.mc_world.proofs.StepGoes.{front_step_goes, some_of}
+use Rattle.mc_laws.proofs.CommandsGo.{allowed_parts}
+use Rattle.mc_model.specs.Shapes.{is_allowed}
+use Rattle.mc_model.specs.Settles.{is_quiet}
+use Rattle.mc_model.specs.Sound.{IsSound}
+use Rattle.mc_model.specs.Steps.{step}
+use Rattle.mc_model.specs.Worlds.{WorldState, box_at, front, number, place, slot_count}
+use Rattle.mc_laws.proofs.Numbers.{box_inside, number_is}
+use Rattle.mc_laws.proofs.StepForms.{then_some}
+use Rattle.mc_laws.proofs.StepGoes.{front_step_goes, some_of}
 use Rattle.mc_seq.specs.Draws.{AreAllowed}
 use Rattle.mc_seq.specs.Schedule.{Standing, candidates, drawn, drawn_place, is_urgent, listed, next_of, of_box, take_turn, take_where, takes_of, waits}
 use Rattle.mc_seq.proofs.ForEach.{append_none, each_all, each_none, none_all, one_all}

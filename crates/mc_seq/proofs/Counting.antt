@@ -4,16 +4,16 @@ use Rattle.std.proofs.lemmas.Bool.{cases_eq}
 use Rattle.std.proofs.lemmas.Grind.{common_steps}
 use Rattle.std.proofs.lemmas.List.Sums.{sum_by-append}
 use Rattle.mc_box.specs.Boxes.{is_slot, owes_at}
-use Rattle.mc_world.specs.Measures.{total}
-use Rattle.mc_world.specs.Settles.{is_retry_of, owes_retry}
-use Rattle.mc_world.specs.Shapes.{owes_of, retry_of}
-use Rattle.mc_world.specs.Sound.{IsSound}
-use Rattle.mc_world.specs.Worlds.{WorldState, box_at, place, slot_count}
+use Rattle.mc_laws.specs.Measures.{total}
+use Rattle.mc_model.specs.Settles.{is_retry_of, owes_retry}
+use Rattle.mc_model.specs.Shapes.{owes_of, retry_of}
+use Rattle.mc_model.specs.Sound.{IsSound}
+use Rattle.mc_model.specs.Worlds.{WorldState, box_at, place, slot_count}
 use Rattle.mc_box.specs.declared.event.Turn.{Turn}
-use Rattle.mc_world.proofs.ActedWorlds.{place_apart}
-use Rattle.mc_world.proofs.CommandsGo.{both_true}
-use Rattle.mc_world.proofs.StepGoes.{below_test}
-use Rattle.mc_world.proofs.StepKeeps.{box_inside, slot_inside}
+use Rattle.mc_laws.proofs.ActedWorlds.{place_apart}
+use Rattle.mc_laws.proofs.CommandsGo.{both_true}
+use Rattle.mc_laws.proofs.StepGoes.{below_test}
+use Rattle.mc_laws.proofs.StepKeeps.{box_inside, slot_inside}
 use Rattle.mc_seq.specs.PlainOrder.{TakesUp, owed_at, owed_below, owed_retries}
 
 -- ---- sums

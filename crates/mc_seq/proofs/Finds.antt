@@ -1,6 +1,6 @@
 -- The k-th candidate of a box.
 use Rattle.std.proofs.Common.{◌≡◌, ◌<◌, ◌≤◌, ◌+◌, ◌-◌, if◌then◌else◌, ℕ, zero, suc, Bool, true, false, [], ◌∷◌, length, slice_get, Some, length-append, add-one, refl, ap, sym, ◌∙◌, subst, arith}
-use Rattle.mc_world.specs.Worlds.{WorldState, box_at}
+use Rattle.mc_model.specs.Worlds.{WorldState, box_at}
 use Rattle.mc_seq.specs.Schedule.{for_each, take_turn, take_where, takes_of, waits}
 use Rattle.mc_seq.proofs.Kth.{each_got}
 

@@ -1,11 +1,11 @@
 -- Where no slot can take its front, nothing is under way.
 use Rattle.std.proofs.Common.{◌≡◌, ◌<◌, ℕ, Bool, true, false, None, List, ◌∷◌, IsTrue, refl, subst}
 use Rattle.mc_signal.specs.declared.Tagged.{Tagged}
-use Rattle.mc_world.specs.Served.{AllServed}
-use Rattle.mc_world.specs.Settles.{is_quiet}
-use Rattle.mc_world.specs.Sound.{IsSound}
-use Rattle.mc_world.specs.Worlds.{WorldState, front, slot_count}
-use Rattle.mc_world.proofs.StepGoes.{served_front, waits_some}
+use Rattle.mc_model.specs.Served.{AllServed}
+use Rattle.mc_model.specs.Settles.{is_quiet}
+use Rattle.mc_model.specs.Sound.{IsSound}
+use Rattle.mc_model.specs.Worlds.{WorldState, front, slot_count}
+use Rattle.mc_laws.proofs.StepGoes.{served_front, waits_some}
 
 -- a lane that isn't empty has a front, which is for a slot
 quiet_by : (quiet : Bool) (world : WorldState) → is_quiet world ≡ quiet → IsSound world → ((t : ℕ) → t < slot_count world → front world t ≡ None) → IsTrue quiet

@@ -4,7 +4,7 @@ use Rattle.std.specs.List.{position_or_len, remove}
 use Rattle.std.proofs.lemmas.Grind.{common_steps}
 use Rattle.mc_box.specs.declared.event.Turn.{Turn}
 use Rattle.mc_box.specs.BoxEvents.{is_command}
-use Rattle.mc_world.specs.Settles.{commands_of}
+use Rattle.mc_model.specs.Settles.{commands_of}
 use Rattle.mc_seq.specs.Schedule.{next_of, without_next}
 
 -- ---- by place

@@ -1,8 +1,8 @@
 -- The schedule leaves no choice.
 use Rattle.std.proofs.Common.{◌≡◌, ◌++◌, List, [], ◌∷◌, length, slice_get, Option, Some, None, refl, ap, sym, ◌∙◌, subst}
 use Rattle.mc_box.specs.declared.event.Turn.{Turn}
-use Rattle.mc_world.specs.Steps.{run, step}
-use Rattle.mc_world.specs.Worlds.{WorldState}
+use Rattle.mc_model.specs.Steps.{run, step}
+use Rattle.mc_model.specs.Worlds.{WorldState}
 use Rattle.mc_seq.specs.Draws.{ScheduleIsOne}
 use Rattle.mc_seq.specs.Schedule.{AreDrawn, Standing, begun, candidates, drawn, drawn_place, moved, round}
 

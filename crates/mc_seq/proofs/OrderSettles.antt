@@ -7,18 +7,18 @@ use Rattle.std.proofs.lemmas.List.Elements.{filter-append}
 use Rattle.std.proofs.lemmas.List.Folds.{list_all-append}
 use Rattle.std.proofs.lemmas.List.Sums.{sum_by-append}
 use Rattle.mc_box.specs.BoxEvents.{is_command}
-use Rattle.mc_world.specs.Settles.{IsSettled, commands_of, is_quiet, is_retry_of, owes_retry, takes_or_retries}
-use Rattle.mc_world.specs.Shapes.{owes_of, retry_of}
-use Rattle.mc_world.specs.Paths.{has_ring}
-use Rattle.mc_world.specs.Sound.{IsSound}
-use Rattle.mc_world.specs.Steps.{after, run}
-use Rattle.mc_world.specs.Worlds.{WorldState, slot_count}
+use Rattle.mc_model.specs.Settles.{IsSettled, commands_of, is_quiet, is_retry_of, owes_retry, takes_or_retries}
+use Rattle.mc_model.specs.Shapes.{owes_of, retry_of}
+use Rattle.mc_model.specs.Paths.{has_ring}
+use Rattle.mc_model.specs.Sound.{IsSound}
+use Rattle.mc_model.specs.Steps.{after, run}
+use Rattle.mc_model.specs.Worlds.{WorldState, slot_count}
 use Rattle.mc_box.specs.declared.event.Event.{Event}
 use Rattle.mc_box.specs.declared.event.Event.TheVariants.{Take, Set, Media, Tell, Retry, Shift}
 use Rattle.mc_box.specs.declared.event.Turn.{Turn}
-use Rattle.mc_world.proofs.CommandsGo.{both_true}
-use Rattle.mc_world.proofs.NoPrograms.{quiet_rests}
-use Rattle.mc_world.proofs.StepKeeps.{run_keeps_sound}
+use Rattle.mc_laws.proofs.CommandsGo.{both_true}
+use Rattle.mc_laws.proofs.NoPrograms.{quiet_rests}
+use Rattle.mc_laws.proofs.StepKeeps.{run_keeps_sound}
 use Rattle.mc_seq.specs.PlainOrder.{IsPlain, PlainOrderSettles, TakesUp, TookAll, owed_at, owed_below, owed_retries}
 use Rattle.mc_seq.proofs.Counting.{owed_once, takes_count}
 use Rattle.mc_seq.proofs.Runs.{run-append, takes_quiet, takes_run}

@@ -3,17 +3,17 @@ use Rattle.std.proofs.Common.{◌≡◌, ◌≢◌, ◌<◌, ◌≤◌, ◌+◌,
 use Rattle.mc_slot.specs.declared.Slot.{Slot}
 use Rattle.mc_slot.specs.declared.SlotGoal.{SlotGoal}
 use Rattle.mc_box.specs.Boxes.{goal_at, goal_owes, slot_at}
-use Rattle.mc_world.specs.Shapes.{HasShape, owes_of, retry_of}
-use Rattle.mc_world.specs.Sound.{IsSound}
-use Rattle.mc_world.specs.Steps.{run, step}
-use Rattle.mc_world.specs.Worlds.{ChannelState, WorldState, box_at, goal_of, place, places_among, slot_count, slot_of}
+use Rattle.mc_model.specs.Shapes.{HasShape, owes_of, retry_of}
+use Rattle.mc_model.specs.Sound.{IsSound}
+use Rattle.mc_model.specs.Steps.{run, step}
+use Rattle.mc_model.specs.Worlds.{ChannelState, WorldState, box_at, goal_of, place, places_among, slot_count, slot_of}
 use Rattle.mc_box.specs.declared.event.Event.TheVariants.{Retry}
 use Rattle.mc_box.specs.declared.event.Turn.{Turn}
-use Rattle.mc_world.proofs.ActedWorlds.{place_apart}
-use Rattle.mc_world.proofs.ShapesKept.{run_keeps_shape, shape_both}
-use Rattle.mc_world.proofs.StepForms.{then_some}
-use Rattle.mc_world.proofs.StepKeeps.{run_keeps_sound}
-use Rattle.mc_world.proofs.TakeParts.{RetryHappened, apart_local, part_stays, retry_goals_stay, retry_is}
+use Rattle.mc_laws.proofs.ActedWorlds.{place_apart}
+use Rattle.mc_laws.proofs.ShapesKept.{run_keeps_shape, shape_both}
+use Rattle.mc_laws.proofs.StepForms.{then_some}
+use Rattle.mc_laws.proofs.StepKeeps.{run_keeps_sound}
+use Rattle.mc_laws.proofs.TakeParts.{RetryHappened, apart_local, part_stays, retry_goals_stay, retry_is}
 use Rattle.mc_seq.specs.PlainOrder.{owed_at, owed_below}
 use Rattle.mc_seq.proofs.Runs.{run-append}
 

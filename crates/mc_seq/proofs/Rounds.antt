@@ -6,17 +6,17 @@ use Rattle.mc_slot.specs.declared.SlotGoal.{SlotGoal}
 use Rattle.mc_box.specs.Boxes.{goal_at, goal_owes, is_slot, owes_at, slot_at}
 use Rattle.mc_box.specs.declared.event.Event.TheVariants.{Retry}
 use Rattle.mc_box.specs.declared.event.Turn.{Turn}
-use Rattle.mc_world.specs.Measures.{total}
-use Rattle.mc_world.specs.Settles.{is_retry_of, owes_retry, takes_or_retries}
-use Rattle.mc_world.specs.Shapes.{HasShape}
-use Rattle.mc_world.specs.Sound.{IsSound}
-use Rattle.mc_world.specs.Steps.{run, step}
-use Rattle.mc_world.specs.Worlds.{WorldState, box_at, place}
-use Rattle.mc_world.proofs.Numbers.{box_inside, slot_inside}
-use Rattle.mc_world.proofs.ShapesKept.{run_keeps_shape, shape_both}
-use Rattle.mc_world.proofs.StepForms.{then_some}
-use Rattle.mc_world.proofs.StepKeeps.{run_keeps_sound}
-use Rattle.mc_world.proofs.TakeParts.{RetryHappened, part_stays, retry_goals_stay, retry_is}
+use Rattle.mc_laws.specs.Measures.{total}
+use Rattle.mc_model.specs.Settles.{is_retry_of, owes_retry, takes_or_retries}
+use Rattle.mc_model.specs.Shapes.{HasShape}
+use Rattle.mc_model.specs.Sound.{IsSound}
+use Rattle.mc_model.specs.Steps.{run, step}
+use Rattle.mc_model.specs.Worlds.{WorldState, box_at, place}
+use Rattle.mc_laws.proofs.Numbers.{box_inside, slot_inside}
+use Rattle.mc_laws.proofs.ShapesKept.{run_keeps_shape, shape_both}
+use Rattle.mc_laws.proofs.StepForms.{then_some}
+use Rattle.mc_laws.proofs.StepKeeps.{run_keeps_sound}
+use Rattle.mc_laws.proofs.TakeParts.{RetryHappened, part_stays, retry_goals_stay, retry_is}
 use Rattle.mc_seq.specs.Schedule.{for_each, retries_of, retry_turn, retry_where, round}
 use Rattle.mc_seq.proofs.Counting.{other_test, same_test, total_none, total_one}
 use Rattle.mc_seq.proofs.ForEach.{each_count, each_pass, each_same}

@@ -1,16 +1,16 @@
 -- Runs one after another.
 use Rattle.std.proofs.Common.{◌≡◌, ℕ, true, false, ◌++◌, List, [], ◌∷◌, Option, Some, IsTrue, ap, sym, ◌∙◌}
 use Rattle.std.specs.Option.{option_and_then, unwrap_or}
-use Rattle.mc_world.specs.Paths.{has_ring}
-use Rattle.mc_world.specs.Rings.{IsFirstOnRing}
-use Rattle.mc_world.specs.Settles.{is_quiet}
-use Rattle.mc_world.specs.Sound.{IsSound}
-use Rattle.mc_world.specs.Steps.{after, run, step}
-use Rattle.mc_world.specs.Worlds.{WorldState}
+use Rattle.mc_model.specs.Paths.{has_ring}
+use Rattle.mc_model.specs.Rings.{IsFirstOnRing}
+use Rattle.mc_model.specs.Settles.{is_quiet}
+use Rattle.mc_model.specs.Sound.{IsSound}
+use Rattle.mc_model.specs.Steps.{after, run, step}
+use Rattle.mc_model.specs.Worlds.{WorldState}
 use Rattle.mc_box.specs.declared.event.Turn.{Turn}
-use Rattle.mc_world.proofs.BothWays.{has_by}
-use Rattle.mc_world.proofs.StepForms.{then_some}
-use Rattle.mc_world.proofs.StepKeeps.{run_keeps_sound}
+use Rattle.mc_laws.proofs.BothWays.{has_by}
+use Rattle.mc_laws.proofs.StepForms.{then_some}
+use Rattle.mc_laws.proofs.StepKeeps.{run_keeps_sound}
 use Rattle.mc_seq.specs.PlainOrder.{TakesUp}
 
 -- the turns behind a run go on from its last world

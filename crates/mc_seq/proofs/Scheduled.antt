@@ -9,17 +9,17 @@ use Rattle.std.proofs.lemmas.List.Sums.{sum_by-append}
 use Rattle.mc_box.specs.declared.event.Event.{Event}
 use Rattle.mc_box.specs.declared.event.Turn.{Turn}
 use Rattle.mc_box.specs.BoxEvents.{is_command}
-use Rattle.mc_world.proofs.CommandsGo.{allowed_parts}
-use Rattle.mc_world.specs.Shapes.{is_allowed}
-use Rattle.mc_world.specs.Paths.{has_ring}
-use Rattle.mc_world.specs.Rings.{IsFirstOnRing}
-use Rattle.mc_world.specs.Settles.{IsSettled, IsStopped, commands_of, is_quiet, is_retry_of, owes_retry, takes_or_retries}
-use Rattle.mc_world.specs.Sound.{IsSound}
-use Rattle.mc_world.specs.Steps.{run}
-use Rattle.mc_world.specs.Worlds.{WorldState}
-use Rattle.mc_world.proofs.GoalsKept.{rest_keeps_rings}
-use Rattle.mc_world.proofs.ShapesKept.{run_keeps_shape}
-use Rattle.mc_world.proofs.StepKeeps.{run_keeps_sound}
+use Rattle.mc_laws.proofs.CommandsGo.{allowed_parts}
+use Rattle.mc_model.specs.Shapes.{is_allowed}
+use Rattle.mc_model.specs.Paths.{has_ring}
+use Rattle.mc_model.specs.Rings.{IsFirstOnRing}
+use Rattle.mc_model.specs.Settles.{IsSettled, IsStopped, commands_of, is_quiet, is_retry_of, owes_retry, takes_or_retries}
+use Rattle.mc_model.specs.Sound.{IsSound}
+use Rattle.mc_model.specs.Steps.{run}
+use Rattle.mc_model.specs.Worlds.{WorldState}
+use Rattle.mc_laws.proofs.GoalsKept.{rest_keeps_rings}
+use Rattle.mc_laws.proofs.ShapesKept.{run_keeps_shape}
+use Rattle.mc_laws.proofs.StepKeeps.{run_keeps_sound}
 use Rattle.mc_seq.specs.Draws.{AreAllowed, IsScheduled, ScheduleSettles, StopsAtRing, StopsAtVersion}
 use Rattle.mc_seq.specs.Drawing.{DrewAll, RanOut, Rested}
 use Rattle.mc_seq.specs.Schedule.{AreDrawn, Standing, begun, candidates, is_urgent, left_by, listed, moved, round, without_next}

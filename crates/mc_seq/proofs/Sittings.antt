@@ -6,17 +6,17 @@ use Rattle.mc_box.specs.declared.event.Event.{Event}
 use Rattle.mc_box.specs.declared.event.Event.TheVariants.{Take}
 use Rattle.mc_box.specs.declared.event.Turn.{Turn}
 use Rattle.mc_box.specs.BoxEvents.{is_command}
-use Rattle.mc_world.proofs.CommandsGo.{allowed_parts}
-use Rattle.mc_world.specs.Shapes.{is_allowed}
-use Rattle.mc_world.specs.Measures.{IsRingFree, measure}
-use Rattle.mc_world.specs.Paths.{has_ring}
-use Rattle.mc_world.specs.Sound.{IsSound}
-use Rattle.mc_world.specs.StepAnswers.{ends_version, ends_version_at}
-use Rattle.mc_world.specs.Steps.{step}
-use Rattle.mc_world.specs.Worlds.{WorldState}
-use Rattle.mc_world.proofs.Lowers.{take_lowers, take_stays_free}
-use Rattle.mc_world.proofs.ShapesKept.{step_keeps_shape}
-use Rattle.mc_world.proofs.StepKeeps.{step_keeps_sound}
+use Rattle.mc_laws.proofs.CommandsGo.{allowed_parts}
+use Rattle.mc_model.specs.Shapes.{is_allowed}
+use Rattle.mc_laws.specs.Measures.{IsRingFree, measure}
+use Rattle.mc_model.specs.Paths.{has_ring}
+use Rattle.mc_model.specs.Sound.{IsSound}
+use Rattle.mc_model.specs.Steps.{ends_version, ends_version_at}
+use Rattle.mc_model.specs.Steps.{step}
+use Rattle.mc_model.specs.Worlds.{WorldState}
+use Rattle.mc_laws.proofs.Lowers.{take_lowers, take_stays_free}
+use Rattle.mc_laws.proofs.ShapesKept.{step_keeps_shape}
+use Rattle.mc_laws.proofs.StepKeeps.{step_keeps_sound}
 use Rattle.mc_seq.specs.Draws.{AreAllowed}
 use Rattle.mc_seq.specs.Drawing.{Comes, DrewAll, Ends, Made, RanOut, Rested, TurnMade, stands, written}
 use Rattle.mc_seq.specs.Schedule.{AreDrawn, MayGo, Standing, candidates, drawn, drawn_place, is_urgent, left_by, listed, moved, next_of, since_by, without_next}

@@ -1,12 +1,12 @@
 -- Takes of the lowest slots, one after another.
 use Rattle.std.proofs.Common.{◌≡◌, ◌++◌, ℕ, List, [], ◌∷◌, Some, IsSome, IsTrue, append_assoc, append-nil, ap, refl, sym, ◌∙◌, subst}
-use Rattle.mc_world.specs.Settles.{is_quiet}
-use Rattle.mc_world.specs.Sound.{IsSound}
-use Rattle.mc_world.specs.Steps.{step}
-use Rattle.mc_world.specs.Worlds.{WorldState, front, place}
+use Rattle.mc_model.specs.Settles.{is_quiet}
+use Rattle.mc_model.specs.Sound.{IsSound}
+use Rattle.mc_model.specs.Steps.{step}
+use Rattle.mc_model.specs.Worlds.{WorldState, front, place}
 use Rattle.mc_box.specs.declared.event.Event.TheVariants.{Take}
 use Rattle.mc_box.specs.declared.event.Turn.{Turn}
-use Rattle.mc_world.proofs.StepGoes.{front_step_goes, some_of}
+use Rattle.mc_laws.proofs.StepGoes.{front_step_goes, some_of}
 use Rattle.mc_seq.specs.PlainOrder.{IsLowest, TakesUp, TookAll}
 
 -- the Take of a box's slot

@@ -2,10 +2,10 @@
 use Rattle.std.specs.Prelude.{◌≡◌, ℕ, false, List, [], ◌∷◌, ◌++◌, ◌⊎◌, IsSome, IsTrue, Option, Some, None}
 use Rattle.mc_text.specs.Draws.{next_state}
 use Rattle.mc_box.specs.declared.event.Turn.{Turn}
-use Rattle.mc_world.specs.Paths.{has_ring}
-use Rattle.mc_world.specs.StepAnswers.{ends_version}
-use Rattle.mc_world.specs.Steps.{step}
-use Rattle.mc_world.specs.Worlds.{WorldState}
+use Rattle.mc_model.specs.Paths.{has_ring}
+use Rattle.mc_model.specs.Steps.{ends_version}
+use Rattle.mc_model.specs.Steps.{step}
+use Rattle.mc_model.specs.Worlds.{WorldState}
 use Rattle.mc_seq.specs.Schedule.{AreDrawn, Standing, candidates, drawn, heard_slot, left_by, moved, since_by}
 use Rattle.mc_seq.specs.declared.drawing.Draw.{Draw}
 use Rattle.mc_seq.specs.declared.drawing.Draw.TheVariants.{Drawn, Nothing, VersionEnd}

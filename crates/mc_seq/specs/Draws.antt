@@ -3,15 +3,15 @@ use Rattle.std.specs.Prelude.{◌≡◌, ◌≢◌, ◌≤◌, ◌+◌, ◌*◌,
 use Rattle.std.specs.List.{list_all}
 use Rattle.mc_text.specs.Draws.{next_state}
 use Rattle.mc_box.specs.declared.event.Turn.{Turn}
-use Rattle.mc_world.specs.Shapes.{is_allowed}
-use Rattle.mc_world.specs.Measures.{IsRingFree, measure}
-use Rattle.mc_world.specs.Paths.{has_ring}
-use Rattle.mc_world.specs.Rings.{IsFirstOnRing}
-use Rattle.mc_world.specs.Settles.{IsSettled, IsStopped}
-use Rattle.mc_world.specs.Sound.{IsSound}
-use Rattle.mc_world.specs.StepAnswers.{ends_version}
-use Rattle.mc_world.specs.Steps.{run}
-use Rattle.mc_world.specs.Worlds.{WorldState}
+use Rattle.mc_model.specs.Shapes.{is_allowed}
+use Rattle.mc_laws.specs.Measures.{IsRingFree, measure}
+use Rattle.mc_model.specs.Paths.{has_ring}
+use Rattle.mc_model.specs.Rings.{IsFirstOnRing}
+use Rattle.mc_model.specs.Settles.{IsSettled, IsStopped}
+use Rattle.mc_model.specs.Sound.{IsSound}
+use Rattle.mc_model.specs.Steps.{ends_version}
+use Rattle.mc_model.specs.Steps.{run}
+use Rattle.mc_model.specs.Worlds.{WorldState}
 use Rattle.mc_seq.specs.Schedule.{AreDrawn, Standing, begun, candidates, drawn, heard_slot, round}
 use Rattle.mc_seq.specs.declared.fault.SettleFault.{SettleFault}
 use Rattle.mc_seq.specs.declared.fault.SettleFault.TheVariants.{NoMemory, Ring, VersionEnd}

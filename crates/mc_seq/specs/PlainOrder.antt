@@ -1,13 +1,13 @@
 -- The plain order of a settle: the commands, then Takes of the lowest slot, then the owed retries, then Takes again.
 use Rattle.std.specs.Prelude.{◌≡◌, ◌<◌, ℕ, zero, suc, false, if◌then◌else◌, List, [], ◌∷◌, ◌++◌, Some, None, IsSome, IsTrue}
-use Rattle.mc_world.specs.Settles.{IsSettled, IsStopped, is_quiet}
-use Rattle.mc_world.specs.Shapes.{owes_of, retry_of}
-use Rattle.mc_world.specs.Paths.{has_ring}
-use Rattle.mc_world.specs.Rings.{IsFirstOnRing}
-use Rattle.mc_world.specs.Sound.{IsSound}
-use Rattle.mc_world.specs.StepLaws.{take_of}
-use Rattle.mc_world.specs.Steps.{after, run, step}
-use Rattle.mc_world.specs.Worlds.{WorldState, front, slot_count}
+use Rattle.mc_model.specs.Settles.{IsSettled, IsStopped, is_quiet}
+use Rattle.mc_model.specs.Shapes.{owes_of, retry_of}
+use Rattle.mc_model.specs.Paths.{has_ring}
+use Rattle.mc_model.specs.Rings.{IsFirstOnRing}
+use Rattle.mc_model.specs.Sound.{IsSound}
+use Rattle.mc_model.specs.Steps.{take_of}
+use Rattle.mc_model.specs.Steps.{after, run, step}
+use Rattle.mc_model.specs.Worlds.{WorldState, front, slot_count}
 use Rattle.mc_box.specs.declared.event.Turn.{Turn}
 use Rattle.mc_seq.specs.declared.fault.SettleFault.{SettleFault}
 use Rattle.mc_seq.specs.declared.fault.SettleFault.TheVariants.{Ring, NoMemory, VersionEnd}

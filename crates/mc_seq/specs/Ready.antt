@@ -1,8 +1,8 @@
 -- What a search for the k-th candidate rests on: counts by box, and that a step changes few fronts.
 use Rattle.std.specs.Prelude.{◌≡◌, ◌≢◌, ◌<◌, ◌+◌, ℕ, List, length, sum, take, slice_get, slice_index_or, Some}
 use Rattle.mc_box.specs.declared.event.Turn.{Turn}
-use Rattle.mc_world.specs.Steps.{step}
-use Rattle.mc_world.specs.Worlds.{WorldState, far, front, lane_of, place}
+use Rattle.mc_model.specs.Steps.{step}
+use Rattle.mc_model.specs.Worlds.{WorldState, far, front, lane_of, place}
 use Rattle.mc_seq.specs.Schedule.{for_each}
 use Rattle.mc_seq.specs.Sums.{CountsEach}
 

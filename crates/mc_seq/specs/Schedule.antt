@@ -9,9 +9,9 @@ use Rattle.mc_box.specs.declared.event.Event.{Event}
 use Rattle.mc_box.specs.declared.event.Event.TheVariants.{Take, Media, Retry}
 use Rattle.mc_box.specs.declared.event.MediaChange.TheVariants.{Hear}
 use Rattle.mc_box.specs.declared.event.Turn.{Turn}
-use Rattle.mc_world.specs.Paths.{has_ring}
-use Rattle.mc_world.specs.Steps.{step}
-use Rattle.mc_world.specs.Worlds.{WorldState, box_at, front, number}
+use Rattle.mc_model.specs.Paths.{has_ring}
+use Rattle.mc_model.specs.Steps.{step}
+use Rattle.mc_model.specs.Worlds.{WorldState, box_at, front, number}
 
 -- where a settle stands: its world, the commands that are left, how many turns came since its last command or its beginning, counted to 63, and the state of the draws
 pub record Standing : Type 0 where

@@ -1,7 +1,7 @@
 // The k-th candidate, found without a list of them.
 
 ghost use Rattle.std.specs.Prelude.{◌≡◌, ◌<◌, ◌≤◌, Some, length, map, slice_get};
-ghost use Rattle.mc_world.specs.Worlds.{box_at};
+ghost use Rattle.mc_model.specs.Worlds.{box_at};
 ghost use Rattle.mc_seq.specs.Schedule.{listed, of_box, take_where, takes_of};
 ghost use Rattle.mc_seq.specs.Sums.{AreSums, CountsEach, level_at};
 

@@ -2,11 +2,11 @@
 
 ghost use Rattle.std.specs.Prelude.{◌≡◌, ◌<◌, ◌++◌, [], ◌∷◌, false, Some, IsSome, IsNone, IsTrue, IfSome, IfOk, IfErr, OnOk};
 ghost use Rattle.mc_seq.specs.PlainOrder.{IsLowest, IsPlain, StopsBy, TookAll, owed_at, owed_retries};
-ghost use Rattle.mc_world.specs.Paths.{has_ring};
-ghost use Rattle.mc_world.specs.Settles.{IsSettled, is_quiet};
-ghost use Rattle.mc_world.specs.Shapes.{owes_of};
-ghost use Rattle.mc_world.specs.Steps.{after, run, step};
-ghost use Rattle.mc_world.specs.Worlds.{slot_count};
+ghost use Rattle.mc_model.specs.Paths.{has_ring};
+ghost use Rattle.mc_model.specs.Settles.{IsSettled, is_quiet};
+ghost use Rattle.mc_model.specs.Shapes.{owes_of};
+ghost use Rattle.mc_model.specs.Steps.{after, run, step};
+ghost use Rattle.mc_model.specs.Worlds.{slot_count};
 
 use crate::fault::{SettleFault, Stopped};
 use mc_box::{Event, Turn};

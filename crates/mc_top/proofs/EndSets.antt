@@ -8,15 +8,15 @@ use Rattle.mc_box.specs.declared.event.Change.TheVariants.{End as NewEnd, Link a
 use Rattle.mc_box.specs.declared.event.Event.{Event}
 use Rattle.mc_box.specs.declared.event.Event.TheVariants.{Take, Set, Media, Tell, Retry, Shift}
 use Rattle.mc_box.specs.declared.event.Turn.{Turn}
-use Rattle.mc_world.specs.LinkFree.{LinkNone}
-use Rattle.mc_world.specs.Shapes.{HasShape}
-use Rattle.mc_world.specs.Sound.{IsSound}
-use Rattle.mc_world.specs.Steps.{run, step}
-use Rattle.mc_world.specs.Worlds.{WorldState, box_at}
-use Rattle.mc_world.proofs.CommandsGo.{both_true, enabled_goes}
-use Rattle.mc_world.proofs.ShapesKept.{same_shape, shape_both, step_keeps_shape}
-use Rattle.mc_world.proofs.StepGoes.{some_of}
-use Rattle.mc_world.proofs.StepKeeps.{step_keeps_sound}
+use Rattle.mc_model.specs.LinkFree.{LinkNone}
+use Rattle.mc_model.specs.Shapes.{HasShape}
+use Rattle.mc_model.specs.Sound.{IsSound}
+use Rattle.mc_model.specs.Steps.{run, step}
+use Rattle.mc_model.specs.Worlds.{WorldState, box_at}
+use Rattle.mc_laws.proofs.CommandsGo.{both_true, enabled_goes}
+use Rattle.mc_laws.proofs.ShapesKept.{same_shape, shape_both, step_keeps_shape}
+use Rattle.mc_laws.proofs.StepGoes.{some_of}
+use Rattle.mc_laws.proofs.StepKeeps.{step_keeps_sound}
 use Rattle.mc_net.specs.Nets.{is_end_set, sets_end}
 
 -- what an event that sets the goal of an end is

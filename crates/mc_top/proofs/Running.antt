@@ -6,19 +6,19 @@ use Rattle.std.proofs.Math.Seq.{drop-cons}
 use Rattle.std.proofs.lemmas.List.{drop_all, get_or-map, length-map}
 use Rattle.mc_signal.specs.Choice.{codecs_of}
 use Rattle.mc_signal.specs.declared.codec_list.CodecList.{CodecList}
-use Rattle.mc_world.specs.Settles.{IsSettled, can_shift, is_quiet}
-use Rattle.mc_world.specs.Shapes.{HasShape}
-use Rattle.mc_world.specs.LinkFree.{IsLinkFree, LinkNone}
-use Rattle.mc_world.specs.Paths.{has_ring}
-use Rattle.mc_world.specs.Steps.{after, run, step}
-use Rattle.mc_world.specs.Worlds.{WorldState}
+use Rattle.mc_model.specs.Settles.{IsSettled, can_shift, is_quiet}
+use Rattle.mc_model.specs.Shapes.{HasShape}
+use Rattle.mc_model.specs.LinkFree.{IsLinkFree, LinkNone}
+use Rattle.mc_model.specs.Paths.{has_ring}
+use Rattle.mc_model.specs.Steps.{after, run, step}
+use Rattle.mc_model.specs.Worlds.{WorldState}
 use Rattle.mc_box.specs.declared.event.Turn.{Turn}
-use Rattle.mc_world.proofs.CommandsGo.{both_true}
-use Rattle.mc_world.proofs.Rings.{no_ring}
-use Rattle.mc_world.proofs.ShapesKept.{run_keeps_shape, same_shape, shape_both}
-use Rattle.mc_world.proofs.StepForms.{then_some}
-use Rattle.mc_world.proofs.LinkFree.{run_keeps_link_free, settled_link_none}
-use Rattle.mc_path.proofs.SettledHold.{settled_paths_hold}
+use Rattle.mc_laws.proofs.CommandsGo.{both_true}
+use Rattle.mc_laws.proofs.Rings.{no_ring}
+use Rattle.mc_laws.proofs.ShapesKept.{run_keeps_shape, same_shape, shape_both}
+use Rattle.mc_laws.proofs.StepForms.{then_some}
+use Rattle.mc_laws.proofs.LinkFree.{run_keeps_link_free, settled_link_none}
+use Rattle.mc_path_laws.proofs.SettledHold.{settled_paths_hold}
 use Rattle.mc_text.specs.NameLists.{NameLists}
 use Rattle.mc_script.specs.declared.command.Batch.{Batch}
 use Rattle.mc_net.specs.Nets.{AreEndSets, NamesAll, is_end_set, turns_of}

@@ -13,19 +13,19 @@ use Rattle.mc_signal.specs.declared.Sender.{Sender}
 use Rattle.mc_slot.specs.declared.State.{State}
 use Rattle.mc_slot.specs.declared.State.TheVariants.{Closed, Opening, Opened, Flowing, Closing}
 use Rattle.mc_box.specs.Boxes.{BoxState, media_at, own_of}
-use Rattle.mc_world.specs.PathTable.{PathHolds, heard, high_hears, low_hears, path_state}
-use Rattle.mc_world.specs.Paths.{PathEnds, end_goal, path_from, paths}
-use Rattle.mc_world.specs.Sound.{IsSound}
-use Rattle.mc_world.specs.Worlds.{WorldState, box_at, joint_of, joints, own_descriptor, own_sender, place, places, slot_count, slot_of}
+use Rattle.mc_model.specs.PathTable.{PathHolds, heard, high_hears, low_hears, path_state}
+use Rattle.mc_model.specs.Paths.{PathEnds, end_goal, path_from, paths}
+use Rattle.mc_model.specs.Sound.{IsSound}
+use Rattle.mc_model.specs.Worlds.{WorldState, box_at, joint_of, joints, own_descriptor, own_sender, place, places, slot_count, slot_of}
 use Rattle.mc_box.specs.declared.event.Kind.{Kind}
 use Rattle.mc_box.specs.declared.event.Kind.TheVariants.{Device, Feature}
 use Rattle.mc_box.specs.declared.setup.SlotMedia.{SlotMedia}
 use Rattle.mc_view.specs.declared.PathView.{PathView}
-use Rattle.mc_path.specs.PathLaws.{AreIn, HearEachOther, IsQuietPath}
+use Rattle.mc_path_laws.specs.PathLaws.{AreIn, HearEachOther, IsQuietPath}
 use Rattle.mc_path.specs.Views.{end_view, heard_codec, is_flowing, path_flows, view_of}
-use Rattle.mc_path.proofs.Ends.{parts_of}
-use Rattle.mc_path.proofs.Quiet.{each_from}
-use Rattle.mc_path.proofs.Returns.{walk_back}
+use Rattle.mc_path_laws.proofs.Ends.{parts_of}
+use Rattle.mc_path_laws.proofs.Quiet.{each_from}
+use Rattle.mc_path_laws.proofs.Returns.{walk_back}
 use Rattle.mc_text.specs.NameLists.{NameLists}
 use Rattle.mc_script.specs.Meaning.{goal_word}
 use Rattle.mc_net.specs.Nets.{NamesAll}

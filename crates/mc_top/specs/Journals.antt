@@ -2,11 +2,11 @@
 use Rattle.std.specs.Prelude.{◌≡◌, List, [], ◌∷◌, ◌++◌, map}
 use Rattle.std.specs.List.{All}
 use Rattle.std.specs.Option.{unwrap_or}
-use Rattle.mc_world.specs.PathTable.{PathHolds}
-use Rattle.mc_world.specs.Paths.{paths}
-use Rattle.mc_world.specs.Settles.{IsSettled}
-use Rattle.mc_world.specs.Steps.{step}
-use Rattle.mc_world.specs.Worlds.{WorldState}
+use Rattle.mc_model.specs.PathTable.{PathHolds}
+use Rattle.mc_model.specs.Paths.{paths}
+use Rattle.mc_model.specs.Settles.{IsSettled}
+use Rattle.mc_model.specs.Steps.{step}
+use Rattle.mc_model.specs.Worlds.{WorldState}
 use Rattle.mc_box.specs.declared.event.Turn.{Turn}
 use Rattle.mc_script.specs.declared.command.JournalLine.{JournalLine}
 use Rattle.mc_script.specs.declared.command.JournalLine.TheVariants.{Turn as Made, Settled}

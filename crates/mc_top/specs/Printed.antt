@@ -6,9 +6,9 @@ use Rattle.mc_signal.specs.declared.Medium.{Medium}
 use Rattle.mc_signal.specs.declared.Medium.TheVariants.{Audio, Video}
 use Rattle.mc_slot.specs.declared.State.{State}
 use Rattle.mc_slot.specs.declared.State.TheVariants.{Flowing}
-use Rattle.mc_world.specs.PathTable.{path_state, low_hears, high_hears}
-use Rattle.mc_world.specs.Paths.{PathEnds, paths, end_goal}
-use Rattle.mc_world.specs.Worlds.{WorldState, joint_of, place}
+use Rattle.mc_model.specs.PathTable.{path_state, low_hears, high_hears}
+use Rattle.mc_model.specs.Paths.{PathEnds, paths, end_goal}
+use Rattle.mc_model.specs.Worlds.{WorldState, joint_of, place}
 use Rattle.mc_text.specs.NameLists.{NameLists, slot_word}
 use Rattle.mc_script.specs.Meaning.{goal_word}
 use Rattle.mc_top.specs.Journals.{replayed}

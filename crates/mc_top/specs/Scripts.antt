@@ -1,7 +1,7 @@
 -- A script while it runs.
 use Rattle.std.specs.Prelude.{◌≡◌, ℕ, List, [], ◌++◌}
-use Rattle.mc_world.specs.Settles.{IsSettled}
-use Rattle.mc_world.specs.Worlds.{WorldState}
+use Rattle.mc_model.specs.Settles.{IsSettled}
+use Rattle.mc_model.specs.Worlds.{WorldState}
 use Rattle.mc_box.specs.declared.event.Turn.{Turn}
 use Rattle.mc_text.specs.NameLists.{NameLists}
 use Rattle.mc_script.specs.declared.command.JournalLine.{JournalLine}

@@ -1,6 +1,6 @@
 // A script, settle by settle.
 ghost use Rattle.std.specs.Prelude.{◌≡◌, ◌++◌, ◌+◌, map, All, IfOk, OnOk, IsTrue};
-ghost use Rattle.mc_world.specs.LinkFree.{HasNoLinks};
+ghost use Rattle.mc_model.specs.LinkFree.{HasNoLinks};
 ghost use Rattle.mc_net.specs.Nets.{AreEndSets, NamesAll, is_end_set, turns_of};
 ghost use Rattle.mc_top.specs.Journals.{IsJournal, HoldsAtSettles, lines_for};
 ghost use Rattle.mc_top.specs.Printed.{printed};

@@ -10,11 +10,11 @@ use Rattle.mc_box.specs.declared.event.Kind.{Kind}
 use Rattle.mc_box.specs.declared.event.Kind.TheVariants.{Device, Feature}
 use Rattle.mc_box.specs.declared.setup.SlotMedia.{SlotMedia}
 use Rattle.mc_world.specs.Lanes.{HasRoom, HasRoomFrom, IsLaid, lane_by, numbers_of, origins}
-use Rattle.mc_world.specs.Sound.{IsNumbered}
-use Rattle.mc_world.specs.Worlds.{WorldState, box_at, far, is_place, number, place}
+use Rattle.mc_model.specs.Sound.{IsNumbered}
+use Rattle.mc_model.specs.Worlds.{WorldState, box_at, far, is_place, number, place}
 use Rattle.mc_world.specs.declared.ways.Ways.{Ways}
 use Rattle.mc_world.proofs.LaneChanges.{Lane}
-use Rattle.mc_world.proofs.Numbers.{found_at, half_in, number_is}
+use Rattle.mc_laws.proofs.Numbers.{found_at, half_in, number_is}
 
 -- ---- origins of a box
 

@@ -1,10 +1,10 @@
 -- Tunnels of channels, as they are counted, and the numbers of their slots.
 use Rattle.std.proofs.Common.{◌≡◌, ℕ, ◌+◌, ◌*◌, ◌/◌, ◌<◌, ◌≤◌, zero, suc, List, [], ◌∷◌, ◌++◌, All, map, take, length, get_or, refl, sym, ap, ◌∙◌, arith, length-append}
 use Rattle.std.proofs.lemmas.Grind.{common_steps}
-use Rattle.mc_world.proofs.Joints.{channel_in, two_each, within_slots}
+use Rattle.mc_laws.proofs.Joints.{channel_in, two_each, within_slots}
 use Rattle.mc_world.specs.Tables.{channel_of}
-use Rattle.mc_world.specs.Worlds.{ChannelState, HasTunnels, Joint, joints_from, joints_within, no_joint, places_among, places_within}
-use Rattle.mc_world.specs.declared.network.Tunnel.{Tunnel}
+use Rattle.mc_model.specs.Worlds.{ChannelState, HasTunnels, Joint, joints_from, joints_within, no_joint, places_among, places_within}
+use Rattle.mc_model.specs.declared.channel.Tunnel.{Tunnel}
 
 -- ---- one tunnel more, and one channel more
 

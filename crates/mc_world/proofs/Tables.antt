@@ -6,9 +6,9 @@ use Rattle.std.proofs.lemmas.List.{get_or_read, length-map}
 use Rattle.mc_lane.specs.Queue.{Queue}
 use Rattle.mc_signal.specs.declared.Tagged.{Tagged}
 use Rattle.mc_box.specs.Boxes.{BoxState, no_box}
-use Rattle.mc_world.specs.Settles.{is_empty}
+use Rattle.mc_model.specs.Settles.{is_empty}
 use Rattle.mc_world.specs.Tables.{HasTables, channel_of, world_of}
-use Rattle.mc_world.specs.Worlds.{WorldState, box_at, joint_of, joints_from, slot_count}
+use Rattle.mc_model.specs.Worlds.{WorldState, box_at, joint_of, joints_from, slot_count}
 use Rattle.mc_world.specs.declared.network.World.TheInside.{Inside}
 use Rattle.mc_world.proofs.JointTables.{in_table, slot_has_channel, tunnel_is_there}
 

@@ -5,14 +5,14 @@ use Rattle.std.proofs.Math.ListN.{set, get_or-map}
 use Rattle.std.proofs.lemmas.List.{length-map}
 use Rattle.mc_signal.specs.declared.Signal.{Signal}
 use Rattle.mc_world.specs.Lanes.{IsLaid, all_sent, lane_by, one_sent, pushed_by, signals_of, tunnel_by}
-use Rattle.mc_world.specs.Steps.{pushed, sent_out}
+use Rattle.mc_model.specs.Steps.{pushed, sent_out}
 use Rattle.mc_world.specs.Tables.{HasTables, channel_of}
-use Rattle.mc_world.specs.Worlds.{Joint, WorldState, far, is_place, joint_of, joints, joints_from, lane_of, no_joint, number, places}
+use Rattle.mc_model.specs.Worlds.{Joint, WorldState, far, is_place, joint_of, joints, joints_from, lane_of, no_joint, number, places}
 use Rattle.mc_world.specs.declared.network.World.TheInside.{Inside}
 use Rattle.mc_world.specs.declared.ways.Ways.{Ways}
-use Rattle.mc_world.proofs.Joints.{channel_in, two_each}
+use Rattle.mc_laws.proofs.Joints.{channel_in, two_each}
 use Rattle.mc_world.proofs.LaneChanges.{Lane, signals_added}
-use Rattle.mc_world.proofs.Numbers.{far_half, far_side, half_in}
+use Rattle.mc_laws.proofs.Numbers.{far_half, far_side, half_in}
 
 -- ---- lanes that are there
 

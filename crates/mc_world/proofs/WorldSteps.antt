@@ -11,18 +11,18 @@ use Rattle.mc_signal.specs.declared.Tagged.{Tagged}
 use Rattle.mc_box.specs.BoxEvents.{BoxStep, box_event, is_enabled, is_take, is_version_end}
 use Rattle.mc_box.specs.Boxes.{BoxState, slot_at}
 use Rattle.mc_world.specs.Lanes.{all_sent, signals_of, without_front}
-use Rattle.mc_world.specs.Sound.{IsNumbered, IsSound}
-use Rattle.mc_world.specs.Steps.{made, popped, step, step_by, with_box}
-use Rattle.mc_world.specs.Worlds.{WorldState, box_at, front, joints, lane_of, number, place, places, slot_of}
+use Rattle.mc_model.specs.Sound.{IsNumbered, IsSound}
+use Rattle.mc_model.specs.Steps.{made, popped, step, step_by, with_box}
+use Rattle.mc_model.specs.Worlds.{WorldState, box_at, front, joints, lane_of, number, place, places, slot_of}
 use Rattle.mc_box.specs.declared.event.Event.{Event}
 use Rattle.mc_box.specs.declared.event.Event.TheVariants.{Take, Set, Media, Tell, Retry, Shift}
 use Rattle.mc_world.specs.declared.network.World.TheInside.{Inside}
 use Rattle.mc_world.specs.declared.ways.Ways.{Ways}
 use Rattle.mc_world.specs.Tables.{HasTables, channel_of, world_of}
 use Rattle.mc_box.proofs.EventGoes.{event_goes, version_end_stops}
-use Rattle.mc_world.proofs.Numbers.{number_is}
-use Rattle.mc_world.proofs.StepGoes.{below_test, front_step_goes}
-use Rattle.mc_world.proofs.StepKeeps.{step_keeps_sound}
+use Rattle.mc_laws.proofs.Numbers.{number_is}
+use Rattle.mc_laws.proofs.StepGoes.{below_test, front_step_goes}
+use Rattle.mc_laws.proofs.StepKeeps.{step_keeps_sound}
 use Rattle.mc_world.proofs.WayLanes.{sent_out_by}
 
 -- ---- slots and their numbers

@@ -6,7 +6,7 @@ use Rattle.mc_lane.specs.Queue.{Queue}
 use Rattle.mc_signal.specs.declared.Signal.{Signal}
 use Rattle.mc_signal.specs.declared.Tagged.{Tagged}
 use Rattle.mc_box.specs.Boxes.{BoxState}
-use Rattle.mc_world.specs.Worlds.{far, is_place}
+use Rattle.mc_model.specs.Worlds.{far, is_place}
 use Rattle.mc_world.specs.declared.ways.Ways.{Ways}
 
 -- the signals of each lane

@@ -2,8 +2,8 @@
 use Rattle.std.specs.Prelude.{◌≡◌, ℕ, ◌*◌, ◌^◌, ◌≤◌, length, map, position}
 use Rattle.std.specs.List.{slice_get}
 use Rattle.mc_world.specs.Lanes.{numbers_of}
-use Rattle.mc_world.specs.Sound.{IsSound}
-use Rattle.mc_world.specs.Worlds.{AreChannels, Joint, WorldState, is_place, joints_from, places_among}
+use Rattle.mc_model.specs.Sound.{IsSound}
+use Rattle.mc_model.specs.Worlds.{AreChannels, Joint, WorldState, is_place, joints_from, places_among}
 use Rattle.mc_world.specs.declared.network.World.TheInside.{Inside}
 
 abbrev pub world_of : Inside → WorldState

@@ -2,10 +2,11 @@
 #![tactic(auto)]
 
 mod lanes;
-pub mod laws;
 mod network;
 mod settled;
 mod ways;
 
-pub use network::{Channel, StepFault, Tunnel, World};
+pub use mc_laws::laws;
+pub use mc_model::{Channel, Tunnel};
+pub use network::{StepFault, World};
 pub use settled::Settled;

@@ -1,12 +1,12 @@
-// Channels, and the world that they join.
+// The world that channels join.
 
 ghost use Rattle.std.specs.Prelude.{◌≡◌, ◌+◌, ◌<◌, ◌≤◌, ◌*◌, ◌^◌, ◌++◌, if◌then◌else◌, [], map, length, replicate, slice_index_or, ◌==◌, IfOk, OnOk};
 ghost use Rattle.std.specs.List.{list_all};
-ghost use Rattle.mc_world.specs.Settles.{is_quiet, rests};
-ghost use Rattle.mc_world.specs.Sound.{IsNumbered, IsSound};
-ghost use Rattle.mc_world.specs.StepLaws.{AreNew};
+ghost use Rattle.mc_model.specs.Settles.{is_quiet, rests};
+ghost use Rattle.mc_model.specs.Sound.{IsNumbered, IsSound};
+ghost use Rattle.mc_model.specs.Setups.{AreNew};
 ghost use Rattle.mc_world.specs.Tables.{channel_of};
-ghost use Rattle.mc_world.specs.Worlds.{AreChannels, tunnel_limit, first_world, slot_count, place, number, far, joint_of, lane_of, front, front_for, slot_of, goal_of, places_among, places_within, joints_from, joints_within};
+ghost use Rattle.mc_model.specs.Worlds.{AreChannels, tunnel_limit, first_world, slot_count, place, number, far, joint_of, lane_of, front, front_for, slot_of, goal_of, places_among, places_within, joints_from, joints_within};
 
 mod rings;
 mod step;
@@ -14,35 +14,12 @@ mod step;
 use crate::ways::{Ways, homes_among};
 use mc_box::MediaBox;
 use mc_lane::Lane;
-use mc_signal::{Medium, Signal, Tagged};
+use mc_model::{Channel, Tunnel};
+use mc_signal::{Signal, Tagged};
 use mc_slot::{Slot, SlotGoal};
 use std::alloc::{AllocError, Global};
 use std::marker::Model;
 pub use step::StepFault;
-
-/// A tunnel of a channel: its medium, and the local numbers of its two slots, the initiator's first.
-#[derive(Clone, Copy, PartialEq, Eq, Debug)]
-pub struct Tunnel {
-    pub medium: Medium,
-    pub from: u8,
-    pub to: u8,
-}
-
-/// A channel of one to eight tunnels between two boxes, `from` being the initiator.
-#[derive(Debug, Drop)]
-pub struct Channel {
-    pub from: u32,
-    pub to: u32,
-    pub tunnels: Vec<Tunnel>,
-}
-
-impl Model for Channel {
-    ghost use Rattle.mc_world.specs.Worlds.{ChannelState};
-
-    ghost Value = { ChannelState };
-
-    ghost view = { λ c. record { from = c.from; to = c.to; tunnels = c.tunnels.items } };
-}
 
 /// Boxes, the channels between them, and the signals under way. Every world is sound: each signal at the front
 /// of a lane is one that its slot may take, and no step leads out of that.
@@ -59,7 +36,7 @@ pub struct World {
 }
 
 impl Model for World {
-    ghost use Rattle.mc_world.specs.Worlds.{WorldState};
+    ghost use Rattle.mc_model.specs.Worlds.{WorldState};
 
     ghost Value = { WorldState };
 

@@ -3,7 +3,7 @@
 ghost use Rattle.std.specs.Prelude.{◌≡◌, ◌<◌, ◌/◌, IfOk, length, map};
 ghost use Rattle.std.specs.List.{slice_get};
 ghost use Rattle.mc_world.specs.Lanes.{lane_by, numbers_of, origins, tunnel_by};
-ghost use Rattle.mc_world.specs.Worlds.{far};
+ghost use Rattle.mc_model.specs.Worlds.{far};
 
 use mc_box::MediaBox;
 use std::alloc::{AllocError, Global};

@@ -1,6 +1,6 @@
 use Rattle.std.proofs.Common.{Vec, Global, ap, sym, ◌∙◌, arith}
 use Rattle.mc_view.specs.declared.PathView.{PathView}
-use Rattle.mc_path.proofs.Quiet.{quiet_paths}
+use Rattle.mc_path_laws.proofs.Quiet.{quiet_paths}
 use Rattle.mc_path.proofs.Shown.{shown_all, shown_next, shown_none}
 use Rattle.mc_path.proofs.paths.Goals as goal
 use Rattle.mc_path.proofs.paths.Goals.{in-Some+in_ok-push, in_default}

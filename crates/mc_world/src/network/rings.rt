@@ -2,10 +2,10 @@
 
 ghost use Rattle.std.specs.Prelude.{◌≡◌, ◌↔◌, ◌<◌, IfSome, IsTrue};
 ghost use Rattle.std.specs.Option.{is_some};
-ghost use Rattle.mc_world.specs.Paths.{has_ring};
-ghost use Rattle.mc_world.specs.Rings.{IsOnRing, IsLeastOnRing, NoneBefore, partner_of};
-ghost use Rattle.mc_world.specs.Sound.{IsSound};
-ghost use Rattle.mc_world.specs.Worlds.{slot_count};
+ghost use Rattle.mc_model.specs.Paths.{has_ring};
+ghost use Rattle.mc_model.specs.Rings.{IsOnRing, IsLeastOnRing, NoneBefore, partner_of};
+ghost use Rattle.mc_model.specs.Sound.{IsSound};
+ghost use Rattle.mc_model.specs.Worlds.{slot_count};
 
 use super::World;
 use mc_slot::SlotGoal;

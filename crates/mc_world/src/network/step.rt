@@ -2,9 +2,10 @@
 
 ghost use Rattle.std.specs.Prelude.{◌≡◌, ◌↔◌, ◌<◌, Some, None, false, length, IsFalse, IsTrue, OnOk, OnErr};
 ghost use Rattle.mc_box.specs.BoxEvents.{is_enabled, is_take, is_version_end};
-ghost use Rattle.mc_world.specs.Sound.{IsSound};
-ghost use Rattle.mc_world.specs.StepAnswers.{Answers, ends_version, ends_version_at};
-ghost use Rattle.mc_world.specs.Steps.{step, step_by};
+ghost use Rattle.mc_model.specs.Sound.{IsSound};
+ghost use Rattle.mc_world.specs.StepAnswers.{Answers};
+ghost use Rattle.mc_model.specs.Steps.{ends_version, ends_version_at};
+ghost use Rattle.mc_model.specs.Steps.{step, step_by};
 ghost use Rattle.mc_world.specs.declared.network.step.StepFault.TheVariants.{NoMemory};
 
 use super::World;

@@ -1,6 +1,6 @@
 use Rattle.std.proofs.Common.{List, get_or, subst, sym}
 use Rattle.mc_box.specs.Boxes.{BoxState}
-use Rattle.mc_world.specs.StepLaws.{AreNew}
+use Rattle.mc_model.specs.Setups.{AreNew}
 use Rattle.mc_net.proofs.FirstBoxes.{devices_new}
 use Rattle.mc_net.proofs.net.first_world.Goals as goal
 

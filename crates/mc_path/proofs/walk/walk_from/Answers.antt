@@ -1,5 +1,5 @@
 use Rattle.std.proofs.Common.{ap, sym, ◌∙◌, arith, ℕ}
-use Rattle.mc_world.proofs.ActedWorlds.{far_inside}
+use Rattle.mc_laws.proofs.ActedWorlds.{far_inside}
 use Rattle.mc_path.proofs.Walking.{breaks, ends, goes_on, half_of, stops}
 use Rattle.mc_path.proofs.walk.walk_from.Goals as goal
 

@@ -1,5 +1,5 @@
 use Rattle.std.proofs.Common.{◌≡◌, []}
-use Rattle.mc_world.specs.Measures.{IsRingFree, measure}
+use Rattle.mc_laws.specs.Measures.{IsRingFree, measure}
 use Rattle.mc_seq.specs.Drawing.{stands, written}
 use Rattle.mc_seq.proofs.Sittings.{GoesOn}
 use Rattle.mc_seq.proofs.drawing.come_to_rest.Given as goal

@@ -1,4 +1,4 @@
-use Rattle.mc_world.proofs.GoalsKept.{rest_keeps_rings}
+use Rattle.mc_laws.proofs.GoalsKept.{rest_keeps_rings}
 use Rattle.mc_seq.specs.Schedule.{for_each, retries_of}
 use Rattle.mc_seq.proofs.Rounds.{all_more, round_besides}
 use Rattle.mc_seq.proofs.drawing.retry_all.Goals as goal

@@ -1,7 +1,7 @@
 use Rattle.std.proofs.Common.{ℕ, List, ap, refl, subst, sym}
 use Rattle.mc_box.specs.declared.event.Turn.{Turn}
 use Rattle.mc_world.specs.declared.settled.Settled.{Settled}
-use Rattle.mc_world.specs.Rings.{IsFirstOnRing, IsLeastOnRing}
+use Rattle.mc_model.specs.Rings.{IsFirstOnRing, IsLeastOnRing}
 use Rattle.mc_seq.specs.Drawing.{UsedUp, stands, written}
 use Rattle.mc_seq.specs.Draws.{IsScheduled, StopsAtRing, StopsAtVersion}
 use Rattle.mc_seq.specs.Schedule.{Standing, begun}

@@ -1,4 +1,4 @@
-use Rattle.mc_world.specs.Sound.{IsSound}
+use Rattle.mc_model.specs.Sound.{IsSound}
 use Rattle.mc_seq.specs.Draws.{AreAllowed}
 use Rattle.mc_seq.specs.Drawing.{stands, written}
 use Rattle.mc_seq.proofs.Sittings.{GoesOn, to_come}

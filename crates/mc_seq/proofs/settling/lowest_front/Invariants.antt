@@ -1,5 +1,5 @@
 use Rattle.std.proofs.Common.{◌≡◌, ◌<◌, ℕ, None}
-use Rattle.mc_world.specs.Worlds.{front}
+use Rattle.mc_model.specs.Worlds.{front}
 use Rattle.mc_seq.proofs.settling.lowest_front.Given as goal
 
 -- no slot so far can take its front

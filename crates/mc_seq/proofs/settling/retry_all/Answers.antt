@@ -1,5 +1,5 @@
 use Rattle.std.proofs.Common.{◌<◌, subst, ℕ}
-use Rattle.mc_world.proofs.GoalsKept.{rest_keeps_rings}
+use Rattle.mc_laws.proofs.GoalsKept.{rest_keeps_rings}
 use Rattle.mc_seq.specs.PlainOrder.{owed_below}
 use Rattle.mc_seq.proofs.OrderSettles.{owed_besides}
 use Rattle.mc_seq.proofs.Retrying.{retried_more}

@@ -1,5 +1,5 @@
 use Rattle.std.proofs.Common.{refl}
-use Rattle.mc_world.proofs.Lowers.{take_lowers, take_stays_free}
+use Rattle.mc_laws.proofs.Lowers.{take_lowers, take_stays_free}
 use Rattle.mc_seq.proofs.Taking.{goes_last, goes_more, lowest_goes}
 use Rattle.mc_seq.proofs.settling.take_all.Goals as goal
 

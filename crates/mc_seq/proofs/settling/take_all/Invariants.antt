@@ -1,4 +1,4 @@
-use Rattle.mc_world.specs.Measures.{IsRingFree, measure}
+use Rattle.mc_laws.specs.Measures.{IsRingFree, measure}
 use Rattle.mc_seq.proofs.Taking.{GoesOn}
 use Rattle.mc_seq.proofs.settling.take_all.Given as goal
 

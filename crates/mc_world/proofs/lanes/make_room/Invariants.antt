@@ -1,6 +1,6 @@
 use Rattle.std.proofs.Common.{◌≡◌, ◌<◌, ℕ, get_or}
 use Rattle.mc_world.specs.Lanes.{HasRoom, lane_by, numbers_of, signals_of}
-use Rattle.mc_world.specs.Worlds.{far}
+use Rattle.mc_model.specs.Worlds.{far}
 use Rattle.mc_world.proofs.lanes.make_room.Given as goal
 
 -- no signal has come or gone, and the lanes away from the box's slots so far have room

@@ -1,5 +1,5 @@
 use Rattle.mc_world.specs.Lanes.{lane_by}
-use Rattle.mc_world.specs.Worlds.{far}
+use Rattle.mc_model.specs.Worlds.{far}
 use Rattle.mc_world.proofs.lanes.relay.Goals as goal
 
 pub send_all-requires-clause-room : goal.send_all-requires-clause-room

@@ -1,5 +1,5 @@
 use Rattle.std.proofs.Common.{◌<◌, length, sym, ◌∙◌, subst, ℕ, arith}
-use Rattle.mc_world.proofs.Numbers.{found_at}
+use Rattle.mc_laws.proofs.Numbers.{found_at}
 use Rattle.mc_world.proofs.WayLanes.{away_there, sent_one}
 use Rattle.mc_world.proofs.lanes.send.Goals as goal
 

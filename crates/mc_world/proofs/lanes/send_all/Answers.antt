@@ -4,7 +4,7 @@ use Rattle.std.proofs.lemmas.Grind.{common_steps}
 use Rattle.mc_signal.specs.declared.Signal.{Signal}
 use Rattle.mc_signal.specs.declared.Tagged.{Tagged}
 use Rattle.mc_world.specs.Lanes.{all_sent, lane_by, one_sent, signals_of}
-use Rattle.mc_world.specs.Worlds.{far}
+use Rattle.mc_model.specs.Worlds.{far}
 use Rattle.mc_world.proofs.lanes.send_all.Goals as goal
 
 pub send-requires-clause-room : goal.send-requires-clause-room

@@ -3,7 +3,7 @@ use Rattle.std.proofs.lemmas.List.Sums.{fold_more}
 use Rattle.mc_signal.specs.declared.Signal.{Signal}
 use Rattle.mc_signal.specs.declared.Tagged.{Tagged}
 use Rattle.mc_world.specs.Lanes.{all_sent, lane_by, one_sent, signals_of}
-use Rattle.mc_world.specs.Worlds.{far}
+use Rattle.mc_model.specs.Worlds.{far}
 use Rattle.mc_world.proofs.LaneChanges.{got_is}
 use Rattle.mc_world.proofs.lanes.send_lane.Goals as goal
 

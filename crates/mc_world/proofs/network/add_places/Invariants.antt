@@ -1,5 +1,5 @@
 use Rattle.std.proofs.Common.{◌≡◌, ◌++◌, take, flat_map}
-use Rattle.mc_world.specs.Worlds.{places_of}
+use Rattle.mc_model.specs.Worlds.{places_of}
 use Rattle.mc_world.proofs.network.add_places.Given as goal
 
 -- the places of the tunnels so far were added

@@ -1,5 +1,5 @@
 use Rattle.std.proofs.Common.{◌∙◌, ap, arith}
-use Rattle.mc_world.specs.Worlds.{ChannelState}
+use Rattle.mc_model.specs.Worlds.{ChannelState}
 use Rattle.mc_world.proofs.JointTables.{channel_added}
 use Rattle.mc_world.proofs.network.joints_among.Goals as goal
 

@@ -1,6 +1,6 @@
 use Rattle.std.proofs.Common.{◌≡◌, map, take}
 use Rattle.mc_world.specs.Tables.{channel_of}
-use Rattle.mc_world.specs.Worlds.{joints_from}
+use Rattle.mc_model.specs.Worlds.{joints_from}
 use Rattle.mc_world.proofs.network.joints_among.Given as goal
 
 -- the tunnels of the channels so far

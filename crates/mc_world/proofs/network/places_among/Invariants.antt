@@ -1,5 +1,5 @@
 use Rattle.std.proofs.Common.{◌≡◌, take}
-use Rattle.mc_world.specs.Worlds.{places_among}
+use Rattle.mc_model.specs.Worlds.{places_among}
 use Rattle.mc_world.proofs.network.places_among.Given as goal
 
 -- the places of the channels so far

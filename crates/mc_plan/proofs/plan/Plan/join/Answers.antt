@@ -1,5 +1,5 @@
 use Rattle.std.proofs.Common.{rules, ◌≡◌, subst, List, sym, None}
-use Rattle.mc_world.specs.Worlds.{ChannelState}
+use Rattle.mc_model.specs.Worlds.{ChannelState}
 use Rattle.mc_plan.specs.LaidOut.{IsLaidOut}
 use Rattle.mc_plan.specs.Plans.{PlanState, joined}
 use Rattle.mc_plan.specs.Refusals.{join_fault}

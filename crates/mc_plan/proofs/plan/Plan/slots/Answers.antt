@@ -1,5 +1,5 @@
 use Rattle.std.proofs.Common.{◌≡◌, ◌≤◌, List, ap, arith, subst, sym}
-use Rattle.mc_world.specs.Worlds.{ChannelState}
+use Rattle.mc_model.specs.Worlds.{ChannelState}
 use Rattle.mc_plan.specs.Plans.{slots_of}
 use Rattle.mc_plan.proofs.plan.Plan.slots.Goals as goal
 

@@ -1,6 +1,6 @@
 use Rattle.std.proofs.Common.{ℕ, List, All, IsTrue, ◌++◌, ◌∙◌, ap, subst, sym}
-use Rattle.mc_world.specs.LinkFree.{HasNoLinks}
-use Rattle.mc_path.proofs.SettledHold.{settled_paths_hold}
+use Rattle.mc_model.specs.LinkFree.{HasNoLinks}
+use Rattle.mc_path_laws.proofs.SettledHold.{settled_paths_hold}
 use Rattle.mc_net.specs.Nets.{is_end_set}
 use Rattle.mc_top.specs.Scripts.{ScriptState, Settling}
 use Rattle.mc_top.specs.Shown.{views_text}

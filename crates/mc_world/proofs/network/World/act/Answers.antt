@@ -7,9 +7,9 @@ use Rattle.mc_signal.specs.declared.Tagged.{Tagged}
 use Rattle.mc_box.specs.BoxEvents.{Appends, box_event, is_enabled, is_version_end}
 use Rattle.mc_box.specs.Boxes.{BoxState}
 use Rattle.mc_world.specs.Lanes.{IsLaid, all_sent, signals_of}
-use Rattle.mc_world.specs.Steps.{step_by}
+use Rattle.mc_model.specs.Steps.{step_by}
 use Rattle.mc_world.specs.Tables.{world_of}
-use Rattle.mc_world.specs.Worlds.{box_at}
+use Rattle.mc_model.specs.Worlds.{box_at}
 use Rattle.mc_world.proofs.LaneChanges.{Lane, length_kept, signals_kept, signals_written}
 use Rattle.mc_world.proofs.Tables.{box_read}
 use Rattle.mc_world.proofs.WayLanes.{tables_laid}

@@ -1,5 +1,5 @@
 use Rattle.std.proofs.Common.{◌<◌, arith}
-use Rattle.mc_world.specs.Worlds.{slot_count}
+use Rattle.mc_model.specs.Worlds.{slot_count}
 use Rattle.mc_world.specs.Tables.{world_of}
 use Rattle.mc_world.proofs.Tables.{channel_below, joint_below, joint_read}
 use Rattle.mc_world.proofs.network.World.channel.Goals as goal

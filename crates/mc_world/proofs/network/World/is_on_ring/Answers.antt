@@ -1,8 +1,8 @@
 use Rattle.std.proofs.Common.{◌≡◌, None, ap, sym, ◌∙◌, subst, ℕ, ◌+◌, arith}
-use Rattle.mc_world.specs.Rings.{partner_of}
-use Rattle.mc_world.specs.Worlds.{far}
-use Rattle.mc_world.proofs.ActedWorlds.{far_inside}
-use Rattle.mc_world.proofs.BothWays.{WalkBoth, both_next, comes_again, ends_ahead, ends_behind, is_off, is_on, lower_met, whole_way}
+use Rattle.mc_model.specs.Rings.{partner_of}
+use Rattle.mc_model.specs.Worlds.{far}
+use Rattle.mc_laws.proofs.ActedWorlds.{far_inside}
+use Rattle.mc_laws.proofs.BothWays.{WalkBoth, both_next, comes_again, ends_ahead, ends_behind, is_off, is_on, lower_met, whole_way}
 use Rattle.mc_world.proofs.network.World.is_on_ring.Goals as goal
 
 pub partner-requires : goal.partner-requires

@@ -1,4 +1,4 @@
-use Rattle.mc_world.proofs.BothWays.{WalkBoth}
+use Rattle.mc_laws.proofs.BothWays.{WalkBoth}
 use Rattle.mc_world.proofs.network.World.is_on_ring.Given as goal
 
 -- where the two walks are

@@ -5,10 +5,10 @@ use Rattle.mc_lane.specs.Queue.{Queue}
 use Rattle.mc_signal.specs.declared.Tagged.{Tagged}
 use Rattle.mc_box.specs.Boxes.{BoxState}
 use Rattle.mc_world.specs.Lanes.{origins, signals_of}
-use Rattle.mc_world.specs.Sound.{IsSound}
-use Rattle.mc_world.specs.Worlds.{ChannelState, WorldState, first_world, is_place, places_among}
+use Rattle.mc_model.specs.Sound.{IsSound}
+use Rattle.mc_model.specs.Worlds.{ChannelState, WorldState, first_world, is_place, places_among}
 use Rattle.mc_world.proofs.Homes.{found_by}
-use Rattle.mc_world.proofs.NewWorlds.{first_is_sound}
+use Rattle.mc_laws.proofs.NewWorlds.{first_is_sound}
 use Rattle.mc_world.proofs.JointTables.{few_slots}
 use Rattle.mc_world.proofs.network.World.new.Goals as goal
 

@@ -1,5 +1,5 @@
 use Rattle.std.proofs.Common.{Some, None, refl, arith}
-use Rattle.mc_world.proofs.BothWays.{has_by}
+use Rattle.mc_laws.proofs.BothWays.{has_by}
 use Rattle.mc_world.proofs.network.World.ring.Goals as goal
 
 pub returns-then-is_on_ring-clause-has : goal.returns-then-is_on_ring-clause-has

@@ -1,4 +1,4 @@
-use Rattle.mc_world.specs.Rings.{NoneBefore}
+use Rattle.mc_model.specs.Rings.{NoneBefore}
 use Rattle.mc_world.proofs.network.World.ring.Given as goal
 
 -- no slot so far stands on a ring

@@ -6,13 +6,13 @@ use Rattle.mc_slot.specs.Sending.{sends_of}
 use Rattle.mc_box.specs.BoxEvents.{box_event}
 use Rattle.mc_box.specs.Boxes.{BoxState}
 use Rattle.mc_world.specs.Lanes.{IsLaid, all_sent, signals_of, without_front}
-use Rattle.mc_world.specs.Steps.{step_by}
+use Rattle.mc_model.specs.Steps.{step_by}
 use Rattle.mc_world.specs.Tables.{world_of}
-use Rattle.mc_world.specs.Worlds.{box_at, number}
+use Rattle.mc_model.specs.Worlds.{box_at, number}
 use Rattle.mc_box.specs.declared.event.Event.TheVariants.{Take}
 use Rattle.mc_world.proofs.LaneChanges.{Lane, length_kept, room_kept, signals_kept, signals_written}
-use Rattle.mc_world.proofs.Numbers.{number_is}
-use Rattle.mc_world.proofs.StepKeeps.{front_is_taken}
+use Rattle.mc_laws.proofs.Numbers.{number_is}
+use Rattle.mc_laws.proofs.StepKeeps.{front_is_taken}
 use Rattle.mc_world.proofs.Tables.{box_read}
 use Rattle.mc_world.proofs.WayLanes.{tables_laid}
 use Rattle.mc_world.proofs.WorldSteps.{number_inside, number_slot, step_tables, take_enabled, take_made}

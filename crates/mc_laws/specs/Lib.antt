@@ -1,0 +1,6 @@
+pub mod Exchanges
+pub mod Measures
+pub mod Sendings
+pub mod StepLaws
+pub mod Stepped
+pub mod TwoPhones

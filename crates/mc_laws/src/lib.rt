@@ -1,0 +1,4 @@
+//! Laws of steps and runs, of rings, and of settling, and worked exchanges.
+#![tactic(auto)]
+
+pub mod laws;

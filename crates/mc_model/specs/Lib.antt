@@ -1,0 +1,11 @@
+pub mod LinkFree
+pub mod PathTable
+pub mod Paths
+pub mod Rings
+pub mod Served
+pub mod Settles
+pub mod Setups
+pub mod Shapes
+pub mod Sound
+pub mod Steps
+pub mod Worlds

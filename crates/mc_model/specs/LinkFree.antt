@@ -1,0 +1,26 @@
+-- Worlds in which no slot is linked: each tunnel is a path of its own there.
+use Rattle.std.specs.Prelude.{◌≡◌, ℕ, List, IsFalse, Some}
+use Rattle.std.specs.List.{list_any}
+use Rattle.mc_box.specs.LinkFree.{is_linking}
+use Rattle.mc_box.specs.LinkFree as of_box
+use Rattle.mc_box.specs.declared.event.Turn.{Turn}
+use Rattle.mc_model.specs.Sound.{IsSound}
+use Rattle.mc_model.specs.Steps.{run}
+use Rattle.mc_model.specs.Worlds.{WorldState, box_at}
+
+-- no slot of any box is linked
+abbrev pub HasNoLinks : WorldState → Type 0
+HasNoLinks world = (who : ℕ) → of_box.HasNoLinks (box_at world who)
+
+-- a sound world without links
+pub record IsLinkFree (world : WorldState) : Type 0 where
+  pub sound : IsSound world
+  pub free : HasNoLinks world
+
+-- none of these turns sets a link
+abbrev pub LinkNone : List Turn → Type 0
+LinkNone turns = IsFalse (list_any (λ turn. is_linking turn.event) turns)
+
+-- a run of turns that set no link leaves a world without links so
+abbrev pub RunKeepsLinkFree : Type 0
+RunKeepsLinkFree = (world next : WorldState) (turns : List Turn) → IsLinkFree world → LinkNone turns → run world turns ≡ Some next → IsLinkFree next

@@ -1,0 +1,96 @@
+-- What a settle is: a run that uses up a batch of commands and comes to rest.
+use Rattle.std.specs.Prelude.{◌≡◌, ℕ, ◌≤◌, ◌==◌, ◌&&◌, not, Bool, true, false, if◌then◌else◌, List, [], ◌∷◌, filter, length, take, drop, count_by, nat_lt, IsTrue, Some, None}
+use Rattle.std.specs.List.{list_all, list_any}
+use Rattle.std.specs.Option.{is_some}
+use Rattle.mc_signal.specs.declared.Tagged.{Tagged}
+use Rattle.mc_box.specs.BoxEvents.{box_event, is_command}
+use Rattle.mc_box.specs.Boxes.{is_slot, owes_at}
+use Rattle.mc_model.specs.Paths.{has_ring}
+use Rattle.mc_model.specs.Steps.{run, after}
+use Rattle.mc_model.specs.Worlds.{WorldState, box_at}
+use Rattle.mc_box.specs.declared.event.Event.{Event}
+use Rattle.mc_box.specs.declared.event.Event.TheVariants.{Take, Set, Media, Tell, Retry, Shift}
+use Rattle.mc_box.specs.declared.event.Turn.{Turn}
+
+abbrev pub is_empty : List Tagged → Bool
+is_empty [] = true
+is_empty (tagged ∷ rest) = false
+
+-- nothing is under way
+abbrev pub is_quiet : WorldState → Bool
+is_quiet world = list_all is_empty world.lanes
+
+-- some box's program can go to another state
+abbrev pub can_shift : WorldState → Bool
+can_shift world = list_any (λ box. is_some (box_event box Shift None)) world.boxes
+
+-- nothing is under way, and no program can go on
+abbrev pub rests : WorldState → Bool
+rests world = is_quiet world && not (can_shift world)
+
+-- the commands of one box among turns, in order
+abbrev pub commands_of : ℕ → List Turn → List Turn
+commands_of who turns = filter (λ turn. is_command turn.event && turn.who == who) turns
+
+abbrev pub is_retry_at : ℕ → Event → Bool
+is_retry_at local (Retry slot) = slot == local
+is_retry_at local event = false
+
+-- the turn is the retry of this slot of this box
+abbrev pub is_retry_of : ℕ → ℕ → Turn → Bool
+is_retry_of who local turn = is_retry_at local turn.event && turn.who == who
+
+abbrev pub takes_or_retries : Event → Bool
+takes_or_retries (Take local) = true
+takes_or_retries (Retry local) = true
+takes_or_retries event = false
+
+-- whether a box's slot owes a retry
+abbrev pub owes_retry : WorldState → ℕ → ℕ → Bool
+owes_retry world who local = nat_lt who (length world.boxes) && is_slot (box_at world who) local && owes_at (box_at world who) local
+
+-- after a moment of a run, at which the world rests and the batch is used up, each retry that was owed at that moment comes once, and besides only Takes come
+pub record IsLastRest (world : WorldState) (batch turns : List Turn) (moment : ℕ) : Type 0 where
+  pub within : moment ≤ length turns
+  pub at_rest : IsTrue (rests (after world (take moment turns)))
+  pub used_up : (who : ℕ) → commands_of who (take moment turns) ≡ commands_of who batch
+  pub retries : (who local : ℕ) → count_by (is_retry_of who local) (drop moment turns) ≡ (if owes_retry (after world (take moment turns)) who local then 1 else 0)
+  pub besides : IsTrue (list_all (λ turn. takes_or_retries turn.event) (drop moment turns))
+
+-- the turns settle a batch, and leave the world last
+pub record IsSettled (world : WorldState) (batch turns : List Turn) (last : WorldState) : Type 0 where
+  pub runs : run world turns ≡ Some last
+  pub commands : (who : ℕ) → commands_of who turns ≡ commands_of who batch
+  pub at_rest : IsTrue (rests last)
+  pub no_ring : has_ring last ≡ false
+  pub moment : ℕ
+  pub last_rest : IsLastRest world batch turns moment
+
+-- turns that stopped within a batch: box by box they have made the first of its commands
+pub record IsStopped (world : WorldState) (batch turns : List Turn) (last : WorldState) : Type 0 where
+  pub runs : run world turns ≡ Some last
+  pub commands : (who : ℕ) → commands_of who turns ≡ take (length (commands_of who turns)) (commands_of who batch)
+
+-- the events of three kinds
+abbrev pub is_set : Event → Bool
+is_set (Set change) = true
+is_set event = false
+
+abbrev pub is_media : Event → Bool
+is_media (Media change) = true
+is_media event = false
+
+abbrev pub is_tell : Event → Bool
+is_tell (Tell word) = true
+is_tell event = false
+
+-- the turns of one box among turns whose events are of a kind, in order
+abbrev pub of_kind : (Event → Bool) → ℕ → List Turn → List Turn
+of_kind kind who turns = filter (λ turn. kind turn.event && turn.who == who) turns
+
+-- a settled segment has the Sets, the Media events and the Tells of its batch, box by box and in order, each once, and no others
+abbrev pub SettledMakesItsBatch : Type 0
+SettledMakesItsBatch = (world last : WorldState) (batch turns : List Turn) → IsSettled world batch turns last → (who : ℕ)
+    → (of_kind is_set who turns ≡ of_kind is_set who batch)
+    × (of_kind is_media who turns ≡ of_kind is_media who batch)
+    × (of_kind is_tell who turns ≡ of_kind is_tell who batch)

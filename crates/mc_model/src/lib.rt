@@ -1,0 +1,6 @@
+//! Channels, and the definitions of worlds, steps, runs, settles, paths, rings and soundness.
+#![tactic(auto)]
+
+mod channel;
+
+pub use channel::{Channel, Tunnel};

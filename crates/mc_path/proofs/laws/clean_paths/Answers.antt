@@ -1,5 +1,0 @@
-use Rattle.mc_path.proofs.CleanPaths.{clean_paths}
-use Rattle.mc_path.proofs.laws.clean_paths.Goals as goal
-
-pub returns : goal.returns
-returns c = clean_paths

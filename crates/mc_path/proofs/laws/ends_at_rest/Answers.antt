@@ -1,5 +1,0 @@
-use Rattle.mc_path.proofs.RestTables.{ends_at_rest}
-use Rattle.mc_path.proofs.laws.ends_at_rest.Goals as goal
-
-pub returns : goal.returns
-returns c = ends_at_rest

@@ -1,5 +1,0 @@
-use Rattle.mc_path.proofs.Repeats.{paths_pass_once}
-use Rattle.mc_path.proofs.laws.paths_pass_once.Goals as goal
-
-pub returns : goal.returns
-returns c = paths_pass_once

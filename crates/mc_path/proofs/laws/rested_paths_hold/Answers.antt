@@ -1,5 +1,0 @@
-use Rattle.mc_path.proofs.SettledHold.{rested_paths_hold}
-use Rattle.mc_path.proofs.laws.rested_paths_hold.Goals as goal
-
-pub returns : goal.returns
-returns c = rested_paths_hold

@@ -1,5 +1,0 @@
-use Rattle.mc_path.proofs.SettledHold.{settled_paths_hold}
-use Rattle.mc_path.proofs.laws.settled_paths_hold.Goals as goal
-
-pub returns : goal.returns
-returns c = settled_paths_hold

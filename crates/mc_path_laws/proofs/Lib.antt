@@ -1,0 +1,16 @@
+pub mod Chains
+pub mod CleanEnds
+pub mod CleanLinks
+pub mod CleanPaths
+pub mod CleanSteps
+pub mod CleanWalks
+pub mod Ends
+pub mod OneMedium
+pub mod Quiet
+pub mod QuietWalks
+pub mod Repeats
+pub mod RestTables
+pub mod Returns
+pub mod SettledHold
+pub mod Standing
+pub mod TableHolds

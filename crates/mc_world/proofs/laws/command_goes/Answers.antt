@@ -1,5 +1,0 @@
-use Rattle.mc_world.proofs.CommandsGo.{command_goes}
-use Rattle.mc_world.proofs.laws.command_goes.Goals as goal
-
-pub returns : goal.returns
-returns c = command_goes

@@ -1,5 +1,0 @@
-use Rattle.mc_world.proofs.NewWorlds.{first_is_sound}
-use Rattle.mc_world.proofs.laws.first_is_sound.Goals as goal
-
-pub returns : goal.returns
-returns c = first_is_sound

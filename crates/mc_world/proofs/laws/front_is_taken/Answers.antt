@@ -1,5 +1,0 @@
-use Rattle.mc_world.proofs.StepKeeps.{front_is_taken}
-use Rattle.mc_world.proofs.laws.front_is_taken.Goals as goal
-
-pub returns : goal.returns
-returns c = front_is_taken

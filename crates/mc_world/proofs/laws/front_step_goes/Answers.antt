@@ -1,5 +1,0 @@
-use Rattle.mc_world.proofs.StepGoes.{front_step_goes}
-use Rattle.mc_world.proofs.laws.front_step_goes.Goals as goal
-
-pub returns : goal.returns
-returns c = front_step_goes

@@ -1,5 +1,0 @@
-use Rattle.mc_world.proofs.CommandsGo.{retry_goes}
-use Rattle.mc_world.proofs.laws.retry_goes.Goals as goal
-
-pub returns : goal.returns
-returns c = retry_goes

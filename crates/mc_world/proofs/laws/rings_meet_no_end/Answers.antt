@@ -1,5 +1,0 @@
-use Rattle.mc_world.proofs.RingWalks.{rings_meet_no_end}
-use Rattle.mc_world.proofs.laws.rings_meet_no_end.Goals as goal
-
-pub returns : goal.returns
-returns c = rings_meet_no_end

@@ -1,5 +1,0 @@
-use Rattle.mc_world.proofs.LinkFree.{run_keeps_link_free}
-use Rattle.mc_world.proofs.laws.run_keeps_link_free.Goals as goal
-
-pub returns : goal.returns
-returns c = run_keeps_link_free

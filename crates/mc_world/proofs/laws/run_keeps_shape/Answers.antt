@@ -1,5 +1,0 @@
-use Rattle.mc_world.proofs.ShapesKept.{run_keeps_shape}
-use Rattle.mc_world.proofs.laws.run_keeps_shape.Goals as goal
-
-pub returns : goal.returns
-returns c = run_keeps_shape

@@ -1,5 +1,0 @@
-use Rattle.mc_world.proofs.StepKeeps.{run_keeps_sound}
-use Rattle.mc_world.proofs.laws.run_keeps_sound.Goals as goal
-
-pub returns : goal.returns
-returns c = run_keeps_sound

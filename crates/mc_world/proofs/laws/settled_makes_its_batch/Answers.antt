@@ -1,5 +1,0 @@
-use Rattle.mc_world.proofs.BatchMade.{settled_makes_its_batch}
-use Rattle.mc_world.proofs.laws.settled_makes_its_batch.Goals as goal
-
-pub returns : goal.returns
-returns c = settled_makes_its_batch

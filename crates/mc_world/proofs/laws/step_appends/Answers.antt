@@ -1,5 +1,0 @@
-use Rattle.mc_world.proofs.StepSendings.{step_appends}
-use Rattle.mc_world.proofs.laws.step_appends.Goals as goal
-
-pub returns : goal.returns
-returns c = step_appends

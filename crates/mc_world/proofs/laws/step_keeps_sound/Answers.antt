@@ -1,5 +1,0 @@
-use Rattle.mc_world.proofs.StepKeeps.{step_keeps_sound}
-use Rattle.mc_world.proofs.laws.step_keeps_sound.Goals as goal
-
-pub returns : goal.returns
-returns c = step_keeps_sound

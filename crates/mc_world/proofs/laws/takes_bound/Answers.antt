@@ -1,5 +1,0 @@
-use Rattle.mc_world.proofs.Lowers.{takes_bound}
-use Rattle.mc_world.proofs.laws.takes_bound.Goals as goal
-
-pub returns : goal.returns
-returns c = takes_bound

@@ -1,5 +1,0 @@
-use Rattle.mc_world.proofs.Lowers.{takes_end}
-use Rattle.mc_world.proofs.laws.takes_end.Goals as goal
-
-pub returns : goal.returns
-returns c = takes_end
