@@ -5,7 +5,7 @@ use Rattle.std.proofs.lemmas.Bool.{cases_eq}
 use Rattle.std.proofs.lemmas.Grind.{common_steps}
 use Rattle.mc_box.specs.BoxEvents.{is_command}
 use Rattle.mc_box.specs.Boxes.{BoxState}
-use Rattle.mc_box.specs.LinkFree.{is_end, is_linking}
+use Rattle.mc_box.specs.LinkFree.{is_linking}
 use Rattle.mc_box.specs.LinkFree as of_box
 use Rattle.mc_box.specs.declared.event.Event.{Event}
 use Rattle.mc_box.specs.declared.event.Event.TheVariants.{Take, Set, Media, Tell, Retry, Shift}
