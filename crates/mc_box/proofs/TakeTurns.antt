@@ -45,6 +45,7 @@ pub record EndTurned (box : BoxState) (local : ℕ) (signals : List Signal) (slo
   pub others : (k : ℕ) → k ≢ local → Idle box turn k
   pub goals : turn.after.goals ≡ box.goals
 
+-- the slot of an end after what it sends stands in the box
 end_put : (box : BoxState) (local : ℕ) (signals : List Signal) (last : Slot) → local < length box.slots → sent_all (slot_at box local) signals ≡ Some last
     → EndTurned box local signals (slot_at box local) (record { sent = map (pair_of local) signals; after = with_slot box local last })
 end_put box local signals last inside goes = record {
@@ -54,6 +55,7 @@ end_put box local signals last inside goes = record {
   goals = refl;
 }
 
+-- so what an end's turn comes to is what its slot sends and becomes
 pub end_turned : (box : BoxState) (local : ℕ) (goal : Goal) (pushed : Bool) (turn : BoxStep) → local < length box.slots → end_turn goal box local pushed ≡ Some turn
     → EndTurned box local (due goal (slot_at box local) pushed (own box local) (sender box local)) (slot_at box local) turn
 end_turned box local goal pushed turn inside goes =
@@ -70,6 +72,7 @@ pub record LinkTurned (box : BoxState) (local partner : ℕ) (a b : Slot) (close
   pub others : (k : ℕ) → k ≢ local → k ≢ partner → Idle box turn k
   pub goals : turn.after.goals ≡ box.goals
 
+-- both slots of a link after what they send stand in the box
 pair_put : (box : BoxState) (low high : ℕ) (a b first second : Slot) (closed : Option Side) → low < high → high < length box.slots
     → sent_all a (sent_by_first (link_due a b closed)) ≡ Some first → sent_all b (sent_by_second (link_due a b closed)) ≡ Some second
     → LinkTurned box low high a b closed (record { sent = map (numbered low high) (link_due a b closed); after = with_slot (with_slot box low first) high second })
@@ -84,6 +87,7 @@ pair_put box low high a b first second closed order inside one two =
       goals = refl;
     }
 
+-- so what a link's turn comes to is what its two slots send and become
 pair_turned : (box : BoxState) (low high : ℕ) (closed : Option Side) (turn : BoxStep) → low < high → high < length box.slots → pair_turn box low high closed ≡ Some turn
     → LinkTurned box low high (slot_at box low) (slot_at box high) closed turn
 pair_turned box low high closed turn order inside goes =
@@ -105,6 +109,7 @@ turned_back box local partner a b closed turn turned =
       goals = turned.goals;
     }
 
+-- seen from the slot that takes, whether it is the lower one or the higher
 pub link_turned : (box : BoxState) (local partner : ℕ) (signal : Signal) (state : State) (turn : BoxStep) → partner ≢ local → local < length box.slots → partner < length box.slots
     → link_turn box local partner (closes_by signal state) ≡ Some turn → LinkTurned box local partner (slot_at box local) (slot_at box partner) (side_closed (closes_by signal state) First) turn
 link_turned box local partner signal state turn other here there goes = elim (cases_lt local partner) [
@@ -180,6 +185,7 @@ idle_still box local k middle answer turn apart idle = record {
   stays = idle.stays ∙ get_or-set_other box.slots local k middle no_slot apart;
 }
 
+-- with the answer of a Take before it: at an end
 end_answers : (box : BoxState) (local : ℕ) (goal : Goal) (signal : Signal) (answer : Option Signal) (middle : Slot) (turn : BoxStep)
     → taken (slot_at box local) signal ≡ Some record { answer = answer; after = middle }
     → EndTurned (with_slot box local middle) local (due goal middle (pushed_by signal middle.state) (own box local) (sender box local)) middle turn
@@ -194,6 +200,7 @@ end_answers box local goal signal answer middle turn takes turned = record {
   goals = turned.goals;
 }
 
+-- and at a link
 link_answers : (box : BoxState) (local partner : ℕ) (signal : Signal) (answer : Option Signal) (middle : Slot) (turn : BoxStep) → partner ≢ local
     → taken (slot_at box local) signal ≡ Some record { answer = answer; after = middle }
     → LinkTurned (with_slot box local middle) local partner middle (slot_at box partner) (side_closed (closes_by signal middle.state) First) turn
@@ -210,6 +217,7 @@ link_answers box local partner signal answer middle turn other takes turned = re
   goals = turned.goals;
 }
 
+-- so a Take comes to what the goal of its slot says
 took_by : (goal : SlotGoal) (box : BoxState) (local : ℕ) (signal : Signal) (answer : Option Signal) (middle : Slot) (turn : BoxStep) → IsWired box → local < length box.slots
     → goal_at box local ≡ goal → taken (slot_at box local) signal ≡ Some record { answer = answer; after = middle }
     → turn_by goal (with_slot box local middle) local (pushed_by signal middle.state) (closes_by signal middle.state) ≡ Some turn → TookBy goal box local signal (answering local answer turn)
@@ -234,6 +242,7 @@ took_by (Link partner) box local signal answer middle turn wired inside is takes
     (subst (λ (n : ℕ). local < n) (sym (length-set box.slots local middle)) inside)
     (subst (λ (n : ℕ). partner < n) (sym (length-set box.slots local middle)) link.inside) goes)))
 
+-- a Take of a box that is as it should be
 step_took : (box : BoxState) (local : ℕ) (signal : Signal) (step : BoxStep) → IsWired box → local < length box.slots → take_step box local signal ≡ Some step
     → TookBy (goal_at box local) box local signal step
 step_took box local signal step wired inside goes =
@@ -255,6 +264,7 @@ goals_by : (goal : SlotGoal) (box : BoxState) (local : ℕ) (signal : Signal) (s
 goals_by (End goal) box local signal step took = took.goals
 goals_by (Link partner) box local signal step took = took.goals
 
+-- a Take leaves all goals as they were
 pub take_goals : (box : BoxState) (local : ℕ) (signal : Signal) (step : BoxStep) → IsSoundBox box → box_event box (Take local) (Some signal) ≡ Some step → step.after.goals ≡ box.goals
 take_goals box local signal step sound goes = goals_by (goal_at box local) box local signal step (take_turned box local signal step sound goes)
 
@@ -268,6 +278,7 @@ pub record Retried (box : BoxState) (local : ℕ) (step : BoxStep) : Type 0 wher
   pub owed : owes goal (slot_at box local) ≡ true
   pub turned : EndTurned box local (due goal (slot_at box local) true (own box local) (sender box local)) (slot_at box local) step
 
+-- and so does a Retry, which an end alone owes
 retried_by : (goal : SlotGoal) (box : BoxState) (local : ℕ) (step : BoxStep) → local < length box.slots → goal_at box local ≡ goal → goal_owes goal (slot_at box local) ≡ true
     → turn_by goal box local true false ≡ Some step → Retried box local step
 retried_by (End goal) box local step inside aims owed goes = record { goal = goal; inside = inside; aims = aims; owed = owed; turned = end_turned box local goal true step inside goes }

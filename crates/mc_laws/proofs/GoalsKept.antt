@@ -23,6 +23,7 @@ pub record Stay (world last : WorldState) : Type 0 where
   pub channels : last.channels ≡ world.channels
   pub sound : IsSound last
 
+-- a Take or a Retry leaves the goals
 event_stays : (event : Event) (world next : WorldState) (who : ℕ) → IsSound world → takes_or_retries event ≡ true → step world (record { who = who; event = event }) ≡ Some next → Stay world next
 event_stays (Take local) world next who sound is goes =
     let took = take_happened world next who local sound goes in
@@ -35,6 +36,7 @@ event_stays (Media change) world next who sound is goes = absurd (cc)
 event_stays (Tell word) world next who sound is goes = absurd (cc)
 event_stays Shift world next who sound is goes = absurd (cc)
 
+-- and so does a run of these
 pub run_stays : (turns : List Turn) (world last : WorldState) → IsSound world → list_all (λ turn. takes_or_retries turn.event) turns ≡ true → run world turns ≡ Some last → Stay world last
 run_stays [] world last sound all goes =
     let same : world ≡ last = cc in subst (λ (w : WorldState). Stay world w) same (record { goals = λ who local. refl; channels = refl; sound = sound })
@@ -51,5 +53,6 @@ ring_stays world last stay =
     let is : last ≡ with_boxes world last.boxes last.lanes = ap (λ (c : List ChannelState). record last { channels = c }) stay.channels in
     ap has_ring is ∙ ring_same world last.boxes last.lanes (subst (λ (w : WorldState). GoalsStay w world) is stay.goals)
 
+-- so rings stay
 pub rest_keeps_rings : RestKeepsRings
 rest_keeps_rings world next turns sound all goes = ring_stays world next (run_stays turns world next sound all goes)

@@ -48,6 +48,7 @@ use Rattle.mc_laws.proofs.TakeParts.{first_goes, idle_sends, idle_stays, others_
 pair_low : (k : ℕ) → far (2 * k) ≡ suc (2 * k)
 pair_low k = grind (arith, common_steps)
 
+-- and back
 pair_high : (k : ℕ) → far (suc (2 * k)) ≡ 2 * k
 pair_high k = grind (arith, common_steps)
 
@@ -65,9 +66,11 @@ abbrev by_sent : ℕ → (ℕ → ℕ) → WorldState → (ℕ → List Signal) 
 by_sent n tunnels next left sent t =
     tunnels (far t) * weights n (left t) + tunnels t * weights n (sent t) + n * (n * n) * (tunnels t * stored_of (goal_of next t) next t)
 
+-- a product with a sum, beside something else
 spread : (f w a b rest : ℕ) → w ≡ a + b → f * w + rest ≡ f * a + rest + f * b
 spread f w a b rest is = subst (λ (v : ℕ). f * v + rest ≡ f * a + rest + f * b) (sym is) (omega arith)
 
+-- three numbers in another order
 turned_sum : (a b c : ℕ) → a + c + b ≡ a + b + c
 turned_sum a b c = omega arith
 
@@ -90,6 +93,7 @@ sums_by world next n tunnels left sent lists =
 
 -- ---- slots that do nothing
 
+-- the part of an idle slot stays
 idle_sum : (f r c w now more stored before : ℕ) → now ≡ w → more ≡ 0 → stored ≡ before → f * now + r * more + c * (r * stored) ≡ f * w + c * (r * before)
 idle_sum f r c w now more stored before one two three = rw (one, two, three) (omega arith)
 
@@ -115,6 +119,7 @@ idle_at world boxes lanes n tunnels left sent t stay same none slot partners =
 
 -- ---- an end takes
 
+-- where the part of one slot alone changes, the sum falls by what that part falls
 one_lowers : (new old here_new here_old f w rest more c y before after : ℕ) → new + here_old ≡ old + here_new → here_old ≡ f * (w + rest) + c * (y * before)
     → here_new ≡ f * rest + y * more + c * (y * after) → f ≡ 1 → 1 + y * more + y * c * after ≤ w + y * c * before → new < old
 one_lowers new old here_new here_old f w rest more c y before after change old_is new_is one pays =
@@ -136,12 +141,15 @@ has next n tunnels left sent t signals goal sends aims =
     ap (λ (l : List Signal). tunnels (far t) * weights n (left t) + tunnels t * weights n l + n * (n * n) * (tunnels t * stored_of (goal_of next t) next t)) sends
     ∙ ap (λ (g : SlotGoal). tunnels (far t) * weights n (left t) + tunnels t * weights n signals + n * (n * n) * (tunnels t * stored_of g next t)) aims
 
+-- the goal of an end is no link
 end_no_link : (goal : Goal) (partner : ℕ) (g : SlotGoal) → g ≡ End goal → g ≡ Link partner → ⊥
 end_no_link goal partner g one two = let clash : End goal ≡ Link partner = sym one ∙ two in cc
 
+-- a link has one partner
 link_same : (g : SlotGoal) (a b : ℕ) → g ≡ Link a → g ≡ Link b → a ≡ b
 link_same g a b one two = let same : Link a ≡ Link b = sym one ∙ two in cc
 
+-- a Take at an end lowers the sum, since an end pays
 end_lowers : (world : WorldState) (boxes : List BoxState) (lanes : List (List Tagged)) (s n : ℕ) (tunnels : ℕ → ℕ) (goal : Goal) (took : TakeHappened world (with_boxes world boxes lanes) s)
     → IsSound world → Reaches world n tunnels → goal_of world s ≡ End goal
     → EndTook (box_at world (place world s).0) (place world s).1 goal took.signal took.happened.step
@@ -183,6 +191,7 @@ end_lowers world boxes lanes s n tunnels goal took sound far_from aims did =
 
 -- ---- a linked slot takes
 
+-- where the parts of two slots change, the sum falls by what both fall together
 two_lowers : (new old s_new s_old p_new p_old f g w rest list more partners c x y a_before a_after b_before b_after : ℕ) → new + (s_old + p_old) ≡ old + (s_new + p_new)
     → s_old ≡ f * (w + rest) + c * (y * a_before) → p_old ≡ g * list + c * (x * b_before)
     → s_new ≡ f * rest + y * more + c * (y * a_after) → p_new ≡ g * list + x * partners + c * (x * b_after) → f ≡ x + 1
@@ -192,6 +201,7 @@ two_lowers new old s_new s_old p_new p_old f g w rest list more partners c x y a
     let s_two : s_new ≡ (x + 1) * rest + y * more + c * (y * a_after) = subst (λ (k : ℕ). s_new ≡ k * rest + y * more + c * (y * a_after)) one s_is in
     omega (arith, change, s_one, s_two, p_was, p_is, pays)
 
+-- a Take at a link lowers the sum, since a link pays
 link_lowers : (world : WorldState) (boxes : List BoxState) (lanes : List (List Tagged)) (s p n : ℕ) (tunnels : ℕ → ℕ) (partner : ℕ) (took : TakeHappened world (with_boxes world boxes lanes) s)
     → IsSound world → Reaches world n tunnels → goal_of world s ≡ Link partner → IsPartner world s partner p → tunnels (far s) ≡ tunnels p + 1
     → LinkTook (box_at world (place world s).0) (place world s).1 partner took.signal took.happened.step
@@ -266,6 +276,7 @@ link_lowers world boxes lanes s p n tunnels partner took sound far_from aims pai
 
 -- ---- a Take
 
+-- whatever the goal of the slot is
 goal_lowers : (goal : SlotGoal) (world : WorldState) (boxes : List BoxState) (lanes : List (List Tagged)) (s n : ℕ) (tunnels : ℕ → ℕ) (took : TakeHappened world (with_boxes world boxes lanes) s)
     → IsSound world → Reaches world n tunnels → goal_of world s ≡ goal
     → TookBy goal (box_at world (place world s).0) (place world s).1 took.signal took.happened.step
@@ -292,6 +303,7 @@ record Lowered (world next : WorldState) : Type 0 where
   lower : measure next < measure world
   free : IsRingFree next
 
+-- so does a Take that leaves the channels
 boxes_lowered : (world : WorldState) (boxes : List BoxState) (lanes : List (List Tagged)) (s : ℕ) → IsRingFree world → IsSound (with_boxes world boxes lanes) → TakeHappened world (with_boxes world boxes lanes) s
     → Lowered world (with_boxes world boxes lanes)
 boxes_lowered world boxes lanes s free sound took =
@@ -302,12 +314,14 @@ boxes_lowered world boxes lanes s free sound took =
       free = record { sound = sound; free = ring_same world boxes lanes stay ∙ free.free };
     }
 
+-- and so each Take as its slots do it
 lowered_by : (world next : WorldState) (s : ℕ) → IsRingFree world → IsSound next → TakeHappened world next s → Lowered world next
 lowered_by world next s free sound took =
     let is : next ≡ with_boxes world next.boxes next.lanes = after_is world next (place world s).0 took.happened.stepped in
     subst (λ (w : WorldState). Lowered world w) (sym is)
     (boxes_lowered world next.boxes next.lanes s free (subst (λ (w : WorldState). IsSound w) is sound) (subst (λ (w : WorldState). TakeHappened world w s) is took))
 
+-- each Take of a sound world without a ring
 lowered : (world next : WorldState) (who local : ℕ) → IsRingFree world → step world (record { who = who; event = Take local }) ≡ Some next → Lowered world next
 lowered world next who local free goes =
     let took = take_happened world next who local free.sound goes in
@@ -371,6 +385,7 @@ product_most a b x y one two =
     let second : y * a ≤ y * x = mul-le-mul_left y one in
     omega (arith, first, second)
 
+-- the part of a slot is small
 part_sum : (n c f w count r stored : ℕ) → f * w ≤ n * (c * count) → r * stored ≤ n * 1 → c * (r * stored) ≤ c * (n * 1) → f * w + c * (r * stored) ≤ n * c * count + n * c
 part_sum n c f w count r stored one two three = omega (arith, one, three)
 
@@ -380,6 +395,7 @@ part_most n c f w count r stored far near light few =
     let stored_few : r * stored ≤ n * 1 = product_most r stored n 1 near few in
     part_sum n c f w count r stored (product_most f w n (c * count) far light) stored_few (mul-le-mul_left c stored_few)
 
+-- and so is the sum
 bound_sum : (n sum lists lanes slots : ℕ) → sum ≤ n * (lists + slots) → lists ≤ lanes → sum ≤ n * (lanes + slots)
 bound_sum n sum lists lanes slots most fewer =
     let more : n * (lists + slots) ≤ n * (lanes + slots) = mul-le-mul_left n (omega (arith, fewer)) in omega (arith, most, more)
@@ -400,6 +416,7 @@ fourth_power n =
     let one : n ^ 1 ≡ n = pow-succ' n 0 ∙ (ap (λ (k : ℕ). n * k) (pow-zero n) ∙ mul-one n) in
     pow-succ' n 3 ∙ ap (λ (k : ℕ). n * k) (pow-succ' n 2 ∙ ap (λ (k : ℕ). n * k) (pow-succ' n 1 ∙ ap (λ (k : ℕ). n * k) one))
 
+-- twice as much on both sides
 twice : (few most : ℕ) → few ≤ most → 2 * few ≤ 2 * most
 twice few most less = omega arith
 

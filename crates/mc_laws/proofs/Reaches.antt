@@ -25,6 +25,7 @@ none_any true entries s p below is none =
     let some : list_any (λ entry. p entry.0) (enumerate_from 0 entries) ≡ true = any_passes entries 0 s p (omega arith) (omega (arith, below)) is in
     absurd (cc)
 
+-- an option that isn't none has a value
 is_some : (o : Option ℕ) → is_none o ≡ false → (t : ℕ) × (o ≡ Some t)
 is_some None is = absurd (cc)
 is_some (Some t) is = (t, refl)
@@ -41,10 +42,12 @@ by_most : (further : ℕ → ℕ) (world : WorldState) (o : Option ℕ) (most : 
 by_most further world None most each = omega arith
 by_most further world (Some t) most each = each t
 
+-- behind a far slot the walk goes over at most as many tunnels as it may
 crossed_by_most : (further : ℕ → ℕ) (world : WorldState) (goal : SlotGoal) (s most : ℕ) → ((t : ℕ) → further t ≤ most) → crossed_by further world goal s ≤ most
 crossed_by_most further world (End goal) s most each = omega arith
 crossed_by_most further world (Link partner) s most each = by_most further world (number world (place world s).0 partner) most each
 
+-- and so does the whole walk
 pub crossed_most : (most : ℕ) (world : WorldState) (s : ℕ) → crossed world most s ≤ most
 crossed_most zero world s = omega arith
 crossed_most (suc most) world s = omega (arith, crossed_by_most (crossed world most) world (goal_of world (far s)) (far s) most (λ t. crossed_most most world t))
@@ -58,6 +61,7 @@ crossed_some (suc most) world s some = omega arith
 over_link : (further : ℕ → ℕ) (world : WorldState) (partner s t : ℕ) → number world (place world s).0 partner ≡ Some t → crossed_by further world (Link partner) s ≡ further t
 over_link further world partner s t is = ap (λ (o : Option ℕ). unwrap_or (option_map further o) 0) is
 
+-- none is no value
 none_or_some : (t : ℕ) → None ≡ Some t → ⊥
 none_or_some t is = cc
 
@@ -70,6 +74,7 @@ stays_by (Link partner) world most s t walk more =
     let on = then_some (walked world most) (number world (place world s).0 partner) t walk in
     over_link (crossed world (suc most)) world partner s on.0 on.1 ∙ (more on.0 on.2 ∙ sym (over_link (crossed world most) world partner s on.0 on.1))
 
+-- a walk that meets an end counts the same with one tunnel more to go
 crossed_stays : (most : ℕ) (world : WorldState) (s t : ℕ) → walked world most s ≡ Some t → crossed world (suc most) s ≡ crossed world most s
 crossed_stays zero world s t walk = absurd (none_or_some t walk)
 crossed_stays (suc most) world s t walk =
@@ -89,6 +94,7 @@ from_far world s free inside =
     sym (crossed_stays (length (joints world)) world (far s) walk.0 walk.1)
     ∙ ap (λ (t : ℕ). 1 + crossed_by (reach world) world (goal_of world t) t) (far_back s)
 
+-- so in a world without a ring its counts are as the sums ask for them
 pub reaches : (world : WorldState) → has_ring world ≡ false → Reaches world (base world) (reach world)
 reaches world free = record {
   some = λ s inside. crossed_some (length (joints world)) world s (omega (arith, inside, two_each world.channels 0));
@@ -106,9 +112,11 @@ reaches world free = record {
 abbrev pub with_boxes : WorldState → List BoxState → List (List Tagged) → WorldState
 with_boxes world boxes lanes = record world { boxes = boxes; lanes = lanes }
 
+-- the goals of all slots stay
 abbrev pub GoalsStay : WorldState → WorldState → Type 0
 GoalsStay new old = (who local : ℕ) → goal_at (box_at new who) local ≡ goal_at (box_at old who) local
 
+-- walks count the same then: from a far slot on
 crossed_by_same : (goal : SlotGoal) (f g : ℕ → ℕ) (world : WorldState) (boxes : List BoxState) (lanes : List (List Tagged)) (s : ℕ) → ((t : ℕ) → f t ≡ g t)
     → crossed_by f (with_boxes world boxes lanes) goal s ≡ crossed_by g world goal s
 crossed_by_same (End goal) f g world boxes lanes s same = refl
@@ -118,6 +126,7 @@ crossed_by_same (Link partner) f g world boxes lanes s same = option_same (numbe
     option_same None f g same = refl
     option_same (Some t) f g same = same t
 
+-- and from a slot
 crossed_same : (most : ℕ) (world : WorldState) (boxes : List BoxState) (lanes : List (List Tagged)) (s : ℕ) → GoalsStay (with_boxes world boxes lanes) world
     → crossed (with_boxes world boxes lanes) most s ≡ crossed world most s
 crossed_same zero world boxes lanes s stay = refl
@@ -129,6 +138,7 @@ crossed_same (suc most) world boxes lanes s stay =
 pub reach_same : (world : WorldState) (boxes : List BoxState) (lanes : List (List Tagged)) (s : ℕ) → GoalsStay (with_boxes world boxes lanes) world → reach (with_boxes world boxes lanes) s ≡ reach world s
 reach_same world boxes lanes s stay = crossed_same (length (joints world)) world boxes lanes s stay
 
+-- walks come to the same ends
 walk_by_same : (goal : SlotGoal) (f g : ℕ → Option ℕ) (world : WorldState) (boxes : List BoxState) (lanes : List (List Tagged)) (s : ℕ) → ((t : ℕ) → f t ≡ g t)
     → walk_by f (with_boxes world boxes lanes) goal s ≡ walk_by g world goal s
 walk_by_same (End goal) f g world boxes lanes s same = refl
@@ -146,6 +156,7 @@ walked_same (suc most) world boxes lanes s stay =
     ap (λ (g : SlotGoal). walk_by (walked (with_boxes world boxes lanes) most) (with_boxes world boxes lanes) g (far s)) (stay (place world (far s)).0 (place world (far s)).1)
     ∙ walk_by_same (goal_of world (far s)) (walked (with_boxes world boxes lanes) most) (walked world most) world boxes lanes (far s) (λ t. walked_same most world boxes lanes t stay)
 
+-- some entry passes the same test
 any_same : (entries : List (ℕ × ℕ)) (p q : ℕ → Bool) (first : ℕ) → ((s : ℕ) → p s ≡ q s)
     → list_any (λ entry. p entry.0) (enumerate_from first entries) ≡ list_any (λ entry. q entry.0) (enumerate_from first entries)
 any_same [] p q first same = refl

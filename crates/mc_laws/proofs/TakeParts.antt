@@ -20,6 +20,7 @@ use Rattle.mc_laws.proofs.StepActs.{Happened, TakeHappened, left_else, left_here
 
 -- ---- lists
 
+-- the lane to a slot is there
 lane_there : (world : WorldState) (s : ℕ) → IsSound world → s < slot_count world → lane_of world s < length world.lanes
 lane_there world s sound inside = subst (λ (n : ℕ). lane_of world s < n) (sym sound.numbered.lanes) (lane_in world s inside)
 
@@ -36,6 +37,7 @@ others_left world next s t took sound inside apart =
 
 -- ---- goals
 
+-- boxes with the same goals have the same goal for each slot
 same_goals : (new old : BoxState) (local : ℕ) → new.goals ≡ old.goals → goal_at new local ≡ goal_at old local
 same_goals new old local is = ap (λ (l : List SlotGoal). goal_at (record old { goals = l }) local) is
 
@@ -70,6 +72,7 @@ part_idle world next who t event signal lanes happened idle = elim (cases_eq (pl
   | inr away ↦ happened.parts t ∙ part_other who (place world t) happened.step.sent away
 ]
 
+-- a slot of another box stays as it was
 pub part_stays : (world next : WorldState) (who other local : ℕ) (event : Event) (signal : Option Signal) (lanes : List (List Tagged)) (happened : Happened world next who event signal lanes)
     → (other ≡ who → Idle (box_at world who) happened.step local) → slot_at (box_at next other) local ≡ slot_at (box_at world other) local
 part_stays world next who other local event signal lanes happened idle = elim (cases_eq other who) [
@@ -83,10 +86,12 @@ part_stays world next who other local event signal lanes happened idle = elim (c
 pub sent_here : (world next : WorldState) (s t : ℕ) (took : TakeHappened world next s) → (place world t).0 ≡ (place world s).0 → took.happened.stepped.sent t ≡ sent_by (place world t).1 took.happened.step.sent
 sent_here world next s t took is = part_sent world next (place world s).0 t (Take (place world s).1) (Some took.signal) (without world s) took.happened is
 
+-- a slot that is idle sends nothing
 pub idle_sends : (world next : WorldState) (s t : ℕ) (took : TakeHappened world next s)
     → ((place world t).0 ≡ (place world s).0 → Idle (box_at world (place world s).0) took.happened.step (place world t).1) → took.happened.stepped.sent t ≡ []
 idle_sends world next s t took idle = part_idle world next (place world s).0 t (Take (place world s).1) (Some took.signal) (without world s) took.happened idle
 
+-- and stays as it was
 pub idle_stays : (world next : WorldState) (s who local : ℕ) (took : TakeHappened world next s)
     → (who ≡ (place world s).0 → Idle (box_at world (place world s).0) took.happened.step local) → slot_at (box_at next who) local ≡ slot_at (box_at world who) local
 idle_stays world next s who local took idle = part_stays world next (place world s).0 who local (Take (place world s).1) (Some took.signal) (without world s) took.happened idle
@@ -99,6 +104,7 @@ pub record RetryHappened (world next : WorldState) (s : ℕ) : Type 0 where
   pub happened : Happened world next (place world s).0 (Retry (place world s).1) None world.lanes
   pub did : Retried (box_at world (place world s).0) (place world s).1 happened.step
 
+-- a Retry is what its slot does
 pub retry_is : (world next : WorldState) (who local : ℕ) → IsSound world → step world (record { who = who; event = Retry local }) ≡ Some next
     → (s : ℕ) × (place world s ≡ (who, local)) × RetryHappened world next s
 retry_is world next who local sound goes =

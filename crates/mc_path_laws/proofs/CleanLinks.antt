@@ -15,9 +15,11 @@ use Rattle.mc_slot.specs.EndTurn.{closes_by}
 
 -- ---- what a link sends by its states
 
+-- what a link passes on is no close and no closeack: descriptors
 passes_none : (a b : Slot) → endings (passing a b) ≡ 0
 passes_none a b = grind (arith)
 
+-- nor selectors
 chooses_none : (a b : Slot) → endings (choosing a b) ≡ 0
 chooses_none a b = grind (arith)
 
@@ -25,6 +27,7 @@ chooses_none a b = grind (arith)
 calm_none : (a b : Slot) → is_live a.state && is_live b.state ≡ false → endings (sent_by_first (leaning a b)) ≡ 0
 calm_none a b calm = grind (arith)
 
+-- nor an open
 first_by : (live : Bool) (a b : Slot) → is_live a.state && is_live b.state ≡ live → endings (sent_by_first (leaning a b)) ≡ 0
 first_by false a b is = calm_none a b is
 first_by true a b is =

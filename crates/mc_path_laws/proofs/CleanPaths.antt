@@ -39,6 +39,7 @@ beyond_all P most (Link partner) world s sound aims between more =
     subst (λ (o : Option ℕ). All P (unwrap_or (option_map (passed world most) o) [])) (sym link.1)
     (more link.0 (partner_between world s link.0 sound (by_goal world s (Link partner) aims ∙ link.1) between))
 
+-- what holds of each slot between two ends holds of all that a walk goes over
 walk_all : (P : ℕ → Type 0) (most : ℕ) (world : WorldState) (s : ℕ) → IsSound world → ((t : ℕ) → IsBetween world t → P t) → IsBetween world s → All P (passed world most s)
 walk_all P zero world s sound each between = All-nil P
 walk_all P (suc most) world s sound each between =
@@ -54,6 +55,7 @@ path_clean world s path sound clean inside is stays far_stays =
     subst (λ (n : ℕ). All (IsClean world) (passed world (length (joints world)) n)) (sym parts.low_is)
     (walk_all (IsClean world) (length (joints world)) world s sound (λ t there. clean_slot world t sound clean there) between)
 
+-- so each path neither of whose ends closes is clean
 pub clean_paths : CleanPaths
 clean_paths world next turns sound quiet all goes =
     each_from (IsCleanPath next) (path_from next) (places next) 0 (slot_count next) (omega arith)

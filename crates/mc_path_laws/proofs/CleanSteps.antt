@@ -63,6 +63,7 @@ signal_none world next s took sound none = (front_none took.signal (took.happene
 taker_now : (world next : WorldState) (s : ℕ) (took : TakeHappened world next s) → slot_at (box_at next (place world s).0) (place world s).1 ≡ slot_at took.happened.step.after (place world s).1
 taker_now world next s took = ap (λ (b : BoxState). slot_at b (place world s).1) took.happened.after
 
+-- a Take at an end is calm
 end_calm : (world next : WorldState) (who local s : ℕ) (goal : Goal) (took : TakeHappened world next s) → IsSound world → goal_of world s ≡ End goal
     → EndTook (box_at world (place world s).0) (place world s).1 goal took.signal took.happened.step → Calm world next (record { who = who; event = Take local })
 end_calm world next who local s goal took sound aims did =
@@ -95,6 +96,7 @@ end_calm world next who local s goal took sound aims did =
       opens = λ t inside is. absurd (cc);
     }
 
+-- and at a link
 link_calm : (world next : WorldState) (who local s p partner : ℕ) (took : TakeHappened world next s) → IsSound world → goal_of world s ≡ Link partner → IsPartner world s partner p
     → LinkTook (box_at world (place world s).0) (place world s).1 partner took.signal took.happened.step → Calm world next (record { who = who; event = Take local })
 link_calm world next who local s p partner took sound aims pair did =
@@ -150,6 +152,7 @@ link_calm world next who local s p partner took sound aims pair did =
       opens = λ t inside is. absurd (cc);
     }
 
+-- whatever the goal is
 goal_calm : (goal : SlotGoal) (world next : WorldState) (who local s : ℕ) (took : TakeHappened world next s) → IsSound world → goal_of world s ≡ goal
     → TookBy goal (box_at world (place world s).0) (place world s).1 took.signal took.happened.step → Calm world next (record { who = who; event = Take local })
 goal_calm (End goal) world next who local s took sound aims did = end_calm world next who local s goal took sound aims did
@@ -168,6 +171,7 @@ retry_at who local at other there is =
     same_numbers : (who local other slot : ℕ) → is_retry_of other slot (record { who = who; event = Retry local }) ≡ true → (other ≡ who) × (slot ≡ local)
     same_numbers who local other slot is = (grind (arith, common_steps), grind (arith, common_steps))
 
+-- so is a Retry
 retried_calm : (world next : WorldState) (who local s : ℕ) (retried : RetryHappened world next s) → IsSound world → place world s ≡ (who, local) → Calm world next (record { who = who; event = Retry local })
 retried_calm world next who local s retried sound at =
     let did = retried.did in
@@ -206,6 +210,7 @@ retried_calm world next who local s retried sound at =
 
 -- ---- a Take or a Retry
 
+-- so is each event of the two kinds
 event_calm : (event : Event) (world next : WorldState) (who : ℕ) → IsSound world → takes_or_retries event ≡ true → step world (record { who = who; event = event }) ≡ Some next → Calm world next (record { who = who; event = event })
 event_calm (Take local) world next who sound is goes =
     let took = take_happened world next who local sound goes in
@@ -218,5 +223,6 @@ event_calm (Media change) world next who sound is goes = absurd (cc)
 event_calm (Tell word) world next who sound is goes = absurd (cc)
 event_calm Shift world next who sound is goes = absurd (cc)
 
+-- and each such turn
 pub step_calm : (world next : WorldState) (turn : Turn) → IsSound world → takes_or_retries turn.event ≡ true → step world turn ≡ Some next → Calm world next turn
 step_calm world next turn sound is goes = event_calm turn.event world next turn.who sound is goes

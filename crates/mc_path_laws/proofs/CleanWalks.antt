@@ -56,6 +56,7 @@ over_link : (world : WorldState) (most s t : ℕ) → partner_of world s ≡ Som
 over_link world most s t is =
     ap (λ (n : ℕ). walk_by (walked world most) world (goal_of world n) n) (far_back s) ∙ meets_none world most s t is
 
+-- none is no value
 none_or_some : (t : ℕ) → None ≡ Some t → ⊥
 none_or_some t is = cc
 
@@ -102,6 +103,7 @@ end_between world s t inside aims walk stays far_stays = record {
 
 -- ---- where the goals stay
 
+-- a walk that comes to an end after a turn came to it before, where goals stay
 toward_before : (world : WorldState) (boxes : List BoxState) (lanes : List (List Tagged)) (s : ℕ) → GoalsStay (with_boxes world boxes lanes) world → Toward (with_boxes world boxes lanes) s → Toward world s
 toward_before world boxes lanes s stay toward = record {
   most = toward.most;
@@ -110,6 +112,7 @@ toward_before world boxes lanes s stay toward = record {
   stays = λ closes. toward.stays (ap end_goal_of (stay (place world toward.end).0 (place world toward.end).1) ∙ closes);
 }
 
+-- so what stands between two ends stood between them before
 between_boxes : (world : WorldState) (boxes : List BoxState) (lanes : List (List Tagged)) (s : ℕ) → GoalsStay (with_boxes world boxes lanes) world → IsBetween (with_boxes world boxes lanes) s → IsBetween world s
 between_boxes world boxes lanes s stay between = record {
   inside = between.inside;
@@ -136,9 +139,11 @@ slot_now world next s channels = ap (λ (p : ℕ × ℕ). slot_at (box_at next p
 abbrev pub AllClean : WorldState → Type 0
 AllClean world = (s : ℕ) → IsBetween world s → endings (list_to world s) ≡ 0
 
+-- two sums that are 0 are 0 together
 both_none : (a b : ℕ) → a ≡ 0 → b ≡ 0 → a + b ≡ 0
 both_none a b one two = omega (arith, one, two)
 
+-- a calm turn leaves clean slots clean
 step_clean : (world next : WorldState) (turn : Turn) → IsSound world → Calm world next turn → AllClean world → AllClean next
 step_clean world next turn sound calm clean s between =
     let here = between_before world next s calm.stepped.channels calm.goals between in
@@ -187,6 +192,7 @@ counted : (test : Turn → Bool) (turn : Turn) (turns : List Turn) → 1 ≤ cou
 counted test turn turns some =
     counted_by (test turn) (count_by test turns) (subst (λ (n : ℕ). 1 ≤ n) (sum_by-cons (λ (turn : Turn). if test turn then 1 else 0) turn turns) some)
 
+-- slots have the same places
 place_same : (world next : WorldState) (s : ℕ) → next.channels ≡ world.channels → place next s ≡ place world s
 place_same world next s channels = ap (λ (c : List ChannelState). place (record world { channels = c }) s) channels
 

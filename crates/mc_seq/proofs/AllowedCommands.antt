@@ -25,6 +25,7 @@ use Rattle.mc_seq.proofs.Retrying.{count_same}
 
 -- ---- in a later world
 
+-- a slot's medium is that of its tunnel
 medium_at : (world : WorldState) (who local s : ℕ) → IsSound world → s < slot_count world → place world s ≡ (who, local) → (slot_at (box_at world who) local).medium ≡ (joint_of world s).medium
 medium_at world who local s sound inside at = sym (ap (λ (p : ℕ × ℕ). (slot_at (box_at world p.0) p.1).medium) at) ∙ sound.numbered.media s inside
 
@@ -60,9 +61,11 @@ allowed_kept start now turn before sound shape is =
     ap (λ (n : ℕ). nat_lt turn.who n && is_enabled_by (box_shape (box_at now turn.who)) turn.event) shape.boxes
     ∙ (ap (λ (s : BoxShapeState). nat_lt turn.who (length start.boxes) && is_enabled_by s turn.event) (shape_kept start now turn.who before sound shape below) ∙ is)
 
+-- two tests that pass pass together
 pub two_there : (a b : Bool) → a ≡ true → b ≡ true → (a && b) ≡ true
 two_there a b one two = rw (one, two) refl
 
+-- what a world allows it allows after each run
 pub all_kept : (left : List Turn) (start now : WorldState) → IsSound start → IsSound now → HasShape now start → AreAllowed start left → AreAllowed now left
 all_kept [] start now before sound shape allowed = refl
 all_kept (turn ∷ left) start now before sound shape allowed =
@@ -71,23 +74,28 @@ all_kept (turn ∷ left) start now before sound shape allowed =
 
 -- ---- of those that are left
 
+-- what is left behind a turn that is taken out passes
 rest_by : (here : Bool) (p : Turn → Bool) (turn : Turn) (rest less : List Turn) → p turn ≡ true → list_all p rest ≡ true → list_all p less ≡ true → list_all p (if here then rest else turn ∷ less) ≡ true
 rest_by true p turn rest less one all fewer = all
 rest_by false p turn rest less one all fewer = two_there (p turn) (list_all p less) one fewer
 
+-- so does what is left without the next command of a box
 pub without_pass : (p : Turn → Bool) (who : ℕ) (left : List Turn) → list_all p left ≡ true → list_all p (without_next who left) ≡ true
 without_pass p who [] all = refl
 without_pass p who (turn ∷ left) all =
     let parts = and_parts (p turn) (list_all p left) all in
     rest_by (turn.who == who) p turn left (without_next who left) parts.0 parts.1 (without_pass p who left parts.1)
 
+-- whether the turn is a command or not
 left_pass_by : (command : Bool) (p : Turn → Bool) (who : ℕ) (left : List Turn) → list_all p left ≡ true → list_all p (if command then without_next who left else left) ≡ true
 left_pass_by true p who left all = without_pass p who left all
 left_pass_by false p who left all = all
 
+-- so does what is left after a turn
 pub left_pass : (p : Turn → Bool) (turn : Turn) (left : List Turn) → list_all p left ≡ true → list_all p (left_by turn left) ≡ true
 left_pass p turn left all = left_pass_by (is_command turn.event) p turn.who left all
 
+-- the turn that is found, or a later one
 next_pass_by : (here : Bool) (p : Turn → Bool) (t x : Turn) (later : Option Turn) → p t ≡ true → (later ≡ Some x → p x ≡ true) → cond here (Some t) later ≡ Some x → p x ≡ true
 next_pass_by true p t x later one rest found = let same : t ≡ x = cc in subst (λ (y : Turn). p y ≡ true) same one
 next_pass_by false p t x later one rest found = rest found

@@ -26,6 +26,7 @@ record SetsEnd (box : BoxState) (event : Event) : Type 0 where
   stays : is_version_end box event ≡ false
   free : is_linking event ≡ false
 
+-- what such a command is
 end_parts : (event : Event) (box : BoxState) → sets_end box event ≡ true → SetsEnd box event
 end_parts (Set (NewEnd local goal)) box sets = record { enabled = sets; other = refl; stays = refl; free = refl }
 end_parts (Set (NewLink first second)) box sets = absurd (cc)
@@ -37,6 +38,7 @@ end_parts Shift box sets = absurd (cc)
 
 -- ---- shapes
 
+-- boxes with as many slots have the same such commands
 sets_end_alike : (event : Event) (new old : BoxState) → length new.slots ≡ length old.slots → sets_end new event ≡ sets_end old event
 sets_end_alike (Set (NewEnd local goal)) new old same = ap (λ (n : ℕ). nat_lt local n) same
 sets_end_alike (Set (NewLink first second)) new old same = refl
@@ -46,6 +48,7 @@ sets_end_alike (Tell word) new old same = refl
 sets_end_alike (Retry local) new old same = refl
 sets_end_alike Shift new old same = refl
 
+-- and so do worlds of one shape
 end_set_alike : (new old : WorldState) (turn : Turn) → HasShape new old → is_end_set new turn ≡ is_end_set old turn
 end_set_alike new old turn shape =
     ap (λ (n : ℕ). nat_lt turn.who n && sets_end (box_at new turn.who) turn.event) shape.boxes
@@ -57,6 +60,7 @@ end_sets_kept new old batch shape all k turn within = end_set_alike new old (sli
 
 -- ---- links
 
+-- the box is there, and the command is one of its
 end_set_parts : (world : WorldState) (turn : Turn) → IsTrue (is_end_set world turn) → (nat_lt turn.who (length world.boxes) ≡ true) × SetsEnd (box_at world turn.who) turn.event
 end_set_parts world turn sets =
     let parts = both_true (nat_lt turn.who (length world.boxes)) (sets_end (box_at world turn.who) turn.event) sets in
@@ -70,11 +74,13 @@ end_sets_link_none world (turn ∷ turns) all =
 
 -- ---- one after another
 
+-- such a command can happen at any time
 end_set_goes : (world : WorldState) (turn : Turn) → IsSound world → IsTrue (is_end_set world turn) → IsSome (step world turn)
 end_set_goes world turn sound sets =
     let parts = end_set_parts world turn sets in
     enabled_goes world turn.who turn.event sound parts.0 parts.1.enabled parts.1.other parts.1.stays
 
+-- and one after another
 end_sets_from : (batch : List Turn) (start now : WorldState) → IsSound now → HasShape now start → All (λ turn. IsTrue (is_end_set start turn)) batch → IsSome (run now batch)
 end_sets_from [] start now sound shape sets = refl
 end_sets_from (turn ∷ batch) start now sound shape sets =

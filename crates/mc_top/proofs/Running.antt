@@ -45,6 +45,7 @@ pub record IsAfterSettle (names : NameLists) (last : WorldState) : Type 0 where
   pub sound : IsLinkFree last
   pub quiet : IsTrue (is_quiet last)
 
+-- after a settle the world has no links still, and its names
 pub after_settle : (names : NameLists) (world last : WorldState) (batch turns : List Turn) → IsLinkFree world → LinkNone batch → NamesAll names world → IsSettled world batch turns last → IsAfterSettle names last
 after_settle names world last batch turns sound none all settled = record {
   named = names_kept names last world (run_keeps_shape world last turns sound.sound settled.runs) all;
@@ -57,6 +58,7 @@ free_by : (o : Option WorldState) (world : WorldState) (batch : List Turn) → I
 free_by None world batch sound none goes = no_ring world sound
 free_by (Some next) world batch sound none goes = no_ring next (run_keeps_link_free world next batch sound none goes)
 
+-- and so the world after it has none
 pub batch_leaves_none : (world : WorldState) (batch : List Turn) → IsLinkFree world → LinkNone batch → has_ring (after world batch) ≡ false
 batch_leaves_none world batch sound none = free_by (run world batch) world batch sound none refl
 
@@ -72,6 +74,7 @@ holds_after (turn ∷ turns) world last rest goes holds =
     replayed_is : (world next : WorldState) (turn : Turn) → step world turn ≡ Some next → replayed world turn ≡ next
     replayed_is world next turn goes = rw goes refl
 
+-- the turns of a settle print nothing before its mark
 printed_after : (turns : List Turn) (names : NameLists) (number : ℕ) (world last : WorldState) (rest : List JournalLine) → run world turns ≡ Some last
     → printed names number world (map Made turns ++ rest) ≡ printed names number last rest
 printed_after [] names number world last rest goes = let same : world ≡ last = cc in ap (λ (w : WorldState). printed names number w rest) same
@@ -198,6 +201,7 @@ goes_to_end names start all i now last past same on =
 pub all_settled : (names : NameLists) (start : WorldState) (all : List (List Turn)) (count : ℕ) (now : ScriptState) → GoesOn names start all [] count now → IsJournal start all now.journal
 all_settled names start all count now on = subst (λ (lines : List JournalLine). IsJournal start all lines) (append-nil now.journal) (on.journal [] refl)
 
+-- when all settles are done all is printed
 pub all_printed : (names : NameLists) (start : WorldState) (all : List (List Turn)) (count : ℕ) (now : ScriptState) → GoesOn names start all [] count now → now.output ≡ printed names 1 start now.journal
 all_printed names start all count now on =
     sym (ap (λ (lines : List JournalLine). printed names 1 start lines) (sym (append-nil now.journal)) ∙ (on.output [] ∙ append-nil now.output))
