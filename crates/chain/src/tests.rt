@@ -278,13 +278,12 @@ fn two_devices(alloc: Global) -> Result<World, ChainFault> {
 }
 
 // The state of the draws after so many.
-fn drawn_from(mut state: u32, count: u32) -> u32 {
+fn drawn_from(state: u32, count: u32) -> u32 {
     let mut draws = Draws { state };
     for _done in 0..count {
         let _ = draws.draw();
     }
-    state = draws.state;
-    state
+    draws.state
 }
 
 #[test]
