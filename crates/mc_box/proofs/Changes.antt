@@ -16,7 +16,7 @@ use Rattle.mc_box.specs.BoxEvents.{is_enabled, may_link}
 use Rattle.mc_box.specs.BoxShapes.{is_feature}
 use Rattle.mc_box.specs.BoxSound.{IsLinked, IsSoundBox, IsWired, RestsAt}
 use Rattle.mc_box.specs.Boxes.{BoxState, is_slot, slot_at, goal_at, media_at, with_goals}
-use Rattle.mc_box.specs.Goals.{changed_from, changed_slots, goal_after, goals_after, goals_from, has_turn, leads, parted}
+use Rattle.mc_box.specs.Goals.{changed_from, changed_slots, goal_after, change_goals, goals_from, has_turn, leads, parted}
 use Rattle.mc_box.specs.declared.event.Change.{Change}
 use Rattle.mc_box.specs.declared.event.Change.TheVariants.{End as NewEnd, Link as NewLink}
 use Rattle.mc_box.specs.declared.event.Event.TheVariants.{Set}
@@ -39,7 +39,7 @@ at_goals_from change (goal ∷ goals) k (suc i) j is inside = at_goals_from chan
 
 -- a slot that is there gets what its goal becomes
 pub at_goals_after : (change : Change) (goals : List SlotGoal) (i : ℕ) → i < length goals
-    → get_or (goals_after goals change) i (End ToClose) ≡ goal_after change i (get_or goals i (End ToClose))
+    → get_or (change_goals goals change) i (End ToClose) ≡ goal_after change i (get_or goals i (End ToClose))
 at_goals_after change goals i inside = at_goals_from change goals 0 i i (omega arith) inside
 
 -- a slot that is still linked was so before, and not with the slot that has another goal
@@ -148,18 +148,18 @@ link_inside goals local partner is = elim (cases_lt local (length goals)) [
 
 -- the goals of a wired box, each with what it becomes
 after_is : (box : BoxState) (change : Change) (local : ℕ) → IsWired box → local < length box.slots
-    → goal_at (with_goals box (goals_after box.goals change)) local ≡ goal_after change local (goal_at box local)
+    → goal_at (with_goals box (change_goals box.goals change)) local ≡ goal_after change local (goal_at box local)
 after_is box change local wired inside = at_goals_after change box.goals local (subst (λ (n : ℕ). local < n) (sym wired.whole.goals) inside)
 
 after_inside : (box : BoxState) (change : Change) (local partner : ℕ) → IsWired box
-    → goal_at (with_goals box (goals_after box.goals change)) local ≡ Link partner → local < length box.slots
+    → goal_at (with_goals box (change_goals box.goals change)) local ≡ Link partner → local < length box.slots
 after_inside box change local partner wired is =
-    let size : length (goals_after box.goals change) ≡ length box.slots = length_goals_from change 0 box.goals ∙ wired.whole.goals in
-    subst (λ (n : ℕ). local < n) size (link_inside (goals_after box.goals change) local partner is)
+    let size : length (change_goals box.goals change) ≡ length box.slots = length_goals_from change 0 box.goals ∙ wired.whole.goals in
+    subst (λ (n : ℕ). local < n) size (link_inside (change_goals box.goals change) local partner is)
 
 -- a link of two other slots stays as it was
 old_link : (box : BoxState) (change : Change) (local partner : ℕ) → IsWired box → goal_at box local ≡ Link partner
-    → goal_after change partner (Link local) ≡ Link local → IsLinked (with_goals box (goals_after box.goals change)) local partner
+    → goal_after change partner (Link local) ≡ Link local → IsLinked (with_goals box (change_goals box.goals change)) local partner
 old_link box change local partner wired was stays =
     let link = wired.links local partner was in
     record {
@@ -171,7 +171,7 @@ old_link box change local partner wired was stays =
     }
 
 new_links : (change : Change) (box : BoxState) (local partner : ℕ) → IsWired box → is_enabled box (Set change) ≡ true → local < length box.slots
-    → goal_after change local (goal_at box local) ≡ Link partner → IsLinked (with_goals box (goals_after box.goals change)) local partner
+    → goal_after change local (goal_at box local) ≡ Link partner → IsLinked (with_goals box (change_goals box.goals change)) local partner
 new_links (NewEnd slot goal) box local partner wired enabled inside is =
     let one = end_link_by (local == slot) slot local partner goal (goal_at box local) refl is in
     old_link box (NewEnd slot goal) local partner wired one.1 (end_stays slot partner local goal one.2 one.0)
@@ -181,7 +181,7 @@ new_links (NewLink first second) box local partner wired enabled inside is =
       | inl new ↦ record {
         inside = subst (λ (n : ℕ). n < length box.slots) (sym new.1) fit.second_in;
         other = λ same. fit.other (sym new.0 ∙ (sym same ∙ new.1));
-        back = ap (goal_at (with_goals box (goals_after box.goals (NewLink first second)))) new.1
+        back = ap (goal_at (with_goals box (change_goals box.goals (NewLink first second)))) new.1
             ∙ (after_is box (NewLink first second) second wired fit.second_in
             ∙ (second_links first second (goal_at box second) (λ same. fit.other (sym same)) ∙ ap Link (sym new.0)));
         feature = fit.feature;
@@ -191,7 +191,7 @@ new_links (NewLink first second) box local partner wired enabled inside is =
         | inl new ↦ record {
           inside = subst (λ (n : ℕ). n < length box.slots) (sym new.2) fit.first_in;
           other = λ same. fit.other (sym new.2 ∙ (same ∙ new.1));
-          back = ap (goal_at (with_goals box (goals_after box.goals (NewLink first second)))) new.2
+          back = ap (goal_at (with_goals box (change_goals box.goals (NewLink first second)))) new.2
               ∙ (after_is box (NewLink first second) first wired fit.first_in ∙ (first_links first second (goal_at box first) ∙ ap Link (sym new.1)));
           feature = fit.feature;
           medium = ap (λ (k : ℕ). (slot_at box k).medium) new.2 ∙ (fit.medium ∙ ap (λ (k : ℕ). (slot_at box k).medium) (sym new.1));
@@ -201,7 +201,7 @@ new_links (NewLink first second) box local partner wired enabled inside is =
     ]
 
 -- a box whose goals change stays wired
-pub change_wired : (box : BoxState) (change : Change) → IsWired box → is_enabled box (Set change) ≡ true → IsWired (with_goals box (goals_after box.goals change))
+pub change_wired : (box : BoxState) (change : Change) → IsWired box → is_enabled box (Set change) ≡ true → IsWired (with_goals box (change_goals box.goals change))
 change_wired box change wired enabled = record {
   whole = record { goals = length_goals_from change 0 box.goals ∙ wired.whole.goals; media = wired.whole.media };
   few = wired.few;

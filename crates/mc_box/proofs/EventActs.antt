@@ -5,18 +5,18 @@ use Rattle.std.proofs.Math.ListN.{get_or, set, length-set}
 use Rattle.std.proofs.lemmas.Bool.{and_parts, cases_eq}
 use Rattle.std.proofs.lemmas.List.{get_or-set_same, get_or-set_other}
 use Rattle.mc_signal.specs.declared.Signal.{Signal}
-use Rattle.mc_slot.specs.EndTurn.{pushed_by, closes_by}
-use Rattle.mc_slot.specs.Moves.{answered, sent_all, taken, Took}
+use Rattle.mc_slot.specs.EndTurn.{pushes, closes_by}
+use Rattle.mc_slot.specs.Moves.{answered, slot_send_all, slot_take, Took}
 use Rattle.mc_slot.specs.Sending.{pair_of}
 use Rattle.mc_slot.specs.declared.Slot.{Slot}
 use Rattle.mc_slot.specs.declared.SlotGoal.{SlotGoal}
 use Rattle.mc_box.specs.Acting.{Acted, sends, takes, sent_by, BoxActs, IsSameMake}
-use Rattle.mc_box.specs.BoxEvents.{BoxStep, answering, goal_turn, happening, heard, is_enabled, last_version, media_step, set_step, take_step, talked}
+use Rattle.mc_box.specs.BoxEvents.{BoxStep, answering, goal_step, happening, with_hearing, is_enabled, last_version, media_step, set_step, take_step, with_talking}
 use Rattle.mc_box.specs.BoxShapes.{is_device}
 use Rattle.mc_box.specs.BoxSound.{IsSoundBox}
-use Rattle.mc_box.specs.Boxes.{BoxState, is_slot, media_at, no_media, no_slot, owes_at, slot_at, with_goals, with_media, with_slot}
+use Rattle.mc_box.specs.Boxes.{BoxState, is_slot, media_at, no_media, no_slot, box_owes, slot_at, with_goals, with_media, with_slot}
 use Rattle.mc_box.specs.EventLaws.{EventActs, TakeActs}
-use Rattle.mc_box.specs.Goals.{changed_slots, goals_after}
+use Rattle.mc_box.specs.Goals.{changed_slots, change_goals}
 use Rattle.mc_box.specs.declared.event.Change.{Change}
 use Rattle.mc_box.specs.declared.event.Event.{Event}
 use Rattle.mc_box.specs.declared.event.Event.TheVariants.{Take, Set, Media, Tell, Retry, Shift}
@@ -33,12 +33,12 @@ use Rattle.mc_box.proofs.TurnActs.{make_more, make_slots, turn_acts, turns_act, 
 -- ---- a slot acts
 
 -- one that takes nothing
-pub acted_sends : (slot after : Slot) (to left signals : List Signal) → left ≡ to → sent_all slot signals ≡ Some after → Acted slot to signals after left
+pub acted_sends : (slot after : Slot) (to left signals : List Signal) → left ≡ to → slot_send_all slot signals ≡ Some after → Acted slot to signals after left
 acted_sends slot after to left signals same goes = subst (λ (l : List Signal). Acted slot to signals after l) (sym same) (sends goes)
 
 -- one that takes the first of what is under way to it
 pub acted_takes : (slot middle after : Slot) (signal : Signal) (to left signals more : List Signal) (answer : Option Signal) → to ≡ signal ∷ left → signals ≡ answered answer ++ more
-    → taken slot signal ≡ Some record { answer = answer; after = middle } → sent_all middle more ≡ Some after → Acted slot to signals after left
+    → slot_take slot signal ≡ Some record { answer = answer; after = middle } → slot_send_all middle more ≡ Some after → Acted slot to signals after left
 acted_takes slot middle after signal to left signals more answer first is goes sent =
     subst (λ (l : List Signal). Acted slot l signals after left) (sym first)
     (subst (λ (l : List Signal). Acted slot (signal ∷ left) l after left) (sym is) (takes middle more answer goes sent))
@@ -46,11 +46,11 @@ acted_takes slot middle after signal to left signals more answer first is goes s
 -- ---- a signal is taken
 
 take_each : (box : BoxState) (local : ℕ) (signal : Signal) (answer : Option Signal) (middle : Slot) (turn : BoxStep) (to left : ℕ → List Signal) → local < length box.slots
-    → taken (slot_at box local) signal ≡ Some record { answer = answer; after = middle } → SendsEach (with_slot box local middle) turn.sent turn.after
+    → slot_take (slot_at box local) signal ≡ Some record { answer = answer; after = middle } → SendsEach (with_slot box local middle) turn.sent turn.after
     → to local ≡ signal ∷ left local → ((k : ℕ) → k < length box.slots → k ≢ local → left k ≡ to k)
     → (k : ℕ) → k < length box.slots → Acted (slot_at box k) (to k) (sent_by k (map (pair_of local) (answered answer) ++ turn.sent)) (slot_at turn.after k) (left k)
 take_each box local signal answer middle turn to left here goes each first others k inside =
-    let there : sent_all (slot_at (with_slot box local middle) k) (sent_by k turn.sent) ≡ Some (slot_at turn.after k) =
+    let there : slot_send_all (slot_at (with_slot box local middle) k) (sent_by k turn.sent) ≡ Some (slot_at turn.after k) =
     each k (subst (λ (n : ℕ). k < n) (sym (length-set box.slots local middle)) inside) in
     elim (cases_eq k local) [
       | inl same ↦
@@ -60,16 +60,16 @@ take_each box local signal answer middle turn to left here goes each first other
           ∙ ap (λ (l : List Signal). l ++ sent_by k turn.sent) (ap (λ (j : ℕ). sent_by j (map (pair_of local) (answered answer))) same ∙ sent_by_own local (answered answer)) in
           acted_takes (slot_at box k) middle (slot_at turn.after k) signal (to k) (left k) (sent_by k (map (pair_of local) (answered answer) ++ turn.sent)) (sent_by k turn.sent) answer
           (subst (λ (j : ℕ). to j ≡ signal ∷ left j) (sym same) first) own
-          (subst (λ (j : ℕ). taken (slot_at box j) signal ≡ Some (record { answer = answer; after = middle })) (sym same) goes)
-          (subst (λ (s : Slot). sent_all s (sent_by k turn.sent) ≡ Some (slot_at turn.after k)) now there)
+          (subst (λ (j : ℕ). slot_take (slot_at box j) signal ≡ Some (record { answer = answer; after = middle })) (sym same) goes)
+          (subst (λ (s : Slot). slot_send_all s (sent_by k turn.sent) ≡ Some (slot_at turn.after k)) now there)
       | inr other ↦
           let now : slot_at (with_slot box local middle) k ≡ slot_at box k = get_or-set_other box.slots local k middle no_slot other in
           let own : sent_by k (map (pair_of local) (answered answer) ++ turn.sent) ≡ sent_by k turn.sent =
           sent_by-append k (map (pair_of local) (answered answer)) turn.sent
           ∙ ap (λ (l : List Signal). l ++ sent_by k turn.sent) (sent_by_other k local (answered answer) other) in
           acted_sends (slot_at box k) (slot_at turn.after k) (to k) (left k) (sent_by k (map (pair_of local) (answered answer) ++ turn.sent)) (others k inside other)
-          (subst (λ (l : List Signal). sent_all (slot_at box k) l ≡ Some (slot_at turn.after k)) (sym own)
-          (subst (λ (s : Slot). sent_all s (sent_by k turn.sent) ≡ Some (slot_at turn.after k)) now there))
+          (subst (λ (l : List Signal). slot_send_all (slot_at box k) l ≡ Some (slot_at turn.after k)) (sym own)
+          (subst (λ (s : Slot). slot_send_all s (sent_by k turn.sent) ≡ Some (slot_at turn.after k)) now there))
     ]
 
 take_acted : (box : BoxState) (local : ℕ) (signal : Signal) (step : BoxStep) (to left : ℕ → List Signal) → IsSoundBox box → local < length box.slots
@@ -77,9 +77,9 @@ take_acted : (box : BoxState) (local : ℕ) (signal : Signal) (step : BoxStep) (
     → to local ≡ signal ∷ left local → ((k : ℕ) → k < length box.slots → k ≢ local → left k ≡ to k) → BoxActs box to step left
 take_acted box local signal step to left sound here goes after_sound first others =
     let one = then_some (λ (took : Took). option_map (answering local took.answer)
-    (goal_turn (with_slot box local took.after) local (pushed_by signal took.after.state) (closes_by signal took.after.state))) (taken (slot_at box local) signal) step goes in
-    let two = map_some (answering local one.0.answer) (goal_turn (with_slot box local one.0.after) local (pushed_by signal one.0.after.state) (closes_by signal one.0.after.state)) step one.2 in
-    let turn = turn_acts (with_slot box local one.0.after) local (pushed_by signal one.0.after.state) (closes_by signal one.0.after.state) two.0
+    (goal_step (with_slot box local took.after) local (pushes signal took.after.state) (closes_by signal took.after.state))) (slot_take (slot_at box local) signal) step goes in
+    let two = map_some (answering local one.0.answer) (goal_step (with_slot box local one.0.after) local (pushes signal one.0.after.state) (closes_by signal one.0.after.state)) step one.2 in
+    let turn = turn_acts (with_slot box local one.0.after) local (pushes signal one.0.after.state) (closes_by signal one.0.after.state) two.0
     (took_wired box local signal one.0 sound.wired here one.1)
     (subst (λ (n : ℕ). local < n) (sym (length-set box.slots local one.0.after)) here) two.1 in
     record {
@@ -106,7 +106,7 @@ record Sends (box : BoxState) (step : BoxStep) : Type 0 where
 -- the slots are as before
 sends_from : (box start : BoxState) (step : BoxStep) → start.slots ≡ box.slots → IsSameMake start box → TurnActs start step → Sends box step
 sends_from box start step same make turn = record {
-  each = λ k inside. subst (λ (l : List Slot). sent_all (get_or l k no_slot) (sent_by k step.sent) ≡ Some (slot_at step.after k)) same
+  each = λ k inside. subst (λ (l : List Slot). slot_send_all (get_or l k no_slot) (sent_by k step.sent) ≡ Some (slot_at step.after k)) same
       (turn.each k (subst (λ (l : List Slot). k < length l) (sym same) inside));
   make = make_more box start step.after make turn.make;
 }
@@ -136,12 +136,12 @@ make_media box local media here same = record {
 
 set_sends : (box : BoxState) (change : Change) (step : BoxStep) → IsSoundBox box → is_enabled box (Set change) ≡ true → set_step box change ≡ Some step → Sends box step
 set_sends box change step sound enabled goes =
-    sends_from box (with_goals box (goals_after box.goals change)) step refl (make_goals box (goals_after box.goals change) (length_goals_from change 0 box.goals))
-    (turns_act (changed_slots box.goals (goals_after box.goals change)) (with_goals box (goals_after box.goals change)) step (change_wired box change sound.wired enabled)
-    (changed_inside box.goals (goals_after box.goals change) 0 (length box.slots) (omega (arith, sound.wired.whole.goals))) goes)
+    sends_from box (with_goals box (change_goals box.goals change)) step refl (make_goals box (change_goals box.goals change) (length_goals_from change 0 box.goals))
+    (turns_act (changed_slots box.goals (change_goals box.goals change)) (with_goals box (change_goals box.goals change)) step (change_wired box change sound.wired enabled)
+    (changed_inside box.goals (change_goals box.goals change) 0 (length box.slots) (omega (arith, sound.wired.whole.goals))) goes)
 
 changed_sends : (box : BoxState) (local : ℕ) (media : SlotMedia) (step : BoxStep) → IsSoundBox box → local < length box.slots → media.origin ≡ (media_at box local).origin
-    → goal_turn (with_media box local media) local false false ≡ Some step → Sends box step
+    → goal_step (with_media box local media) local false false ≡ Some step → Sends box step
 changed_sends box local media step sound here same goes =
     sends_from box (with_media box local media) step refl (make_media box local media (subst (λ (n : ℕ). local < n) (sym sound.wired.whole.media) here) same)
     (turn_acts (with_media box local media) local false false step (media_wired box local media sound.wired) here goes)
@@ -149,11 +149,11 @@ changed_sends box local media step sound here same goes =
 media_sends : (change : MediaChange) (box : BoxState) (step : BoxStep) → IsSoundBox box → is_enabled box (Media change) ≡ true → media_step box change ≡ Some step → Sends box step
 media_sends (Hear local on) box step sound enabled goes =
     let here = and_parts (is_device box.kind) (is_slot box local) enabled in
-    let turns = else_some ((media_at box local).version == last_version) (goal_turn (with_media box local (heard on (media_at box local))) local false false) step goes in
-    changed_sends box local (heard on (media_at box local)) step sound (slot_inside box local here.1) refl turns.1
+    let turns = else_some ((media_at box local).version == last_version) (goal_step (with_media box local (with_hearing on (media_at box local))) local false false) step goes in
+    changed_sends box local (with_hearing on (media_at box local)) step sound (slot_inside box local here.1) refl turns.1
 media_sends (Talk local on) box step sound enabled goes =
     let here = and_parts (is_device box.kind) (is_slot box local) enabled in
-    changed_sends box local (talked on (media_at box local)) step sound (slot_inside box local here.1) refl goes
+    changed_sends box local (with_talking on (media_at box local)) step sound (slot_inside box local here.1) refl goes
 
 event_sends : (event : Event) (box : BoxState) (step : BoxStep) → IsSoundBox box → is_enabled box event ≡ true → happening box event ≡ Some step → Sends box step
 event_sends (Take local) box step sound enabled goes = absurd (cc)
@@ -161,7 +161,7 @@ event_sends (Set change) box step sound enabled goes = set_sends box change step
 event_sends (Media change) box step sound enabled goes = media_sends change box step sound enabled goes
 event_sends (Tell word) box step sound enabled goes = absurd (cc)
 event_sends (Retry local) box step sound enabled goes =
-    let here = and_parts (is_slot box local) (owes_at box local) enabled in
+    let here = and_parts (is_slot box local) (box_owes box local) enabled in
     let turn = turn_acts box local true false step sound.wired (slot_inside box local here.0) goes in
     record { each = turn.each; make = turn.make }
 event_sends Shift box step sound enabled goes = absurd (cc)

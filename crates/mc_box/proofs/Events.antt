@@ -5,18 +5,18 @@ use Rattle.std.proofs.Math.ListN.{set, length-set}
 use Rattle.std.proofs.lemmas.List.{get_or-set_other}
 use Rattle.std.proofs.lemmas.Bool.{and_parts}
 use Rattle.mc_signal.specs.declared.Signal.{Signal}
-use Rattle.mc_slot.specs.EndTurn.{pushed_by, closes_by}
-use Rattle.mc_slot.specs.Moves.{taken, Took}
+use Rattle.mc_slot.specs.EndTurn.{pushes, closes_by}
+use Rattle.mc_slot.specs.Moves.{slot_take, Took}
 use Rattle.mc_slot.specs.declared.Slot.{Slot}
 use Rattle.mc_slot.specs.declared.SlotGoal.{SlotGoal}
 use Rattle.mc_slot.specs.declared.SlotGoal.TheVariants.{End, Link}
 use Rattle.mc_tunnel.proofs.Steps.{took_kept, took_medium}
-use Rattle.mc_box.specs.BoxEvents.{BoxStep, answering, box_event, goal_turn, happening, heard, is_enabled, last_version, media_step, set_step, take_step, talked}
+use Rattle.mc_box.specs.BoxEvents.{BoxStep, answering, box_event, goal_step, happening, with_hearing, is_enabled, last_version, media_step, set_step, take_step, with_talking}
 use Rattle.mc_box.specs.BoxShapes.{is_device}
 use Rattle.mc_box.specs.BoxSound.{IsSoundBox, IsWired}
-use Rattle.mc_box.specs.Boxes.{BoxState, is_slot, no_media, no_slot, slot_at, goal_at, media_at, own_of, owes_at, sender_of, with_goals, with_media, with_slot}
+use Rattle.mc_box.specs.Boxes.{BoxState, is_slot, no_media, no_slot, slot_at, goal_at, media_at, own_of, box_owes, sender_of, with_goals, with_media, with_slot}
 use Rattle.mc_box.specs.EventLaws.{EventKeepsSound, EventSendsTwice}
-use Rattle.mc_box.specs.Goals.{goals_after, most}
+use Rattle.mc_box.specs.Goals.{change_goals, most_signals}
 use Rattle.mc_box.specs.declared.event.Change.{Change}
 use Rattle.mc_box.specs.declared.event.Event.{Event}
 use Rattle.mc_box.specs.declared.event.Event.TheVariants.{Take, Set, Media, Tell, Retry, Shift}
@@ -39,14 +39,14 @@ held_self (Link partner) k local lacks = lacks.0
 
 -- where all but one goal rest, its turn brings it to rest
 pub turn_sound : (box : BoxState) (local : ℕ) (pushed closed : Bool) (turn : BoxStep) → IsWired box → local < length box.slots
-    → RestsBut box (held (goal_at box local) local) → goal_turn box local pushed closed ≡ Some turn → IsSoundBox turn.after
+    → RestsBut box (held (goal_at box local) local) → goal_step box local pushed closed ≡ Some turn → IsSoundBox turn.after
 turn_sound box local pushed closed turn wired inside but goes =
     let made = turned box local pushed closed turn wired inside goes in
     let rests : RestsBut (with_slots box made.slots) [] = made.rests [] (λ k lacks. but k (lacks_first k (held (goal_at box local) local) [] lacks)) in
     subst (λ (b : BoxState). IsSoundBox b) (sym made.is) (record { wired = made.wired; rests = λ k. rests k tt })
 
 -- a turn sends at most two signals for each slot that its goal holds
-most_by : (goal : SlotGoal) (box : BoxState) (local : ℕ) → IsWired box → local < length box.slots → goal_at box local ≡ goal → most goal ≤ 2 * length box.slots
+most_by : (goal : SlotGoal) (box : BoxState) (local : ℕ) → IsWired box → local < length box.slots → goal_at box local ≡ goal → most_signals goal ≤ 2 * length box.slots
 most_by (End end) box local wired inside is = omega arith
 most_by (Link partner) box local wired inside is =
     let there : partner < length box.slots = (wired.links local partner is).inside in
@@ -54,7 +54,7 @@ most_by (Link partner) box local wired inside is =
     omega arith
 
 turn_twice : (box : BoxState) (local : ℕ) (pushed closed : Bool) (turn : BoxStep) → IsWired box → local < length box.slots
-    → goal_turn box local pushed closed ≡ Some turn → length turn.sent ≤ 2 * length box.slots
+    → goal_step box local pushed closed ≡ Some turn → length turn.sent ≤ 2 * length box.slots
 turn_twice box local pushed closed turn wired inside goes =
     let made = turned box local pushed closed turn wired inside goes in
     omega (arith, made.few, most_by (goal_at box local) box local wired inside refl)
@@ -62,7 +62,7 @@ turn_twice box local pushed closed turn wired inside goes =
 -- ---- a signal is taken
 
 -- the slot that took, while the others rest
-pub took_wired : (box : BoxState) (local : ℕ) (signal : Signal) (took : Took) → IsWired box → local < length box.slots → taken (slot_at box local) signal ≡ Some took
+pub took_wired : (box : BoxState) (local : ℕ) (signal : Signal) (took : Took) → IsWired box → local < length box.slots → slot_take (slot_at box local) signal ≡ Some took
     → IsWired (with_slot box local took.after)
 took_wired box local signal took wired inside goes =
     wired_slot box local took.after wired inside (took_kept (slot_at box local) signal took goes (wired.kept local)) (took_medium (slot_at box local) signal took goes)
@@ -75,10 +75,10 @@ took_rests box local after sound k lacks =
 pub take_sound : (box : BoxState) (local : ℕ) (signal : Signal) (step : BoxStep) → IsSoundBox box → local < length box.slots → take_step box local signal ≡ Some step → IsSoundBox step.after
 take_sound box local signal step sound inside goes =
     let one = then_some (λ (took : Took). option_map (answering local took.answer)
-    (goal_turn (with_slot box local took.after) local (pushed_by signal took.after.state) (closes_by signal took.after.state))) (taken (slot_at box local) signal) step goes in
-    let two = map_some (answering local one.0.answer) (goal_turn (with_slot box local one.0.after) local (pushed_by signal one.0.after.state) (closes_by signal one.0.after.state)) step one.2 in
+    (goal_step (with_slot box local took.after) local (pushes signal took.after.state) (closes_by signal took.after.state))) (slot_take (slot_at box local) signal) step goes in
+    let two = map_some (answering local one.0.answer) (goal_step (with_slot box local one.0.after) local (pushes signal one.0.after.state) (closes_by signal one.0.after.state)) step one.2 in
     subst (λ (s : BoxStep). IsSoundBox s.after) two.2
-    (turn_sound (with_slot box local one.0.after) local (pushed_by signal one.0.after.state) (closes_by signal one.0.after.state) two.0
+    (turn_sound (with_slot box local one.0.after) local (pushes signal one.0.after.state) (closes_by signal one.0.after.state) two.0
     (took_wired box local signal one.0 sound.wired inside one.1)
     (subst (λ (n : ℕ). local < n) (sym (length-set box.slots local one.0.after)) inside)
     (took_rests box local one.0.after sound) two.1)
@@ -123,12 +123,12 @@ record Done (box : BoxState) (step : BoxStep) : Type 0 where
 set_done : (box : BoxState) (change : Change) (step : BoxStep) → IsSoundBox box → is_enabled box (Set change) ≡ true → set_step box change ≡ Some step → Done box step
 set_done box change step sound enabled goes =
     let wired = change_wired box change sound.wired enabled in
-    let made = goals_settle box (goals_after box.goals change) step sound wired goes in
-    let twice = changed_twice (with_goals box (goals_after box.goals change)) box.goals wired in
+    let made = goals_settle box (change_goals box.goals change) step sound wired goes in
+    let twice = changed_twice (with_goals box (change_goals box.goals change)) box.goals wired in
     record { sound = made.sound; few = omega (arith, made.few, twice) }
 
 changed_done : (box : BoxState) (local : ℕ) (media : SlotMedia) (step : BoxStep) → IsSoundBox box → local < length box.slots
-    → goal_turn (with_media box local media) local false false ≡ Some step → Done box step
+    → goal_step (with_media box local media) local false false ≡ Some step → Done box step
 changed_done box local media step sound inside goes = record {
   sound = turn_sound (with_media box local media) local false false step (media_wired box local media sound.wired) inside (media_rests box local media sound) goes;
   few = turn_twice (with_media box local media) local false false step (media_wired box local media sound.wired) inside goes;
@@ -137,11 +137,11 @@ changed_done box local media step sound inside goes = record {
 media_done : (change : MediaChange) (box : BoxState) (step : BoxStep) → IsSoundBox box → is_enabled box (Media change) ≡ true → media_step box change ≡ Some step → Done box step
 media_done (Hear local on) box step sound enabled goes =
     let here = and_parts (is_device box.kind) (is_slot box local) enabled in
-    let turns = else_some ((media_at box local).version == last_version) (goal_turn (with_media box local (heard on (media_at box local))) local false false) step goes in
-    changed_done box local (heard on (media_at box local)) step sound (slot_inside box local here.1) turns.1
+    let turns = else_some ((media_at box local).version == last_version) (goal_step (with_media box local (with_hearing on (media_at box local))) local false false) step goes in
+    changed_done box local (with_hearing on (media_at box local)) step sound (slot_inside box local here.1) turns.1
 media_done (Talk local on) box step sound enabled goes =
     let here = and_parts (is_device box.kind) (is_slot box local) enabled in
-    changed_done box local (talked on (media_at box local)) step sound (slot_inside box local here.1) goes
+    changed_done box local (with_talking on (media_at box local)) step sound (slot_inside box local here.1) goes
 
 event_done : (event : Event) (box : BoxState) (step : BoxStep) → IsSoundBox box → is_enabled box event ≡ true → happening box event ≡ Some step → Done box step
 event_done (Take local) box step sound enabled goes = absurd (cc)
@@ -149,7 +149,7 @@ event_done (Set change) box step sound enabled goes = set_done box change step s
 event_done (Media change) box step sound enabled goes = media_done change box step sound enabled goes
 event_done (Tell word) box step sound enabled goes = absurd (cc)
 event_done (Retry local) box step sound enabled goes =
-    let here = and_parts (is_slot box local) (owes_at box local) enabled in
+    let here = and_parts (is_slot box local) (box_owes box local) enabled in
     record {
       sound = turn_sound box local true false step sound.wired (slot_inside box local here.0) (λ k lacks. sound.rests k) goes;
       few = turn_twice box local true false step sound.wired (slot_inside box local here.0) goes;

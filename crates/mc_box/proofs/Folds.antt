@@ -6,10 +6,10 @@ use Rattle.mc_slot.specs.declared.Goal.TheVariants.{Close as ToClose}
 use Rattle.mc_slot.specs.declared.Slot.{Slot}
 use Rattle.mc_slot.specs.declared.SlotGoal.{SlotGoal}
 use Rattle.mc_slot.specs.declared.SlotGoal.TheVariants.{End}
-use Rattle.mc_box.specs.BoxEvents.{BoxStep, followed, goal_turn, goals_step, turns_of}
+use Rattle.mc_box.specs.BoxEvents.{BoxStep, followed, goal_step, goals_step, goal_steps}
 use Rattle.mc_box.specs.BoxSound.{IsSoundBox, IsWired}
 use Rattle.mc_box.specs.Boxes.{BoxState, goal_at, with_goals}
-use Rattle.mc_box.specs.Goals.{changed_from, changed_slots, has_turn, most}
+use Rattle.mc_box.specs.Goals.{changed_from, changed_slots, has_turn, most_signals}
 use Rattle.mc_box.proofs.Changes.{start_rests, todo_of}
 use Rattle.mc_box.proofs.Held.{RestsBut, with_slots}
 use Rattle.mc_box.proofs.Options.{map_some, then_some}
@@ -33,7 +33,7 @@ changed_inside (old ∷ olds) (new ∷ news) at count is =
 -- what such turns may send
 abbrev pub most_of : List SlotGoal → List ℕ → ℕ
 most_of goals [] = 0
-most_of goals (local ∷ locals) = most (get_or goals local (End ToClose)) + most_of goals locals
+most_of goals (local ∷ locals) = most_signals (get_or goals local (End ToClose)) + most_of goals locals
 
 -- what turns come to: a box of the same goals, at rest, and few signals
 pub record Settled (box : BoxState) (locals : List ℕ) (step : BoxStep) : Type 0 where
@@ -44,23 +44,23 @@ turns_end : (box : BoxState) (step : BoxStep) → IsWired box → RestsBut box [
 turns_end box step wired but is =
     subst (λ (s : BoxStep). Settled box [] s) is (record { sound = record { wired = wired; rests = λ k. but k tt }; few = omega arith })
 
-turns_next : (box : BoxState) (local : ℕ) (locals : List ℕ) (slots : List Slot) (turn more step : BoxStep) → length turn.sent ≤ most (goal_at box local)
+turns_next : (box : BoxState) (local : ℕ) (locals : List ℕ) (slots : List Slot) (turn more step : BoxStep) → length turn.sent ≤ most_signals (goal_at box local)
     → Settled (with_slots box slots) locals more → followed turn.sent more ≡ step → Settled box (local ∷ locals) step
 turns_next box local locals slots turn more step few rest is =
     subst (λ (s : BoxStep). Settled box (local ∷ locals) s) is
     (record { sound = rest.sound; few = omega (arith, length-append turn.sent more.sent, few, rest.few) })
 
 pub turns_settle : (locals : List ℕ) (box : BoxState) (step : BoxStep) → IsWired box → AreInside (length box.slots) locals → RestsBut box (todo_of box.goals locals)
-    → turns_of box locals ≡ Some step → Settled box locals step
+    → goal_steps box locals ≡ Some step → Settled box locals step
 turns_settle [] box step wired inside but goes = let same : record { sent = []; after = box } ≡ step = cc in turns_end box step wired but same
 turns_settle (local ∷ locals) box step wired inside but goes =
-    let one = then_some (λ (turn : BoxStep). option_map (followed turn.sent) (turns_of turn.after locals)) (goal_turn box local true false) step goes in
-    let two = map_some (followed one.0.sent) (turns_of one.0.after locals) step one.2 in
+    let one = then_some (λ (turn : BoxStep). option_map (followed turn.sent) (goal_steps turn.after locals)) (goal_step box local true false) step goes in
+    let two = map_some (followed one.0.sent) (goal_steps one.0.after locals) step one.2 in
     let made = turned box local true false one.0 wired inside.0 one.1 in
     turns_next box local locals made.slots one.0 two.0 step made.few
     (turns_settle locals (with_slots box made.slots) two.0 made.wired (subst (λ (n : ℕ). AreInside n locals) (sym made.size) inside.1)
     (made.rests (todo_of box.goals locals) but)
-    (subst (λ (b : BoxState). turns_of b locals ≡ Some two.0) made.is two.1))
+    (subst (λ (b : BoxState). goal_steps b locals ≡ Some two.0) made.is two.1))
     two.2
 
 -- goals that change in a sound box

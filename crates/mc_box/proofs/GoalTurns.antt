@@ -4,7 +4,7 @@ use Rattle.std.specs.Option.{option_map}
 use Rattle.std.proofs.Math.ListN.{get_or, set, length-set}
 use Rattle.std.proofs.lemmas.Bool.{cases_eq}
 use Rattle.std.proofs.lemmas.List.{get_or-set_same, get_or-set_other, length-map}
-use Rattle.mc_link.specs.LinkTurn.{can_close, choosing, leaning, link_due, numbered, passing, sent_by_first, sent_by_second, IsLinkAtRest, side_closed}
+use Rattle.mc_link.specs.LinkTurn.{can_close, selector_due, lean, link_turn, numbered, descriptor_due, sent_by_first, sent_by_second, IsLinkAtRest, side_closed}
 use Rattle.mc_link.specs.declared.Side.{Side}
 use Rattle.mc_link.specs.declared.Side.TheVariants.{First, Second}
 use Rattle.mc_link.proofs.LinkRests.{link_rests}
@@ -14,8 +14,8 @@ use Rattle.mc_link.proofs.Sides.{four_length}
 use Rattle.mc_signal.specs.declared.Descriptor.{Descriptor}
 use Rattle.mc_signal.specs.declared.Sender.{Sender}
 use Rattle.mc_signal.specs.declared.Signal.{Signal}
-use Rattle.mc_slot.specs.EndTurn.{due}
-use Rattle.mc_slot.specs.Moves.{is_live, sent, sent_all}
+use Rattle.mc_slot.specs.EndTurn.{end_turn}
+use Rattle.mc_slot.specs.Moves.{is_live, slot_send, slot_send_all}
 use Rattle.mc_slot.specs.Sending.{pair_of}
 use Rattle.mc_slot.specs.Tunnel.{Kept}
 use Rattle.mc_slot.specs.declared.Goal.{Goal}
@@ -23,62 +23,62 @@ use Rattle.mc_slot.specs.declared.Slot.{Slot}
 use Rattle.mc_slot.specs.declared.SlotGoal.{SlotGoal}
 use Rattle.mc_slot.specs.declared.SlotGoal.TheVariants.{End, Link}
 use Rattle.mc_turn.proofs.EndRests.{rests_kept}
-use Rattle.mc_box.specs.BoxEvents.{BoxStep, end_turn, goal_turn, pair_turn, side_of, turn_by}
+use Rattle.mc_box.specs.BoxEvents.{BoxStep, end_step, goal_step, pair_step, side_of, goal_step_by}
 use Rattle.mc_box.specs.BoxSound.{IsWired, RestsAt}
-use Rattle.mc_box.specs.Goals.{most}
+use Rattle.mc_box.specs.Goals.{most_signals}
 use Rattle.mc_box.specs.Boxes.{BoxState, no_slot, slot_at, goal_at, media_at, own, sender, with_slot}
 use Rattle.mc_box.proofs.Held.{at_max, at_min, elsewhere_rests, held, Lacks, own_put, put_all, RestsBut, rests_there, rests_turned, sender_put, wired_slot, wired_slots, with_slots}
 use Rattle.mc_box.proofs.Options.{map_some, then_some}
 
 -- ---- what sending leaves
 
-sent_medium : (slot : Slot) (signal : Signal) (after : Slot) → sent slot signal ≡ Some after → after.medium ≡ slot.medium
+sent_medium : (slot : Slot) (signal : Signal) (after : Slot) → slot_send slot signal ≡ Some after → after.medium ≡ slot.medium
 sent_medium slot signal after goes = grind arith
 
-sent_kept : (slot : Slot) (signal : Signal) (after : Slot) → sent slot signal ≡ Some after → Kept slot → Kept after
+sent_kept : (slot : Slot) (signal : Signal) (after : Slot) → slot_send slot signal ≡ Some after → Kept slot → Kept after
 sent_kept slot signal after goes kept = grind arith
 
 -- a slot keeps its medium, whatever it sends
-pub all_medium : (signals : List Signal) (slot after : Slot) → sent_all slot signals ≡ Some after → after.medium ≡ slot.medium
+pub all_medium : (signals : List Signal) (slot after : Slot) → slot_send_all slot signals ≡ Some after → after.medium ≡ slot.medium
 all_medium [] slot after goes = let same : slot ≡ after = cc in ap (λ (s : Slot). s.medium) (sym same)
 all_medium (signal ∷ signals) slot after goes =
-    let one = then_some (λ (next : Slot). sent_all next signals) (sent slot signal) after goes in
+    let one = then_some (λ (next : Slot). slot_send_all next signals) (slot_send slot signal) after goes in
     all_medium signals one.0 after one.2 ∙ sent_medium slot signal one.0 one.1
 
 -- and keeps what its state allows
-pub all_kept : (signals : List Signal) (slot after : Slot) → sent_all slot signals ≡ Some after → Kept slot → Kept after
+pub all_kept : (signals : List Signal) (slot after : Slot) → slot_send_all slot signals ≡ Some after → Kept slot → Kept after
 all_kept [] slot after goes kept = let same : slot ≡ after = cc in subst (λ (s : Slot). Kept s) same kept
 all_kept (signal ∷ signals) slot after goes kept =
-    let one = then_some (λ (next : Slot). sent_all next signals) (sent slot signal) after goes in
+    let one = then_some (λ (next : Slot). slot_send_all next signals) (slot_send slot signal) after goes in
     all_kept signals one.0 after one.2 (sent_kept slot signal one.0 one.1 kept)
 
 -- ---- how much a turn sends
 
-pub due_two : (goal : Goal) (slot : Slot) (pushed : Bool) (mine : Descriptor) (me : Sender) → length (due goal slot pushed mine me) ≤ 2
+pub due_two : (goal : Goal) (slot : Slot) (pushed : Bool) (mine : Descriptor) (me : Sender) → length (end_turn goal slot pushed mine me) ≤ 2
 due_two goal slot pushed mine me = grind (arith)
 
-passes_one : (a b : Slot) → length (passing a b) ≤ 1
+passes_one : (a b : Slot) → length (descriptor_due a b) ≤ 1
 passes_one a b = grind (arith)
 
-chooses_one : (a b : Slot) → length (choosing a b) ≤ 1
+chooses_one : (a b : Slot) → length (selector_due a b) ≤ 1
 chooses_one a b = grind (arith)
 
-lean_by : (live : Bool) (a b : Slot) → is_live a.state && is_live b.state ≡ live → length (leaning a b) ≤ 4
+lean_by : (live : Bool) (a b : Slot) → is_live a.state && is_live b.state ≡ live → length (lean a b) ≤ 4
 lean_by false a b is = omega (arith, calm_one None a b is)
 lean_by true a b is =
     let live = both (is_live a.state) (is_live b.state) is in
-    let same : length (leaning a b) ≡ length (passing a b) + length (passing b a) + length (choosing a b) + length (choosing b a) =
-    ap (λ (l : List (Side × Signal)). length l) (live_both a b live.0 live.1) ∙ four_length (passing a b) (passing b a) (choosing a b) (choosing b a) in
+    let same : length (lean a b) ≡ length (descriptor_due a b) + length (descriptor_due b a) + length (selector_due a b) + length (selector_due b a) =
+    ap (λ (l : List (Side × Signal)). length l) (live_both a b live.0 live.1) ∙ four_length (descriptor_due a b) (descriptor_due b a) (selector_due a b) (selector_due b a) in
     omega (arith, same, passes_one a b, passes_one b a, chooses_one a b, chooses_one b a)
 
-lean_four : (a b : Slot) → length (leaning a b) ≤ 4
+lean_four : (a b : Slot) → length (lean a b) ≤ 4
 lean_four a b = lean_by (is_live a.state && is_live b.state) a b refl
 
 one_or : (close : Bool) (one more : List (Side × Signal)) → length one ≤ 4 → length more ≤ 4 → length (if close then one else more) ≤ 4
 one_or true one more first second = first
 one_or false one more first second = second
 
-pub link_four : (closed : Option Side) (a b : Slot) → length (link_due a b closed) ≤ 4
+pub link_four : (closed : Option Side) (a b : Slot) → length (link_turn a b closed) ≤ 4
 link_four None a b = lean_four a b
 link_four (Some First) a b = one_or (can_close b.state) _ _ (omega arith) (lean_four a b)
 link_four (Some Second) a b = one_or (can_close a.state) _ _ (omega arith) (lean_four a b)
@@ -87,33 +87,33 @@ link_four (Some Second) a b = one_or (can_close a.state) _ _ (omega arith) (lean
 
 pub record EndForm (box : BoxState) (local : ℕ) (goal : Goal) (pushed : Bool) (step : BoxStep) : Type 0 where
   pub last : Slot
-  pub goes : sent_all (slot_at box local) (due goal (slot_at box local) pushed (own box local) (sender box local)) ≡ Some last
-  pub is : record { sent = map (pair_of local) (due goal (slot_at box local) pushed (own box local) (sender box local)); after = with_slot box local last } ≡ step
+  pub goes : slot_send_all (slot_at box local) (end_turn goal (slot_at box local) pushed (own box local) (sender box local)) ≡ Some last
+  pub is : record { sent = map (pair_of local) (end_turn goal (slot_at box local) pushed (own box local) (sender box local)); after = with_slot box local last } ≡ step
 
-pub end_form : (box : BoxState) (local : ℕ) (goal : Goal) (pushed : Bool) (step : BoxStep) → end_turn goal box local pushed ≡ Some step → EndForm box local goal pushed step
+pub end_form : (box : BoxState) (local : ℕ) (goal : Goal) (pushed : Bool) (step : BoxStep) → end_step goal box local pushed ≡ Some step → EndForm box local goal pushed step
 end_form box local goal pushed step goes =
-    let one = map_some (λ (after : Slot). record { sent = map (pair_of local) (due goal (slot_at box local) pushed (own box local) (sender box local)); after = with_slot box local after })
-    (sent_all (slot_at box local) (due goal (slot_at box local) pushed (own box local) (sender box local))) step goes in
+    let one = map_some (λ (after : Slot). record { sent = map (pair_of local) (end_turn goal (slot_at box local) pushed (own box local) (sender box local)); after = with_slot box local after })
+    (slot_send_all (slot_at box local) (end_turn goal (slot_at box local) pushed (own box local) (sender box local))) step goes in
     record { last = one.0; goes = one.1; is = one.2 }
 
 pub record PairForm (box : BoxState) (low high : ℕ) (closed : Option Side) (step : BoxStep) : Type 0 where
   pub first : Slot
   pub second : Slot
-  pub first_goes : sent_all (slot_at box low) (sent_by_first (link_due (slot_at box low) (slot_at box high) closed)) ≡ Some first
-  pub second_goes : sent_all (slot_at box high) (sent_by_second (link_due (slot_at box low) (slot_at box high) closed)) ≡ Some second
-  pub is : record { sent = map (numbered low high) (link_due (slot_at box low) (slot_at box high) closed); after = with_slot (with_slot box low first) high second } ≡ step
+  pub first_goes : slot_send_all (slot_at box low) (sent_by_first (link_turn (slot_at box low) (slot_at box high) closed)) ≡ Some first
+  pub second_goes : slot_send_all (slot_at box high) (sent_by_second (link_turn (slot_at box low) (slot_at box high) closed)) ≡ Some second
+  pub is : record { sent = map (numbered low high) (link_turn (slot_at box low) (slot_at box high) closed); after = with_slot (with_slot box low first) high second } ≡ step
 
-pub pair_form : (box : BoxState) (low high : ℕ) (closed : Option Side) (step : BoxStep) → pair_turn box low high closed ≡ Some step → PairForm box low high closed step
+pub pair_form : (box : BoxState) (low high : ℕ) (closed : Option Side) (step : BoxStep) → pair_step box low high closed ≡ Some step → PairForm box low high closed step
 pair_form box low high closed step goes =
     let one = then_some (λ (first : Slot). option_map (λ (second : Slot). record {
-      sent = map (numbered low high) (link_due (slot_at box low) (slot_at box high) closed);
+      sent = map (numbered low high) (link_turn (slot_at box low) (slot_at box high) closed);
       after = with_slot (with_slot box low first) high second;
-    }) (sent_all (slot_at box high) (sent_by_second (link_due (slot_at box low) (slot_at box high) closed))))
-    (sent_all (slot_at box low) (sent_by_first (link_due (slot_at box low) (slot_at box high) closed))) step goes in
+    }) (slot_send_all (slot_at box high) (sent_by_second (link_turn (slot_at box low) (slot_at box high) closed))))
+    (slot_send_all (slot_at box low) (sent_by_first (link_turn (slot_at box low) (slot_at box high) closed))) step goes in
     let two = map_some (λ (second : Slot). record {
-      sent = map (numbered low high) (link_due (slot_at box low) (slot_at box high) closed);
+      sent = map (numbered low high) (link_turn (slot_at box low) (slot_at box high) closed);
       after = with_slot (with_slot box low one.0) high second;
-    }) (sent_all (slot_at box high) (sent_by_second (link_due (slot_at box low) (slot_at box high) closed))) step one.2 in
+    }) (slot_send_all (slot_at box high) (sent_by_second (link_turn (slot_at box low) (slot_at box high) closed))) step one.2 in
     record { first = one.0; second = two.0; first_goes = one.1; second_goes = two.1; is = two.2 }
 
 -- ---- what a turn comes to
@@ -125,11 +125,11 @@ pub record Turned (goal : SlotGoal) (box : BoxState) (local : ℕ) (step : BoxSt
   pub size : length slots ≡ length box.slots
   pub wired : IsWired (with_slots box slots)
   pub rests : (todo : List ℕ) → RestsBut box (held goal local ++ todo) → RestsBut (with_slots box slots) todo
-  pub few : length step.sent ≤ most goal
+  pub few : length step.sent ≤ most_signals goal
 
 -- an end, when it has sent
 end_slot_rests : (box : BoxState) (local k : ℕ) (goal : Goal) (pushed : Bool) (last : Slot) (todo : List ℕ) → IsWired box → local < length box.slots → goal_at box local ≡ End goal
-    → sent_all (slot_at box local) (due goal (slot_at box local) pushed (own box local) (sender box local)) ≡ Some last
+    → slot_send_all (slot_at box local) (end_turn goal (slot_at box local) pushed (own box local) (sender box local)) ≡ Some last
     → RestsBut box (local ∷ todo) → Lacks k todo → RestsAt (goal_at box k) (with_slot box local last) k
 end_slot_rests box local k goal pushed last todo wired inside is goes but lacks = elim (cases_eq k local) [
   | inl same ↦
@@ -145,7 +145,7 @@ end_slot_rests box local k goal pushed last todo wired inside is goes but lacks 
 ]
 
 end_turned : (box : BoxState) (local : ℕ) (goal : Goal) (pushed : Bool) (step : BoxStep) → IsWired box → local < length box.slots → goal_at box local ≡ End goal
-    → end_turn goal box local pushed ≡ Some step → Turned (End goal) box local step
+    → end_step goal box local pushed ≡ Some step → Turned (End goal) box local step
 end_turned box local goal pushed step wired inside is goes =
     let form = end_form box local goal pushed step goes in
     record {
@@ -153,13 +153,13 @@ end_turned box local goal pushed step wired inside is goes =
       is = ap (λ (s : BoxStep). s.after) (sym form.is);
       size = length-set box.slots local form.last;
       wired = wired_slot box local form.last wired inside
-          (all_kept (due goal (slot_at box local) pushed (own box local) (sender box local)) (slot_at box local) form.last form.goes (wired.kept local))
-          (all_medium (due goal (slot_at box local) pushed (own box local) (sender box local)) (slot_at box local) form.last form.goes);
+          (all_kept (end_turn goal (slot_at box local) pushed (own box local) (sender box local)) (slot_at box local) form.last form.goes (wired.kept local))
+          (all_medium (end_turn goal (slot_at box local) pushed (own box local) (sender box local)) (slot_at box local) form.last form.goes);
       rests = λ todo but k lacks. end_slot_rests box local k goal pushed form.last todo wired inside is form.goes but lacks;
       few = subst (λ (s : BoxStep). length s.sent ≤ 2) form.is
           (omega (
             arith,
-            length-map (due goal (slot_at box local) pushed (own box local) (sender box local)) (pair_of local),
+            length-map (end_turn goal (slot_at box local) pushed (own box local) (sender box local)) (pair_of local),
             due_two goal (slot_at box local) pushed (own box local) (sender box local),
           ));
     }
@@ -180,8 +180,8 @@ pair_else slots low high k first second below above =
 
 -- a link, when both have sent
 pair_rests : (box : BoxState) (low high : ℕ) (closed : Option Side) (first second : Slot) → IsWired box → low < high → high < length box.slots
-    → sent_all (slot_at box low) (sent_by_first (link_due (slot_at box low) (slot_at box high) closed)) ≡ Some first
-    → sent_all (slot_at box high) (sent_by_second (link_due (slot_at box low) (slot_at box high) closed)) ≡ Some second
+    → slot_send_all (slot_at box low) (sent_by_first (link_turn (slot_at box low) (slot_at box high) closed)) ≡ Some first
+    → slot_send_all (slot_at box high) (sent_by_second (link_turn (slot_at box low) (slot_at box high) closed)) ≡ Some second
     → IsLinkAtRest (get_or (set (set box.slots low first) high second) low no_slot) (get_or (set (set box.slots low first) high second) high no_slot)
 pair_rests box low high closed first second wired order inside one two =
     subst (λ (a : Slot). IsLinkAtRest a (get_or (set (set box.slots low first) high second) high no_slot)) (sym (pair_low box.slots low high first second order (omega arith)))
@@ -208,14 +208,14 @@ link_slot_rests box local partner k slots todo wired is same rest but lacks = el
 
 pair_turned : (box : BoxState) (local partner low high : ℕ) (closed : Option Side) (step : BoxStep) → IsWired box → goal_at box local ≡ Link partner
     → low ≡ min local partner → high ≡ max local partner → low < high → high < length box.slots
-    → pair_turn box low high closed ≡ Some step → Turned (Link partner) box local step
+    → pair_step box low high closed ≡ Some step → Turned (Link partner) box local step
 pair_turned box local partner low high closed step wired is low_is high_is order inside goes =
     let form = pair_form box low high closed step goes in
     let low_inside : low < length box.slots = omega arith in
-    let kept_low = all_kept (sent_by_first (link_due (slot_at box low) (slot_at box high) closed)) (slot_at box low) form.first form.first_goes (wired.kept low) in
-    let kept_high = all_kept (sent_by_second (link_due (slot_at box low) (slot_at box high) closed)) (slot_at box high) form.second form.second_goes (wired.kept high) in
-    let medium_low = all_medium (sent_by_first (link_due (slot_at box low) (slot_at box high) closed)) (slot_at box low) form.first form.first_goes in
-    let medium_high = all_medium (sent_by_second (link_due (slot_at box low) (slot_at box high) closed)) (slot_at box high) form.second form.second_goes in
+    let kept_low = all_kept (sent_by_first (link_turn (slot_at box low) (slot_at box high) closed)) (slot_at box low) form.first form.first_goes (wired.kept low) in
+    let kept_high = all_kept (sent_by_second (link_turn (slot_at box low) (slot_at box high) closed)) (slot_at box high) form.second form.second_goes (wired.kept high) in
+    let medium_low = all_medium (sent_by_first (link_turn (slot_at box low) (slot_at box high) closed)) (slot_at box low) form.first form.first_goes in
+    let medium_high = all_medium (sent_by_second (link_turn (slot_at box low) (slot_at box high) closed)) (slot_at box high) form.second form.second_goes in
     let size : length (set (set box.slots low form.first) high form.second) ≡ length box.slots =
     length-set (set box.slots low form.first) high form.second ∙ length-set box.slots low form.first in
     let rest : RestsAt (Link partner) (with_slots box (set (set box.slots low form.first) high form.second)) local =
@@ -236,11 +236,11 @@ pair_turned box local partner low high closed step wired is low_is high_is order
           (subst (λ (i : ℕ). j ≢ i) (sym high_is) (at_max (λ (i : ℕ). j ≢ i) local partner apart.0 apart.1.0)))
           rest but lacks;
       few = subst (λ (s : BoxStep). length s.sent ≤ 4) form.is
-          (omega (arith, length-map (link_due (slot_at box low) (slot_at box high) closed) (numbered low high), link_four closed (slot_at box low) (slot_at box high)));
+          (omega (arith, length-map (link_turn (slot_at box low) (slot_at box high) closed) (numbered low high), link_four closed (slot_at box low) (slot_at box high)));
     }
 
 turned_by : (goal : SlotGoal) (box : BoxState) (local : ℕ) (pushed closed : Bool) (step : BoxStep) → IsWired box → local < length box.slots → goal_at box local ≡ goal
-    → turn_by goal box local pushed closed ≡ Some step → Turned goal box local step
+    → goal_step_by goal box local pushed closed ≡ Some step → Turned goal box local step
 turned_by (End goal) box local pushed closed step wired inside is goes = end_turned box local goal pushed step wired inside is goes
 turned_by (Link partner) box local pushed closed step wired inside is goes =
     let there : partner < length box.slots = (wired.links local partner is).inside in
@@ -250,5 +250,5 @@ turned_by (Link partner) box local pushed closed step wired inside is goes =
 
 -- whatever goal it is
 pub turned : (box : BoxState) (local : ℕ) (pushed closed : Bool) (step : BoxStep) → IsWired box → local < length box.slots
-    → goal_turn box local pushed closed ≡ Some step → Turned (goal_at box local) box local step
+    → goal_step box local pushed closed ≡ Some step → Turned (goal_at box local) box local step
 turned box local pushed closed step wired inside goes = turned_by (goal_at box local) box local pushed closed step wired inside refl goes

@@ -8,7 +8,7 @@ use Rattle.mc_slot.specs.declared.SlotGoal.{SlotGoal}
 use Rattle.mc_slot.specs.declared.SlotGoal.TheVariants.{End, Link}
 use Rattle.mc_box.specs.BoxSound.{IsWired}
 use Rattle.mc_box.specs.Boxes.{BoxState, goal_at}
-use Rattle.mc_box.specs.Goals.{changed_from, changed_slots, has_turn, leads, most}
+use Rattle.mc_box.specs.Goals.{changed_from, changed_slots, has_turn, leads, most_signals}
 use Rattle.mc_box.proofs.Folds.{most_of}
 
 -- ---- sums
@@ -54,20 +54,20 @@ total_next f k = rw add-one refl
 -- ---- what a slot's goal may send, where it has its turn there
 
 abbrev pub cost : ℕ → SlotGoal → ℕ
-cost local goal = if leads local goal then most goal else 0
+cost local goal = if leads local goal then most_signals goal else 0
 
 abbrev pub cost_at : List SlotGoal → ℕ → ℕ
 cost_at goals local = cost local (get_or goals local (End ToClose))
 
-cost_led : (led : Bool) (goal : SlotGoal) → led ≡ true → most goal ≤ (if led then most goal else 0)
+cost_led : (led : Bool) (goal : SlotGoal) → led ≡ true → most_signals goal ≤ (if led then most_signals goal else 0)
 cost_led true goal is = omega arith
 cost_led false goal is = absurd (cc)
 
 -- a goal that has its turn here leads here
-pub turn_cost : (local : ℕ) (old new : SlotGoal) → has_turn local old new ≡ true → most new ≤ cost local new
+pub turn_cost : (local : ℕ) (old new : SlotGoal) → has_turn local old new ≡ true → most_signals new ≤ cost local new
 turn_cost local old new turns = cost_led (leads local new) new (and_parts (not (is_same_slot_goal old new)) (leads local new) turns).1
 
-step_by : (turn : Bool) (goals : List SlotGoal) (local : ℕ) (locals : List ℕ) (here sum end : ℕ) → (turn ≡ true → most (get_or goals local (End ToClose)) ≤ here)
+step_by : (turn : Bool) (goals : List SlotGoal) (local : ℕ) (locals : List ℕ) (here sum end : ℕ) → (turn ≡ true → most_signals (get_or goals local (End ToClose)) ≤ here)
     → most_of goals locals + (here + sum) ≤ end → most_of goals (if turn then local ∷ locals else locals) + sum ≤ end
 step_by true goals local locals here sum end few rest = omega (arith, few refl)
 step_by false goals local locals here sum end few rest = omega arith
@@ -83,7 +83,7 @@ changed_cost (old ∷ olds) (new ∷ news) goals at same =
     changed_cost olds news goals (at + 1) (λ i j is inside. same (suc i) j (omega arith) (omega arith)) in
     let end : at + 1 + length news ≡ at + suc (length news) = omega arith in
     step_by (has_turn at old new) goals at (changed_from (at + 1) olds news) (cost_at goals at) (total (cost_at goals) at) (total (cost_at goals) (at + suc (length news)))
-    (λ turns. subst (λ (g : SlotGoal). most g ≤ cost at g) here (turn_cost at old new turns))
+    (λ turns. subst (λ (g : SlotGoal). most_signals g ≤ cost at g) here (turn_cost at old new turns))
     (subst (λ (n : ℕ). most_of goals (changed_from (at + 1) olds news) + (cost_at goals at + total (cost_at goals) at) ≤ total (cost_at goals) n) end
     (subst (λ (n : ℕ). most_of goals (changed_from (at + 1) olds news) + n ≤ total (cost_at goals) (at + 1 + length news)) (total_next (cost_at goals) at) rest))
 
@@ -189,9 +189,9 @@ wired_cost box wired =
 -- and so the turns of changed goals send no more
 pub changed_twice : (box : BoxState) (olds : List SlotGoal) → IsWired box → most_of box.goals (changed_slots olds box.goals) ≤ 2 * length box.slots
 changed_twice box olds wired =
-    let most : most_of box.goals (changed_from 0 olds box.goals) + 0 ≤ total (cost_at box.goals) (0 + length box.goals) =
+    let most_signals : most_of box.goals (changed_from 0 olds box.goals) + 0 ≤ total (cost_at box.goals) (0 + length box.goals) =
     changed_cost olds box.goals box.goals 0 (λ i j is inside. let same : i ≡ j = omega arith in ap (λ (n : ℕ). get_or box.goals n (End ToClose)) same) in
     let size : 0 + length box.goals ≡ length box.slots = omega (arith, wired.whole.goals) in
     let within : most_of box.goals (changed_from 0 olds box.goals) + 0 ≤ total (cost_at box.goals) (length box.slots) =
-    subst (λ (n : ℕ). most_of box.goals (changed_from 0 olds box.goals) + 0 ≤ total (cost_at box.goals) n) size most in
+    subst (λ (n : ℕ). most_of box.goals (changed_from 0 olds box.goals) + 0 ≤ total (cost_at box.goals) n) size most_signals in
     omega (arith, within, wired_cost box wired)

@@ -5,15 +5,15 @@ use Rattle.std.proofs.Math.ListN.{set, length-set}
 use Rattle.std.proofs.lemmas.Bool.{and_parts, cases_lt, lt-ltb, le-ltb}
 use Rattle.std.proofs.lemmas.List.{get_or-set_same, get_or-set_other}
 use Rattle.mc_link.specs.LinkLaws.{flipped}
-use Rattle.mc_link.specs.LinkTurn.{IsLinkAtRest, link_due, numbered, sent_by_first, sent_by_second, side_closed}
+use Rattle.mc_link.specs.LinkTurn.{IsLinkAtRest, link_turn, numbered, sent_by_first, sent_by_second, side_closed}
 use Rattle.mc_link.specs.declared.Side.{Side}
 use Rattle.mc_link.specs.declared.Side.TheVariants.{First, Second}
 use Rattle.mc_link.proofs.Mirror.{link_mirror, mirror_rests, side_turned}
 use Rattle.mc_signal.specs.declared.Descriptor.{Descriptor}
 use Rattle.mc_signal.specs.declared.Sender.{Sender}
 use Rattle.mc_signal.specs.declared.Signal.{Signal}
-use Rattle.mc_slot.specs.EndTurn.{due, owes, pushed_by, closes_by}
-use Rattle.mc_slot.specs.Moves.{answered, sent_all, taken, Took}
+use Rattle.mc_slot.specs.EndTurn.{end_turn, owes, pushes, closes_by}
+use Rattle.mc_slot.specs.Moves.{answered, slot_send_all, slot_take, Took}
 use Rattle.mc_slot.specs.Sending.{pair_of}
 use Rattle.mc_slot.specs.declared.Goal.{Goal}
 use Rattle.mc_slot.specs.declared.Slot.{Slot}
@@ -21,9 +21,9 @@ use Rattle.mc_slot.specs.declared.SlotGoal.{SlotGoal}
 use Rattle.mc_slot.specs.declared.SlotGoal.TheVariants.{End, Link}
 use Rattle.mc_slot.specs.declared.State.{State}
 use Rattle.mc_box.specs.Acting.{sent_by}
-use Rattle.mc_box.specs.BoxEvents.{BoxStep, answering, box_event, end_turn, goal_turn, link_turn, pair_turn, side_of, take_step, turn_by}
+use Rattle.mc_box.specs.BoxEvents.{BoxStep, answering, box_event, end_step, goal_step, link_step, pair_step, side_of, take_step, goal_step_by}
 use Rattle.mc_box.specs.BoxSound.{IsWired, IsSoundBox, RestsAt}
-use Rattle.mc_box.specs.Boxes.{BoxState, goal_owes, is_slot, no_slot, owes_at, slot_at, goal_at, media_at, own, sender, with_slot}
+use Rattle.mc_box.specs.Boxes.{BoxState, slot_owes, is_slot, no_slot, box_owes, slot_at, goal_at, media_at, own, sender, with_slot}
 use Rattle.mc_box.specs.declared.event.Event.TheVariants.{Take, Retry}
 use Rattle.mc_box.proofs.Changes.{slot_inside}
 use Rattle.mc_box.proofs.GoalTurns.{end_form, pair_else, pair_form, pair_high, pair_low}
@@ -40,13 +40,13 @@ pub record Idle (box : BoxState) (step : BoxStep) (k : ℕ) : Type 0 where
 
 -- the turn of an end, for its slot as it is
 pub record EndTurned (box : BoxState) (local : ℕ) (signals : List Signal) (slot : Slot) (turn : BoxStep) : Type 0 where
-  pub goes : sent_all slot signals ≡ Some (slot_at turn.after local)
+  pub goes : slot_send_all slot signals ≡ Some (slot_at turn.after local)
   pub sends : sent_by local turn.sent ≡ signals
   pub others : (k : ℕ) → k ≢ local → Idle box turn k
   pub goals : turn.after.goals ≡ box.goals
 
 -- the slot of an end after what it sends stands in the box
-end_put : (box : BoxState) (local : ℕ) (signals : List Signal) (last : Slot) → local < length box.slots → sent_all (slot_at box local) signals ≡ Some last
+end_put : (box : BoxState) (local : ℕ) (signals : List Signal) (last : Slot) → local < length box.slots → slot_send_all (slot_at box local) signals ≡ Some last
     → EndTurned box local signals (slot_at box local) (record { sent = map (pair_of local) signals; after = with_slot box local last })
 end_put box local signals last inside goes = record {
   goes = goes ∙ ap Some (sym (get_or-set_same box.slots local last no_slot inside));
@@ -56,39 +56,39 @@ end_put box local signals last inside goes = record {
 }
 
 -- so what an end's turn comes to is what its slot sends and becomes
-pub end_turned : (box : BoxState) (local : ℕ) (goal : Goal) (pushed : Bool) (turn : BoxStep) → local < length box.slots → end_turn goal box local pushed ≡ Some turn
-    → EndTurned box local (due goal (slot_at box local) pushed (own box local) (sender box local)) (slot_at box local) turn
+pub end_turned : (box : BoxState) (local : ℕ) (goal : Goal) (pushed : Bool) (turn : BoxStep) → local < length box.slots → end_step goal box local pushed ≡ Some turn
+    → EndTurned box local (end_turn goal (slot_at box local) pushed (own box local) (sender box local)) (slot_at box local) turn
 end_turned box local goal pushed turn inside goes =
     let form = end_form box local goal pushed turn goes in
-    subst (EndTurned box local (due goal (slot_at box local) pushed (own box local) (sender box local)) (slot_at box local)) form.is
-    (end_put box local (due goal (slot_at box local) pushed (own box local) (sender box local)) form.last inside form.goes)
+    subst (EndTurned box local (end_turn goal (slot_at box local) pushed (own box local) (sender box local)) (slot_at box local)) form.is
+    (end_put box local (end_turn goal (slot_at box local) pushed (own box local) (sender box local)) form.last inside form.goes)
 
 -- the turn of a link, for its two slots as they are, and with the one of them that a close has closed
 pub record LinkTurned (box : BoxState) (local partner : ℕ) (a b : Slot) (closed : Option Side) (turn : BoxStep) : Type 0 where
-  pub first : sent_all a (sent_by_first (link_due a b closed)) ≡ Some (slot_at turn.after local)
-  pub second : sent_all b (sent_by_second (link_due a b closed)) ≡ Some (slot_at turn.after partner)
-  pub sends : sent_by local turn.sent ≡ sent_by_first (link_due a b closed)
-  pub partner_sends : sent_by partner turn.sent ≡ sent_by_second (link_due a b closed)
+  pub first : slot_send_all a (sent_by_first (link_turn a b closed)) ≡ Some (slot_at turn.after local)
+  pub second : slot_send_all b (sent_by_second (link_turn a b closed)) ≡ Some (slot_at turn.after partner)
+  pub sends : sent_by local turn.sent ≡ sent_by_first (link_turn a b closed)
+  pub partner_sends : sent_by partner turn.sent ≡ sent_by_second (link_turn a b closed)
   pub others : (k : ℕ) → k ≢ local → k ≢ partner → Idle box turn k
   pub goals : turn.after.goals ≡ box.goals
 
 -- both slots of a link after what they send stand in the box
 pair_put : (box : BoxState) (low high : ℕ) (a b first second : Slot) (closed : Option Side) → low < high → high < length box.slots
-    → sent_all a (sent_by_first (link_due a b closed)) ≡ Some first → sent_all b (sent_by_second (link_due a b closed)) ≡ Some second
-    → LinkTurned box low high a b closed (record { sent = map (numbered low high) (link_due a b closed); after = with_slot (with_slot box low first) high second })
+    → slot_send_all a (sent_by_first (link_turn a b closed)) ≡ Some first → slot_send_all b (sent_by_second (link_turn a b closed)) ≡ Some second
+    → LinkTurned box low high a b closed (record { sent = map (numbered low high) (link_turn a b closed); after = with_slot (with_slot box low first) high second })
 pair_put box low high a b first second closed order inside one two =
     let apart : low ≢ high = omega arith in
     record {
       first = one ∙ ap Some (sym (pair_low box.slots low high first second order (omega arith)));
       second = two ∙ ap Some (sym (pair_high box.slots low high first second inside));
-      sends = sent_by_low low high (link_due a b closed) apart;
-      partner_sends = sent_by_high low high (link_due a b closed) apart;
-      others = λ k below above. record { sends = sent_by_neither k low high (link_due a b closed) below above; stays = pair_else box.slots low high k first second below above };
+      sends = sent_by_low low high (link_turn a b closed) apart;
+      partner_sends = sent_by_high low high (link_turn a b closed) apart;
+      others = λ k below above. record { sends = sent_by_neither k low high (link_turn a b closed) below above; stays = pair_else box.slots low high k first second below above };
       goals = refl;
     }
 
 -- so what a link's turn comes to is what its two slots send and become
-pair_turned : (box : BoxState) (low high : ℕ) (closed : Option Side) (turn : BoxStep) → low < high → high < length box.slots → pair_turn box low high closed ≡ Some turn
+pair_turned : (box : BoxState) (low high : ℕ) (closed : Option Side) (turn : BoxStep) → low < high → high < length box.slots → pair_step box low high closed ≡ Some turn
     → LinkTurned box low high (slot_at box low) (slot_at box high) closed turn
 pair_turned box low high closed turn order inside goes =
     let form = pair_form box low high closed turn goes in
@@ -101,8 +101,8 @@ turned_back : (box : BoxState) (local partner : ℕ) (a b : Slot) (closed : Opti
 turned_back box local partner a b closed turn turned =
     let mirror = link_mirror a b closed in
     record {
-      first = subst (λ (l : List Signal). sent_all a l ≡ Some (slot_at turn.after local)) mirror.1 turned.second;
-      second = subst (λ (l : List Signal). sent_all b l ≡ Some (slot_at turn.after partner)) mirror.0 turned.first;
+      first = subst (λ (l : List Signal). slot_send_all a l ≡ Some (slot_at turn.after local)) mirror.1 turned.second;
+      second = subst (λ (l : List Signal). slot_send_all b l ≡ Some (slot_at turn.after partner)) mirror.0 turned.first;
       sends = turned.partner_sends ∙ mirror.1;
       partner_sends = turned.sends ∙ mirror.0;
       others = λ k here there. turned.others k there here;
@@ -111,25 +111,25 @@ turned_back box local partner a b closed turn turned =
 
 -- seen from the slot that takes, whether it is the lower one or the higher
 pub link_turned : (box : BoxState) (local partner : ℕ) (signal : Signal) (state : State) (turn : BoxStep) → partner ≢ local → local < length box.slots → partner < length box.slots
-    → link_turn box local partner (closes_by signal state) ≡ Some turn → LinkTurned box local partner (slot_at box local) (slot_at box partner) (side_closed (closes_by signal state) First) turn
+    → link_step box local partner (closes_by signal state) ≡ Some turn → LinkTurned box local partner (slot_at box local) (slot_at box partner) (side_closed (closes_by signal state) First) turn
 link_turned box local partner signal state turn other here there goes = elim (cases_lt local partner) [
   | inl below ↦
       let low : min local partner ≡ local = omega arith in
       let high : max local partner ≡ partner = omega arith in
       let side : side_of local partner ≡ First = let test : nat_lt local partner ≡ true = lt-ltb local partner below in rw test refl in
-      let made : pair_turn box local partner (side_closed (closes_by signal state) First) ≡ Some turn =
-      subst (λ (s : Side). pair_turn box local partner (side_closed (closes_by signal state) s) ≡ Some turn) side
-      (subst (λ (k : ℕ). pair_turn box local k (side_closed (closes_by signal state) (side_of local partner)) ≡ Some turn) high
-      (subst (λ (k : ℕ). pair_turn box k (max local partner) (side_closed (closes_by signal state) (side_of local partner)) ≡ Some turn) low goes)) in
+      let made : pair_step box local partner (side_closed (closes_by signal state) First) ≡ Some turn =
+      subst (λ (s : Side). pair_step box local partner (side_closed (closes_by signal state) s) ≡ Some turn) side
+      (subst (λ (k : ℕ). pair_step box local k (side_closed (closes_by signal state) (side_of local partner)) ≡ Some turn) high
+      (subst (λ (k : ℕ). pair_step box k (max local partner) (side_closed (closes_by signal state) (side_of local partner)) ≡ Some turn) low goes)) in
       pair_turned box local partner (side_closed (closes_by signal state) First) turn below there made
   | inr above ↦
       let low : min local partner ≡ partner = omega arith in
       let high : max local partner ≡ local = omega arith in
       let side : side_of local partner ≡ Second = let test : nat_lt local partner ≡ false = le-ltb local partner above in rw test refl in
-      let made : pair_turn box partner local (side_closed (closes_by signal state) Second) ≡ Some turn =
-      subst (λ (s : Side). pair_turn box partner local (side_closed (closes_by signal state) s) ≡ Some turn) side
-      (subst (λ (k : ℕ). pair_turn box partner k (side_closed (closes_by signal state) (side_of local partner)) ≡ Some turn) high
-      (subst (λ (k : ℕ). pair_turn box k (max local partner) (side_closed (closes_by signal state) (side_of local partner)) ≡ Some turn) low goes)) in
+      let made : pair_step box partner local (side_closed (closes_by signal state) Second) ≡ Some turn =
+      subst (λ (s : Side). pair_step box partner local (side_closed (closes_by signal state) s) ≡ Some turn) side
+      (subst (λ (k : ℕ). pair_step box partner k (side_closed (closes_by signal state) (side_of local partner)) ≡ Some turn) high
+      (subst (λ (k : ℕ). pair_step box k (max local partner) (side_closed (closes_by signal state) (side_of local partner)) ≡ Some turn) low goes)) in
       turned_back box local partner (slot_at box local) (slot_at box partner) (side_closed (closes_by signal state) First) turn
       (subst (λ (closed : Option Side). LinkTurned box partner local (slot_at box partner) (slot_at box local) closed turn) (side_turned (closes_by signal state))
       (pair_turned box partner local (side_closed (closes_by signal state) Second) turn (omega arith) here made))
@@ -141,9 +141,9 @@ link_turned box local partner signal state turn other here there goes = elim (ca
 pub record EndTook (box : BoxState) (local : ℕ) (goal : Goal) (signal : Signal) (step : BoxStep) : Type 0 where
   pub answer : Option Signal
   pub middle : Slot
-  pub takes : taken (slot_at box local) signal ≡ Some record { answer = answer; after = middle }
-  pub goes : sent_all middle (due goal middle (pushed_by signal middle.state) (own box local) (sender box local)) ≡ Some (slot_at step.after local)
-  pub sends : sent_by local step.sent ≡ answered answer ++ due goal middle (pushed_by signal middle.state) (own box local) (sender box local)
+  pub takes : slot_take (slot_at box local) signal ≡ Some record { answer = answer; after = middle }
+  pub goes : slot_send_all middle (end_turn goal middle (pushes signal middle.state) (own box local) (sender box local)) ≡ Some (slot_at step.after local)
+  pub sends : sent_by local step.sent ≡ answered answer ++ end_turn goal middle (pushes signal middle.state) (own box local) (sender box local)
   pub others : (k : ℕ) → k ≢ local → Idle box step k
   pub goals : step.after.goals ≡ box.goals
 
@@ -151,11 +151,11 @@ pub record EndTook (box : BoxState) (local : ℕ) (goal : Goal) (signal : Signal
 pub record LinkTook (box : BoxState) (local partner : ℕ) (signal : Signal) (step : BoxStep) : Type 0 where
   pub answer : Option Signal
   pub middle : Slot
-  pub takes : taken (slot_at box local) signal ≡ Some record { answer = answer; after = middle }
-  pub first : sent_all middle (sent_by_first (link_due middle (slot_at box partner) (side_closed (closes_by signal middle.state) First))) ≡ Some (slot_at step.after local)
-  pub second : sent_all (slot_at box partner) (sent_by_second (link_due middle (slot_at box partner) (side_closed (closes_by signal middle.state) First))) ≡ Some (slot_at step.after partner)
-  pub sends : sent_by local step.sent ≡ answered answer ++ sent_by_first (link_due middle (slot_at box partner) (side_closed (closes_by signal middle.state) First))
-  pub partner_sends : sent_by partner step.sent ≡ sent_by_second (link_due middle (slot_at box partner) (side_closed (closes_by signal middle.state) First))
+  pub takes : slot_take (slot_at box local) signal ≡ Some record { answer = answer; after = middle }
+  pub first : slot_send_all middle (sent_by_first (link_turn middle (slot_at box partner) (side_closed (closes_by signal middle.state) First))) ≡ Some (slot_at step.after local)
+  pub second : slot_send_all (slot_at box partner) (sent_by_second (link_turn middle (slot_at box partner) (side_closed (closes_by signal middle.state) First))) ≡ Some (slot_at step.after partner)
+  pub sends : sent_by local step.sent ≡ answered answer ++ sent_by_first (link_turn middle (slot_at box partner) (side_closed (closes_by signal middle.state) First))
+  pub partner_sends : sent_by partner step.sent ≡ sent_by_second (link_turn middle (slot_at box partner) (side_closed (closes_by signal middle.state) First))
   pub others : (k : ℕ) → k ≢ local → k ≢ partner → Idle box step k
   pub goals : step.after.goals ≡ box.goals
 
@@ -187,22 +187,22 @@ idle_still box local k middle answer turn apart idle = record {
 
 -- with the answer of a Take before it: at an end
 end_answers : (box : BoxState) (local : ℕ) (goal : Goal) (signal : Signal) (answer : Option Signal) (middle : Slot) (turn : BoxStep)
-    → taken (slot_at box local) signal ≡ Some record { answer = answer; after = middle }
-    → EndTurned (with_slot box local middle) local (due goal middle (pushed_by signal middle.state) (own box local) (sender box local)) middle turn
+    → slot_take (slot_at box local) signal ≡ Some record { answer = answer; after = middle }
+    → EndTurned (with_slot box local middle) local (end_turn goal middle (pushes signal middle.state) (own box local) (sender box local)) middle turn
     → EndTook box local goal signal (answering local answer turn)
 end_answers box local goal signal answer middle turn takes turned = record {
   answer = answer;
   middle = middle;
   takes = takes;
   goes = turned.goes;
-  sends = answer_own local answer turn (due goal middle (pushed_by signal middle.state) (own box local) (sender box local)) turned.sends;
+  sends = answer_own local answer turn (end_turn goal middle (pushes signal middle.state) (own box local) (sender box local)) turned.sends;
   others = λ k apart. idle_still box local k middle answer turn apart (turned.others k apart);
   goals = turned.goals;
 }
 
 -- and at a link
 link_answers : (box : BoxState) (local partner : ℕ) (signal : Signal) (answer : Option Signal) (middle : Slot) (turn : BoxStep) → partner ≢ local
-    → taken (slot_at box local) signal ≡ Some record { answer = answer; after = middle }
+    → slot_take (slot_at box local) signal ≡ Some record { answer = answer; after = middle }
     → LinkTurned (with_slot box local middle) local partner middle (slot_at box partner) (side_closed (closes_by signal middle.state) First) turn
     → LinkTook box local partner signal (answering local answer turn)
 link_answers box local partner signal answer middle turn other takes turned = record {
@@ -211,26 +211,26 @@ link_answers box local partner signal answer middle turn other takes turned = re
   takes = takes;
   first = turned.first;
   second = turned.second;
-  sends = answer_own local answer turn (sent_by_first (link_due middle (slot_at box partner) (side_closed (closes_by signal middle.state) First))) turned.sends;
-  partner_sends = answer_else local partner answer turn (sent_by_second (link_due middle (slot_at box partner) (side_closed (closes_by signal middle.state) First))) other turned.partner_sends;
+  sends = answer_own local answer turn (sent_by_first (link_turn middle (slot_at box partner) (side_closed (closes_by signal middle.state) First))) turned.sends;
+  partner_sends = answer_else local partner answer turn (sent_by_second (link_turn middle (slot_at box partner) (side_closed (closes_by signal middle.state) First))) other turned.partner_sends;
   others = λ k apart beyond. idle_still box local k middle answer turn apart (turned.others k apart beyond);
   goals = turned.goals;
 }
 
 -- so a Take comes to what the goal of its slot says
 took_by : (goal : SlotGoal) (box : BoxState) (local : ℕ) (signal : Signal) (answer : Option Signal) (middle : Slot) (turn : BoxStep) → IsWired box → local < length box.slots
-    → goal_at box local ≡ goal → taken (slot_at box local) signal ≡ Some record { answer = answer; after = middle }
-    → turn_by goal (with_slot box local middle) local (pushed_by signal middle.state) (closes_by signal middle.state) ≡ Some turn → TookBy goal box local signal (answering local answer turn)
+    → goal_at box local ≡ goal → slot_take (slot_at box local) signal ≡ Some record { answer = answer; after = middle }
+    → goal_step_by goal (with_slot box local middle) local (pushes signal middle.state) (closes_by signal middle.state) ≡ Some turn → TookBy goal box local signal (answering local answer turn)
 took_by (End goal) box local signal answer middle turn wired inside is takes goes =
     let slot : slot_at (with_slot box local middle) local ≡ middle = get_or-set_same box.slots local middle no_slot inside in
     let mine : own (with_slot box local middle) local ≡ own box local = own_put box.kind box (set box.slots local middle) box.goals box.media (media_at box local) local in
     let me : sender (with_slot box local middle) local ≡ sender box local = sender_put box.kind box (set box.slots local middle) box.goals box.media (media_at box local) local in
     let there : local < length (set box.slots local middle) = subst (λ (n : ℕ). local < n) (sym (length-set box.slots local middle)) inside in
     end_answers box local goal signal answer middle turn takes
-    (subst (λ (a : Slot). EndTurned (with_slot box local middle) local (due goal a (pushed_by signal middle.state) (own box local) (sender box local)) a turn) slot
-    (subst (λ (d : Descriptor). EndTurned (with_slot box local middle) local (due goal (slot_at (with_slot box local middle) local) (pushed_by signal middle.state) d (sender box local)) (slot_at (with_slot box local middle) local) turn) mine
-    (subst (λ (m : Sender). EndTurned (with_slot box local middle) local (due goal (slot_at (with_slot box local middle) local) (pushed_by signal middle.state) (own (with_slot box local middle) local) m) (slot_at (with_slot box local middle) local) turn) me
-    (end_turned (with_slot box local middle) local goal (pushed_by signal middle.state) turn there goes))))
+    (subst (λ (a : Slot). EndTurned (with_slot box local middle) local (end_turn goal a (pushes signal middle.state) (own box local) (sender box local)) a turn) slot
+    (subst (λ (d : Descriptor). EndTurned (with_slot box local middle) local (end_turn goal (slot_at (with_slot box local middle) local) (pushes signal middle.state) d (sender box local)) (slot_at (with_slot box local middle) local) turn) mine
+    (subst (λ (m : Sender). EndTurned (with_slot box local middle) local (end_turn goal (slot_at (with_slot box local middle) local) (pushes signal middle.state) (own (with_slot box local middle) local) m) (slot_at (with_slot box local middle) local) turn) me
+    (end_turned (with_slot box local middle) local goal (pushes signal middle.state) turn there goes))))
 took_by (Link partner) box local signal answer middle turn wired inside is takes goes =
     let link = wired.links local partner is in
     let here : slot_at (with_slot box local middle) local ≡ middle = get_or-set_same box.slots local middle no_slot inside in
@@ -247,8 +247,8 @@ step_took : (box : BoxState) (local : ℕ) (signal : Signal) (step : BoxStep) �
     → TookBy (goal_at box local) box local signal step
 step_took box local signal step wired inside goes =
     let one = then_some (λ (took : Took). option_map (answering local took.answer)
-    (goal_turn (with_slot box local took.after) local (pushed_by signal took.after.state) (closes_by signal took.after.state))) (taken (slot_at box local) signal) step goes in
-    let two = map_some (answering local one.0.answer) (goal_turn (with_slot box local one.0.after) local (pushed_by signal one.0.after.state) (closes_by signal one.0.after.state)) step one.2 in
+    (goal_step (with_slot box local took.after) local (pushes signal took.after.state) (closes_by signal took.after.state))) (slot_take (slot_at box local) signal) step goes in
+    let two = map_some (answering local one.0.answer) (goal_step (with_slot box local one.0.after) local (pushes signal one.0.after.state) (closes_by signal one.0.after.state)) step one.2 in
     subst (TookBy (goal_at box local) box local signal) two.2
     (took_by (goal_at box local) box local signal one.0.answer one.0.after two.0 wired inside refl one.1 two.1)
 
@@ -276,19 +276,19 @@ pub record Retried (box : BoxState) (local : ℕ) (step : BoxStep) : Type 0 wher
   pub inside : local < length box.slots
   pub aims : goal_at box local ≡ End goal
   pub owed : owes goal (slot_at box local) ≡ true
-  pub turned : EndTurned box local (due goal (slot_at box local) true (own box local) (sender box local)) (slot_at box local) step
+  pub turned : EndTurned box local (end_turn goal (slot_at box local) true (own box local) (sender box local)) (slot_at box local) step
 
 -- and so does a Retry, which an end alone owes
-retried_by : (goal : SlotGoal) (box : BoxState) (local : ℕ) (step : BoxStep) → local < length box.slots → goal_at box local ≡ goal → goal_owes goal (slot_at box local) ≡ true
-    → turn_by goal box local true false ≡ Some step → Retried box local step
+retried_by : (goal : SlotGoal) (box : BoxState) (local : ℕ) (step : BoxStep) → local < length box.slots → goal_at box local ≡ goal → slot_owes goal (slot_at box local) ≡ true
+    → goal_step_by goal box local true false ≡ Some step → Retried box local step
 retried_by (End goal) box local step inside aims owed goes = record { goal = goal; inside = inside; aims = aims; owed = owed; turned = end_turned box local goal true step inside goes }
 retried_by (Link partner) box local step inside aims owed goes = absurd (cc)
 
 -- what a Retry comes to
 pub retry_turned : (box : BoxState) (local : ℕ) (step : BoxStep) → box_event box (Retry local) None ≡ Some step → Retried box local step
 retry_turned box local step goes =
-    let one = if_some (is_slot box local && owes_at box local) (goal_turn box local true false) step goes in
-    let parts = and_parts (is_slot box local) (owes_at box local) one.0 in
+    let one = if_some (is_slot box local && box_owes box local) (goal_step box local true false) step goes in
+    let parts = and_parts (is_slot box local) (box_owes box local) one.0 in
     retried_by (goal_at box local) box local step (slot_inside box local parts.0) refl parts.1 one.1
 
 -- ---- at rest

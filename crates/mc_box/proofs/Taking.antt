@@ -2,26 +2,26 @@
 use Rattle.std.proofs.Common.{◌≡◌, ℕ, ◌+◌, ◌<◌, ◌≤◌, Bool, Option, Some, length, map, refl, subst, arith, length-append, length-take-le}
 use Rattle.std.proofs.lemmas.List.{length-map}
 use Rattle.mc_signal.specs.declared.Signal.{Signal}
-use Rattle.mc_slot.specs.EndTurn.{pushed_by, closes_by}
-use Rattle.mc_slot.specs.Moves.{answered, taken}
+use Rattle.mc_slot.specs.EndTurn.{pushes, closes_by}
+use Rattle.mc_slot.specs.Moves.{answered, slot_take}
 use Rattle.mc_slot.specs.Sending.{pair_of, sends_of}
 use Rattle.mc_slot.specs.declared.Slot.{Slot}
 use Rattle.mc_slot.specs.declared.sends.Sends.{Sends}
-use Rattle.mc_box.specs.BoxEvents.{BoxStep, answering, goal_turn, take_step}
+use Rattle.mc_box.specs.BoxEvents.{BoxStep, answering, goal_step, take_step}
 use Rattle.mc_box.specs.BoxSound.{IsSoundBox}
 use Rattle.mc_box.specs.Boxes.{BoxState, slot_at, with_slot}
 use Rattle.mc_box.proofs.TakeThree.{take_three}
 
 pub take_made : (box : BoxState) (local : ℕ) (signal : Signal) (answer : Option Signal) (after : Slot) (turn : BoxStep)
-    → taken (slot_at box local) signal ≡ Some record { answer = answer; after = after }
-    → goal_turn (with_slot box local after) local (pushed_by signal after.state) (closes_by signal after.state) ≡ Some turn
+    → slot_take (slot_at box local) signal ≡ Some record { answer = answer; after = after }
+    → goal_step (with_slot box local after) local (pushes signal after.state) (closes_by signal after.state) ≡ Some turn
     → take_step box local signal ≡ Some (answering local answer turn)
 take_made box local signal answer after turn goes turns = rw (goes, turns) refl
 
 -- the answer and the turn are at most three
 pub take_few : (box : BoxState) (local : ℕ) (signal : Signal) (answer : Option Signal) (after : Slot) (turn : BoxStep) → IsSoundBox box → local < length box.slots
-    → taken (slot_at box local) signal ≡ Some record { answer = answer; after = after }
-    → goal_turn (with_slot box local after) local (pushed_by signal after.state) (closes_by signal after.state) ≡ Some turn
+    → slot_take (slot_at box local) signal ≡ Some record { answer = answer; after = after }
+    → goal_step (with_slot box local after) local (pushes signal after.state) (closes_by signal after.state) ≡ Some turn
     → length (answered answer) + length turn.sent ≤ 3
 take_few box local signal answer after turn sound inside goes turns =
     omega (
@@ -37,13 +37,13 @@ sends_length sends fits = length-take-le sends.len sends.at fits
 
 -- the slot that was read is the one that takes
 pub took_there : (box : BoxState) (local : ℕ) (slot : Slot) (signal : Signal) (answer : Option Signal) (after : Slot) → slot ≡ slot_at box local
-    → taken slot signal ≡ Some record { answer = answer; after = after } → taken (slot_at box local) signal ≡ Some record { answer = answer; after = after }
-took_there box local slot signal answer after is goes = subst (λ (s : Slot). taken s signal ≡ Some (record { answer = answer; after = after })) is goes
+    → slot_take slot signal ≡ Some record { answer = answer; after = after } → slot_take (slot_at box local) signal ≡ Some record { answer = answer; after = after }
+took_there box local slot signal answer after is goes = subst (λ (s : Slot). slot_take s signal ≡ Some (record { answer = answer; after = after })) is goes
 
 -- the turn goes by the signal and the slot's state after it
 pub turn_there : (box : BoxState) (local : ℕ) (signal : Signal) (after : Slot) (pushed closed : Bool) (turn : BoxStep)
-    → pushed ≡ pushed_by signal after.state → closed ≡ closes_by signal after.state → goal_turn (with_slot box local after) local pushed closed ≡ Some turn
-    → goal_turn (with_slot box local after) local (pushed_by signal after.state) (closes_by signal after.state) ≡ Some turn
+    → pushed ≡ pushes signal after.state → closed ≡ closes_by signal after.state → goal_step (with_slot box local after) local pushed closed ≡ Some turn
+    → goal_step (with_slot box local after) local (pushes signal after.state) (closes_by signal after.state) ≡ Some turn
 turn_there box local signal after pushed closed turn push close goes =
-    subst (λ (p : Bool). goal_turn (with_slot box local after) local p (closes_by signal after.state) ≡ Some turn) push
-    (subst (λ (c : Bool). goal_turn (with_slot box local after) local pushed c ≡ Some turn) close goes)
+    subst (λ (p : Bool). goal_step (with_slot box local after) local p (closes_by signal after.state) ≡ Some turn) push
+    (subst (λ (c : Bool). goal_step (with_slot box local after) local pushed c ≡ Some turn) close goes)

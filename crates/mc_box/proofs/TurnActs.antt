@@ -4,18 +4,18 @@ use Rattle.std.specs.Option.{option_map}
 use Rattle.std.proofs.Math.ListN.{get_or, set}
 use Rattle.std.proofs.lemmas.Bool.{cases_eq}
 use Rattle.std.proofs.lemmas.List.{get_or-set_same, get_or-set_other}
-use Rattle.mc_link.specs.LinkTurn.{link_due, numbered, sent_by_first, sent_by_second, side_closed}
+use Rattle.mc_link.specs.LinkTurn.{link_turn, numbered, sent_by_first, sent_by_second, side_closed}
 use Rattle.mc_link.specs.declared.Side.{Side}
 use Rattle.mc_link.proofs.Sides.{sent_both}
 use Rattle.mc_signal.specs.declared.Signal.{Signal}
-use Rattle.mc_slot.specs.EndTurn.{due}
-use Rattle.mc_slot.specs.Moves.{sent_all}
+use Rattle.mc_slot.specs.EndTurn.{end_turn}
+use Rattle.mc_slot.specs.Moves.{slot_send_all}
 use Rattle.mc_slot.specs.Sending.{pair_of}
 use Rattle.mc_slot.specs.declared.Slot.{Slot}
 use Rattle.mc_slot.specs.declared.SlotGoal.{SlotGoal}
 use Rattle.mc_slot.specs.declared.SlotGoal.TheVariants.{End, Link}
 use Rattle.mc_box.specs.Acting.{sent_by, IsSameMake}
-use Rattle.mc_box.specs.BoxEvents.{BoxStep, followed, goal_turn, side_of, turn_by, turns_of}
+use Rattle.mc_box.specs.BoxEvents.{BoxStep, followed, goal_step, side_of, goal_step_by, goal_steps}
 use Rattle.mc_box.specs.BoxSound.{IsWired}
 use Rattle.mc_box.specs.Boxes.{BoxState, no_slot, slot_at, goal_at, own, sender, with_slot}
 use Rattle.mc_box.proofs.Folds.{AreInside}
@@ -52,15 +52,15 @@ make_slots box slots size =
 
 -- each slot sends its part, one signal after another
 abbrev pub SendsEach : BoxState → List (ℕ × Signal) → BoxState → Type 0
-SendsEach box sent after = (k : ℕ) → k < length box.slots → sent_all (slot_at box k) (sent_by k sent) ≡ Some (slot_at after k)
+SendsEach box sent after = (k : ℕ) → k < length box.slots → slot_send_all (slot_at box k) (sent_by k sent) ≡ Some (slot_at after k)
 
 -- a slot that has no part stays
-sends_none : (slot after : Slot) (signals : List Signal) → signals ≡ [] → after ≡ slot → sent_all slot signals ≡ Some after
+sends_none : (slot after : Slot) (signals : List Signal) → signals ≡ [] → after ≡ slot → slot_send_all slot signals ≡ Some after
 sends_none slot after signals none same = rw (none, same) refl
 
 -- the part of a slot, and what it becomes
-sends_part : (slot last after : Slot) (due signals : List Signal) → signals ≡ due → after ≡ last → sent_all slot due ≡ Some last → sent_all slot signals ≡ Some after
-sends_part slot last after due signals is same goes = rw (is, same) goes
+sends_part : (slot last after : Slot) (end_turn signals : List Signal) → signals ≡ end_turn → after ≡ last → slot_send_all slot end_turn ≡ Some last → slot_send_all slot signals ≡ Some after
+sends_part slot last after end_turn signals is same goes = rw (is, same) goes
 
 -- nothing is sent
 pub none_each : (box : BoxState) → SendsEach box [] box
@@ -70,17 +70,17 @@ none_each box k inside = refl
 pub more_each : (first second third : BoxState) (some more : List (ℕ × Signal)) → length second.slots ≡ length first.slots
     → SendsEach first some second → SendsEach second more third → SendsEach first (some ++ more) third
 more_each first second third some more size one two k inside =
-    ap (sent_all (slot_at first k)) (sent_by-append k some more)
+    ap (slot_send_all (slot_at first k)) (sent_by-append k some more)
     ∙ sent_both (slot_at first k) (slot_at second k) (slot_at third k) (sent_by k some) (sent_by k more) (one k inside)
     (two k (subst (λ (n : ℕ). k < n) (sym size) inside))
 
 -- ---- one turn
 
-end_each : (box : BoxState) (local : ℕ) (last : Slot) (signals : List Signal) → local < length box.slots → sent_all (slot_at box local) signals ≡ Some last
+end_each : (box : BoxState) (local : ℕ) (last : Slot) (signals : List Signal) → local < length box.slots → slot_send_all (slot_at box local) signals ≡ Some last
     → SendsEach box (map (pair_of local) signals) (with_slot box local last)
 end_each box local last signals here goes k inside = elim (cases_eq k local) [
   | inl same ↦
-      subst (λ (j : ℕ). sent_all (slot_at box j) (sent_by j (map (pair_of local) signals)) ≡ Some (slot_at (with_slot box local last) j)) (sym same)
+      subst (λ (j : ℕ). slot_send_all (slot_at box j) (sent_by j (map (pair_of local) signals)) ≡ Some (slot_at (with_slot box local last) j)) (sym same)
       (sends_part (slot_at box local) last (slot_at (with_slot box local last) local) signals (sent_by local (map (pair_of local) signals))
       (sent_by_own local signals) (get_or-set_same box.slots local last no_slot here) goes)
   | inr other ↦
@@ -89,18 +89,18 @@ end_each box local last signals here goes k inside = elim (cases_eq k local) [
 ]
 
 pair_each : (box : BoxState) (low high : ℕ) (first second : Slot) (l : List (Side × Signal)) → low < high → high < length box.slots
-    → sent_all (slot_at box low) (sent_by_first l) ≡ Some first → sent_all (slot_at box high) (sent_by_second l) ≡ Some second
+    → slot_send_all (slot_at box low) (sent_by_first l) ≡ Some first → slot_send_all (slot_at box high) (sent_by_second l) ≡ Some second
     → SendsEach box (map (numbered low high) l) (with_slot (with_slot box low first) high second)
 pair_each box low high first second l order here one two k inside =
     let apart : low ≢ high = omega arith in
     elim (cases_eq k low) [
       | inl same ↦
-          subst (λ (j : ℕ). sent_all (slot_at box j) (sent_by j (map (numbered low high) l)) ≡ Some (get_or (set (set box.slots low first) high second) j no_slot)) (sym same)
+          subst (λ (j : ℕ). slot_send_all (slot_at box j) (sent_by j (map (numbered low high) l)) ≡ Some (get_or (set (set box.slots low first) high second) j no_slot)) (sym same)
           (sends_part (slot_at box low) first (get_or (set (set box.slots low first) high second) low no_slot) (sent_by_first l) (sent_by low (map (numbered low high) l))
           (sent_by_low low high l apart) (pair_low box.slots low high first second order (omega arith)) one)
       | inr below ↦ elim (cases_eq k high) [
         | inl same ↦
-            subst (λ (j : ℕ). sent_all (slot_at box j) (sent_by j (map (numbered low high) l)) ≡ Some (get_or (set (set box.slots low first) high second) j no_slot)) (sym same)
+            subst (λ (j : ℕ). slot_send_all (slot_at box j) (sent_by j (map (numbered low high) l)) ≡ Some (get_or (set (set box.slots low first) high second) j no_slot)) (sym same)
             (sends_part (slot_at box high) second (get_or (set (set box.slots low first) high second) high no_slot) (sent_by_second l) (sent_by high (map (numbered low high) l))
             (sent_by_high low high l apart) (pair_high box.slots low high first second here) two)
         | inr above ↦
@@ -110,18 +110,18 @@ pair_each box low high first second l order here one two k inside =
     ]
 
 turn_by_each : (goal : SlotGoal) (box : BoxState) (local : ℕ) (pushed closed : Bool) (step : BoxStep) → IsWired box → local < length box.slots → goal_at box local ≡ goal
-    → turn_by goal box local pushed closed ≡ Some step → SendsEach box step.sent step.after
+    → goal_step_by goal box local pushed closed ≡ Some step → SendsEach box step.sent step.after
 turn_by_each (End goal) box local pushed closed step wired here is goes =
     let form = end_form box local goal pushed step goes in
     subst (λ (s : BoxStep). SendsEach box s.sent s.after) form.is
-    (end_each box local form.last (due goal (slot_at box local) pushed (own box local) (sender box local)) here form.goes)
+    (end_each box local form.last (end_turn goal (slot_at box local) pushed (own box local) (sender box local)) here form.goes)
 turn_by_each (Link partner) box local pushed closed step wired here is goes =
     let there : partner < length box.slots = (wired.links local partner is).inside in
     let other : partner ≢ local = (wired.links local partner is).other in
     let side = side_closed closed (side_of local partner) in
     let form = pair_form box (min local partner) (max local partner) side step goes in
     subst (λ (s : BoxStep). SendsEach box s.sent s.after) form.is
-    (pair_each box (min local partner) (max local partner) form.first form.second (link_due (slot_at box (min local partner)) (slot_at box (max local partner)) side)
+    (pair_each box (min local partner) (max local partner) form.first form.second (link_turn (slot_at box (min local partner)) (slot_at box (max local partner)) side)
     (omega arith) (at_max (λ (k : ℕ). k < length box.slots) local partner here there) form.first_goes form.second_goes)
 
 -- what a turn does to each slot, and to the box
@@ -130,7 +130,7 @@ pub record TurnActs (box : BoxState) (step : BoxStep) : Type 0 where
   pub make : IsSameMake step.after box
 
 pub turn_acts : (box : BoxState) (local : ℕ) (pushed closed : Bool) (step : BoxStep) → IsWired box → local < length box.slots
-    → goal_turn box local pushed closed ≡ Some step → TurnActs box step
+    → goal_step box local pushed closed ≡ Some step → TurnActs box step
 turn_acts box local pushed closed step wired here goes =
     let made = turned box local pushed closed step wired here goes in
     record {
@@ -152,11 +152,11 @@ turns_next box turn more step one two is =
     })
 
 pub turns_act : (locals : List ℕ) (box : BoxState) (step : BoxStep) → IsWired box → AreInside (length box.slots) locals
-    → turns_of box locals ≡ Some step → TurnActs box step
+    → goal_steps box locals ≡ Some step → TurnActs box step
 turns_act [] box step wired inside goes = let same : record { sent = []; after = box } ≡ step = cc in turns_end box step same
 turns_act (local ∷ locals) box step wired inside goes =
-    let one = then_some (λ (turn : BoxStep). option_map (followed turn.sent) (turns_of turn.after locals)) (goal_turn box local true false) step goes in
-    let two = map_some (followed one.0.sent) (turns_of one.0.after locals) step one.2 in
+    let one = then_some (λ (turn : BoxStep). option_map (followed turn.sent) (goal_steps turn.after locals)) (goal_step box local true false) step goes in
+    let two = map_some (followed one.0.sent) (goal_steps one.0.after locals) step one.2 in
     let made = turned box local true false one.0 wired inside.0 one.1 in
     let acts = turn_acts box local true false one.0 wired inside.0 one.1 in
     turns_next box one.0 two.0 step acts

@@ -7,10 +7,10 @@ use Rattle.mc_signal.specs.declared.Signal.{Signal}
 use Rattle.mc_slot.specs.declared.Goal.TheVariants.{Close as ToClose}
 use Rattle.mc_slot.specs.declared.SlotGoal.{SlotGoal}
 use Rattle.mc_slot.specs.declared.SlotGoal.TheVariants.{End}
-use Rattle.mc_box.specs.BoxEvents.{Appends, BoxStep, followed, goal_turn, turns_of}
+use Rattle.mc_box.specs.BoxEvents.{Appends, BoxStep, followed, goal_step, goal_steps}
 use Rattle.mc_box.specs.BoxSound.{IsWired}
 use Rattle.mc_box.specs.Boxes.{BoxState, goal_at}
-use Rattle.mc_box.specs.Goals.{changed_from, changed_slots, has_turn, most}
+use Rattle.mc_box.specs.Goals.{changed_from, changed_slots, has_turn, most_signals}
 use Rattle.mc_box.proofs.GoalTurns.{turned}
 use Rattle.mc_box.proofs.Sums.{cost_at, total, total_grows, total_next, turn_cost, wired_cost}
 
@@ -22,7 +22,7 @@ pub record Turning (start now : BoxState) (olds : List SlotGoal) (i : ℕ) (befo
   pub sent : List (ℕ × Signal)
   pub is : items ≡ before ++ sent
   pub few : length sent ≤ total (cost_at start.goals) i
-  pub rest : option_map (followed sent) (turns_of now (changed_from i (drop i olds) (drop i start.goals))) ≡ turns_of start (changed_slots olds start.goals)
+  pub rest : option_map (followed sent) (goal_steps now (changed_from i (drop i olds) (drop i start.goals))) ≡ goal_steps start (changed_slots olds start.goals)
 
 -- ---- what was sent before
 
@@ -44,7 +44,7 @@ turning_first start olds before wired = record {
   sent = [];
   is = sym (append-nil before);
   few = omega arith;
-  rest = followed_none (turns_of start (changed_slots olds start.goals));
+  rest = followed_none (goal_steps start (changed_slots olds start.goals));
 }
 
 -- the next of the changed goals
@@ -78,12 +78,12 @@ turning_skip start now olds i before items inside size wired turns so_far =
       sent = so_far.sent;
       is = so_far.is;
       few = omega (arith, so_far.few, total_grows (cost_at start.goals) i (i + 1) (omega arith));
-      rest = ap (λ (l : List ℕ). option_map (followed so_far.sent) (turns_of now l)) (sym same) ∙ so_far.rest;
+      rest = ap (λ (l : List ℕ). option_map (followed so_far.sent) (goal_steps now l)) (sym same) ∙ so_far.rest;
     }
 
 -- one that has: what is sent, and the box after it
 pub turning_turn : (start now next : BoxState) (olds : List SlotGoal) (i : ℕ) (before items more : List (ℕ × Signal)) → i < length olds → length olds ≡ length start.slots → IsWired start
-    → has_turn i (get_or olds i (End ToClose)) (goal_at now i) ≡ true → goal_turn now i true false ≡ Some record { sent = more; after = next }
+    → has_turn i (get_or olds i (End ToClose)) (goal_at now i) ≡ true → goal_step now i true false ≡ Some record { sent = more; after = next }
     → Turning start now olds i before items → Turning start next olds (i + 1) before (items ++ more)
 turning_turn start now next olds i before items more inside size wired turns goes so_far =
     let also : i < length start.goals = omega (arith, size, wired.whole.goals) in
@@ -94,10 +94,10 @@ turning_turn start now next olds i before items more inside size wired turns goe
     next_changed olds start.goals i inside also
     ∙ turn_by (has_turn i (get_or olds i (End ToClose)) (get_or start.goals i (End ToClose))) i (changed_from (i + 1) (drop (i + 1) olds) (drop (i + 1) start.goals)) yes in
     let made = turned now i true false (record { sent = more; after = next }) so_far.wired here goes in
-    let paid : most (get_or start.goals i (End ToClose)) ≤ cost_at start.goals i = turn_cost i (get_or olds i (End ToClose)) (get_or start.goals i (End ToClose)) yes in
-    let few : length more ≤ most (get_or start.goals i (End ToClose)) = subst (λ (l : List SlotGoal). length more ≤ most (get_or l i (End ToClose))) so_far.goals made.few in
-    let turn : turns_of now (i ∷ changed_from (i + 1) (drop (i + 1) olds) (drop (i + 1) start.goals)) ≡ option_map (followed more) (turns_of next (changed_from (i + 1) (drop (i + 1) olds) (drop (i + 1) start.goals))) =
-    ap (λ (o : Option BoxStep). option_and_then (λ (step : BoxStep). option_map (followed step.sent) (turns_of step.after (changed_from (i + 1) (drop (i + 1) olds) (drop (i + 1) start.goals)))) o) goes in
+    let paid : most_signals (get_or start.goals i (End ToClose)) ≤ cost_at start.goals i = turn_cost i (get_or olds i (End ToClose)) (get_or start.goals i (End ToClose)) yes in
+    let few : length more ≤ most_signals (get_or start.goals i (End ToClose)) = subst (λ (l : List SlotGoal). length more ≤ most_signals (get_or l i (End ToClose))) so_far.goals made.few in
+    let turn : goal_steps now (i ∷ changed_from (i + 1) (drop (i + 1) olds) (drop (i + 1) start.goals)) ≡ option_map (followed more) (goal_steps next (changed_from (i + 1) (drop (i + 1) olds) (drop (i + 1) start.goals))) =
+    ap (λ (o : Option BoxStep). option_and_then (λ (step : BoxStep). option_map (followed step.sent) (goal_steps step.after (changed_from (i + 1) (drop (i + 1) olds) (drop (i + 1) start.goals)))) o) goes in
     record {
       wired = subst (λ (b : BoxState). IsWired b) (sym made.is) made.wired;
       goals = ap (λ (b : BoxState). b.goals) made.is ∙ so_far.goals;
@@ -105,18 +105,18 @@ turning_turn start now next olds i before items more inside size wired turns goe
       sent = so_far.sent ++ more;
       is = ap (λ (l : List (ℕ × Signal)). l ++ more) so_far.is ∙ append_assoc before so_far.sent more;
       few = omega (arith, length-append so_far.sent more, so_far.few, few, paid, total_next (cost_at start.goals) i);
-      rest = sym (followed_both so_far.sent more (turns_of next (changed_from (i + 1) (drop (i + 1) olds) (drop (i + 1) start.goals))))
+      rest = sym (followed_both so_far.sent more (goal_steps next (changed_from (i + 1) (drop (i + 1) olds) (drop (i + 1) start.goals))))
           ∙ (ap (λ (o : Option BoxStep). option_map (followed so_far.sent) o) (sym turn)
-          ∙ (ap (λ (l : List ℕ). option_map (followed so_far.sent) (turns_of now l)) (sym same) ∙ so_far.rest));
+          ∙ (ap (λ (l : List ℕ). option_map (followed so_far.sent) (goal_steps now l)) (sym same) ∙ so_far.rest));
     }
 
 -- when all have had theirs
 pub turning_last : (start now : BoxState) (olds : List SlotGoal) (i : ℕ) (before items : List (ℕ × Signal)) → length olds ≤ i
-    → Turning start now olds i before items → Appends (turns_of start (changed_slots olds start.goals)) now before items
+    → Turning start now olds i before items → Appends (goal_steps start (changed_slots olds start.goals)) now before items
 turning_last start now olds i before items past so_far =
     let none : drop i olds ≡ [] = drop_all i olds past in
-    let end : option_map (followed so_far.sent) (turns_of now (changed_from i (drop i olds) (drop i start.goals))) ≡ Some (record { sent = so_far.sent ++ []; after = now }) =
-    ap (λ (l : List SlotGoal). option_map (followed so_far.sent) (turns_of now (changed_from i l (drop i start.goals)))) none in
+    let end : option_map (followed so_far.sent) (goal_steps now (changed_from i (drop i olds) (drop i start.goals))) ≡ Some (record { sent = so_far.sent ++ []; after = now }) =
+    ap (λ (l : List SlotGoal). option_map (followed so_far.sent) (goal_steps now (changed_from i l (drop i start.goals)))) none in
     record {
       sent = so_far.sent;
       goes = sym so_far.rest ∙ (end ∙ ap (λ (l : List (ℕ × Signal)). Some (record { sent = l; after = now })) (append-nil so_far.sent));
@@ -125,13 +125,13 @@ turning_last start now olds i before items past so_far =
 
 -- there is room for the next turn
 pub turning_fits : (start now : BoxState) (olds : List SlotGoal) (i len spare first : ℕ) (before items : List (ℕ × Signal)) → i < length olds → length olds ≡ length start.slots → IsWired start
-    → has_turn i (get_or olds i (End ToClose)) (goal_at now i) ≡ true → len ≤ most (goal_at now i)
+    → has_turn i (get_or olds i (End ToClose)) (goal_at now i) ≡ true → len ≤ most_signals (goal_at now i)
     → 2 * length start.slots ≤ first → spare + length items ≡ first + length before
     → Turning start now olds i before items → len ≤ spare
 turning_fits start now olds i len spare first before items inside size wired turns few space room so_far =
     let goal_is : goal_at now i ≡ get_or start.goals i (End ToClose) = ap (λ (l : List SlotGoal). get_or l i (End ToClose)) so_far.goals in
-    let paid : most (goal_at now i) ≤ cost_at now.goals i = turn_cost i (get_or olds i (End ToClose)) (goal_at now i) turns in
-    let paid_there : most (goal_at now i) ≤ cost_at start.goals i = subst (λ (l : List SlotGoal). most (goal_at now i) ≤ cost_at l i) so_far.goals paid in
+    let paid : most_signals (goal_at now i) ≤ cost_at now.goals i = turn_cost i (get_or olds i (End ToClose)) (goal_at now i) turns in
+    let paid_there : most_signals (goal_at now i) ≤ cost_at start.goals i = subst (λ (l : List SlotGoal). most_signals (goal_at now i) ≤ cost_at l i) so_far.goals paid in
     let long : length items ≡ length before + length so_far.sent = ap (λ (l : List (ℕ × Signal)). length l) so_far.is ∙ length-append before so_far.sent in
     let next : total (cost_at start.goals) (i + 1) ≡ cost_at start.goals i + total (cost_at start.goals) i = total_next (cost_at start.goals) i in
     let within : total (cost_at start.goals) (i + 1) ≤ total (cost_at start.goals) (length start.slots) = total_grows (cost_at start.goals) (i + 1) (length start.slots) (omega (arith, size)) in

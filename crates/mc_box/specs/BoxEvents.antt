@@ -1,19 +1,19 @@
 -- One event of one box: what it sends, and what it is after that. An event that has no case can't happen.
 use Rattle.std.specs.Prelude.{◌≡◌, ℕ, ◌+◌, ◌==◌, ◌&&◌, Bool, true, false, if◌then◌else◌, not, List, [], ◌∷◌, ◌++◌, map, max, min, nat_lt, Option, Some, None}
 use Rattle.std.specs.Option.{option_map, option_and_then}
-use Rattle.mc_link.specs.LinkTurn.{link_due, numbered, sent_by_first, sent_by_second, side_closed}
+use Rattle.mc_link.specs.LinkTurn.{link_turn, numbered, sent_by_first, sent_by_second, side_closed}
 use Rattle.mc_link.specs.declared.Side.{Side}
 use Rattle.mc_link.specs.declared.Side.TheVariants.{First, Second}
 use Rattle.mc_signal.specs.declared.Signal.{Signal}
-use Rattle.mc_slot.specs.EndTurn.{due, pushed_by, closes_by}
-use Rattle.mc_slot.specs.Moves.{taken, sent_all, answered, is_same_medium}
+use Rattle.mc_slot.specs.EndTurn.{end_turn, pushes, closes_by}
+use Rattle.mc_slot.specs.Moves.{slot_take, slot_send_all, answered, is_same_medium}
 use Rattle.mc_slot.specs.Sending.{pair_of}
 use Rattle.mc_slot.specs.declared.Goal.{Goal}
 use Rattle.mc_slot.specs.declared.SlotGoal.{SlotGoal}
 use Rattle.mc_slot.specs.declared.SlotGoal.TheVariants.{End, Link}
 use Rattle.mc_box.specs.BoxShapes.{is_device, is_feature}
-use Rattle.mc_box.specs.Boxes.{BoxState, is_slot, slot_at, goal_at, media_at, with_goals, with_media, with_slot, own, sender, owes_at}
-use Rattle.mc_box.specs.Goals.{changed_slots, goals_after}
+use Rattle.mc_box.specs.Boxes.{BoxState, is_slot, slot_at, goal_at, media_at, with_goals, with_media, with_slot, own, sender, box_owes}
+use Rattle.mc_box.specs.Goals.{changed_slots, change_goals}
 use Rattle.mc_box.specs.declared.event.Change.{Change}
 use Rattle.mc_box.specs.declared.event.Change.TheVariants.{End as NewEnd, Link as NewLink}
 use Rattle.mc_box.specs.declared.event.Event.{Event}
@@ -30,34 +30,34 @@ pub record BoxStep : Type 0 where
 -- ---- the turn of a goal
 
 -- an end sends what its goal lacks
-abbrev pub end_turn : Goal → BoxState → ℕ → Bool → Option BoxStep
-end_turn goal box local pushed =
-    let signals = due goal (slot_at box local) pushed (own box local) (sender box local) in
-    option_map (λ after. record { sent = map (pair_of local) signals; after = with_slot box local after }) (sent_all (slot_at box local) signals)
+abbrev pub end_step : Goal → BoxState → ℕ → Bool → Option BoxStep
+end_step goal box local pushed =
+    let signals = end_turn goal (slot_at box local) pushed (own box local) (sender box local) in
+    option_map (λ after. record { sent = map (pair_of local) signals; after = with_slot box local after }) (slot_send_all (slot_at box local) signals)
 
 -- two linked slots, the lower one first, pass on what each has of the other
-abbrev pub pair_turn : BoxState → ℕ → ℕ → Option Side → Option BoxStep
-pair_turn box low high closed =
-    let signals = link_due (slot_at box low) (slot_at box high) closed in
+abbrev pub pair_step : BoxState → ℕ → ℕ → Option Side → Option BoxStep
+pair_step box low high closed =
+    let signals = link_turn (slot_at box low) (slot_at box high) closed in
     option_and_then (λ first. option_map (λ second. record { sent = map (numbered low high) signals; after = with_slot (with_slot box low first) high second })
-    (sent_all (slot_at box high) (sent_by_second signals)))
-    (sent_all (slot_at box low) (sent_by_first signals))
+    (slot_send_all (slot_at box high) (sent_by_second signals)))
+    (slot_send_all (slot_at box low) (sent_by_first signals))
 
 -- of two linked slots, the lower one is the first
 abbrev pub side_of : ℕ → ℕ → Side
 side_of local partner = if nat_lt local partner then First else Second
 
 -- a link's turn, as seen from one of its slots
-abbrev pub link_turn : BoxState → ℕ → ℕ → Bool → Option BoxStep
-link_turn box local partner closed = pair_turn box (min local partner) (max local partner) (side_closed closed (side_of local partner))
+abbrev pub link_step : BoxState → ℕ → ℕ → Bool → Option BoxStep
+link_step box local partner closed = pair_step box (min local partner) (max local partner) (side_closed closed (side_of local partner))
 
-abbrev pub turn_by : SlotGoal → BoxState → ℕ → Bool → Bool → Option BoxStep
-turn_by (End goal) box local pushed closed = end_turn goal box local pushed
-turn_by (Link partner) box local pushed closed = link_turn box local partner closed
+abbrev pub goal_step_by : SlotGoal → BoxState → ℕ → Bool → Bool → Option BoxStep
+goal_step_by (End goal) box local pushed closed = end_step goal box local pushed
+goal_step_by (Link partner) box local pushed closed = link_step box local partner closed
 
 -- the turn of the goal that holds a slot, pushed or not; closed says that the slot has taken a close that closed it
-abbrev pub goal_turn : BoxState → ℕ → Bool → Bool → Option BoxStep
-goal_turn box local pushed closed = turn_by (goal_at box local) box local pushed closed
+abbrev pub goal_step : BoxState → ℕ → Bool → Bool → Option BoxStep
+goal_step box local pushed closed = goal_step_by (goal_at box local) box local pushed closed
 
 -- ---- a signal is taken
 
@@ -69,8 +69,8 @@ answering local answer step = record step { sent = map (pair_of local) (answered
 abbrev pub take_step : BoxState → ℕ → Signal → Option BoxStep
 take_step box local signal =
     option_and_then (λ took. option_map (answering local took.answer)
-    (goal_turn (with_slot box local took.after) local (pushed_by signal took.after.state) (closes_by signal took.after.state)))
-    (taken (slot_at box local) signal)
+    (goal_step (with_slot box local took.after) local (pushes signal took.after.state) (closes_by signal took.after.state)))
+    (slot_take (slot_at box local) signal)
 
 -- ---- goals change
 
@@ -79,16 +79,16 @@ abbrev pub followed : List (ℕ × Signal) → BoxStep → BoxStep
 followed sent step = record step { sent = sent ++ step.sent }
 
 -- the goals of these slots have their turns one after another, each pushed
-abbrev pub turns_of : BoxState → List ℕ → Option BoxStep
-turns_of box [] = Some (record { sent = []; after = box })
-turns_of box (local ∷ locals) = option_and_then (λ step. option_map (followed step.sent) (turns_of step.after locals)) (goal_turn box local true false)
+abbrev pub goal_steps : BoxState → List ℕ → Option BoxStep
+goal_steps box [] = Some (record { sent = []; after = box })
+goal_steps box (local ∷ locals) = option_and_then (λ step. option_map (followed step.sent) (goal_steps step.after locals)) (goal_step box local true false)
 
 -- the box gets new goals, and each that has changed has its turn
 abbrev pub goals_step : BoxState → List SlotGoal → Option BoxStep
-goals_step box goals = turns_of (with_goals box goals) (changed_slots box.goals goals)
+goals_step box goals = goal_steps (with_goals box goals) (changed_slots box.goals goals)
 
 abbrev pub set_step : BoxState → Change → Option BoxStep
-set_step box change = goals_step box (goals_after box.goals change)
+set_step box change = goals_step box (change_goals box.goals change)
 
 -- ---- a device's media change
 
@@ -97,19 +97,19 @@ abbrev pub last_version : ℕ
 last_version = 4294967295
 
 -- hearing is set, which makes the descriptor a newer one, also where the flag stays
-abbrev pub heard : Bool → SlotMedia → SlotMedia
-heard on media = record media { version = media.version + 1; hears = on }
+abbrev pub with_hearing : Bool → SlotMedia → SlotMedia
+with_hearing on media = record media { version = media.version + 1; hears = on }
 
 -- talking is set, which leaves the descriptor
-abbrev pub talked : Bool → SlotMedia → SlotMedia
-talked on media = record media { talks = on }
+abbrev pub with_talking : Bool → SlotMedia → SlotMedia
+with_talking on media = record media { talks = on }
 
 -- the flag is set, and the goal of the slot has its turn
 abbrev pub media_step : BoxState → MediaChange → Option BoxStep
 media_step box (Hear local on) =
     if (media_at box local).version == last_version then None
-    else goal_turn (with_media box local (heard on (media_at box local))) local false false
-media_step box (Talk local on) = goal_turn (with_media box local (talked on (media_at box local))) local false false
+    else goal_step (with_media box local (with_hearing on (media_at box local))) local false false
+media_step box (Talk local on) = goal_step (with_media box local (with_talking on (media_at box local))) local false false
 
 -- ---- an event
 
@@ -126,14 +126,14 @@ is_enabled box (Set (NewEnd local goal)) = is_slot box local
 is_enabled box (Set (NewLink first second)) = may_link box first second
 is_enabled box (Media (Hear local on)) = is_device box.kind && is_slot box local
 is_enabled box (Media (Talk local on)) = is_device box.kind && is_slot box local
-is_enabled box (Retry local) = is_slot box local && owes_at box local
+is_enabled box (Retry local) = is_slot box local && box_owes box local
 is_enabled box event = false
 
 -- what an event that takes nothing does
 abbrev pub happening : BoxState → Event → Option BoxStep
 happening box (Set change) = set_step box change
 happening box (Media change) = media_step box change
-happening box (Retry local) = goal_turn box local true false
+happening box (Retry local) = goal_step box local true false
 happening box event = None
 
 -- an event of a box, with the signal that it takes; a Take alone takes one

@@ -8,7 +8,7 @@ use Rattle.mc_slot.specs.declared.SlotGoal.{SlotGoal}
 use Rattle.mc_slot.specs.declared.SlotGoal.TheVariants.{End, Link}
 use Rattle.mc_box.specs.Boxes.{BoxState, IsBox, slot_at, goal_at, own, sender}
 use Rattle.mc_box.specs.declared.event.Kind.TheVariants.{Feature}
-use Rattle.mc_box.specs.declared.parts.Parts.{Parts}
+use Rattle.mc_box.specs.declared.parts.BoxParts.{BoxParts}
 
 -- a linked slot of a feature and its partner, another slot of the same medium, which is linked with it
 pub record IsLinked (box : BoxState) (local partner : ℕ) : Type 0 where
@@ -36,8 +36,8 @@ pub record IsSoundBox (box : BoxState) : Type 0 where
   pub wired : IsWired box
   pub rests : (local : ℕ) → RestsAt (goal_at box local) box local
 
-abbrev pub state_of : Parts → BoxState
-state_of parts = record {
+abbrev pub box_state : BoxParts → BoxState
+box_state parts = record {
   kind = parts.kind;
   number = parts.number;
   receives = parts.codecs;

@@ -80,13 +80,13 @@ abbrev pub sender : BoxState → ℕ → Sender
 sender box local = sender_of box.kind box (media_at box local) local
 
 -- only an end owes retries
-abbrev pub goal_owes : SlotGoal → Slot → Bool
-goal_owes (End goal) slot = owes goal slot
-goal_owes (Link partner) slot = false
+abbrev pub slot_owes : SlotGoal → Slot → Bool
+slot_owes (End goal) slot = owes goal slot
+slot_owes (Link partner) slot = false
 
 -- whether a slot owes a retry
-abbrev pub owes_at : BoxState → ℕ → Bool
-owes_at box local = goal_owes (goal_at box local) (slot_at box local)
+abbrev pub box_owes : BoxState → ℕ → Bool
+box_owes box local = slot_owes (goal_at box local) (slot_at box local)
 
 -- ---- a box as new
 

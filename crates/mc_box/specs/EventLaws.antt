@@ -1,7 +1,7 @@
 -- Laws of the events of a box: what each keeps, what each slot does in it, how much it sends, and when it can happen.
 use Rattle.std.specs.Prelude.{◌≡◌, ◌≢◌, ◌<◌, ◌≤◌, ◌*◌, ◌&&◌, ℕ, true, false, length, List, ◌∷◌, Option, Some, None, IsSome, IsTrue, All}
 use Rattle.mc_signal.specs.declared.Signal.{Signal}
-use Rattle.mc_slot.specs.Moves.{taken}
+use Rattle.mc_slot.specs.Moves.{slot_take}
 use Rattle.mc_box.specs.Acting.{BoxActs}
 use Rattle.mc_box.specs.BoxEvents.{BoxStep, box_event, is_command, is_enabled, is_take, is_version_end}
 use Rattle.mc_box.specs.BoxShapes.{box_shape, is_enabled_by}
@@ -46,7 +46,7 @@ EventActs = (box : BoxState) (event : Event) (step : BoxStep) (to left : ℕ →
 -- a slot can take a signal that is lawful for it
 abbrev pub TakeGoes : Type 0
 TakeGoes = (box : BoxState) (local : ℕ) (signal : Signal)
-    → IsSoundBox box → local < length box.slots → IsSome (taken (slot_at box local) signal) → IsSome (box_event box (Take local) (Some signal))
+    → IsSoundBox box → local < length box.slots → IsSome (slot_take (slot_at box local) signal) → IsSome (box_event box (Take local) (Some signal))
 
 -- an enabled event that takes nothing can happen, unless its slot's version is the last
 abbrev pub EventGoes : Type 0
@@ -56,7 +56,7 @@ EventGoes = (box : BoxState) (event : Event)
 -- what a Take that happened says of its slot and its signal
 abbrev pub TakeWasLawful : Type 0
 TakeWasLawful = (box : BoxState) (local : ℕ) (signal : Signal) (step : BoxStep)
-    → box_event box (Take local) (Some signal) ≡ Some step → (local < length box.slots) × IsSome (taken (slot_at box local) signal)
+    → box_event box (Take local) (Some signal) ≡ Some step → (local < length box.slots) × IsSome (slot_take (slot_at box local) signal)
 
 -- an event that happened and took nothing was enabled
 abbrev pub EventWasEnabled : Type 0

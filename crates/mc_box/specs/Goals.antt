@@ -24,8 +24,8 @@ goals_from change local [] = []
 goals_from change local (goal ∷ goals) = goal_after change local goal ∷ goals_from change (local + 1) goals
 
 -- what all goals become
-abbrev pub goals_after : List SlotGoal → Change → List SlotGoal
-goals_after goals change = goals_from change 0 goals
+abbrev pub change_goals : List SlotGoal → Change → List SlotGoal
+change_goals goals change = goals_from change 0 goals
 
 -- a link is the goal of two slots, and has its turn at the lower of them
 abbrev pub leads : ℕ → SlotGoal → Bool
@@ -47,6 +47,6 @@ abbrev pub changed_slots : List SlotGoal → List SlotGoal → List ℕ
 changed_slots olds news = changed_from 0 olds news
 
 -- how many signals one turn of a goal may send: an end's two, a link's four
-abbrev pub most : SlotGoal → ℕ
-most (End goal) = 2
-most (Link partner) = 4
+abbrev pub most_signals : SlotGoal → ℕ
+most_signals (End goal) = 2
+most_signals (Link partner) = 4

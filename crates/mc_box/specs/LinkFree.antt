@@ -1,22 +1,16 @@
 -- Boxes without links: each of their slots is an end.
 use Rattle.std.specs.Prelude.{◌≡◌, ℕ, Bool, true, false, Option, Some}
 use Rattle.mc_signal.specs.declared.Signal.{Signal}
-use Rattle.mc_slot.specs.declared.SlotGoal.{SlotGoal}
-use Rattle.mc_slot.specs.declared.SlotGoal.TheVariants.{End, Link}
+use Rattle.mc_slot.specs.EndTurn.{is_end_goal}
 use Rattle.mc_box.specs.BoxEvents.{BoxStep, box_event}
 use Rattle.mc_box.specs.Boxes.{BoxState, goal_at}
 use Rattle.mc_box.specs.declared.event.Change.TheVariants.{Link as NewLink}
 use Rattle.mc_box.specs.declared.event.Event.{Event}
 use Rattle.mc_box.specs.declared.event.Event.TheVariants.{Set}
 
--- the goal is an end's
-abbrev pub is_end : SlotGoal → Bool
-is_end (End goal) = true
-is_end (Link partner) = false
-
 -- no slot of the box is linked
-abbrev pub HasNoLinks : BoxState → Type 0
-HasNoLinks box = (local : ℕ) → is_end (goal_at box local) ≡ true
+abbrev pub IsUnlinked : BoxState → Type 0
+IsUnlinked box = (local : ℕ) → is_end_goal (goal_at box local) ≡ true
 
 -- the event links two slots
 abbrev pub is_linking : Event → Bool
@@ -26,4 +20,4 @@ is_linking event = false
 -- a box without links has none after an event that links no slots
 abbrev pub EventKeepsLinkFree : Type 0
 EventKeepsLinkFree = (box : BoxState) (event : Event) (signal : Option Signal) (step : BoxStep)
-    → HasNoLinks box → is_linking event ≡ false → box_event box event signal ≡ Some step → HasNoLinks step.after
+    → IsUnlinked box → is_linking event ≡ false → box_event box event signal ≡ Some step → IsUnlinked step.after

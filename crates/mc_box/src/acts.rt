@@ -2,44 +2,44 @@
 
 ghost use Rattle.std.specs.Prelude.{◌≡◌, ◌+◌, ◌*◌, ◌-◌, ◌^◌, ◌<◌, ◌≤◌, ◌++◌, length, true, false, is_err, IsTrue, IsFalse, OnErr, OnOk};
 ghost use Rattle.mc_slot.specs.Sending.{sends_of};
-ghost use Rattle.mc_box.specs.BoxEvents.{box_event, goal_turn, heard, is_enabled, is_take, is_version_end, media_step, set_step, talked, turns_of, Appends};
-ghost use Rattle.mc_box.specs.BoxSound.{state_of, IsSoundBox, IsWired};
+ghost use Rattle.mc_box.specs.BoxEvents.{box_event, goal_step, with_hearing, is_enabled, is_take, is_version_end, media_step, set_step, with_talking, goal_steps, Appends};
+ghost use Rattle.mc_box.specs.BoxSound.{box_state, IsSoundBox, IsWired};
 ghost use Rattle.mc_box.specs.Boxes.{media_at, with_media};
 ghost use Rattle.mc_box.specs.Goals.{changed_slots};
 
 use crate::event::{Change, Event, MediaChange};
 use crate::goals::{change_goals, has_turn};
 use crate::media_box::VersionEnd;
-use crate::parts::Parts;
+use crate::parts::BoxParts;
 use crate::setup::SlotMedia;
 use mc_lane::Lane;
 use mc_signal::Signal;
 use mc_slot::{Goal, Sends, SlotGoal};
 
-impl Parts {
+impl BoxParts {
     // A goal has its turn, pushed or not.
     fn send_turn(&mut self, local: u8, pushed: bool, out: &mut Lane<(u8, Signal)>)
-        requires wired { IsWired (state_of self.old) }
+        requires wired { IsWired (box_state self.old) }
         requires here { local < length self.old.slots.items }
         requires space { 2 * length self.old.slots.items ≤ out.old.spare }
-        ensures sent { Appends (goal_turn (state_of self.old) local pushed false) (state_of self.new) out.old.items out.new.items }
+        ensures sent { Appends (goal_step (box_state self.old) local pushed false) (box_state self.new) out.old.items out.new.items }
         ensures room { out.new.spare + length out.new.items ≡ out.old.spare + length out.old.items }
     {
-        let turn = self.goal_turn(local, pushed, false);
+        let turn = self.goal_step(local, pushed, false);
         send_out(&turn, out);
     }
 
     // The goals that have changed have their turns one after another, each pushed.
-    fn turns(&mut self, old: &[SlotGoal], out: &mut Lane<(u8, Signal)>)
-        requires wired { IsWired (state_of self.old) }
+    fn goal_steps(&mut self, old: &[SlotGoal], out: &mut Lane<(u8, Signal)>)
+        requires wired { IsWired (box_state self.old) }
         requires olds { length old.now ≡ length self.old.slots.items }
         requires space { 2 * length self.old.slots.items ≤ out.old.spare }
-        ensures sent { Appends (turns_of (state_of self.old) (changed_slots old.now self.old.goals.items)) (state_of self.new) out.old.items out.new.items }
+        ensures sent { Appends (goal_steps (box_state self.old) (changed_slots old.now self.old.goals.items)) (box_state self.new) out.old.items out.new.items }
         ensures room { out.new.spare + length out.new.items ≡ out.old.spare + length out.old.items }
     {
         for i in 0..old.len() {
             if has_turn(i as u8, old[i], self.goals[i]) {
-                let turn = self.goal_turn(i as u8, true, false);
+                let turn = self.goal_step(i as u8, true, false);
                 send_out(&turn, out);
             }
         }
@@ -47,10 +47,10 @@ impl Parts {
 
     // Goals change, and each that has changed has its turn.
     fn set(&mut self, change: Change, out: &mut Lane<(u8, Signal)>)
-        requires sound { IsSoundBox (state_of self.old) }
-        requires enabled { IsTrue (is_enabled (state_of self.old) (Event.Set change)) }
+        requires sound { IsSoundBox (box_state self.old) }
+        requires enabled { IsTrue (is_enabled (box_state self.old) (Event.Set change)) }
         requires space { 2 * length self.old.slots.items ≤ out.old.spare }
-        ensures sent { Appends (set_step (state_of self.old) change) (state_of self.new) out.old.items out.new.items }
+        ensures sent { Appends (set_step (box_state self.old) change) (box_state self.new) out.old.items out.new.items }
         ensures room { out.new.spare + length out.new.items ≡ out.old.spare + length out.old.items }
     {
         let count = self.goals.len();
@@ -58,15 +58,15 @@ impl Parts {
         let old = &mut former[..count];
         old.copy_from_slice(&self.goals);
         change_goals(&mut self.goals, change);
-        self.turns(old, out);
+        self.goal_steps(old, out);
     }
 
     // What a slot's descriptors are made of changes, and its goal has its turn.
     fn change_media(&mut self, local: u8, media: SlotMedia, out: &mut Lane<(u8, Signal)>)
-        requires wired { IsWired (state_of self.old) }
+        requires wired { IsWired (box_state self.old) }
         requires here { local < length self.old.slots.items }
         requires space { 2 * length self.old.slots.items ≤ out.old.spare }
-        ensures sent { Appends (goal_turn (with_media (state_of self.old) local media) local false false) (state_of self.new) out.old.items out.new.items }
+        ensures sent { Appends (goal_step (with_media (box_state self.old) local media) local false false) (box_state self.new) out.old.items out.new.items }
         ensures room { out.new.spare + length out.new.items ≡ out.old.spare + length out.old.items }
     {
         self.media[local as usize] = media;
@@ -75,12 +75,12 @@ impl Parts {
 
     // Hearing is set, which makes the slot's descriptor a newer one.
     fn hear(&mut self, local: u8, on: bool, out: &mut Lane<(u8, Signal)>) -> Result<(), VersionEnd>
-        requires wired { IsWired (state_of self.old) }
+        requires wired { IsWired (box_state self.old) }
         requires here { local < length self.old.slots.items }
         requires space { 2 * length self.old.slots.items ≤ out.old.spare }
-        ensures sent { OnOk result (Appends (media_step (state_of self.old) (MediaChange.Hear local on)) (state_of self.new) out.old.items out.new.items) }
-        ensures end { is_err result ≡ is_version_end (state_of self.old) (Event.Media (MediaChange.Hear local on)) }
-        ensures unchanged { OnErr result ((state_of self.new ≡ state_of self.old) × (out.new ≡ out.old)) }
+        ensures sent { OnOk result (Appends (media_step (box_state self.old) (MediaChange.Hear local on)) (box_state self.new) out.old.items out.new.items) }
+        ensures end { is_err result ≡ is_version_end (box_state self.old) (Event.Media (MediaChange.Hear local on)) }
+        ensures unchanged { OnErr result ((box_state self.new ≡ box_state self.old) × (out.new ≡ out.old)) }
         ensures room { out.new.spare + length out.new.items ≡ out.old.spare + length out.old.items }
     {
         let media = self.media[local as usize];
@@ -99,10 +99,10 @@ impl Parts {
 
     // Talking is set, which leaves the slot's descriptor.
     fn talk(&mut self, local: u8, on: bool, out: &mut Lane<(u8, Signal)>)
-        requires wired { IsWired (state_of self.old) }
+        requires wired { IsWired (box_state self.old) }
         requires here { local < length self.old.slots.items }
         requires space { 2 * length self.old.slots.items ≤ out.old.spare }
-        ensures sent { Appends (media_step (state_of self.old) (MediaChange.Talk local on)) (state_of self.new) out.old.items out.new.items }
+        ensures sent { Appends (media_step (box_state self.old) (MediaChange.Talk local on)) (box_state self.new) out.old.items out.new.items }
         ensures room { out.new.spare + length out.new.items ≡ out.old.spare + length out.old.items }
     {
         let media = self.media[local as usize];
@@ -117,13 +117,13 @@ impl Parts {
 
     /// An enabled event that takes no signal happens.
     pub fn act(&mut self, e: Event, out: &mut Lane<(u8, Signal)>) -> Result<(), VersionEnd>
-        requires sound { IsSoundBox (state_of self.old) }
-        requires enabled { IsTrue (is_enabled (state_of self.old) e) }
+        requires sound { IsSoundBox (box_state self.old) }
+        requires enabled { IsTrue (is_enabled (box_state self.old) e) }
         requires takes_nothing { IsFalse (is_take e) }
         requires space { 2 * length self.old.slots.items ≤ out.old.spare }
-        ensures sent { OnOk result (Appends (box_event (state_of self.old) e None) (state_of self.new) out.old.items out.new.items) }
-        ensures end { is_err result ≡ is_version_end (state_of self.old) e }
-        ensures unchanged { OnErr result ((state_of self.new ≡ state_of self.old) × (out.new ≡ out.old)) }
+        ensures sent { OnOk result (Appends (box_event (box_state self.old) e None) (box_state self.new) out.old.items out.new.items) }
+        ensures end { is_err result ≡ is_version_end (box_state self.old) e }
+        ensures unchanged { OnErr result ((box_state self.new ≡ box_state self.old) × (out.new ≡ out.old)) }
         ensures room { out.new.spare + length out.new.items ≡ out.old.spare + length out.old.items }
     {
         match e {

@@ -1,7 +1,7 @@
 // How goals change, and which of them have their turn then.
 
 ghost use Rattle.std.specs.Prelude.{◌≡◌, ◌≤◌, ◌++◌, length, take};
-ghost use Rattle.mc_box.specs.Goals.{goal_after, goals_after, has_turn, leads, parted};
+ghost use Rattle.mc_box.specs.Goals.{goal_after, change_goals, has_turn, leads, parted};
 
 use crate::event::Change;
 use mc_slot::{Goal, SlotGoal};
@@ -50,7 +50,7 @@ pub fn goal_after(change: Change, local: u8, old: SlotGoal) -> SlotGoal
 /// Changes all goals.
 pub fn change_goals(goals: &mut [SlotGoal], change: Change)
     requires { length goals.old ≤ 64 }
-    ensures { goals.new ≡ goals_after goals.old change }
+    ensures { goals.new ≡ change_goals goals.old change }
 {
     for i in 0..goals.len() {
         goals[i] = goal_after(change, i as u8, goals[i]);

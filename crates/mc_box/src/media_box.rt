@@ -2,14 +2,14 @@
 
 ghost use Rattle.std.specs.Prelude.{◌≡◌, ◌+◌, ◌*◌, ◌^◌, ◌<◌, ◌≤◌, length, is_err, IfOk, IsFalse, IsSome, IsTrue, None, OnErr, OnOk, Some};
 ghost use Rattle.mc_signal.specs.Own.{address_of};
-ghost use Rattle.mc_slot.specs.Moves.{taken};
+ghost use Rattle.mc_slot.specs.Moves.{slot_take};
 ghost use Rattle.mc_slot.specs.Sending.{sends_of};
 ghost use Rattle.mc_box.specs.BoxEvents.{box_event, is_enabled, is_take, is_version_end, may_link, Appends};
 ghost use Rattle.mc_box.specs.BoxSound.{IsSoundBox};
-ghost use Rattle.mc_box.specs.Boxes.{first_box, goal_at, is_slot, owes_at, own, sender, slot_at};
+ghost use Rattle.mc_box.specs.Boxes.{first_box, goal_at, is_slot, box_owes, own, sender, slot_at};
 
 use crate::event::{Change, Event, Kind, MediaChange};
-use crate::parts::Parts;
+use crate::parts::BoxParts;
 use crate::setup::Setup;
 use mc_goal::owes;
 use mc_lane::Lane;
@@ -25,7 +25,7 @@ pub struct VersionEnd;
 /// A box of a call: a device or a feature, with at most 64 slots.
 #[derive(Debug, Drop)]
 pub struct MediaBox {
-    parts: Parts,
+    parts: BoxParts,
 }
 
 impl Model for MediaBox {
@@ -33,11 +33,11 @@ impl Model for MediaBox {
 
     ghost Value = { BoxState };
 
-    ghost use Rattle.mc_box.specs.BoxSound.{state_of, IsSoundBox};
+    ghost use Rattle.mc_box.specs.BoxSound.{box_state, IsSoundBox};
 
-    ghost view = { λ b. state_of b.parts };
+    ghost view = { λ b. box_state b.parts };
 
-    ghost invariant = { λ b. IsSoundBox (state_of b.parts) };
+    ghost invariant = { λ b. IsSoundBox (box_state b.parts) };
 }
 
 impl MediaBox {
@@ -48,7 +48,7 @@ impl MediaBox {
         ensures { IfOk result (λ made. made ≡ first_box setup.kind setup.number setup.codecs setup.sends setup.first_version setup.slots.items) }
     {
         Ok(MediaBox {
-            parts: Parts::new(alloc, setup)?,
+            parts: BoxParts::new(alloc, setup)?,
         })
     }
 
@@ -140,7 +140,7 @@ impl MediaBox {
     /// A slot takes a signal that is lawful for it, and the goal that holds it has its turn. Memory is never wanted.
     pub fn take(&mut self, slot: u8, s: Signal) -> Sends
         requires here { slot < length self.old.slots }
-        requires lawful { IsSome (taken (slot_at self.old slot) s) }
+        requires lawful { IsSome (slot_take (slot_at self.old slot) s) }
         ensures event { box_event self.old (Event.Take slot) (Some s) ≡ Some record { sent = sends_of result; after = self.new } }
         ensures few { result.len ≤ 3 }
     {
@@ -183,7 +183,7 @@ impl MediaBox {
     // Whether a slot owes a retry.
     fn owes(&self, local: u8) -> bool
         requires { local < length self.now.slots }
-        ensures { result ≡ owes_at self.now local }
+        ensures { result ≡ box_owes self.now local }
     {
         match self.parts.goals[local as usize] {
             SlotGoal::End(goal) => owes(&self.parts.slots[local as usize], goal),

@@ -3,7 +3,7 @@
 ghost use Rattle.std.specs.Prelude.{◌≡◌, ◌^◌, ◌<◌, ◌≤◌, if◌then◌else◌, length, map, IfOk};
 ghost use Rattle.mc_signal.specs.Empty.{no_codecs};
 ghost use Rattle.mc_signal.specs.Own.{port_of};
-ghost use Rattle.mc_box.specs.BoxSound.{state_of, IsWired};
+ghost use Rattle.mc_box.specs.BoxSound.{box_state, IsWired};
 ghost use Rattle.mc_box.specs.Boxes.{first_box, first_slot, first_goal, first_media, own, sender};
 
 use crate::event::Kind;
@@ -14,7 +14,7 @@ use std::alloc::{AllocError, Global};
 
 /// The parts of a box.
 #[derive(Debug, Drop)]
-pub struct Parts {
+pub struct BoxParts {
     pub kind: Kind,
     pub number: u32,
     pub codecs: CodecList,
@@ -24,12 +24,12 @@ pub struct Parts {
     pub media: Vec<SlotMedia>,
 }
 
-impl Parts {
+impl BoxParts {
     /// The parts of a new box.
-    pub fn new(alloc: Global, setup: Setup) -> Result<Parts, AllocError>
-        ensures { IfOk result (λ made. state_of made ≡ first_box setup.kind setup.number setup.codecs setup.sends setup.first_version setup.slots.items) }
+    pub fn new(alloc: Global, setup: Setup) -> Result<BoxParts, AllocError>
+        ensures { IfOk result (λ made. box_state made ≡ first_box setup.kind setup.number setup.codecs setup.sends setup.first_version setup.slots.items) }
     {
-        Ok(Parts {
+        Ok(BoxParts {
             kind: setup.kind,
             number: setup.number,
             codecs: setup.codecs,
@@ -42,9 +42,9 @@ impl Parts {
 
     /// The newest descriptor of a slot.
     pub fn own(&self, local: u8) -> Descriptor
-        requires wired { IsWired (state_of self.now) }
+        requires wired { IsWired (box_state self.now) }
         requires here { local < length self.now.slots.items }
-        ensures { result ≡ own (state_of self.now) local }
+        ensures { result ≡ own (box_state self.now) local }
     {
         let media = &self.media[local as usize];
         match self.kind {
@@ -67,9 +67,9 @@ impl Parts {
 
     /// What a slot can send.
     pub fn sender(&self, local: u8) -> Sender
-        requires wired { IsWired (state_of self.now) }
+        requires wired { IsWired (box_state self.now) }
         requires here { local < length self.now.slots.items }
-        ensures { result ≡ sender (state_of self.now) local }
+        ensures { result ≡ sender (box_state self.now) local }
     {
         let media = &self.media[local as usize];
         match self.kind {

@@ -2,26 +2,26 @@
 
 ghost use Rattle.std.specs.Prelude.{◌≡◌, ◌+◌, ◌<◌, ◌≤◌, ◌++◌, length, map, max, min, Some, IsSome, IsTrue};
 ghost use Rattle.mc_link.specs.LinkTurn.{NamesClosed, side_closed};
-ghost use Rattle.mc_slot.specs.Moves.{answered, taken};
+ghost use Rattle.mc_slot.specs.Moves.{answered, slot_take};
 ghost use Rattle.mc_slot.specs.Sending.{pair_of, sends_of};
-ghost use Rattle.mc_box.specs.BoxEvents.{end_turn, goal_turn, link_turn, pair_turn, side_of, take_step};
-ghost use Rattle.mc_box.specs.BoxSound.{state_of, IsSoundBox, IsWired};
+ghost use Rattle.mc_box.specs.BoxEvents.{end_step, goal_step, link_step, pair_step, side_of, take_step};
+ghost use Rattle.mc_box.specs.BoxSound.{box_state, IsSoundBox, IsWired};
 ghost use Rattle.mc_box.specs.Boxes.{goal_at, slot_at};
-ghost use Rattle.mc_box.specs.Goals.{most};
+ghost use Rattle.mc_box.specs.Goals.{most_signals};
 ghost use Rattle.mc_slot.specs.EndTurn.{closes_by};
 
-use crate::parts::Parts;
+use crate::parts::BoxParts;
 use mc_goal::{end_turn, pushes};
 use mc_link::{Side, link_turn};
 use mc_signal::Signal;
 use mc_slot::{Goal, Sends, SlotGoal, State};
 
-impl Parts {
+impl BoxParts {
     // An end sends what its goal lacks.
-    fn end_turn(&mut self, local: u8, goal: Goal, pushed: bool) -> Sends
-        requires wired { IsWired (state_of self.old) }
+    fn end_step(&mut self, local: u8, goal: Goal, pushed: bool) -> Sends
+        requires wired { IsWired (box_state self.old) }
         requires here { local < length self.old.slots.items }
-        ensures turn { end_turn goal (state_of self.old) local pushed ≡ Some record { sent = sends_of result; after = state_of self.new } }
+        ensures turn { end_step goal (box_state self.old) local pushed ≡ Some record { sent = sends_of result; after = box_state self.new } }
         ensures few { result.len ≤ 2 }
     {
         let own = self.own(local);
@@ -33,13 +33,13 @@ impl Parts {
     }
 
     // Two linked slots, the lower one first, pass on what each has of the other.
-    fn pair_turn(&mut self, low: u8, high: u8, closed: Option<Side>) -> Sends
-        requires wired { IsWired (state_of self.old) }
+    fn pair_step(&mut self, low: u8, high: u8, closed: Option<Side>) -> Sends
+        requires wired { IsWired (box_state self.old) }
         requires order { low < high }
         requires here { high < length self.old.slots.items }
-        requires medium { (slot_at (state_of self.old) low).medium ≡ (slot_at (state_of self.old) high).medium }
-        requires closed { NamesClosed closed (slot_at (state_of self.old) low) (slot_at (state_of self.old) high) }
-        ensures { pair_turn (state_of self.old) low high closed ≡ Some record { sent = sends_of result; after = state_of self.new } }
+        requires medium { (slot_at (box_state self.old) low).medium ≡ (slot_at (box_state self.old) high).medium }
+        requires closed { NamesClosed closed (slot_at (box_state self.old) low) (slot_at (box_state self.old) high) }
+        ensures { pair_step (box_state self.old) low high closed ≡ Some record { sent = sends_of result; after = box_state self.new } }
     {
         let mut first = self.slots[low as usize];
         let mut second = self.slots[high as usize];
@@ -50,45 +50,45 @@ impl Parts {
     }
 
     // A link has its turn, as seen from one of its slots.
-    fn link_turn(&mut self, local: u8, partner: u8, closed: bool) -> Sends
-        requires wired { IsWired (state_of self.old) }
+    fn link_step(&mut self, local: u8, partner: u8, closed: bool) -> Sends
+        requires wired { IsWired (box_state self.old) }
         requires here { local < length self.old.slots.items }
-        requires linked { goal_at (state_of self.old) local ≡ SlotGoal.Link partner }
-        requires closed { IsTrue closed → (slot_at (state_of self.old) local).state ≡ State.Closed }
-        ensures { link_turn (state_of self.old) local partner closed ≡ Some record { sent = sends_of result; after = state_of self.new } }
+        requires linked { goal_at (box_state self.old) local ≡ SlotGoal.Link partner }
+        requires closed { IsTrue closed → (slot_at (box_state self.old) local).state ≡ State.Closed }
+        ensures { link_step (box_state self.old) local partner closed ≡ Some record { sent = sends_of result; after = box_state self.new } }
     {
         let side = side_closed(closed, side_of(local, partner));
-        self.pair_turn(local.min(partner), local.max(partner), side)
+        self.pair_step(local.min(partner), local.max(partner), side)
     }
 
     /// The turn of the goal that holds a slot, pushed or not. `closed` says that the slot has taken a close that
     /// closed it.
-    pub fn goal_turn(&mut self, local: u8, pushed: bool, closed: bool) -> Sends
-        requires wired { IsWired (state_of self.old) }
+    pub fn goal_step(&mut self, local: u8, pushed: bool, closed: bool) -> Sends
+        requires wired { IsWired (box_state self.old) }
         requires here { local < length self.old.slots.items }
-        requires closed { IsTrue closed → (slot_at (state_of self.old) local).state ≡ State.Closed }
-        ensures turn { goal_turn (state_of self.old) local pushed closed ≡ Some record { sent = sends_of result; after = state_of self.new } }
-        ensures few { result.len ≤ most (goal_at (state_of self.old) local) }
+        requires closed { IsTrue closed → (slot_at (box_state self.old) local).state ≡ State.Closed }
+        ensures turn { goal_step (box_state self.old) local pushed closed ≡ Some record { sent = sends_of result; after = box_state self.new } }
+        ensures few { result.len ≤ most_signals (goal_at (box_state self.old) local) }
     {
         match self.goals[local as usize] {
-            SlotGoal::End(goal) => self.end_turn(local, goal, pushed),
-            SlotGoal::Link(partner) => self.link_turn(local, partner, closed),
+            SlotGoal::End(goal) => self.end_step(local, goal, pushed),
+            SlotGoal::Link(partner) => self.link_step(local, partner, closed),
         }
     }
 
     /// A slot takes a signal that is lawful for it, and the goal that holds it has its turn.
     pub fn take(&mut self, local: u8, s: Signal) -> Sends
-        requires sound { IsSoundBox (state_of self.old) }
+        requires sound { IsSoundBox (box_state self.old) }
         requires here { local < length self.old.slots.items }
-        requires lawful { IsSome (taken (slot_at (state_of self.old) local) s) }
-        ensures step { take_step (state_of self.old) local s ≡ Some record { sent = sends_of result; after = state_of self.new } }
+        requires lawful { IsSome (slot_take (slot_at (box_state self.old) local) s) }
+        ensures step { take_step (box_state self.old) local s ≡ Some record { sent = sends_of result; after = box_state self.new } }
         ensures few { result.len ≤ 3 }
     {
         let mut slot = self.slots[local as usize];
         let answer = slot.take(s);
         self.slots[local as usize] = slot;
         let mut sends = answering(local, answer);
-        let turn = self.goal_turn(local, pushes(&s, slot.state), closes_by(&s, slot.state));
+        let turn = self.goal_step(local, pushes(&s, slot.state), closes_by(&s, slot.state));
         append(&mut sends, &turn);
         sends
     }

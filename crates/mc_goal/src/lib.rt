@@ -2,8 +2,8 @@
 #![tactic(auto)]
 
 ghost use Rattle.std.specs.Prelude.{◌≡◌, ◌≤◌, Some, IsSome, IsTrue, map};
-ghost use Rattle.mc_slot.specs.EndTurn.{due, due_live, owes, pushed_by};
-ghost use Rattle.mc_slot.specs.Moves.{is_live, sent_all};
+ghost use Rattle.mc_slot.specs.EndTurn.{end_turn, live_turn, owes, pushes};
+ghost use Rattle.mc_slot.specs.Moves.{is_live, slot_send_all};
 ghost use Rattle.mc_slot.specs.Sending.{sends_of, pair_of};
 
 use mc_signal::{Descriptor, Sender, Signal, choose};
@@ -22,8 +22,8 @@ pub fn end_turn(
     me: &Sender,
 ) -> Sends
     requires { IsTrue (is_live slot.old.state) → IsSome slot.old.got }
-    ensures sends { sends_of result ≡ map (pair_of no) (due goal slot.old push own me.now) }
-    ensures after { sent_all slot.old (due goal slot.old push own me.now) ≡ Some slot.new }
+    ensures sends { sends_of result ≡ map (pair_of no) (end_turn goal slot.old push own me.now) }
+    ensures after { slot_send_all slot.old (end_turn goal slot.old push own me.now) ≡ Some slot.new }
     ensures few { result.len ≤ 2 }
 {
     let mut sends = Sends::none();
@@ -51,8 +51,8 @@ pub fn end_turn(
 fn accept(slot: &mut Slot, no: u8, own: Descriptor, me: &Sender) -> Sends
     requires opened { slot.old.state ≡ State.Opened }
     requires got { IsSome slot.old.got }
-    ensures sends { sends_of result ≡ map (pair_of no) (due_live slot.old.state slot.old own me.now) }
-    ensures after { sent_all slot.old (due_live slot.old.state slot.old own me.now) ≡ Some slot.new }
+    ensures sends { sends_of result ≡ map (pair_of no) (live_turn slot.old.state slot.old own me.now) }
+    ensures after { slot_send_all slot.old (live_turn slot.old.state slot.old own me.now) ≡ Some slot.new }
     ensures few { result.len ≤ 2 }
 {
     let mut sends = Sends::none();
@@ -70,8 +70,8 @@ fn accept(slot: &mut Slot, no: u8, own: Descriptor, me: &Sender) -> Sends
 fn describe_anew(slot: &mut Slot, no: u8, own: Descriptor, me: &Sender) -> Sends
     requires flowing { slot.old.state ≡ State.Flowing }
     requires got { IsSome slot.old.got }
-    ensures sends { sends_of result ≡ map (pair_of no) (due_live slot.old.state slot.old own me.now) }
-    ensures after { sent_all slot.old (due_live slot.old.state slot.old own me.now) ≡ Some slot.new }
+    ensures sends { sends_of result ≡ map (pair_of no) (live_turn slot.old.state slot.old own me.now) }
+    ensures after { slot_send_all slot.old (live_turn slot.old.state slot.old own me.now) ≡ Some slot.new }
     ensures few { result.len ≤ 2 }
 {
     let mut sends = Sends::none();
@@ -98,7 +98,7 @@ pub fn owes(slot: &Slot, goal: Goal) -> bool
 
 /// Whether a taken signal pushes the goal: a closeack that made the slot closed does.
 pub fn pushes(s: &Signal, after: State) -> bool
-    ensures { result ≡ pushed_by s.now after }
+    ensures { result ≡ pushes s.now after }
 {
     matches!((s, after), (Signal::Closeack, State::Closed))
 }

@@ -6,9 +6,9 @@ use Rattle.std.proofs.lemmas.Bool.{cases_eq, cases_lt}
 use Rattle.mc_model.specs.Paths.{has_ring, other_end}
 use Rattle.mc_model.specs.Rings.{IsOnRing, IsLeastOnRing, NoneBefore, next_slot, partner_of, slot_after}
 use Rattle.mc_model.specs.Sound.{IsSound}
-use Rattle.mc_model.specs.Worlds.{WorldState, far, joints, places, slot_count}
+use Rattle.mc_model.specs.Worlds.{WorldState, far, all_tunnels, places, slot_count}
 use Rattle.mc_laws.proofs.ActedWorlds.{far_inside}
-use Rattle.mc_laws.proofs.Joints.{two_each}
+use Rattle.mc_laws.proofs.TunnelPlaces.{two_each}
 use Rattle.mc_laws.proofs.Numbers.{far_back}
 use Rattle.mc_laws.proofs.Partners.{are_linked, next_is}
 use Rattle.mc_laws.proofs.RingChains.{after_sum, ring_by}
@@ -81,8 +81,8 @@ comes_again world s done behind walk = record { count = done + 1; some = omega a
 -- or went over as many tunnels as there are
 pub whole_way : (world : WorldState) (s done ahead behind : ℕ) → IsSound world → s < slot_count world → WalkBoth world s done ahead behind → done ≡ slot_count world / 2 → IsOnRing world s
 whole_way world s done ahead behind sound inside walk all =
-    let two : slot_count world ≡ 2 * length (joints world) = two_each world.channels 0 in
-    let most : done ≡ length (joints world) = omega (arith, all, two) in
+    let two : slot_count world ≡ 2 * length (all_tunnels world) = two_each world.channels 0 in
+    let most : done ≡ length (all_tunnels world) = omega (arith, all, two) in
     ring_by world s ahead sound inside (subst (λ (n : ℕ). slot_after world n s ≡ Some ahead) most walk.ahead_is)
 
 -- ---- answers

@@ -3,13 +3,12 @@ use Rattle.std.proofs.Common.{◌≡◌, ◌&&◌, ◌⊎◌, inl, inr, nat_lt, 
 use Rattle.std.specs.Option.{option_map}
 use Rattle.mc_box.specs.BoxEvents.{BoxStep, box_event, is_command, is_enabled, is_take, is_version_end}
 use Rattle.mc_box.specs.BoxShapes.{box_shape, is_enabled_by}
-use Rattle.mc_box.specs.Boxes.{BoxState, is_slot, owes_at}
+use Rattle.mc_box.specs.Boxes.{BoxState, is_slot, box_owes}
 use Rattle.mc_box.proofs.EventGoes.{event_goes}
 use Rattle.mc_box.proofs.ShapeEnables.{shape_enables}
 use Rattle.mc_model.specs.Shapes.{CommandGoes, RetryGoes, is_allowed}
 use Rattle.mc_model.specs.Sound.{IsSound}
-use Rattle.mc_model.specs.Steps.{ends_version}
-use Rattle.mc_model.specs.Steps.{made, step}
+use Rattle.mc_model.specs.Steps.{ends_version, made, step}
 use Rattle.mc_model.specs.Worlds.{WorldState, box_at, place}
 use Rattle.mc_box.specs.declared.event.Event.{Event}
 use Rattle.mc_box.specs.declared.event.Event.TheVariants.{Take, Set, Media, Tell, Retry, Shift}
@@ -90,5 +89,5 @@ retry_goes world s sound inside owes =
     let placed = sound.numbered.placed s inside in
     let here : is_slot box (place world s).1 ≡ true = below_test (place world s).1 (length box.slots) (sound.numbered.slots s inside) in
     let made = some_of (box_event box (Retry (place world s).1) None)
-    (event_goes box (Retry (place world s).1) (sound.boxes (place world s).0 placed) (both_is (is_slot box (place world s).1) (owes_at box (place world s).1) here owes) refl refl) in
+    (event_goes box (Retry (place world s).1) (sound.boxes (place world s).0 placed) (both_is (is_slot box (place world s).1) (box_owes box (place world s).1) here owes) refl refl) in
     act_steps world (place world s).0 (Retry (place world s).1) made.0 refl (below_test (place world s).0 (length world.boxes) placed) made.1

@@ -7,7 +7,7 @@ use Rattle.std.proofs.lemmas.List.Sums.{sum_by-cons}
 use Rattle.mc_signal.specs.declared.Tagged.{Tagged}
 use Rattle.mc_laws.specs.Measures.{total}
 use Rattle.mc_model.specs.Sound.{IsNumbered}
-use Rattle.mc_model.specs.Worlds.{WorldState, for_tunnel, joint_of, lane_of, list_to, slot_count}
+use Rattle.mc_model.specs.Worlds.{WorldState, for_tunnel, tunnel_of, lane_of, list_to, slot_count}
 use Rattle.mc_laws.proofs.LanesKept.{lane_apart, lane_in}
 use Rattle.mc_laws.proofs.Sums.{total_front, total_has, total_le, total_none, total_once, total_plus, total_same, total_swap}
 
@@ -90,6 +90,6 @@ lanes_total lane_at within k lanes inside apart =
 -- so the lists to all slots are no longer than the lanes
 pub lists_most : (world : WorldState) → IsNumbered world → total (λ (s : ℕ). length (list_to world s)) (slot_count world) ≤ sum_by length world.lanes
 lists_most world numbered =
-    lanes_total (lane_of world) (λ (s : ℕ). (joint_of world s).within) (slot_count world) world.lanes
+    lanes_total (lane_of world) (λ (s : ℕ). (tunnel_of world s).within) (slot_count world) world.lanes
     (λ s below. subst (λ (n : ℕ). lane_of world s < n) (sym numbered.lanes) (lane_in world s below))
     (λ s t one two lane within. lane_apart world s t one two lane within)

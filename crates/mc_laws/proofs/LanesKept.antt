@@ -5,15 +5,15 @@ use Rattle.std.proofs.lemmas.Grind.{common_steps}
 use Rattle.std.proofs.lemmas.List.{append-nil, get_or-set_same, get_or-set_other}
 use Rattle.mc_signal.specs.declared.Signal.{Signal}
 use Rattle.mc_signal.specs.declared.Tagged.{Tagged}
-use Rattle.mc_model.specs.Worlds.{WorldState, Joint, far, for_tunnel, front_for, joint_of, joints, lane_of, no_joint, slot_count}
-use Rattle.mc_laws.proofs.Joints.{channel_in, joint_apart, two_each}
+use Rattle.mc_model.specs.Worlds.{WorldState, TunnelPlace, far, for_tunnel, front_for, tunnel_of, all_tunnels, lane_of, no_tunnel, slot_count}
+use Rattle.mc_laws.proofs.TunnelPlaces.{channel_in, places_apart, two_each}
 use Rattle.mc_laws.proofs.Numbers.{by_half, far_half, far_side, half_in}
 
 -- ---- lanes of a world
 
 -- the tunnel of a slot is one of the world's
-tunnel_in : (world : WorldState) (s : ℕ) → s < slot_count world → s / 2 < length (joints world)
-tunnel_in world s below = half_in s (length (joints world)) (subst (λ (n : ℕ). s < n) (two_each world.channels 0) below)
+tunnel_in : (world : WorldState) (s : ℕ) → s < slot_count world → s / 2 < length (all_tunnels world)
+tunnel_in world s below = half_in s (length (all_tunnels world)) (subst (λ (n : ℕ). s < n) (two_each world.channels 0) below)
 
 lane_sum : (channel count side : ℕ) → channel < 0 + count → side < 2 → 2 * channel + side < 2 * count
 lane_sum channel count side below low = omega arith
@@ -24,28 +24,28 @@ side_low s = omega arith
 -- the lane that leads to a slot is one of the world's
 pub lane_in : (world : WorldState) (s : ℕ) → s < slot_count world → lane_of world s < 2 * length world.channels
 lane_in world s below =
-    lane_sum (joint_of world s).channel (length world.channels) (s % 2) ((channel_in world.channels 0 (s / 2) (tunnel_in world s below)).1) (side_low s)
+    lane_sum (tunnel_of world s).channel (length world.channels) (s % 2) ((channel_in world.channels 0 (s / 2) (tunnel_in world s below)).1) (side_low s)
 
 lane_parts : (c d p q : ℕ) → p < 2 → q < 2 → 2 * c + p ≡ 2 * d + q → (c ≡ d) × (p ≡ q)
 lane_parts c d p q one two same = (omega arith, omega arith)
 
 -- slots of one lane and of one number within its channel are the same
 pub lane_apart : (world : WorldState) (s t : ℕ) → s < slot_count world → t < slot_count world → lane_of world s ≡ lane_of world t
-    → (joint_of world s).within ≡ (joint_of world t).within → s ≡ t
+    → (tunnel_of world s).within ≡ (tunnel_of world t).within → s ≡ t
 lane_apart world s t one two lane within =
-    let parts = lane_parts (joint_of world s).channel (joint_of world t).channel (s % 2) (t % 2) (side_low s) (side_low t) lane in
-    by_half s t (joint_apart world.channels 0 (s / 2) (t / 2) (tunnel_in world s one) (tunnel_in world t two) parts.0 within) parts.1
+    let parts = lane_parts (tunnel_of world s).channel (tunnel_of world t).channel (s % 2) (t % 2) (side_low s) (side_low t) lane in
+    by_half s t (places_apart world.channels 0 (s / 2) (t / 2) (tunnel_in world s one) (tunnel_in world t two) parts.0 within) parts.1
 
 -- far slots share their tunnel
-pub far_joint : (world : WorldState) (s : ℕ) → joint_of world (far s) ≡ joint_of world s
-far_joint world s = ap (λ (t : ℕ). get_or (joints world) t no_joint) (far_half s)
+pub far_tunnel : (world : WorldState) (s : ℕ) → tunnel_of world (far s) ≡ tunnel_of world s
+far_tunnel world s = ap (λ (t : ℕ). get_or (all_tunnels world) t no_tunnel) (far_half s)
 
 lanes_differ : (c d p q : ℕ) → d ≡ c → q + p ≡ 1 → 2 * c + p ≢ 2 * d + q
 lanes_differ c d p q one two same = omega arith
 
 -- but their lanes are two
 pub far_lane : (world : WorldState) (s : ℕ) → lane_of world s ≢ lane_of world (far s)
-far_lane world s = lanes_differ (joint_of world s).channel (joint_of world (far s)).channel (s % 2) (far s % 2) (ap (λ (j : Joint). j.channel) (far_joint world s)) (far_side s)
+far_lane world s = lanes_differ (tunnel_of world s).channel (tunnel_of world (far s)).channel (s % 2) (far s % 2) (ap (λ (j : TunnelPlace). j.channel) (far_tunnel world s)) (far_side s)
 
 -- ---- what a lane has for a tunnel
 

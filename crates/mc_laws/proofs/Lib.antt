@@ -8,7 +8,7 @@ pub mod CommandsGo
 pub mod Exchanges
 pub mod Firsts
 pub mod GoalsKept
-pub mod Joints
+pub mod TunnelPlaces
 pub mod LaneSums
 pub mod LanesKept
 pub mod LinkFree

@@ -3,13 +3,13 @@ use Rattle.std.proofs.Common.{◌≡◌, ◌≢◌, ◌<◌, ◌≤◌, ◌+◌,
 use Rattle.std.specs.List.{list_all}
 use Rattle.std.proofs.lemmas.Grind.{common_steps}
 use Rattle.std.proofs.Math.Nat.{mul-le-mul_left, mul-one, mul_assoc, pow-succ', pow-zero}
-use Rattle.mc_link.specs.LinkTurn.{link_due, sent_by_first, sent_by_second, side_closed}
+use Rattle.mc_link.specs.LinkTurn.{link_turn, sent_by_first, sent_by_second, side_closed}
 use Rattle.mc_link.specs.LinkWeights.{stored_link}
 use Rattle.mc_link.specs.declared.Side.TheVariants.{First}
 use Rattle.mc_link.proofs.LinkPays.{link_pays}
 use Rattle.mc_signal.specs.declared.Signal.{Signal}
 use Rattle.mc_signal.specs.declared.Tagged.{Tagged}
-use Rattle.mc_slot.specs.EndTurn.{due, pushed_by, IsAtRest, closes_by}
+use Rattle.mc_slot.specs.EndTurn.{end_turn, pushes, IsAtRest, closes_by}
 use Rattle.mc_slot.specs.Moves.{answered}
 use Rattle.mc_slot.specs.declared.Goal.{Goal}
 use Rattle.mc_slot.specs.declared.Slot.{Slot}
@@ -26,12 +26,12 @@ use Rattle.mc_box.proofs.TakeTurns.{EndTook, LinkTook, TookBy, link_rests_from}
 use Rattle.mc_laws.specs.Measures.{IsRingFree, MeasureBound, TakeLowers, TakesBound, TakesEnd, base, measure, reach, stored_of, to_come, total, under_way}
 use Rattle.mc_model.specs.Sound.{IsSound}
 use Rattle.mc_model.specs.Steps.{run, step}
-use Rattle.mc_model.specs.Worlds.{WorldState, box_at, far, goal_of, joints, list_to, own_descriptor, own_sender, place, slot_count, slot_of}
+use Rattle.mc_model.specs.Worlds.{WorldState, box_at, far, goal_of, all_tunnels, list_to, own_descriptor, own_sender, place, slot_count, slot_of}
 use Rattle.mc_box.specs.declared.event.Event.{Event}
 use Rattle.mc_box.specs.declared.event.Event.TheVariants.{Take, Set, Media, Tell, Retry, Shift}
 use Rattle.mc_box.specs.declared.event.Turn.{Turn}
 use Rattle.mc_laws.proofs.ActedWorlds.{place_apart}
-use Rattle.mc_laws.proofs.Joints.{two_each}
+use Rattle.mc_laws.proofs.TunnelPlaces.{two_each}
 use Rattle.mc_laws.proofs.LaneSums.{lists_most}
 use Rattle.mc_laws.proofs.Partners.{IsPartner, has_partner, is_partner}
 use Rattle.mc_laws.proofs.Reaches.{GoalsStay, Reaches, crossed_most, reach_same, reaches, ring_same, with_boxes}
@@ -88,7 +88,7 @@ sums_by world next n tunnels left sent lists =
     let two : total (λ (t : ℕ). kept t + out t) (slot_count world) ≡ total (by_sent n tunnels next left sent) (slot_count world) =
     total_same (λ (t : ℕ). kept t + out t) (by_sent n tunnels next left sent) (slot_count world)
     (λ t within. turned_sum (tunnels (far t) * weights n (left t)) (tunnels t * weights n (sent t)) (n * (n * n) * (tunnels t * stored_of (goal_of next t) next t))) in
-    let swapped : total (λ (t : ℕ). out (far t)) (slot_count world) ≡ total out (slot_count world) = total_far (length (joints world)) (slot_count world) out (two_each world.channels 0) in
+    let swapped : total (λ (t : ℕ). out (far t)) (slot_count world) ≡ total out (slot_count world) = total_far (length (all_tunnels world)) (slot_count world) out (two_each world.channels 0) in
     omega (arith, one, two, swapped, total_plus kept (λ (t : ℕ). out (far t)) (slot_count world), total_plus kept out (slot_count world))
 
 -- ---- slots that do nothing
@@ -160,7 +160,7 @@ end_lowers world boxes lanes s n tunnels goal took sound far_from aims did =
     let local : ℕ = (place world s).1 in
     let left : ℕ → List Signal = took.happened.stepped.left in
     let sent : ℕ → List Signal = took.happened.stepped.sent in
-    let signals : List Signal = answered did.answer ++ due goal did.middle (pushed_by took.signal did.middle.state) (own_descriptor world s) (own_sender world s) in
+    let signals : List Signal = answered did.answer ++ end_turn goal did.middle (pushes took.signal did.middle.state) (own_descriptor world s) (own_sender world s) in
     let stay : GoalsStay next world = take_goals_stay world next s took sound in
     let idle_slot = λ (who k : ℕ) (away : who ≡ (place world s).0 → k ≢ local). idle_stays world next s who k took (λ same. did.others k (away same)) in
     let change = total_one (by_sent n tunnels next left sent) (to_come n tunnels world) (slot_count world) s took.inside
@@ -213,8 +213,8 @@ link_lowers world boxes lanes s p n tunnels partner took sound far_from aims pai
     let left : ℕ → List Signal = took.happened.stepped.left in
     let sent : ℕ → List Signal = took.happened.stepped.sent in
     let after : BoxState = took.happened.step.after in
-    let signals : List Signal = answered did.answer ++ sent_by_first (link_due did.middle (slot_at box partner) (side_closed (closes_by took.signal did.middle.state) First)) in
-    let others : List Signal = sent_by_second (link_due did.middle (slot_at box partner) (side_closed (closes_by took.signal did.middle.state) First)) in
+    let signals : List Signal = answered did.answer ++ sent_by_first (link_turn did.middle (slot_at box partner) (side_closed (closes_by took.signal did.middle.state) First)) in
+    let others : List Signal = sent_by_second (link_turn did.middle (slot_at box partner) (side_closed (closes_by took.signal did.middle.state) First)) in
     let box_sound = sound.boxes (place world s).0 (sound.numbered.placed s took.inside) in
     let stay : GoalsStay next world = take_goals_stay world next s took sound in
     let idle_slot = λ (who k : ℕ) (away : who ≡ (place world s).0 → k ≢ local) (beyond : who ≡ (place world s).0 → k ≢ partner). idle_stays world next s who k took (λ same. did.others k (away same) (beyond same)) in
@@ -406,7 +406,7 @@ measure_most world sound =
     bound_sum (base world * (base world * (base world * base world))) (measure world) (total (λ (s : ℕ). length (list_to world s)) (slot_count world)) (under_way world) (slot_count world)
     (total_most (to_come (base world) (reach world) world) (λ s. length (list_to world s)) (base world * (base world * (base world * base world))) (slot_count world)
     (λ s within. part_most (base world) (base world * (base world * base world)) (reach world (far s)) (weights (base world) (list_to world s)) (length (list_to world s)) (reach world s) (stored_of (goal_of world s) world s)
-    (omega (arith, crossed_most (length (joints world)) world (far s))) (omega (arith, crossed_most (length (joints world)) world s))
+    (omega (arith, crossed_most (length (all_tunnels world)) world (far s))) (omega (arith, crossed_most (length (all_tunnels world)) world s))
     (weights_most (base world) (omega arith) (list_to world s)) (stored_most (goal_of world s) world s)))
     (lists_most world sound.numbered)
 

@@ -11,10 +11,10 @@ use Rattle.mc_box.specs.Boxes.{BoxState, IsNewBox, no_box}
 use Rattle.mc_model.specs.Served.{AllServed, LanesServed}
 use Rattle.mc_model.specs.Sound.{IsNumbered}
 use Rattle.mc_laws.specs.StepLaws.{FirstIsSound}
-use Rattle.mc_model.specs.Worlds.{ChannelState, WorldState, Joint, box_at, far, first_world, for_tunnel, joint_of, lane_of, list_to, place, slot_count, slot_of}
+use Rattle.mc_model.specs.Worlds.{ChannelState, WorldState, TunnelPlace, box_at, far, first_world, for_tunnel, tunnel_of, lane_of, list_to, place, slot_count, slot_of}
 use Rattle.mc_box.proofs.NewBoxes.{new_box_sound, new_slot_closed}
 use Rattle.mc_laws.proofs.ActedWorlds.{far_inside}
-use Rattle.mc_laws.proofs.LanesKept.{far_joint}
+use Rattle.mc_laws.proofs.LanesKept.{far_tunnel}
 use Rattle.mc_laws.proofs.Numbers.{far_side}
 
 -- ---- nothing is under way
@@ -39,7 +39,7 @@ sides_differ : (s t : ℕ) → s + t ≡ 1 → (t == 0) ≡ not (s == 0)
 sides_differ s t one = grind (arith, common_steps)
 
 list_none : (boxes : List BoxState) (channels : List ChannelState) (s : ℕ) → list_to (first_world boxes channels) s ≡ []
-list_none boxes channels s = ap (for_tunnel (joint_of (first_world boxes channels) s).within) (none_under_way (2 * length channels) (lane_of (first_world boxes channels) s))
+list_none boxes channels s = ap (for_tunnel (tunnel_of (first_world boxes channels) s).within) (none_under_way (2 * length channels) (lane_of (first_world boxes channels) s))
 
 first_closed : (boxes : List BoxState) (channels : List ChannelState) (s : ℕ) → ((who : ℕ) → who < length boxes → IsNewBox (get_or boxes who no_box))
     → IsNumbered (first_world boxes channels) → s < slot_count (first_world boxes channels)
@@ -55,7 +55,7 @@ first_tunnel boxes channels s new numbered inside =
     let world : WorldState = first_world boxes channels in
     let away : far s < slot_count world = far_inside world s inside in
     closed_tunnel (slot_of world s) (slot_of world (far s)) (first_closed boxes channels s new numbered inside) (first_closed boxes channels (far s) new numbered away)
-    (numbered.media s inside ∙ (ap (λ (j : Joint). j.medium) (sym (far_joint world s)) ∙ sym (numbered.media (far s) away)))
+    (numbered.media s inside ∙ (ap (λ (j : TunnelPlace). j.medium) (sym (far_tunnel world s)) ∙ sym (numbered.media (far s) away)))
     (numbered.sides s inside ∙ (sides_differ (far s % 2) (s % 2) (far_side s) ∙ ap (λ (b : Bool). not b) (sym (numbered.sides (far s) away))))
 
 pub first_is_sound : FirstIsSound

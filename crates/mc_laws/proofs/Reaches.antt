@@ -10,10 +10,10 @@ use Rattle.mc_box.specs.Boxes.{BoxState, goal_at}
 use Rattle.mc_box.proofs.Options.{then_some}
 use Rattle.mc_laws.specs.Measures.{base, reach}
 use Rattle.mc_model.specs.Paths.{crossed, crossed_by, has_ring, other_end, walk_by, walked}
-use Rattle.mc_model.specs.Worlds.{WorldState, box_at, far, goal_of, joints, number, place, places, slot_count}
+use Rattle.mc_model.specs.Worlds.{WorldState, box_at, far, goal_of, all_tunnels, number, place, places, slot_count}
 use Rattle.mc_laws.proofs.ActedWorlds.{far_inside}
 use Rattle.mc_laws.proofs.BothWays.{any_passes}
-use Rattle.mc_laws.proofs.Joints.{two_each}
+use Rattle.mc_laws.proofs.TunnelPlaces.{two_each}
 use Rattle.mc_laws.proofs.Numbers.{far_back}
 
 -- ---- walks that come to ends
@@ -91,14 +91,14 @@ pub record Reaches (world : WorldState) (n : ℕ) (tunnels : ℕ → ℕ) : Type
 from_far : (world : WorldState) (s : ℕ) → has_ring world ≡ false → s < slot_count world → reach world (far s) ≡ 1 + crossed_by (reach world) world (goal_of world s) s
 from_far world s free inside =
     let walk = comes_to_end world (far s) free (far_inside world s inside) in
-    sym (crossed_stays (length (joints world)) world (far s) walk.0 walk.1)
+    sym (crossed_stays (length (all_tunnels world)) world (far s) walk.0 walk.1)
     ∙ ap (λ (t : ℕ). 1 + crossed_by (reach world) world (goal_of world t) t) (far_back s)
 
 -- so in a world without a ring its counts are as the sums ask for them
 pub reaches : (world : WorldState) → has_ring world ≡ false → Reaches world (base world) (reach world)
 reaches world free = record {
-  some = λ s inside. crossed_some (length (joints world)) world s (omega (arith, inside, two_each world.channels 0));
-  less = λ s inside. omega (arith, crossed_most (length (joints world)) world s);
+  some = λ s inside. crossed_some (length (all_tunnels world)) world s (omega (arith, inside, two_each world.channels 0));
+  less = λ s inside. omega (arith, crossed_most (length (all_tunnels world)) world s);
   at_end = λ s goal inside aims.
       from_far world s free inside ∙ ap (λ (g : SlotGoal). 1 + crossed_by (reach world) world g s) aims;
   at_link = λ s partner t inside aims is.
@@ -136,7 +136,7 @@ crossed_same (suc most) world boxes lanes s stay =
 
 -- each slot is as far from its end
 pub reach_same : (world : WorldState) (boxes : List BoxState) (lanes : List (List Tagged)) (s : ℕ) → GoalsStay (with_boxes world boxes lanes) world → reach (with_boxes world boxes lanes) s ≡ reach world s
-reach_same world boxes lanes s stay = crossed_same (length (joints world)) world boxes lanes s stay
+reach_same world boxes lanes s stay = crossed_same (length (all_tunnels world)) world boxes lanes s stay
 
 -- walks come to the same ends
 walk_by_same : (goal : SlotGoal) (f g : ℕ → Option ℕ) (world : WorldState) (boxes : List BoxState) (lanes : List (List Tagged)) (s : ℕ) → ((t : ℕ) → f t ≡ g t)
@@ -168,4 +168,4 @@ any_same (entry ∷ entries) p q first same =
 pub ring_same : (world : WorldState) (boxes : List BoxState) (lanes : List (List Tagged)) → GoalsStay (with_boxes world boxes lanes) world → has_ring (with_boxes world boxes lanes) ≡ has_ring world
 ring_same world boxes lanes stay =
     any_same (places world) (λ (s : ℕ). is_none (other_end (with_boxes world boxes lanes) s)) (λ (s : ℕ). is_none (other_end world s)) 0
-    (λ s. ap (λ (o : Option ℕ). is_none o) (walked_same (length (joints world)) world boxes lanes s stay))
+    (λ s. ap (λ (o : Option ℕ). is_none o) (walked_same (length (all_tunnels world)) world boxes lanes s stay))

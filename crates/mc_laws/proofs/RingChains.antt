@@ -4,10 +4,10 @@ use Rattle.std.specs.Option.{option_and_then, unwrap_or}
 use Rattle.std.proofs.lemmas.Bool.{cases_lt}
 use Rattle.std.proofs.lemmas.Grind.{common_steps}
 use Rattle.mc_box.proofs.Options.{then_some}
-use Rattle.mc_model.specs.Rings.{IsOnRing, WalksNeverTurn, next_slot, partner_of, slot_after}
+use Rattle.mc_model.specs.Rings.{IsOnRing, WalksNeverReturn, next_slot, partner_of, slot_after}
 use Rattle.mc_model.specs.Sound.{IsSound}
-use Rattle.mc_model.specs.Worlds.{WorldState, far, joints, slot_count}
-use Rattle.mc_laws.proofs.Joints.{two_each}
+use Rattle.mc_model.specs.Worlds.{WorldState, far, all_tunnels, slot_count}
+use Rattle.mc_laws.proofs.TunnelPlaces.{two_each}
 use Rattle.mc_laws.proofs.Numbers.{far_back, far_other, half_in, some_same}
 use Rattle.mc_laws.proofs.Partners.{IsNext, next_is}
 use Rattle.mc_laws.proofs.Repeats.{Repeated, repeated}
@@ -128,17 +128,17 @@ chain_from world most s t sound inside is =
     }
 
 -- where a chain goes over as many tunnels as there are, its slot stands on a ring
-pub ring_by : (world : WorldState) (s t : ℕ) → IsSound world → s < slot_count world → slot_after world (length (joints world)) s ≡ Some t → IsOnRing world s
+pub ring_by : (world : WorldState) (s t : ℕ) → IsSound world → s < slot_count world → slot_after world (length (all_tunnels world)) s ≡ Some t → IsOnRing world s
 ring_by world s t sound inside is =
-    let two : slot_count world ≡ 2 * length (joints world) = two_each world.channels 0 in
-    let below : (k : ℕ) → k ≤ length (joints world) → slots_from world s k / 2 < length (joints world) =
-    λ k within. half_in (slots_from world s k) (length (joints world))
-    (subst (λ (n : ℕ). slots_from world s k < n) two (after_inside world k s (slots_from world s k) sound inside (passes world (length (joints world)) k s t is within))) in
-    let again = comes_back (partner_of world) (slots_from world s) (length (joints world)) (chain_from world (length (joints world)) s t sound inside is) below in
+    let two : slot_count world ≡ 2 * length (all_tunnels world) = two_each world.channels 0 in
+    let below : (k : ℕ) → k ≤ length (all_tunnels world) → slots_from world s k / 2 < length (all_tunnels world) =
+    λ k within. half_in (slots_from world s k) (length (all_tunnels world))
+    (subst (λ (n : ℕ). slots_from world s k < n) two (after_inside world k s (slots_from world s k) sound inside (passes world (length (all_tunnels world)) k s t is within))) in
+    let again = comes_back (partner_of world) (slots_from world s) (length (all_tunnels world)) (chain_from world (length (all_tunnels world)) s t sound inside is) below in
     record {
       count = again.0;
       some = again.1;
-      back = passes world (length (joints world)) again.0 s t is again.2 ∙ ap Some again.3;
+      back = passes world (length (all_tunnels world)) again.0 s t is again.2 ∙ ap Some again.3;
     }
 
 -- a chain comes to no far slot of its first one
@@ -154,8 +154,8 @@ turns_none : (world : WorldState) (s count more t u : ℕ) → IsSound world →
 turns_none world s count more t u sound inside is later =
     no_way_back world more t u sound (after_inside world count s t sound inside is) (sym (after_sum world count more s t is) ∙ later)
 
-pub walks_never_turn : WalksNeverTurn
-walks_never_turn world s count other t u sound inside first second = elim (cases_lt count other) [
+pub walks_never_return : WalksNeverReturn
+walks_never_return world s count other t u sound inside first second = elim (cases_lt count other) [
   | inl below ↦
       let sum : count + (other - count) ≡ other = omega (arith, below) in
       turns_none world s count (other - count) t u sound inside first (ap (λ (n : ℕ). slot_after world n s) sum ∙ second)

@@ -4,10 +4,11 @@ use Rattle.std.specs.Option.{option_and_then}
 use Rattle.mc_slot.specs.declared.SlotGoal.{SlotGoal}
 use Rattle.mc_slot.specs.declared.SlotGoal.TheVariants.{End, Link}
 use Rattle.mc_box.proofs.Options.{then_some}
-use Rattle.mc_model.specs.Paths.{is_end_goal, other_end, walk_by, walked}
+use Rattle.mc_slot.specs.EndTurn.{is_end_goal}
+use Rattle.mc_model.specs.Paths.{other_end, walk_by, walked}
 use Rattle.mc_model.specs.Rings.{IsOnRing, RingsMeetNoEnd, next_slot, partner_of, slot_after}
 use Rattle.mc_model.specs.Sound.{IsSound}
-use Rattle.mc_model.specs.Worlds.{WorldState, far, goal_of, joints, number, place, slot_count}
+use Rattle.mc_model.specs.Worlds.{WorldState, far, goal_of, all_tunnels, number, place, slot_count}
 use Rattle.mc_laws.proofs.ActedWorlds.{far_inside}
 use Rattle.mc_laws.proofs.Partners.{by_goal, has_partner, linked_with, next_is, one_before}
 use Rattle.mc_laws.proofs.RingChains.{after_inside, after_parts, after_sum, no_way_back, ring_by}
@@ -119,14 +120,14 @@ rings_meet_no_end world s sound inside = (meets, comes)
   where
     meets : other_end world s ≡ None → IsOnRing world s
     meets walk =
-        let sum : length (joints world) ≡ 0 + length (joints world) = omega arith in
-        let chain = chain_of world (length (joints world)) 0 s sound inside (subst (λ (n : ℕ). walked world n s ≡ None) sum walk) in
+        let sum : length (all_tunnels world) ≡ 0 + length (all_tunnels world) = omega arith in
+        let chain = chain_of world (length (all_tunnels world)) 0 s sound inside (subst (λ (n : ℕ). walked world n s ≡ None) sum walk) in
         ring_by world s chain.0 sound inside chain.1
 
     comes : IsOnRing world s → other_end world s ≡ None
     comes ring =
-        let round = goes_round world s (length (joints world)) ring in
-        no_end world (length (joints world)) s round.0 round.1
+        let round = goes_round world s (length (all_tunnels world)) ring in
+        no_end world (length (all_tunnels world)) s round.0 round.1
 
 -- ---- ends
 
@@ -167,5 +168,5 @@ last_tunnel world (suc most) s t walk =
 -- which is another one
 pub met_is_other : (world : WorldState) (s t : ℕ) → IsSound world → s < slot_count world → other_end world s ≡ Some t → s ≢ t
 met_is_other world s t sound inside walk same =
-    let last = last_tunnel world (length (joints world)) s t walk in
+    let last = last_tunnel world (length (all_tunnels world)) s t walk in
     no_way_back world last.0 s last.1 sound inside last.2 (same ∙ sym last.3)

@@ -5,9 +5,9 @@ use Rattle.std.specs.Option.{is_none}
 use Rattle.mc_slot.specs.declared.SlotGoal.{SlotGoal}
 use Rattle.mc_model.specs.Paths.{has_ring, other_end, walk_by, walked}
 use Rattle.mc_model.specs.LinkFree.{IsLinkFree}
-use Rattle.mc_model.specs.Worlds.{WorldState, box_at, far, joints, place, places, slot_count}
+use Rattle.mc_model.specs.Worlds.{WorldState, box_at, far, all_tunnels, place, places, slot_count}
 use Rattle.mc_box.proofs.LinkFree.{end_at}
-use Rattle.mc_laws.proofs.Joints.{two_each}
+use Rattle.mc_laws.proofs.TunnelPlaces.{two_each}
 
 -- a walk over one tunnel ends at its far slot
 walked_far : (most : ℕ) (world : WorldState) (s : ℕ) → 0 < most → IsLinkFree world → walked world most s ≡ Some (far s)
@@ -19,8 +19,8 @@ walked_far (suc most) world s some free =
 -- so the path of a slot leads to its far slot
 pub other_far : (world : WorldState) (s : ℕ) → IsLinkFree world → s < slot_count world → other_end world s ≡ Some (far s)
 other_far world s sound inside =
-    let pairs : slot_count world ≡ 2 * length (joints world) = two_each world.channels 0 in
-    walked_far (length (joints world)) world s (omega arith) sound
+    let pairs : slot_count world ≡ 2 * length (all_tunnels world) = two_each world.channels 0 in
+    walked_far (length (all_tunnels world)) world s (omega arith) sound
 
 -- no slot from a number on is on a ring
 none_from : (entries : List (ℕ × ℕ)) (first : ℕ) (world : WorldState) → IsLinkFree world → first + length entries ≤ slot_count world

@@ -10,7 +10,7 @@ use Rattle.mc_box.specs.Boxes.{BoxState}
 use Rattle.mc_laws.specs.Sendings.{sent_on, signal_on}
 use Rattle.mc_model.specs.Served.{AllServed}
 use Rattle.mc_model.specs.Steps.{pushed, sent_out}
-use Rattle.mc_model.specs.Worlds.{WorldState, far, for_tunnel, joint_of, lane_of, number, place, slot_count}
+use Rattle.mc_model.specs.Worlds.{WorldState, far, for_tunnel, tunnel_of, lane_of, number, place, slot_count}
 use Rattle.mc_laws.proofs.ActedWorlds.{far_inside}
 use Rattle.mc_laws.proofs.LanesKept.{lane_apart, lane_in, sent_another, sent_own, tagged_for}
 use Rattle.mc_laws.proofs.Numbers.{some_same, far_back, number_is}
@@ -18,7 +18,7 @@ use Rattle.mc_laws.proofs.Parts.{part_else, part_here, part_more, part_none, par
 
 -- the signals under way to a slot, where the lanes are these
 abbrev pub list_in : WorldState → List (List Tagged) → ℕ → List Signal
-list_in world lanes s = for_tunnel (joint_of world s).within (get_or lanes (lane_of world s) [])
+list_in world lanes s = for_tunnel (tunnel_of world s).within (get_or lanes (lane_of world s) [])
 
 -- each slot of a world has its number
 abbrev pub AreOnce : WorldState → Type 0
@@ -28,26 +28,26 @@ AreOnce world = (s : ℕ) → s < slot_count world → number world (place world
 
 -- these lanes, with a signal at the end of the lane that leads to a slot
 abbrev with_signal : WorldState → List (List Tagged) → ℕ → Signal → List (List Tagged)
-with_signal world lanes u signal = set lanes (lane_of world u) (get_or lanes (lane_of world u) [] ++ tagged_for (joint_of world u).within signal ∷ [])
+with_signal world lanes u signal = set lanes (lane_of world u) (get_or lanes (lane_of world u) [] ++ tagged_for (tunnel_of world u).within signal ∷ [])
 
 pushed_here : (world : WorldState) (lanes : List (List Tagged)) (u : ℕ) (signal : Signal) → lane_of world u < length lanes
     → list_in world (with_signal world lanes u signal) u ≡ list_in world lanes u ++ signal ∷ []
 pushed_here world lanes u signal inside =
-    ap (for_tunnel (joint_of world u).within) (get_or-set_same lanes (lane_of world u) (get_or lanes (lane_of world u) [] ++ tagged_for (joint_of world u).within signal ∷ []) [] inside)
-    ∙ sent_own (joint_of world u).within (get_or lanes (lane_of world u) []) (signal ∷ [])
+    ap (for_tunnel (tunnel_of world u).within) (get_or-set_same lanes (lane_of world u) (get_or lanes (lane_of world u) [] ++ tagged_for (tunnel_of world u).within signal ∷ []) [] inside)
+    ∙ sent_own (tunnel_of world u).within (get_or lanes (lane_of world u) []) (signal ∷ [])
 
 -- several tunnels may share the lane
 pushed_else : (world : WorldState) (lanes : List (List Tagged)) (u t : ℕ) (signal : Signal) → lane_of world u < length lanes → u < slot_count world → t < slot_count world → t ≢ u
     → list_in world (with_signal world lanes u signal) t ≡ list_in world lanes t
 pushed_else world lanes u t signal inside one two apart =
-    let more : List Tagged = get_or lanes (lane_of world u) [] ++ tagged_for (joint_of world u).within signal ∷ [] in
+    let more : List Tagged = get_or lanes (lane_of world u) [] ++ tagged_for (tunnel_of world u).within signal ∷ [] in
     elim (cases_eq (lane_of world t) (lane_of world u)) [
       | inl shared ↦
-          ap (λ (k : ℕ). for_tunnel (joint_of world t).within (get_or (with_signal world lanes u signal) k [])) shared
-          ∙ (ap (for_tunnel (joint_of world t).within) (get_or-set_same lanes (lane_of world u) more [] inside)
-          ∙ (sent_another (joint_of world t).within (joint_of world u).within (get_or lanes (lane_of world u) []) (signal ∷ []) (λ same. apart (lane_apart world t u two one shared (sym same)))
-          ∙ ap (λ (k : ℕ). for_tunnel (joint_of world t).within (get_or lanes k [])) (sym shared)))
-      | inr away ↦ ap (for_tunnel (joint_of world t).within) (get_or-set_other lanes (lane_of world u) (lane_of world t) more [] away)
+          ap (λ (k : ℕ). for_tunnel (tunnel_of world t).within (get_or (with_signal world lanes u signal) k [])) shared
+          ∙ (ap (for_tunnel (tunnel_of world t).within) (get_or-set_same lanes (lane_of world u) more [] inside)
+          ∙ (sent_another (tunnel_of world t).within (tunnel_of world u).within (get_or lanes (lane_of world u) []) (signal ∷ []) (λ same. apart (lane_apart world t u two one shared (sym same)))
+          ∙ ap (λ (k : ℕ). for_tunnel (tunnel_of world t).within (get_or lanes k [])) (sym shared)))
+      | inr away ↦ ap (for_tunnel (tunnel_of world t).within) (get_or-set_other lanes (lane_of world u) (lane_of world t) more [] away)
     ]
 
 -- ---- all that is sent
@@ -62,10 +62,10 @@ signal_by true tagged is = refl
 signal_by false tagged is = absurd (cc)
 
 on_its_lane : (world : WorldState) (who lane s : ℕ) (sending : ℕ × Signal) → number world who sending.0 ≡ Some s → lane_of world (far s) ≡ lane
-    → sent_on world who lane (sending ∷ []) ≡ tagged_for (joint_of world (far s)).within sending.1 ∷ []
+    → sent_on world who lane (sending ∷ []) ≡ tagged_for (tunnel_of world (far s)).within sending.1 ∷ []
 on_its_lane world who lane s sending is leads =
     ap (λ (found : Option ℕ). signal_on world lane sending.1 found ++ []) is
-    ∙ signal_by (lane_of world (far s) == lane) (tagged_for (joint_of world (far s)).within sending.1) (eq-eqb (lane_of world (far s)) lane leads)
+    ∙ signal_by (lane_of world (far s) == lane) (tagged_for (tunnel_of world (far s)).within sending.1) (eq-eqb (lane_of world (far s)) lane leads)
 
 -- and to no other
 nothing_by : (here : Bool) (tagged : Tagged) → here ≡ false → (if here then tagged ∷ [] else []) ++ [] ≡ []
@@ -75,11 +75,11 @@ nothing_by true tagged is = absurd (cc)
 on_no_other : (world : WorldState) (who lane s : ℕ) (sending : ℕ × Signal) → number world who sending.0 ≡ Some s → lane_of world (far s) ≢ lane → sent_on world who lane (sending ∷ []) ≡ []
 on_no_other world who lane s sending is other =
     ap (λ (found : Option ℕ). signal_on world lane sending.1 found ++ []) is
-    ∙ nothing_by (lane_of world (far s) == lane) (tagged_for (joint_of world (far s)).within sending.1) (ne_eqb (lane_of world (far s)) lane other)
+    ∙ nothing_by (lane_of world (far s) == lane) (tagged_for (tunnel_of world (far s)).within sending.1) (ne_eqb (lane_of world (far s)) lane other)
 
 -- what goes to a lane is for its slots
 signal_served : (here : Bool) (world : WorldState) (lane s : ℕ) (signal : Signal) → here ≡ (lane_of world (far s) == lane) → far s < slot_count world
-    → AllServed world lane (if here then tagged_for (joint_of world (far s)).within signal ∷ [] else [])
+    → AllServed world lane (if here then tagged_for (tunnel_of world (far s)).within signal ∷ [] else [])
 signal_served true world lane s signal is inside = ((far s, record { inside = inside; leads = eqb-true (lane_of world (far s)) lane (sym is); within = refl }), tt)
 signal_served false world lane s signal is inside = tt
 
@@ -132,7 +132,7 @@ slot_sends world lanes who s sending once count is =
     let found = number_is world who sending.0 s is in
     let away : far s < slot_count world = far_inside world s found.0 in
     let inside : lane_of world (far s) < length lanes = subst (λ (n : ℕ). lane_of world (far s) < n) (sym count) (lane_in world (far s) away) in
-    let tagged : Tagged = tagged_for (joint_of world (far s)).within sending.1 in
+    let tagged : Tagged = tagged_for (tunnel_of world (far s)).within sending.1 in
     record {
       count = length-set lanes (lane_of world (far s)) (get_or lanes (lane_of world (far s)) [] ++ tagged ∷ []);
       lists = λ t within. elim (cases_eq t (far s)) [

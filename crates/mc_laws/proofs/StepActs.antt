@@ -16,7 +16,7 @@ use Rattle.mc_model.specs.Sound.{IsNumbered, IsSound}
 use Rattle.mc_laws.specs.StepLaws.{StepActs}
 use Rattle.mc_laws.specs.Stepped.{Stepped}
 use Rattle.mc_model.specs.Steps.{made, popped, step, step_by, take_at}
-use Rattle.mc_model.specs.Worlds.{WorldState, box_at, for_tunnel, front, joint_of, lane_of, lane_to, list_to, number, place, slot_count, slot_of}
+use Rattle.mc_model.specs.Worlds.{WorldState, box_at, for_tunnel, front, tunnel_of, lane_of, lane_to, list_to, number, place, slot_count, slot_of}
 use Rattle.mc_box.specs.declared.event.Event.{Event}
 use Rattle.mc_box.specs.declared.event.Event.TheVariants.{Take, Set, Media, Tell, Retry, Shift}
 use Rattle.mc_box.specs.declared.event.Turn.{Turn}
@@ -169,23 +169,23 @@ abbrev pub without : WorldState → ℕ → List (List Tagged)
 without world s = set world.lanes (lane_of world s) (drop 1 (lane_to world s))
 
 -- what is left to the slot
-pub left_here : (world : WorldState) (s : ℕ) → lane_of world s < length world.lanes → list_in world (without world s) s ≡ for_tunnel (joint_of world s).within (drop 1 (lane_to world s))
-left_here world s there = ap (for_tunnel (joint_of world s).within) (get_or-set_same world.lanes (lane_of world s) (drop 1 (lane_to world s)) [] there)
+pub left_here : (world : WorldState) (s : ℕ) → lane_of world s < length world.lanes → list_in world (without world s) s ≡ for_tunnel (tunnel_of world s).within (drop 1 (lane_to world s))
+left_here world s there = ap (for_tunnel (tunnel_of world s).within) (get_or-set_same world.lanes (lane_of world s) (drop 1 (lane_to world s)) [] there)
 
 -- and to each other slot, which may be on the same lane
 pub left_else : (world : WorldState) (s t : ℕ) (signal : Signal) → lane_of world s < length world.lanes → s < slot_count world → t < slot_count world → t ≢ s
-    → Fronts (joint_of world s).within signal (lane_to world s) → list_in world (without world s) t ≡ list_to world t
+    → Fronts (tunnel_of world s).within signal (lane_to world s) → list_in world (without world s) t ≡ list_to world t
 left_else world s t signal there one two apart fronts = elim (cases_eq (lane_of world t) (lane_of world s)) [
   | inl shared ↦
-      ap (λ (k : ℕ). for_tunnel (joint_of world t).within (get_or (without world s) k [])) shared
-      ∙ (ap (for_tunnel (joint_of world t).within) (get_or-set_same world.lanes (lane_of world s) (drop 1 (lane_to world s)) [] there)
-      ∙ (fronts.others (joint_of world t).within (λ same. apart (lane_apart world t s two one shared same))
-      ∙ ap (λ (k : ℕ). for_tunnel (joint_of world t).within (get_or world.lanes k [])) (sym shared)))
-  | inr away ↦ ap (for_tunnel (joint_of world t).within) (get_or-set_other world.lanes (lane_of world s) (lane_of world t) (drop 1 (lane_to world s)) [] away)
+      ap (λ (k : ℕ). for_tunnel (tunnel_of world t).within (get_or (without world s) k [])) shared
+      ∙ (ap (for_tunnel (tunnel_of world t).within) (get_or-set_same world.lanes (lane_of world s) (drop 1 (lane_to world s)) [] there)
+      ∙ (fronts.others (tunnel_of world t).within (λ same. apart (lane_apart world t s two one shared same))
+      ∙ ap (λ (k : ℕ). for_tunnel (tunnel_of world t).within (get_or world.lanes k [])) (sym shared)))
+  | inr away ↦ ap (for_tunnel (tunnel_of world t).within) (get_or-set_other world.lanes (lane_of world s) (lane_of world t) (drop 1 (lane_to world s)) [] away)
 ]
 
 front_left : (world : WorldState) (who s : ℕ) (signal : Signal) → lane_of world s < length world.lanes → s < slot_count world → (place world s).0 ≡ who
-    → Fronts (joint_of world s).within signal (lane_to world s) → Left world who (without world s)
+    → Fronts (tunnel_of world s).within signal (lane_to world s) → Left world who (without world s)
 front_left world who s signal there inside is fronts = record {
   count = length-set world.lanes (lane_of world s) (drop 1 (lane_to world s));
   rest = λ lane. elim (cases_eq lane (lane_of world s)) [
@@ -198,7 +198,7 @@ front_left world who s signal there inside is fronts = record {
 
 -- of the slots of the box, only that one has lost its front
 comes_else : (world : WorldState) (who s local k : ℕ) (signal : Signal) → IsNumbered world → who < length world.boxes → lane_of world s < length world.lanes → s < slot_count world
-    → (place world s).1 ≡ local → Fronts (joint_of world s).within signal (lane_to world s) → k < length (box_at world who).slots → k ≢ local
+    → (place world s).1 ≡ local → Fronts (tunnel_of world s).within signal (lane_to world s) → k < length (box_at world who).slots → k ≢ local
     → comes world who (without world s) k ≡ comes world who world.lanes k
 comes_else world who s local k signal numbered below there inside local_is fronts within apart =
     let found = numbered.all who k below within in
@@ -213,7 +213,7 @@ take_happens : (world next : WorldState) (who local s : ℕ) (signal : Signal) (
 take_happens world next who local s signal step sound below is first goes made_is =
     let found = number_is world who local s is in
     let there : lane_of world s < length world.lanes = subst (λ (n : ℕ). lane_of world s < n) (sym sound.numbered.lanes) (lane_in world s found.0) in
-    let fronts : Fronts (joint_of world s).within signal (lane_to world s) = front_next (joint_of world s).within signal (lane_to world s) first in
+    let fronts : Fronts (tunnel_of world s).within signal (lane_to world s) = front_next (tunnel_of world s).within signal (lane_to world s) first in
     let no : slot_no world who local ≡ s = ap (λ (o : Option ℕ). unwrap_or o 0) is in
     let first_is : comes world who world.lanes local ≡ signal ∷ comes world who (without world s) local =
     subst (λ (t : ℕ). list_to world t ≡ signal ∷ list_in world (without world s) t) (sym no)
@@ -260,7 +260,7 @@ step_acts world next turn sound goes = (step_turns world next turn sound goes).s
 pub record TakeHappened (world next : WorldState) (s : ℕ) : Type 0 where
   pub inside : s < slot_count world
   pub signal : Signal
-  pub fronts : Fronts (joint_of world s).within signal (lane_to world s)
+  pub fronts : Fronts (tunnel_of world s).within signal (lane_to world s)
   pub happened : Happened world next (place world s).0 (Take (place world s).1) (Some signal) (without world s)
 
 pub take_happened : (world next : WorldState) (who local : ℕ) → IsSound world → step world (record { who = who; event = Take local }) ≡ Some next → (s : ℕ) × TakeHappened world next s
@@ -275,7 +275,7 @@ take_happened world next who local sound goes =
       record {
         inside = found.0;
         signal = two.0;
-        fronts = front_next (joint_of world one.0).within two.0 (lane_to world one.0) two.1;
+        fronts = front_next (tunnel_of world one.0).within two.0 (lane_to world one.0) two.1;
         happened = subst (λ (w : ℕ). Happened world next w (Take (place world one.0).1) (Some two.0) (without world one.0)) (sym found.1)
             (subst (λ (l : ℕ). Happened world next who (Take l) (Some two.0) (without world one.0)) (sym found.2)
             (take_happens world next who local one.0 two.0 three.0 sound below one.1 two.1 three.1 three.2));

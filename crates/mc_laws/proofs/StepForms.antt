@@ -7,8 +7,8 @@ use Rattle.mc_signal.specs.declared.Descriptor.{Descriptor}
 use Rattle.mc_signal.specs.declared.Sender.{Sender}
 use Rattle.mc_signal.specs.declared.Signal.{Signal}
 use Rattle.mc_signal.specs.declared.Tagged.{Tagged}
-use Rattle.mc_slot.specs.EndTurn.{due, IsAtRest}
-use Rattle.mc_slot.specs.Moves.{answered, sent_all}
+use Rattle.mc_slot.specs.EndTurn.{end_turn, IsAtRest}
+use Rattle.mc_slot.specs.Moves.{answered, slot_send_all}
 use Rattle.mc_slot.specs.Sending.{pair_of}
 use Rattle.mc_slot.specs.Tunnel.{Kept}
 use Rattle.mc_slot.specs.declared.Goal.{Goal}
@@ -16,12 +16,12 @@ use Rattle.mc_slot.specs.declared.Goal.TheVariants.{Close as ToClose}
 use Rattle.mc_slot.specs.declared.Slot.{Slot}
 use Rattle.mc_slot.specs.declared.SlotGoal.{SlotGoal}
 use Rattle.mc_slot.specs.declared.SlotGoal.TheVariants.{End}
-use Rattle.mc_box.specs.BoxEvents.{BoxStep, answering, goal_turn}
+use Rattle.mc_box.specs.BoxEvents.{BoxStep, answering, goal_step}
 use Rattle.mc_box.specs.Boxes.{BoxState, goal_at, own, sender, slot_at, with_slot}
 use Rattle.mc_box.specs.Acting.{Acted, sends}
 use Rattle.mc_model.specs.Sound.{IsNumbered}
 use Rattle.mc_model.specs.Steps.{made, pushed, sent_out, step, with_box, with_lane}
-use Rattle.mc_model.specs.Worlds.{WorldState, far, joint_of, lane_of, lane_to, number, slot_count}
+use Rattle.mc_model.specs.Worlds.{WorldState, far, tunnel_of, lane_of, lane_to, number, slot_count}
 use Rattle.mc_turn.proofs.EndRests.{rests_kept}
 use Rattle.mc_laws.proofs.ActedWorlds.{far_inside}
 use Rattle.mc_laws.proofs.BoxSound.{put}
@@ -57,30 +57,30 @@ pushed_twice lanes lane tagged more inside =
 
 pub sent_is : (signals : List Signal) (world : WorldState) (who local s : ℕ) → number world who local ≡ Some s → lane_of world (far s) < length world.lanes
     → sent_out world who (map (pair_of local) signals)
-    ≡ with_lane world (lane_of world (far s)) (lane_to world (far s) ++ map (tagged_for (joint_of world (far s)).within) signals)
+    ≡ with_lane world (lane_of world (far s)) (lane_to world (far s) ++ map (tagged_for (tunnel_of world (far s)).within) signals)
 sent_is [] world who local s is inside =
     sym (ap (λ (lanes : List (List Tagged)). record world { lanes = lanes })
     (ap (λ (lane : List Tagged). set world.lanes (lane_of world (far s)) lane) (append-nil (lane_to world (far s))) ∙ set-get_or world.lanes (lane_of world (far s)) []))
 sent_is (signal ∷ signals) world who local s is inside =
     sent_next world who local s signal signals is
-    ∙ (sent_is signals (pushed world signal (far s)) who local s is (rw (length-set world.lanes (lane_of world (far s)) (lane_to world (far s) ++ tagged_for (joint_of world (far s)).within signal ∷ [])) inside)
+    ∙ (sent_is signals (pushed world signal (far s)) who local s is (rw (length-set world.lanes (lane_of world (far s)) (lane_to world (far s) ++ tagged_for (tunnel_of world (far s)).within signal ∷ [])) inside)
     ∙ ap (λ (lanes : List (List Tagged)). record world { lanes = lanes })
-    (pushed_twice world.lanes (lane_of world (far s)) (tagged_for (joint_of world (far s)).within signal) (map (tagged_for (joint_of world (far s)).within) signals) inside))
+    (pushed_twice world.lanes (lane_of world (far s)) (tagged_for (tunnel_of world (far s)).within signal) (map (tagged_for (tunnel_of world (far s)).within) signals) inside))
 
 -- ---- an end's turn
 
 pub record TurnForm (box : BoxState) (local : ℕ) (goal : Goal) (pushed : Bool) (slot : Slot) (mine : Descriptor) (me : Sender) (turn : BoxStep) : Type 0 where
   pub last : Slot
-  pub goes : sent_all slot (due goal slot pushed mine me) ≡ Some last
-  pub is : record { sent = map (pair_of local) (due goal slot pushed mine me); after = with_slot box local last } ≡ turn
+  pub goes : slot_send_all slot (end_turn goal slot pushed mine me) ≡ Some last
+  pub is : record { sent = map (pair_of local) (end_turn goal slot pushed mine me); after = with_slot box local last } ≡ turn
 
 pub turn_form : (box : BoxState) (local : ℕ) (goal : Goal) (pushed closed : Bool) (slot : Slot) (mine : Descriptor) (me : Sender) (turn : BoxStep)
-    → goal_at box local ≡ End goal → slot_at box local ≡ slot → own box local ≡ mine → sender box local ≡ me → goal_turn box local pushed closed ≡ Some turn
+    → goal_at box local ≡ End goal → slot_at box local ≡ slot → own box local ≡ mine → sender box local ≡ me → goal_step box local pushed closed ≡ Some turn
     → TurnForm box local goal pushed slot mine me turn
 turn_form box local goal pushed closed slot mine me turn goal_is slot_is own_is sender_is goes =
-    let is : option_map (λ (after : Slot). record { sent = map (pair_of local) (due goal slot pushed mine me); after = with_slot box local after }) (sent_all slot (due goal slot pushed mine me)) ≡ Some turn =
+    let is : option_map (λ (after : Slot). record { sent = map (pair_of local) (end_turn goal slot pushed mine me); after = with_slot box local after }) (slot_send_all slot (end_turn goal slot pushed mine me)) ≡ Some turn =
     rw (goal_is, slot_is, own_is, sender_is) at goes in
-    let parts = map_some (λ (after : Slot). record { sent = map (pair_of local) (due goal slot pushed mine me); after = with_slot box local after }) (sent_all slot (due goal slot pushed mine me)) turn is in
+    let parts = map_some (λ (after : Slot). record { sent = map (pair_of local) (end_turn goal slot pushed mine me); after = with_slot box local after }) (slot_send_all slot (end_turn goal slot pushed mine me)) turn is in
     record { last = parts.0; goes = parts.1; is = parts.2 }
 
 -- ---- a box's step is its slot's
@@ -113,14 +113,14 @@ take_is box local goal answer after last signals turn step goal_is turn_is step_
 
 -- a push of a goal that is there
 pub push_form : (box : BoxState) (local : ℕ) (goal : Goal) (step : BoxStep) (to_slot : List Signal)
-    → Kept (slot_at box local) → goal_at box local ≡ End goal → goal_turn box local true false ≡ Some step → BoxForm box local step to_slot to_slot
+    → Kept (slot_at box local) → goal_at box local ≡ End goal → goal_step box local true false ≡ Some step → BoxForm box local step to_slot to_slot
 push_form box local goal step to_slot kept goal_is goes =
     let form = turn_form box local goal true false (slot_at box local) (own box local) (sender box local) step goal_is refl refl refl goes in
     record {
       last = form.last;
       aim = goal;
-      signals = due goal (slot_at box local) true (own box local) (sender box local);
-      is = sym form.is ∙ ap (λ (b : BoxState). record { sent = map (pair_of local) (due goal (slot_at box local) true (own box local) (sender box local)); after = b }) (same_goal box local form.last goal goal_is);
+      signals = end_turn goal (slot_at box local) true (own box local) (sender box local);
+      is = sym form.is ∙ ap (λ (b : BoxState). record { sent = map (pair_of local) (end_turn goal (slot_at box local) true (own box local) (sender box local)); after = b }) (same_goal box local form.last goal goal_is);
       acted = sends form.goes;
       rests = rests_kept (slot_at box local).state goal (slot_at box local) form.last true (own box local) (sender box local) refl kept form.goes;
     }
@@ -132,7 +132,7 @@ pub made_is : (world : WorldState) (who local s : ℕ) (left : List Tagged) (box
     → made (with_lane world (lane_of world s) left) who (record { sent = map (pair_of local) signals; after = box })
     ≡ record world {
       boxes = set world.boxes who box;
-      lanes = set (set world.lanes (lane_of world s) left) (lane_of world (far s)) (lane_to world (far s) ++ map (tagged_for (joint_of world (far s)).within) signals);
+      lanes = set (set world.lanes (lane_of world s) left) (lane_of world (far s)) (lane_to world (far s) ++ map (tagged_for (tunnel_of world (far s)).within) signals);
     }
 made_is world who local s left box signals numbered inside is =
     let there : lane_of world (far s) < length (set world.lanes (lane_of world s) left) =
@@ -140,7 +140,7 @@ made_is world who local s left box signals numbered inside is =
     sent_is signals (with_box (with_lane world (lane_of world s) left) who box) who local s is there
     ∙ ap (λ (lane : List Tagged). record world {
       boxes = set world.boxes who box;
-      lanes = set (set world.lanes (lane_of world s) left) (lane_of world (far s)) (lane ++ map (tagged_for (joint_of world (far s)).within) signals);
+      lanes = set (set world.lanes (lane_of world s) left) (lane_of world (far s)) (lane ++ map (tagged_for (tunnel_of world (far s)).within) signals);
     }) (get_or-set_other world.lanes (lane_of world s) (lane_of world (far s)) left [] (λ same. far_lane world s (sym same)))
 
 -- a lane that is put back where it was

@@ -9,9 +9,8 @@ use Rattle.mc_box.specs.BoxEvents.{BoxStep, box_event}
 use Rattle.mc_model.specs.Served.{AllServed, IsFor}
 use Rattle.mc_model.specs.Settles.{is_empty}
 use Rattle.mc_laws.specs.StepLaws.{FrontStepGoes, UnderWayGoes}
-use Rattle.mc_model.specs.Steps.{take_of}
-use Rattle.mc_model.specs.Steps.{step}
-use Rattle.mc_model.specs.Worlds.{WorldState, box_at, front, front_for, joint_of, number, place}
+use Rattle.mc_model.specs.Steps.{step, take_of}
+use Rattle.mc_model.specs.Worlds.{WorldState, box_at, front, front_for, tunnel_of, number, place}
 use Rattle.mc_box.specs.declared.event.Event.TheVariants.{Take}
 use Rattle.mc_box.proofs.EventGoes.{take_goes as box_take_goes}
 use Rattle.mc_laws.proofs.StepKeeps.{front_is_taken}
@@ -65,8 +64,8 @@ front_there tunnel tagged rest is = grind (arith, common_steps)
 -- the signal at a lane's front is at the front for its slot
 pub served_front : (world : WorldState) (lane s : ℕ) (tagged : Tagged) (rest : List Tagged) → get_or world.lanes lane [] ≡ tagged ∷ rest → IsFor world lane tagged s → front world s ≡ Some tagged.signal
 served_front world lane s tagged rest is served =
-    ap (λ (k : ℕ). front_for (joint_of world s).within (get_or world.lanes k [])) served.leads
-    ∙ (ap (front_for (joint_of world s).within) is ∙ front_there (joint_of world s).within tagged rest served.within)
+    ap (λ (k : ℕ). front_for (tunnel_of world s).within (get_or world.lanes k [])) served.leads
+    ∙ (ap (front_for (tunnel_of world s).within) is ∙ front_there (tunnel_of world s).within tagged rest served.within)
 
 pub under_way_goes : UnderWayGoes
 under_way_goes world sound some =

@@ -3,7 +3,7 @@ use Rattle.std.proofs.Common.{◌≡◌, ◌<◌, inl, inr, ℕ, Some, IsSome, L
 use Rattle.std.proofs.lemmas.Bool.{cases_eq}
 use Rattle.mc_signal.specs.declared.Signal.{Signal}
 use Rattle.mc_signal.specs.declared.Tagged.{Tagged}
-use Rattle.mc_slot.specs.Moves.{taken}
+use Rattle.mc_slot.specs.Moves.{slot_take}
 use Rattle.mc_slot.specs.Tunnel.{TunnelSound}
 use Rattle.mc_slot.specs.declared.Slot.{Slot}
 use Rattle.mc_box.specs.BoxSound.{IsSoundBox}
@@ -11,7 +11,7 @@ use Rattle.mc_box.specs.Boxes.{BoxState}
 use Rattle.mc_model.specs.Sound.{IsSound}
 use Rattle.mc_laws.specs.StepLaws.{StepKeepsSound, RunKeepsSound, FrontIsTaken}
 use Rattle.mc_model.specs.Steps.{run, step, take_at}
-use Rattle.mc_model.specs.Worlds.{WorldState, box_at, far, for_tunnel, joint_of, lane_to, list_to, place, slot_of}
+use Rattle.mc_model.specs.Worlds.{WorldState, box_at, far, for_tunnel, tunnel_of, lane_to, list_to, place, slot_of}
 use Rattle.mc_box.specs.declared.event.Event.{Event}
 use Rattle.mc_box.specs.declared.event.Turn.{Turn}
 use Rattle.mc_laws.proofs.LanesKept.{front_next}
@@ -60,11 +60,11 @@ run_keeps_sound world next turns sound goes = run_by turns world next sound goes
 
 -- ---- fronts
 
-lawful : (a : Slot) (signal : Signal) (to_a : List Signal) (b : Slot) (to_b : List Signal) → TunnelSound a (signal ∷ to_a) b to_b → IsSome (taken a signal)
+lawful : (a : Slot) (signal : Signal) (to_a : List Signal) (b : Slot) (to_b : List Signal) → TunnelSound a (signal ∷ to_a) b to_b → IsSome (slot_take a signal)
 lawful a signal to_a b to_b sound = grind (arith)
 
 pub front_is_taken : FrontIsTaken
 front_is_taken world s signal sound inside fronts =
-    let next = (front_next (joint_of world s).within signal (lane_to world s) fronts).next in
-    lawful (slot_of world s) signal (for_tunnel (joint_of world s).within _) (slot_of world (far s)) (list_to world (far s))
+    let next = (front_next (tunnel_of world s).within signal (lane_to world s) fronts).next in
+    lawful (slot_of world s) signal (for_tunnel (tunnel_of world s).within _) (slot_of world (far s)) (list_to world (far s))
     (subst (λ (l : List Signal). TunnelSound (slot_of world s) l (slot_of world (far s)) (list_to world (far s))) next (sound.tunnels s inside))

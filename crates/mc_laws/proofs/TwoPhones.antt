@@ -4,10 +4,10 @@ use Rattle.std.proofs.lemmas.Grind.{common_steps}
 use Rattle.mc_signal.specs.declared.codec_list.CodecList.{CodecList}
 use Rattle.mc_box.specs.Boxes.{IsBox, IsNewBox, media_at}
 use Rattle.mc_model.specs.PathTable.{PathHolds}
-use Rattle.mc_model.specs.Settles.{IsSettled, owes_retry}
+use Rattle.mc_model.specs.Settles.{IsSettled, world_owes}
 use Rattle.mc_model.specs.Setups.{setups_of, world_of_devices}
 use Rattle.mc_laws.specs.TwoPhones.{IsIdle, TwoPhonesAreIdle, one_channel, the_path}
-use Rattle.mc_model.specs.Worlds.{WorldState, box_at, joint_of, number, place, slot_of}
+use Rattle.mc_model.specs.Worlds.{WorldState, box_at, tunnel_of, number, place, slot_of}
 use Rattle.mc_box.specs.declared.event.Kind.TheVariants.{Device}
 use Rattle.mc_box.proofs.NewBoxes.{first_is_new}
 use Rattle.mc_laws.proofs.NewWorlds.{first_is_sound}
@@ -24,11 +24,11 @@ record SlotFits (world : WorldState) (s : ℕ) : Type 0 where
   inside : (place world s).1 < length (box_at world (place world s).0).slots
   once : number world (place world s).0 (place world s).1 ≡ Some s
   origin : (media_at (box_at world (place world s).0) (place world s).1).origin ≡ s
-  medium : (slot_of world s).medium ≡ (joint_of world s).medium
+  medium : (slot_of world s).medium ≡ (tunnel_of world s).medium
   side : (slot_of world s).initiator ≡ (s % 2 == 0)
 
 -- no slot owes a retry
-forth_owes : (a b : CodecList) (who local : ℕ) → owes_retry (forth a b) who local ≡ false
+forth_owes : (a b : CodecList) (who local : ℕ) → world_owes (forth a b) who local ≡ false
 forth_owes a b zero zero = refl
 forth_owes a b zero (suc local) = grind (arith, common_steps)
 forth_owes a b (suc zero) zero = refl
@@ -102,7 +102,7 @@ forth_idle a b = record {
 }
 
 -- no slot owes a retry
-back_owes : (a b : CodecList) (who local : ℕ) → owes_retry (back a b) who local ≡ false
+back_owes : (a b : CodecList) (who local : ℕ) → world_owes (back a b) who local ≡ false
 back_owes a b zero zero = refl
 back_owes a b zero (suc local) = grind (arith, common_steps)
 back_owes a b (suc zero) zero = refl

@@ -10,7 +10,7 @@ use Rattle.mc_box.specs.Boxes.{slot_at}
 use Rattle.mc_model.specs.Paths.{crossed, has_ring}
 use Rattle.mc_model.specs.Sound.{IsSound}
 use Rattle.mc_model.specs.Steps.{run, step}
-use Rattle.mc_model.specs.Worlds.{WorldState, box_at, far, goal_of, joints, list_to, place, slot_count, slot_of}
+use Rattle.mc_model.specs.Worlds.{WorldState, box_at, far, goal_of, all_tunnels, list_to, place, slot_count, slot_of}
 use Rattle.mc_box.specs.declared.event.Event.TheVariants.{Take}
 use Rattle.mc_box.specs.declared.event.Turn.{Turn}
 
@@ -21,11 +21,11 @@ total f (suc k) = f k + total f k
 
 -- the tunnels from a slot, over its own, to the end of its path there
 abbrev pub reach : WorldState → ℕ → ℕ
-reach world s = crossed world (length (joints world)) s
+reach world s = crossed world (length (all_tunnels world)) s
 
 -- one more than the tunnels of a world, which no path has
 abbrev pub base : WorldState → ℕ
-base world = length (joints world) + 1
+base world = length (all_tunnels world) + 1
 
 -- the opens that a slot stores: one for an end that will open once its closeack comes, and one for a linked slot that is closed, or will be, while its partner asks for media
 abbrev pub stored_of : SlotGoal → WorldState → ℕ → ℕ
@@ -63,7 +63,7 @@ TakesEnd = (world next : WorldState) (turns : List Turn) → IsRingFree world �
 
 -- a bound on the Takes that may come, by the tunnels T and the signals under way q: 2 (T + 1)⁴ (q + 2 T)
 abbrev pub delivery_bound : WorldState → ℕ
-delivery_bound world = 2 * base world ^ 4 * (under_way world + 2 * length (joints world))
+delivery_bound world = 2 * base world ^ 4 * (under_way world + 2 * length (all_tunnels world))
 
 -- the measure is at most half of it
 abbrev pub MeasureBound : Type 0

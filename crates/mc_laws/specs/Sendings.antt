@@ -9,7 +9,7 @@ use Rattle.mc_box.specs.declared.event.Event.TheVariants.{Take}
 use Rattle.mc_box.specs.declared.event.Turn.{Turn}
 use Rattle.mc_model.specs.Sound.{IsSound}
 use Rattle.mc_model.specs.Steps.{step}
-use Rattle.mc_model.specs.Worlds.{WorldState, box_at, far, front, joint_of, lane_of, number}
+use Rattle.mc_model.specs.Worlds.{WorldState, box_at, far, front, tunnel_of, lane_of, number}
 
 -- ---- what is sent
 
@@ -41,7 +41,7 @@ StepIsMade = (world next : WorldState) (turn : Turn) → IsSound world → step 
 -- a signal that a slot sends, with its tunnel, where this lane leads to the far slot
 abbrev pub signal_on : WorldState → (lane : ℕ) → Signal → Option ℕ → List Tagged
 signal_on world lane signal None = []
-signal_on world lane signal (Some s) = if lane_of world (far s) == lane then record { tunnel = (joint_of world (far s)).within; signal = signal } ∷ [] else []
+signal_on world lane signal (Some s) = if lane_of world (far s) == lane then record { tunnel = (tunnel_of world (far s)).within; signal = signal } ∷ [] else []
 
 -- of what a box sends, what goes to this lane, in the order of sending. What names no slot of the box goes to none
 abbrev pub sent_on : WorldState → (who lane : ℕ) → List (ℕ × Signal) → List Tagged

@@ -2,18 +2,16 @@
 use Rattle.std.specs.Prelude.{◌≡◌, ◌<◌, ℕ, false, List, length, Some, IsSome}
 use Rattle.mc_signal.specs.declared.codec_list.CodecList.{CodecList}
 use Rattle.mc_signal.specs.declared.Signal.{Signal}
-use Rattle.mc_slot.specs.Moves.{taken}
+use Rattle.mc_slot.specs.Moves.{slot_take}
 use Rattle.mc_box.specs.Boxes.{BoxState}
 use Rattle.mc_model.specs.Settles.{is_quiet}
-use Rattle.mc_model.specs.Setups.{world_of_devices}
+use Rattle.mc_model.specs.Setups.{AreNew, world_of_devices}
 use Rattle.mc_model.specs.Sound.{IsNumbered, IsSound}
 use Rattle.mc_laws.specs.Stepped.{Stepped}
-use Rattle.mc_model.specs.Steps.{run, step}
+use Rattle.mc_model.specs.Steps.{run, step, take_of}
 use Rattle.mc_laws.specs.TwoPhones.{JoinsTwo}
 use Rattle.mc_model.specs.Worlds.{ChannelState, WorldState, first_world, front, slot_count, slot_of}
 use Rattle.mc_box.specs.declared.event.Turn.{Turn}
-use Rattle.mc_model.specs.Setups.{AreNew}
-use Rattle.mc_model.specs.Steps.{take_of}
 
 -- each enabled turn of a sound world is what the slots of its box do
 abbrev pub StepActs : Type 0
@@ -29,7 +27,7 @@ RunKeepsSound = (world next : WorldState) (turns : List Turn) → IsSound world 
 
 -- a signal at the front of a slot's lane, which is for the slot, is one that it may take
 abbrev pub FrontIsTaken : Type 0
-FrontIsTaken = (world : WorldState) (s : ℕ) (signal : Signal) → IsSound world → s < slot_count world → front world s ≡ Some signal → IsSome (taken (slot_of world s) signal)
+FrontIsTaken = (world : WorldState) (s : ℕ) (signal : Signal) → IsSound world → s < slot_count world → front world s ≡ Some signal → IsSome (slot_take (slot_of world s) signal)
 
 -- that Take is enabled where there is such a signal
 abbrev pub FrontStepGoes : Type 0

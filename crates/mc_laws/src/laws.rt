@@ -7,7 +7,7 @@ ghost use Rattle.mc_laws.specs.StepLaws.{StepActs, StepKeepsSound, RunKeepsSound
 ghost use Rattle.mc_laws.specs.Stepped.{SteppedStays};
 ghost use Rattle.mc_laws.specs.TwoPhones.{TwoPhonesAreIdle};
 ghost use Rattle.mc_model.specs.LinkFree.{RunKeepsLinkFree};
-ghost use Rattle.mc_model.specs.Rings.{RingsMeetNoEnd, WalksNeverTurn, RestKeepsRings};
+ghost use Rattle.mc_model.specs.Rings.{RingsMeetNoEnd, WalksNeverReturn, RestKeepsRings};
 ghost use Rattle.mc_model.specs.Settles.{SettledMakesItsBatch};
 ghost use Rattle.mc_model.specs.Shapes.{StepKeepsShape, RunKeepsShape, CommandGoes, RetryGoes};
 
@@ -135,8 +135,8 @@ pub fn rings_meet_no_end()
 {}
 
 /// In a sound world a walk over tunnels and links goes over no tunnel both ways.
-pub fn walks_never_turn()
-    ensures { WalksNeverTurn }
+pub fn walks_never_return()
+    ensures { WalksNeverReturn }
 {}
 
 /// Takes and Retries make no ring and break none.

@@ -3,41 +3,41 @@ use Rattle.std.proofs.Common.{◌≡◌, ◌+◌, ℕ, Option, Some, List, [], �
 use Rattle.std.proofs.lemmas.List.{map-append}
 use Rattle.mc_signal.specs.declared.Descriptor.{Descriptor}
 use Rattle.mc_signal.specs.declared.Signal.{Signal}
-use Rattle.mc_slot.specs.Moves.{sent_all}
+use Rattle.mc_slot.specs.Moves.{slot_send_all}
 use Rattle.mc_slot.specs.Sending.{pair_of}
 use Rattle.mc_slot.specs.declared.Slot.{Slot}
-use Rattle.mc_link.specs.LinkTurn.{choosing, flowing, numbered, passing, passing_in, sent_by_first, sent_by_second}
+use Rattle.mc_link.specs.LinkTurn.{selector_due, flow, numbered, descriptor_due, pass_descriptor, sent_by_first, sent_by_second}
 use Rattle.mc_link.proofs.Sides.{first_of_four, second_of_four, four_length, numbered_first, numbered_second, sent_both}
 
 -- which selector a slot passes on, after the descriptors
-choosing_same : (slot other next heard : Slot) → next.got ≡ slot.got → next.sel_out ≡ slot.sel_out → heard.sel_in ≡ other.sel_in → choosing next heard ≡ choosing slot other
+choosing_same : (slot other next heard : Slot) → next.got ≡ slot.got → next.sel_out ≡ slot.sel_out → heard.sel_in ≡ other.sel_in → selector_due next heard ≡ selector_due slot other
 choosing_same slot other next heard got sel_out sel_in = rw (got, sel_out, sel_in) refl
 
 -- the first slot after both its parts
 pub first_flows : (a b a_next b_next a_last : Slot) → a_next.got ≡ a.got → a_next.sel_out ≡ a.sel_out → b_next.sel_in ≡ b.sel_in
-    → sent_all a (passing a b) ≡ Some a_next → sent_all a_next (choosing a_next b_next) ≡ Some a_last
-    → sent_all a (sent_by_first (flowing a b)) ≡ Some a_last
+    → slot_send_all a (descriptor_due a b) ≡ Some a_next → slot_send_all a_next (selector_due a_next b_next) ≡ Some a_last
+    → slot_send_all a (sent_by_first (flow a b)) ≡ Some a_last
 first_flows a b a_next b_next a_last got sel_out sel_in one two =
-    let chosen : sent_all a_next (choosing a b) ≡ Some a_last =
-    subst (λ (l : List Signal). sent_all a_next l ≡ Some a_last) (choosing_same a b a_next b_next got sel_out sel_in) two in
-    ap (sent_all a) (first_of_four (passing a b) (passing b a) (choosing a b) (choosing b a)) ∙ sent_both a a_next a_last (passing a b) (choosing a b) one chosen
+    let chosen : slot_send_all a_next (selector_due a b) ≡ Some a_last =
+    subst (λ (l : List Signal). slot_send_all a_next l ≡ Some a_last) (choosing_same a b a_next b_next got sel_out sel_in) two in
+    ap (slot_send_all a) (first_of_four (descriptor_due a b) (descriptor_due b a) (selector_due a b) (selector_due b a)) ∙ sent_both a a_next a_last (descriptor_due a b) (selector_due a b) one chosen
 
 -- the second slot after both its parts
 pub second_flows : (a b a_next b_next a_last b_last : Slot) → a_next.got ≡ a.got → b_next.got ≡ b.got → b_next.sel_out ≡ b.sel_out
     → a_next.sel_in ≡ a.sel_in → a_last.sel_in ≡ a_next.sel_in
-    → sent_all b (passing_in b.state b.sent a_next.got) ≡ Some b_next → sent_all b_next (choosing b_next a_last) ≡ Some b_last
-    → sent_all b (sent_by_second (flowing a b)) ≡ Some b_last
+    → slot_send_all b (pass_descriptor b.state b.sent a_next.got) ≡ Some b_next → slot_send_all b_next (selector_due b_next a_last) ≡ Some b_last
+    → slot_send_all b (sent_by_second (flow a b)) ≡ Some b_last
 second_flows a b a_next b_next a_last b_last a_got got sel_out a_sel_in last_sel_in one two =
-    let passed : sent_all b (passing b a) ≡ Some b_next =
-    subst (λ (o : Option Descriptor). sent_all b (passing_in b.state b.sent o) ≡ Some b_next) a_got one in
-    let chosen : sent_all b_next (choosing b a) ≡ Some b_last =
-    subst (λ (l : List Signal). sent_all b_next l ≡ Some b_last) (choosing_same b a b_next a_last got sel_out (last_sel_in ∙ a_sel_in)) two in
-    ap (sent_all b) (second_of_four (passing a b) (passing b a) (choosing a b) (choosing b a)) ∙ sent_both b b_next b_last (passing b a) (choosing b a) passed chosen
+    let passed : slot_send_all b (descriptor_due b a) ≡ Some b_next =
+    subst (λ (o : Option Descriptor). slot_send_all b (pass_descriptor b.state b.sent o) ≡ Some b_next) a_got one in
+    let chosen : slot_send_all b_next (selector_due b a) ≡ Some b_last =
+    subst (λ (l : List Signal). slot_send_all b_next l ≡ Some b_last) (choosing_same b a b_next a_last got sel_out (last_sel_in ∙ a_sel_in)) two in
+    ap (slot_send_all b) (second_of_four (descriptor_due a b) (descriptor_due b a) (selector_due a b) (selector_due b a)) ∙ sent_both b b_next b_last (descriptor_due b a) (selector_due b a) passed chosen
 
 -- four parts, with the local numbers of their slots
 numbered_four : (an bn : ℕ) (a b : Slot)
-    → map (numbered an bn) (flowing a b)
-    ≡ map (pair_of an) (passing a b) ++ (map (pair_of bn) (passing b a) ++ (map (pair_of an) (choosing a b) ++ map (pair_of bn) (choosing b a)))
+    → map (numbered an bn) (flow a b)
+    ≡ map (pair_of an) (descriptor_due a b) ++ (map (pair_of bn) (descriptor_due b a) ++ (map (pair_of an) (selector_due a b) ++ map (pair_of bn) (selector_due b a)))
 numbered_four an bn a b = simp (map-append, numbered_first an bn, numbered_second an bn)
 
 -- what is sent after each of the four parts
@@ -45,15 +45,15 @@ pub flow_sends : (an bn : ℕ) (a b a_next b_next a_last : Slot) (none one two t
     → a_next.got ≡ a.got → a_next.sel_out ≡ a.sel_out → a_next.sel_in ≡ a.sel_in → b_next.got ≡ b.got → b_next.sel_out ≡ b.sel_out → b_next.sel_in ≡ b.sel_in
     → a_last.sel_in ≡ a_next.sel_in
     → none ≡ []
-    → one ≡ none ++ map (pair_of an) (passing a b)
-    → two ≡ one ++ map (pair_of bn) (passing_in b.state b.sent a_next.got)
-    → three ≡ two ++ map (pair_of an) (choosing a_next b_next)
-    → four ≡ three ++ map (pair_of bn) (choosing b_next a_last)
-    → four ≡ map (numbered an bn) (flowing a b)
+    → one ≡ none ++ map (pair_of an) (descriptor_due a b)
+    → two ≡ one ++ map (pair_of bn) (pass_descriptor b.state b.sent a_next.got)
+    → three ≡ two ++ map (pair_of an) (selector_due a_next b_next)
+    → four ≡ three ++ map (pair_of bn) (selector_due b_next a_last)
+    → four ≡ map (numbered an bn) (flow a b)
 flow_sends an bn a b a_next b_next a_last none one two three four a_got a_sel_out a_sel_in b_got b_sel_out b_sel_in last_sel_in e0 e1 e2 e3 e4 =
-    let passed : passing_in b.state b.sent a_next.got ≡ passing b a = ap (passing_in b.state b.sent) a_got in
-    let first : choosing a_next b_next ≡ choosing a b = choosing_same a b a_next b_next a_got a_sel_out b_sel_in in
-    let second : choosing b_next a_last ≡ choosing b a = choosing_same b a b_next a_last b_got b_sel_out (last_sel_in ∙ a_sel_in) in
+    let passed : pass_descriptor b.state b.sent a_next.got ≡ descriptor_due b a = ap (pass_descriptor b.state b.sent) a_got in
+    let first : selector_due a_next b_next ≡ selector_due a b = choosing_same a b a_next b_next a_got a_sel_out b_sel_in in
+    let second : selector_due b_next a_last ≡ selector_due b a = choosing_same b a b_next a_last b_got b_sel_out (last_sel_in ∙ a_sel_in) in
     rw (e4, e3, e2, e1, e0, passed, first, second) (simp append_assoc (sym (numbered_four an bn a b)))
 
 -- how many signals the four parts are
@@ -61,14 +61,14 @@ pub flow_length : (a b a_next b_next a_last : Slot) (none one two three four : �
     → a_next.got ≡ a.got → a_next.sel_out ≡ a.sel_out → a_next.sel_in ≡ a.sel_in → b_next.got ≡ b.got → b_next.sel_out ≡ b.sel_out → b_next.sel_in ≡ b.sel_in
     → a_last.sel_in ≡ a_next.sel_in
     → none ≡ 0
-    → one ≡ none + length (passing a b)
-    → two ≡ one + length (passing_in b.state b.sent a_next.got)
-    → three ≡ two + length (choosing a_next b_next)
-    → four ≡ three + length (choosing b_next a_last)
-    → four ≡ length (flowing a b)
+    → one ≡ none + length (descriptor_due a b)
+    → two ≡ one + length (pass_descriptor b.state b.sent a_next.got)
+    → three ≡ two + length (selector_due a_next b_next)
+    → four ≡ three + length (selector_due b_next a_last)
+    → four ≡ length (flow a b)
 flow_length a b a_next b_next a_last none one two three four a_got a_sel_out a_sel_in b_got b_sel_out b_sel_in last_sel_in e0 e1 e2 e3 e4 =
-    let passed : length (passing_in b.state b.sent a_next.got) ≡ length (passing b a) = ap (λ (o : Option Descriptor). length (passing_in b.state b.sent o)) a_got in
-    let first : length (choosing a_next b_next) ≡ length (choosing a b) = ap (λ (l : List Signal). length l) (choosing_same a b a_next b_next a_got a_sel_out b_sel_in) in
-    let second : length (choosing b_next a_last) ≡ length (choosing b a) =
+    let passed : length (pass_descriptor b.state b.sent a_next.got) ≡ length (descriptor_due b a) = ap (λ (o : Option Descriptor). length (pass_descriptor b.state b.sent o)) a_got in
+    let first : length (selector_due a_next b_next) ≡ length (selector_due a b) = ap (λ (l : List Signal). length l) (choosing_same a b a_next b_next a_got a_sel_out b_sel_in) in
+    let second : length (selector_due b_next a_last) ≡ length (selector_due b a) =
     ap (λ (l : List Signal). length l) (choosing_same b a b_next a_last b_got b_sel_out (last_sel_in ∙ a_sel_in)) in
-    omega (arith, e0, e1, e2, e3, e4, passed, first, second, four_length (passing a b) (passing b a) (choosing a b) (choosing b a))
+    omega (arith, e0, e1, e2, e3, e4, passed, first, second, four_length (descriptor_due a b) (descriptor_due b a) (selector_due a b) (selector_due b a))

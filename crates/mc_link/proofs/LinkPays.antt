@@ -5,14 +5,14 @@ use Rattle.mc_signal.specs.declared.Medium.{Medium}
 use Rattle.mc_signal.specs.declared.Selector.{Selector}
 use Rattle.mc_signal.specs.declared.Signal.{Signal}
 use Rattle.mc_signal.specs.declared.Signal.TheVariants.{Open, Oack, Close, Closeack, Describe, Select}
-use Rattle.mc_slot.specs.Moves.{answered, is_live, opened_by, sent_all, taken}
+use Rattle.mc_slot.specs.Moves.{answered, is_live, opened_by, slot_send_all, slot_take}
 use Rattle.mc_slot.specs.Tunnel.{Kept}
 use Rattle.mc_slot.specs.declared.Slot.{Slot}
 use Rattle.mc_slot.specs.declared.State.{State}
 use Rattle.mc_slot.specs.declared.State.TheVariants.{Closed, Opening, Opened, Flowing, Closing}
 use Rattle.mc_tunnel.proofs.Steps.{took_kept}
 use Rattle.mc_turn.proofs.Weighing.{weigh_one, weigh_times, weigh_list}
-use Rattle.mc_link.specs.LinkTurn.{choosing, leaning, link_due, passing, sent_by_first, sent_by_second, side_closed}
+use Rattle.mc_link.specs.LinkTurn.{selector_due, lean, link_turn, descriptor_due, sent_by_first, sent_by_second, side_closed}
 use Rattle.mc_link.specs.LinkWeights.{stored_link, LinkPays}
 use Rattle.mc_link.specs.declared.Side.{Side}
 use Rattle.mc_link.specs.declared.Side.TheVariants.{First}
@@ -26,15 +26,15 @@ use Rattle.mc_slot.specs.EndTurn.{closes_by}
 pub record Turned (a b middle a_last b_last : Slot) (signal : Signal) (answer : Option Signal) : Type 0 where
   pub a_kept : Kept a
   pub b_kept : Kept b
-  pub rest : leaning a b ≡ []
-  pub goes : taken a signal ≡ Some record { answer = answer; after = middle }
-  pub a_sends : sent_all middle (sent_by_first (link_due middle b (side_closed (closes_by signal middle.state) First))) ≡ Some a_last
-  pub b_sends : sent_all b (sent_by_second (link_due middle b (side_closed (closes_by signal middle.state) First))) ≡ Some b_last
+  pub rest : lean a b ≡ []
+  pub goes : slot_take a signal ≡ Some record { answer = answer; after = middle }
+  pub a_sends : slot_send_all middle (sent_by_first (link_turn middle b (side_closed (closes_by signal middle.state) First))) ≡ Some a_last
+  pub b_sends : slot_send_all b (sent_by_second (link_turn middle b (side_closed (closes_by signal middle.state) First))) ≡ Some b_last
 
 -- the weights before and after, for a slot that a close may have closed
 abbrev EnoughBy : Option Side → (one near far : Rates) (a b middle a_last b_last : Slot) → Signal → Option Signal → Type 0
 EnoughBy closed one near far a b middle a_last b_last signal answer =
-    1 + total_at near (answered answer ++ sent_by_first (link_due middle b closed)) + total_at far (sent_by_second (link_due middle b closed))
+    1 + total_at near (answered answer ++ sent_by_first (link_turn middle b closed)) + total_at far (sent_by_second (link_turn middle b closed))
     + (near.asking * stored_link a_last.state b_last.state + far.asking * stored_link b_last.state a_last.state)
     ≤ weigh_at far signal + weigh_at one signal + (near.asking * stored_link a.state b.state + far.asking * stored_link b.state a.state)
 
@@ -43,13 +43,13 @@ abbrev Enough : (one near far : Rates) (a b middle a_last b_last : Slot) → Sig
 Enough one near far a b middle a_last b_last signal answer = EnoughBy (side_closed (closes_by signal middle.state) First) one near far a b middle a_last b_last signal answer
 
 -- an open is dropped, or it opens a closed or an opening slot
-opens : (a middle : Slot) (medium : Medium) (d : Descriptor) (answer : Option Signal) → taken a (Open medium d) ≡ Some record { answer = answer; after = middle }
+opens : (a middle : Slot) (medium : Medium) (d : Descriptor) (answer : Option Signal) → slot_take a (Open medium d) ≡ Some record { answer = answer; after = middle }
     → (answer ≡ None) × ((middle ≡ a) ⊎ ((middle ≡ opened_by a d) × ((a.state ≡ Closed) ⊎ (a.state ≡ Opening))))
 opens a middle medium d answer goes = grind (arith)
 
 -- where it is dropped nothing is sent
-dropped : (one near far : Rates) (a b a_last b_last : Slot) (medium : Medium) (d : Descriptor) → Payment one near far → leaning a b ≡ []
-    → sent_all a (sent_by_first (leaning a b)) ≡ Some a_last → sent_all b (sent_by_second (leaning a b)) ≡ Some b_last
+dropped : (one near far : Rates) (a b a_last b_last : Slot) (medium : Medium) (d : Descriptor) → Payment one near far → lean a b ≡ []
+    → slot_send_all a (sent_by_first (lean a b)) ≡ Some a_last → slot_send_all b (sent_by_second (lean a b)) ≡ Some b_last
     → Enough one near far a b a a_last b_last (Open medium d) None
 dropped one near far a b a_last b_last medium d pays rest a_sends b_sends =
     let a_stays : Some a ≡ Some a_last = rw rest at a_sends in
@@ -61,7 +61,7 @@ dropped one near far a b a_last b_last medium d pays rest a_sends b_sends =
 -- the slot is opened, beside one that isn't live: by the other's state
 entered_calm : (second : State) (one near far : Rates) (a b a_last b_last : Slot) (medium : Medium) (d : Descriptor)
     → b.state ≡ second → Payment one near far → is_live b.state ≡ false → (a.state ≡ Closed) ⊎ (a.state ≡ Opening)
-    → sent_all (opened_by a d) (sent_by_first (leaning (opened_by a d) b)) ≡ Some a_last → sent_all b (sent_by_second (leaning (opened_by a d) b)) ≡ Some b_last
+    → slot_send_all (opened_by a d) (sent_by_first (lean (opened_by a d) b)) ≡ Some a_last → slot_send_all b (sent_by_second (lean (opened_by a d) b)) ≡ Some b_last
     → Enough one near far a b (opened_by a d) a_last b_last (Open medium d) None
 entered_calm Closed one near far a b a_last b_last medium d is pays calm was a_sends b_sends = grind (arith)
 entered_calm Opening one near far a b a_last b_last medium d is pays calm was a_sends b_sends = grind (arith)
@@ -102,8 +102,8 @@ select_calm one near far a b middle a_last b_last s answer pays calm turned = gr
 -- where both are live after the taking, the four parts are what counts
 flow_pays : (one near far : Rates) (a b middle a_last b_last : Slot) (signal : Signal)
     → Kept middle → Kept b → is_live middle.state ≡ true → is_live b.state ≡ true
-    → sent_all middle (sent_by_first (leaning middle b)) ≡ Some a_last → sent_all b (sent_by_second (leaning middle b)) ≡ Some b_last
-    → 1 + (total_at near (passing middle b) + total_at near (choosing middle b)) + (total_at far (passing b middle) + total_at far (choosing b middle))
+    → slot_send_all middle (sent_by_first (lean middle b)) ≡ Some a_last → slot_send_all b (sent_by_second (lean middle b)) ≡ Some b_last
+    → 1 + (total_at near (descriptor_due middle b) + total_at near (selector_due middle b)) + (total_at far (descriptor_due b middle) + total_at far (selector_due b middle))
     ≤ weigh_at far signal + weigh_at one signal
     → EnoughBy None one near far a b middle a_last b_last signal None
 flow_pays one near far a b middle a_last b_last signal m_kept b_kept m_live b_live a_sends b_sends enough =
@@ -120,13 +120,13 @@ weighs_none rates signals none = rw none refl
 -- the slot is opened, beside a live one: by the other's state
 entered_live : (second : State) (one near far : Rates) (a b a_last b_last : Slot) (medium : Medium) (d : Descriptor)
     → b.state ≡ second → Payment one near far → is_live b.state ≡ true → Kept b
-    → sent_all (opened_by a d) (sent_by_first (leaning (opened_by a d) b)) ≡ Some a_last → sent_all b (sent_by_second (leaning (opened_by a d) b)) ≡ Some b_last
+    → slot_send_all (opened_by a d) (sent_by_first (lean (opened_by a d) b)) ≡ Some a_last → slot_send_all b (sent_by_second (lean (opened_by a d) b)) ≡ Some b_last
     → Enough one near far a b (opened_by a d) a_last b_last (Open medium d) None
 entered_live Closed one near far a b a_last b_last medium d is pays live kept a_sends b_sends = absurd (cc)
 entered_live Opening one near far a b a_last b_last medium d is pays live kept a_sends b_sends = absurd (cc)
 entered_live Closing one near far a b a_last b_last medium d is pays live kept a_sends b_sends = absurd (cc)
 entered_live Opened one near far a b a_last b_last medium d is pays live kept a_sends b_sends =
-    let none = weighs_none near (choosing (opened_by a d) b) (unheard (opened_by a d) b (grind (arith))) in
+    let none = weighs_none near (selector_due (opened_by a d) b) (unheard (opened_by a d) b (grind (arith))) in
     flow_pays one near far a b (opened_by a d) a_last b_last (Open medium d) (refl, refl, refl, refl) kept refl live a_sends b_sends
     (omega (arith, pays, opened_passes near (opened_by a d) b refl, opened_passes far b (opened_by a d) is, none))
 entered_live Flowing one near far a b a_last b_last medium d is pays live kept a_sends b_sends =
@@ -136,23 +136,23 @@ entered_live Flowing one near far a b a_last b_last medium d is pays live kept a
 -- by whether the other is live
 entered : (live : Bool) (one near far : Rates) (a b a_last b_last : Slot) (medium : Medium) (d : Descriptor)
     → is_live b.state ≡ live → Payment one near far → Kept b → (a.state ≡ Closed) ⊎ (a.state ≡ Opening)
-    → sent_all (opened_by a d) (sent_by_first (leaning (opened_by a d) b)) ≡ Some a_last → sent_all b (sent_by_second (leaning (opened_by a d) b)) ≡ Some b_last
+    → slot_send_all (opened_by a d) (sent_by_first (lean (opened_by a d) b)) ≡ Some a_last → slot_send_all b (sent_by_second (lean (opened_by a d) b)) ≡ Some b_last
     → Enough one near far a b (opened_by a d) a_last b_last (Open medium d) None
 entered true one near far a b a_last b_last medium d is pays kept was a_sends b_sends = entered_live b.state one near far a b a_last b_last medium d refl pays is kept a_sends b_sends
 entered false one near far a b a_last b_last medium d is pays kept was a_sends b_sends = entered_calm b.state one near far a b a_last b_last medium d refl pays is was a_sends b_sends
 
 -- by what the open did
 open_by : (one near far : Rates) (a b middle a_last b_last : Slot) (medium : Medium) (d : Descriptor)
-    → Payment one near far → Kept b → leaning a b ≡ []
+    → Payment one near far → Kept b → lean a b ≡ []
     → (middle ≡ a) ⊎ ((middle ≡ opened_by a d) × ((a.state ≡ Closed) ⊎ (a.state ≡ Opening)))
-    → sent_all middle (sent_by_first (leaning middle b)) ≡ Some a_last → sent_all b (sent_by_second (leaning middle b)) ≡ Some b_last
+    → slot_send_all middle (sent_by_first (lean middle b)) ≡ Some a_last → slot_send_all b (sent_by_second (lean middle b)) ≡ Some b_last
     → Enough one near far a b middle a_last b_last (Open medium d) None
 open_by one near far a b middle a_last b_last medium d pays kept rest (inl same) =
-    subst (λ (t : Slot). sent_all t (sent_by_first (leaning t b)) ≡ Some a_last → sent_all b (sent_by_second (leaning t b)) ≡ Some b_last
+    subst (λ (t : Slot). slot_send_all t (sent_by_first (lean t b)) ≡ Some a_last → slot_send_all b (sent_by_second (lean t b)) ≡ Some b_last
     → Enough one near far a b t a_last b_last (Open medium d) None) (sym same)
     (dropped one near far a b a_last b_last medium d pays rest)
 open_by one near far a b middle a_last b_last medium d pays kept rest (inr into) =
-    subst (λ (t : Slot). sent_all t (sent_by_first (leaning t b)) ≡ Some a_last → sent_all b (sent_by_second (leaning t b)) ≡ Some b_last
+    subst (λ (t : Slot). slot_send_all t (sent_by_first (lean t b)) ≡ Some a_last → slot_send_all b (sent_by_second (lean t b)) ≡ Some b_last
     → Enough one near far a b t a_last b_last (Open medium d) None) (sym into.0)
     (entered (is_live b.state) one near far a b a_last b_last medium d refl pays kept into.1)
 
@@ -172,25 +172,25 @@ oack_flows Closed one near far a b middle a_last b_last d is pays m_live b_live 
 oack_flows Opening one near far a b middle a_last b_last d is pays m_live b_live turned = absurd (cc)
 oack_flows Closing one near far a b middle a_last b_last d is pays m_live b_live turned = absurd (cc)
 oack_flows Opened one near far a b middle a_last b_last d is pays m_live b_live turned =
-    let goes : taken a (Oack d) ≡ Some record { answer = None; after = middle } = turned.goes in
+    let goes : slot_take a (Oack d) ≡ Some record { answer = None; after = middle } = turned.goes in
     let a_kept : Kept a = turned.a_kept in
     let b_kept : Kept b = turned.b_kept in
     let flows : middle.state ≡ Flowing = grind (arith) in
-    let near_none = weighs_none near (choosing middle b) (unheard middle b (grind (arith))) in
-    let far_none = weighs_none far (choosing b middle) (unheard b middle (grind (arith))) in
+    let near_none = weighs_none near (selector_due middle b) (unheard middle b (grind (arith))) in
+    let far_none = weighs_none far (selector_due b middle) (unheard b middle (grind (arith))) in
     flow_pays one near far a b middle a_last b_last (Oack d) (took_kept a (Oack d) _ goes a_kept) b_kept m_live b_live turned.a_sends turned.b_sends
     (omega (arith, pays, flowing_passes near middle b flows, opened_passes far b middle is, near_none, far_none))
 oack_flows Flowing one near far a b middle a_last b_last d is pays m_live b_live turned =
-    let goes : taken a (Oack d) ≡ Some record { answer = None; after = middle } = turned.goes in
+    let goes : slot_take a (Oack d) ≡ Some record { answer = None; after = middle } = turned.goes in
     let a_kept : Kept a = turned.a_kept in
     let b_kept : Kept b = turned.b_kept in
     let flows : middle.state ≡ Flowing = grind (arith) in
-    let far_none = weighs_none far (choosing b middle) (unheard b middle (grind (arith))) in
+    let far_none = weighs_none far (selector_due b middle) (unheard b middle (grind (arith))) in
     flow_pays one near far a b middle a_last b_last (Oack d) (took_kept a (Oack d) _ goes a_kept) b_kept m_live b_live turned.a_sends turned.b_sends
     (omega (arith, pays, flowing_passes near middle b flows, chooses_select near middle b, flowing_passes far b middle is, far_none))
 
 -- a live slot that passes nothing on to a live one has answered it
-has_answered : (a b : Slot) → Kept a → is_live a.state ≡ true → is_live b.state ≡ true → passing b a ≡ [] → b.state ≡ Flowing
+has_answered : (a b : Slot) → Kept a → is_live a.state ≡ true → is_live b.state ≡ true → descriptor_due b a ≡ [] → b.state ≡ Flowing
 has_answered a b kept a_live b_live none = grind (arith)
 
 -- a describe is passed on as a describe at most, and the other's selector anew at most
@@ -198,7 +198,7 @@ describe_flows : (one near far : Rates) (a b middle a_last b_last : Slot) (d : D
     → Payment one near far → is_live middle.state ≡ true → is_live b.state ≡ true → Turned a b middle a_last b_last (Describe d) None
     → Enough one near far a b middle a_last b_last (Describe d) None
 describe_flows one near far a b middle a_last b_last d pays m_live b_live turned =
-    let goes : taken a (Describe d) ≡ Some record { answer = None; after = middle } = turned.goes in
+    let goes : slot_take a (Describe d) ≡ Some record { answer = None; after = middle } = turned.goes in
     let a_kept : Kept a = turned.a_kept in
     let a_flows : a.state ≡ Flowing = grind (arith) in
     let a_live : is_live a.state ≡ true = rw a_flows refl in
@@ -207,8 +207,8 @@ describe_flows one near far a b middle a_last b_last d pays m_live b_live turned
     let state : middle.state ≡ a.state = grind (arith) in
     let sent : middle.sent ≡ a.sent = grind (arith) in
     let sel_in : middle.sel_in ≡ a.sel_in = grind (arith) in
-    let near_none = weighs_none near (passing middle b) (rw (state, sent) still.first_passes) in
-    let far_none = weighs_none far (choosing b middle) (rw sel_in still.second_chooses) in
+    let near_none = weighs_none near (descriptor_due middle b) (rw (state, sent) still.first_passes) in
+    let far_none = weighs_none far (selector_due b middle) (rw sel_in still.second_chooses) in
     flow_pays one near far a b middle a_last b_last (Describe d) (took_kept a (Describe d) _ goes a_kept) turned.b_kept m_live b_live turned.a_sends turned.b_sends
     (omega (arith, pays, chooses_select near middle b, flowing_passes far b middle b_flows, near_none, far_none))
 
@@ -217,7 +217,7 @@ select_flows : (one near far : Rates) (a b middle a_last b_last : Slot) (s : Sel
     → Payment one near far → is_live middle.state ≡ true → is_live b.state ≡ true → Turned a b middle a_last b_last (Select s) None
     → Enough one near far a b middle a_last b_last (Select s) None
 select_flows one near far a b middle a_last b_last s pays m_live b_live turned =
-    let goes : taken a (Select s) ≡ Some record { answer = None; after = middle } = turned.goes in
+    let goes : slot_take a (Select s) ≡ Some record { answer = None; after = middle } = turned.goes in
     let a_kept : Kept a = turned.a_kept in
     let a_flows : a.state ≡ Flowing = grind (arith) in
     let a_live : is_live a.state ≡ true = rw a_flows refl in
@@ -226,9 +226,9 @@ select_flows one near far a b middle a_last b_last s pays m_live b_live turned =
     let sent : middle.sent ≡ a.sent = grind (arith) in
     let got : middle.got ≡ a.got = grind (arith) in
     let sel_out : middle.sel_out ≡ a.sel_out = grind (arith) in
-    let near_passes = weighs_none near (passing middle b) (rw (state, sent) still.first_passes) in
-    let near_chooses = weighs_none near (choosing middle b) (rw (got, sel_out) still.first_chooses) in
-    let far_passes = weighs_none far (passing b middle) (rw got still.second_passes) in
+    let near_passes = weighs_none near (descriptor_due middle b) (rw (state, sent) still.first_passes) in
+    let near_chooses = weighs_none near (selector_due middle b) (rw (got, sel_out) still.first_chooses) in
+    let far_passes = weighs_none far (descriptor_due b middle) (rw got still.second_passes) in
     flow_pays one near far a b middle a_last b_last (Select s) (took_kept a (Select s) _ goes a_kept) turned.b_kept m_live b_live turned.a_sends turned.b_sends
     (omega (arith, pays, near_passes, near_chooses, far_passes, chooses_select far b middle))
 
@@ -271,5 +271,5 @@ link_pays a b middle a_last b_last signal answer n x y a_kept b_kept rest goes a
     let turned : Turned a b middle a_last b_last signal answer =
     record { a_kept = a_kept; b_kept = b_kept; rest = rest; goes = goes; a_sends = a_sends; b_sends = b_sends } in
     let linear = pays_by (is_live middle.state && is_live b.state) (own_rates n) (rates_of n y) (rates_of n x) a b middle a_last b_last signal answer refl (payment n x y x_some y_some less) turned in
-    let due = link_due middle b (side_closed (closes_by signal middle.state) First) in
+    let due = link_turn middle b (side_closed (closes_by signal middle.state) First) in
     omega (arith, linear, weigh_one n signal, weigh_times n x signal, weigh_list n y (answered answer ++ sent_by_first due), weigh_list n x (sent_by_second due))

@@ -6,7 +6,7 @@ use Rattle.mc_signal.specs.declared.Signal.TheVariants.{Close}
 use Rattle.mc_slot.specs.Moves.{is_live}
 use Rattle.mc_slot.specs.declared.Slot.{Slot}
 use Rattle.mc_link.specs.LinkLaws.{flipped, LinkMirror}
-use Rattle.mc_link.specs.LinkTurn.{IsLinkAtRest, can_close, choosing, leaning, link_due, passing, sent_by_first, sent_by_second, side_closed}
+use Rattle.mc_link.specs.LinkTurn.{IsLinkAtRest, can_close, selector_due, lean, link_turn, descriptor_due, sent_by_first, sent_by_second, side_closed}
 use Rattle.mc_link.specs.declared.Side.{Side}
 use Rattle.mc_link.specs.declared.Side.TheVariants.{First, Second}
 use Rattle.mc_link.proofs.Parts.{both, live_both}
@@ -19,22 +19,22 @@ sides_length ((First, signal) ∷ rest) = omega (arith, sides_length rest)
 sides_length ((Second, signal) ∷ rest) = omega (arith, sides_length rest)
 
 -- where one of the two isn't live, an open at most is sent
-calm_mirror : (a b : Slot) → is_live a.state && is_live b.state ≡ false → sent_by_first (leaning b a) ≡ sent_by_second (leaning a b)
+calm_mirror : (a b : Slot) → is_live a.state && is_live b.state ≡ false → sent_by_first (lean b a) ≡ sent_by_second (lean a b)
 calm_mirror a b calm = grind (arith)
 
 -- by whether both are live
-mirror_by : (live : Bool) (a b : Slot) → is_live a.state && is_live b.state ≡ live → sent_by_first (leaning b a) ≡ sent_by_second (leaning a b)
+mirror_by : (live : Bool) (a b : Slot) → is_live a.state && is_live b.state ≡ live → sent_by_first (lean b a) ≡ sent_by_second (lean a b)
 mirror_by false a b is = calm_mirror a b is
 mirror_by true a b is =
     let live = both (is_live a.state) (is_live b.state) is in
-    let turned : sent_by_first (leaning b a) ≡ passing b a ++ choosing b a =
-    ap sent_by_first (live_both b a live.1 live.0) ∙ first_of_four (passing b a) (passing a b) (choosing b a) (choosing a b) in
-    let straight : sent_by_second (leaning a b) ≡ passing b a ++ choosing b a =
-    ap sent_by_second (live_both a b live.0 live.1) ∙ second_of_four (passing a b) (passing b a) (choosing a b) (choosing b a) in
+    let turned : sent_by_first (lean b a) ≡ descriptor_due b a ++ selector_due b a =
+    ap sent_by_first (live_both b a live.1 live.0) ∙ first_of_four (descriptor_due b a) (descriptor_due a b) (selector_due b a) (selector_due a b) in
+    let straight : sent_by_second (lean a b) ≡ descriptor_due b a ++ selector_due b a =
+    ap sent_by_second (live_both a b live.0 live.1) ∙ second_of_four (descriptor_due a b) (descriptor_due b a) (selector_due a b) (selector_due b a) in
     turned ∙ sym straight
 
 -- what a slot sends by the states, as the first and as the second
-lean_mirror : (a b : Slot) → sent_by_first (leaning b a) ≡ sent_by_second (leaning a b)
+lean_mirror : (a b : Slot) → sent_by_first (lean b a) ≡ sent_by_second (lean a b)
 lean_mirror a b = mirror_by (is_live a.state && is_live b.state) a b refl
 
 -- each side sends the same
@@ -43,18 +43,18 @@ SidesMirror turned straight = (sent_by_first turned ≡ sent_by_second straight)
 
 -- a close of the first slot
 first_closes : (closes : Bool) (a b : Slot)
-    → SidesMirror (if closes then (First, Close) ∷ [] else leaning b a) (if closes then (Second, Close) ∷ [] else leaning a b)
+    → SidesMirror (if closes then (First, Close) ∷ [] else lean b a) (if closes then (Second, Close) ∷ [] else lean a b)
 first_closes true a b = (refl, refl)
 first_closes false a b = (lean_mirror a b, sym (lean_mirror b a))
 
 -- a close of the second slot
 second_closes : (closes : Bool) (a b : Slot)
-    → SidesMirror (if closes then (Second, Close) ∷ [] else leaning b a) (if closes then (First, Close) ∷ [] else leaning a b)
+    → SidesMirror (if closes then (Second, Close) ∷ [] else lean b a) (if closes then (First, Close) ∷ [] else lean a b)
 second_closes true a b = (refl, refl)
 second_closes false a b = (lean_mirror a b, sym (lean_mirror b a))
 
 -- by the slot that is closed
-sides_mirror : (closed : Option Side) (a b : Slot) → SidesMirror (link_due b a (flipped closed)) (link_due a b closed)
+sides_mirror : (closed : Option Side) (a b : Slot) → SidesMirror (link_turn b a (flipped closed)) (link_turn a b closed)
 sides_mirror None a b = (lean_mirror a b, sym (lean_mirror b a))
 sides_mirror (Some First) a b = first_closes (can_close b.state) a b
 sides_mirror (Some Second) a b = second_closes (can_close a.state) a b
@@ -70,13 +70,13 @@ length_mirror turned straight same =
 pub link_mirror : LinkMirror
 link_mirror a b closed =
     let same = sides_mirror closed a b in
-    (same.0, same.1, length_mirror (link_due b a (flipped closed)) (link_due a b closed) same)
+    (same.0, same.1, length_mirror (link_turn b a (flipped closed)) (link_turn a b closed) same)
 
 -- so a link at rest rests whichever slot is called the first
 pub mirror_rests : (a b : Slot) → IsLinkAtRest a b → IsLinkAtRest b a
 mirror_rests a b rest =
-    let same : length (link_due b a None) ≡ length (link_due a b None) = (link_mirror a b None).2 in
-    nil_from_length (link_due b a None) (same ∙ ap (λ (l : List (Side × Signal)). length l) rest)
+    let same : length (link_turn b a None) ≡ length (link_turn a b None) = (link_mirror a b None).2 in
+    nil_from_length (link_turn b a None) (same ∙ ap (λ (l : List (Side × Signal)). length l) rest)
 
 -- a side that is named by a taken close, seen from the other side
 pub side_turned : (closed : Bool) → side_closed closed Second ≡ flipped (side_closed closed First)

@@ -6,7 +6,7 @@ use Rattle.mc_slot.specs.Moves.{is_live}
 use Rattle.mc_slot.specs.declared.Slot.{Slot}
 use Rattle.mc_slot.specs.declared.State.TheVariants.{Opened, Flowing}
 use Rattle.mc_turn.proofs.Weighing.{weigh, weigh_all, pays}
-use Rattle.mc_link.specs.LinkTurn.{choosing, leaning, passing, sent_by_first, sent_by_second}
+use Rattle.mc_link.specs.LinkTurn.{selector_due, lean, descriptor_due, sent_by_first, sent_by_second}
 use Rattle.mc_link.specs.declared.Side.{Side}
 use Rattle.mc_link.proofs.Parts.{live_both}
 use Rattle.mc_link.proofs.Sides.{first_of_four, second_of_four}
@@ -33,30 +33,30 @@ total-append rates (signal ∷ signals) second = omega (arith, total-append rate
 
 -- what each of two live slots sends weighs what its two parts weigh
 pub record Weighed (a b : Slot) : Type 0 where
-  pub first : (rates : Rates) → total_at rates (sent_by_first (leaning a b)) ≡ total_at rates (passing a b) + total_at rates (choosing a b)
-  pub second : (rates : Rates) → total_at rates (sent_by_second (leaning a b)) ≡ total_at rates (passing b a) + total_at rates (choosing b a)
+  pub first : (rates : Rates) → total_at rates (sent_by_first (lean a b)) ≡ total_at rates (descriptor_due a b) + total_at rates (selector_due a b)
+  pub second : (rates : Rates) → total_at rates (sent_by_second (lean a b)) ≡ total_at rates (descriptor_due b a) + total_at rates (selector_due b a)
 
 -- by the four parts
 pub weighed : (a b : Slot) → is_live a.state ≡ true → is_live b.state ≡ true → Weighed a b
 weighed a b a_live b_live =
     let same = live_both a b a_live b_live in
-    let first = ap (λ (l : List (Side × Signal)). sent_by_first l) same ∙ first_of_four (passing a b) (passing b a) (choosing a b) (choosing b a) in
-    let second = ap (λ (l : List (Side × Signal)). sent_by_second l) same ∙ second_of_four (passing a b) (passing b a) (choosing a b) (choosing b a) in
+    let first = ap (λ (l : List (Side × Signal)). sent_by_first l) same ∙ first_of_four (descriptor_due a b) (descriptor_due b a) (selector_due a b) (selector_due b a) in
+    let second = ap (λ (l : List (Side × Signal)). sent_by_second l) same ∙ second_of_four (descriptor_due a b) (descriptor_due b a) (selector_due a b) (selector_due b a) in
     record {
-      first = λ rates. ap (total_at rates) first ∙ total-append rates (passing a b) (choosing a b);
-      second = λ rates. ap (total_at rates) second ∙ total-append rates (passing b a) (choosing b a);
+      first = λ rates. ap (total_at rates) first ∙ total-append rates (descriptor_due a b) (selector_due a b);
+      second = λ rates. ap (total_at rates) second ∙ total-append rates (descriptor_due b a) (selector_due b a);
     }
 
 -- a flowing slot passes on a describe at most
-pub flowing_passes : (rates : Rates) (a b : Slot) → a.state ≡ Flowing → total_at rates (passing a b) ≤ rates.describe
+pub flowing_passes : (rates : Rates) (a b : Slot) → a.state ≡ Flowing → total_at rates (descriptor_due a b) ≤ rates.describe
 flowing_passes rates a b is = grind (arith)
 
 -- an opened slot passes on an oack at most
-pub opened_passes : (rates : Rates) (a b : Slot) → a.state ≡ Opened → total_at rates (passing a b) ≤ rates.oack
+pub opened_passes : (rates : Rates) (a b : Slot) → a.state ≡ Opened → total_at rates (descriptor_due a b) ≤ rates.oack
 opened_passes rates a b is = grind (arith)
 
 -- and each slot passes on a select at most
-pub chooses_select : (rates : Rates) (a b : Slot) → total_at rates (choosing a b) ≤ rates.select
+pub chooses_select : (rates : Rates) (a b : Slot) → total_at rates (selector_due a b) ≤ rates.select
 chooses_select rates a b = grind (arith)
 
 -- what a signal pays for: one is the rates of its own tunnel, near those of the first slot's side, and far those of the second's

@@ -1,10 +1,10 @@
 -- Laws of a link's turn: when it has come to rest, and how much it sends.
 use Rattle.std.specs.Prelude.{◌≡◌, ◌≤◌, ◌+◌, Option, Some, None, length}
 use Rattle.mc_signal.specs.declared.Signal.{Signal}
-use Rattle.mc_slot.specs.Moves.{answered, sent_all, taken}
+use Rattle.mc_slot.specs.Moves.{answered, slot_send_all, slot_take}
 use Rattle.mc_slot.specs.Tunnel.{Kept}
 use Rattle.mc_slot.specs.declared.Slot.{Slot}
-use Rattle.mc_link.specs.LinkTurn.{link_due, IsLinkAtRest, sent_by_first, sent_by_second, side_closed}
+use Rattle.mc_link.specs.LinkTurn.{link_turn, IsLinkAtRest, sent_by_first, sent_by_second, side_closed}
 use Rattle.mc_link.specs.declared.Side.{Side}
 use Rattle.mc_link.specs.declared.Side.TheVariants.{First, Second}
 use Rattle.mc_slot.specs.EndTurn.{closes_by}
@@ -19,25 +19,25 @@ flipped (Some Second) = Some First
 abbrev pub LinkRestsAfterTurn : Type 0
 LinkRestsAfterTurn = (a b a_after b_after : Slot) (closed_by_far : Option Side)
     → Kept a → Kept b
-    → sent_all a (sent_by_first (link_due a b closed_by_far)) ≡ Some a_after
-    → sent_all b (sent_by_second (link_due a b closed_by_far)) ≡ Some b_after
+    → slot_send_all a (sent_by_first (link_turn a b closed_by_far)) ≡ Some a_after
+    → slot_send_all b (sent_by_second (link_turn a b closed_by_far)) ≡ Some b_after
     → IsLinkAtRest a_after b_after
 
 -- where the first slot of a link at rest takes a signal, the answer and the turn are at most three signals
 abbrev pub LinkSendsThree : Type 0
 LinkSendsThree = (a b after : Slot) (signal : Signal) (answer : Option Signal)
-    → Kept a → IsLinkAtRest a b → taken a signal ≡ Some record { answer = answer; after = after }
-    → length (answered answer) + length (link_due after b (side_closed (closes_by signal after.state) First)) ≤ 3
+    → Kept a → IsLinkAtRest a b → slot_take a signal ≡ Some record { answer = answer; after = after }
+    → length (answered answer) + length (link_turn after b (side_closed (closes_by signal after.state) First)) ≤ 3
 
 -- and so where the second slot takes one
 abbrev pub SecondSlotSendsThree : Type 0
 SecondSlotSendsThree = (a b after : Slot) (signal : Signal) (answer : Option Signal)
-    → Kept b → IsLinkAtRest a b → taken b signal ≡ Some record { answer = answer; after = after }
-    → length (answered answer) + length (link_due a after (side_closed (closes_by signal after.state) Second)) ≤ 3
+    → Kept b → IsLinkAtRest a b → slot_take b signal ≡ Some record { answer = answer; after = after }
+    → length (answered answer) + length (link_turn a after (side_closed (closes_by signal after.state) Second)) ≤ 3
 
 -- each slot sends the same, and both send as much, whichever of them is called the first
 abbrev pub LinkMirror : Type 0
 LinkMirror = (a b : Slot) (closed_by_far : Option Side)
-    → (sent_by_first (link_due b a (flipped closed_by_far)) ≡ sent_by_second (link_due a b closed_by_far))
-    × (sent_by_second (link_due b a (flipped closed_by_far)) ≡ sent_by_first (link_due a b closed_by_far))
-    × (length (link_due b a (flipped closed_by_far)) ≡ length (link_due a b closed_by_far))
+    → (sent_by_first (link_turn b a (flipped closed_by_far)) ≡ sent_by_second (link_turn a b closed_by_far))
+    × (sent_by_second (link_turn b a (flipped closed_by_far)) ≡ sent_by_first (link_turn a b closed_by_far))
+    × (length (link_turn b a (flipped closed_by_far)) ≡ length (link_turn a b closed_by_far))

@@ -5,7 +5,7 @@ use Rattle.mc_signal.specs.declared.Descriptor.{Descriptor}
 use Rattle.mc_signal.specs.declared.Selector.{Selector}
 use Rattle.mc_signal.specs.declared.Signal.{Signal}
 use Rattle.mc_signal.specs.declared.Signal.TheVariants.{Open, Oack, Close}
-use Rattle.mc_slot.specs.EndTurn.{describing, selecting_newer}
+use Rattle.mc_slot.specs.EndTurn.{describe_newer, select_newer}
 use Rattle.mc_slot.specs.declared.Slot.{Slot}
 use Rattle.mc_slot.specs.declared.State.{State}
 use Rattle.mc_slot.specs.declared.State.TheVariants.{Closed, Opening, Opened, Flowing}
@@ -31,66 +31,66 @@ can_close Flowing = true
 can_close state = false
 
 -- signals that the slot of one side sends
-abbrev pub from : Side → List Signal → List (Side × Signal)
-from side signals = map (λ signal. (side, signal)) signals
+abbrev pub from_side : Side → List Signal → List (Side × Signal)
+from_side side signals = map (λ signal. (side, signal)) signals
 
 -- the open of a closed slot, with the descriptor that the other slot got
-abbrev pub opening_with : Slot → Option Descriptor → List Signal
-opening_with slot None = []
-opening_with slot (Some got) = Open slot.medium got ∷ []
+abbrev pub open_with : Slot → Option Descriptor → List Signal
+open_with slot None = []
+open_with slot (Some got) = Open slot.medium got ∷ []
 
 -- a live slot passes on the descriptor that the other slot got: it accepts by it, or describes it where its own last differs
-abbrev pub passing_in : State → Option Descriptor → Option Descriptor → List Signal
-passing_in Opened last (Some got) = Oack got ∷ []
-passing_in Flowing last (Some got) = describing last got
-passing_in state last got = []
+abbrev pub pass_descriptor : State → Option Descriptor → Option Descriptor → List Signal
+pass_descriptor Opened last (Some got) = Oack got ∷ []
+pass_descriptor Flowing last (Some got) = describe_newer last got
+pass_descriptor state last got = []
 
 -- what a slot passes on of the other's descriptor, as both are
-abbrev pub passing : Slot → Slot → List Signal
-passing slot other = passing_in slot.state slot.sent other.got
+abbrev pub descriptor_due : Slot → Slot → List Signal
+descriptor_due slot other = pass_descriptor slot.state slot.sent other.got
 
 -- a slot passes on the selector that the other slot got, where it answers what this slot got and differs from the last
-abbrev pub choosing_for : Option Selector → Option Descriptor → Option Selector → List Signal
-choosing_for (Some heard) (Some got) last = if answers heard got then selecting_newer last heard else []
-choosing_for heard got last = []
+abbrev pub pass_selector : Option Selector → Option Descriptor → Option Selector → List Signal
+pass_selector (Some heard) (Some got) last = if answers heard got then select_newer last heard else []
+pass_selector heard got last = []
 
 -- what it passes on of the other's selector, as both are
-abbrev pub choosing : Slot → Slot → List Signal
-choosing slot other = choosing_for other.sel_in slot.got slot.sel_out
+abbrev pub selector_due : Slot → Slot → List Signal
+selector_due slot other = pass_selector other.sel_in slot.got slot.sel_out
 
 -- what two live slots send: first each the other's descriptor, then each the other's selector
-abbrev pub flowing : Slot → Slot → List (Side × Signal)
-flowing a b = from First (passing a b) ++ (from Second (passing b a) ++ (from First (choosing a b) ++ from Second (choosing b a)))
+abbrev pub flow : Slot → Slot → List (Side × Signal)
+flow a b = from_side First (descriptor_due a b) ++ (from_side Second (descriptor_due b a) ++ (from_side First (selector_due a b) ++ from_side Second (selector_due b a)))
 
 -- what a link sends by the states of its slots: a closed one asks for media where the other is live, and two live ones pass on what is new
-abbrev pub leaning_in : State → State → Slot → Slot → List (Side × Signal)
-leaning_in Closed Opened a b = from First (opening_with a b.got)
-leaning_in Closed Flowing a b = from First (opening_with a b.got)
-leaning_in Opened Closed a b = from Second (opening_with b a.got)
-leaning_in Flowing Closed a b = from Second (opening_with b a.got)
-leaning_in Opened Opened a b = flowing a b
-leaning_in Opened Flowing a b = flowing a b
-leaning_in Flowing Opened a b = flowing a b
-leaning_in Flowing Flowing a b = flowing a b
-leaning_in first second a b = []
+abbrev pub lean_in : State → State → Slot → Slot → List (Side × Signal)
+lean_in Closed Opened a b = from_side First (open_with a b.got)
+lean_in Closed Flowing a b = from_side First (open_with a b.got)
+lean_in Opened Closed a b = from_side Second (open_with b a.got)
+lean_in Flowing Closed a b = from_side Second (open_with b a.got)
+lean_in Opened Opened a b = flow a b
+lean_in Opened Flowing a b = flow a b
+lean_in Flowing Opened a b = flow a b
+lean_in Flowing Flowing a b = flow a b
+lean_in first second a b = []
 
 -- the same, for the slots as they are
-abbrev pub leaning : Slot → Slot → List (Side × Signal)
-leaning a b = leaning_in a.state b.state a b
+abbrev pub lean : Slot → Slot → List (Side × Signal)
+lean a b = lean_in a.state b.state a b
 
 -- what a link sends in a turn: a close that closed one slot is passed on to the other, or else by the states
-abbrev pub link_due_by : Option Side → Slot → Slot → List (Side × Signal)
-link_due_by None a b = leaning a b
-link_due_by (Some First) a b = if can_close b.state then (Second, Close) ∷ [] else leaning a b
-link_due_by (Some Second) a b = if can_close a.state then (First, Close) ∷ [] else leaning a b
+abbrev pub link_turn_by : Option Side → Slot → Slot → List (Side × Signal)
+link_turn_by None a b = lean a b
+link_turn_by (Some First) a b = if can_close b.state then (Second, Close) ∷ [] else lean a b
+link_turn_by (Some Second) a b = if can_close a.state then (First, Close) ∷ [] else lean a b
 
 -- what a link sends in a turn, in order; the far side's close has closed the slot that is named, if one is
-abbrev pub link_due : Slot → Slot → Option Side → List (Side × Signal)
-link_due a b closed_by_far = link_due_by closed_by_far a b
+abbrev pub link_turn : Slot → Slot → Option Side → List (Side × Signal)
+link_turn a b closed_by_far = link_turn_by closed_by_far a b
 
 -- a link is at rest where a turn without a close sends nothing
 abbrev pub IsLinkAtRest : Slot → Slot → Type 0
-IsLinkAtRest a b = link_due a b None ≡ []
+IsLinkAtRest a b = link_turn a b None ≡ []
 
 -- what the first slot sends of all that is sent
 abbrev pub sent_by_first : List (Side × Signal) → List Signal

@@ -2,8 +2,8 @@
 #![tactic(auto)]
 
 ghost use Rattle.std.specs.Prelude.{◌≡◌, ◌+◌, ◌<◌, ◌≤◌, ◌++◌, [], ◌∷◌, Some, IsSome, IsTrue, length, map};
-ghost use Rattle.mc_link.specs.LinkTurn.{NamesClosed, can_close, opening_with, passing_in, choosing_for, flowing, leaning, link_due, sent_by_first, sent_by_second, numbered};
-ghost use Rattle.mc_slot.specs.Moves.{is_live, sent, sent_all};
+ghost use Rattle.mc_link.specs.LinkTurn.{NamesClosed, can_close, open_with, pass_descriptor, pass_selector, flow, lean, link_turn, sent_by_first, sent_by_second, numbered};
+ghost use Rattle.mc_slot.specs.Moves.{is_live, slot_send, slot_send_all};
 ghost use Rattle.mc_slot.specs.Sending.{sends_of, pair_of};
 
 use mc_signal::{Descriptor, Selector, Signal, answers};
@@ -29,10 +29,10 @@ pub fn link_turn(a: &mut Slot, an: u8, b: &mut Slot, bn: u8, closed_by_far: Opti
     requires got_first { IsTrue (is_live a.old.state) → IsSome a.old.got }
     requires got_second { IsTrue (is_live b.old.state) → IsSome b.old.got }
     requires closed { NamesClosed closed_by_far a.old b.old }
-    ensures sends { sends_of result ≡ map (numbered an bn) (link_due a.old b.old closed_by_far) }
-    ensures first { sent_all a.old (sent_by_first (link_due a.old b.old closed_by_far)) ≡ Some a.new }
-    ensures second { sent_all b.old (sent_by_second (link_due a.old b.old closed_by_far)) ≡ Some b.new }
-    ensures len { result.len ≡ length (link_due a.old b.old closed_by_far) }
+    ensures sends { sends_of result ≡ map (numbered an bn) (link_turn a.old b.old closed_by_far) }
+    ensures first { slot_send_all a.old (sent_by_first (link_turn a.old b.old closed_by_far)) ≡ Some a.new }
+    ensures second { slot_send_all b.old (sent_by_second (link_turn a.old b.old closed_by_far)) ≡ Some b.new }
+    ensures len { result.len ≡ length (link_turn a.old b.old closed_by_far) }
 {
     match closed_by_far {
         Some(Side::First) => {
@@ -62,9 +62,9 @@ fn can_close(slot: &Slot) -> bool
 
 // Sends one signal, and nothing else.
 fn send_alone(slot: &mut Slot, no: u8, s: Signal) -> Sends
-    requires { IsSome (sent slot.old s) }
+    requires { IsSome (slot_send slot.old s) }
     ensures sends { sends_of result ≡ pair_of no s ∷ [] }
-    ensures after { sent slot.old s ≡ Some slot.new }
+    ensures after { slot_send slot.old s ≡ Some slot.new }
     ensures len { result.len ≡ 1 }
 {
     slot.send(s);
@@ -78,10 +78,10 @@ fn send_alone(slot: &mut Slot, no: u8, s: Signal) -> Sends
 fn lean(a: &mut Slot, an: u8, b: &mut Slot, bn: u8) -> Sends
     requires got_first { IsTrue (is_live a.old.state) → IsSome a.old.got }
     requires got_second { IsTrue (is_live b.old.state) → IsSome b.old.got }
-    ensures sends { sends_of result ≡ map (numbered an bn) (leaning a.old b.old) }
-    ensures first { sent_all a.old (sent_by_first (leaning a.old b.old)) ≡ Some a.new }
-    ensures second { sent_all b.old (sent_by_second (leaning a.old b.old)) ≡ Some b.new }
-    ensures len { result.len ≡ length (leaning a.old b.old) }
+    ensures sends { sends_of result ≡ map (numbered an bn) (lean a.old b.old) }
+    ensures first { slot_send_all a.old (sent_by_first (lean a.old b.old)) ≡ Some a.new }
+    ensures second { slot_send_all b.old (sent_by_second (lean a.old b.old)) ≡ Some b.new }
+    ensures len { result.len ≡ length (lean a.old b.old) }
 {
     match (a.state, b.state) {
         (State::Closed, State::Opened | State::Flowing) => open_with(a, an, b.got),
@@ -94,9 +94,9 @@ fn lean(a: &mut Slot, an: u8, b: &mut Slot, bn: u8) -> Sends
 // A closed slot asks for media, with the descriptor that the other slot got.
 fn open_with(slot: &mut Slot, no: u8, got: Option<Descriptor>) -> Sends
     requires { slot.old.state ≡ State.Closed }
-    ensures sends { sends_of result ≡ map (pair_of no) (opening_with slot.old got) }
-    ensures after { sent_all slot.old (opening_with slot.old got) ≡ Some slot.new }
-    ensures len { result.len ≡ length (opening_with slot.old got) }
+    ensures sends { sends_of result ≡ map (pair_of no) (open_with slot.old got) }
+    ensures after { slot_send_all slot.old (open_with slot.old got) ≡ Some slot.new }
+    ensures len { result.len ≡ length (open_with slot.old got) }
 {
     match got {
         Some(got) => send_alone(slot, no, Signal::Open(slot.medium, got)),
@@ -110,10 +110,10 @@ fn flow(a: &mut Slot, an: u8, b: &mut Slot, bn: u8) -> Sends
     requires live_second { IsTrue (is_live b.old.state) }
     requires got_first { IsSome a.old.got }
     requires got_second { IsSome b.old.got }
-    ensures sends { sends_of result ≡ map (numbered an bn) (flowing a.old b.old) }
-    ensures first { sent_all a.old (sent_by_first (flowing a.old b.old)) ≡ Some a.new }
-    ensures second { sent_all b.old (sent_by_second (flowing a.old b.old)) ≡ Some b.new }
-    ensures len { result.len ≡ length (flowing a.old b.old) }
+    ensures sends { sends_of result ≡ map (numbered an bn) (flow a.old b.old) }
+    ensures first { slot_send_all a.old (sent_by_first (flow a.old b.old)) ≡ Some a.new }
+    ensures second { slot_send_all b.old (sent_by_second (flow a.old b.old)) ≡ Some b.new }
+    ensures len { result.len ≡ length (flow a.old b.old) }
 {
     let mut sends = Sends::none();
     pass_descriptor(a, an, b.got, &mut sends);
@@ -128,13 +128,13 @@ fn pass_descriptor(slot: &mut Slot, no: u8, got: Option<Descriptor>, sends: &mut
     requires live { IsTrue (is_live slot.old.state) }
     requires got { IsSome got }
     requires room { sends.old.len < 4 }
-    ensures after { sent_all slot.old (passing_in slot.old.state slot.old.sent got) ≡ Some slot.new }
+    ensures after { slot_send_all slot.old (pass_descriptor slot.old.state slot.old.sent got) ≡ Some slot.new }
     ensures flowing { slot.new.state ≡ State.Flowing }
     ensures got { slot.new.got ≡ slot.old.got }
     ensures sel_in { slot.new.sel_in ≡ slot.old.sel_in }
     ensures sel_out { slot.new.sel_out ≡ slot.old.sel_out }
-    ensures sends { sends_of sends.new ≡ sends_of sends.old ++ map (pair_of no) (passing_in slot.old.state slot.old.sent got) }
-    ensures len { sends.new.len ≡ sends.old.len + length (passing_in slot.old.state slot.old.sent got) }
+    ensures sends { sends_of sends.new ≡ sends_of sends.old ++ map (pair_of no) (pass_descriptor slot.old.state slot.old.sent got) }
+    ensures len { sends.new.len ≡ sends.old.len + length (pass_descriptor slot.old.state slot.old.sent got) }
     ensures few { sends.new.len ≤ sends.old.len + 1 }
 {
     if let Some(got) = got {
@@ -152,10 +152,10 @@ fn pass_descriptor(slot: &mut Slot, no: u8, got: Option<Descriptor>, sends: &mut
 fn pass_selector(slot: &mut Slot, no: u8, heard: Option<Selector>, sends: &mut Sends)
     requires flowing { slot.old.state ≡ State.Flowing }
     requires room { sends.old.len < 4 }
-    ensures after { sent_all slot.old (choosing_for heard slot.old.got slot.old.sel_out) ≡ Some slot.new }
+    ensures after { slot_send_all slot.old (pass_selector heard slot.old.got slot.old.sel_out) ≡ Some slot.new }
     ensures sel_in { slot.new.sel_in ≡ slot.old.sel_in }
-    ensures sends { sends_of sends.new ≡ sends_of sends.old ++ map (pair_of no) (choosing_for heard slot.old.got slot.old.sel_out) }
-    ensures len { sends.new.len ≡ sends.old.len + length (choosing_for heard slot.old.got slot.old.sel_out) }
+    ensures sends { sends_of sends.new ≡ sends_of sends.old ++ map (pair_of no) (pass_selector heard slot.old.got slot.old.sel_out) }
+    ensures len { sends.new.len ≡ sends.old.len + length (pass_selector heard slot.old.got slot.old.sel_out) }
     ensures few { sends.new.len ≤ sends.old.len + 1 }
 {
     if let (Some(heard), Some(got)) = (heard, slot.got) {

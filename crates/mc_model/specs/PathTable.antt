@@ -1,7 +1,7 @@
 -- The path table: the state of a path at a settle by its two end goals, and what is then heard. It knows no slot between, no signal, and no kept value.
 use Rattle.std.specs.Prelude.{◌≡◌, ◌⊎◌, ℕ, Option, Some, None}
 use Rattle.std.specs.Option.{unwrap_or}
-use Rattle.mc_signal.specs.Choice.{codecs_of, shared_codec, selector_of}
+use Rattle.mc_signal.specs.Choice.{codecs_of, shared_codec, choose}
 use Rattle.mc_signal.specs.declared.Descriptor.{Descriptor}
 use Rattle.mc_signal.specs.declared.Sender.{Sender}
 use Rattle.mc_slot.specs.declared.Goal.{Goal}
@@ -24,19 +24,19 @@ abbrev pub path_state : WorldState → PathEnds → State
 path_state world path = unwrap_or (table (end_goal world path.low) (end_goal world path.high)) (slot_of world path.low).state
 
 -- the codec that an end hears: the first that it offers among those that the other end can send
-abbrev pub heard : Descriptor → Sender → Option ℕ
-heard own sender = shared_codec (codecs_of own.codecs) (codecs_of sender.codecs)
+abbrev pub heard_codec : Descriptor → Sender → Option ℕ
+heard_codec own sender = shared_codec (codecs_of own.codecs) (codecs_of sender.codecs)
 
 abbrev pub low_hears : WorldState → PathEnds → Option ℕ
-low_hears world path = heard (own_descriptor world path.low) (own_sender world path.high)
+low_hears world path = heard_codec (own_descriptor world path.low) (own_sender world path.high)
 
 abbrev pub high_hears : WorldState → PathEnds → Option ℕ
-high_hears world path = heard (own_descriptor world path.high) (own_sender world path.low)
+high_hears world path = heard_codec (own_descriptor world path.high) (own_sender world path.low)
 
 -- an end of a flowing path last got the other end's newest descriptor, and the choice for its own
 pub record Hears (slot : Slot) (own : Descriptor) (far_own : Descriptor) (far_sender : Sender) : Type 0 where
   pub got : slot.got ≡ Some far_own
-  pub chosen : slot.sel_in ≡ Some (selector_of own far_sender)
+  pub chosen : slot.sel_in ≡ Some (choose own far_sender)
 
 -- a path is closed or flowing, its two end slots are in its state, and where it flows they have each other's newest descriptor and the choice for it
 pub record PathHolds (world : WorldState) (path : PathEnds) : Type 0 where

@@ -2,11 +2,12 @@
 use Rattle.std.specs.Prelude.{ℕ, ◌+◌, zero, suc, Bool, true, false, if◌then◌else◌, List, length, nat_lt, Option, Some, None}
 use Rattle.std.specs.List.{enumerate_from, filter_map, list_any}
 use Rattle.std.specs.Option.{option_and_then, option_map, is_none, unwrap_or}
+use Rattle.mc_slot.specs.EndTurn.{is_end_goal}
 use Rattle.mc_slot.specs.declared.Goal.{Goal}
 use Rattle.mc_slot.specs.declared.Goal.TheVariants.{Close as ToClose}
 use Rattle.mc_slot.specs.declared.SlotGoal.{SlotGoal}
 use Rattle.mc_slot.specs.declared.SlotGoal.TheVariants.{End, Link}
-use Rattle.mc_model.specs.Worlds.{WorldState, joints, places, place, number, far, goal_of}
+use Rattle.mc_model.specs.Worlds.{WorldState, all_tunnels, places, place, number, far, goal_of}
 
 -- at the far side of a tunnel a walk ends at an end, and goes on at the partner of a linked slot
 abbrev pub walk_by : (ℕ → Option ℕ) → WorldState → SlotGoal → ℕ → Option ℕ
@@ -20,7 +21,7 @@ walked world (suc most) s = walk_by (walked world most) world (goal_of world (fa
 
 -- the other end of the path of a slot; none where the slot is on a ring
 abbrev pub other_end : WorldState → ℕ → Option ℕ
-other_end world s = walked world (length (joints world)) s
+other_end world s = walked world (length (all_tunnels world)) s
 
 -- the tunnels that a walk goes over from the far side of a tunnel, until it comes to an end
 abbrev pub crossed_by : (ℕ → ℕ) → WorldState → SlotGoal → ℕ → ℕ
@@ -31,10 +32,6 @@ crossed_by further world (Link partner) s = unwrap_or (option_map further (numbe
 abbrev pub crossed : WorldState → ℕ → ℕ → ℕ
 crossed world zero s = 0
 crossed world (suc most) s = 1 + crossed_by (crossed world most) world (goal_of world (far s)) (far s)
-
-abbrev pub is_end_goal : SlotGoal → Bool
-is_end_goal (End goal) = true
-is_end_goal (Link partner) = false
 
 -- a path by its two end slots, the lower first
 pub record PathEnds : Type 0 where

@@ -54,8 +54,8 @@ abbrev pub RingsMeetNoEnd : Type 0
 RingsMeetNoEnd = (world : WorldState) (s : ℕ) → IsSound world → s < slot_count world → (other_end world s ≡ None) ↔ IsOnRing world s
 
 -- a walk goes over no tunnel both ways: of the slots from which it goes over a tunnel, none is the far slot of another
-abbrev pub WalksNeverTurn : Type 0
-WalksNeverTurn = (world : WorldState) (s count other t u : ℕ) → IsSound world → s < slot_count world → slot_after world count s ≡ Some t → slot_after world other s ≡ Some u → t ≢ far u
+abbrev pub WalksNeverReturn : Type 0
+WalksNeverReturn = (world : WorldState) (s count other t u : ℕ) → IsSound world → s < slot_count world → slot_after world count s ≡ Some t → slot_after world other s ≡ Some u → t ≢ far u
 
 -- Takes and Retries change no link, so there is a ring after them where there was one before
 abbrev pub RestKeepsRings : Type 0

@@ -4,7 +4,7 @@ use Rattle.std.specs.List.{list_all, list_any}
 use Rattle.std.specs.Option.{is_some}
 use Rattle.mc_signal.specs.declared.Tagged.{Tagged}
 use Rattle.mc_box.specs.BoxEvents.{box_event, is_command}
-use Rattle.mc_box.specs.Boxes.{is_slot, owes_at}
+use Rattle.mc_box.specs.Boxes.{is_slot, box_owes}
 use Rattle.mc_model.specs.Paths.{has_ring}
 use Rattle.mc_model.specs.Steps.{run, after}
 use Rattle.mc_model.specs.Worlds.{WorldState, box_at}
@@ -46,15 +46,15 @@ takes_or_retries (Retry local) = true
 takes_or_retries event = false
 
 -- whether a box's slot owes a retry
-abbrev pub owes_retry : WorldState → ℕ → ℕ → Bool
-owes_retry world who local = nat_lt who (length world.boxes) && is_slot (box_at world who) local && owes_at (box_at world who) local
+abbrev pub world_owes : WorldState → ℕ → ℕ → Bool
+world_owes world who local = nat_lt who (length world.boxes) && is_slot (box_at world who) local && box_owes (box_at world who) local
 
 -- after a moment of a run, at which the world rests and the batch is used up, each retry that was owed at that moment comes once, and besides only Takes come
 pub record IsLastRest (world : WorldState) (batch turns : List Turn) (moment : ℕ) : Type 0 where
   pub within : moment ≤ length turns
   pub at_rest : IsTrue (rests (after world (take moment turns)))
   pub used_up : (who : ℕ) → commands_of who (take moment turns) ≡ commands_of who batch
-  pub retries : (who local : ℕ) → count_by (is_retry_of who local) (drop moment turns) ≡ (if owes_retry (after world (take moment turns)) who local then 1 else 0)
+  pub retries : (who local : ℕ) → count_by (is_retry_of who local) (drop moment turns) ≡ (if world_owes (after world (take moment turns)) who local then 1 else 0)
   pub besides : IsTrue (list_all (λ turn. takes_or_retries turn.event) (drop moment turns))
 
 -- the turns settle a batch, and leave the world last

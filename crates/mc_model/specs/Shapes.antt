@@ -2,10 +2,9 @@
 use Rattle.std.specs.Prelude.{◌≡◌, ◌<◌, ◌⊎◌, ℕ, ◌&&◌, Bool, List, length, nat_lt, Some, IsSome, IsTrue}
 use Rattle.mc_box.specs.Acting.{IsAlike}
 use Rattle.mc_box.specs.BoxShapes.{box_shape, is_enabled_by}
-use Rattle.mc_box.specs.Boxes.{goal_owes}
+use Rattle.mc_box.specs.Boxes.{slot_owes}
 use Rattle.mc_model.specs.Sound.{IsSound}
-use Rattle.mc_model.specs.Steps.{ends_version}
-use Rattle.mc_model.specs.Steps.{run, step}
+use Rattle.mc_model.specs.Steps.{ends_version, run, step}
 use Rattle.mc_model.specs.Worlds.{WorldState, box_at, goal_of, place, slot_count, slot_of}
 use Rattle.mc_box.specs.declared.event.Event.TheVariants.{Retry}
 use Rattle.mc_box.specs.declared.event.Turn.{Turn}
@@ -33,8 +32,8 @@ abbrev pub CommandGoes : Type 0
 CommandGoes = (world : WorldState) (turn : Turn) → IsSound world → IsTrue (is_allowed world turn) → IsSome (step world turn) ⊎ IsTrue (ends_version world turn)
 
 -- whether a slot owes a retry, by its number
-abbrev pub owes_of : WorldState → ℕ → Bool
-owes_of world s = goal_owes (goal_of world s) (slot_of world s)
+abbrev pub owes_by_number : WorldState → ℕ → Bool
+owes_by_number world s = slot_owes (goal_of world s) (slot_of world s)
 
 -- the retry of a slot, by its number
 abbrev pub retry_of : WorldState → ℕ → Turn
@@ -42,4 +41,4 @@ retry_of world s = record { who = (place world s).0; event = Retry (place world 
 
 -- it can happen where it is owed
 abbrev pub RetryGoes : Type 0
-RetryGoes = (world : WorldState) (s : ℕ) → IsSound world → s < slot_count world → IsTrue (owes_of world s) → IsSome (step world (retry_of world s))
+RetryGoes = (world : WorldState) (s : ℕ) → IsSound world → s < slot_count world → IsTrue (owes_by_number world s) → IsSome (step world (retry_of world s))

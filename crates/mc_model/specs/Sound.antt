@@ -4,7 +4,7 @@ use Rattle.mc_slot.specs.Tunnel.{TunnelSound}
 use Rattle.mc_box.specs.BoxSound.{IsSoundBox}
 use Rattle.mc_box.specs.Boxes.{IsBox, media_at}
 use Rattle.mc_model.specs.Served.{LanesServed}
-use Rattle.mc_model.specs.Worlds.{WorldState, joint_of, slot_count, place, number, far, box_at, slot_of, list_to}
+use Rattle.mc_model.specs.Worlds.{WorldState, tunnel_of, slot_count, place, number, far, box_at, slot_of, list_to}
 
 -- boxes are numbered in order, tunnels join each slot of each box once, and each slot has its number, the medium of its tunnel, and the side that it stands on
 pub record IsNumbered (world : WorldState) : Type 0 where
@@ -16,7 +16,7 @@ pub record IsNumbered (world : WorldState) : Type 0 where
   pub once : (s : ℕ) → s < slot_count world → number world (place world s).0 (place world s).1 ≡ Some s
   pub all : (who local : ℕ) → who < length world.boxes → local < length (box_at world who).slots → (s : ℕ) × (s < slot_count world) × (place world s ≡ (who, local))
   pub origins : (s : ℕ) → s < slot_count world → (media_at (box_at world (place world s).0) (place world s).1).origin ≡ s
-  pub media : (s : ℕ) → s < slot_count world → (slot_of world s).medium ≡ (joint_of world s).medium
+  pub media : (s : ℕ) → s < slot_count world → (slot_of world s).medium ≡ (tunnel_of world s).medium
   pub sides : (s : ℕ) → s < slot_count world → (slot_of world s).initiator ≡ (s % 2 == 0)
 
 -- each tunnel is sound with what is under way in it, each box is sound, so that its links are mutual and each of its goals is at rest, all is numbered as it should be, and each signal under way is on the lane of the slot that it is for

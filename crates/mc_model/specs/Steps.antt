@@ -5,7 +5,7 @@ use Rattle.mc_signal.specs.declared.Signal.{Signal}
 use Rattle.mc_signal.specs.declared.Tagged.{Tagged}
 use Rattle.mc_box.specs.BoxEvents.{BoxStep, box_event, is_enabled, is_version_end}
 use Rattle.mc_box.specs.Boxes.{BoxState}
-use Rattle.mc_model.specs.Worlds.{WorldState, box_at, number, far, joint_of, lane_of, lane_to, front, place}
+use Rattle.mc_model.specs.Worlds.{WorldState, box_at, number, far, tunnel_of, lane_of, lane_to, front, place}
 use Rattle.mc_box.specs.declared.event.Event.{Event}
 use Rattle.mc_box.specs.declared.event.Event.TheVariants.{Take}
 use Rattle.mc_box.specs.declared.event.Turn.{Turn}
@@ -22,7 +22,7 @@ popped world s = with_lane world (lane_of world s) (drop 1 (lane_to world s))
 
 -- a signal goes with its tunnel to the end of the lane that leads to a slot
 abbrev pub pushed : WorldState → Signal → ℕ → WorldState
-pushed world signal s = with_lane world (lane_of world s) (lane_to world s ++ record { tunnel = (joint_of world s).within; signal = signal } ∷ [])
+pushed world signal s = with_lane world (lane_of world s) (lane_to world s ++ record { tunnel = (tunnel_of world s).within; signal = signal } ∷ [])
 
 -- what a box sends goes to the far slots, in the order of sending
 abbrev pub sent_out : WorldState → ℕ → List (ℕ × Signal) → WorldState

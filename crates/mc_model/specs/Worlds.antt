@@ -19,8 +19,8 @@ pub record ChannelState : Type 0 where
   pub tunnels : List Tunnel
 
 -- the most channels of a world: so few that the numbers of their slots fit
-abbrev pub channel_limit : ℕ
-channel_limit = 2 ^ 28
+abbrev pub channel_number_limit : ℕ
+channel_number_limit = 2 ^ 28
 
 -- the most tunnels of a channel
 abbrev pub tunnel_limit : ℕ
@@ -33,7 +33,7 @@ pub record HasTunnels (channel : ChannelState) : Type 0 where
 
 -- channels within the limits: not too many, and each has one to eight tunnels
 pub record AreChannels (channels : List ChannelState) : Type 0 where
-  pub few : length channels ≤ channel_limit
+  pub few : length channels ≤ channel_number_limit
   pub tunnels : All HasTunnels channels
 
 -- boxes, channels, and for each channel and direction a lane of the signals under way. Lane 2k leads to the initiator's end of channel k, and lane 2k + 1 to the other
@@ -45,24 +45,24 @@ pub record WorldState : Type 0 where
 -- ---- tunnels and the numbers of slots
 
 -- a tunnel by its channel, its number within the channel, and its medium
-pub record Joint : Type 0 where
+pub record TunnelPlace : Type 0 where
   pub channel : ℕ
   pub within : ℕ
   pub medium : Medium
 
 -- these tunnels of a channel, numbered within it from a number on
-abbrev pub joints_within : ℕ → ℕ → List Tunnel → List Joint
-joints_within channel within [] = []
-joints_within channel within (tunnel ∷ tunnels) = record { channel = channel; within = within; medium = tunnel.medium } ∷ joints_within channel (within + 1) tunnels
+abbrev pub tunnels_within : ℕ → ℕ → List Tunnel → List TunnelPlace
+tunnels_within channel within [] = []
+tunnels_within channel within (tunnel ∷ tunnels) = record { channel = channel; within = within; medium = tunnel.medium } ∷ tunnels_within channel (within + 1) tunnels
 
 -- the tunnels of these channels, numbered from a number on
-abbrev pub joints_from : ℕ → List ChannelState → List Joint
-joints_from channel [] = []
-joints_from channel (ends ∷ channels) = joints_within channel 0 ends.tunnels ++ joints_from (channel + 1) channels
+abbrev pub tunnels_from : ℕ → List ChannelState → List TunnelPlace
+tunnels_from channel [] = []
+tunnels_from channel (ends ∷ channels) = tunnels_within channel 0 ends.tunnels ++ tunnels_from (channel + 1) channels
 
 -- all tunnels, counted over all channels in their order
-abbrev pub joints : WorldState → List Joint
-joints world = joints_from 0 world.channels
+abbrev pub all_tunnels : WorldState → List TunnelPlace
+all_tunnels world = tunnels_from 0 world.channels
 
 -- the box and local number of each slot of a tunnel
 abbrev pub places_of : ChannelState → Tunnel → List (ℕ × ℕ)
@@ -95,12 +95,12 @@ number world who local = position (is_place (who, local)) (places world)
 abbrev pub far : ℕ → ℕ
 far s = if s % 2 == 0 then s + 1 else s - 1
 
-abbrev pub no_joint : Joint
-no_joint = record { channel = 0; within = 0; medium = Audio }
+abbrev pub no_tunnel : TunnelPlace
+no_tunnel = record { channel = 0; within = 0; medium = Audio }
 
 -- the tunnel of a slot
-abbrev pub joint_of : WorldState → ℕ → Joint
-joint_of world s = slice_index_or (joints world) (s / 2) no_joint
+abbrev pub tunnel_of : WorldState → ℕ → TunnelPlace
+tunnel_of world s = slice_index_or (all_tunnels world) (s / 2) no_tunnel
 
 -- ---- what a slot has
 
@@ -123,7 +123,7 @@ own_sender world s = sender (box_at world (place world s).0) (place world s).1
 
 -- the lane that leads to a slot
 abbrev pub lane_of : WorldState → ℕ → ℕ
-lane_of world s = 2 * (joint_of world s).channel + s % 2
+lane_of world s = 2 * (tunnel_of world s).channel + s % 2
 
 abbrev pub lane_to : WorldState → ℕ → List Tagged
 lane_to world s = slice_index_or world.lanes (lane_of world s) []
@@ -135,7 +135,7 @@ for_tunnel tunnel (tagged ∷ rest) = if tagged.tunnel == tunnel then tagged.sig
 
 -- the signals under way to a slot
 abbrev pub list_to : WorldState → ℕ → List Signal
-list_to world s = for_tunnel (joint_of world s).within (lane_to world s)
+list_to world s = for_tunnel (tunnel_of world s).within (lane_to world s)
 
 abbrev pub front_for : ℕ → List Tagged → Option Signal
 front_for tunnel [] = None
@@ -143,7 +143,7 @@ front_for tunnel (tagged ∷ rest) = if tagged.tunnel == tunnel then Some tagged
 
 -- the signal that a slot can take now: the front of its lane, where that is for its tunnel
 abbrev pub front : WorldState → ℕ → Option Signal
-front world s = front_for (joint_of world s).within (lane_to world s)
+front world s = front_for (tunnel_of world s).within (lane_to world s)
 
 -- ---- a world as new
 

@@ -12,12 +12,13 @@ use Rattle.mc_signal.specs.Choice.{has_codec}
 use Rattle.mc_text.specs.NameLists.{NameLists, place_of}
 use Rattle.mc_net.specs.Listing.{can_add, is_codec}
 use Rattle.mc_net.specs.Meaning.{codec_number}
-use Rattle.mc_net.specs.Rules.{list_limit, lists_undeclared}
+use Rattle.mc_net.specs.Rules.{lists_undeclared}
 use Rattle.mc_net.specs.WordLists.{has_repeat}
+use Rattle.mc_net.specs.declared.limit.TheConstants.{LIST_LIMIT}
 
 -- declared codecs, at most eight and none twice
 abbrev pub are_codecs : NameLists → List (List ℕ) → Bool
-are_codecs names listed = list_all (is_codec names) listed && not (has_repeat listed) && nat_le (length listed) list_limit
+are_codecs names listed = list_all (is_codec names) listed && not (has_repeat listed) && nat_le (length listed) LIST_LIMIT
 
 -- each of these words names a codec that can be added, once those before it are listed
 abbrev pub can_list : NameLists → List ℕ → List (List ℕ) → Bool
@@ -123,7 +124,7 @@ all_declared names (word ∷ others) declared =
     grind arith
 
 -- words that the rules let through can be listed
-pub can_list_these : (names : NameLists) (words : List (List ℕ)) → lists_undeclared names words ≡ false → has_repeat words ≡ false → length words ≤ list_limit → can_list names [] words ≡ true
+pub can_list_these : (names : NameLists) (words : List (List ℕ)) → lists_undeclared names words ≡ false → has_repeat words ≡ false → length words ≤ LIST_LIMIT → can_list names [] words ≡ true
 can_list_these names words declared different few =
     let all : list_all (is_codec names) words ≡ true = all_declared names words declared in
     can_list_all names words ∙ grind arith

@@ -7,7 +7,7 @@ use Rattle.std.specs.List.{All}
 use Rattle.mc_signal.specs.Choice.{codecs_of}
 use Rattle.mc_signal.specs.declared.Medium.{Medium}
 use Rattle.mc_signal.specs.declared.codec_list.CodecList.{CodecList}
-use Rattle.mc_text.specs.NameLists.{NameLists, slots_of}
+use Rattle.mc_text.specs.NameLists.{NameLists, slot_names}
 use Rattle.mc_model.specs.Setups.{world_of_devices}
 use Rattle.mc_model.specs.Worlds.{ChannelState, WorldState, box_at}
 use Rattle.mc_box.specs.declared.event.Change.TheVariants.{End as NewEnd, Link as NewLink}
@@ -16,7 +16,7 @@ use Rattle.mc_box.specs.declared.event.Event.TheVariants.{Set, Take, Media, Tell
 use Rattle.mc_box.specs.declared.event.Turn.{Turn}
 use Rattle.mc_script.specs.declared.command.Command.{Command}
 use Rattle.mc_script.specs.declared.command.Command.TheVariants.{Stimulus, Settle}
-use Rattle.mc_net.specs.Nets.{AreEndSets, DeclaresNet, IsFirstWorld, JoinsPair, NamesAll, batches_of, before_next, first_channel, is_end_set, turns_of}
+use Rattle.mc_net.specs.Nets.{AreEndSets, DeclaresNet, IsFirstWorld, JoinsPair, NamesAll, batches_of, before_next, first_channel, is_end_set, batch_turns}
 use Rattle.mc_net.specs.SoFar.{BoxMedia, Declared}
 use Rattle.mc_net.specs.declared.net.Net.{Net}
 use Rattle.mc_net.proofs.Named.{SetsOrSettles, SetsSlot}
@@ -28,8 +28,8 @@ use Rattle.mc_net.proofs.Small.{HasPair, says_pair}
 abbrev AreBelow : ℕ → List ℕ → Type 0
 AreBelow count codecs = All (λ codec. codec < count) codecs
 
-module _ (names : NameLists) (m : Medium) (a b : CodecList) (boxes : length names.boxes ≡ 2) (slots : (who : ℕ) → who < 2 → length (slots_of names who) ≡ 1) (one : AreBelow (length names.codecs) (codecs_of a)) (two : AreBelow (length names.codecs) (codecs_of b)) where
-  forth_slots : (who : ℕ) → who < 2 → length (slots_of names who) ≡ length (box_at (world_of_devices (first_channel m 0 1 ∷ []) (a ∷ b ∷ [])) who).slots
+module _ (names : NameLists) (m : Medium) (a b : CodecList) (boxes : length names.boxes ≡ 2) (slots : (who : ℕ) → who < 2 → length (slot_names names who) ≡ 1) (one : AreBelow (length names.codecs) (codecs_of a)) (two : AreBelow (length names.codecs) (codecs_of b)) where
+  forth_slots : (who : ℕ) → who < 2 → length (slot_names names who) ≡ length (box_at (world_of_devices (first_channel m 0 1 ∷ []) (a ∷ b ∷ [])) who).slots
   forth_slots zero below = slots 0 (omega arith)
   forth_slots (suc zero) below = slots 1 (omega arith)
   forth_slots (suc (suc who)) below = absurd (omega arith)
@@ -42,7 +42,7 @@ module _ (names : NameLists) (m : Medium) (a b : CodecList) (boxes : length name
   forth_named : NamesAll names (world_of_devices (first_channel m 0 1 ∷ []) (a ∷ b ∷ []))
   forth_named = record { boxes = boxes; slots = forth_slots; codecs = forth_codecs }
 
-  back_slots : (who : ℕ) → who < 2 → length (slots_of names who) ≡ length (box_at (world_of_devices (first_channel m 1 0 ∷ []) (a ∷ b ∷ [])) who).slots
+  back_slots : (who : ℕ) → who < 2 → length (slot_names names who) ≡ length (box_at (world_of_devices (first_channel m 1 0 ∷ []) (a ∷ b ∷ [])) who).slots
   back_slots zero below = slots 0 (omega arith)
   back_slots (suc zero) below = slots 1 (omega arith)
   back_slots (suc (suc who)) below = absurd (omega arith)
@@ -55,7 +55,7 @@ module _ (names : NameLists) (m : Medium) (a b : CodecList) (boxes : length name
   back_named : NamesAll names (world_of_devices (first_channel m 1 0 ∷ []) (a ∷ b ∷ []))
   back_named = record { boxes = boxes; slots = back_slots; codecs = back_codecs }
 
-pair_named : (names : NameLists) (channels : List ChannelState) (lists : List CodecList) → JoinsPair channels → length names.boxes ≡ 2 → ((who : ℕ) → who < 2 → length (slots_of names who) ≡ 1)
+pair_named : (names : NameLists) (channels : List ChannelState) (lists : List CodecList) → JoinsPair channels → length names.boxes ≡ 2 → ((who : ℕ) → who < 2 → length (slot_names names who) ≡ 1)
     → length lists ≡ 2 → All (AreBelow (length names.codecs)) (map codecs_of lists) → NamesAll names (world_of_devices channels lists)
 pair_named names channels [] joins boxes slots count known = absurd cc
 pair_named names channels (a ∷ []) joins boxes slots count known = absurd (omega arith)
@@ -121,7 +121,7 @@ commands_set_ends names world commands all set = all_batches (λ turn. IsTrue (i
     by Settle sets = tt
 
 -- each command of a declared network sets the goal of an end
-pub net_sets_ends : (text : List ℕ) (net : Net) → DeclaresNet text net → AreEndSets net.world (map turns_of net.batches.items)
+pub net_sets_ends : (text : List ℕ) (net : Net) → DeclaresNet text net → AreEndSets net.world (map batch_turns net.batches.items)
 net_sets_ends text net declares =
     let pair = says_pair text declares.declared declares.says in
     let named : NamesAll declares.declared.names net.world = first_named declares.declared net.world pair declares.world in

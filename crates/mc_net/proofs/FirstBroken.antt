@@ -2,8 +2,9 @@
 use Rattle.std.proofs.Common.{◌≡◌, ℕ, Bool, true, false, List, [], ◌∷◌, ◌++◌, Some, None, length, nat_le, ◌≤◌, ◌∙◌, refl, arith}
 use Rattle.mc_script.specs.Rules.{kind_rules, least_broken}
 use Rattle.mc_script.specs.declared.keyword.CommandWord.{CommandWord}
-use Rattle.mc_net.specs.Rules.{command_limit, command_line_rules, is_unfinished}
+use Rattle.mc_net.specs.Rules.{command_line_rules, is_unfinished}
 use Rattle.mc_net.specs.SoFar.{Declared}
+use Rattle.mc_net.specs.declared.limit.TheConstants.{COMMAND_LIMIT}
 
 -- where a rule of the first list is broken, the others don't count
 pub of_the_first : (rules others : List (ℕ × Bool)) (number : ℕ) → least_broken rules ≡ Some number → least_broken (rules ++ others) ≡ Some number
@@ -26,17 +27,17 @@ of_the_others (rule ∷ rules) others broken = by rule.1 refl (of_the_others rul
 -- a command's own rule is broken
 pub own_rule : (d : Declared) (kind : CommandWord) (words : List (List ℕ)) (number : ℕ) → least_broken (kind_rules d.names d.shape (Some kind) words) ≡ Some number
     → least_broken (command_line_rules d kind words) ≡ Some number
-own_rule d kind words number broken = of_the_first (kind_rules d.names d.shape (Some kind) words) ((14, nat_le command_limit (length d.commands)) ∷ (15, is_unfinished d) ∷ []) number broken
+own_rule d kind words number broken = of_the_first (kind_rules d.names d.shape (Some kind) words) ((14, nat_le COMMAND_LIMIT (length d.commands)) ∷ (15, is_unfinished d) ∷ []) number broken
 
 -- there are as many commands as there may be
-pub too_many : (d : Declared) (kind : CommandWord) (words : List (List ℕ)) → least_broken (kind_rules d.names d.shape (Some kind) words) ≡ None → command_limit ≤ length d.commands
+pub too_many : (d : Declared) (kind : CommandWord) (words : List (List ℕ)) → least_broken (kind_rules d.names d.shape (Some kind) words) ≡ None → COMMAND_LIMIT ≤ length d.commands
     → least_broken (command_line_rules d kind words) ≡ Some 14
 too_many d kind words kept full =
-    let is : nat_le command_limit (length d.commands) ≡ true = grind arith in
-    of_the_others (kind_rules d.names d.shape (Some kind) words) ((14, nat_le command_limit (length d.commands)) ∷ (15, is_unfinished d) ∷ []) kept ∙ rw is refl
+    let is : nat_le COMMAND_LIMIT (length d.commands) ≡ true = grind arith in
+    of_the_others (kind_rules d.names d.shape (Some kind) words) ((14, nat_le COMMAND_LIMIT (length d.commands)) ∷ (15, is_unfinished d) ∷ []) kept ∙ rw is refl
 
 -- a program is open that isn't finished
-pub unfinished_before : (d : Declared) (kind : CommandWord) (words : List (List ℕ)) → least_broken (kind_rules d.names d.shape (Some kind) words) ≡ None → nat_le command_limit (length d.commands) ≡ false → is_unfinished d ≡ true
+pub unfinished_before : (d : Declared) (kind : CommandWord) (words : List (List ℕ)) → least_broken (kind_rules d.names d.shape (Some kind) words) ≡ None → nat_le COMMAND_LIMIT (length d.commands) ≡ false → is_unfinished d ≡ true
     → least_broken (command_line_rules d kind words) ≡ Some 15
 unfinished_before d kind words kept room unfinished =
-    of_the_others (kind_rules d.names d.shape (Some kind) words) ((14, nat_le command_limit (length d.commands)) ∷ (15, is_unfinished d) ∷ []) kept ∙ rw (room, unfinished) refl
+    of_the_others (kind_rules d.names d.shape (Some kind) words) ((14, nat_le COMMAND_LIMIT (length d.commands)) ∷ (15, is_unfinished d) ∷ []) kept ∙ rw (room, unfinished) refl

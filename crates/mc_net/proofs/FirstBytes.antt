@@ -5,11 +5,12 @@ use Rattle.std.proofs.lemmas.List.{append-nil, get_or_append_left, get_or_at, le
 use Rattle.std.specs.List.{slice_split}
 use Rattle.mc_text.specs.Lines.{has_bytes, is_line_end, lines, without_empty_last}
 use Rattle.mc_text.proofs.Cuts.{some_pieces}
-use Rattle.mc_net.specs.Rules.{line_fault, passes_limit, text_limit}
+use Rattle.mc_net.specs.Rules.{line_fault, passes_limit}
 use Rattle.mc_net.specs.SoFar.{Declared}
 use Rattle.mc_net.specs.TextLaws.{FaultsOfTheFirstBytes, SaysTheWhole, first_bytes}
 use Rattle.mc_net.specs.Texts.{IsFault, at_line, at_end, unbuilt, Says, bytes_before, declared_by, fault_at}
 use Rattle.mc_net.proofs.Faults.{not_both, same_value}
+use Rattle.mc_net.specs.declared.limit.TheConstants.{TEXT_LIMIT}
 
 -- ---- how many bytes lines have
 
@@ -162,23 +163,23 @@ same_declared short long n same zero within = refl
 same_declared short long n same (suc k) within = rw (same k (omega arith), same_declared short long n same k (omega arith)) refl
 
 -- past the limit it doesn't matter how long a text is
-beyond : (total other before : ℕ) (d : Declared) (line : List ℕ) → nat_lt text_limit total ≡ true → nat_lt text_limit other ≡ true → line_fault total before d line ≡ line_fault other before d line
+beyond : (total other before : ℕ) (d : Declared) (line : List ℕ) → nat_lt TEXT_LIMIT total ≡ true → nat_lt TEXT_LIMIT other ≡ true → line_fault total before d line ≡ line_fault other before d line
 beyond total other before d line one two = rw (one, two) refl
 
 passing : (total before : ℕ) (d : Declared) (line : List ℕ) → passes_limit total before line ≡ true → line_fault total before d line ≡ Some 1
 passing total before d line passes = rw passes refl
 
-does_pass : (total before : ℕ) (line : List ℕ) → text_limit < total → before ≤ text_limit → text_limit ≤ before + length line → passes_limit total before line ≡ true
+does_pass : (total before : ℕ) (line : List ℕ) → TEXT_LIMIT < total → before ≤ TEXT_LIMIT → TEXT_LIMIT ≤ before + length line → passes_limit total before line ≡ true
 does_pass total before line large reached passed = grind arith
 
-module _ (short long : List ℕ) (small : text_limit < length short) (large : text_limit < length long) (at : IsPassed text_limit (lines short) (lines long)) where
+module _ (short long : List ℕ) (small : TEXT_LIMIT < length short) (large : TEXT_LIMIT < length long) (at : IsPassed TEXT_LIMIT (lines short) (lines long)) where
   same_lines : (k : ℕ) → k < length at.before → slice_index_or (lines short) k [] ≡ slice_index_or (lines long) k []
   same_lines k earlier = rw (at.short_is, at.long_is, get_or_append_left at.before (at.line ∷ at.after) [] k earlier, get_or_append_left at.before ((at.line ++ at.more) ∷ at.others) [] k earlier) refl
 
   same_fault : (k : ℕ) → k < length at.before → fault_at (length short) (lines short) k ≡ fault_at (length long) (lines long) k
   same_fault k earlier =
-      let one : nat_lt text_limit (length short) ≡ true = grind arith in
-      let two : nat_lt text_limit (length long) ≡ true = grind arith in
+      let one : nat_lt TEXT_LIMIT (length short) ≡ true = grind arith in
+      let two : nat_lt TEXT_LIMIT (length long) ≡ true = grind arith in
       rw (same_lines k earlier, same_bytes (lines short) (lines long) (length at.before) same_lines k (omega arith), same_declared (lines short) (lines long) (length at.before) same_lines k (omega arith))
       (beyond (length short) (length long) (bytes_before (lines long) k) (declared_by (lines long) k) (slice_index_or (lines long) k []) one two)
 
@@ -193,7 +194,7 @@ module _ (short long : List ℕ) (small : text_limit < length short) (large : te
       let counted : bytes_before (lines long) (length at.before) ≡ extent at.before = rw at.long_is (bytes_before-append at.before ((at.line ++ at.more) ∷ at.others)) in
       let here : slice_index_or (lines long) (length at.before) [] ≡ at.line ++ at.more = rw at.long_is (get_or_at at.before (at.line ++ at.more) at.others [] (length at.before) refl) in
       let passed = at.passed in
-      let whole : text_limit ≤ extent at.before + length (at.line ++ at.more) = omega (arith, length-append at.line at.more) in
+      let whole : TEXT_LIMIT ≤ extent at.before + length (at.line ++ at.more) = omega (arith, length-append at.line at.more) in
       rw (counted, here) (passing (length long) (extent at.before) (declared_by (lines long) (length at.before)) (at.line ++ at.more) (does_pass (length long) (extent at.before) (at.line ++ at.more) large at.reached whole))
 
   short_within : length at.before < length (lines short)
@@ -228,23 +229,23 @@ module _ (short long : List ℕ) (small : text_limit < length short) (large : te
 
 -- ---- first bytes
 
-module _ (text : List ℕ) (large : text_limit + 1 < length text) where
-  first_are_large : text_limit < length (first_bytes text)
-  first_are_large = let taken : length (first_bytes text) ≡ text_limit + 1 = length-take-le (text_limit + 1) text (omega arith) in omega arith
+module _ (text : List ℕ) (large : TEXT_LIMIT + 1 < length text) where
+  first_are_large : TEXT_LIMIT < length (first_bytes text)
+  first_are_large = let taken : length (first_bytes text) ≡ TEXT_LIMIT + 1 = length-take-le (TEXT_LIMIT + 1) text (omega arith) in omega arith
 
-  passed_there : IsPassed text_limit (lines (first_bytes text)) (lines text)
-  passed_there = passed_at is_line_end text_limit text (omega arith)
+  passed_there : IsPassed TEXT_LIMIT (lines (first_bytes text)) (lines text)
+  passed_there = passed_at is_line_end TEXT_LIMIT text (omega arith)
 
 pub faults_of_the_first_bytes : FaultsOfTheFirstBytes
-faults_of_the_first_bytes text number line fault = by (cases_lt (text_limit + 1) (length text))
+faults_of_the_first_bytes text number line fault = by (cases_lt (TEXT_LIMIT + 1) (length text))
   where
-    by : (text_limit + 1 < length text) ⊎ (length text ≤ text_limit + 1) → IsFault text number line
+    by : (TEXT_LIMIT + 1 < length text) ⊎ (length text ≤ TEXT_LIMIT + 1) → IsFault text number line
     by (inl large) = same_for_long (first_bytes text) text (first_are_large text large) (omega arith) (passed_there text large) number line fault
-    by (inr few) = subst (λ (bytes : List ℕ). IsFault bytes number line) (take_all (text_limit + 1) text few) fault
+    by (inr few) = subst (λ (bytes : List ℕ). IsFault bytes number line) (take_all (TEXT_LIMIT + 1) text few) fault
 
 pub says_the_whole : SaysTheWhole
-says_the_whole text d says = by (cases_lt (text_limit + 1) (length text))
+says_the_whole text d says = by (cases_lt (TEXT_LIMIT + 1) (length text))
   where
-    by : (text_limit + 1 < length text) ⊎ (length text ≤ text_limit + 1) → first_bytes text ≡ text
+    by : (TEXT_LIMIT + 1 < length text) ⊎ (length text ≤ TEXT_LIMIT + 1) → first_bytes text ≡ text
     by (inl large) = absurd (says_nothing (first_bytes text) text (first_are_large text large) (omega arith) (passed_there text large) d says)
-    by (inr few) = take_all (text_limit + 1) text few
+    by (inr few) = take_all (TEXT_LIMIT + 1) text few

@@ -1,25 +1,25 @@
 -- Names and shapes of boxes go on to fit while boxes and slots are added.
 use Rattle.std.proofs.Common.{◌≡◌, ◌⊎◌, inl, inr, ℕ, ◌<◌, List, [], ◌∷◌, ◌++◌, length, refl, arith}
 use Rattle.std.proofs.lemmas.Grind.{common_steps}
-use Rattle.mc_text.specs.NameLists.{NameLists, slots_of, with_box}
+use Rattle.mc_text.specs.NameLists.{NameLists, slot_names, with_box_name}
 use Rattle.mc_box.specs.BoxShapes.{BoxShapeState, shape_of}
 use Rattle.mc_box.specs.declared.event.Kind.{Kind}
 use Rattle.mc_script.specs.Places.{Fits}
 use Rattle.mc_net.specs.Meaning.{new_shape}
 
-pub fits_box : (names : NameLists) (shape : List BoxShapeState) (name : List ℕ) (kind : Kind) → length names.slots ≡ length names.boxes → Fits names shape → Fits (with_box names name) (shape ++ new_shape kind ∷ [])
+pub fits_box : (names : NameLists) (shape : List BoxShapeState) (name : List ℕ) (kind : Kind) → length names.slots ≡ length names.boxes → Fits names shape → Fits (with_box_name names name) (shape ++ new_shape kind ∷ [])
 fits_box names shape name kind listed fits = record {
   boxes = grind (arith, common_steps, fits.boxes);
   slots = λ who within. by who (grind (arith, common_steps));
 }
   where
-    by : (who : ℕ) → (who < length names.boxes) ⊎ (who ≡ length names.boxes) → length (shape_of (shape ++ new_shape kind ∷ []) who).media ≡ length (slots_of (with_box names name) who)
+    by : (who : ℕ) → (who < length names.boxes) ⊎ (who ≡ length names.boxes) → length (shape_of (shape ++ new_shape kind ∷ []) who).media ≡ length (slot_names (with_box_name names name) who)
     by who (inl earlier) =
         let old = fits.slots who earlier in
         let same_shape : shape_of (shape ++ new_shape kind ∷ []) who ≡ shape_of shape who = grind (arith, common_steps, fits.boxes) in
-        let same_slots : slots_of (with_box names name) who ≡ slots_of names who = grind (arith, common_steps) in
+        let same_slots : slot_names (with_box_name names name) who ≡ slot_names names who = grind (arith, common_steps) in
         rw (same_shape, same_slots) old
     by who (inr last) =
         let new : shape_of (shape ++ new_shape kind ∷ []) who ≡ new_shape kind = grind (arith, common_steps, fits.boxes) in
-        let none : slots_of (with_box names name) who ≡ [] = grind (arith, common_steps) in
+        let none : slot_names (with_box_name names name) who ≡ [] = grind (arith, common_steps) in
         rw (new, none) refl

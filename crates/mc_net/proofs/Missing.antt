@@ -2,7 +2,7 @@
 use Rattle.std.proofs.Common.{◌≡◌, false, ℕ, List, [], ◌∷◌, Option, Some, None, refl, arith}
 use Rattle.std.specs.List.{slice_get}
 use Rattle.mc_text.specs.NameLists.{NameLists}
-use Rattle.mc_script.specs.Places.{box_at, lacks}
+use Rattle.mc_script.specs.Places.{box_named, lacks}
 
 pub no_fifth_without_second : (words : List (List ℕ)) → slice_get words 1 ≡ None → slice_get words 4 ≡ None
 no_fifth_without_second [] missing = refl
@@ -23,6 +23,6 @@ no_fifth_without_fourth (a ∷ b ∷ c ∷ []) missing = refl
 no_fifth_without_fourth (a ∷ b ∷ c ∷ d ∷ others) missing = absurd cc
 
 -- a place in which no box is known and none is lacking has no word
-pub no_word_without_box : (names : NameLists) (word : Option (List ℕ)) → lacks names.boxes word ≡ false → box_at names word ≡ None → word ≡ None
+pub no_word_without_box : (names : NameLists) (word : Option (List ℕ)) → lacks names.boxes word ≡ false → box_named names word ≡ None → word ≡ None
 no_word_without_box names None lacking none = refl
 no_word_without_box names (Some word) lacking none = absurd (grind arith)

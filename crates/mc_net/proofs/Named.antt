@@ -6,7 +6,7 @@ use Rattle.std.specs.List.{All, list_all, position_or_len, slice_get}
 use Rattle.std.specs.Option.{is_none, option_and_then, option_map, unwrap_or}
 use Rattle.std.specs.Str.{bytes_eq}
 use Rattle.mc_slot.specs.declared.Goal.{Goal}
-use Rattle.mc_text.specs.NameLists.{NameLists, no_names, place_of, slots_of, with_box, with_codec, with_slot}
+use Rattle.mc_text.specs.NameLists.{NameLists, no_names, place_of, slot_names, with_box_name, with_codec_name, with_slot_name}
 use Rattle.mc_box.specs.BoxShapes.{BoxShapeState, is_device, is_feature, no_shape, shape_of}
 use Rattle.mc_box.specs.declared.event.Change.TheVariants.{End as NewEnd, Link as NewLink}
 use Rattle.mc_box.specs.declared.event.Event.{Event}
@@ -14,9 +14,9 @@ use Rattle.mc_box.specs.declared.event.Event.TheVariants.{Set}
 use Rattle.mc_box.specs.declared.event.Kind.{Kind}
 use Rattle.mc_box.specs.declared.event.Kind.TheVariants.{Device, Feature}
 use Rattle.mc_script.specs.Meaning.{at_slot, command_by}
-use Rattle.mc_script.specs.Places.{box_at, meant, slot_at}
+use Rattle.mc_script.specs.Places.{box_named, meant, slot_named}
 use Rattle.mc_script.specs.Printed.{IsSlot}
-use Rattle.mc_script.specs.Rules.{goal_of, has_no_program, is_no_feature}
+use Rattle.mc_script.specs.Rules.{spelt_goal, has_no_program, is_no_feature}
 use Rattle.mc_script.specs.declared.command.Command.{Command}
 use Rattle.mc_script.specs.declared.command.Command.TheVariants.{Stimulus, Settle}
 use Rattle.mc_script.specs.declared.keyword.CommandWord.TheVariants as command
@@ -61,11 +61,11 @@ none_set names commands none = subst (λ (all : List Command). All (SetsOrSettle
 
 module _ (names : NameLists) (media : List BoxMedia) (commands : List Command) (s next : Section) where
   -- a codec more, before any command
-  pub known_with_codec : (name : List ℕ) → AreKnown names media commands s → commands ≡ [] → AreKnown (with_codec names name) media commands next
+  pub known_with_codec : (name : List ℕ) → AreKnown names media commands s → commands ≡ [] → AreKnown (with_codec_name names name) media commands next
   known_with_codec name known none = record {
     listed = known.listed;
-    codecs = All-weaker (HasCodecs names) (HasCodecs (with_codec names name)) (λ of_box has. All-weaker (λ codec. codec < length names.codecs) (λ codec. codec < length (names.codecs ++ name ∷ [])) (λ codec below. one_more codec below) of_box.codecs has) media known.codecs;
-    set = none_set (with_codec names name) commands none;
+    codecs = All-weaker (HasCodecs names) (HasCodecs (with_codec_name names name)) (λ of_box has. All-weaker (λ codec. codec < length names.codecs) (λ codec. codec < length (names.codecs ++ name ∷ [])) (λ codec below. one_more codec below) of_box.codecs has) media known.codecs;
+    set = none_set (with_codec_name names name) commands none;
     last = inl none;
   }
     where
@@ -73,20 +73,20 @@ module _ (names : NameLists) (media : List BoxMedia) (commands : List Command) (
       one_more codec below = omega (arith, length-append names.codecs (name ∷ []))
 
   -- a box more, before any command
-  pub known_with_box : (name : List ℕ) (of_box : BoxMedia) → HasCodecs names of_box → AreKnown names media commands s → commands ≡ [] → AreKnown (with_box names name) (media ++ of_box ∷ []) commands next
+  pub known_with_box : (name : List ℕ) (of_box : BoxMedia) → HasCodecs names of_box → AreKnown names media commands s → commands ≡ [] → AreKnown (with_box_name names name) (media ++ of_box ∷ []) commands next
   known_with_box name of_box has known none = record {
     listed = let listed = known.listed in omega (arith, length-append names.slots ([] ∷ []), length-append names.boxes (name ∷ []));
     codecs = All-push (HasCodecs names) media of_box known.codecs has;
-    set = none_set (with_box names name) commands none;
+    set = none_set (with_box_name names name) commands none;
     last = inl none;
   }
 
   -- a slot more, before any command
-  pub known_with_slot : (who : ℕ) (name : List ℕ) → AreKnown names media commands s → commands ≡ [] → AreKnown (with_slot names who name) media commands next
+  pub known_with_slot : (who : ℕ) (name : List ℕ) → AreKnown names media commands s → commands ≡ [] → AreKnown (with_slot_name names who name) media commands next
   known_with_slot who name known none = record {
-    listed = let same : length (slice_set names.slots who (slots_of names who ++ name ∷ [])) ≡ length names.slots = grind (arith, common_steps) in same ∙ known.listed;
+    listed = let same : length (slice_set names.slots who (slot_names names who ++ name ∷ [])) ≡ length names.slots = grind (arith, common_steps) in same ∙ known.listed;
     codecs = known.codecs;
-    set = none_set (with_slot names who name) commands none;
+    set = none_set (with_slot_name names who name) commands none;
     last = inl none;
   }
 
@@ -152,34 +152,34 @@ record IsAt (names : NameLists) (words : List (List ℕ)) (means : ℕ → Optio
   who : ℕ
   local : ℕ
   event : Event
-  box : box_at names (slice_get words 0) ≡ Some who
-  slot : slot_at names (Some who) (slice_get words 1) ≡ Some local
+  box : box_named names (slice_get words 0) ≡ Some who
+  slot : slot_named names (Some who) (slice_get words 1) ≡ Some local
   meant : means local ≡ Some event
   is : it ≡ Stimulus (record { who = who; event = event })
 
 at_slot_is : (names : NameLists) (words : List (List ℕ)) (means : ℕ → Option Event) (it : Command) → at_slot names words means ≡ Some it → IsAt names words means it
-at_slot_is names words means it found = by (box_at names (slice_get words 0)) refl
+at_slot_is names words means it found = by (box_named names (slice_get words 0)) refl
   where
-    by_event : (who : ℕ) → box_at names (slice_get words 0) ≡ Some who → (local : ℕ) → slot_at names (Some who) (slice_get words 1) ≡ Some local → (event : Option Event) → means local ≡ event → IsAt names words means it
+    by_event : (who : ℕ) → box_named names (slice_get words 0) ≡ Some who → (local : ℕ) → slot_named names (Some who) (slice_get words 1) ≡ Some local → (event : Option Event) → means local ≡ event → IsAt names words means it
     by_event who a local b None c = absurd (let none : None ≡ Some it = rw (a, b, c) at found in cc)
     by_event who a local b (Some event) c =
         let some : Some (Stimulus (record { who = who; event = event })) ≡ Some it = rw (a, b, c) at found in
         record { who = who; local = local; event = event; box = a; slot = b; meant = c; is = cc }
 
-    by_slot : (who : ℕ) → box_at names (slice_get words 0) ≡ Some who → (local : Option ℕ) → slot_at names (Some who) (slice_get words 1) ≡ local → IsAt names words means it
+    by_slot : (who : ℕ) → box_named names (slice_get words 0) ≡ Some who → (local : Option ℕ) → slot_named names (Some who) (slice_get words 1) ≡ local → IsAt names words means it
     by_slot who a None b = absurd (let none : None ≡ Some it = rw (a, b) at found in cc)
     by_slot who a (Some local) b = by_event who a local b (means local) refl
 
-    by : (who : Option ℕ) → box_at names (slice_get words 0) ≡ who → IsAt names words means it
+    by : (who : Option ℕ) → box_named names (slice_get words 0) ≡ who → IsAt names words means it
     by None a = absurd (let none : None ≡ Some it = rw a at found in cc)
-    by (Some who) a = by_slot who a (slot_at names (Some who) (slice_get words 1)) refl
+    by (Some who) a = by_slot who a (slot_named names (Some who) (slice_get words 1)) refl
 
 -- a `set` line sets the goal of a slot that has a name
 pub set_is_named : (names : NameLists) (words : List (List ℕ)) (it : Command) → command_by names (Some command.Set) words ≡ Some it → SetsOrSettles names it
 set_is_named names words it found =
-    let at = at_slot_is names words (λ local. option_map (λ (goal : Goal). Set (NewEnd local goal)) (meant goal_of (slice_get words 2))) it found in
-    let made = mapped (λ (goal : Goal). Set (NewEnd at.local goal)) (meant goal_of (slice_get words 2)) at.event at.meant in
-    rw (at.is, made.2) (named_within names.boxes (slice_get words 0) at.who at.box, named_within (slots_of names at.who) (slice_get words 1) at.local at.slot)
+    let at = at_slot_is names words (λ local. option_map (λ (goal : Goal). Set (NewEnd local goal)) (meant spelt_goal (slice_get words 2))) it found in
+    let made = mapped (λ (goal : Goal). Set (NewEnd at.local goal)) (meant spelt_goal (slice_get words 2)) at.event at.meant in
+    rw (at.is, made.2) (named_within names.boxes (slice_get words 0) at.who at.box, named_within (slot_names names at.who) (slice_get words 1) at.local at.slot)
 
 device_is_no_feature : (kind : Kind) → is_device kind ≡ true → not (is_feature kind) ≡ true
 device_is_no_feature Device is = refl
@@ -187,9 +187,9 @@ device_is_no_feature Feature is = absurd cc
 
 -- devices have no `link` line
 pub link_is_none : (names : NameLists) (shape : List BoxShapeState) (words : List (List ℕ)) (it : Command) → list_all (λ box. is_device box.kind) shape ≡ true → length names.boxes ≡ length shape
-    → is_no_feature shape (box_at names (slice_get words 0)) ≡ false → command_by names (Some command.Link) words ≡ Some it → ⊥
+    → is_no_feature shape (box_named names (slice_get words 0)) ≡ false → command_by names (Some command.Link) words ≡ Some it → ⊥
 link_is_none names shape words it devices named feature found =
-    let at = at_slot_is names words (λ local. option_map (λ (other : ℕ). Set (NewLink local other)) (slot_at names (box_at names (slice_get words 0)) (slice_get words 2))) it found in
+    let at = at_slot_is names words (λ local. option_map (λ (other : ℕ). Set (NewLink local other)) (slot_named names (box_named names (slice_get words 0)) (slice_get words 2))) it found in
     let within : at.who < length shape = rw (← named) (named_within names.boxes (slice_get words 0) at.who at.box) in
     let device : is_device (shape_of shape at.who).kind ≡ true = passes_at (λ (box : BoxShapeState). is_device box.kind) shape at.who no_shape devices within in
     let one : not (is_feature (shape_of shape at.who).kind) ≡ false = rw at.box at feature in
@@ -198,10 +198,10 @@ link_is_none names shape words it devices named feature found =
 
 -- nor have boxes without programs a `tell` line
 pub tell_is_none : (names : NameLists) (shape : List BoxShapeState) (words : List (List ℕ)) (it : Command) → list_all (λ box. not box.programmed) shape ≡ true → length names.boxes ≡ length shape
-    → has_no_program shape (box_at names (slice_get words 0)) ≡ false → command_by names (Some command.Tell) words ≡ Some it → ⊥
-tell_is_none names shape words it plain named program found = by (box_at names (slice_get words 0)) refl
+    → has_no_program shape (box_named names (slice_get words 0)) ≡ false → command_by names (Some command.Tell) words ≡ Some it → ⊥
+tell_is_none names shape words it plain named program found = by (box_named names (slice_get words 0)) refl
   where
-    by : (who : Option ℕ) → box_at names (slice_get words 0) ≡ who → ⊥
+    by : (who : Option ℕ) → box_named names (slice_get words 0) ≡ who → ⊥
     by None a = let none : None ≡ Some it = rw a at found in cc
     by (Some who) a =
         let within : who < length shape = rw (← named) (named_within names.boxes (slice_get words 0) who a) in

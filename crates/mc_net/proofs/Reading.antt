@@ -3,10 +3,12 @@ use Rattle.std.proofs.Common.{◌≡◌, ◌⊎◌, inl, inr, ℕ, zero, suc, �
 use Rattle.std.proofs.lemmas.Bool.{cases_lt}
 use Rattle.mc_text.specs.Lines.{lines, words}
 use Rattle.mc_script.specs.Rules.{byte_rules, least_broken}
+use Rattle.mc_script.specs.declared.rule.TheConstants.{UNBUILT}
 use Rattle.mc_net.specs.Meaning.{line_after}
-use Rattle.mc_net.specs.Rules.{end_fault, is_skipped, line_fault, line_words_rules, passes_limit, text_limit}
+use Rattle.mc_net.specs.Rules.{end_fault, is_skipped, line_fault, line_words_rules, passes_limit}
 use Rattle.mc_net.specs.SoFar.{Declared}
 use Rattle.mc_net.specs.Texts.{AreSound, IsFault, at_line, at_end, unbuilt, Says, after_line, bytes_before, declared_after, declared_by, fault_at, first_unbuilt, with_unbuilt}
+use Rattle.mc_net.specs.declared.limit.TheConstants.{TEXT_LIMIT}
 
 -- so many lines were read, and broke no rule; these are left. The next line has the number `number`, and `before` bytes stand before it
 pub record HasRead (text : List ℕ) (number before : ℕ) (d : Declared) (left : List (List ℕ)) : Type 0 where
@@ -18,8 +20,8 @@ pub record HasRead (text : List ℕ) (number before : ℕ) (d : Declared) (left 
   pub so_far : count ≤ length (lines text)
   pub sound : AreSound (length text) (lines text) count
   pub few : number ≤ before + 1
-  pub within : before ≤ text_limit + 1
-  pub short : text_limit < length text → before ≤ text_limit
+  pub within : before ≤ TEXT_LIMIT + 1
+  pub short : TEXT_LIMIT < length text → before ≤ TEXT_LIMIT
 
 -- nothing was read
 pub none_read : (text : List ℕ) (d : Declared) → d ≡ declared_by (lines text) 0 → HasRead text 1 0 d (lines text)
@@ -89,15 +91,15 @@ not_past : (total before : ℕ) (d : Declared) (line : List ℕ) → line_fault 
 not_past total before d line kept = first_kept 1 (passes_limit total before line) (byte_rules line ++ line_words_rules (is_skipped (words line)) d (words line)) kept
 
 -- a line that doesn't pass the limit leaves less than the limit behind it
-short_still : (total before line : ℕ) → (nat_lt text_limit total && nat_le before text_limit && nat_le text_limit (before + line)) ≡ false → text_limit < total → before ≤ text_limit → before + (line + 1) ≤ text_limit
+short_still : (total before line : ℕ) → (nat_lt TEXT_LIMIT total && nat_le before TEXT_LIMIT && nat_le TEXT_LIMIT (before + line)) ≡ false → TEXT_LIMIT < total → before ≤ TEXT_LIMIT → before + (line + 1) ≤ TEXT_LIMIT
 short_still total before line kept long short =
-    let below : before + line < text_limit = grind arith in
+    let below : before + line < TEXT_LIMIT = grind arith in
     omega arith
 
-at_most : (total next : ℕ) → next ≤ total + 1 → (text_limit < total → next ≤ text_limit) → next ≤ text_limit + 1
-at_most total next small long = by (cases_lt text_limit total)
+at_most : (total next : ℕ) → next ≤ total + 1 → (TEXT_LIMIT < total → next ≤ TEXT_LIMIT) → next ≤ TEXT_LIMIT + 1
+at_most total next small long = by (cases_lt TEXT_LIMIT total)
   where
-    by : (text_limit < total) ⊎ (total ≤ text_limit) → next ≤ text_limit + 1
+    by : (TEXT_LIMIT < total) ⊎ (total ≤ TEXT_LIMIT) → next ≤ TEXT_LIMIT + 1
     by (inl is) = let n = long is in omega arith
     by (inr few) = omega arith
 
@@ -126,10 +128,10 @@ one_more text number before next d after line others read sound means behind sma
         let here : read.count ≡ k = omega arith in
         subst (λ (n : ℕ). fault_at (length text) (lines text) n ≡ None) here (fault_here text number before d line others read None sound)
 
-    bounds : (next ≤ text_limit + 1) × (text_limit < length text → next ≤ text_limit)
+    bounds : (next ≤ TEXT_LIMIT + 1) × (TEXT_LIMIT < length text → next ≤ TEXT_LIMIT)
     bounds =
         let kept : passes_limit (length text) before line ≡ false = not_past (length text) before d line sound in
-        let long : text_limit < length text → next ≤ text_limit = λ is. rw behind (short_still (length text) before (length line) kept is (read.short is)) in
+        let long : TEXT_LIMIT < length text → next ≤ TEXT_LIMIT = λ is. rw behind (short_still (length text) before (length line) kept is (read.short is)) in
         (at_most (length text) next small long, long)
 
 -- the line breaks a rule
@@ -149,7 +151,7 @@ refused_at_end text number before d broken read found =
     (at_end (subst (λ (n : ℕ). AreSound (length text) (lines text) n) all read.sound) (rw (← all, ← read.declared) found))
 
 -- a line can't be run yet
-pub refused_unbuilt : (text : List ℕ) (number before : ℕ) (d : Declared) (line : ℕ) → HasRead text number before d [] → end_fault d ≡ None → d.unbuilt ≡ Some line → IsFault text 19 line
+pub refused_unbuilt : (text : List ℕ) (number before : ℕ) (d : Declared) (line : ℕ) → HasRead text number before d [] → end_fault d ≡ None → d.unbuilt ≡ Some line → IsFault text UNBUILT line
 refused_unbuilt text number before d line read ended found =
     let all : read.count ≡ length (lines text) = all_read (lines text) read.count read.rest read.so_far in
     unbuilt (subst (λ (n : ℕ). AreSound (length text) (lines text) n) all read.sound) (rw (← all, ← read.declared) ended) (rw (← all, ← read.declared) found)

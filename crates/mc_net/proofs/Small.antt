@@ -9,20 +9,20 @@ use Rattle.std.specs.List.{count_by, filter, list_all, list_any, slice_get}
 use Rattle.std.specs.Option.{is_some, option_and_then, unwrap_or}
 use Rattle.mc_signal.specs.declared.Medium.{Medium}
 use Rattle.mc_text.specs.Lines.{lines, words}
-use Rattle.mc_text.specs.NameLists.{NameLists, slots_of, with_box, with_codec, with_slot}
+use Rattle.mc_text.specs.NameLists.{NameLists, slot_names, with_box_name, with_codec_name, with_slot_name}
 use Rattle.mc_box.specs.BoxShapes.{BoxShapeState, is_device, no_shape}
 use Rattle.mc_model.specs.Worlds.{ChannelState}
 use Rattle.mc_box.specs.declared.event.Kind.TheVariants.{Device}
 use Rattle.mc_script.specs.Meaning.{command_by}
-use Rattle.mc_script.specs.Places.{are_same, box_at, is_misspelt, meant}
+use Rattle.mc_script.specs.Places.{are_same, box_named, is_misspelt, meant}
 use Rattle.mc_script.specs.Rules.{byte_rules, has_no_program, is_no_feature, is_plain, least_broken}
 use Rattle.mc_script.specs.declared.command.Command.{Command}
 use Rattle.mc_script.specs.declared.command.Command.TheVariants.{Settle}
 use Rattle.mc_script.specs.declared.keyword.CommandWord.{CommandWord}
 use Rattle.mc_script.specs.declared.keyword.CommandWord.TheVariants as command
-use Rattle.mc_net.specs.Meaning.{after_by, channel_after, codec_after, command_after, device_after, joined, line_after, link_after, media_of, new_shape, unless_skipped, with_medium, with_new_box, words_after}
+use Rattle.mc_net.specs.Meaning.{after_by, channel_after, codec_after, command_after, device_after, with_joined, line_after, link_after, media_of, new_shape, unless_skipped, with_medium, with_new_box, words_after}
 use Rattle.mc_net.specs.Nets.{JoinsPair, first_channel}
-use Rattle.mc_net.specs.Rules.{channel_rules, codec_rules, codec_words, command_line_rules, device_rules, end_fault, end_rules, gives_version, is_late, is_skipped, keyword_of, line_fault, line_words_rules, link_line_rules, lists_undeclared, medium_of, open_block, passes_limit, rank, rules_by, words_rules}
+use Rattle.mc_net.specs.Rules.{channel_rules, codec_rules, codec_words, command_line_rules, device_rules, end_fault, end_rules, gives_version, is_late, is_skipped, keyword_of, line_fault, line_words_rules, link_line_rules, lists_undeclared, spelt_medium, open_block, passes_limit, rank, rules_by, words_rules}
 use Rattle.mc_net.specs.SoFar.{Declared, nothing}
 use Rattle.mc_net.specs.Texts.{AreSound, Says, bytes_before, declared_by, device_count, first_unbuilt, is_unbuilt, unbuilt_by, with_unbuilt}
 use Rattle.mc_net.specs.declared.section.Keyword.{Keyword}
@@ -49,7 +49,7 @@ pub record IsOnly (channels : List ChannelState) (boxes : ℕ) (slots : List (Li
 
 -- no channel and no slot, or one channel
 abbrev pub AreFew : List ChannelState → NameLists → Type 0
-AreFew channels names = ((channels ≡ []) × ((who : ℕ) → slots_of names who ≡ [])) ⊎ IsOnly channels (length names.boxes) names.slots
+AreFew channels names = ((channels ≡ []) × ((who : ℕ) → slot_names names who ≡ [])) ⊎ IsOnly channels (length names.boxes) names.slots
 
 pub record HasBegun (d : Declared) : Type 0 where
   pub commands : d.section ≡ section.Commands
@@ -159,7 +159,7 @@ no_commands d s small early late = by small.known.last
 codec_small : (d after : Declared) (words : List (List ℕ)) → IsSmall d → least_broken (codec_rules d words) ≡ None → codec_after d words ≡ Some after → IsSmall after
 codec_small d after words small kept means =
     let late : is_late d section.Codecs ≡ false = or_first (is_late d section.Codecs) (is_misspelt (slice_get words 0)) (kept_at (codec_rules d words) 0 (5, is_late d section.Codecs || is_misspelt (slice_get words 0)) kept refl) in
-    let m = mapped (λ name. record d { section = section.Codecs; names = with_codec d.names name }) (slice_get words 0) after means in
+    let m = mapped (λ name. record d { section = section.Codecs; names = with_codec_name d.names name }) (slice_get words 0) after means in
     subst (λ (x : Declared). IsSmall x) (sym m.2) (record {
       devices = small.devices;
       few = small.few;
@@ -172,7 +172,7 @@ codec_small d after words small kept means =
       begun = λ begun. absurd (not_late d section.Codecs small refl late begun);
     })
 
-few_with_box : (channels : List ChannelState) (names : NameLists) (name : List ℕ) → AreFew channels names → AreFew channels (with_box names name)
+few_with_box : (channels : List ChannelState) (names : NameLists) (name : List ℕ) → AreFew channels names → AreFew channels (with_box_name names name)
 few_with_box channels names name (inl none) = inl (none.0, λ who. same_before names.slots who ∙ none.1 who)
 few_with_box channels names name (inr only) = inr (record {
   medium = only.medium;
@@ -217,22 +217,22 @@ record Joins (d after : Declared) (words : List (List ℕ)) : Type 0 where
   slot : List ℕ
   to : ℕ
   far_slot : List ℕ
-  near : box_at d.names (slice_get words 1) ≡ Some from
-  far : box_at d.names (slice_get words 3) ≡ Some to
-  is : after ≡ joined d medium from slot to far_slot
+  near : box_named d.names (slice_get words 1) ≡ Some from
+  far : box_named d.names (slice_get words 3) ≡ Some to
+  is : after ≡ with_joined d medium from slot to far_slot
 
 channel_joins : (d after : Declared) (words : List (List ℕ)) → channel_after d words ≡ Some after → Joins d after words
-channel_joins d after words means = by (meant medium_of (slice_get words 0)) refl (box_at d.names (slice_get words 1)) refl (slice_get words 2) refl (box_at d.names (slice_get words 3)) refl (slice_get words 4) refl
+channel_joins d after words means = by (meant spelt_medium (slice_get words 0)) refl (box_named d.names (slice_get words 1)) refl (slice_get words 2) refl (box_named d.names (slice_get words 3)) refl (slice_get words 4) refl
   where
-    by : (medium : Option Medium) → meant medium_of (slice_get words 0) ≡ medium → (from : Option ℕ) → box_at d.names (slice_get words 1) ≡ from → (slot : Option (List ℕ)) → slice_get words 2 ≡ slot
-        → (to : Option ℕ) → box_at d.names (slice_get words 3) ≡ to → (far_slot : Option (List ℕ)) → slice_get words 4 ≡ far_slot → Joins d after words
+    by : (medium : Option Medium) → meant spelt_medium (slice_get words 0) ≡ medium → (from : Option ℕ) → box_named d.names (slice_get words 1) ≡ from → (slot : Option (List ℕ)) → slice_get words 2 ≡ slot
+        → (to : Option ℕ) → box_named d.names (slice_get words 3) ≡ to → (far_slot : Option (List ℕ)) → slice_get words 4 ≡ far_slot → Joins d after words
     by None a from b slot c to e far_slot f = absurd (let none : None ≡ Some after = rw a at means in cc)
     by (Some medium) a None b slot c to e far_slot f = absurd (let none : None ≡ Some after = rw (a, b) at means in cc)
     by (Some medium) a (Some from) b None c to e far_slot f = absurd (let none : None ≡ Some after = rw (a, b, c) at means in cc)
     by (Some medium) a (Some from) b (Some slot) c None e far_slot f = absurd (let none : None ≡ Some after = rw (a, b, c, e) at means in cc)
     by (Some medium) a (Some from) b (Some slot) c (Some to) e None f = absurd (let none : None ≡ Some after = rw (a, b, c, e, f) at means in cc)
     by (Some medium) a (Some from) b (Some slot) c (Some to) e (Some far_slot) f =
-        let some : Some (joined d medium from slot to far_slot) ≡ Some after = rw (a, b, c, e, f) at means in
+        let some : Some (with_joined d medium from slot to far_slot) ≡ Some after = rw (a, b, c, e, f) at means in
         record { medium = medium; from = from; slot = slot; to = to; far_slot = far_slot; near = b; far = e; is = cc }
 
 -- one more slot leaves the boxes as many as they were, and all of them devices
@@ -262,7 +262,7 @@ channel_small d after words small kept built means =
     let j = channel_joins d after words means in
     let all = all_kept (channel_rules d words) kept in
     let late : is_late d section.Channels ≡ false = grind arith in
-    let differ : are_same (box_at d.names (slice_get words 1)) (box_at d.names (slice_get words 3)) ≡ false = grind arith in
+    let differ : are_same (box_named d.names (slice_get words 1)) (box_named d.names (slice_get words 3)) ≡ false = grind arith in
     let other : are_same (Some j.from) (Some j.to) ≡ false = rw (j.near, j.far) at differ in
     let none : length d.channels ≡ 0 = grind arith in
     let unset = no_commands d section.Channels small refl late in
@@ -274,13 +274,13 @@ channel_small d after words small kept built means =
       joined = inr (first_joined j.medium j.from j.slot j.to j.far_slot (named_within d.names.boxes (slice_get words 1) j.from j.near) (named_within d.names.boxes (slice_get words 3) j.to j.far) other none small.joined);
       no_programs = small.no_programs;
       plain = plain_with_medium (with_medium d.shape j.from j.medium) j.to j.medium (plain_with_medium d.shape j.from j.medium small.plain);
-      known = known_with_slot (with_slot d.names j.from j.slot) d.media d.commands section.Channels section.Channels j.to j.far_slot (known_with_slot d.names d.media d.commands d.section section.Channels j.from j.slot small.known unset) unset;
+      known = known_with_slot (with_slot_name d.names j.from j.slot) d.media d.commands section.Channels section.Channels j.to j.far_slot (known_with_slot d.names d.media d.commands d.section section.Channels j.from j.slot small.known unset) unset;
       begun = λ begun. absurd (not_late d section.Channels small refl late begun);
     })
   where
     first_joined : (medium : Medium) (from : ℕ) (slot : List ℕ) (to : ℕ) (far_slot : List ℕ) → from < length d.names.boxes → to < length d.names.boxes → are_same (Some from) (Some to) ≡ false → length d.channels ≡ 0 → AreFew d.channels d.names
-        → IsOnly (d.channels ++ record { from = from; to = to; tunnels = record { medium = medium; from = length (slots_of d.names from); to = length (slots_of d.names to) } ∷ [] } ∷ [])
-        (length d.names.boxes) (with_slot (with_slot d.names from slot) to far_slot).slots
+        → IsOnly (d.channels ++ record { from = from; to = to; tunnels = record { medium = medium; from = length (slot_names d.names from); to = length (slot_names d.names to) } ∷ [] } ∷ [])
+        (length d.names.boxes) (with_slot_name (with_slot_name d.names from slot) to far_slot).slots
     first_joined medium from slot to far_slot near far other none (inl empty) =
         let apart : from ≢ to = λ same. grind (arith, same) in
         record {
@@ -336,12 +336,12 @@ settle_small d after words small means = command_small d after command.Settle wo
 
 tell_small : (d after : Declared) (words : List (List ℕ)) → IsSmall d → least_broken (command_line_rules d command.Tell words) ≡ None → command_after d command.Tell words ≡ Some after → IsSmall after
 tell_small d after words small kept means =
-    let program : has_no_program d.shape (box_at d.names (slice_get words 0)) ≡ false = kept_at (command_line_rules d command.Tell words) 1 (5, has_no_program d.shape (box_at d.names (slice_get words 0))) kept refl in
+    let program : has_no_program d.shape (box_named d.names (slice_get words 0)) ≡ false = kept_at (command_line_rules d command.Tell words) 1 (5, has_no_program d.shape (box_named d.names (slice_get words 0))) kept refl in
     command_small d after command.Tell words small (λ it found. absurd (tell_is_none d.names d.shape words it small.plain small.named program found)) means
 
 command_link_small : (d after : Declared) (words : List (List ℕ)) → IsSmall d → least_broken (command_line_rules d command.Link words) ≡ None → command_after d command.Link words ≡ Some after → IsSmall after
 command_link_small d after words small kept means =
-    let feature : is_no_feature d.shape (box_at d.names (slice_get words 0)) ≡ false = kept_at (command_line_rules d command.Link words) 1 (5, is_no_feature d.shape (box_at d.names (slice_get words 0))) kept refl in
+    let feature : is_no_feature d.shape (box_named d.names (slice_get words 0)) ≡ false = kept_at (command_line_rules d command.Link words) 1 (5, is_no_feature d.shape (box_named d.names (slice_get words 0))) kept refl in
     command_small d after command.Link words small (λ it found. absurd (link_is_none d.names d.shape words it small.devices small.named feature found)) means
 
 -- no program is open
@@ -448,7 +448,7 @@ small_by total all (suc k) sound none = step (bytes_before all k) (declared_by a
 pub record HasPair (d : Declared) : Type 0 where
   pub two : length d.media ≡ 2
   pub boxes : length d.names.boxes ≡ 2
-  pub slots : (who : ℕ) → who < 2 → length (slots_of d.names who) ≡ 1
+  pub slots : (who : ℕ) → who < 2 → length (slot_names d.names who) ≡ 1
   pub known : AreKnown d.names d.media d.commands d.section
   pub joins : JoinsPair d.channels
 
@@ -492,7 +492,7 @@ says_pair text d says =
         record {
           two = small.listed ∙ has.two;
           boxes = boxes;
-          slots = λ who below. both_below_two (λ (k : ℕ). length (slots_of d.names k) ≡ 1) only.from only.to who near far only.apart below only.near_slot only.far_slot;
+          slots = λ who below. both_below_two (λ (k : ℕ). length (slot_names d.names k) ≡ 1) only.from only.to who near far only.apart below only.near_slot only.far_slot;
           known = small.known;
           joins = apart_below_two only.medium d.channels only.from only.to only.is near far only.apart;
         }

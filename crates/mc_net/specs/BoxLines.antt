@@ -3,7 +3,7 @@ use Rattle.std.specs.Prelude.{◌<◌, IsTrue, length}
 use Rattle.mc_signal.specs.Choice.{codecs_of}
 use Rattle.mc_text.specs.Spelling.{is_name}
 use Rattle.mc_box.specs.declared.event.Kind.TheVariants.{Device}
-use Rattle.mc_net.specs.Meaning.{joined, with_new_box}
+use Rattle.mc_net.specs.Meaning.{with_joined, with_new_box}
 use Rattle.mc_net.specs.SoFar.{Declared}
 use Rattle.mc_net.specs.SoFar as so_far
 use Rattle.mc_net.specs.declared.reader.BoxMedia.{BoxMedia}
@@ -19,7 +19,7 @@ device_seen d line = with_new_box d line.name.now Device (media_seen line.media)
 
 -- what is declared after a `chan` line
 abbrev pub channel_seen : Declared → ChannelLine → Declared
-channel_seen d line = joined d line.medium line.from line.slot.now line.to line.far_slot.now
+channel_seen d line = with_joined d line.medium line.from line.slot.now line.to line.far_slot.now
 
 -- both boxes are declared, and both slots are named
 pub record CanJoin (d : Declared) (line : ChannelLine) : Type 0 where

@@ -4,7 +4,7 @@ use Rattle.std.specs.List.{slice_get}
 use Rattle.std.specs.Option.{option_and_then, option_map, unwrap_or}
 use Rattle.mc_signal.specs.declared.Medium.{Medium}
 use Rattle.mc_text.specs.Lines.{words}
-use Rattle.mc_text.specs.NameLists.{NameLists, place_of, slots_of, with_box, with_codec, with_slot}
+use Rattle.mc_text.specs.NameLists.{NameLists, place_of, slot_names, with_box_name, with_codec_name, with_slot_name}
 use Rattle.mc_text.specs.Spelling.{number_of}
 use Rattle.mc_box.specs.BoxShapes.{BoxShapeState, shape_of}
 use Rattle.mc_model.specs.Worlds.{ChannelState}
@@ -12,12 +12,12 @@ use Rattle.mc_box.specs.declared.event.Kind.{Kind}
 use Rattle.mc_model.specs.declared.channel.Tunnel.{Tunnel}
 use Rattle.mc_box.specs.declared.event.Kind.TheVariants.{Device, Feature}
 use Rattle.mc_script.specs.Meaning.{command_by}
-use Rattle.mc_script.specs.Places.{box_at, meant}
+use Rattle.mc_script.specs.Places.{box_named, meant}
 use Rattle.mc_script.specs.declared.keyword.CommandWord.{CommandWord}
 use Rattle.mc_script.specs.declared.keyword.CommandWord.TheVariants as command
-use Rattle.mc_net.specs.Rules.{begins_digit, codec_words, is_skipped, keyword_of, medium_of, open_block}
+use Rattle.mc_net.specs.Rules.{begins_digit, codec_words, is_skipped, keyword_of, spelt_medium, open_block}
 use Rattle.mc_net.specs.Programs.{◌>>=◌, BlockState, block_goal_after, block_link_after, block_when_after, new_block, with_new_part}
-use Rattle.mc_net.specs.SoFar.{BoxMedia, Declared, no_media}
+use Rattle.mc_net.specs.SoFar.{BoxMedia, Declared, no_box_media}
 use Rattle.mc_net.specs.declared.section.Keyword.{Keyword}
 use Rattle.mc_net.specs.declared.section.Keyword.TheVariants as keyword
 use Rattle.mc_net.specs.declared.section.Section.{Section}
@@ -26,7 +26,7 @@ use Rattle.mc_net.specs.declared.section.Section.TheVariants as section
 -- ---- codecs, boxes, channels
 
 abbrev pub codec_after : Declared → List (List ℕ) → Option Declared
-codec_after d words = option_map (λ name. record d { section = section.Codecs; names = with_codec d.names name }) (slice_get words 0)
+codec_after d words = option_map (λ name. record d { section = section.Codecs; names = with_codec_name d.names name }) (slice_get words 0)
 
 -- a box as its line leaves it: without slots, without a program
 abbrev pub new_shape : Kind → BoxShapeState
@@ -36,7 +36,7 @@ new_shape kind = record { kind = kind; media = []; programmed = false }
 abbrev pub with_new_box : Declared → List ℕ → Kind → BoxMedia → Declared
 with_new_box d name kind media = record d {
   section = section.Boxes;
-  names = with_box d.names name;
+  names = with_box_name d.names name;
   shape = d.shape ++ new_shape kind ∷ [];
   media = d.media ++ media ∷ [];
 }
@@ -57,7 +57,7 @@ abbrev pub device_after : Declared → List (List ℕ) → Option Declared
 device_after d words = option_map (λ name. with_new_box d name Device (media_of d.names (drop 1 words))) (slice_get words 0)
 
 abbrev pub feature_after : Declared → List (List ℕ) → Option Declared
-feature_after d words = option_map (λ name. with_new_box d name Feature no_media) (slice_get words 0)
+feature_after d words = option_map (λ name. with_new_box d name Feature no_box_media) (slice_get words 0)
 
 -- a box has one more slot, of this medium
 abbrev pub with_medium : List BoxShapeState → ℕ → Medium → List BoxShapeState
@@ -65,27 +65,27 @@ with_medium shape who medium = slice_set shape who (record (shape_of shape who) 
 
 -- a box has one more slot, of this name and medium
 abbrev pub with_new_slot : Declared → ℕ → List ℕ → Medium → Declared
-with_new_slot d who name medium = record d { names = with_slot d.names who name; shape = with_medium d.shape who medium }
+with_new_slot d who name medium = record d { names = with_slot_name d.names who name; shape = with_medium d.shape who medium }
 
 -- a channel of one tunnel
 abbrev pub one_tunnel : ℕ → ℕ → Tunnel → ChannelState
 one_tunnel from to tunnel = record { from = from; to = to; tunnels = tunnel ∷ [] }
 
 -- a channel of one tunnel between a new slot of each of two boxes
-abbrev pub joined : Declared → Medium → ℕ → List ℕ → ℕ → List ℕ → Declared
-joined d medium from slot to far_slot = record (with_new_slot (with_new_slot d from slot medium) to far_slot medium) {
+abbrev pub with_joined : Declared → Medium → ℕ → List ℕ → ℕ → List ℕ → Declared
+with_joined d medium from slot to far_slot = record (with_new_slot (with_new_slot d from slot medium) to far_slot medium) {
   section = section.Channels;
-  channels = d.channels ++ one_tunnel from to (record { medium = medium; from = length (slots_of d.names from); to = length (slots_of d.names to) }) ∷ [];
+  channels = d.channels ++ one_tunnel from to (record { medium = medium; from = length (slot_names d.names from); to = length (slot_names d.names to) }) ∷ [];
 }
 
 abbrev pub channel_after : Declared → List (List ℕ) → Option Declared
 channel_after d words = do
-  medium ← meant medium_of (slice_get words 0)
-  from ← box_at d.names (slice_get words 1)
+  medium ← meant spelt_medium (slice_get words 0)
+  from ← box_named d.names (slice_get words 1)
   slot ← slice_get words 2
-  to ← box_at d.names (slice_get words 3)
+  to ← box_named d.names (slice_get words 3)
   far_slot ← slice_get words 4
-  Some (joined d medium from slot to far_slot)
+  Some (with_joined d medium from slot to far_slot)
 
 -- ---- programs
 
@@ -98,7 +98,7 @@ program_after d words = option_map (λ who. record d {
   section = section.Programs;
   shape = with_program d.shape who;
   blocks = d.blocks ++ new_block who (drop 1 words) ∷ [];
-}) (box_at d.names (slice_get words 0))
+}) (box_named d.names (slice_get words 0))
 
 -- the last program becomes another
 abbrev pub with_block : Declared → BlockState → Declared

@@ -5,7 +5,7 @@ use Rattle.mc_signal.specs.Choice.{codecs_of}
 use Rattle.mc_signal.specs.declared.Medium.{Medium}
 use Rattle.mc_signal.specs.declared.Medium.TheVariants.{Audio}
 use Rattle.mc_signal.specs.declared.codec_list.CodecList.{CodecList}
-use Rattle.mc_text.specs.NameLists.{NameLists, slots_of}
+use Rattle.mc_text.specs.NameLists.{NameLists, slot_names}
 use Rattle.mc_box.specs.Boxes.{BoxState, first_box, is_slot}
 use Rattle.mc_model.specs.Setups.{world_of_devices}
 use Rattle.mc_model.specs.Worlds.{ChannelState, WorldState, box_at}
@@ -38,8 +38,8 @@ batches_of [] = []
 batches_of (Stimulus turn ∷ commands) = before_next turn (batches_of commands)
 batches_of (Settle ∷ commands) = [] ∷ batches_of commands
 
-abbrev pub turns_of : Batch → List Turn
-turns_of batch = batch.turns.items
+abbrev pub batch_turns : Batch → List Turn
+batch_turns batch = batch.turns.items
 
 -- ---- the first world
 
@@ -57,12 +57,12 @@ one_device medium who initiator codecs =
     first_box Device who codecs codecs 1 (record { origin = if initiator then 0 else 1; medium = medium; initiator = initiator } ∷ [])
 
 -- the medium of a channel's first tunnel
-abbrev pub medium_of : ChannelState → Medium
-medium_of channel = (slice_index_or channel.tunnels 0 (record { medium = Audio; from = 0; to = 0 })).medium
+abbrev pub channel_medium : ChannelState → Medium
+channel_medium channel = (slice_index_or channel.tunnels 0 (record { medium = Audio; from = 0; to = 0 })).medium
 
 -- two devices with a slot each, the one on the side of the initiator of their channel
 abbrev pub two_devices : ChannelState → CodecList → CodecList → List BoxState
-two_devices channel one other = one_device (medium_of channel) 0 (channel.from == 0) one ∷ one_device (medium_of channel) 1 (channel.from == 1) other ∷ []
+two_devices channel one other = one_device (channel_medium channel) 0 (channel.from == 0) one ∷ one_device (channel_medium channel) 1 (channel.from == 1) other ∷ []
 
 abbrev pub lists_of : List BoxMedia → List CodecList
 lists_of media = map (λ it. it.codecs) media
@@ -72,7 +72,7 @@ pub record IsMadeOf (parts : Parts) (place : ℕ) (net : Net) : Type 0 where
   pub world : net.world ≡ world_of_devices parts.channels.items (lists_of parts.media.items)
   pub names : net.names ≡ parts.names
   pub shape : net.shape ≡ parts.shape
-  pub batches : map turns_of net.batches.items ≡ batches_of parts.commands.items
+  pub batches : map batch_turns net.batches.items ≡ batches_of parts.commands.items
   pub rest : net.rest ≡ place
 
 -- the first world of what was declared: its boxes are devices with the declared codecs, as lists of codecs
@@ -88,7 +88,7 @@ pub record DeclaresNet (text : List ℕ) (net : Net) : Type 0 where
   pub names : net.names ≡ declared.names
   pub shape : net.shape ≡ shapes declared
   pub world : IsFirstWorld declared net.world
-  pub batches : map turns_of net.batches.items ≡ batches_of declared.commands
+  pub batches : map batch_turns net.batches.items ≡ batches_of declared.commands
   pub rest : net.rest ≡ length text
 
 -- ---- what every such network has
@@ -96,7 +96,7 @@ pub record DeclaresNet (text : List ℕ) (net : Net) : Type 0 where
 -- all of a world has names: its boxes, their slots, and the codecs that they receive
 pub record NamesAll (names : NameLists) (world : WorldState) : Type 0 where
   pub boxes : length names.boxes ≡ length world.boxes
-  pub slots : (who : ℕ) → who < length world.boxes → length (slots_of names who) ≡ length (box_at world who).slots
+  pub slots : (who : ℕ) → who < length world.boxes → length (slot_names names who) ≡ length (box_at world who).slots
   pub codecs : (who : ℕ) → All (λ codec. codec < length names.codecs) (codecs_of (box_at world who).receives)
 
 -- the event makes a slot of the box an end with some goal

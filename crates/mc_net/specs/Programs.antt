@@ -8,16 +8,19 @@ use Rattle.mc_slot.specs.declared.SlotGoal.{SlotGoal}
 use Rattle.mc_slot.specs.declared.SlotGoal.TheVariants.{End, Link}
 use Rattle.mc_slot.specs.declared.State.{State}
 use Rattle.mc_slot.specs.declared.State.TheVariants.{Closed, Opening, Opened, Flowing, Closing}
-use Rattle.mc_text.specs.NameLists.{NameLists, place_of, slots_of, with_told}
+use Rattle.mc_text.specs.NameLists.{NameLists, place_of, slot_names, with_told_word}
 use Rattle.mc_text.specs.Spelling.{is_name, is_spelt}
+use Rattle.mc_text.specs.declared.limit.TheConstants.{TOLD_LIMIT}
 use Rattle.mc_box.specs.BoxShapes.{BoxShapeState, shape_of}
-use Rattle.mc_script.specs.Places.{are_same, box_at, is_misspelt, is_no, is_overlong, lacks, meant, slot_at}
-use Rattle.mc_script.specs.Rules.{differ_in_medium, goal_of, is_no_feature, least_broken}
+use Rattle.mc_script.specs.Places.{are_same, box_named, is_misspelt, is_no, is_overlong, lacks, meant, slot_named}
+use Rattle.mc_script.specs.Rules.{differ_in_medium, spelt_goal, is_no_feature, least_broken}
+use Rattle.mc_script.specs.declared.rule.TheConstants.{EXTRA_WORD, GIVEN_TWICE, LIMIT_PASSED, MISSING_WORD, NAME_TOO_LONG, NO_SUCH_SLOT, SAME_SLOT, TWO_MEDIA, UNDECLARED, UNFINISHED, WRONG_WORD}
 use Rattle.mc_net.specs.WordLists.{has_repeat}
 use Rattle.mc_net.specs.declared.part.Guard.TheVariants.{SlotIs, Told}
 use Rattle.mc_net.specs.declared.part.Transition.{Transition}
 use Rattle.mc_net.specs.declared.section.WaitWord.{WaitWord}
 use Rattle.mc_net.specs.declared.section.WaitWord.TheVariants as waits
+use Rattle.mc_net.specs.declared.limit.TheConstants.{STATE_LIMIT, TRANSITION_LIMIT}
 
 infixl 10 ◌>>=◌
 abbrev pub ◌>>=◌ : {A B : Type 0} → Option A → (A → Option B) → Option B
@@ -48,7 +51,7 @@ open_part_of block = slice_get block.parts (length block.parts - 1)
 -- a part has a goal, or room for one, for each slot of its box
 abbrev pub HasSlots : NameLists → ℕ → Option PartState → Type 0
 HasSlots names who None = Unit {0}
-HasSlots names who (Some part) = length part.goals ≡ length (slots_of names who)
+HasSlots names who (Some part) = length part.goals ≡ length (slot_names names who)
 
 -- the program's box is known, and the open part has that box's slots
 pub record FitsBox (names : NameLists) (block : BlockState) : Type 0 where
@@ -56,15 +59,6 @@ pub record FitsBox (names : NameLists) (block : BlockState) : Type 0 where
   pub slots : HasSlots names block.who (open_part_of block)
 
 -- ---- limits
-
-abbrev pub told_limit : ℕ
-told_limit = 64
-
-abbrev pub state_limit : ℕ
-state_limit = 64
-
-abbrev pub transition_limit : ℕ
-transition_limit = 16
 
 -- ---- what isn't whole
 
@@ -92,15 +86,15 @@ has_program shape (Some who) = (shape_of shape who).programmed
 -- `prog BOX STATE STATE ..`, which may come too late, or where an earlier program is unfinished
 abbrev pub new_program_rules : NameLists → List BoxShapeState → Bool → Bool → List (List ℕ) → List (ℕ × Bool)
 new_program_rules names shape late unfinished words =
-    let who = box_at names (slice_get words 0) in
+    let who = box_named names (slice_get words 0) in
     let states = drop 1 words in
-    (4, lacks names.boxes (slice_get words 0))
-    ∷ (5, late || is_no_feature shape who || list_any (λ word. not (is_spelt word)) states)
-    ∷ (6, is_none (slice_get words 1))
-    ∷ (9, has_program shape who || has_repeat states)
-    ∷ (14, nat_lt state_limit (length states))
-    ∷ (15, unfinished)
-    ∷ (18, list_any (λ word. is_overlong (Some word)) states)
+    (UNDECLARED, lacks names.boxes (slice_get words 0))
+    ∷ (WRONG_WORD, late || is_no_feature shape who || list_any (λ word. not (is_spelt word)) states)
+    ∷ (MISSING_WORD, is_none (slice_get words 1))
+    ∷ (GIVEN_TWICE, has_program shape who || has_repeat states)
+    ∷ (LIMIT_PASSED, nat_lt STATE_LIMIT (length states))
+    ∷ (UNFINISHED, unfinished)
+    ∷ (NAME_TOO_LONG, list_any (λ word. is_overlong (Some word)) states)
     ∷ []
 
 -- a program of a box without parts
@@ -121,10 +115,10 @@ is_not_next (Some block) (Some word) = is_other (slice_get block.states (length 
 -- `state NAME`, which may come too late, where a program may be open
 abbrev pub new_part_rules : Bool → Option BlockState → List (List ℕ) → List (ℕ × Bool)
 new_part_rules late block words =
-    (5, late || is_not_next block (slice_get words 0))
-    ∷ (6, is_none (slice_get words 0))
-    ∷ (7, is_some (slice_get words 1))
-    ∷ (15, part_lacks_goal (option_and_then open_part_of block))
+    (WRONG_WORD, late || is_not_next block (slice_get words 0))
+    ∷ (MISSING_WORD, is_none (slice_get words 0))
+    ∷ (EXTRA_WORD, is_some (slice_get words 1))
+    ∷ (UNFINISHED, part_lacks_goal (option_and_then open_part_of block))
     ∷ []
 
 -- a part in which no slot has a goal yet
@@ -133,7 +127,7 @@ new_part slots = record { goals = replicate slots None; transitions = [] }
 
 -- a program with a new part, which is open
 abbrev pub with_new_part : NameLists → BlockState → BlockState
-with_new_part names block = record block { parts = block.parts ++ new_part (length (slots_of names block.who)) ∷ [] }
+with_new_part names block = record block { parts = block.parts ++ new_part (length (slot_names names block.who)) ∷ [] }
 
 -- ---- the lines of a part
 
@@ -145,41 +139,41 @@ has_goal part (Some local) = is_some (slice_index_or part.goals local None)
 -- `goal SLOT GOAL`, in a part of a program of a box
 abbrev pub goal_rules : NameLists → ℕ → PartState → List (List ℕ) → List (ℕ × Bool)
 goal_rules names who part words =
-    (5, is_no goal_of (slice_get words 1))
-    ∷ (6, is_none (slice_get words 1))
-    ∷ (7, is_some (slice_get words 2))
-    ∷ (9, has_goal part (slot_at names (Some who) (slice_get words 0)))
-    ∷ (11, lacks (slots_of names who) (slice_get words 0))
+    (WRONG_WORD, is_no spelt_goal (slice_get words 1))
+    ∷ (MISSING_WORD, is_none (slice_get words 1))
+    ∷ (EXTRA_WORD, is_some (slice_get words 2))
+    ∷ (GIVEN_TWICE, has_goal part (slot_named names (Some who) (slice_get words 0)))
+    ∷ (NO_SUCH_SLOT, lacks (slot_names names who) (slice_get words 0))
     ∷ []
 
 -- `link SLOT SLOT`, in a part
 abbrev pub part_link_rules : NameLists → List BoxShapeState → ℕ → PartState → List (List ℕ) → List (ℕ × Bool)
 part_link_rules names shape who part words =
-    let a = slot_at names (Some who) (slice_get words 0) in
-    let b = slot_at names (Some who) (slice_get words 1) in
-    (6, is_none (slice_get words 1))
-    ∷ (7, is_some (slice_get words 2))
-    ∷ (9, has_goal part a || has_goal part b)
-    ∷ (11, lacks (slots_of names who) (slice_get words 0) || lacks (slots_of names who) (slice_get words 1))
-    ∷ (12, are_same a b)
-    ∷ (13, differ_in_medium shape (Some who) a b)
+    let a = slot_named names (Some who) (slice_get words 0) in
+    let b = slot_named names (Some who) (slice_get words 1) in
+    (MISSING_WORD, is_none (slice_get words 1))
+    ∷ (EXTRA_WORD, is_some (slice_get words 2))
+    ∷ (GIVEN_TWICE, has_goal part a || has_goal part b)
+    ∷ (NO_SUCH_SLOT, lacks (slot_names names who) (slice_get words 0) || lacks (slot_names names who) (slice_get words 1))
+    ∷ (SAME_SLOT, are_same a b)
+    ∷ (TWO_MEDIA, differ_in_medium shape (Some who) a b)
     ∷ []
 
-abbrev pub with_goal : PartState → ℕ → SlotGoal → PartState
-with_goal part local goal = record part { goals = slice_set part.goals local (Some goal) }
+abbrev pub part_with_goal : PartState → ℕ → SlotGoal → PartState
+part_with_goal part local goal = record part { goals = slice_set part.goals local (Some goal) }
 
 -- the part after a `goal` line
 abbrev pub part_goal_after : NameLists → ℕ → PartState → List (List ℕ) → Option PartState
 part_goal_after names who part words =
-    option_and_then (λ local. option_map (λ goal. with_goal part local (End goal)) (meant goal_of (slice_get words 1))) (slot_at names (Some who) (slice_get words 0))
+    option_and_then (λ local. option_map (λ goal. part_with_goal part local (End goal)) (meant spelt_goal (slice_get words 1))) (slot_named names (Some who) (slice_get words 0))
 
 -- the part after a `link` line, which gives both slots their goal
 abbrev pub part_link_after : NameLists → ℕ → PartState → List (List ℕ) → Option PartState
 part_link_after names who part words =
-    option_and_then (λ a. option_map (λ b. with_goal (with_goal part a (Link b)) b (Link a)) (slot_at names (Some who) (slice_get words 1))) (slot_at names (Some who) (slice_get words 0))
+    option_and_then (λ a. option_map (λ b. part_with_goal (part_with_goal part a (Link b)) b (Link a)) (slot_named names (Some who) (slice_get words 1))) (slot_named names (Some who) (slice_get words 0))
 
-abbrev pub state_of : List ℕ → Option State
-state_of word =
+abbrev pub spelt_state : List ℕ → Option State
+spelt_state word =
     if bytes_eq word (codes "closed") then Some Closed
     else (if bytes_eq word (codes "opening") then Some Opening
     else (if bytes_eq word (codes "opened") then Some Opened
@@ -190,27 +184,27 @@ state_of word =
 -- `when is SLOT STATE TARGET`, in a part of a program with these states; the words are those behind `is`
 abbrev pub when_is_rules : NameLists → ℕ → List (List ℕ) → PartState → List (List ℕ) → List (ℕ × Bool)
 when_is_rules names who states part words =
-    (4, lacks states (slice_get words 2))
-    ∷ (5, is_no state_of (slice_get words 1))
-    ∷ (6, is_none (slice_get words 2))
-    ∷ (7, is_some (slice_get words 3))
-    ∷ (11, lacks (slots_of names who) (slice_get words 0))
-    ∷ (14, nat_le transition_limit (length part.transitions))
+    (UNDECLARED, lacks states (slice_get words 2))
+    ∷ (WRONG_WORD, is_no spelt_state (slice_get words 1))
+    ∷ (MISSING_WORD, is_none (slice_get words 2))
+    ∷ (EXTRA_WORD, is_some (slice_get words 3))
+    ∷ (NO_SUCH_SLOT, lacks (slot_names names who) (slice_get words 0))
+    ∷ (LIMIT_PASSED, nat_le TRANSITION_LIMIT (length part.transitions))
     ∷ []
 
 -- the word is a new told word, and there is no room for it
 abbrev pub has_no_room : NameLists → Option (List ℕ) → Bool
-has_no_room names word = lacks names.told word && nat_le told_limit (length names.told)
+has_no_room names word = lacks names.told word && nat_le TOLD_LIMIT (length names.told)
 
 -- `when told WORD TARGET`; the words are those behind `told`
 abbrev pub when_told_rules : NameLists → List (List ℕ) → PartState → List (List ℕ) → List (ℕ × Bool)
 when_told_rules names states part words =
-    (4, lacks states (slice_get words 1))
-    ∷ (5, is_misspelt (slice_get words 0))
-    ∷ (6, is_none (slice_get words 1))
-    ∷ (7, is_some (slice_get words 2))
-    ∷ (14, nat_le transition_limit (length part.transitions) || has_no_room names (slice_get words 0))
-    ∷ (18, is_overlong (slice_get words 0))
+    (UNDECLARED, lacks states (slice_get words 1))
+    ∷ (WRONG_WORD, is_misspelt (slice_get words 0))
+    ∷ (MISSING_WORD, is_none (slice_get words 1))
+    ∷ (EXTRA_WORD, is_some (slice_get words 2))
+    ∷ (LIMIT_PASSED, nat_le TRANSITION_LIMIT (length part.transitions) || has_no_room names (slice_get words 0))
+    ∷ (NAME_TOO_LONG, is_overlong (slice_get words 0))
     ∷ []
 
 -- what a `when` line waits for
@@ -220,11 +214,11 @@ waits_for word = if bytes_eq word (codes "is") then Some waits.Is else (if bytes
 abbrev pub when_kind_rules : NameLists → ℕ → List (List ℕ) → PartState → Option WaitWord → List (List ℕ) → List (ℕ × Bool)
 when_kind_rules names who states part (Some waits.Is) words = when_is_rules names who states part words
 when_kind_rules names who states part (Some waits.Told) words = when_told_rules names states part words
-when_kind_rules names who states part None words = (5, true) ∷ []
+when_kind_rules names who states part None words = (WRONG_WORD, true) ∷ []
 
 -- `when is ..` or `when told ..`; where the second word is neither, the others aren't asked anything
 abbrev pub when_rules : NameLists → ℕ → List (List ℕ) → PartState → List (List ℕ) → List (ℕ × Bool)
-when_rules names who states part [] = (6, true) ∷ []
+when_rules names who states part [] = (MISSING_WORD, true) ∷ []
 when_rules names who states part (first ∷ others) = when_kind_rules names who states part (waits_for first) others
 
 abbrev pub with_transition : PartState → Transition → PartState
@@ -233,14 +227,14 @@ with_transition part transition = record part { transitions = part.transitions +
 -- the transition of `is SLOT STATE TARGET`
 abbrev pub is_transition : NameLists → ℕ → List (List ℕ) → List (List ℕ) → Option Transition
 is_transition names who states words = do
-  local ← slot_at names (Some who) (slice_get words 0)
-  state ← meant state_of (slice_get words 1)
+  local ← slot_named names (Some who) (slice_get words 0)
+  state ← meant spelt_state (slice_get words 1)
   target ← meant (place_of states) (slice_get words 2)
   Some (record { guard = SlotIs local state; target = target })
 
 -- the number that a told word has, or gets
-abbrev pub told_number : NameLists → List ℕ → ℕ
-told_number names word = unwrap_or (place_of names.told word) (length names.told)
+abbrev pub told_place : NameLists → List ℕ → ℕ
+told_place names word = unwrap_or (place_of names.told word) (length names.told)
 
 -- a line `told WORD TARGET` that breaks no rule: its word, and the state that it names
 pub record IsToldLine (names : NameLists) (states : List (List ℕ)) (part : PartState) (words : List (List ℕ)) (word : List ℕ) (target : ℕ) : Type 0 where
@@ -255,7 +249,7 @@ abbrev pub told_after : NameLists → List (List ℕ) → PartState → List (Li
 told_after names states part words = do
   word ← slice_get words 0
   target ← meant (place_of states) (slice_get words 1)
-  Some (with_told names word, with_transition part (record { guard = Told (told_number names word); target = target }))
+  Some (with_told_word names word, with_transition part (record { guard = Told (told_place names word); target = target }))
 
 abbrev pub when_kind_after : NameLists → ℕ → List (List ℕ) → PartState → Option WaitWord → List (List ℕ) → Option (NameLists × PartState)
 when_kind_after names who states part (Some waits.Is) words = option_map (λ transition. (names, with_transition part transition)) (is_transition names who states words)
@@ -271,12 +265,12 @@ part_when_after names who states part (first ∷ others) = when_kind_after names
 
 -- the rules on a line of a part; where no part is open, the line breaks rule 5, and nothing else is asked of it
 abbrev pub in_part : (PartState → List (ℕ × Bool)) → Option PartState → List (ℕ × Bool)
-in_part rules None = (5, true) ∷ []
+in_part rules None = (WRONG_WORD, true) ∷ []
 in_part rules (Some part) = rules part
 
 -- the rules on a line of a program; where none is open, the line breaks rule 5, and nothing else is asked of it
 abbrev pub in_block : (BlockState → List (ℕ × Bool)) → Option BlockState → List (ℕ × Bool)
-in_block rules None = (5, true) ∷ []
+in_block rules None = (WRONG_WORD, true) ∷ []
 in_block rules (Some block) = rules block
 
 -- the open part of a program becomes another

@@ -6,48 +6,29 @@ use Rattle.std.specs.Str.{bytes_eq}
 use Rattle.mc_signal.specs.declared.Medium.{Medium}
 use Rattle.mc_signal.specs.declared.Medium.TheVariants.{Audio, Video}
 use Rattle.mc_text.specs.Lines.{words}
-use Rattle.mc_text.specs.NameLists.{NameLists, place_of, slots_of}
+use Rattle.mc_text.specs.NameLists.{NameLists, place_of, slot_names}
 use Rattle.mc_text.specs.Spelling.{is_digit, number_of}
+use Rattle.mc_text.specs.declared.limit.TheConstants.{BOX_LIMIT, CODEC_LIMIT, SLOT_LIMIT}
 use Rattle.mc_box.specs.BoxShapes.{BoxShapeState}
-use Rattle.mc_script.specs.Places.{are_same, box_at, has, is_misspelt, is_no, is_overlong, lacks}
+use Rattle.mc_script.specs.Places.{are_same, box_named, has, is_misspelt, is_no, is_overlong, lacks}
 use Rattle.mc_script.specs.Rules.{byte_rules, kind_rules, least_broken}
 use Rattle.mc_script.specs.declared.keyword.CommandWord.{CommandWord}
 use Rattle.mc_script.specs.declared.keyword.CommandWord.TheVariants as command
+use Rattle.mc_script.specs.declared.rule.TheConstants.{EXTRA_WORD, GIVEN_TWICE, LIMIT_PASSED, MISSING_WORD, NAME_TOO_LONG, NO_BEGIN, NO_VERSION_LINE, SAME_BOX, TEXT_TOO_LONG, UNDECLARED, UNFINISHED, WRONG_VERSION, WRONG_WORD}
 use Rattle.mc_net.specs.Programs.{BlockState, block_goal_rules, block_link_rules, block_when_rules, in_block, is_unfinished_block, new_part_rules, new_program_rules}
 use Rattle.mc_net.specs.SoFar.{Declared}
 use Rattle.mc_net.specs.WordLists.{has_repeat}
-use Rattle.mc_net.specs.declared.reader.TheConstants.{TEXT_LIMIT}
 use Rattle.mc_net.specs.declared.section.Keyword.{Keyword}
 use Rattle.mc_net.specs.declared.section.Keyword.TheVariants as keyword
 use Rattle.mc_net.specs.declared.section.Section.{Section}
 use Rattle.mc_net.specs.declared.section.Section.TheVariants as section
+use Rattle.mc_net.specs.declared.limit.TheConstants.{CHANNEL_LIMIT, COMMAND_LIMIT, LIST_LIMIT, TEXT_LIMIT}
 
 -- ---- limits
 
-abbrev pub text_limit : ℕ
-text_limit = TEXT_LIMIT
-
 -- how many bytes of a text are read at most: one more than its limit
 abbrev pub read_limit : ℕ
-read_limit = text_limit + 1
-
-abbrev pub codec_limit : ℕ
-codec_limit = 64
-
-abbrev pub list_limit : ℕ
-list_limit = 8
-
-abbrev pub box_limit : ℕ
-box_limit = 256
-
-abbrev pub slot_limit : ℕ
-slot_limit = 64
-
-abbrev pub channel_limit : ℕ
-channel_limit = 1024
-
-abbrev pub command_limit : ℕ
-command_limit = 4096
+read_limit = TEXT_LIMIT + 1
 
 -- ---- sections and first words
 
@@ -88,8 +69,8 @@ keyword_of word =
 
 -- ---- values of words
 
-abbrev pub medium_of : List ℕ → Option Medium
-medium_of word = if bytes_eq word (codes "audio") then Some Audio else (if bytes_eq word (codes "video") then Some Video else None)
+abbrev pub spelt_medium : List ℕ → Option Medium
+spelt_medium word = if bytes_eq word (codes "audio") then Some Audio else (if bytes_eq word (codes "video") then Some Video else None)
 
 abbrev pub begins_digit : List ℕ → Bool
 begins_digit [] = false
@@ -119,56 +100,56 @@ lists_undeclared names words = list_any (λ word. is_none (place_of names.codecs
 -- `codec NAME`
 abbrev pub codec_rules : Declared → List (List ℕ) → List (ℕ × Bool)
 codec_rules d words =
-    (5, is_late d section.Codecs || is_misspelt (slice_get words 0))
-    ∷ (6, is_none (slice_get words 0))
-    ∷ (7, is_some (slice_get words 1))
-    ∷ (9, has d.names.codecs (slice_get words 0))
-    ∷ (14, nat_le codec_limit (length d.names.codecs))
-    ∷ (18, is_overlong (slice_get words 0))
+    (WRONG_WORD, is_late d section.Codecs || is_misspelt (slice_get words 0))
+    ∷ (MISSING_WORD, is_none (slice_get words 0))
+    ∷ (EXTRA_WORD, is_some (slice_get words 1))
+    ∷ (GIVEN_TWICE, has d.names.codecs (slice_get words 0))
+    ∷ (LIMIT_PASSED, nat_le CODEC_LIMIT (length d.names.codecs))
+    ∷ (NAME_TOO_LONG, is_overlong (slice_get words 0))
     ∷ []
 
 -- `dev NAME CODEC CODEC ..` or `dev NAME VERSION CODEC CODEC ..`
 abbrev pub device_rules : Declared → List (List ℕ) → List (ℕ × Bool)
 device_rules d words =
     let listed = codec_words (drop 1 words) in
-    (4, lists_undeclared d.names listed)
-    ∷ (5, is_late d section.Boxes || is_misspelt (slice_get words 0))
-    ∷ (6, is_none (slice_get words 0))
-    ∷ (8, has_bad_version (drop 1 words))
-    ∷ (9, has d.names.boxes (slice_get words 0) || has_repeat listed)
-    ∷ (14, nat_le box_limit (length d.names.boxes) || nat_lt list_limit (length listed))
-    ∷ (18, is_overlong (slice_get words 0))
+    (UNDECLARED, lists_undeclared d.names listed)
+    ∷ (WRONG_WORD, is_late d section.Boxes || is_misspelt (slice_get words 0))
+    ∷ (MISSING_WORD, is_none (slice_get words 0))
+    ∷ (WRONG_VERSION, has_bad_version (drop 1 words))
+    ∷ (GIVEN_TWICE, has d.names.boxes (slice_get words 0) || has_repeat listed)
+    ∷ (LIMIT_PASSED, nat_le BOX_LIMIT (length d.names.boxes) || nat_lt LIST_LIMIT (length listed))
+    ∷ (NAME_TOO_LONG, is_overlong (slice_get words 0))
     ∷ []
 
 -- `feat NAME`
 abbrev pub feature_rules : Declared → List (List ℕ) → List (ℕ × Bool)
 feature_rules d words =
-    (5, is_late d section.Boxes || is_misspelt (slice_get words 0))
-    ∷ (6, is_none (slice_get words 0))
-    ∷ (7, is_some (slice_get words 1))
-    ∷ (9, has d.names.boxes (slice_get words 0))
-    ∷ (14, nat_le box_limit (length d.names.boxes))
-    ∷ (18, is_overlong (slice_get words 0))
+    (WRONG_WORD, is_late d section.Boxes || is_misspelt (slice_get words 0))
+    ∷ (MISSING_WORD, is_none (slice_get words 0))
+    ∷ (EXTRA_WORD, is_some (slice_get words 1))
+    ∷ (GIVEN_TWICE, has d.names.boxes (slice_get words 0))
+    ∷ (LIMIT_PASSED, nat_le BOX_LIMIT (length d.names.boxes))
+    ∷ (NAME_TOO_LONG, is_overlong (slice_get words 0))
     ∷ []
 
 -- where a box is known, a test of its slots
 abbrev pub of_slots : NameLists → Option ℕ → (List (List ℕ) → Bool) → Bool
 of_slots names None test = false
-of_slots names (Some who) test = test (slots_of names who)
+of_slots names (Some who) test = test (slot_names names who)
 
 -- `chan MEDIUM BOX SLOT BOX SLOT`
 abbrev pub channel_rules : Declared → List (List ℕ) → List (ℕ × Bool)
 channel_rules d words =
-    let from = box_at d.names (slice_get words 1) in
-    let to = box_at d.names (slice_get words 3) in
-    (4, lacks d.names.boxes (slice_get words 1) || lacks d.names.boxes (slice_get words 3))
-    ∷ (5, is_late d section.Channels || is_no medium_of (slice_get words 0) || (is_some from && is_misspelt (slice_get words 2)) || (is_some to && is_misspelt (slice_get words 4)))
-    ∷ (6, is_none (slice_get words 4))
-    ∷ (7, is_some (slice_get words 5))
-    ∷ (9, of_slots d.names from (λ slots. has slots (slice_get words 2)) || of_slots d.names to (λ slots. has slots (slice_get words 4)))
-    ∷ (10, are_same from to)
-    ∷ (14, of_slots d.names from (λ slots. nat_le slot_limit (length slots)) || of_slots d.names to (λ slots. nat_le slot_limit (length slots)) || nat_le channel_limit (length d.channels))
-    ∷ (18, (is_some from && is_overlong (slice_get words 2)) || (is_some to && is_overlong (slice_get words 4)))
+    let from = box_named d.names (slice_get words 1) in
+    let to = box_named d.names (slice_get words 3) in
+    (UNDECLARED, lacks d.names.boxes (slice_get words 1) || lacks d.names.boxes (slice_get words 3))
+    ∷ (WRONG_WORD, is_late d section.Channels || is_no spelt_medium (slice_get words 0) || (is_some from && is_misspelt (slice_get words 2)) || (is_some to && is_misspelt (slice_get words 4)))
+    ∷ (MISSING_WORD, is_none (slice_get words 4))
+    ∷ (EXTRA_WORD, is_some (slice_get words 5))
+    ∷ (GIVEN_TWICE, of_slots d.names from (λ slots. has slots (slice_get words 2)) || of_slots d.names to (λ slots. has slots (slice_get words 4)))
+    ∷ (SAME_BOX, are_same from to)
+    ∷ (LIMIT_PASSED, of_slots d.names from (λ slots. nat_le SLOT_LIMIT (length slots)) || of_slots d.names to (λ slots. nat_le SLOT_LIMIT (length slots)) || nat_le CHANNEL_LIMIT (length d.channels))
+    ∷ (NAME_TOO_LONG, (is_some from && is_overlong (slice_get words 2)) || (is_some to && is_overlong (slice_get words 4)))
     ∷ []
 
 -- ---- programs
@@ -200,14 +181,14 @@ state_rules d words = new_part_rules (is_late d section.Programs) (open_block d)
 
 -- `begin`
 abbrev pub begin_rules : Declared → List (List ℕ) → List (ℕ × Bool)
-begin_rules d words = (5, is_late d section.Begin) ∷ (7, is_some (slice_get words 0)) ∷ (15, is_unfinished d) ∷ []
+begin_rules d words = (WRONG_WORD, is_late d section.Begin) ∷ (EXTRA_WORD, is_some (slice_get words 0)) ∷ (UNFINISHED, is_unfinished d) ∷ []
 
 -- a command, wherever it stands
 abbrev pub command_line_rules : Declared → CommandWord → List (List ℕ) → List (ℕ × Bool)
 command_line_rules d kind words =
     kind_rules d.names (shapes d) (Some kind) words
-    ++ (14, nat_le command_limit (length d.commands))
-    ∷ (15, is_unfinished d)
+    ++ (LIMIT_PASSED, nat_le COMMAND_LIMIT (length d.commands))
+    ∷ (UNFINISHED, is_unfinished d)
     ∷ []
 
 -- ---- any line
@@ -233,7 +214,7 @@ rules_by d (Some keyword.Hear) words = command_line_rules d command.Hear words
 rules_by d (Some keyword.Talk) words = command_line_rules d command.Talk words
 rules_by d (Some keyword.Tell) words = command_line_rules d command.Tell words
 rules_by d (Some keyword.Settle) words = command_line_rules d command.Settle words
-rules_by d other words = (5, true) ∷ []
+rules_by d other words = (WRONG_WORD, true) ∷ []
 
 -- `media 1`, the two words
 abbrev pub is_version : List (List ℕ) → Bool
@@ -242,7 +223,7 @@ is_version words = false
 
 -- the rules on the words of a line that isn't skipped; the first such line is the version line, of which nothing else is asked
 abbrev pub words_rules : Bool → Declared → List (List ℕ) → List (ℕ × Bool)
-words_rules false d words = (17, not (is_version words)) ∷ []
+words_rules false d words = (NO_VERSION_LINE, not (is_version words)) ∷ []
 words_rules true d words = rules_by d (option_and_then keyword_of (slice_get words 0)) (drop 1 words)
 
 -- a word that begins with #
@@ -265,12 +246,12 @@ entry_fault d words = least_broken (line_words_rules (is_skipped words) d words)
 
 -- the line holds the byte with which the text passes its limit; so many bytes stand before the line, and its end belongs to it
 abbrev pub passes_limit : ℕ → ℕ → List ℕ → Bool
-passes_limit total before line = nat_lt text_limit total && nat_le before text_limit && nat_le text_limit (before + length line)
+passes_limit total before line = nat_lt TEXT_LIMIT total && nat_le before TEXT_LIMIT && nat_le TEXT_LIMIT (before + length line)
 
 -- every rule on a line, in the order of their numbers
 abbrev pub line_rules : ℕ → ℕ → Declared → List ℕ → List (ℕ × Bool)
 line_rules total before d line =
-    (1, passes_limit total before line)
+    (TEXT_TOO_LONG, passes_limit total before line)
     ∷ (byte_rules line ++ line_words_rules (is_skipped (words line)) d (words line))
 
 -- the least number of the rules that a line breaks
@@ -279,7 +260,7 @@ line_fault total before d line = least_broken (line_rules total before d line)
 
 -- the rules on the end of a text, as on one more line
 abbrev pub end_rules : Declared → List (ℕ × Bool)
-end_rules d = (15, is_unfinished d) ∷ (16, d.versioned && not d.begun) ∷ (17, not d.versioned) ∷ []
+end_rules d = (UNFINISHED, is_unfinished d) ∷ (NO_BEGIN, d.versioned && not d.begun) ∷ (NO_VERSION_LINE, not d.versioned) ∷ []
 
 abbrev pub end_fault : Declared → Option ℕ
 end_fault d = least_broken (end_rules d)

@@ -14,8 +14,8 @@ pub record BoxMedia : Type 0 where
   pub codecs : List ℕ
 
 -- of a feature the line says nothing
-abbrev pub no_media : BoxMedia
-no_media = record { version = 1; codecs = [] }
+abbrev pub no_box_media : BoxMedia
+no_box_media = record { version = 1; codecs = [] }
 
 -- The section of the last line, whether the version line and `begin` came, the names, for each box its shape and its media, the channels, the programs with the last one still open, and the commands. `unbuilt` is the first line that the program can't run yet.
 pub record Declared : Type 0 where

@@ -11,6 +11,7 @@ use Rattle.mc_net.specs.declared.fault.NetFault.{NetFault}
 use Rattle.mc_net.specs.declared.fault.NetFault.TheVariants.{Line, NoMemory}
 use Rattle.mc_net.specs.declared.section.Keyword.{Keyword}
 use Rattle.mc_net.specs.declared.section.Keyword.TheVariants as keyword
+use Rattle.mc_script.specs.declared.rule.TheConstants.{UNBUILT}
 
 -- ---- what can't be run yet
 
@@ -71,7 +72,7 @@ pub data IsFault (text : List ℕ) : ℕ → ℕ → Type 0 where
   at_line : {number : ℕ} (k : ℕ) → k < length (lines text) → AreSound (length text) (lines text) k → fault_at (length text) (lines text) k ≡ Some number → IsFault text number (k + 1)
   at_end : {number : ℕ} → AreSound (length text) (lines text) (length (lines text)) → end_fault (declared_by (lines text) (length (lines text))) ≡ Some number → IsFault text number (length (lines text) + 1)
   unbuilt : {line : ℕ} → AreSound (length text) (lines text) (length (lines text)) → end_fault (declared_by (lines text) (length (lines text))) ≡ None
-      → (declared_by (lines text) (length (lines text))).unbuilt ≡ Some line → IsFault text 19 line
+      → (declared_by (lines text) (length (lines text))).unbuilt ≡ Some line → IsFault text UNBUILT line
 
 -- the text is in the grammar, and all of it can be run: this is what it declares
 pub record Says (text : List ℕ) (d : Declared) : Type 0 where

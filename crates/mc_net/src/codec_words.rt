@@ -7,14 +7,13 @@ ghost use Rattle.mc_signal.specs.Choice.{codecs_of};
 ghost use Rattle.mc_net.specs.Listing.{can_add};
 ghost use Rattle.mc_net.specs.Meaning.{codec_number, version_of};
 ghost use Rattle.mc_net.specs.WordLists.{has_repeat};
-ghost use Rattle.mc_net.specs.Rules.{codec_words, gives_version, has_bad_version, list_limit, lists_undeclared};
+ghost use Rattle.mc_net.specs.Rules.{codec_words, gives_version, has_bad_version, lists_undeclared};
 
+use crate::limit::LIST_LIMIT;
 use crate::places::begins_digit;
 use crate::word_list::are_more_than;
 use mc_signal::CodecList;
 use mc_text::{Names, Words, read_number};
-
-const LIST_LIMIT: u8 = 8;
 
 /// Whether the first word is a version, right or not.
 pub fn gives_version<'a>(mut words: Words<'a>) -> bool
@@ -66,7 +65,7 @@ pub fn lists_undeclared<'a>(names: &Names, mut words: Words<'a>) -> bool
 
 /// Whether there are more words than a list may have codecs.
 pub fn is_overfull<'a>(words: Words<'a>) -> bool
-    ensures { result ≡ nat_lt list_limit (length words.entry) }
+    ensures { result ≡ nat_lt LIST_LIMIT (length words.entry) }
 {
     are_more_than(LIST_LIMIT, words)
 }
@@ -75,7 +74,7 @@ pub fn is_overfull<'a>(words: Words<'a>) -> bool
 pub fn listed<'a>(names: &Names, mut words: Words<'a>) -> CodecList
     requires declared { lists_undeclared names.now words ≡ false }
     requires different { has_repeat words ≡ false }
-    requires few { length words ≤ list_limit }
+    requires few { length words ≤ LIST_LIMIT }
     ensures { codecs_of result ≡ map (codec_number names.now) words.entry }
 {
     let mut list = CodecList::none();

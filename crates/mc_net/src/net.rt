@@ -3,7 +3,7 @@
 ghost use Rattle.std.specs.Prelude.{◌≡◌, ◌<◌, IfErr, IfOk, length, map};
 ghost use Rattle.mc_model.specs.LinkFree.{HasNoLinks};
 ghost use Rattle.mc_model.specs.Setups.{world_of_devices};
-ghost use Rattle.mc_net.specs.Nets.{AreEndSets, DeclaresNet, IsMadeOf, JoinsPair, NamesAll, batches_of, lists_of, medium_of, one_device, turns_of, two_devices};
+ghost use Rattle.mc_net.specs.Nets.{AreEndSets, DeclaresNet, IsMadeOf, JoinsPair, NamesAll, batches_of, lists_of, channel_medium, one_device, batch_turns, two_devices};
 ghost use Rattle.mc_net.specs.Texts.{RefusesText};
 
 use crate::fault::NetFault;
@@ -38,7 +38,7 @@ pub struct Net {
 pub fn read_net(alloc: Global, text: &[u8], tail: Tail) -> Result<Net, NetFault>
     ensures declares { IfOk result (DeclaresNet text.now) }
     ensures named { IfOk result (λ net. NamesAll net.names net.world) }
-    ensures end_sets { IfOk result (λ net. AreEndSets net.world (map turns_of net.batches.items)) }
+    ensures end_sets { IfOk result (λ net. AreEndSets net.world (map batch_turns net.batches.items)) }
     ensures free { IfOk result (λ net. HasNoLinks net.world) }
     ensures refused { IfErr result (RefusesText text.now) }
 {
@@ -75,7 +75,7 @@ fn make_net(alloc: Global, parts: Parts, rest: usize) -> Result<Net, AllocError>
 
 // One batch for each settle, with the commands before it.
 fn batches_of(alloc: Global, commands: &[Command]) -> Result<Vec<Batch>, AllocError>
-    ensures { IfOk result (λ batches. map turns_of batches.items ≡ batches_of commands.now) }
+    ensures { IfOk result (λ batches. map batch_turns batches.items ≡ batches_of commands.now) }
 {
     let mut batches = Vec::new(alloc);
     let mut turns = Vec::new(alloc);
@@ -123,9 +123,9 @@ fn one_device(
 }
 
 // The medium of a channel's first tunnel.
-fn medium_of(channel: &Channel) -> Medium
+fn channel_medium(channel: &Channel) -> Medium
     requires { 0 < length channel.now.tunnels }
-    ensures { result ≡ medium_of channel.now }
+    ensures { result ≡ channel_medium channel.now }
 {
     channel.tunnels[0].medium
 }
@@ -140,7 +140,7 @@ fn two_devices(
     requires { 0 < length channel.now.tunnels }
     ensures { IfOk result (λ boxes. boxes.items ≡ two_devices channel.now one other) }
 {
-    let medium = medium_of(channel);
+    let medium = channel_medium(channel);
     let from = channel.from;
     let mut boxes = Vec::new(alloc);
     boxes.push(one_device(alloc, medium, 0, from == 0, one)?)?;

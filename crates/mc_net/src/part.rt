@@ -3,28 +3,27 @@
 ghost use Rattle.std.specs.Prelude.{◌≡◌, ◌<◌, ◌≤◌, length, position, IfOk, IfSome, MatchResult, OnErr, OnOk};
 ghost use Rattle.std.specs.Str.{bytes_eq};
 ghost use Rattle.std.specs.Option.{option_copied, option_map};
-ghost use Rattle.mc_text.specs.NameLists.{place_of, slots_of};
+ghost use Rattle.mc_text.specs.NameLists.{place_of, slot_names};
 ghost use Rattle.mc_box.specs.BoxShapes.{medium_at, shape_of};
 ghost use Rattle.mc_slot.specs.Moves.{is_same_medium};
 ghost use Rattle.mc_script.specs.Places.{Fits, is_no, lacks, meant, unless};
 ghost use Rattle.mc_script.specs.Rules.{least_broken};
 ghost use Rattle.mc_script.specs.Meaning.{ReadsAs};
 ghost use Rattle.mc_net.specs.Readings.{Declares, Makes};
-ghost use Rattle.mc_net.specs.Programs.{new_part, has_goal, lacks_goal, goal_rules, part_goal_after, part_link_rules, part_link_after, state_limit, state_of, has_no_room, when_is_rules, when_told_rules, is_transition, with_transition, words_of, when_rules, part_when_after, told_after, waits_for, IsToldLine};
+ghost use Rattle.mc_net.specs.Programs.{new_part, has_goal, lacks_goal, goal_rules, part_goal_after, part_link_rules, part_link_after, spelt_state, has_no_room, when_is_rules, when_told_rules, is_transition, with_transition, words_of, when_rules, part_when_after, told_after, waits_for, IsToldLine};
 
 use crate::fault::ReadFault;
+use crate::limit::{STATE_LIMIT, TRANSITION_LIMIT};
 use crate::section::WaitWord;
 use mc_box::Shape;
 use mc_script::LineFault;
 use mc_script::places::{fixed_goal, is_misspelt, is_overlong, known_slot};
+use mc_script::rule::{EXTRA_WORD, GIVEN_TWICE, LIMIT_PASSED, MISSING_WORD, NAME_TOO_LONG, NO_SUCH_SLOT, SAME_SLOT, TWO_MEDIA, UNDECLARED, WRONG_WORD};
 use mc_slot::{SlotGoal, State};
-use mc_text::{Names, Parts, Words};
+use mc_text::limit::TOLD_LIMIT;
+use mc_text::{FirstWords, Names, Words};
 use std::alloc::{AllocError, Global};
 use std::marker::Model;
-
-const TRANSITION_LIMIT: usize = 16;
-
-const TOLD_LIMIT: usize = 64;
 
 /// What a transition waits for: a slot that is in a state, or a told word.
 #[derive(Clone, Copy, PartialEq, Eq, Debug)]
@@ -90,23 +89,23 @@ impl Part {
         words: Words<'a>,
     ) -> Result<(), LineFault>
         requires who { who < length names.now.boxes }
-        requires slots { length self.old.goals ≡ length (slots_of names.now who) }
+        requires slots { length self.old.goals ≡ length (slot_names names.now who) }
         ensures goal { Makes result self.new (least_broken (goal_rules names.now who self.old words.entry)) (part_goal_after names.now who self.old words.entry) }
         ensures slots { length self.new.goals ≡ length self.old.goals }
     {
-        let parts = Parts::new(words);
+        let parts = FirstWords::new(words);
         let goal = fixed_goal(parts.second)?;
         let (Some(slot), Some(goal)) = (parts.first, goal) else {
-            return Err(LineFault { number: 6 });
+            return Err(LineFault { number: MISSING_WORD });
         };
         if parts.third.is_some() {
-            return Err(LineFault { number: 7 });
+            return Err(LineFault { number: EXTRA_WORD });
         }
         let Some(local) = names.find_slot(who, slot) else {
-            return Err(LineFault { number: 11 });
+            return Err(LineFault { number: NO_SUCH_SLOT });
         };
         if self.goals[local as usize].is_some() {
-            return Err(LineFault { number: 9 });
+            return Err(LineFault { number: GIVEN_TWICE });
         }
         self.goals[local as usize] = Some(SlotGoal::End(goal));
         Ok(())
@@ -122,30 +121,30 @@ impl Part {
     ) -> Result<(), LineFault>
         requires fits { Fits names.now shape.now }
         requires who { who < length names.now.boxes }
-        requires slots { length self.old.goals ≡ length (slots_of names.now who) }
+        requires slots { length self.old.goals ≡ length (slot_names names.now who) }
         ensures link { Makes result self.new (least_broken (part_link_rules names.now shape.now who self.old words.entry)) (part_link_after names.now who self.old words.entry) }
         ensures slots { length self.new.goals ≡ length self.old.goals }
     {
-        let parts = Parts::new(words);
+        let parts = FirstWords::new(words);
         let (Some(one), Some(other)) = (parts.first, parts.second) else {
-            return Err(LineFault { number: 6 });
+            return Err(LineFault { number: MISSING_WORD });
         };
         if parts.third.is_some() {
-            return Err(LineFault { number: 7 });
+            return Err(LineFault { number: EXTRA_WORD });
         }
         let one = names.find_slot(who, one);
         let other = names.find_slot(who, other);
         if self.has_goal(one) || self.has_goal(other) {
-            return Err(LineFault { number: 9 });
+            return Err(LineFault { number: GIVEN_TWICE });
         }
         let (Some(one), Some(other)) = (one, other) else {
-            return Err(LineFault { number: 11 });
+            return Err(LineFault { number: NO_SUCH_SLOT });
         };
         if one == other {
-            return Err(LineFault { number: 12 });
+            return Err(LineFault { number: SAME_SLOT });
         }
         if !are_of_one_medium(shape, who, one, other) {
-            return Err(LineFault { number: 13 });
+            return Err(LineFault { number: TWO_MEDIA });
         }
         self.goals[one as usize] = Some(SlotGoal::Link(other));
         self.goals[other as usize] = Some(SlotGoal::Link(one));
@@ -171,17 +170,17 @@ impl Part {
         mut words: Words<'a>,
     ) -> Result<(), ReadFault>
         requires who { who < length names.old.boxes }
-        requires states { length states.now ≤ state_limit }
+        requires states { length states.now ≤ STATE_LIMIT }
         ensures when { Declares result (names.new, self.new) (least_broken (when_rules names.old who (words_of states.now) self.old words.entry)) (part_when_after names.old who (words_of states.now) self.old words.entry) }
         ensures goals { self.new.goals ≡ self.old.goals }
         ensures boxes { OnOk result (names.new.boxes ≡ names.old.boxes) }
         ensures slots { OnOk result (names.new.slots ≡ names.old.slots) }
     {
         let Some(first) = words.next_word() else {
-            return Err(ReadFault::Line(LineFault { number: 6 }));
+            return Err(ReadFault::Line(LineFault { number: MISSING_WORD }));
         };
         match waits_for(first) {
-            None => Err(ReadFault::Line(LineFault { number: 5 })),
+            None => Err(ReadFault::Line(LineFault { number: WRONG_WORD })),
             Some(WaitWord::Is) => self.read_when_is(names, who, states, words),
             Some(WaitWord::Told) => self.read_when_told(names, states, words),
         }
@@ -195,7 +194,7 @@ impl Part {
         words: Words<'a>,
     ) -> Result<(), ReadFault>
         requires who { who < length names.now.boxes }
-        requires states { length states.now ≤ state_limit }
+        requires states { length states.now ≤ STATE_LIMIT }
         ensures is { Declares result self.new (least_broken (when_is_rules names.now who (words_of states.now) self.old words.entry)) (option_map (with_transition self.old) (is_transition names.now who (words_of states.now) words.entry)) }
         ensures goals { self.new.goals ≡ self.old.goals }
     {
@@ -210,7 +209,7 @@ impl Part {
         states: &[Vec<u8>],
         words: Words<'a>,
     ) -> Result<(), ReadFault>
-        requires { length states.now ≤ state_limit }
+        requires { length states.now ≤ STATE_LIMIT }
         ensures told { Declares result (names.new, self.new) (least_broken (when_told_rules names.old (words_of states.now) self.old words.entry)) (told_after names.old (words_of states.now) self.old words.entry) }
         ensures goals { self.new.goals ≡ self.old.goals }
         ensures boxes { OnOk result (names.new.boxes ≡ names.old.boxes) }
@@ -236,21 +235,21 @@ impl Part {
         words: Words<'a>,
     ) -> Result<Transition, LineFault>
         requires who { who < length names.now.boxes }
-        requires states { length states.now ≤ state_limit }
+        requires states { length states.now ≤ STATE_LIMIT }
         ensures { ReadsAs result (least_broken (when_is_rules names.now who (words_of states.now) self.now words.entry)) (is_transition names.now who (words_of states.now) words.entry) }
     {
-        let parts = Parts::new(words);
+        let parts = FirstWords::new(words);
         let target = known_target(states, parts.third)?;
         let state = fixed_state(parts.second)?;
         let (Some(slot), Some(state), Some(target)) = (parts.first, state, target) else {
-            return Err(LineFault { number: 6 });
+            return Err(LineFault { number: MISSING_WORD });
         };
         if parts.fourth.is_some() {
-            return Err(LineFault { number: 7 });
+            return Err(LineFault { number: EXTRA_WORD });
         }
         let local = known_slot(names, who, slot)?;
         if TRANSITION_LIMIT <= self.transitions.len() {
-            return Err(LineFault { number: 14 });
+            return Err(LineFault { number: LIMIT_PASSED });
         }
         Ok(Transition {
             guard: Guard::SlotIs(local, state),
@@ -265,27 +264,27 @@ impl Part {
         states: &[Vec<u8>],
         words: Words<'a>,
     ) -> Result<ToldLine<'a>, LineFault>
-        requires { length states.now ≤ state_limit }
+        requires { length states.now ≤ STATE_LIMIT }
         ensures { MatchResult result
             (λ line. IsToldLine names.now (words_of states.now) self.now words.entry line.word.now line.target)
             (λ e. least_broken (when_told_rules names.now (words_of states.now) self.now words.entry) ≡ Some e.number) }
     {
-        let parts = Parts::new(words);
+        let parts = FirstWords::new(words);
         let target = known_target(states, parts.second)?;
         if is_misspelt(parts.first) {
-            return Err(LineFault { number: 5 });
+            return Err(LineFault { number: WRONG_WORD });
         }
         let (Some(word), Some(target)) = (parts.first, target) else {
-            return Err(LineFault { number: 6 });
+            return Err(LineFault { number: MISSING_WORD });
         };
         if parts.third.is_some() {
-            return Err(LineFault { number: 7 });
+            return Err(LineFault { number: EXTRA_WORD });
         }
         if TRANSITION_LIMIT <= self.transitions.len() || has_no_room(names, word) {
-            return Err(LineFault { number: 14 });
+            return Err(LineFault { number: LIMIT_PASSED });
         }
         if is_overlong(parts.first) {
-            return Err(LineFault { number: 18 });
+            return Err(LineFault { number: NAME_TOO_LONG });
         }
         Ok(ToldLine { word, target })
     }
@@ -322,18 +321,18 @@ fn has_no_room(names: &Names, word: &[u8]) -> bool
 
 // The state that a word names. Fault 4 where no state has the name.
 fn known_target(states: &[Vec<u8>], word: Option<&[u8]>) -> Result<Option<u32>, LineFault>
-    requires { length states.now ≤ state_limit }
-    ensures { result ≡ unless (lacks (words_of states.now) (option_copied word.entry)) 4 (meant (place_of (words_of states.now)) (option_copied word.entry)) }
+    requires { length states.now ≤ STATE_LIMIT }
+    ensures { result ≡ unless (lacks (words_of states.now) (option_copied word.entry)) UNDECLARED (meant (place_of (words_of states.now)) (option_copied word.entry)) }
 {
     let Some(word) = word else { return Ok(None) };
     match find_state(states, word) {
         Some(target) => Ok(Some(target)),
-        None => Err(LineFault { number: 4 }),
+        None => Err(LineFault { number: UNDECLARED }),
     }
 }
 
 fn find_state(states: &[Vec<u8>], word: &[u8]) -> Option<u32>
-    requires { length states.now ≤ state_limit }
+    requires { length states.now ≤ STATE_LIMIT }
     ensures { result ≡ place_of (words_of states.now) word.now }
 {
     place_in(states, word).map(|place| place as u32)
@@ -348,17 +347,17 @@ fn place_in(states: &[Vec<u8>], word: &[u8]) -> Option<usize>
 
 // The state of a slot that a word spells. Fault 5 where it spells none.
 fn fixed_state(word: Option<&[u8]>) -> Result<Option<State>, LineFault>
-    ensures { result ≡ unless (is_no state_of (option_copied word.entry)) 5 (meant state_of (option_copied word.entry)) }
+    ensures { result ≡ unless (is_no spelt_state (option_copied word.entry)) WRONG_WORD (meant spelt_state (option_copied word.entry)) }
 {
     let Some(word) = word else { return Ok(None) };
-    match state_of(word) {
+    match spelt_state(word) {
         Some(state) => Ok(Some(state)),
-        None => Err(LineFault { number: 5 }),
+        None => Err(LineFault { number: WRONG_WORD }),
     }
 }
 
-fn state_of(word: &[u8]) -> Option<State>
-    ensures { result ≡ state_of word.now }
+fn spelt_state(word: &[u8]) -> Option<State>
+    ensures { result ≡ spelt_state word.now }
 {
     if word == b"closed".as_slice() {
         Some(State::Closed)

@@ -3,25 +3,26 @@
 ghost use Rattle.std.specs.Prelude.{◌≡◌};
 ghost use Rattle.std.specs.Option.{option_copied};
 ghost use Rattle.mc_script.specs.Places.{is_no, meant, unless};
-ghost use Rattle.mc_net.specs.Rules.{begins_digit, begins_hash, is_skipped, is_version, medium_of};
+ghost use Rattle.mc_net.specs.Rules.{begins_digit, begins_hash, is_skipped, is_version, spelt_medium};
 
 use mc_script::LineFault;
+use mc_script::rule::WRONG_WORD;
 use mc_signal::Medium;
 use mc_text::Words;
 
 /// The medium that a word spells. Fault 5 where it spells none.
 pub fn fixed_medium(word: Option<&[u8]>) -> Result<Option<Medium>, LineFault>
-    ensures { result ≡ unless (is_no medium_of (option_copied word.entry)) 5 (meant medium_of (option_copied word.entry)) }
+    ensures { result ≡ unless (is_no spelt_medium (option_copied word.entry)) WRONG_WORD (meant spelt_medium (option_copied word.entry)) }
 {
     let Some(word) = word else { return Ok(None) };
-    match medium_of(word) {
+    match spelt_medium(word) {
         Some(medium) => Ok(Some(medium)),
-        None => Err(LineFault { number: 5 }),
+        None => Err(LineFault { number: WRONG_WORD }),
     }
 }
 
-fn medium_of(word: &[u8]) -> Option<Medium>
-    ensures { result ≡ medium_of word.now }
+fn spelt_medium(word: &[u8]) -> Option<Medium>
+    ensures { result ≡ spelt_medium word.now }
 {
     if word == b"audio".as_slice() {
         Some(Medium::Audio)

@@ -3,23 +3,23 @@
 ghost use Rattle.std.specs.Prelude.{◌≡◌, ◌<◌, ◌≤◌, IfOk, IsSome, Some, drop, length, OnErr, OnOk};
 ghost use Rattle.std.specs.Option.{option_and_then, option_copied};
 ghost use Rattle.std.specs.List.{slice_get};
-ghost use Rattle.mc_script.specs.Places.{box_at, Fits};
+ghost use Rattle.mc_script.specs.Places.{box_named, Fits};
 ghost use Rattle.mc_script.specs.Meaning.{ReadsAs};
 ghost use Rattle.mc_script.specs.Rules.{least_broken};
 ghost use Rattle.mc_net.specs.Readings.{Declares, Makes};
-ghost use Rattle.mc_net.specs.Programs.{block_goal_after, block_goal_rules, block_link_after, block_link_rules, block_when_after, block_when_rules, has_program, is_not_next, is_other, is_unfinished_block, new_block, open_part_of, new_part_rules, part_lacks_goal, new_program_rules, state_limit, with_new_part, words_of, FitsBox};
+ghost use Rattle.mc_net.specs.Programs.{block_goal_after, block_goal_rules, block_link_after, block_link_rules, block_when_after, block_when_rules, has_program, is_not_next, is_other, is_unfinished_block, new_block, open_part_of, new_part_rules, part_lacks_goal, new_program_rules, with_new_part, words_of, FitsBox};
 
 use crate::fault::ReadFault;
+use crate::limit::STATE_LIMIT;
 use crate::part::Part;
 use crate::word_list::{are_more_than, has_misspelt, has_overlong, has_repeat};
 use mc_box::Shape;
 use mc_script::LineFault;
 use mc_script::places::{known_box, needs_feature};
+use mc_script::rule::{EXTRA_WORD, GIVEN_TWICE, LIMIT_PASSED, MISSING_WORD, NAME_TOO_LONG, UNFINISHED, WRONG_WORD};
 use mc_text::{Names, Words};
 use std::alloc::{AllocError, Global};
 use std::marker::Model;
-
-const STATE_LIMIT: u8 = 64;
 
 /// A program as its lines declare it: its box, the names of its states, and the parts of those that were begun.
 /// The last part is still open. After a fault nothing is said of it.
@@ -32,19 +32,19 @@ pub struct Block {
 
 impl Model for Block {
     ghost use Rattle.std.specs.Prelude.{◌≤◌, length};
-    ghost use Rattle.mc_net.specs.Programs.{BlockState, state_limit, words_of};
+    ghost use Rattle.mc_net.specs.Programs.{BlockState, words_of};
 
     ghost Value = { BlockState };
 
     ghost view = { λ block. record { who = block.who; states = words_of block.states.items; parts = block.parts.items } };
 
-    ghost invariant = { λ block. length block.states.items ≤ state_limit };
+    ghost invariant = { λ block. length block.states.items ≤ STATE_LIMIT };
 }
 
 impl Block {
     /// The program of a box with these states, without parts.
     pub fn new<'a>(alloc: Global, who: u32, states: Words<'a>) -> Result<Block, AllocError>
-        requires { length states ≤ state_limit }
+        requires { length states ≤ STATE_LIMIT }
         ensures { IfOk result (λ block. block ≡ new_block who states.entry) }
     {
         Ok(Block {
@@ -100,7 +100,7 @@ impl Block {
         ensures fits { OnOk result (FitsBox names.now self.new) }
     {
         match self.parts.last_mut() {
-            None => Err(LineFault { number: 5 }),
+            None => Err(LineFault { number: WRONG_WORD }),
             Some(part) => part.read_goal(names, self.who, words),
         }
     }
@@ -118,7 +118,7 @@ impl Block {
         ensures fits { OnOk result (FitsBox names.now self.new) }
     {
         match self.parts.last_mut() {
-            None => Err(LineFault { number: 5 }),
+            None => Err(LineFault { number: WRONG_WORD }),
             Some(part) => part.read_link(names, shape, self.who, words),
         }
     }
@@ -133,7 +133,7 @@ impl Block {
         ensures slots { OnOk result (names.new.slots ≡ names.old.slots) }
     {
         match self.parts.last_mut() {
-            None => Err(ReadFault::Line(LineFault { number: 5 })),
+            None => Err(ReadFault::Line(LineFault { number: WRONG_WORD })),
             Some(part) => part.read_when(names, self.who, &self.states, words),
         }
     }
@@ -158,30 +158,30 @@ pub fn program_line<'a>(
     words: Words<'a>,
 ) -> Result<u32, LineFault>
     requires { Fits names.now shape.now }
-    ensures line { ReadsAs result (least_broken (new_program_rules names.now shape.now late (is_unfinished_block (option_copied block.entry)) words.entry)) (box_at names.now (slice_get words.entry 0)) }
+    ensures line { ReadsAs result (least_broken (new_program_rules names.now shape.now late (is_unfinished_block (option_copied block.entry)) words.entry)) (box_named names.now (slice_get words.entry 0)) }
     ensures fits { IfOk result (λ who. FitsBox names.now (new_block who (drop 1 words.entry))) }
-    ensures few { OnOk result (length (drop 1 words.entry) ≤ state_limit) }
+    ensures few { OnOk result (length (drop 1 words.entry) ≤ STATE_LIMIT) }
 {
     let mut states = words;
     let who = known_box(names, states.next_word())?;
     needs_feature(shape, who)?;
     if late || has_misspelt(states.again()) {
-        return Err(LineFault { number: 5 });
+        return Err(LineFault { number: WRONG_WORD });
     }
     let (Some(who), Some(_)) = (who, states.again().next_word()) else {
-        return Err(LineFault { number: 6 });
+        return Err(LineFault { number: MISSING_WORD });
     };
     if has_program(shape, who) || has_repeat(states.again()) {
-        return Err(LineFault { number: 9 });
+        return Err(LineFault { number: GIVEN_TWICE });
     }
     if are_more_than(STATE_LIMIT, states.again()) {
-        return Err(LineFault { number: 14 });
+        return Err(LineFault { number: LIMIT_PASSED });
     }
     if is_unfinished(block) {
-        return Err(LineFault { number: 15 });
+        return Err(LineFault { number: UNFINISHED });
     }
     if has_overlong(states) {
-        return Err(LineFault { number: 18 });
+        return Err(LineFault { number: NAME_TOO_LONG });
     }
     Ok(who)
 }
@@ -216,16 +216,16 @@ pub fn state_line<'a>(
 {
     let name = words.next_word();
     if late || is_not_next(block, name) {
-        return Err(LineFault { number: 5 });
+        return Err(LineFault { number: WRONG_WORD });
     }
     if name.is_none() {
-        return Err(LineFault { number: 6 });
+        return Err(LineFault { number: MISSING_WORD });
     }
     if words.next_word().is_some() {
-        return Err(LineFault { number: 7 });
+        return Err(LineFault { number: EXTRA_WORD });
     }
     if lacks_goal(block) {
-        return Err(LineFault { number: 15 });
+        return Err(LineFault { number: UNFINISHED });
     }
     Ok(())
 }

@@ -21,20 +21,19 @@ mod programs;
 use crate::codec_words::gives_version;
 use crate::fault::ReadFault;
 use crate::keyword::keyword_of;
+use crate::limit::TEXT_LIMIT;
 use crate::places::{is_skipped, is_version};
 use crate::program::{Block, is_unfinished};
 use crate::section::{Keyword, Section};
 use mc_box::{BoxShape, Kind, Shape};
 use mc_script::keyword::CommandWord;
+use mc_script::rule::{NO_BEGIN, NO_VERSION_LINE, TEXT_TOO_LONG, UNFINISHED, WRONG_WORD};
 use mc_script::{Command, LineFault, check_bytes};
 use mc_signal::CodecList;
 use mc_text::{Names, Words};
 use mc_world::Channel;
 use std::alloc::Global;
 use std::marker::Model;
-
-/// The greatest length of a text, in bytes.
-pub const TEXT_LIMIT: usize = 1_048_576;
 
 /// What the line of a box says of its media: the version that its descriptors begin at, and its codecs.
 #[derive(Clone, Copy)]
@@ -186,7 +185,7 @@ impl Reader {
         ensures in_form { OnOk result (IsInForm self.new) }
     {
         match kind {
-            Keyword::Media => Err(ReadFault::Line(LineFault { number: 5 })),
+            Keyword::Media => Err(ReadFault::Line(LineFault { number: WRONG_WORD })),
             Keyword::Codec => self.read_codec(words),
             Keyword::Dev => self.read_device(words),
             Keyword::Feat => self.read_feature(words),
@@ -211,7 +210,7 @@ impl Reader {
         ensures declared { Declares result self.new (least_broken (words_rules true self.old words.entry)) (words_after true self.old words.entry) }
         ensures in_form { OnOk result (IsInForm self.new) }
     {
-        let unknown = Err(ReadFault::Line(LineFault { number: 5 }));
+        let unknown = Err(ReadFault::Line(LineFault { number: WRONG_WORD }));
         let Some(first) = words.next_word() else {
             return unknown;
         };
@@ -228,7 +227,7 @@ impl Reader {
         ensures in_form { OnOk result (IsInForm self.new) }
     {
         if !is_version(words) {
-            return Err(ReadFault::Line(LineFault { number: 17 }));
+            return Err(ReadFault::Line(LineFault { number: NO_VERSION_LINE }));
         }
         self.versioned = true;
         Ok(())
@@ -263,7 +262,7 @@ impl Reader {
         ensures in_form { OnOk result (IsInForm self.new) }
     {
         if TEXT_LIMIT < total && before <= TEXT_LIMIT && TEXT_LIMIT <= before + line.len() {
-            return Err(ReadFault::Line(LineFault { number: 1 }));
+            return Err(ReadFault::Line(LineFault { number: TEXT_TOO_LONG }));
         }
         check_bytes(line)?;
         let unbuilt = self.first_unbuilt(number, line);
@@ -277,13 +276,13 @@ impl Reader {
         ensures { result ≡ end_fault self.now }
     {
         if self.is_unfinished() {
-            return Some(15);
+            return Some(UNFINISHED);
         }
         if self.versioned && !self.begun {
-            return Some(16);
+            return Some(NO_BEGIN);
         }
         if !self.versioned {
-            return Some(17);
+            return Some(NO_VERSION_LINE);
         }
         None
     }

@@ -5,10 +5,9 @@ ghost use Rattle.mc_net.specs.Texts.{Says, RefusesText};
 
 use crate::fault::{NetFault, ReadFault, TextFault};
 use crate::reader::Reader;
+use mc_script::rule::UNBUILT;
 use mc_text::next_line;
 use std::alloc::Global;
-
-const UNBUILT: u8 = 19;
 
 /// Reads a whole text, which must be in the grammar, and one that can be run.
 pub fn read_text(alloc: Global, text: &[u8]) -> Result<Reader, NetFault>

@@ -7,6 +7,7 @@ ghost use Rattle.mc_text.specs.Spelling.{is_spelt};
 ghost use Rattle.mc_script.specs.Places.{is_overlong};
 ghost use Rattle.mc_net.specs.WordLists.{has_repeat};
 
+use mc_text::limit::NAME_LIMIT;
 use mc_text::{Words, is_spelt};
 
 /// Whether some word stands there twice.
@@ -32,7 +33,7 @@ pub fn has_misspelt<'a>(mut words: Words<'a>) -> bool
 pub fn has_overlong<'a>(mut words: Words<'a>) -> bool
     ensures { result ≡ list_any (λ word. is_overlong (Some word)) words.entry }
 {
-    words.any(|word| is_spelt(word) && 16 < word.len())
+    words.any(|word| is_spelt(word) && NAME_LIMIT < word.len())
 }
 
 /// Whether there are more words than `limit`.

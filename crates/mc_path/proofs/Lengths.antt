@@ -4,7 +4,7 @@ use Rattle.std.specs.Option.{option_map, unwrap_or}
 use Rattle.mc_slot.specs.declared.SlotGoal.{SlotGoal}
 use Rattle.mc_slot.specs.declared.SlotGoal.TheVariants.{End, Link}
 use Rattle.mc_model.specs.Paths.{crossed, crossed_by}
-use Rattle.mc_model.specs.Worlds.{WorldState, far, goal_of, joints, number, place}
+use Rattle.mc_model.specs.Worlds.{WorldState, far, goal_of, all_tunnels, number, place}
 use Rattle.mc_path_laws.specs.PathLaws.{passed, passed_by}
 use Rattle.mc_path.specs.Views.{TwoSlotsATunnel}
 
@@ -26,4 +26,4 @@ length_passed zero world s = refl
 length_passed (suc most) world s = omega (arith, length_beyond world most (goal_of world (far s)) (far s) (λ next. length_passed most world next))
 
 pub two_slots_a_tunnel : TwoSlotsATunnel
-two_slots_a_tunnel world path = length_passed (length (joints world)) world path.low
+two_slots_a_tunnel world path = length_passed (length (all_tunnels world)) world path.low

@@ -5,8 +5,8 @@ use Rattle.mc_slot.specs.declared.Goal.{Goal}
 use Rattle.mc_slot.specs.declared.SlotGoal.{SlotGoal}
 use Rattle.mc_slot.specs.declared.SlotGoal.TheVariants.{End, Link}
 use Rattle.mc_model.specs.Paths.{crossed, crossed_by, walked}
-use Rattle.mc_model.specs.Worlds.{WorldState, far, goal_of, joints, number, place, slot_count}
-use Rattle.mc_laws.proofs.Joints.{two_each}
+use Rattle.mc_model.specs.Worlds.{WorldState, far, goal_of, all_tunnels, number, place, slot_count}
+use Rattle.mc_laws.proofs.TunnelPlaces.{two_each}
 use Rattle.mc_laws.proofs.Numbers.{number_is}
 use Rattle.mc_path.specs.Walks.{walk_from}
 use Rattle.mc_path.specs.declared.walk.Walked.{Walked}
@@ -15,8 +15,8 @@ use Rattle.mc_path_laws.proofs.Returns.{walked_by}
 -- after so many tunnels the walk from a slot is at another, and is there what it was at the beginning, within the tunnels that are left
 pub record StillWalks (world : WorldState) (from done at : ℕ) : Type 0 where
   pub inside : at < slot_count world
-  pub end_is : (left : ℕ) → done + left ≡ length (joints world) → walked world (length (joints world)) from ≡ walked world left at
-  pub tunnels_are : (left : ℕ) → done + left ≡ length (joints world) → crossed world (length (joints world)) from ≡ done + crossed world left at
+  pub end_is : (left : ℕ) → done + left ≡ length (all_tunnels world) → walked world (length (all_tunnels world)) from ≡ walked world left at
+  pub tunnels_are : (left : ℕ) → done + left ≡ length (all_tunnels world) → crossed world (length (all_tunnels world)) from ≡ done + crossed world left at
 
 -- ---- one tunnel
 
@@ -61,10 +61,10 @@ pub goes_on : (world : WorldState) (from done at other who partner next : ℕ) �
     → StillWalks world from (done + 1) next
 goes_on world from done at other who partner next now on = record {
   inside = (number_is world who partner next on.next_is).0;
-  end_is = λ left sum. now.end_is (suc left) (one_more done left (length (joints world)) sum) ∙ walked_on world left at other who partner (Some next) on;
+  end_is = λ left sum. now.end_is (suc left) (one_more done left (length (all_tunnels world)) sum) ∙ walked_on world left at other who partner (Some next) on;
   tunnels_are = λ left sum.
-      sum_more done (crossed world left next) (crossed world (length (joints world)) from) (crossed world (suc left) at)
-      (now.tunnels_are (suc left) (one_more done left (length (joints world)) sum)) (crossed_on world left at other who partner (Some next) on);
+      sum_more done (crossed world left next) (crossed world (length (all_tunnels world)) from) (crossed world (suc left) at)
+      (now.tunnels_are (suc left) (one_more done left (length (all_tunnels world)) sum)) (crossed_on world left at other who partner (Some next) on);
 }
 
 -- how many tunnels are left after the next one
@@ -83,31 +83,31 @@ no_end : (end : Option ℕ) (tunnels : ℕ) → end ≡ None → option_map (wal
 no_end end tunnels is = rw (is) refl
 
 -- it ends at an end
-pub ends : (world : WorldState) (from done at other : ℕ) (goal : Goal) → StillWalks world from done at → done < length (joints world) → other ≡ far at → goal_of world other ≡ End goal
+pub ends : (world : WorldState) (from done at other : ℕ) (goal : Goal) → StillWalks world from done at → done < length (all_tunnels world) → other ≡ far at → goal_of world other ≡ End goal
     → Some (record { end = other; tunnels = done + 1 }) ≡ walk_from world from
 ends world from done at other goal now below same is =
-    let left : ℕ = length (joints world) - done - 1 in
-    let sum : done + suc left ≡ length (joints world) = rest_of done (length (joints world)) below in
-    sym (by_parts (walked world (length (joints world)) from) (crossed world (length (joints world)) from) other (done + 1)
+    let left : ℕ = length (all_tunnels world) - done - 1 in
+    let sum : done + suc left ≡ length (all_tunnels world) = rest_of done (length (all_tunnels world)) below in
+    sym (by_parts (walked world (length (all_tunnels world)) from) (crossed world (length (all_tunnels world)) from) other (done + 1)
     (now.end_is (suc left) sum ∙ walked_by world left at other (End goal) same is)
     (now.tunnels_are (suc left) sum ∙ ap (λ (n : ℕ). done + n) (crossed_one world left at other (End goal) same is)))
 
 -- it comes to no end where a partner has no number
-pub breaks : (world : WorldState) (from done at other who partner : ℕ) → StillWalks world from done at → done < length (joints world) → LeadsOn world at other who partner None
+pub breaks : (world : WorldState) (from done at other who partner : ℕ) → StillWalks world from done at → done < length (all_tunnels world) → LeadsOn world at other who partner None
     → None ≡ walk_from world from
 breaks world from done at other who partner now below on =
-    let left : ℕ = length (joints world) - done - 1 in
-    let sum : done + suc left ≡ length (joints world) = rest_of done (length (joints world)) below in
-    sym (no_end (walked world (length (joints world)) from) (crossed world (length (joints world)) from)
+    let left : ℕ = length (all_tunnels world) - done - 1 in
+    let sum : done + suc left ≡ length (all_tunnels world) = rest_of done (length (all_tunnels world)) below in
+    sym (no_end (walked world (length (all_tunnels world)) from) (crossed world (length (all_tunnels world)) from)
     (now.end_is (suc left) sum ∙ walked_on world left at other who partner None on))
 
 -- nor where it has gone over as many tunnels as there are
-pub stops : (world : WorldState) (from done at : ℕ) → StillWalks world from done at → done ≡ length (joints world) → None ≡ walk_from world from
+pub stops : (world : WorldState) (from done at : ℕ) → StillWalks world from done at → done ≡ length (all_tunnels world) → None ≡ walk_from world from
 stops world from done at now all =
-    sym (no_end (walked world (length (joints world)) from) (crossed world (length (joints world)) from) (now.end_is 0 (omega arith)))
+    sym (no_end (walked world (length (all_tunnels world)) from) (crossed world (length (all_tunnels world)) from) (now.end_is 0 (omega arith)))
 
 -- ---- the number of tunnels
 
 -- half of the slots
-pub half_of : (world : WorldState) (count : ℕ) → count ≡ slot_count world → count / 2 ≡ length (joints world)
-half_of world count all = let two : slot_count world ≡ 2 * length (joints world) = two_each world.channels 0 in omega (arith, two, all)
+pub half_of : (world : WorldState) (count : ℕ) → count ≡ slot_count world → count / 2 ≡ length (all_tunnels world)
+half_of world count all = let two : slot_count world ≡ 2 * length (all_tunnels world) = two_each world.channels 0 in omega (arith, two, all)

@@ -8,7 +8,7 @@ use Rattle.mc_view.specs.declared.EndView.{EndView}
 use Rattle.mc_view.specs.declared.PathView.{PathView}
 use Rattle.mc_box.specs.BoxShapes.{is_device}
 use Rattle.mc_model.specs.Paths.{PathEnds, crossed, end_goal}
-use Rattle.mc_model.specs.Worlds.{WorldState, box_at, joint_of, joints, own_descriptor, own_sender, place, slot_of}
+use Rattle.mc_model.specs.Worlds.{WorldState, box_at, tunnel_of, all_tunnels, own_descriptor, own_sender, place, slot_of}
 use Rattle.mc_path_laws.specs.PathLaws.{slots_on}
 
 abbrev pub is_flowing : State → Bool
@@ -16,9 +16,9 @@ is_flowing Flowing = true
 is_flowing state = false
 
 -- the codec that an end hears: that of the selector that it last got, where there is one and its path flows
-abbrev pub heard_codec : Bool → Option Selector → Option ℕ
-heard_codec true selector = option_and_then (λ chosen. chosen.codec) selector
-heard_codec false selector = None
+abbrev pub shown_codec : Bool → Option Selector → Option ℕ
+shown_codec true selector = option_and_then (λ chosen. chosen.codec) selector
+shown_codec false selector = None
 
 -- an end of a path that flows, or of one that doesn't, by its slot's number
 abbrev pub end_view : WorldState → Bool → ℕ → EndView
@@ -28,7 +28,7 @@ end_view world flowing s = record {
   local = (place world s).1;
   goal = end_goal world s;
   own = own_descriptor world s;
-  hears = heard_codec flowing (slot_of world s).sel_in;
+  hears = shown_codec flowing (slot_of world s).sel_in;
   sends = (own_sender world s).codecs;
   device = is_device (box_at world (place world s).0).kind;
 }
@@ -43,8 +43,8 @@ view_of world path = record {
   low = end_view world (path_flows world path) path.low;
   high = end_view world (path_flows world path) path.high;
   flowing = path_flows world path;
-  medium = (joint_of world path.low).medium;
-  tunnels = crossed world (length (joints world)) path.low;
+  medium = (tunnel_of world path.low).medium;
+  tunnels = crossed world (length (all_tunnels world)) path.low;
 }
 
 -- no end hears anything on a path that doesn't flow, whatever selector its slot keeps

@@ -4,7 +4,7 @@
 ghost use Rattle.std.specs.Prelude.{◌≡◌, ◌<◌, map, All, IfOk, IsTrue, Some};
 ghost use Rattle.std.specs.Option.{option_map};
 ghost use Rattle.mc_path_laws.specs.PathLaws.{IsQuietPath};
-ghost use Rattle.mc_path.specs.Views.{end_view, heard_codec, is_flowing, path_flows, view_of};
+ghost use Rattle.mc_path.specs.Views.{end_view, shown_codec, is_flowing, path_flows, view_of};
 ghost use Rattle.mc_path.specs.Walks.{walk_from};
 ghost use Rattle.mc_model.specs.Paths.{end_goal_of, path_from, paths};
 ghost use Rattle.mc_model.specs.Settles.{is_quiet};
@@ -92,7 +92,7 @@ fn is_flowing(state: State) -> bool
 
 // The codec that an end hears, by the selector that it last got.
 fn heard_codec(flowing: bool, selector: Option<Selector>) -> Option<u8>
-    ensures { result ≡ heard_codec flowing selector }
+    ensures { result ≡ shown_codec flowing selector }
 {
     if flowing {
         selector.and_then(|chosen| chosen.codec)

@@ -1,11 +1,11 @@
 -- A chain of tunnels with nothing under way, joined by links at rest, with an end at rest at each side: all its slots are closed, or all flow, and what its ends have of each other has passed along it.
 use Rattle.std.proofs.Common.{◌≡◌, ◌⊎◌, inl, inr, true, Option, Some, List, [], ◌∷◌, refl, ap, ◌∙◌, subst, arith}
 use Rattle.std.proofs.lemmas.Grind.{common_steps}
-use Rattle.mc_signal.specs.Choice.{answers, selector_of}
+use Rattle.mc_signal.specs.Choice.{answers, choose}
 use Rattle.mc_signal.specs.declared.Descriptor.{Descriptor}
 use Rattle.mc_signal.specs.declared.Selector.{Selector}
 use Rattle.mc_signal.specs.declared.Sender.{Sender}
-use Rattle.mc_slot.specs.EndTurn.{IsAtRest, describing, due_live, selecting_again}
+use Rattle.mc_slot.specs.EndTurn.{IsAtRest, describe_newer, live_turn, select_again}
 use Rattle.mc_slot.specs.Moves.{is_live}
 use Rattle.mc_slot.specs.Outlook.{waits}
 use Rattle.mc_slot.specs.Tunnel.{Agree, Kept, TunnelSound}
@@ -13,7 +13,7 @@ use Rattle.mc_slot.specs.declared.Goal.{Goal}
 use Rattle.mc_slot.specs.declared.Slot.{Slot}
 use Rattle.mc_slot.specs.declared.State.{State}
 use Rattle.mc_slot.specs.declared.State.TheVariants.{Closed, Opening, Opened, Flowing}
-use Rattle.mc_link.specs.LinkTurn.{IsLinkAtRest, choosing, leaning, passing}
+use Rattle.mc_link.specs.LinkTurn.{IsLinkAtRest, selector_due, lean, descriptor_due}
 use Rattle.mc_link.proofs.Parts.{Quiet, quiet}
 use Rattle.mc_path_laws.proofs.RestTables.{both_empty, chooses, described, passes, selected}
 use Rattle.mc_model.specs.PathTable.{Hears}
@@ -52,19 +52,19 @@ first_state goal a own me rest calm = grind (arith)
 
 -- where it flows it sends neither a describe nor a select
 flowing_end : (goal : Goal) (a : Slot) (own : Descriptor) (me : Sender) → a.state ≡ Flowing → IsAtRest goal a own me
-    → (describing a.sent own ≡ []) × (selecting_again a.got a.sel_out me ≡ [])
+    → (describe_newer a.sent own ≡ []) × (select_again a.got a.sel_out me ≡ [])
 flowing_end goal a own me is rest =
-    let due : due_live Flowing a own me ≡ [] = grind (arith) in
-    (both_empty (describing a.sent own) (selecting_again a.got a.sel_out me)).0 due
+    let due : live_turn Flowing a own me ≡ [] = grind (arith) in
+    (both_empty (describe_newer a.sent own) (select_again a.got a.sel_out me)).0 due
 
 -- so it has sent its own descriptor
 sent_own : (goal : Goal) (a : Slot) (own : Descriptor) (me : Sender) → a.state ≡ Flowing → IsAtRest goal a own me → a.sent ≡ Some own
 sent_own goal a own me is rest = (described a.sent own).0 (flowing_end goal a own me is rest).0
 
 -- and the choice for what it got
-chose : (goal : Goal) (a : Slot) (own got : Descriptor) (me : Sender) → a.state ≡ Flowing → IsAtRest goal a own me → a.got ≡ Some got → a.sel_out ≡ Some (selector_of got me)
+chose : (goal : Goal) (a : Slot) (own got : Descriptor) (me : Sender) → a.state ≡ Flowing → IsAtRest goal a own me → a.got ≡ Some got → a.sel_out ≡ Some (choose got me)
 chose goal a own got me is rest had =
-    (selected a.sel_out (selector_of got me)).0 (subst (λ (o : Option Descriptor). selecting_again o a.sel_out me ≡ []) had (flowing_end goal a own me is rest).1)
+    (selected a.sel_out (choose got me)).0 (subst (λ (o : Option Descriptor). select_again o a.sel_out me ≡ []) had (flowing_end goal a own me is rest).1)
 
 -- ---- a tunnel with nothing under way
 
@@ -103,32 +103,32 @@ flowing_have a b sound is was =
 -- ---- a link at rest
 
 -- an opened slot has its partner opening
-opened_link : (a b : Slot) → Kept a → Kept b → leaning a b ≡ [] → a.state ≡ Opened → waits b.state ≡ 0 → b.state ≡ Opening
+opened_link : (a b : Slot) → Kept a → Kept b → lean a b ≡ [] → a.state ≡ Opened → waits b.state ≡ 0 → b.state ≡ Opening
 opened_link a b kept_a kept_b rest is calm = grind (arith)
 
 -- a closed one has it closed or opening
-closed_link : (a b : Slot) → Kept b → leaning a b ≡ [] → a.state ≡ Closed → waits b.state ≡ 0 → (b.state ≡ Closed) ⊎ (b.state ≡ Opening)
+closed_link : (a b : Slot) → Kept b → lean a b ≡ [] → a.state ≡ Closed → waits b.state ≡ 0 → (b.state ≡ Closed) ⊎ (b.state ≡ Opening)
 closed_link a b kept_b rest is calm = grind (arith)
 
 -- and a flowing one has it flowing or opening
-flowing_link : (a b : Slot) → Kept a → Kept b → leaning a b ≡ [] → a.state ≡ Flowing → waits b.state ≡ 0 → (b.state ≡ Flowing) ⊎ (b.state ≡ Opening)
+flowing_link : (a b : Slot) → Kept a → Kept b → lean a b ≡ [] → a.state ≡ Flowing → waits b.state ≡ 0 → (b.state ≡ Flowing) ⊎ (b.state ≡ Opening)
 flowing_link a b kept_a kept_b rest is calm = grind (arith)
 
 -- two flowing slots send nothing of each other
-flowing_rest : (a b : Slot) → leaning a b ≡ [] → a.state ≡ Flowing → b.state ≡ Flowing → Quiet a b
+flowing_rest : (a b : Slot) → lean a b ≡ [] → a.state ≡ Flowing → b.state ≡ Flowing → Quiet a b
 flowing_rest a b rest is was = quiet a b (ap is_live is) (ap is_live was) rest
 
 -- so the one has sent the descriptor that the other got
-passed : (a b : Slot) (own : Descriptor) → a.state ≡ Flowing → b.got ≡ Some own → passing a b ≡ [] → a.sent ≡ Some own
+passed : (a b : Slot) (own : Descriptor) → a.state ≡ Flowing → b.got ≡ Some own → descriptor_due a b ≡ [] → a.sent ≡ Some own
 passed a b own is had none = (passes a b is (rw had refl)).0 none ∙ had
 
 -- and the choice that the other got, where that answers what it got itself
-chosen : (a b : Slot) (own : Descriptor) (choice : Selector) → a.got ≡ Some own → b.sel_in ≡ Some choice → answers choice own ≡ true → choosing a b ≡ []
+chosen : (a b : Slot) (own : Descriptor) (choice : Selector) → a.got ≡ Some own → b.sel_in ≡ Some choice → answers choice own ≡ true → selector_due a b ≡ []
     → a.sel_out ≡ Some choice
 chosen a b own choice had heard answers none = (chooses b.sel_in a.got a.sel_out).0 none choice own heard had answers
 
 -- a choice for a descriptor answers it
-answers_own : (own : Descriptor) (me : Sender) → answers (selector_of own me) own ≡ true
+answers_own : (own : Descriptor) (me : Sender) → answers (choose own me) own ≡ true
 answers_own own me = grind (arith, common_steps)
 
 -- ---- the states along a chain
@@ -224,9 +224,9 @@ flowing_chain goal_x goal_y own_x own_y me_x me_y x far rest sound joined rest_x
     let got_far : far.got ≡ Some own_x = have.got_back ∙ sent_own goal_x x own_x me_x is rest_x in
     let got_y = got_on rest far own_x was joined all got_far in
     let got_x : x.got ≡ Some own_y = have.got ∙ sent_back rest far own_y was joined all sent_y in
-    let heard_far : far.sel_in ≡ Some (selector_of own_y me_x) = have.heard_back ∙ chose goal_x x own_x own_y me_x is rest_x got_x in
-    let heard_y = heard_on rest far own_y (selector_of own_y me_x) (answers_own own_y me_x) was joined all sent_y heard_far in
-    let chose_far = chose_back rest far own_x (selector_of own_x me_y) (answers_own own_x me_y) was joined all got_far
+    let heard_far : far.sel_in ≡ Some (choose own_y me_x) = have.heard_back ∙ chose goal_x x own_x own_y me_x is rest_x got_x in
+    let heard_y = heard_on rest far own_y (choose own_y me_x) (answers_own own_y me_x) was joined all sent_y heard_far in
+    let chose_far = chose_back rest far own_x (choose own_x me_y) (answers_own own_x me_y) was joined all got_far
     (chose goal_y (last_slot far rest) own_y own_x me_y flows rest_y got_y) in
     ((is, was, all), record { got = got_x; chosen = have.heard ∙ chose_far }, record { got = got_y; chosen = heard_y })
 

@@ -10,7 +10,7 @@ use Rattle.mc_slot.specs.declared.State.{State}
 use Rattle.mc_slot.specs.declared.State.TheVariants.{Closing}
 use Rattle.mc_model.specs.Paths.{PathEnds, end_goal, path_from}
 use Rattle.mc_model.specs.Sound.{IsSound}
-use Rattle.mc_model.specs.Worlds.{WorldState, far, goal_of, joints, list_to, places, slot_count, slot_of}
+use Rattle.mc_model.specs.Worlds.{WorldState, far, goal_of, all_tunnels, list_to, places, slot_count, slot_of}
 use Rattle.mc_laws.proofs.GoalsKept.{run_stays}
 use Rattle.mc_laws.proofs.Partners.{by_goal, has_partner}
 use Rattle.mc_path_laws.specs.PathLaws.{CleanPaths, IsClean, IsCleanPath, passed, passed_by}
@@ -52,8 +52,8 @@ path_clean : (world : WorldState) (s : ℕ) (path : PathEnds) → IsSound world 
 path_clean world s path sound clean inside is stays far_stays =
     let parts = parts_of world s path is in
     let between = end_between world s path.high inside parts.aims parts.leads (subst (λ (n : ℕ). end_goal world n ≢ ToClose) parts.low_is stays) far_stays in
-    subst (λ (n : ℕ). All (IsClean world) (passed world (length (joints world)) n)) (sym parts.low_is)
-    (walk_all (IsClean world) (length (joints world)) world s sound (λ t there. clean_slot world t sound clean there) between)
+    subst (λ (n : ℕ). All (IsClean world) (passed world (length (all_tunnels world)) n)) (sym parts.low_is)
+    (walk_all (IsClean world) (length (all_tunnels world)) world s sound (λ t there. clean_slot world t sound clean there) between)
 
 -- so each path neither of whose ends closes is clean
 pub clean_paths : CleanPaths

@@ -12,12 +12,13 @@ use Rattle.mc_slot.specs.declared.State.TheVariants.{Closed}
 use Rattle.mc_box.specs.Boxes.{BoxState, slot_at}
 use Rattle.mc_box.specs.declared.event.Turn.{Turn}
 use Rattle.mc_box.proofs.Options.{then_some}
-use Rattle.mc_model.specs.Paths.{end_goal, end_goal_of, is_end_goal, other_end, walk_by, walked}
+use Rattle.mc_slot.specs.EndTurn.{is_end_goal}
+use Rattle.mc_model.specs.Paths.{end_goal, end_goal_of, other_end, walk_by, walked}
 use Rattle.mc_model.specs.Rings.{partner_of}
 use Rattle.mc_model.specs.Settles.{is_quiet, is_retry_of, takes_or_retries}
 use Rattle.mc_model.specs.Sound.{IsSound}
 use Rattle.mc_model.specs.Steps.{run, step}
-use Rattle.mc_model.specs.Worlds.{ChannelState, WorldState, box_at, far, goal_of, joints, list_to, place, slot_count, slot_of}
+use Rattle.mc_model.specs.Worlds.{ChannelState, WorldState, box_at, far, goal_of, all_tunnels, list_to, place, slot_count, slot_of}
 use Rattle.mc_laws.proofs.ActedWorlds.{far_inside}
 use Rattle.mc_laws.proofs.Numbers.{far_back, some_same}
 use Rattle.mc_laws.proofs.Partners.{are_linked}
@@ -98,7 +99,7 @@ pub end_between : (world : WorldState) (s t : ℕ) → s < slot_count world → 
 end_between world s t inside aims walk stays far_stays = record {
   inside = inside;
   near = record { most = suc zero; end = s; walk = at_end world zero s (goal_of world s) refl aims; stays = stays };
-  away = record { most = length (joints world); end = t; walk = walk; stays = far_stays };
+  away = record { most = length (all_tunnels world); end = t; walk = walk; stays = far_stays };
 }
 
 -- ---- where the goals stay

@@ -6,9 +6,10 @@ use Rattle.std.proofs.lemmas.Bool.{cases_eq, cases_lt}
 use Rattle.std.proofs.lemmas.Grind.{common_steps}
 use Rattle.std.proofs.lemmas.List.Sums.{sum_by-cons}
 use Rattle.mc_box.proofs.Options.{if_some, then_some}
-use Rattle.mc_model.specs.Paths.{PathEnds, from_low, is_end_goal, other_end, path_from, paths}
+use Rattle.mc_slot.specs.EndTurn.{is_end_goal}
+use Rattle.mc_model.specs.Paths.{PathEnds, from_low, other_end, path_from, paths}
 use Rattle.mc_model.specs.Sound.{IsSound}
-use Rattle.mc_model.specs.Worlds.{WorldState, goal_of, joints, places, slot_count}
+use Rattle.mc_model.specs.Worlds.{WorldState, goal_of, all_tunnels, places, slot_count}
 use Rattle.mc_laws.proofs.RingWalks.{end_is_met, met_is_other}
 use Rattle.mc_path_laws.specs.PathLaws.{EachEndOnce, is_end_of}
 use Rattle.mc_path_laws.proofs.Returns.{end_back, walk_back}
@@ -134,7 +135,7 @@ end_once world s t sound inside aims walk apart = elim (cases_lt s t) [
       (path_is world s t aims walk below) (low_ends s t s refl)
       (λ i within other path is. not_low s t i path below other (other_path world s t i path sound within walk is))
   | inr above ↦
-      let more = walk_back (length (joints world)) world s t sound inside walk in
+      let more = walk_back (length (all_tunnels world)) world s t sound inside walk in
       let below : t < s = omega arith in
       count_one (is_end_of s) (path_from world) (places world) 0 (slot_count world) t (record { low = t; high = s }) (omega arith) (omega arith) more.inside
       (path_is world t s more.aims (end_back world s t sound inside aims walk) below) (high_ends t s s refl)

@@ -7,9 +7,9 @@ use Rattle.mc_slot.specs.declared.SlotGoal.{SlotGoal}
 use Rattle.mc_slot.specs.declared.SlotGoal.TheVariants.{End, Link}
 use Rattle.mc_model.specs.Paths.{path_from}
 use Rattle.mc_model.specs.Sound.{IsSound}
-use Rattle.mc_model.specs.Worlds.{Joint, WorldState, far, goal_of, joint_of, joints, places, slot_count, slot_of}
+use Rattle.mc_model.specs.Worlds.{TunnelPlace, WorldState, far, goal_of, tunnel_of, all_tunnels, places, slot_count, slot_of}
 use Rattle.mc_laws.proofs.ActedWorlds.{far_inside}
-use Rattle.mc_laws.proofs.LanesKept.{far_joint}
+use Rattle.mc_laws.proofs.LanesKept.{far_tunnel}
 use Rattle.mc_laws.proofs.Partners.{has_partner, is_partner}
 use Rattle.mc_path_laws.specs.PathLaws.{PathsOfOneMedium, passed, passed_by, slots_on}
 use Rattle.mc_path_laws.proofs.Ends.{parts_of}
@@ -22,7 +22,7 @@ AreOf world medium slots = All (λ s. (slot_of world s).medium ≡ medium) slots
 -- the two slots of a tunnel have its medium
 far_medium : (world : WorldState) (s : ℕ) → IsSound world → s < slot_count world → (slot_of world (far s)).medium ≡ (slot_of world s).medium
 far_medium world s sound inside =
-    sound.numbered.media (far s) (far_inside world s inside) ∙ (ap (λ (joint : Joint). joint.medium) (far_joint world s) ∙ sym (sound.numbered.media s inside))
+    sound.numbered.media (far s) (far_inside world s inside) ∙ (ap (λ (tunnel : TunnelPlace). tunnel.medium) (far_tunnel world s) ∙ sym (sound.numbered.media s inside))
 
 -- the slots that a walk goes over beyond a slot with this goal have that one's medium
 beyond_of : (most : ℕ) (goal : SlotGoal) (world : WorldState) (s : ℕ) (medium : Medium) → IsSound world → s < slot_count world → goal_of world s ≡ goal → (slot_of world s).medium ≡ medium
@@ -45,8 +45,8 @@ walk_of (suc most) world s medium sound inside is =
 
 pub paths_of_one_medium : PathsOfOneMedium
 paths_of_one_medium world sound =
-    each_from (λ path. AreOf world (joint_of world path.low).medium (slots_on world path)) (path_from world) (places world) 0 (slot_count world) (omega arith)
+    each_from (λ path. AreOf world (tunnel_of world path.low).medium (slots_on world path)) (path_from world) (places world) 0 (slot_count world) (omega arith)
     (λ s inside path is.
     let low : path.low ≡ s = (parts_of world s path is).low_is in
-    subst (λ (n : ℕ). AreOf world (joint_of world n).medium (passed world (length (joints world)) n)) (sym low)
-    (walk_of (length (joints world)) world s (joint_of world s).medium sound inside (sound.numbered.media s inside)))
+    subst (λ (n : ℕ). AreOf world (tunnel_of world n).medium (passed world (length (all_tunnels world)) n)) (sym low)
+    (walk_of (length (all_tunnels world)) world s (tunnel_of world s).medium sound inside (sound.numbered.media s inside)))

@@ -5,7 +5,7 @@ use Rattle.std.specs.Option.{option_and_then}
 use Rattle.std.proofs.lemmas.List.Elements.{All-nil, All-cons}
 use Rattle.mc_signal.specs.declared.Descriptor.{Descriptor}
 use Rattle.mc_signal.specs.declared.Sender.{Sender}
-use Rattle.mc_slot.specs.EndTurn.{IsAtRest, owes}
+use Rattle.mc_slot.specs.EndTurn.{is_end_goal, IsAtRest, owes}
 use Rattle.mc_slot.specs.declared.Goal.{Goal}
 use Rattle.mc_slot.specs.declared.Goal.TheVariants.{Open as ToOpen, Close as ToClose}
 use Rattle.mc_slot.specs.declared.Slot.{Slot}
@@ -13,13 +13,13 @@ use Rattle.mc_slot.specs.declared.SlotGoal.{SlotGoal}
 use Rattle.mc_slot.specs.declared.SlotGoal.TheVariants.{End, Link}
 use Rattle.mc_slot.specs.declared.State.{State}
 use Rattle.mc_slot.specs.declared.State.TheVariants.{Closed, Flowing}
-use Rattle.mc_box.specs.Boxes.{goal_owes}
+use Rattle.mc_box.specs.Boxes.{slot_owes}
 use Rattle.mc_box.proofs.Options.{if_some, then_some}
 use Rattle.mc_model.specs.PathTable.{Hears}
-use Rattle.mc_model.specs.Paths.{PathEnds, end_goal, end_goal_of, from_low, is_end_goal, other_end, path_from, walked}
+use Rattle.mc_model.specs.Paths.{PathEnds, end_goal, end_goal_of, from_low, other_end, path_from, walked}
 use Rattle.mc_model.specs.Settles.{is_quiet}
 use Rattle.mc_model.specs.Sound.{IsSound}
-use Rattle.mc_model.specs.Worlds.{WorldState, far, goal_of, joints, own_descriptor, own_sender, places, slot_count, slot_of}
+use Rattle.mc_model.specs.Worlds.{WorldState, far, goal_of, all_tunnels, own_descriptor, own_sender, places, slot_count, slot_of}
 use Rattle.mc_laws.proofs.ActedWorlds.{far_inside}
 use Rattle.mc_path_laws.specs.PathLaws.{AreIn, HearEachOther, IsQuietPath, QuietPaths, passed}
 use Rattle.mc_path_laws.proofs.Chains.{AllAre, FlowingChain, end_is, last_slot, quiet_chain}
@@ -36,7 +36,7 @@ never_closed : (a : Slot) → owes ToOpen a ≡ false → a.state ≡ Closed →
 never_closed a none is = grind (arith)
 
 -- it owes by its goal
-owes_at : (goal : SlotGoal) (slot : Slot) → end_goal_of goal ≡ ToOpen → goal_owes goal slot ≡ false → owes ToOpen slot ≡ false
+owes_at : (goal : SlotGoal) (slot : Slot) → end_goal_of goal ≡ ToOpen → slot_owes goal slot ≡ false → owes ToOpen slot ≡ false
 owes_at (End goal) slot is none = ap (λ (g : Goal). owes g slot) (sym is) ∙ none
 owes_at (Link partner) slot is none = absurd (cc)
 
@@ -112,7 +112,7 @@ walk_leads (suc most) world s t sound quiet inside aims walk =
 -- ---- a path
 
 -- what holds of a path whose ends are alike and at rest
-path_by : (world : WorldState) (s t : ℕ) → Rests world s (end_goal world s) → Rests world t (end_goal world t) → IsAlike world (length (joints world)) s t → IsQuietPath world (record { low = s; high = t })
+path_by : (world : WorldState) (s t : ℕ) → Rests world s (end_goal world s) → Rests world t (end_goal world t) → IsAlike world (length (all_tunnels world)) s t → IsQuietPath world (record { low = s; high = t })
 path_by world s t rest_low rest_high alike = record {
   alike = alike.ends;
   along = λ state are. alike.along state are.low;
@@ -124,7 +124,7 @@ path_by world s t rest_low rest_high alike = record {
 
 -- a path from an end to an end
 quiet_path : (world : WorldState) (s t : ℕ) → IsSound world → IsTrue (is_quiet world) → s < slot_count world → goal_of world s ≡ End (end_goal world s)
-    → Walked world (length (joints world)) s t → IsQuietPath world (record { low = s; high = t })
+    → Walked world (length (all_tunnels world)) s t → IsQuietPath world (record { low = s; high = t })
 quiet_path world s t sound quiet inside aims walk =
     path_by world s t (end_rests world s sound inside aims) (end_rests world t sound walk.inside walk.aims) walk.alike
 
@@ -136,7 +136,7 @@ path_of world s path sound quiet inside is =
     let lower = if_some (nat_lt s leads.0) (Some (record { low = s; high = leads.0 })) path leads.2 in
     let same : record { low = s; high = leads.0 } ≡ path = cc in
     let aims = end_of (goal_of world s) begins.0 in
-    subst (λ (p : PathEnds). IsQuietPath world p) same (quiet_path world s leads.0 sound quiet inside aims (walk_leads (length (joints world)) world s leads.0 sound quiet inside aims leads.1))
+    subst (λ (p : PathEnds). IsQuietPath world p) same (quiet_path world s leads.0 sound quiet inside aims (walk_leads (length (all_tunnels world)) world s leads.0 sound quiet inside aims leads.1))
 
 -- ---- all paths
 

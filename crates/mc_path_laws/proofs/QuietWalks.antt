@@ -7,7 +7,7 @@ use Rattle.std.proofs.lemmas.Grind.{common_steps}
 use Rattle.std.proofs.lemmas.List.Elements.{All-nil, All-cons}
 use Rattle.mc_signal.specs.declared.Signal.{Signal}
 use Rattle.mc_signal.specs.declared.Tagged.{Tagged}
-use Rattle.mc_slot.specs.EndTurn.{IsAtRest}
+use Rattle.mc_slot.specs.EndTurn.{is_end_goal, IsAtRest}
 use Rattle.mc_slot.specs.Tunnel.{TunnelSound}
 use Rattle.mc_slot.specs.declared.Goal.{Goal}
 use Rattle.mc_slot.specs.declared.Slot.{Slot}
@@ -19,10 +19,10 @@ use Rattle.mc_link.proofs.Mirror.{mirror_rests}
 use Rattle.mc_box.specs.BoxSound.{RestsAt}
 use Rattle.mc_box.specs.Boxes.{BoxState, slot_at}
 use Rattle.mc_box.proofs.Options.{then_some}
-use Rattle.mc_model.specs.Paths.{end_goal, end_goal_of, is_end_goal, walk_by, walked}
+use Rattle.mc_model.specs.Paths.{end_goal, end_goal_of, walk_by, walked}
 use Rattle.mc_model.specs.Settles.{is_empty, is_quiet}
 use Rattle.mc_model.specs.Sound.{IsSound}
-use Rattle.mc_model.specs.Worlds.{WorldState, box_at, far, for_tunnel, goal_of, joint_of, lane_of, list_to, number, own_descriptor, own_sender, place, slot_count, slot_of}
+use Rattle.mc_model.specs.Worlds.{WorldState, box_at, far, for_tunnel, goal_of, tunnel_of, lane_of, list_to, number, own_descriptor, own_sender, place, slot_count, slot_of}
 use Rattle.mc_laws.proofs.ActedWorlds.{far_inside}
 use Rattle.mc_laws.proofs.Partners.{is_partner}
 use Rattle.mc_path_laws.specs.PathLaws.{passed, passed_by}
@@ -39,7 +39,7 @@ lane_none (first ∷ lanes) (suc lane) quiet = lane_none lanes lane (grind (arit
 
 -- so nothing comes to a slot
 pub list_none : (world : WorldState) (s : ℕ) → IsTrue (is_quiet world) → list_to world s ≡ []
-list_none world s quiet = ap (for_tunnel (joint_of world s).within) (lane_none world.lanes (lane_of world s) quiet)
+list_none world s quiet = ap (for_tunnel (tunnel_of world s).within) (lane_none world.lanes (lane_of world s) quiet)
 
 -- a tunnel of a quiet world
 pub quiet_tunnel : (world : WorldState) (s : ℕ) → IsSound world → IsTrue (is_quiet world) → s < slot_count world → TunnelSound (slot_of world s) [] (slot_of world (far s)) []

@@ -4,10 +4,11 @@ use Rattle.std.specs.Option.{option_map, unwrap_or}
 use Rattle.std.proofs.lemmas.Bool.{cases_eq}
 use Rattle.mc_slot.specs.declared.SlotGoal.{SlotGoal}
 use Rattle.mc_slot.specs.declared.SlotGoal.TheVariants.{End, Link}
-use Rattle.mc_model.specs.Paths.{is_end_goal, path_from}
+use Rattle.mc_slot.specs.EndTurn.{is_end_goal}
+use Rattle.mc_model.specs.Paths.{path_from}
 use Rattle.mc_model.specs.Rings.{IsOnRing, next_slot, slot_after}
 use Rattle.mc_model.specs.Sound.{IsSound}
-use Rattle.mc_model.specs.Worlds.{WorldState, far, goal_of, joints, number, place, places, slot_count}
+use Rattle.mc_model.specs.Worlds.{WorldState, far, goal_of, all_tunnels, number, place, places, slot_count}
 use Rattle.mc_laws.proofs.Numbers.{far_back}
 use Rattle.mc_laws.proofs.Partners.{by_goal}
 use Rattle.mc_laws.proofs.RingChains.{after_inside, after_sum, no_way_back}
@@ -129,7 +130,7 @@ paths_pass_once world sound =
     each_from (λ path. HasNoRepeats (slots_on world path)) (path_from world) (places world) 0 (slot_count world) (omega arith)
     (λ s inside path is.
     let parts = parts_of world s path is in
-    subst (λ (n : ℕ). HasNoRepeats (passed world (length (joints world)) n)) (sym parts.low_is)
+    subst (λ (n : ℕ). HasNoRepeats (passed world (length (all_tunnels world)) n)) (sym parts.low_is)
     (λ i j before within.
-    differ world s i j (passed world (length (joints world)) s) sound inside parts.aims before
-    (stands_at world (length (joints world)) s i (omega (arith, before, within))) (stands_at world (length (joints world)) s j within)))
+    differ world s i j (passed world (length (all_tunnels world)) s) sound inside parts.aims before
+    (stands_at world (length (all_tunnels world)) s i (omega (arith, before, within))) (stands_at world (length (all_tunnels world)) s j within)))

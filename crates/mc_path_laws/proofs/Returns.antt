@@ -6,9 +6,10 @@ use Rattle.mc_slot.specs.declared.Goal.{Goal}
 use Rattle.mc_slot.specs.declared.SlotGoal.{SlotGoal}
 use Rattle.mc_slot.specs.declared.SlotGoal.TheVariants.{End, Link}
 use Rattle.mc_box.proofs.Options.{then_some}
-use Rattle.mc_model.specs.Paths.{is_end_goal, other_end, walk_by, walked}
+use Rattle.mc_slot.specs.EndTurn.{is_end_goal}
+use Rattle.mc_model.specs.Paths.{other_end, walk_by, walked}
 use Rattle.mc_model.specs.Sound.{IsSound}
-use Rattle.mc_model.specs.Worlds.{WorldState, far, goal_of, joints, number, place, slot_count}
+use Rattle.mc_model.specs.Worlds.{WorldState, far, goal_of, all_tunnels, number, place, slot_count}
 use Rattle.mc_laws.proofs.ActedWorlds.{far_inside}
 use Rattle.mc_laws.proofs.Numbers.{far_back}
 use Rattle.mc_laws.proofs.Partners.{IsPartner, is_partner}
@@ -158,29 +159,29 @@ left_of : (steps total : ℕ) → steps ≤ total → (left : ℕ) × (steps + l
 left_of steps total few = (total - steps, omega arith)
 
 -- a slot from which the walk comes back to an end has that end
-pub comes_back : (world : WorldState) (s t : ℕ) → IsTrue (is_end_goal (goal_of world s)) → Returns world (length (joints world)) s t → other_end world t ≡ Some s
+pub comes_back : (world : WorldState) (s t : ℕ) → IsTrue (is_end_goal (goal_of world s)) → Returns world (length (all_tunnels world)) s t → other_end world t ≡ Some s
 comes_back world s t aims returns =
-    let rest = left_of returns.steps (length (joints world)) returns.few in
-    returns.back rest.0 (length (joints world)) rest.1 ∙ stays (walked world rest.0) world (goal_of world s) s aims
+    let rest = left_of returns.steps (length (all_tunnels world)) returns.few in
+    returns.back rest.0 (length (all_tunnels world)) rest.1 ∙ stays (walked world rest.0) world (goal_of world s) s aims
 
 -- so ends come to each other
 pub end_back : (world : WorldState) (s t : ℕ) → IsSound world → s < slot_count world → IsTrue (is_end_goal (goal_of world s)) → other_end world s ≡ Some t → other_end world t ≡ Some s
-end_back world s t sound inside aims walk = comes_back world s t aims (walk_back (length (joints world)) world s t sound inside walk).returns
+end_back world s t sound inside aims walk = comes_back world s t aims (walk_back (length (all_tunnels world)) world s t sound inside walk).returns
 
 -- a walk back passes what the walk passed, the other way round, and then what is beyond
 pub slots_beyond : (world : WorldState) (s t : ℕ) → IsSound world → s < slot_count world → other_end world s ≡ Some t
-    → (beyond : List ℕ) × (passed world (length (joints world)) t ≡ reverse (passed world (length (joints world)) s) ++ beyond)
+    → (beyond : List ℕ) × (passed world (length (all_tunnels world)) t ≡ reverse (passed world (length (all_tunnels world)) s) ++ beyond)
 slots_beyond world s t sound inside walk =
-    let more = walk_back (length (joints world)) world s t sound inside walk in
-    let rest = left_of more.returns.steps (length (joints world)) more.returns.few in
-    (passed_by (passed world rest.0) world (goal_of world s) s, more.slots rest.0 (length (joints world)) rest.1)
+    let more = walk_back (length (all_tunnels world)) world s t sound inside walk in
+    let rest = left_of more.returns.steps (length (all_tunnels world)) more.returns.few in
+    (passed_by (passed world rest.0) world (goal_of world s) s, more.slots rest.0 (length (all_tunnels world)) rest.1)
 
 -- from one end to the other a path has the same slots, the other way round
 pub slots_back : (world : WorldState) (s t : ℕ) → IsSound world → s < slot_count world → IsTrue (is_end_goal (goal_of world s)) → other_end world s ≡ Some t
     → slots_on world (record { low = t; high = s }) ≡ reverse (slots_on world (record { low = s; high = t }))
 slots_back world s t sound inside aims walk =
-    let more = walk_back (length (joints world)) world s t sound inside walk in
-    let rest = left_of more.returns.steps (length (joints world)) more.returns.few in
-    more.slots rest.0 (length (joints world)) rest.1
-    ∙ (ap (λ (l : List ℕ). reverse (passed world (length (joints world)) s) ++ l) (passes_none (passed world rest.0) world (goal_of world s) s aims)
-    ∙ append-nil (reverse (passed world (length (joints world)) s)))
+    let more = walk_back (length (all_tunnels world)) world s t sound inside walk in
+    let rest = left_of more.returns.steps (length (all_tunnels world)) more.returns.few in
+    more.slots rest.0 (length (all_tunnels world)) rest.1
+    ∙ (ap (λ (l : List ℕ). reverse (passed world (length (all_tunnels world)) s) ++ l) (passes_none (passed world rest.0) world (goal_of world s) s aims)
+    ∙ append-nil (reverse (passed world (length (all_tunnels world)) s)))

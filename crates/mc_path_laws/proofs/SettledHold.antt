@@ -11,13 +11,14 @@ use Rattle.mc_slot.specs.declared.SlotGoal.{SlotGoal}
 use Rattle.mc_slot.specs.declared.SlotGoal.TheVariants.{End, Link}
 use Rattle.mc_slot.specs.declared.State.{State}
 use Rattle.mc_slot.specs.declared.State.TheVariants.{Closed, Opening, Opened, Flowing, Closing}
-use Rattle.mc_box.specs.Boxes.{goal_at, goal_owes}
-use Rattle.mc_model.specs.Paths.{PathEnds, end_goal, end_goal_of, is_end_goal, other_end, path_from, paths}
-use Rattle.mc_model.specs.Settles.{is_quiet, is_retry_of, owes_retry, takes_or_retries}
-use Rattle.mc_model.specs.Shapes.{owes_of}
+use Rattle.mc_box.specs.Boxes.{goal_at, slot_owes}
+use Rattle.mc_slot.specs.EndTurn.{is_end_goal}
+use Rattle.mc_model.specs.Paths.{PathEnds, end_goal, end_goal_of, other_end, path_from, paths}
+use Rattle.mc_model.specs.Settles.{is_quiet, is_retry_of, world_owes, takes_or_retries}
+use Rattle.mc_model.specs.Shapes.{owes_by_number}
 use Rattle.mc_model.specs.Sound.{IsSound}
 use Rattle.mc_model.specs.Steps.{after, run, step}
-use Rattle.mc_model.specs.Worlds.{ChannelState, WorldState, box_at, goal_of, joints, place, places, slot_count, slot_of}
+use Rattle.mc_model.specs.Worlds.{ChannelState, WorldState, box_at, goal_of, all_tunnels, place, places, slot_count, slot_of}
 use Rattle.mc_box.specs.declared.event.Turn.{Turn}
 use Rattle.mc_laws.proofs.GoalsKept.{Stay, run_stays}
 use Rattle.mc_laws.proofs.NoPrograms.{quiet_rests}
@@ -57,12 +58,12 @@ run_halves first second world last goes =
 -- ---- a slot that is to open
 
 -- an end that is to open owes a retry where it is closed
-owes_closed : (goal : SlotGoal) (slot : Slot) → end_goal_of goal ≡ ToOpen → slot.state ≡ Closed → goal_owes goal slot ≡ true
+owes_closed : (goal : SlotGoal) (slot : Slot) → end_goal_of goal ≡ ToOpen → slot.state ≡ Closed → slot_owes goal slot ≡ true
 owes_closed (End goal) slot aims is = grind (arith, common_steps)
 owes_closed (Link partner) slot aims is = absurd (cc)
 
 -- and none owes one where it isn't
-owes_begun : (goal : SlotGoal) (slot : Slot) → slot.state ≢ Closed → goal_owes goal slot ≡ false
+owes_begun : (goal : SlotGoal) (slot : Slot) → slot.state ≢ Closed → slot_owes goal slot ≡ false
 owes_begun (End goal) slot begun = grind (arith, common_steps)
 owes_begun (Link partner) slot begun = refl
 
@@ -75,7 +76,7 @@ closed_or_not Flowing = inl (λ is. cc)
 closed_or_not Closing = inl (λ is. cc)
 
 -- a slot that owes a retry owes it by its box and its local number
-owes_by_place : (world : WorldState) (t : ℕ) → IsSound world → t < slot_count world → owes_of world t ≡ true → owes_retry world (place world t).0 (place world t).1 ≡ true
+owes_by_place : (world : WorldState) (t : ℕ) → IsSound world → t < slot_count world → owes_by_number world t ≡ true → world_owes world (place world t).0 (place world t).1 ≡ true
 owes_by_place world t sound within owed =
     rw (
       below_test (place world t).0 (length world.boxes) (sound.numbered.placed t within),
@@ -84,7 +85,7 @@ owes_by_place world t sound within owed =
 
 -- it isn't closed, or its Retry is to come
 begun_or_retried : (world : WorldState) (turns : List Turn) (t : ℕ) → IsSound world → t < slot_count world → end_goal world t ≡ ToOpen
-    → ((who local : ℕ) → IsTrue (owes_retry world who local) → 1 ≤ count_by (is_retry_of who local) turns)
+    → ((who local : ℕ) → IsTrue (world_owes world who local) → 1 ≤ count_by (is_retry_of who local) turns)
     → ((slot_of world t).state ≢ Closed) ⊎ (1 ≤ count_by (is_retry_of (place world t).0 (place world t).1) turns)
 begun_or_retried world turns t sound within aims retries = elim (closed_or_not (slot_of world t).state) [
   | inl begun ↦ inl begun
@@ -105,8 +106,8 @@ goal_before world last t stay =
 -- once each Retry has come that was owed when nothing was under way, an end that is to open owes none, unless the other end of its path closes
 owes_none : (world last : WorldState) (turns : List Turn) (s t : ℕ) → IsSound world → IsTrue (is_quiet world)
     → list_all (λ turn. takes_or_retries turn.event) turns ≡ true → run world turns ≡ Some last
-    → ((who local : ℕ) → IsTrue (owes_retry world who local) → 1 ≤ count_by (is_retry_of who local) turns)
-    → s < slot_count last → is_end_goal (goal_of last s) ≡ true → other_end last s ≡ Some t → end_goal last s ≡ ToOpen → end_goal last t ≢ ToClose → owes_of last s ≡ false
+    → ((who local : ℕ) → IsTrue (world_owes world who local) → 1 ≤ count_by (is_retry_of who local) turns)
+    → s < slot_count last → is_end_goal (goal_of last s) ≡ true → other_end last s ≡ Some t → end_goal last s ≡ ToOpen → end_goal last t ≢ ToClose → owes_by_number last s ≡ false
 owes_none world last turns s t sound quiet all goes retries inside aims walk opens far_stays =
     let stay = run_stays turns world last sound all goes in
     let between : IsBetween world s = between_before world last s stay.channels stay.goals
@@ -119,16 +120,16 @@ owes_none world last turns s t sound quiet all goes retries inside aims walk ope
 -- both ends of the path of which a slot is the lower end
 path_owes_none : (world last : WorldState) (turns : List Turn) (s : ℕ) (path : PathEnds) → IsSound world → IsTrue (is_quiet world)
     → list_all (λ turn. takes_or_retries turn.event) turns ≡ true → run world turns ≡ Some last
-    → ((who local : ℕ) → IsTrue (owes_retry world who local) → 1 ≤ count_by (is_retry_of who local) turns)
+    → ((who local : ℕ) → IsTrue (world_owes world who local) → 1 ≤ count_by (is_retry_of who local) turns)
     → s < slot_count last → path_from last s ≡ Some path → OwesNone last path
 path_owes_none world last turns s path sound quiet all goes retries inside is =
     let parts = parts_of last s path is in
     let kept = (run_stays turns world last sound all goes).sound in
-    let more = walk_back (length (joints last)) last s path.high kept inside parts.leads in
+    let more = walk_back (length (all_tunnels last)) last s path.high kept inside parts.leads in
     let back : other_end last path.high ≡ Some s = end_back last s path.high kept inside parts.aims parts.leads in
     record {
       low = λ opens stays.
-          subst (λ (n : ℕ). owes_of last n ≡ false) (sym parts.low_is)
+          subst (λ (n : ℕ). owes_by_number last n ≡ false) (sym parts.low_is)
           (owes_none world last turns s path.high sound quiet all goes retries inside parts.aims parts.leads (subst (λ (n : ℕ). end_goal last n ≡ ToOpen) parts.low_is opens) stays);
       high = λ opens stays.
           owes_none world last turns path.high s sound quiet all goes retries more.inside more.aims back opens (subst (λ (n : ℕ). end_goal last n ≢ ToClose) parts.low_is stays);
@@ -137,7 +138,7 @@ path_owes_none world last turns s path sound quiet all goes retries inside is =
 -- all paths
 rest_owes_none : (world last : WorldState) (turns : List Turn) → IsSound world → IsTrue (is_quiet world)
     → list_all (λ turn. takes_or_retries turn.event) turns ≡ true → run world turns ≡ Some last
-    → ((who local : ℕ) → IsTrue (owes_retry world who local) → 1 ≤ count_by (is_retry_of who local) turns)
+    → ((who local : ℕ) → IsTrue (world_owes world who local) → 1 ≤ count_by (is_retry_of who local) turns)
     → All (OwesNone last) (paths last)
 rest_owes_none world last turns sound quiet all goes retries =
     each_from (OwesNone last) (path_from last) (places last) 0 (slot_count last) (omega arith)
@@ -165,5 +166,5 @@ settled_paths_hold world last batch turns sound settled =
     (run_keeps_sound world (after world (take settled.moment turns)) (take settled.moment turns) sound halves.0)
     (quiet_rests (after world (take settled.moment turns)) ∙ rest.at_rest) rest.besides halves.1
     (λ who local owes.
-    some_retry (owes_retry (after world (take settled.moment turns)) who local) (count_by (is_retry_of who local) (drop settled.moment turns)) (rest.retries who local) owes)
+    some_retry (world_owes (after world (take settled.moment turns)) who local) (count_by (is_retry_of who local) (drop settled.moment turns)) (rest.retries who local) owes)
     (quiet_rests last ∙ settled.at_rest)

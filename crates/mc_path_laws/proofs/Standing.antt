@@ -12,7 +12,7 @@ use Rattle.mc_slot.specs.declared.SlotGoal.TheVariants.{End, Link}
 use Rattle.mc_box.proofs.Options.{then_some}
 use Rattle.mc_model.specs.Paths.{PathEnds, other_end, path_from, paths, walk_by, walked}
 use Rattle.mc_model.specs.Sound.{IsSound}
-use Rattle.mc_model.specs.Worlds.{WorldState, far, goal_of, joints, number, place, places, slot_count}
+use Rattle.mc_model.specs.Worlds.{WorldState, far, goal_of, all_tunnels, number, place, places, slot_count}
 use Rattle.mc_laws.proofs.ActedWorlds.{far_inside}
 use Rattle.mc_model.specs.Rings.{IsOnRing}
 use Rattle.mc_laws.proofs.Partners.{is_partner}
@@ -108,8 +108,8 @@ on_path : (world : WorldState) (i s : ℕ) (path : PathEnds) → IsSound world �
     → (other_end world s ≡ Some path.high) ⊎ (other_end world s ≡ Some path.low)
 on_path world i s path sound inside is on =
     let parts = parts_of world i path is in
-    let here : has s (passed world (length (joints world)) i) ≡ true = subst (λ (n : ℕ). has s (passed world (length (joints world)) n) ≡ true) parts.low_is on in
-    elim (on_walk (length (joints world)) world i s path.high sound inside parts.leads here) [
+    let here : has s (passed world (length (all_tunnels world)) i) ≡ true = subst (λ (n : ℕ). has s (passed world (length (all_tunnels world)) n) ≡ true) parts.low_is on in
+    elim (on_walk (length (all_tunnels world)) world i s path.high sound inside parts.leads here) [
       | inl goes ↦ inl goes
       | inr returns ↦ inr (comes_back world i s parts.aims returns ∙ ap (λ (n : ℕ). Some n) (sym parts.low_is))
     ]
@@ -120,12 +120,12 @@ passes_own zero world s u walk = absurd (cc)
 passes_own (suc most) world s u walk = has_first s (far s ∷ passed_by (passed world most) world (goal_of world (far s)) (far s))
 
 -- and so does the walk back from its end
-end_passes : (world : WorldState) (s u : ℕ) → IsSound world → s < slot_count world → other_end world s ≡ Some u → has s (passed world (length (joints world)) u) ≡ true
+end_passes : (world : WorldState) (s u : ℕ) → IsSound world → s < slot_count world → other_end world s ≡ Some u → has s (passed world (length (all_tunnels world)) u) ≡ true
 end_passes world s u sound inside walk =
     let back = slots_beyond world s u sound inside walk in
-    let own : has s (passed world (length (joints world)) s) ≡ true = passes_own (length (joints world)) world s u walk in
+    let own : has s (passed world (length (all_tunnels world)) s) ≡ true = passes_own (length (all_tunnels world)) world s u walk in
     ap (has s) back.1
-    ∙ has_before s (reverse (passed world (length (joints world)) s)) back.0 (has_reverse s (passed world (length (joints world)) s) ∙ own)
+    ∙ has_before s (reverse (passed world (length (all_tunnels world)) s)) back.0 (has_reverse s (passed world (length (all_tunnels world)) s) ∙ own)
 
 -- an end of a path is its lower or its higher end
 which_end : (a b t : ℕ) → (a == t || b == t) ≡ true → (a ≡ t) ⊎ (b ≡ t)
@@ -139,14 +139,14 @@ over_slot : (world : WorldState) (i s t : ℕ) (path : PathEnds) → IsSound wor
     → is_end_of t path ≡ true → is_on world s path ≡ true
 over_slot world i s t path sound inside within is walk ends =
     let parts = parts_of world i path is in
-    let here : has s (passed world (length (joints world)) t) ≡ true = end_passes world s t sound within walk in
+    let here : has s (passed world (length (all_tunnels world)) t) ≡ true = end_passes world s t sound within walk in
     elim (which_end path.low path.high t ends) [
-      | inl low ↦ subst (λ (n : ℕ). has s (passed world (length (joints world)) n) ≡ true) (sym low) here
+      | inl low ↦ subst (λ (n : ℕ). has s (passed world (length (all_tunnels world)) n) ≡ true) (sym low) here
       | inr high ↦
-          let turned : passed world (length (joints world)) path.high ≡ reverse (passed world (length (joints world)) i) = slots_back world i path.high sound inside parts.aims parts.leads in
-          let there : has s (passed world (length (joints world)) path.high) ≡ true = subst (λ (n : ℕ). has s (passed world (length (joints world)) n) ≡ true) (sym high) here in
-          let first : has s (passed world (length (joints world)) i) ≡ true = sym (has_reverse s (passed world (length (joints world)) i)) ∙ (sym (ap (has s) turned) ∙ there) in
-          subst (λ (n : ℕ). has s (passed world (length (joints world)) n) ≡ true) (sym parts.low_is) first
+          let turned : passed world (length (all_tunnels world)) path.high ≡ reverse (passed world (length (all_tunnels world)) i) = slots_back world i path.high sound inside parts.aims parts.leads in
+          let there : has s (passed world (length (all_tunnels world)) path.high) ≡ true = subst (λ (n : ℕ). has s (passed world (length (all_tunnels world)) n) ≡ true) (sym high) here in
+          let first : has s (passed world (length (all_tunnels world)) i) ≡ true = sym (has_reverse s (passed world (length (all_tunnels world)) i)) ∙ (sym (ap (has s) turned) ∙ there) in
+          subst (λ (n : ℕ). has s (passed world (length (all_tunnels world)) n) ≡ true) (sym parts.low_is) first
     ]
 
 -- so a path goes over a slot where it has the slot's end
@@ -199,7 +199,7 @@ slot_by once None world s sound inside walk =
     count_none (is_on world s) (path_from world) (places world) 0 (slot_count world) (omega arith)
     (λ i after within path is. on_none world i s path sound within is walk)
 slot_by once (Some t) world s sound inside walk =
-    let more = walk_back (length (joints world)) world s t sound inside walk in
+    let more = walk_back (length (all_tunnels world)) world s t sound inside walk in
     count_same (is_on world s) (is_end_of t) (path_from world) (places world) 0 (slot_count world) (omega arith)
     (λ i within path is. on_is world i s t path sound within inside is walk)
     ∙ once world t sound more.inside more.aims

@@ -7,7 +7,7 @@ use Rattle.mc_slot.specs.declared.State.{State}
 use Rattle.mc_slot.specs.declared.State.TheVariants.{Closed, Flowing}
 use Rattle.mc_model.specs.PathTable.{PathHolds, path_state, table}
 use Rattle.mc_model.specs.Paths.{PathEnds, end_goal}
-use Rattle.mc_model.specs.Shapes.{owes_of}
+use Rattle.mc_model.specs.Shapes.{owes_by_number}
 use Rattle.mc_model.specs.Worlds.{WorldState, slot_of}
 use Rattle.mc_path_laws.specs.PathLaws.{AreIn, HearEachOther, IsQuietPath}
 
@@ -76,8 +76,8 @@ both_hold world path quiet one two =
 
 -- no opening end of a path owes a retry, unless the other end closes
 pub record OwesNone (world : WorldState) (path : PathEnds) : Type 0 where
-  pub low : end_goal world path.low ≡ ToOpen → end_goal world path.high ≢ ToClose → owes_of world path.low ≡ false
-  pub high : end_goal world path.high ≡ ToOpen → end_goal world path.low ≢ ToClose → owes_of world path.high ≡ false
+  pub low : end_goal world path.low ≡ ToOpen → end_goal world path.high ≢ ToClose → owes_by_number world path.low ≡ false
+  pub high : end_goal world path.high ≡ ToOpen → end_goal world path.low ≢ ToClose → owes_by_number world path.high ≡ false
 
 -- a goal that is another's, which isn't close
 not_closing : (goal other : Goal) → goal ≡ other → other ≢ ToClose → goal ≢ ToClose

@@ -9,13 +9,14 @@ use Rattle.mc_slot.specs.declared.SlotGoal.TheVariants.{End, Link}
 use Rattle.mc_slot.specs.declared.State.{State}
 use Rattle.mc_slot.specs.declared.State.TheVariants.{Closed, Flowing, Closing}
 use Rattle.mc_model.specs.PathTable.{Hears, PathHolds}
-use Rattle.mc_model.specs.Paths.{PathEnds, end_goal, is_end_goal, paths}
+use Rattle.mc_slot.specs.EndTurn.{is_end_goal}
+use Rattle.mc_model.specs.Paths.{PathEnds, end_goal, paths}
 use Rattle.mc_model.specs.Rings.{IsOnRing}
-use Rattle.mc_model.specs.Settles.{IsSettled, is_quiet, is_retry_of, owes_retry, takes_or_retries}
-use Rattle.mc_model.specs.Shapes.{owes_of}
+use Rattle.mc_model.specs.Settles.{IsSettled, is_quiet, is_retry_of, world_owes, takes_or_retries}
+use Rattle.mc_model.specs.Shapes.{owes_by_number}
 use Rattle.mc_model.specs.Sound.{IsSound}
 use Rattle.mc_model.specs.Steps.{run}
-use Rattle.mc_model.specs.Worlds.{WorldState, far, goal_of, joint_of, joints, list_to, number, own_descriptor, own_sender, place, slot_count, slot_of}
+use Rattle.mc_model.specs.Worlds.{WorldState, far, goal_of, tunnel_of, all_tunnels, list_to, number, own_descriptor, own_sender, place, slot_count, slot_of}
 use Rattle.mc_box.specs.declared.event.Turn.{Turn}
 
 -- both end slots of a path are in a state
@@ -40,11 +41,11 @@ passed world (suc most) s = s ∷ far s ∷ passed_by (passed world most) world 
 
 -- all slots of a path, from its lower end to its higher
 abbrev pub slots_on : WorldState → PathEnds → List ℕ
-slots_on world path = passed world (length (joints world)) path.low
+slots_on world path = passed world (length (all_tunnels world)) path.low
 
 -- all slots of a path of a sound world have one medium, that of its lower end's tunnel
 abbrev pub PathsOfOneMedium : Type 0
-PathsOfOneMedium = (world : WorldState) → IsSound world → All (λ path. All (λ s. (slot_of world s).medium ≡ (joint_of world path.low).medium) (slots_on world path)) (paths world)
+PathsOfOneMedium = (world : WorldState) → IsSound world → All (λ path. All (λ s. (slot_of world s).medium ≡ (tunnel_of world path.low).medium) (slots_on world path)) (paths world)
 
 -- what a path is where nothing is under way: closed, or flowing with ends that hear each other, and all its slots are as its ends; closed where an end closes, and flowing where one opens and owes no retry
 pub record IsQuietPath (world : WorldState) (path : PathEnds) : Type 0 where
@@ -52,8 +53,8 @@ pub record IsQuietPath (world : WorldState) (path : PathEnds) : Type 0 where
   pub along : (state : State) → AreIn world path state → All (λ s. (slot_of world s).state ≡ state) (slots_on world path)
   pub low_closes : end_goal world path.low ≡ ToClose → AreIn world path Closed
   pub high_closes : end_goal world path.high ≡ ToClose → AreIn world path Closed
-  pub low_opens : end_goal world path.low ≡ ToOpen → owes_of world path.low ≡ false → AreIn world path Flowing
-  pub high_opens : end_goal world path.high ≡ ToOpen → owes_of world path.high ≡ false → AreIn world path Flowing
+  pub low_opens : end_goal world path.low ≡ ToOpen → owes_by_number world path.low ≡ false → AreIn world path Flowing
+  pub high_opens : end_goal world path.high ≡ ToOpen → owes_by_number world path.high ≡ false → AreIn world path Flowing
 
 -- each path of a quiet sound world, over however many tunnels
 abbrev pub QuietPaths : Type 0
@@ -77,7 +78,7 @@ CleanPaths = (world next : WorldState) (turns : List Turn) → IsSound world →
 abbrev pub RestedPathsHold : Type 0
 RestedPathsHold = (world last : WorldState) (turns : List Turn) → IsSound world → IsTrue (is_quiet world)
     → IsTrue (list_all (λ turn. takes_or_retries turn.event) turns) → run world turns ≡ Some last
-    → ((who local : ℕ) → IsTrue (owes_retry world who local) → 1 ≤ count_by (is_retry_of who local) turns)
+    → ((who local : ℕ) → IsTrue (world_owes world who local) → 1 ≤ count_by (is_retry_of who local) turns)
     → IsTrue (is_quiet last) → All (PathHolds last) (paths last)
 
 -- after each settled segment, whatever the order of its turns, each path is as the path table says

@@ -1,7 +1,7 @@
 -- What may be at rest on one side of a box: an end, by its goal and its state, and the two slots of a link, by theirs.
 use Rattle.std.specs.Prelude.{◌≡◌, ◌↔◌, Option, Some, true}
 use Rattle.std.specs.Option.{option_map}
-use Rattle.mc_signal.specs.Choice.{answers, selector_of}
+use Rattle.mc_signal.specs.Choice.{answers, choose}
 use Rattle.mc_signal.specs.declared.Descriptor.{Descriptor}
 use Rattle.mc_signal.specs.declared.Selector.{Selector}
 use Rattle.mc_signal.specs.declared.Sender.{Sender}
@@ -20,7 +20,7 @@ EndMayRest ToClose Closed slot own me = Unit {0}
 EndMayRest ToClose Closing slot own me = Unit {0}
 EndMayRest ToClose state slot own me = ⊥
 EndMayRest goal Opened slot own me = ⊥
-EndMayRest goal Flowing slot own me = (slot.sent ≡ Some own) × (slot.sel_out ≡ option_map (λ got. selector_of got me) slot.got)
+EndMayRest goal Flowing slot own me = (slot.sent ≡ Some own) × (slot.sel_out ≡ option_map (λ got. choose got me) slot.got)
 EndMayRest goal state slot own me = Unit {0}
 
 -- an end is at rest exactly where the table has it

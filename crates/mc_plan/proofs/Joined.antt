@@ -6,7 +6,7 @@ use Rattle.std.proofs.lemmas.List.Elements.{All-append, All-cons, All-nil}
 use Rattle.mc_signal.specs.declared.Medium.{Medium}
 use Rattle.mc_model.specs.Worlds.{ChannelState, HasTunnels, places_among, places_within}
 use Rattle.mc_plan.specs.LaidOut.{AreInOrder, AreThere, IsLaidOut}
-use Rattle.mc_plan.specs.Plans.{PlanState, channel_between, joined, slots_of, tunnels_from}
+use Rattle.mc_plan.specs.Plans.{PlanState, channel_between, with_channel, slots_of, tunnels_between}
 use Rattle.mc_plan.specs.Refusals.{join_fault}
 use Rattle.mc_plan.proofs.Orders.{channel_ordered, channel_there, ordered_append, there_append}
 use Rattle.mc_plan.proofs.Slots.{length_tunnels, part, slots_append, slots_one}
@@ -64,14 +64,14 @@ one_all : (P : ChannelState → Type 0) (ends : ChannelState) → P ends → All
 one_all P ends holds = All-cons P ends [] holds (All-nil P)
 
 -- all that a plan keeps
-joined_by : (plan : PlanState) (from to : ℕ) (media : List Medium) → IsLaidOut plan → MayJoin plan from to media → IsLaidOut (joined plan from to media)
+joined_by : (plan : PlanState) (from to : ℕ) (media : List Medium) → IsLaidOut plan → MayJoin plan from to media → IsLaidOut (with_channel plan from to media)
 joined_by plan from to media laid may =
     let ends : ChannelState = channel_between plan.channels from to media in
     let near : ℕ = slots_of plan.channels from in
     let far : ℕ = slots_of plan.channels to in
     let places : places_among (plan.channels ++ channel_between plan.channels from to media ∷ []) ≡ places_among plan.channels ++ places_within (channel_between plan.channels from to media) = places_joined plan.channels ends in
-    let few : length (tunnels_from (slots_of plan.channels from) (slots_of plan.channels to) media) ≤ 8 = omega (arith, length_tunnels near far media, may.tunnels) in
-    let any : 0 < length (tunnels_from (slots_of plan.channels from) (slots_of plan.channels to) media) = omega (arith, length_tunnels near far media, may.some) in
+    let few : length (tunnels_between (slots_of plan.channels from) (slots_of plan.channels to) media) ≤ 8 = omega (arith, length_tunnels near far media, may.tunnels) in
+    let any : 0 < length (tunnels_between (slots_of plan.channels from) (slots_of plan.channels to) media) = omega (arith, length_tunnels near far media, may.some) in
     record {
       boxes = laid.boxes;
       channels = omega (arith, length-append plan.channels (ends ∷ []), may.channels);
@@ -83,5 +83,5 @@ joined_by plan from to media laid may =
     }
 
 -- where the channel breaks no rule
-pub joined_laid_out : (plan : PlanState) (from to : ℕ) (media : List Medium) → IsLaidOut plan → join_fault plan from to media ≡ None → IsLaidOut (joined plan from to media)
+pub joined_laid_out : (plan : PlanState) (from to : ℕ) (media : List Medium) → IsLaidOut plan → join_fault plan from to media ≡ None → IsLaidOut (with_channel plan from to media)
 joined_laid_out plan from to media laid none = joined_by plan from to media laid (may_join plan from to media none)

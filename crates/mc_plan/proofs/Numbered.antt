@@ -7,10 +7,9 @@ use Rattle.mc_slot.specs.declared.Slot.{Slot}
 use Rattle.mc_box.specs.Boxes.{BoxState, IsBox, IsNewBox, first_goal, first_media, first_slot, media_at, no_box, no_media, no_slot, slot_at}
 use Rattle.mc_box.specs.declared.setup.SlotMedia.{SlotMedia}
 use Rattle.mc_box.specs.declared.setup.SlotSetup.{SlotSetup}
-use Rattle.mc_model.specs.Setups.{setups_of}
+use Rattle.mc_model.specs.Setups.{AreNew, setups_of}
 use Rattle.mc_model.specs.Sound.{IsNumbered}
-use Rattle.mc_model.specs.Setups.{AreNew}
-use Rattle.mc_model.specs.Worlds.{ChannelState, Joint, WorldState, box_at, joint_of, joints_from, no_joint, place, places_among, slot_count}
+use Rattle.mc_model.specs.Worlds.{ChannelState, TunnelPlace, WorldState, box_at, tunnel_of, tunnels_from, no_tunnel, place, places_among, slot_count}
 use Rattle.mc_box.proofs.NewBoxes.{first_is_new}
 use Rattle.mc_plan.specs.LaidOut.{IsLaidOut, place_at}
 use Rattle.mc_plan.specs.PlanLaws.{PlansAreNumbered, PlansStaySound}
@@ -105,7 +104,7 @@ set_up channels who planned local inside =
 record SlotFits (world : WorldState) (box : BoxState) (s : ℕ) : Type 0 where
   inside : (place world s).1 < length box.slots
   origin : (media_at box (place world s).1).origin ≡ s
-  medium : (slot_at box (place world s).1).medium ≡ (joint_of world s).medium
+  medium : (slot_at box (place world s).1).medium ≡ (tunnel_of world s).medium
   side : (slot_at box (place world s).1).initiator ≡ (s % 2 == 0)
 
 -- each slot of a box that is made from its plan
@@ -115,10 +114,10 @@ fits_from plan s planned laid inside =
     let places : List (ℕ × ℕ) = places_among plan.channels in
     let who : ℕ = (place_at (places_among plan.channels) s).0 in
     let local : ℕ = (place_at (places_among plan.channels) s).1 in
-    let joint : Joint = get_or (joints_from 0 plan.channels) (s / 2) no_joint in
+    let tunnel : TunnelPlace = get_or (tunnels_from 0 plan.channels) (s / 2) no_tunnel in
     let below : (place_at (places_among plan.channels) s).1 < slots_of plan.channels (place_at (places_among plan.channels) s).0 = local_inside places s laid.ordered inside in
-    let is : SlotIs (get_or (setups_of plan.channels who) local no_setup) s joint s =
-    subst (λ (n : ℕ). SlotIs (get_or (setups_of plan.channels who) n no_setup) s joint s) (sym (laid.ordered s inside)) (setup_of_slot plan.channels who s no_setup inside (same_box who)) in
+    let is : SlotIs (get_or (setups_of plan.channels who) local no_setup) s tunnel s =
+    subst (λ (n : ℕ). SlotIs (get_or (setups_of plan.channels who) n no_setup) s tunnel s) (sym (laid.ordered s inside)) (setup_of_slot plan.channels who s no_setup inside (same_box who)) in
     let there : IsSetUp (box_from plan.channels who planned) local (get_or (setups_of plan.channels who) local no_setup) =
     set_up plan.channels who planned local (subst (λ (n : ℕ). local < n) (sym (length_setups plan.channels who)) below) in
     record {

@@ -7,7 +7,7 @@ use Rattle.std.proofs.lemmas.List.{get_or_append_left, get_or-append-add, take-a
 use Rattle.mc_signal.specs.declared.Medium.{Medium}
 use Rattle.mc_model.specs.Worlds.{ChannelState, places_of}
 use Rattle.mc_plan.specs.LaidOut.{AreInOrder, AreThere, place_at}
-use Rattle.mc_plan.specs.Plans.{is_of, tunnels_from}
+use Rattle.mc_plan.specs.Plans.{is_of, tunnels_between}
 use Rattle.mc_plan.proofs.Counts.{count_append, count_cons}
 
 -- in order, where each box has so many slots already
@@ -92,20 +92,20 @@ after_both ends start who = after_one ends start who + cond (ends.to == who) 1 0
 
 -- each tunnel takes the next slot of both boxes
 pub channel_ordered : (ends : ChannelState) (media : List Medium) (near far : ℕ) (start : ℕ → ℕ) → ends.from ≢ ends.to → near ≡ start ends.from → far ≡ start ends.to
-    → AreFrom start (flat_map (places_of ends) (tunnels_from near far media))
+    → AreFrom start (flat_map (places_of ends) (tunnels_between near far media))
 channel_ordered ends [] near far start apart one two = from_none start
 channel_ordered ends (medium ∷ media) near far start apart one two =
     let back : ends.to ≢ ends.from = λ same. apart (sym same) in
     let near_next : near + 1 ≡ after_both ends start ends.from = omega (arith, one, one_here ends.from, none_there ends.to ends.from back) in
     let far_now : far ≡ after_one ends start ends.to = omega (arith, two, none_there ends.from ends.to apart) in
     let far_next : far + 1 ≡ after_both ends start ends.to = omega (arith, far_now, one_here ends.to) in
-    let rest : AreFrom (after_both ends start) (flat_map (places_of ends) (tunnels_from (near + 1) (far + 1) media)) = channel_ordered ends media (near + 1) (far + 1) (after_both ends start) apart near_next far_next in
-    from_cons start (after_one ends start) (ends.from, near) ((ends.to, far) ∷ flat_map (places_of ends) (tunnels_from (near + 1) (far + 1) media)) one (λ who. refl)
-    (from_cons (after_one ends start) (after_both ends start) (ends.to, far) (flat_map (places_of ends) (tunnels_from (near + 1) (far + 1) media)) far_now (λ who. refl) rest)
+    let rest : AreFrom (after_both ends start) (flat_map (places_of ends) (tunnels_between (near + 1) (far + 1) media)) = channel_ordered ends media (near + 1) (far + 1) (after_both ends start) apart near_next far_next in
+    from_cons start (after_one ends start) (ends.from, near) ((ends.to, far) ∷ flat_map (places_of ends) (tunnels_between (near + 1) (far + 1) media)) one (λ who. refl)
+    (from_cons (after_one ends start) (after_both ends start) (ends.to, far) (flat_map (places_of ends) (tunnels_between (near + 1) (far + 1) media)) far_now (λ who. refl) rest)
 
 -- both boxes are there
-pub channel_there : (ends : ChannelState) (media : List Medium) (near far boxes : ℕ) → ends.from < boxes → ends.to < boxes → AreThere boxes (flat_map (places_of ends) (tunnels_from near far media))
+pub channel_there : (ends : ChannelState) (media : List Medium) (near far boxes : ℕ) → ends.from < boxes → ends.to < boxes → AreThere boxes (flat_map (places_of ends) (tunnels_between near far media))
 channel_there ends [] near far boxes one two = λ s inside. absurd (omega arith)
 channel_there ends (medium ∷ media) near far boxes one two =
-    let rest : List (ℕ × ℕ) = flat_map (places_of ends) (tunnels_from (near + 1) (far + 1) media) in
+    let rest : List (ℕ × ℕ) = flat_map (places_of ends) (tunnels_between (near + 1) (far + 1) media) in
     there_cons boxes (ends.from, near) ((ends.to, far) ∷ rest) one (there_cons boxes (ends.to, far) rest two (channel_there ends media (near + 1) (far + 1) boxes one two))

@@ -6,7 +6,7 @@ use Rattle.std.proofs.lemmas.List.Concat.{flat_map-append}
 use Rattle.mc_signal.specs.declared.Medium.{Medium}
 use Rattle.mc_model.specs.Worlds.{ChannelState, places_among, places_of, places_within}
 use Rattle.mc_model.specs.declared.channel.Tunnel.{Tunnel}
-use Rattle.mc_plan.specs.Plans.{is_of, slots_of, tunnels_from}
+use Rattle.mc_plan.specs.Plans.{is_of, slots_of, tunnels_between}
 use Rattle.mc_plan.proofs.Counts.{count_append, count_cons}
 
 -- as many, or none
@@ -71,20 +71,20 @@ two_sides ends who near far one two = omega (arith, slots_one ends who)
 -- ---- the tunnels of a new channel
 
 -- a tunnel for each medium
-pub length_tunnels : (near far : ℕ) (media : List Medium) → length (tunnels_from near far media) ≡ length media
+pub length_tunnels : (near far : ℕ) (media : List Medium) → length (tunnels_between near far media) ≡ length media
 length_tunnels near far [] = refl
 length_tunnels near far (medium ∷ media) = ap suc (length_tunnels (near + 1) (far + 1) media)
 
 -- one tunnel more
 pub tunnels_more : (near far : ℕ) (media : List Medium) (i : ℕ) (d : Medium) → i < length media
-    → tunnels_from near far (take (i + 1) media) ≡ tunnels_from near far (take i media) ++ record { medium = get_or media i d; from = near + i; to = far + i } ∷ []
+    → tunnels_between near far (take (i + 1) media) ≡ tunnels_between near far (take i media) ++ record { medium = get_or media i d; from = near + i; to = far + i } ∷ []
 tunnels_more near far [] i d below = absurd (omega arith)
 tunnels_more near far (medium ∷ media) zero d below =
     let one : near + zero ≡ near = omega arith in
     let two : far + zero ≡ far = omega arith in
     grind arith
 tunnels_more near far (medium ∷ media) (suc i) d below =
-    let rest : tunnels_from (near + 1) (far + 1) (take (i + 1) media) ≡ tunnels_from (near + 1) (far + 1) (take i media) ++ record { medium = get_or media i d; from = near + 1 + i; to = far + 1 + i } ∷ [] = tunnels_more (near + 1) (far + 1) media i d (omega arith) in
+    let rest : tunnels_between (near + 1) (far + 1) (take (i + 1) media) ≡ tunnels_between (near + 1) (far + 1) (take i media) ++ record { medium = get_or media i d; from = near + 1 + i; to = far + 1 + i } ∷ [] = tunnels_more (near + 1) (far + 1) media i d (omega arith) in
     let one : near + 1 + i ≡ near + suc i = omega arith in
     let two : far + 1 + i ≡ far + suc i = omega arith in
     grind arith

@@ -19,8 +19,8 @@ empty_plan = record { boxes = []; channels = [] }
 -- ---- boxes and channels more
 
 -- a box comes last
-abbrev pub with_box : PlanState → BoxPlan → PlanState
-with_box plan planned = record plan { boxes = plan.boxes ++ planned ∷ [] }
+abbrev pub with_plan : PlanState → BoxPlan → PlanState
+with_plan plan planned = record plan { boxes = plan.boxes ++ planned ∷ [] }
 
 -- whether a slot is of a box
 abbrev pub is_of : ℕ → ℕ × ℕ → Bool
@@ -31,17 +31,17 @@ abbrev pub slots_of : List ChannelState → ℕ → ℕ
 slots_of channels who = count_by (is_of who) (places_among channels)
 
 -- tunnels of these media, whose slots have local numbers from `near` and from `far` on
-abbrev pub tunnels_from : (near far : ℕ) → List Medium → List Tunnel
-tunnels_from near far [] = []
-tunnels_from near far (medium ∷ media) = record { medium = medium; from = near; to = far } ∷ tunnels_from (near + 1) (far + 1) media
+abbrev pub tunnels_between : (near far : ℕ) → List Medium → List Tunnel
+tunnels_between near far [] = []
+tunnels_between near far (medium ∷ media) = record { medium = medium; from = near; to = far } ∷ tunnels_between (near + 1) (far + 1) media
 
 -- a channel between two boxes: each of its tunnels takes the next slot of both
 abbrev pub channel_between : List ChannelState → (from to : ℕ) → List Medium → ChannelState
-channel_between channels from to media = record { from = from; to = to; tunnels = tunnels_from (slots_of channels from) (slots_of channels to) media }
+channel_between channels from to media = record { from = from; to = to; tunnels = tunnels_between (slots_of channels from) (slots_of channels to) media }
 
 -- that channel comes last
-abbrev pub joined : PlanState → (from to : ℕ) → List Medium → PlanState
-joined plan from to media = record plan { channels = plan.channels ++ channel_between plan.channels from to media ∷ [] }
+abbrev pub with_channel : PlanState → (from to : ℕ) → List Medium → PlanState
+with_channel plan from to media = record plan { channels = plan.channels ++ channel_between plan.channels from to media ∷ [] }
 
 -- ---- the first world
 

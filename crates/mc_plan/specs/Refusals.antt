@@ -7,12 +7,12 @@ use Rattle.mc_plan.specs.declared.fault.PlanFault.{PlanFault}
 use Rattle.mc_plan.specs.declared.fault.PlanFault.TheVariants.{NoBox, SameBox, NoTunnels, TooManyTunnels, BoxesFull, ChannelsFull, SlotsFull, NoMemory}
 
 -- this fault where a rule is broken, and else the first of the others
-abbrev pub unless : Bool → PlanFault → Option PlanFault → Option PlanFault
-unless broken fault others = if broken then Some fault else others
+abbrev pub fault_if : Bool → PlanFault → Option PlanFault → Option PlanFault
+fault_if broken fault others = if broken then Some fault else others
 
 -- why a box isn't added
 abbrev pub add_fault : PlanState → Option PlanFault
-add_fault plan = unless (nat_le 256 (length plan.boxes)) BoxesFull None
+add_fault plan = fault_if (nat_le 256 (length plan.boxes)) BoxesFull None
 
 -- whether a box would have more than 64 slots
 abbrev pub overfills : PlanState → (who more : ℕ) → Bool
@@ -21,12 +21,12 @@ overfills plan who more = nat_lt 64 (slots_of plan.channels who + more)
 -- why a channel isn't added: the first rule that it breaks
 abbrev pub join_fault : PlanState → (from to : ℕ) → List Medium → Option PlanFault
 join_fault plan from to media =
-    unless (nat_le (length plan.boxes) from || nat_le (length plan.boxes) to) NoBox
-    (unless (from == to) SameBox
-    (unless (length media == 0) NoTunnels
-    (unless (nat_lt tunnel_limit (length media)) TooManyTunnels
-    (unless (nat_le 1024 (length plan.channels)) ChannelsFull
-    (unless (overfills plan from (length media) || overfills plan to (length media)) SlotsFull None)))))
+    fault_if (nat_le (length plan.boxes) from || nat_le (length plan.boxes) to) NoBox
+    (fault_if (from == to) SameBox
+    (fault_if (length media == 0) NoTunnels
+    (fault_if (nat_lt tunnel_limit (length media)) TooManyTunnels
+    (fault_if (nat_le 1024 (length plan.channels)) ChannelsFull
+    (fault_if (overfills plan from (length media) || overfills plan to (length media)) SlotsFull None)))))
 
 -- a refusal is the fault that there is; memory is asked for only where there is none
 abbrev pub IsRefusal : PlanFault → Option PlanFault → Type 0

@@ -3,7 +3,7 @@
 ghost use Rattle.std.specs.Prelude.{◌≡◌, ◌≤◌, length, IfOk, OnOk, OnErr};
 ghost use Rattle.mc_model.specs.Worlds.{tunnel_limit};
 ghost use Rattle.mc_plan.specs.LaidOut.{IsLaidOut};
-ghost use Rattle.mc_plan.specs.Plans.{empty_plan, joined, slots_of, with_box, world_of};
+ghost use Rattle.mc_plan.specs.Plans.{empty_plan, with_channel, slots_of, with_plan, world_of};
 ghost use Rattle.mc_plan.specs.Refusals.{add_fault, join_fault, overfills, Gives};
 
 use crate::boxes::new_boxes;
@@ -101,7 +101,7 @@ impl Plan {
     /// Adds a box, and answers its number. It is refused where the plan has 256 boxes.
     pub fn add(&mut self, planned: BoxPlan) -> Result<u32, PlanFault>
         ensures answer { Gives result (add_fault self.old) (length self.old.boxes) }
-        ensures added { OnOk result (self.new ≡ with_box self.old planned) }
+        ensures added { OnOk result (self.new ≡ with_plan self.old planned) }
         ensures unchanged { OnErr result (self.new ≡ self.old) }
     {
         let number = self.boxes.len();
@@ -117,7 +117,7 @@ impl Plan {
     /// the channel breaks, in the order of `PlanFault`.
     pub fn join(&mut self, from: u32, to: u32, media: &[Medium]) -> Result<u32, PlanFault>
         ensures answer { Gives result (join_fault self.old from to media.now) (length self.old.channels) }
-        ensures joined { OnOk result (self.new ≡ joined self.old from to media.now) }
+        ensures joined { OnOk result (self.new ≡ with_channel self.old from to media.now) }
         ensures unchanged { OnErr result (self.new ≡ self.old) }
     {
         if let Some(fault) = self.join_fault(from, to, media) {

@@ -1,7 +1,7 @@
 // The tunnels of channels: how many slots they give a box, and those of a new channel.
 
 ghost use Rattle.std.specs.Prelude.{◌≡◌, ◌+◌, ◌≤◌, ◌∷◌, [], length, IfOk};
-ghost use Rattle.mc_plan.specs.Plans.{slots_of, tunnels_from};
+ghost use Rattle.mc_plan.specs.Plans.{slots_of, tunnels_between};
 
 use mc_signal::Medium;
 use mc_world::{Channel, Tunnel};
@@ -38,7 +38,7 @@ pub fn tunnels_from(
 ) -> Result<Vec<Tunnel>, AllocError>
     requires near { near + length media.now ≤ 64 }
     requires far { far + length media.now ≤ 64 }
-    ensures { IfOk result (λ tunnels. tunnels.items ≡ tunnels_from near far media.now) }
+    ensures { IfOk result (λ tunnels. tunnels.items ≡ tunnels_between near far media.now) }
 {
     let mut tunnels = Vec::new(alloc);
     for i in 0..media.len() {

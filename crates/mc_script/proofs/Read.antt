@@ -4,14 +4,14 @@ use Rattle.std.proofs.lemmas.Bool.{and_parts}
 use Rattle.mc_slot.specs.Moves.{is_same_medium}
 use Rattle.mc_slot.specs.declared.Goal.{Goal}
 use Rattle.mc_slot.specs.declared.Goal.TheVariants.{Open as ToOpen, Close as ToClose, Hold as ToHold}
-use Rattle.mc_text.specs.NameLists.{NameLists, AreNames, slots_of}
+use Rattle.mc_text.specs.NameLists.{NameLists, AreNames, slot_names}
 use Rattle.mc_text.proofs.Places.{found_again}
 use Rattle.mc_box.specs.BoxShapes.{BoxShapeState, has_slot, is_device, is_enabled_by, is_feature, medium_at, shape_of}
 use Rattle.mc_box.specs.declared.event.Change.TheVariants.{End as NewEnd, Link as NewLink}
 use Rattle.mc_box.specs.declared.event.Event.{Event}
 use Rattle.mc_box.specs.declared.event.Event.TheVariants.{Take, Set, Media, Tell, Retry, Shift}
 use Rattle.mc_box.specs.declared.event.MediaChange.TheVariants.{Hear, Talk}
-use Rattle.mc_script.specs.Rules.{goal_of, switch_of}
+use Rattle.mc_script.specs.Rules.{spelt_goal, spelt_switch}
 use Rattle.mc_script.specs.Meaning.{box_name, slot_name, goal_word, switch_word}
 use Rattle.mc_script.specs.Printed.{IsFoundSlot, IsFound, IsSlot, IsRead, PrintedIsRead, NamedIsFound, HaveNames, IsFoundEvent, IsNamedEvent}
 use Rattle.mc_script.specs.declared.command.Command.TheVariants.{Stimulus, Settle}
@@ -24,7 +24,7 @@ goal_is_word ToClose = refl
 goal_is_word ToHold = refl
 
 -- and the word spells it
-goal_again : (goal : Goal) → goal_of (goal_word goal) ≡ Some goal
+goal_again : (goal : Goal) → spelt_goal (goal_word goal) ≡ Some goal
 goal_again ToOpen = refl
 goal_again ToClose = refl
 goal_again ToHold = refl
@@ -35,7 +35,7 @@ switch_is_word true = refl
 switch_is_word false = refl
 
 -- and spell what they say
-switch_again : (on : Bool) → switch_of (switch_word on) ≡ Some on
+switch_again : (on : Bool) → spelt_switch (switch_word on) ≡ Some on
 switch_again true = refl
 switch_again false = refl
 
@@ -56,7 +56,7 @@ module _ (names : NameLists) (shape : List BoxShapeState) where
   set_is_read who local goal found =
       let box = found.0 in
       let slot = found.1 in
-      let line = line_of (codes "set" ∷ box_name names who ∷ slot_name names who local ∷ goal_word goal ∷ []) (omega arith) (refl, (found_is_word names.boxes who box, (found_is_word (slots_of names who) local slot, (goal_is_word goal, tt)))) in
+      let line = line_of (codes "set" ∷ box_name names who ∷ slot_name names who local ∷ goal_word goal ∷ []) (omega arith) (refl, (found_is_word names.boxes who box, (found_is_word (slot_names names who) local slot, (goal_is_word goal, tt)))) in
       (rw (line.fits, line.plain, line.apart, box.1, goal_again goal, slot.1) refl, rw (line.apart, box.1, goal_again goal, slot.1) refl)
 
   link_is_read : (who local other : ℕ) → IsFoundSlot names who local → IsFoundSlot names who other → is_enabled_by (shape_of shape who) (Set (NewLink local other)) ≡ true → IsRead names shape (Stimulus (record { who = who; event = Set (NewLink local other) }))
@@ -66,7 +66,7 @@ module _ (names : NameLists) (shape : List BoxShapeState) where
       let two = far.1 in
       let kind = is_feature (shape_of shape who).kind in
       let parts = link_parts kind (has_slot (shape_of shape who) local) (has_slot (shape_of shape who) other) (local == other) (is_same_medium (medium_at shape who local) (medium_at shape who other)) allowed in
-      let line = line_of (codes "link" ∷ box_name names who ∷ slot_name names who local ∷ slot_name names who other ∷ []) (omega arith) (refl, (found_is_word names.boxes who box, (found_is_word (slots_of names who) local slot, (found_is_word (slots_of names who) other two, tt)))) in
+      let line = line_of (codes "link" ∷ box_name names who ∷ slot_name names who local ∷ slot_name names who other ∷ []) (omega arith) (refl, (found_is_word names.boxes who box, (found_is_word (slot_names names who) local slot, (found_is_word (slot_names names who) other two, tt)))) in
       (rw (line.fits, line.plain, line.apart, box.1, parts.0, slot.1, two.1, parts.1, parts.2) refl, rw (line.apart, box.1, slot.1, two.1) refl)
 
   hear_is_read : (who local : ℕ) (on : Bool) → IsFoundSlot names who local → is_enabled_by (shape_of shape who) (Media (Hear local on)) ≡ true → IsRead names shape (Stimulus (record { who = who; event = Media (Hear local on) }))
@@ -74,7 +74,7 @@ module _ (names : NameLists) (shape : List BoxShapeState) where
       let box = found.0 in
       let device = (and_parts (is_device (shape_of shape who).kind) (has_slot (shape_of shape who) local) allowed).0 in
       let slot = found.1 in
-      let line = line_of (codes "hear" ∷ box_name names who ∷ slot_name names who local ∷ switch_word on ∷ []) (omega arith) (refl, (found_is_word names.boxes who box, (found_is_word (slots_of names who) local slot, (switch_is_word on, tt)))) in
+      let line = line_of (codes "hear" ∷ box_name names who ∷ slot_name names who local ∷ switch_word on ∷ []) (omega arith) (refl, (found_is_word names.boxes who box, (found_is_word (slot_names names who) local slot, (switch_is_word on, tt)))) in
       (rw (line.fits, line.plain, line.apart, box.1, device, switch_again on, slot.1) refl, rw (line.apart, box.1, switch_again on, slot.1) refl)
 
   talk_is_read : (who local : ℕ) (on : Bool) → IsFoundSlot names who local → is_enabled_by (shape_of shape who) (Media (Talk local on)) ≡ true → IsRead names shape (Stimulus (record { who = who; event = Media (Talk local on) }))
@@ -82,7 +82,7 @@ module _ (names : NameLists) (shape : List BoxShapeState) where
       let box = found.0 in
       let device = (and_parts (is_device (shape_of shape who).kind) (has_slot (shape_of shape who) local) allowed).0 in
       let slot = found.1 in
-      let line = line_of (codes "talk" ∷ box_name names who ∷ slot_name names who local ∷ switch_word on ∷ []) (omega arith) (refl, (found_is_word names.boxes who box, (found_is_word (slots_of names who) local slot, (switch_is_word on, tt)))) in
+      let line = line_of (codes "talk" ∷ box_name names who ∷ slot_name names who local ∷ switch_word on ∷ []) (omega arith) (refl, (found_is_word names.boxes who box, (found_is_word (slot_names names who) local slot, (switch_is_word on, tt)))) in
       (rw (line.fits, line.plain, line.apart, box.1, device, switch_again on, slot.1) refl, rw (line.apart, box.1, switch_again on, slot.1) refl)
 
   tell_is_read : (who told : ℕ) → IsFound names.boxes who → IsFound names.told told → is_enabled_by (shape_of shape who) (Tell told) ≡ true → IsRead names shape (Stimulus (record { who = who; event = Tell told }))
@@ -112,7 +112,7 @@ is_found names number within are = (are.spelt number within, found_again names n
 module _ (names : NameLists) (have : HaveNames names) where
   -- a slot and its box are found by their names
   slot_is_found : (who local : ℕ) → IsSlot names who local → IsFoundSlot names who local
-  slot_is_found who local is = (is_found names.boxes who is.0 have.of_boxes, is_found (slots_of names who) local is.1 (have.of_slots who is.0))
+  slot_is_found who local is = (is_found names.boxes who is.0 have.of_boxes, is_found (slot_names names who) local is.1 (have.of_slots who is.0))
 
   -- what an event names is found
   event_is_found : (who : ℕ) (event : Event) → IsNamedEvent names who event → IsFoundEvent names who event

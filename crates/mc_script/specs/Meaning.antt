@@ -5,14 +5,14 @@ use Rattle.std.specs.Option.{option_and_then, option_map}
 use Rattle.mc_slot.specs.declared.Goal.{Goal}
 use Rattle.mc_slot.specs.declared.Goal.TheVariants.{Open as ToOpen, Close as ToClose, Hold as ToHold}
 use Rattle.mc_text.specs.Lines.{words}
-use Rattle.mc_text.specs.NameLists.{NameLists, place_of, slots_of}
+use Rattle.mc_text.specs.NameLists.{NameLists, place_of, slot_names}
 use Rattle.mc_box.specs.BoxShapes.{BoxShapeState}
 use Rattle.mc_box.specs.declared.event.Change.TheVariants.{End as NewEnd, Link as NewLink}
 use Rattle.mc_box.specs.declared.event.Event.{Event}
 use Rattle.mc_box.specs.declared.event.Event.TheVariants.{Set, Media, Tell}
 use Rattle.mc_box.specs.declared.event.MediaChange.TheVariants.{Hear, Talk}
-use Rattle.mc_script.specs.Places.{box_at, meant, slot_at}
-use Rattle.mc_script.specs.Rules.{byte_rules, command_rules, command_word, goal_of, least_broken, switch_of}
+use Rattle.mc_script.specs.Places.{box_named, meant, slot_named}
+use Rattle.mc_script.specs.Rules.{byte_rules, command_rules, command_word, spelt_goal, least_broken, spelt_switch}
 use Rattle.mc_script.specs.declared.command.Command.{Command}
 use Rattle.mc_script.specs.declared.command.Command.TheVariants.{Stimulus, Settle}
 use Rattle.mc_script.specs.declared.command.LineFault.{LineFault}
@@ -22,18 +22,18 @@ use Rattle.mc_script.specs.declared.keyword.CommandWord.TheVariants as word
 -- `BOX SLOT`, and an event of it
 abbrev pub at_slot : NameLists → List (List ℕ) → (ℕ → Option Event) → Option Command
 at_slot names words event =
-    option_and_then (λ who. option_and_then (λ local. option_map (λ it. Stimulus (record { who = who; event = it })) (event local)) (slot_at names (Some who) (slice_get words 1)))
-    (box_at names (slice_get words 0))
+    option_and_then (λ who. option_and_then (λ local. option_map (λ it. Stimulus (record { who = who; event = it })) (event local)) (slot_named names (Some who) (slice_get words 1)))
+    (box_named names (slice_get words 0))
 
 -- the command that the words behind the first spell
 abbrev pub command_by : NameLists → Option CommandWord → List (List ℕ) → Option Command
-command_by names (Some word.Set) words = at_slot names words (λ local. option_map (λ goal. Set (NewEnd local goal)) (meant goal_of (slice_get words 2)))
+command_by names (Some word.Set) words = at_slot names words (λ local. option_map (λ goal. Set (NewEnd local goal)) (meant spelt_goal (slice_get words 2)))
 command_by names (Some word.Link) words =
-    at_slot names words (λ local. option_map (λ other. Set (NewLink local other)) (slot_at names (box_at names (slice_get words 0)) (slice_get words 2)))
-command_by names (Some word.Hear) words = at_slot names words (λ local. option_map (λ on. Media (Hear local on)) (meant switch_of (slice_get words 2)))
-command_by names (Some word.Talk) words = at_slot names words (λ local. option_map (λ on. Media (Talk local on)) (meant switch_of (slice_get words 2)))
+    at_slot names words (λ local. option_map (λ other. Set (NewLink local other)) (slot_named names (box_named names (slice_get words 0)) (slice_get words 2)))
+command_by names (Some word.Hear) words = at_slot names words (λ local. option_map (λ on. Media (Hear local on)) (meant spelt_switch (slice_get words 2)))
+command_by names (Some word.Talk) words = at_slot names words (λ local. option_map (λ on. Media (Talk local on)) (meant spelt_switch (slice_get words 2)))
 command_by names (Some word.Tell) words =
-    option_and_then (λ who. option_map (λ told. Stimulus (record { who = who; event = Tell told })) (meant (place_of names.told) (slice_get words 1))) (box_at names (slice_get words 0))
+    option_and_then (λ who. option_map (λ told. Stimulus (record { who = who; event = Tell told })) (meant (place_of names.told) (slice_get words 1))) (box_named names (slice_get words 0))
 command_by names (Some word.Settle) words = Some Settle
 command_by names None words = None
 
@@ -41,8 +41,8 @@ abbrev pub command_of : NameLists → List (List ℕ) → Option Command
 command_of names words = command_by names (option_and_then command_word (slice_get words 0)) (drop 1 words)
 
 -- the least number of the rules that a command's line breaks, but for the two that want the whole text
-abbrev pub line_fault : NameLists → List BoxShapeState → List ℕ → Option ℕ
-line_fault names shape line = least_broken (byte_rules line ++ command_rules names shape (words line))
+abbrev pub command_fault : NameLists → List BoxShapeState → List ℕ → Option ℕ
+command_fault names shape line = least_broken (byte_rules line ++ command_rules names shape (words line))
 
 -- a line is refused by its fault, and else it is read as what it spells
 abbrev pub ReadsAs : {X : Type 0} → Result X LineFault → Option ℕ → Option X → Type 0
@@ -64,7 +64,7 @@ abbrev pub box_name : NameLists → ℕ → List ℕ
 box_name names who = slice_index_or names.boxes who []
 
 abbrev pub slot_name : NameLists → ℕ → ℕ → List ℕ
-slot_name names who local = slice_index_or (slots_of names who) local []
+slot_name names who local = slice_index_or (slot_names names who) local []
 
 -- the words of a command; an event that is no command has none
 abbrev pub event_words : NameLists → ℕ → Event → List (List ℕ)

@@ -9,9 +9,11 @@ use Rattle.mc_slot.specs.declared.Goal.TheVariants.{Open as ToOpen, Close as ToC
 use Rattle.mc_text.specs.Lines.{words}
 use Rattle.mc_text.specs.NameLists.{NameLists}
 use Rattle.mc_box.specs.BoxShapes.{BoxShapeState, is_device, is_feature, medium_at, shape_of}
-use Rattle.mc_script.specs.Places.{are_same, box_at, is_no, lacks, lacks_slot, slot_at}
+use Rattle.mc_script.specs.Places.{are_same, box_named, is_no, lacks, lacks_slot, slot_named}
 use Rattle.mc_script.specs.declared.keyword.CommandWord.{CommandWord}
 use Rattle.mc_script.specs.declared.keyword.CommandWord.TheVariants.{Set, Link, Hear, Talk, Tell, Settle}
+use Rattle.mc_script.specs.declared.rule.TheConstants.{EXTRA_WORD, LINE_TOO_LONG, MISSING_WORD, NO_SUCH_SLOT, SAME_SLOT, STRANGE_BYTE, TWO_MEDIA, UNDECLARED, WRONG_WORD}
+use Rattle.mc_script.specs.declared.line.TheConstants.{LINE_LIMIT}
 
 -- the least number of the rules that a line breaks
 abbrev pub least_broken : List (ℕ × Bool) → Option ℕ
@@ -19,16 +21,16 @@ least_broken rules = option_map (λ rule. rule.0) (find (λ rule. rule.1) rules)
 
 -- ---- fixed words
 
-abbrev pub goal_of : List ℕ → Option Goal
-goal_of word =
+abbrev pub spelt_goal : List ℕ → Option Goal
+spelt_goal word =
     if bytes_eq word (codes "open") then Some ToOpen
     else (if bytes_eq word (codes "close") then Some ToClose
     else (if bytes_eq word (codes "hold") then Some ToHold
     else None))
 
 -- `on` or `off`
-abbrev pub switch_of : List ℕ → Option Bool
-switch_of word = if bytes_eq word (codes "on") then Some true else (if bytes_eq word (codes "off") then Some false else None)
+abbrev pub spelt_switch : List ℕ → Option Bool
+spelt_switch word = if bytes_eq word (codes "on") then Some true else (if bytes_eq word (codes "off") then Some false else None)
 
 -- the word that opens a command
 abbrev pub command_word : List ℕ → Option CommandWord
@@ -68,51 +70,51 @@ differ_in_medium shape who a b = false
 -- `set BOX SLOT GOAL`
 abbrev pub set_rules : NameLists → List (List ℕ) → List (ℕ × Bool)
 set_rules names words =
-    (4, lacks names.boxes (slice_get words 0))
-    ∷ (5, is_no goal_of (slice_get words 2))
-    ∷ (6, is_none (slice_get words 2))
-    ∷ (7, is_some (slice_get words 3))
-    ∷ (11, lacks_slot names (box_at names (slice_get words 0)) (slice_get words 1))
+    (UNDECLARED, lacks names.boxes (slice_get words 0))
+    ∷ (WRONG_WORD, is_no spelt_goal (slice_get words 2))
+    ∷ (MISSING_WORD, is_none (slice_get words 2))
+    ∷ (EXTRA_WORD, is_some (slice_get words 3))
+    ∷ (NO_SUCH_SLOT, lacks_slot names (box_named names (slice_get words 0)) (slice_get words 1))
     ∷ []
 
 -- `link BOX SLOT SLOT`, on a feature
 abbrev pub link_rules : NameLists → List BoxShapeState → List (List ℕ) → List (ℕ × Bool)
 link_rules names shape words =
-    let who = box_at names (slice_get words 0) in
-    let a = slot_at names who (slice_get words 1) in
-    let b = slot_at names who (slice_get words 2) in
-    (4, lacks names.boxes (slice_get words 0))
-    ∷ (5, is_no_feature shape who)
-    ∷ (6, is_none (slice_get words 2))
-    ∷ (7, is_some (slice_get words 3))
-    ∷ (11, lacks_slot names who (slice_get words 1) || lacks_slot names who (slice_get words 2))
-    ∷ (12, are_same a b)
-    ∷ (13, differ_in_medium shape who a b)
+    let who = box_named names (slice_get words 0) in
+    let a = slot_named names who (slice_get words 1) in
+    let b = slot_named names who (slice_get words 2) in
+    (UNDECLARED, lacks names.boxes (slice_get words 0))
+    ∷ (WRONG_WORD, is_no_feature shape who)
+    ∷ (MISSING_WORD, is_none (slice_get words 2))
+    ∷ (EXTRA_WORD, is_some (slice_get words 3))
+    ∷ (NO_SUCH_SLOT, lacks_slot names who (slice_get words 1) || lacks_slot names who (slice_get words 2))
+    ∷ (SAME_SLOT, are_same a b)
+    ∷ (TWO_MEDIA, differ_in_medium shape who a b)
     ∷ []
 
 -- `hear BOX SLOT SWITCH` and `talk BOX SLOT SWITCH`, on a device
 abbrev pub media_rules : NameLists → List BoxShapeState → List (List ℕ) → List (ℕ × Bool)
 media_rules names shape words =
-    let who = box_at names (slice_get words 0) in
-    (4, lacks names.boxes (slice_get words 0))
-    ∷ (5, is_no_device shape who || is_no switch_of (slice_get words 2))
-    ∷ (6, is_none (slice_get words 2))
-    ∷ (7, is_some (slice_get words 3))
-    ∷ (11, lacks_slot names who (slice_get words 1))
+    let who = box_named names (slice_get words 0) in
+    (UNDECLARED, lacks names.boxes (slice_get words 0))
+    ∷ (WRONG_WORD, is_no_device shape who || is_no spelt_switch (slice_get words 2))
+    ∷ (MISSING_WORD, is_none (slice_get words 2))
+    ∷ (EXTRA_WORD, is_some (slice_get words 3))
+    ∷ (NO_SUCH_SLOT, lacks_slot names who (slice_get words 1))
     ∷ []
 
 -- `tell BOX WORD`, on a box with a program, and a word that some program uses
 abbrev pub tell_rules : NameLists → List BoxShapeState → List (List ℕ) → List (ℕ × Bool)
 tell_rules names shape words =
-    (4, lacks names.boxes (slice_get words 0) || lacks names.told (slice_get words 1))
-    ∷ (5, has_no_program shape (box_at names (slice_get words 0)))
-    ∷ (6, is_none (slice_get words 1))
-    ∷ (7, is_some (slice_get words 2))
+    (UNDECLARED, lacks names.boxes (slice_get words 0) || lacks names.told (slice_get words 1))
+    ∷ (WRONG_WORD, has_no_program shape (box_named names (slice_get words 0)))
+    ∷ (MISSING_WORD, is_none (slice_get words 1))
+    ∷ (EXTRA_WORD, is_some (slice_get words 2))
     ∷ []
 
 -- `settle`
 abbrev pub settle_rules : List (List ℕ) → List (ℕ × Bool)
-settle_rules words = (7, is_some (slice_get words 0)) ∷ []
+settle_rules words = (EXTRA_WORD, is_some (slice_get words 0)) ∷ []
 
 -- a line that no command's word opens breaks rule 5
 abbrev pub kind_rules : NameLists → List BoxShapeState → Option CommandWord → List (List ℕ) → List (ℕ × Bool)
@@ -122,7 +124,7 @@ kind_rules names shape (Some Hear) words = media_rules names shape words
 kind_rules names shape (Some Talk) words = media_rules names shape words
 kind_rules names shape (Some Tell) words = tell_rules names shape words
 kind_rules names shape (Some Settle) words = settle_rules words
-kind_rules names shape None words = (5, true) ∷ []
+kind_rules names shape None words = (WRONG_WORD, true) ∷ []
 
 abbrev pub command_rules : NameLists → List BoxShapeState → List (List ℕ) → List (ℕ × Bool)
 command_rules names shape words = kind_rules names shape (option_and_then command_word (slice_get words 0)) (drop 1 words)
@@ -136,6 +138,6 @@ is_plain byte = nat_le 32 byte && nat_le byte 126
 -- the rules on the bytes of a line, whatever it says
 abbrev pub byte_rules : List ℕ → List (ℕ × Bool)
 byte_rules line =
-    (2, nat_lt 256 (length line))
-    ∷ (3, list_any (λ byte. not (is_plain byte)) line)
+    (LINE_TOO_LONG, nat_lt LINE_LIMIT (length line))
+    ∷ (STRANGE_BYTE, list_any (λ byte. not (is_plain byte)) line)
     ∷ []

@@ -8,10 +8,11 @@ mod line;
 mod lines;
 pub mod places;
 mod print;
+pub mod rule;
 #[cfg(test)]
 mod tests;
 
 pub use command::{Batch, Command, JournalLine, JournalText, LineFault};
-pub use line::{check_bytes, read_command, read_kind};
+pub use line::{LINE_LIMIT, check_bytes, read_command, read_kind};
 pub use lines::{hear_line, link_line, set_line, settle_line, talk_line, tell_line};
 pub use print::{goal_word, print_command};

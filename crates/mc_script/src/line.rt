@@ -5,13 +5,17 @@ ghost use Rattle.std.specs.List.{list_any};
 ghost use Rattle.mc_text.specs.Lines.{words};
 ghost use Rattle.mc_script.specs.Places.{Fits};
 ghost use Rattle.mc_script.specs.Rules.{is_plain, byte_rules, kind_rules, least_broken};
-ghost use Rattle.mc_script.specs.Meaning.{command_by, command_of, line_fault, ReadsAs};
+ghost use Rattle.mc_script.specs.Meaning.{command_by, command_of, command_fault, ReadsAs};
 
 use crate::command::{Command, LineFault};
 use crate::keyword::{CommandWord, command_word};
 use crate::lines::{hear_line, link_line, set_line, settle_line, talk_line, tell_line};
+use crate::rule::{LINE_TOO_LONG, STRANGE_BYTE, WRONG_WORD};
 use mc_box::Shape;
 use mc_text::{Names, Words};
+
+/// The most bytes of a line, its end not counted.
+pub const LINE_LIMIT: usize = 256;
 
 /// Reads the command of a line.
 ///
@@ -22,16 +26,16 @@ use mc_text::{Names, Words};
 /// and 13 to one of another medium. A blank line and a comment open no command and are refused by 5.
 pub fn read_command<'a>(names: &Names, shape: &Shape, line: &'a [u8]) -> Result<Command, LineFault>
     requires { Fits names.now shape.now }
-    ensures { ReadsAs result (line_fault names.now shape.now line.now) (command_of names.now (words line.now)) }
+    ensures { ReadsAs result (command_fault names.now shape.now line.now) (command_of names.now (words line.now)) }
 {
     check_bytes(line)?;
     let mut words = Words::new(line);
     let Some(first) = words.next_word() else {
-        return Err(LineFault { number: 5 });
+        return Err(LineFault { number: WRONG_WORD });
     };
     match command_word(first) {
         Some(kind) => read_kind(names, shape, kind, words),
-        None => Err(LineFault { number: 5 }),
+        None => Err(LineFault { number: WRONG_WORD }),
     }
 }
 
@@ -60,11 +64,11 @@ pub fn read_kind<'a>(
 pub fn check_bytes(line: &[u8]) -> Result<(), LineFault>
     ensures { ReadsAs result (least_broken (byte_rules line.now)) (Some tt) }
 {
-    if 256 < line.len() {
-        return Err(LineFault { number: 2 });
+    if LINE_LIMIT < line.len() {
+        return Err(LineFault { number: LINE_TOO_LONG });
     }
     if has_strange_byte(line) {
-        return Err(LineFault { number: 3 });
+        return Err(LineFault { number: STRANGE_BYTE });
     }
     Ok(())
 }

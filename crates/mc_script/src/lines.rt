@@ -4,8 +4,8 @@ ghost use Rattle.std.specs.Prelude.{◌≡◌, ◌<◌, MatchResult, length, sli
 ghost use Rattle.std.specs.List.{slice_get};
 ghost use Rattle.mc_signal.specs.declared.Medium.TheVariants.{Audio};
 ghost use Rattle.mc_slot.specs.Moves.{is_same_medium};
-ghost use Rattle.mc_script.specs.Places.{box_at, slot_at, meant, Fits};
-ghost use Rattle.mc_script.specs.Rules.{least_broken, set_rules, link_rules, media_rules, tell_rules, settle_rules, switch_of};
+ghost use Rattle.mc_script.specs.Places.{box_named, slot_named, meant, Fits};
+ghost use Rattle.mc_script.specs.Rules.{least_broken, set_rules, link_rules, media_rules, tell_rules, settle_rules, spelt_switch};
 ghost use Rattle.mc_script.specs.Meaning.{command_by, ReadsAs};
 
 use crate::command::{Command, LineFault};
@@ -14,21 +14,22 @@ use crate::places::{
     fixed_goal, fixed_switch, known_box, known_slot, known_told, needs_device, needs_feature,
     needs_program,
 };
+use crate::rule::{EXTRA_WORD, MISSING_WORD, SAME_SLOT, TWO_MEDIA};
 use mc_box::{BoxShape, Change, Event, MediaChange, Shape, Turn};
-use mc_text::{Names, Parts, Words};
+use mc_text::{FirstWords, Names, Words};
 
 /// Reads `set BOX SLOT GOAL` from the box on.
 pub fn set_line<'a>(names: &Names, words: Words<'a>) -> Result<Command, LineFault>
     ensures { ReadsAs result (least_broken (set_rules names.now words.entry)) (command_by names.now (Some CommandWord.Set) words.entry) }
 {
-    let parts = Parts::new(words);
+    let parts = FirstWords::new(words);
     let who = known_box(names, parts.first)?;
     let goal = fixed_goal(parts.third)?;
     let (Some(who), Some(slot), Some(goal)) = (who, parts.second, goal) else {
-        return Err(LineFault { number: 6 });
+        return Err(LineFault { number: MISSING_WORD });
     };
     if parts.fourth.is_some() {
-        return Err(LineFault { number: 7 });
+        return Err(LineFault { number: EXTRA_WORD });
     }
     let local = known_slot(names, who, slot)?;
     Ok(stimulus(who, Event::Set(Change::End(local, goal))))
@@ -39,22 +40,22 @@ pub fn link_line<'a>(names: &Names, shape: &Shape, words: Words<'a>) -> Result<C
     requires { Fits names.now shape.now }
     ensures { ReadsAs result (least_broken (link_rules names.now shape.now words.entry)) (command_by names.now (Some CommandWord.Link) words.entry) }
 {
-    let parts = Parts::new(words);
+    let parts = FirstWords::new(words);
     let who = known_box(names, parts.first)?;
     needs_feature(shape, who)?;
     let (Some(who), Some(slot), Some(other)) = (who, parts.second, parts.third) else {
-        return Err(LineFault { number: 6 });
+        return Err(LineFault { number: MISSING_WORD });
     };
     if parts.fourth.is_some() {
-        return Err(LineFault { number: 7 });
+        return Err(LineFault { number: EXTRA_WORD });
     }
     let local = known_slot(names, who, slot)?;
     let other = known_slot(names, who, other)?;
     if local == other {
-        return Err(LineFault { number: 12 });
+        return Err(LineFault { number: SAME_SLOT });
     }
     if !are_of_one_medium(&shape.boxes[who as usize], local, other) {
-        return Err(LineFault { number: 13 });
+        return Err(LineFault { number: TWO_MEDIA });
     }
     Ok(stimulus(who, Event::Set(Change::Link(local, other))))
 }
@@ -88,15 +89,15 @@ pub fn tell_line<'a>(names: &Names, shape: &Shape, words: Words<'a>) -> Result<C
     requires { Fits names.now shape.now }
     ensures { ReadsAs result (least_broken (tell_rules names.now shape.now words.entry)) (command_by names.now (Some CommandWord.Tell) words.entry) }
 {
-    let parts = Parts::new(words);
+    let parts = FirstWords::new(words);
     let who = known_box(names, parts.first)?;
     let told = known_told(names, parts.second)?;
     needs_program(shape, who)?;
     let (Some(who), Some(told)) = (who, told) else {
-        return Err(LineFault { number: 6 });
+        return Err(LineFault { number: MISSING_WORD });
     };
     if parts.third.is_some() {
-        return Err(LineFault { number: 7 });
+        return Err(LineFault { number: EXTRA_WORD });
     }
     Ok(stimulus(who, Event::Tell(told)))
 }
@@ -107,7 +108,7 @@ pub fn settle_line<'a>(mut words: Words<'a>) -> Result<Command, LineFault>
 {
     match words.next_word() {
         None => Ok(Command::Settle),
-        Some(_) => Err(LineFault { number: 7 }),
+        Some(_) => Err(LineFault { number: EXTRA_WORD }),
     }
 }
 
@@ -124,20 +125,20 @@ fn switch_line<'a>(names: &Names, shape: &Shape, words: Words<'a>) -> Result<Swi
     requires { Fits names.now shape.now }
     ensures { MatchResult result
         (λ switch. (least_broken (media_rules names.now shape.now words.entry) ≡ None)
-        × (box_at names.now (slice_get words.entry 0) ≡ Some switch.who)
-        × (slot_at names.now (Some switch.who) (slice_get words.entry 1) ≡ Some switch.local)
-        × (meant switch_of (slice_get words.entry 2) ≡ Some switch.on))
+        × (box_named names.now (slice_get words.entry 0) ≡ Some switch.who)
+        × (slot_named names.now (Some switch.who) (slice_get words.entry 1) ≡ Some switch.local)
+        × (meant spelt_switch (slice_get words.entry 2) ≡ Some switch.on))
         (λ e. least_broken (media_rules names.now shape.now words.entry) ≡ Some e.number) }
 {
-    let parts = Parts::new(words);
+    let parts = FirstWords::new(words);
     let who = known_box(names, parts.first)?;
     needs_device(shape, who)?;
     let on = fixed_switch(parts.third)?;
     let (Some(who), Some(slot), Some(on)) = (who, parts.second, on) else {
-        return Err(LineFault { number: 6 });
+        return Err(LineFault { number: MISSING_WORD });
     };
     if parts.fourth.is_some() {
-        return Err(LineFault { number: 7 });
+        return Err(LineFault { number: EXTRA_WORD });
     }
     let local = known_slot(names, who, slot)?;
     Ok(Switch { who, local, on })

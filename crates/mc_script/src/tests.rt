@@ -1,5 +1,5 @@
 ghost use Rattle.std.specs.Prelude.{◌≡◌, IfOk, length};
-ghost use Rattle.mc_text.specs.NameLists.{slots_of};
+ghost use Rattle.mc_text.specs.NameLists.{slot_names};
 ghost use Rattle.mc_box.specs.BoxShapes.{shape_of};
 ghost use Rattle.mc_script.specs.Places.{Fits};
 
@@ -12,7 +12,7 @@ use std::alloc::{AllocError, Global};
 
 // A device `alice` with a slot `a`, and a feature `f` with a slot `w`.
 fn example_names(alloc: Global) -> Result<Names, NameFault>
-    ensures { IfOk result (λ names. (length names.boxes ≡ 2) × (length (slots_of names 0) ≡ 1) × (length (slots_of names 1) ≡ 1)) }
+    ensures { IfOk result (λ names. (length names.boxes ≡ 2) × (length (slot_names names 0) ≡ 1) × (length (slot_names names 1) ≡ 1)) }
 {
     let mut names = Names::new(alloc);
     names.add_box(b"alice")?;

@@ -14,7 +14,7 @@ use Rattle.mc_box.specs.declared.event.Turn.{Turn}
 use Rattle.mc_box.proofs.ShapeEnables.{medium_of}
 use Rattle.mc_model.specs.Shapes.{HasShape, is_allowed}
 use Rattle.mc_model.specs.Sound.{IsSound}
-use Rattle.mc_model.specs.Worlds.{ChannelState, WorldState, box_at, joint_of, place, slot_count}
+use Rattle.mc_model.specs.Worlds.{ChannelState, WorldState, box_at, tunnel_of, place, slot_count}
 use Rattle.mc_laws.proofs.CommandsGo.{allowed_parts, command_goes}
 use Rattle.mc_laws.proofs.Numbers.{box_inside}
 use Rattle.mc_seq.specs.Draws.{AreAllowed}
@@ -26,7 +26,7 @@ use Rattle.mc_seq.proofs.Retrying.{count_same}
 -- ---- in a later world
 
 -- a slot's medium is that of its tunnel
-medium_at : (world : WorldState) (who local s : ℕ) → IsSound world → s < slot_count world → place world s ≡ (who, local) → (slot_at (box_at world who) local).medium ≡ (joint_of world s).medium
+medium_at : (world : WorldState) (who local s : ℕ) → IsSound world → s < slot_count world → place world s ≡ (who, local) → (slot_at (box_at world who) local).medium ≡ (tunnel_of world s).medium
 medium_at world who local s sound inside at = sym (ap (λ (p : ℕ × ℕ). (slot_at (box_at world p.0) p.1).medium) at) ∙ sound.numbered.media s inside
 
 -- a slot has the medium that it had
@@ -36,8 +36,8 @@ medium_kept start now who local before sound shape below inside =
     let found = before.numbered.all who local below inside in
     let at : place now found.0 ≡ (who, local) = ap (λ (channels : List ChannelState). place (record now { channels = channels }) found.0) shape.channels ∙ found.2 in
     let there : found.0 < slot_count now = subst (λ (n : ℕ). found.0 < n) (sym (count_same now start shape)) found.1 in
-    let joint : (joint_of now found.0).medium ≡ (joint_of start found.0).medium = ap (λ (channels : List ChannelState). (joint_of (record now { channels = channels }) found.0).medium) shape.channels in
-    medium_at now who local found.0 sound there at ∙ (joint ∙ sym (medium_at start who local found.0 before found.1 found.2))
+    let tunnel : (tunnel_of now found.0).medium ≡ (tunnel_of start found.0).medium = ap (λ (channels : List ChannelState). (tunnel_of (record now { channels = channels }) found.0).medium) shape.channels in
+    medium_at now who local found.0 sound there at ∙ (tunnel ∙ sym (medium_at start who local found.0 before found.1 found.2))
 
 -- a box has the shape that it had
 shape_kept : (start now : WorldState) (who : ℕ) → IsSound start → IsSound now → HasShape now start → who < length start.boxes → box_shape (box_at now who) ≡ box_shape (box_at start who)

@@ -19,7 +19,7 @@ use Rattle.mc_laws.proofs.Numbers.{box_inside, number_is}
 use Rattle.mc_laws.proofs.StepForms.{then_some}
 use Rattle.mc_laws.proofs.StepGoes.{front_step_goes, some_of}
 use Rattle.mc_seq.specs.Draws.{AreAllowed}
-use Rattle.mc_seq.specs.Schedule.{Standing, candidates, drawn, drawn_place, is_urgent, listed, next_of, of_box, take_turn, take_where, takes_of, waits}
+use Rattle.mc_seq.specs.Schedule.{Standing, candidates, drawn, drawn_place, is_urgent, listed, next_of, of_box, take_turn, take_where, takes_of, take_waits}
 use Rattle.mc_seq.proofs.ForEach.{append_none, each_all, each_none, none_all, one_all}
 use Rattle.mc_seq.proofs.Fronts.{none_quiet}
 
@@ -29,7 +29,7 @@ use Rattle.mc_seq.proofs.Fronts.{none_quiet}
 pub record IsTake (world : WorldState) (turn : Turn) : Type 0 where
   pub local : ℕ
   pub event : turn.event ≡ Take local
-  pub waiting : waits world turn.who local ≡ true
+  pub waiting : take_waits world turn.who local ≡ true
 
 -- what a listed turn is: the next command of its box, or, where not only commands are listed, a Take that waits
 abbrev pub IsListed : WorldState → List Turn → Bool → Turn → Type 0
@@ -59,14 +59,14 @@ option_all P None all = none_all P
 option_all P (Some x) all = one_all P x (all x refl)
 
 -- the Take of a slot is listed where its signal waits
-where_by : (there : Bool) (world : WorldState) (left : List Turn) (who local : ℕ) → waits world who local ≡ there → All (IsListed world left false) (if there then take_turn who local ∷ [] else [])
+where_by : (there : Bool) (world : WorldState) (left : List Turn) (who local : ℕ) → take_waits world who local ≡ there → All (IsListed world left false) (if there then take_turn who local ∷ [] else [])
 where_by true world left who local is = one_all (IsListed world left false) (take_turn who local) (inr (refl, record { local = local; event = refl; waiting = is }))
 where_by false world left who local is = none_all (IsListed world left false)
 
 -- so are the Takes of a box
 takes_by : (urgent : Bool) (world : WorldState) (left : List Turn) (who : ℕ) → All (IsListed world left urgent) (if urgent then [] else takes_of world who)
 takes_by true world left who = none_all (IsListed world left true)
-takes_by false world left who = each_all (IsListed world left false) (take_where world who) (length (box_at world who).slots) (λ local below. where_by (waits world who local) world left who local refl)
+takes_by false world left who = each_all (IsListed world left false) (take_where world who) (length (box_at world who).slots) (λ local below. where_by (take_waits world who local) world left who local refl)
 
 -- each candidate of a box is listed
 box_listed : (world : WorldState) (left : List Turn) (urgent : Bool) (who : ℕ) → All (IsListed world left urgent) (of_box world left urgent who)
@@ -100,7 +100,7 @@ take_by world who local s signal sound numbered fronts =
     (subst (λ (w : ℕ). IsSome (step world (take_turn w (place world s).1))) at.1 goes)
 
 -- by its box and local number
-pub wait_goes : (world : WorldState) (who local : ℕ) → IsSound world → waits world who local ≡ true → IsSome (step world (take_turn who local))
+pub wait_goes : (world : WorldState) (who local : ℕ) → IsSound world → take_waits world who local ≡ true → IsSome (step world (take_turn who local))
 wait_goes world who local sound waiting =
     let signal = some_of (option_and_then (front world) (number world who local)) waiting in
     let parts = then_some (front world) (number world who local) signal.0 signal.1 in
@@ -152,7 +152,7 @@ none_waits world sound none s inside =
     let local : ℕ = (place world s).1 in
     let takes : takes_of world who ≡ [] = each_none (of_box world [] false) (length world.boxes) who none (sound.numbered.placed s inside) in
     let take : take_where world who local ≡ [] = each_none (take_where world who) (length (box_at world who).slots) local takes (sound.numbered.slots s inside) in
-    let waiting : waits world who local ≡ false = unlisted_by (waits world who local) who local take in
+    let waiting : take_waits world who local ≡ false = unlisted_by (take_waits world who local) who local take in
     no_front (front world s) (ap (λ (o : Option ℕ). is_some (option_and_then (front world) o)) (sym (sound.numbered.once s inside)) ∙ waiting)
 
 -- where nothing is listed nothing is under way

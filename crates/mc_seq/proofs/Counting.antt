@@ -3,10 +3,10 @@ use Rattle.std.proofs.Common.{◌≡◌, ◌≢◌, ◌<◌, ◌+◌, ◌==◌, 
 use Rattle.std.proofs.lemmas.Bool.{cases_eq}
 use Rattle.std.proofs.lemmas.Grind.{common_steps}
 use Rattle.std.proofs.lemmas.List.Sums.{sum_by-append}
-use Rattle.mc_box.specs.Boxes.{is_slot, owes_at}
+use Rattle.mc_box.specs.Boxes.{is_slot, box_owes}
 use Rattle.mc_laws.specs.Measures.{total}
-use Rattle.mc_model.specs.Settles.{is_retry_of, owes_retry}
-use Rattle.mc_model.specs.Shapes.{owes_of, retry_of}
+use Rattle.mc_model.specs.Settles.{is_retry_of, world_owes}
+use Rattle.mc_model.specs.Shapes.{owes_by_number, retry_of}
 use Rattle.mc_model.specs.Sound.{IsSound}
 use Rattle.mc_model.specs.Worlds.{WorldState, box_at, place, slot_count}
 use Rattle.mc_box.specs.declared.event.Turn.{Turn}
@@ -73,19 +73,19 @@ here_by false world s who local is = refl
 -- what another slot owes has no retry of this one
 owed_else : (world : WorldState) (s who local : ℕ) → ((place world s).0 ≡ who → (place world s).1 ≡ local → ⊥) → count_by (is_retry_of who local) (owed_at world s) ≡ 0
 owed_else world s who local other =
-    else_by (owes_of world s) world s who local (other_test (place world s).1 local (place world s).0 who (λ local_is who_is. other who_is local_is))
+    else_by (owes_by_number world s) world s who local (other_test (place world s).1 local (place world s).0 who (λ local_is who_is. other who_is local_is))
 
 -- what the slot owes has its retry
-owed_here : (world : WorldState) (s who local : ℕ) → place world s ≡ (who, local) → count_by (is_retry_of who local) (owed_at world s) ≡ (if owes_at (box_at world who) local then 1 else 0)
+owed_here : (world : WorldState) (s who local : ℕ) → place world s ≡ (who, local) → count_by (is_retry_of who local) (owed_at world s) ≡ (if box_owes (box_at world who) local then 1 else 0)
 owed_here world s who local at =
-    here_by (owes_of world s) world s who local (subst (λ (p : ℕ × ℕ). (p.1 == local && p.0 == who) ≡ true) (sym at) (same_test local who))
-    ∙ ap (λ (p : ℕ × ℕ). if owes_at (box_at world p.0) p.1 then 1 else 0) at
+    here_by (owes_by_number world s) world s who local (subst (λ (p : ℕ × ℕ). (p.1 == local && p.0 == who) ≡ true) (sym at) (same_test local who))
+    ∙ ap (λ (p : ℕ × ℕ). if box_owes (box_at world p.0) p.1 then 1 else 0) at
 
 -- ---- all owed retries
 
 -- of a slot that is there
 owed_there : (world : WorldState) (s who local : ℕ) → IsSound world → s < slot_count world → place world s ≡ (who, local)
-    → count_by (is_retry_of who local) (owed_retries world) ≡ (if owes_at (box_at world who) local then 1 else 0)
+    → count_by (is_retry_of who local) (owed_retries world) ≡ (if box_owes (box_at world who) local then 1 else 0)
 owed_there world s who local sound inside at =
     owed_total world who local (slot_count world)
     ∙ (total_one (λ (t : ℕ). count_by (is_retry_of who local) (owed_at world t)) (slot_count world) s inside
@@ -108,19 +108,19 @@ not_placed world t who local sound within none who_is local_is =
 
 -- by whether the slot is there
 owed_by : (there : Bool) (world : WorldState) (who local : ℕ) → (nat_lt who (length world.boxes) && is_slot (box_at world who) local) ≡ there → IsSound world
-    → count_by (is_retry_of who local) (owed_retries world) ≡ (if owes_retry world who local then 1 else 0)
+    → count_by (is_retry_of who local) (owed_retries world) ≡ (if world_owes world who local then 1 else 0)
 owed_by true world who local is sound =
     let parts = both_true (nat_lt who (length world.boxes)) (is_slot (box_at world who) local) is in
     let found = sound.numbered.all who local (box_inside world who parts.0) (slot_inside (box_at world who) local parts.1) in
     owed_there world found.0 who local sound found.1 found.2
-    ∙ sym (ap (λ (b : Bool). if b && owes_at (box_at world who) local then 1 else 0) is)
+    ∙ sym (ap (λ (b : Bool). if b && box_owes (box_at world who) local then 1 else 0) is)
 owed_by false world who local is sound =
     owed_total world who local (slot_count world)
     ∙ (total_none (λ (t : ℕ). count_by (is_retry_of who local) (owed_at world t)) (slot_count world) (λ t within. owed_else world t who local (not_placed world t who local sound within is))
-    ∙ sym (ap (λ (b : Bool). if b && owes_at (box_at world who) local then 1 else 0) is))
+    ∙ sym (ap (λ (b : Bool). if b && box_owes (box_at world who) local then 1 else 0) is))
 
 -- each retry that is owed is there once, and no other
-pub owed_once : (world : WorldState) (who local : ℕ) → IsSound world → count_by (is_retry_of who local) (owed_retries world) ≡ (if owes_retry world who local then 1 else 0)
+pub owed_once : (world : WorldState) (who local : ℕ) → IsSound world → count_by (is_retry_of who local) (owed_retries world) ≡ (if world_owes world who local then 1 else 0)
 owed_once world who local sound = owed_by (nat_lt who (length world.boxes) && is_slot (box_at world who) local) world who local refl sound
 
 -- Takes are no retries

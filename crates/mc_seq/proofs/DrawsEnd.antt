@@ -10,7 +10,7 @@ use Rattle.mc_laws.proofs.Lowers.{take_lowers, take_stays_free}
 use Rattle.mc_laws.proofs.ShapesKept.{step_keeps_shape}
 use Rattle.mc_laws.proofs.StepKeeps.{step_keeps_sound}
 use Rattle.mc_seq.specs.Draws.{AreAllowed, DrawsEnd, TakesEndDraws}
-use Rattle.mc_seq.specs.Schedule.{AreDrawn, Standing, left_by, moved, since_by}
+use Rattle.mc_seq.specs.Schedule.{AreDrawn, Standing, left_by, standing_after, since_by}
 use Rattle.mc_seq.proofs.Candidates.{drawn_listed, take_same}
 use Rattle.mc_seq.proofs.AllowedCommands.{all_kept, left_pass}
 use Rattle.mc_seq.proofs.Scheduled.{drawn_takes}
@@ -27,7 +27,7 @@ few_draws (turn ∷ turns) now last sound allowed some draws =
     let after = step_keeps_sound now.world draws.0 turn sound draws.3 in
     let still = all_kept (left_by turn now.left) now.world draws.0 sound after (step_keeps_shape now.world draws.0 turn sound draws.3) (left_pass (is_allowed now.world) turn now.left allowed) in
     let lower : to_come (left_by turn now.left) (since_by turn now.since) < to_come now.left now.since = listed_lowers now.world turn now.left now.since allowed here (drawn_listed now turn draws.2) in
-    let rest : length turns + to_come last.left last.since ≤ to_come (left_by turn now.left) (since_by turn now.since) = few_draws turns (moved now turn draws.0) last after still some draws.4 in
+    let rest : length turns + to_come last.left last.since ≤ to_come (left_by turn now.left) (since_by turn now.since) = few_draws turns (standing_after now turn draws.0) last after still some draws.4 in
     omega arith
 
 -- at the beginning that is at most 64 for each command and 63
@@ -46,7 +46,7 @@ few_takes (turn ∷ turns) now last none free draws =
     let goes : step now.world (record { who = turn.who; event = Take take.local }) ≡ Some draws.0 = ap (step now.world) (take_same turn take.local take.event) ∙ draws.3 in
     let lower : measure draws.0 < measure now.world = take_lowers now.world draws.0 turn.who take.local free goes in
     let rest : length turns + measure last.world ≤ measure draws.0 =
-    few_takes turns (moved now turn draws.0) last (take_left turn now.left now.world take ∙ none) (take_stays_free now.world draws.0 turn.who take.local free goes) draws.4 in
+    few_takes turns (standing_after now turn draws.0) last (take_left turn now.left now.world take ∙ none) (take_stays_free now.world draws.0 turn.who take.local free goes) draws.4 in
     omega arith
 
 -- so drawn Takes end

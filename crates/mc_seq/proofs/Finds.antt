@@ -1,7 +1,7 @@
 -- The k-th candidate of a box.
 use Rattle.std.proofs.Common.{◌≡◌, ◌<◌, ◌≤◌, ◌+◌, ◌-◌, if◌then◌else◌, ℕ, zero, suc, Bool, true, false, [], ◌∷◌, length, slice_get, Some, length-append, add-one, refl, ap, sym, ◌∙◌, subst, arith}
 use Rattle.mc_model.specs.Worlds.{WorldState, box_at}
-use Rattle.mc_seq.specs.Schedule.{for_each, take_turn, take_where, takes_of, waits}
+use Rattle.mc_seq.specs.Schedule.{for_each, take_turn, take_where, takes_of, take_waits}
 use Rattle.mc_seq.proofs.Kth.{each_got}
 
 -- the Take that a slot has
@@ -16,7 +16,7 @@ pub found_take : (world : WorldState) (who local k rest takes : ℕ) → local <
 found_take world who local k rest takes inside is low at =
     ap (slice_get (takes_of world who)) (sym at)
     ∙ each_got (take_where world who) (length (box_at world who).slots) local rest (take_turn who local) inside
-    (has_by (waits world who local) who local rest (subst (λ (n : ℕ). rest < n) is low))
+    (has_by (take_waits world who local) who local rest (subst (λ (n : ℕ). rest < n) is low))
 
 -- one slot more
 pub take_more : (world : WorldState) (who local k rest takes : ℕ) → takes ≡ length (take_where world who local) → takes ≤ rest

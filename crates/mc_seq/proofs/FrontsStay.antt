@@ -8,7 +8,7 @@ use Rattle.mc_box.specs.BoxEvents.{BoxStep, box_event}
 use Rattle.mc_box.specs.declared.event.Event.{Event}
 use Rattle.mc_box.specs.declared.event.Event.TheVariants.{Take, Set, Media, Tell, Retry, Shift}
 use Rattle.mc_model.specs.Steps.{made, popped, pushed, sent_out, step_by, take_at, with_box}
-use Rattle.mc_model.specs.Worlds.{ChannelState, WorldState, box_at, far, front, front_for, joint_of, lane_of, number}
+use Rattle.mc_model.specs.Worlds.{ChannelState, WorldState, box_at, far, front, front_for, tunnel_of, lane_of, number}
 use Rattle.mc_laws.proofs.Numbers.{number_is}
 use Rattle.mc_laws.proofs.StepForms.{if_some, map_some, then_some}
 use Rattle.mc_seq.specs.Ready.{FrontsStay, IsAway}
@@ -93,5 +93,5 @@ pub fronts_stay : FrontsStay
 fronts_stay world next turn t goes away =
     let made = if_some (nat_lt turn.who (length world.boxes)) (step_by world turn.who turn.event) next goes in
     let same = event_same turn.event world next turn.who (lane_of world t) made.1 away in
-    ap (λ (channels : List ChannelState). front_for (joint_of (record next { channels = channels }) t).within (get_or next.lanes (lane_of (record next { channels = channels }) t) [])) same.channels
-    ∙ ap (front_for (joint_of world t).within) same.signals
+    ap (λ (channels : List ChannelState). front_for (tunnel_of (record next { channels = channels }) t).within (get_or next.lanes (lane_of (record next { channels = channels }) t) [])) same.channels
+    ∙ ap (front_for (tunnel_of world t).within) same.signals

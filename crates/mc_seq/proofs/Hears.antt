@@ -9,8 +9,7 @@ use Rattle.mc_box.specs.declared.event.Event.TheVariants.{Take, Set, Media, Tell
 use Rattle.mc_box.specs.declared.event.MediaChange.TheVariants.{Hear, Talk}
 use Rattle.mc_box.specs.declared.event.Turn.{Turn}
 use Rattle.mc_model.specs.Sound.{IsSound}
-use Rattle.mc_model.specs.Steps.{ends_version, ends_version_at}
-use Rattle.mc_model.specs.Steps.{step}
+use Rattle.mc_model.specs.Steps.{ends_version, ends_version_at, step}
 use Rattle.mc_model.specs.Worlds.{WorldState, box_at, number}
 use Rattle.mc_laws.proofs.Numbers.{box_inside, slot_inside}
 use Rattle.mc_seq.specs.Drawing.{MayCome}

@@ -4,7 +4,7 @@ use Rattle.mc_box.specs.declared.event.Turn.{Turn}
 use Rattle.mc_model.specs.Steps.{run, step}
 use Rattle.mc_model.specs.Worlds.{WorldState}
 use Rattle.mc_seq.specs.Draws.{ScheduleIsOne}
-use Rattle.mc_seq.specs.Schedule.{AreDrawn, Standing, begun, candidates, drawn, drawn_place, moved, round}
+use Rattle.mc_seq.specs.Schedule.{AreDrawn, Standing, first_standing, candidates, drawn, drawn_place, standing_after, round}
 
 -- where nothing is listed, nothing is drawn
 none_drawn : (now : Standing) (turn : Turn) → candidates now ≡ [] → drawn now ≡ Some turn → ⊥
@@ -32,9 +32,9 @@ drawn_one (s ∷ one) [] now last other first none second nothing = absurd (none
 drawn_one (s ∷ one) (t ∷ two) now last other first none second nothing =
     let same = same_turn (drawn now) s t first.2 second.2 in
     let world = same_world now.world first.0 second.0 s t same first.3 second.3 in
-    let rest : AreDrawn (moved now s first.0) two other =
-    subst (λ (w : WorldState). AreDrawn (moved now s w) two other) (sym world) (subst (λ (x : Turn). AreDrawn (moved now x second.0) two other) (sym same) second.4) in
-    let later = drawn_one one two (moved now s first.0) last other first.4 none rest nothing in
+    let rest : AreDrawn (standing_after now s first.0) two other =
+    subst (λ (w : WorldState). AreDrawn (standing_after now s w) two other) (sym world) (subst (λ (x : Turn). AreDrawn (standing_after now x second.0) two other) (sym same) second.4) in
+    let later = drawn_one one two (standing_after now s first.0) last other first.4 none rest nothing in
     record { turns = ap (λ (x : Turn). x ∷ one) same ∙ ap (λ (l : List Turn). t ∷ l) later.turns; stands = later.stands }
 
 -- one world has one round, and one world after it
@@ -44,7 +44,7 @@ same_run world other n m is one two = let both : run world (round world) ≡ run
 -- so a settle by draws has one schedule
 pub schedule_is_one : ScheduleIsOne
 schedule_is_one world last other batch turns more state end until one two =
-    let first = drawn_one one.first two.first (begun world batch state) one.rested two.rested one.draws one.none two.draws two.none in
+    let first = drawn_one one.first two.first (first_standing world batch state) one.rested two.rested one.draws one.none two.draws two.none in
     let worlds = same_run one.rested.world two.rested.world one.retried two.retried (ap (λ (s : Standing). s.world) first.stands) one.retries two.retries in
     let again : AreDrawn (record one.rested { world = one.retried }) two.others two.ended =
     subst (λ (w : WorldState). AreDrawn (record one.rested { world = w }) two.others two.ended) (sym worlds)

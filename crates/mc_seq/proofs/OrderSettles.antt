@@ -7,8 +7,8 @@ use Rattle.std.proofs.lemmas.List.Elements.{filter-append}
 use Rattle.std.proofs.lemmas.List.Folds.{list_all-append}
 use Rattle.std.proofs.lemmas.List.Sums.{sum_by-append}
 use Rattle.mc_box.specs.BoxEvents.{is_command}
-use Rattle.mc_model.specs.Settles.{IsSettled, commands_of, is_quiet, is_retry_of, owes_retry, takes_or_retries}
-use Rattle.mc_model.specs.Shapes.{owes_of, retry_of}
+use Rattle.mc_model.specs.Settles.{IsSettled, commands_of, is_quiet, is_retry_of, world_owes, takes_or_retries}
+use Rattle.mc_model.specs.Shapes.{owes_by_number, retry_of}
 use Rattle.mc_model.specs.Paths.{has_ring}
 use Rattle.mc_model.specs.Sound.{IsSound}
 use Rattle.mc_model.specs.Steps.{after, run}
@@ -51,7 +51,7 @@ owed_besides_by false world s = refl
 -- and what all slots below a number owe
 pub owed_besides : (world : WorldState) (n : ℕ) → all_besides (owed_below world n) ≡ true
 owed_besides world zero = refl
-owed_besides world (suc n) = besides_both (owed_below world n) (owed_at world n) (owed_besides world n) (owed_besides_by (owes_of world n) world n)
+owed_besides world (suc n) = besides_both (owed_below world n) (owed_at world n) (owed_besides world n) (owed_besides_by (owes_by_number world n) world n)
 
 -- a Take or a retry is no command
 no_command : (event : Event) → takes_or_retries event ≡ true → is_command event ≡ false
@@ -80,7 +80,7 @@ commands_before one two who all =
 -- from the turns before the moment at which the world rests, and those behind it
 pub settled_at : (world rested last : WorldState) (batch begun rest : List Turn) → has_ring last ≡ false → run world begun ≡ Some rested → run rested rest ≡ Some last
     → IsTrue (is_quiet rested) → IsTrue (is_quiet last) → ((who : ℕ) → commands_of who begun ≡ commands_of who batch)
-    → ((who local : ℕ) → count_by (is_retry_of who local) rest ≡ (if owes_retry rested who local then 1 else 0)) → all_besides rest ≡ true
+    → ((who local : ℕ) → count_by (is_retry_of who local) rest ≡ (if world_owes rested who local then 1 else 0)) → all_besides rest ≡ true
     → IsSettled world batch (begun ++ rest) last
 settled_at world rested last batch begun rest free ran goes quiet_then quiet used counts besides =
     let runs : run world (begun ++ rest) ≡ Some last = run-append begun rest world rested ran ∙ goes in
@@ -95,14 +95,14 @@ settled_at world rested last batch begun rest free ran goes quiet_then quiet use
         within = rw (length-append begun rest) (omega arith);
         at_rest = rw at (sym (quiet_rests rested) ∙ quiet_then);
         used_up = λ who. ap (commands_of who) (take-append_seam begun rest) ∙ used who;
-        retries = λ who local. ap (count_by (is_retry_of who local)) (drop-append_seam begun rest) ∙ (counts who local ∙ ap (λ (w : WorldState). if owes_retry w who local then 1 else 0) (sym at));
+        retries = λ who local. ap (count_by (is_retry_of who local)) (drop-append_seam begun rest) ∙ (counts who local ∙ ap (λ (w : WorldState). if world_owes w who local then 1 else 0) (sym at));
         besides = ap all_besides (drop-append_seam begun rest) ∙ besides;
       };
     }
 
 -- each retry that is owed at the rest comes once behind it
 counts_once : (rested retried last : WorldState) (others : List Turn) (who local : ℕ) → IsSound rested → TakesUp retried others last
-    → count_by (is_retry_of who local) (owed_retries rested ++ others) ≡ (if owes_retry rested who local then 1 else 0)
+    → count_by (is_retry_of who local) (owed_retries rested ++ others) ≡ (if world_owes rested who local then 1 else 0)
 counts_once rested retried last others who local sound ends =
     let both : count_by (is_retry_of who local) (owed_retries rested ++ others) ≡ count_by (is_retry_of who local) (owed_retries rested) + count_by (is_retry_of who local) others
     = sum_by-append (λ (turn : Turn). cond (is_retry_of who local turn) 1 0) (owed_retries rested) others in

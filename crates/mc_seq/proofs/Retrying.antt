@@ -2,8 +2,8 @@
 use Rattle.std.proofs.Common.{◌≡◌, ◌≢◌, ◌<◌, ◌≤◌, ◌+◌, ◌++◌, if◌then◌else◌, ℕ, Bool, true, false, List, [], ◌∷◌, length, Some, None, append_assoc, add-one, ap, sym, ◌∙◌, subst, arith}
 use Rattle.mc_slot.specs.declared.Slot.{Slot}
 use Rattle.mc_slot.specs.declared.SlotGoal.{SlotGoal}
-use Rattle.mc_box.specs.Boxes.{goal_at, goal_owes, slot_at}
-use Rattle.mc_model.specs.Shapes.{HasShape, owes_of, retry_of}
+use Rattle.mc_box.specs.Boxes.{goal_at, slot_owes, slot_at}
+use Rattle.mc_model.specs.Shapes.{HasShape, owes_by_number, retry_of}
 use Rattle.mc_model.specs.Sound.{IsSound}
 use Rattle.mc_model.specs.Steps.{run, step}
 use Rattle.mc_model.specs.Worlds.{ChannelState, WorldState, box_at, goal_of, place, places_among, slot_count, slot_of}
@@ -20,16 +20,16 @@ use Rattle.mc_seq.proofs.Runs.{run-append}
 -- ---- one retry
 
 -- each other slot owes what it owed
-form_owes : (world next : WorldState) (s t : ℕ) → IsSound world → t < slot_count world → t ≢ s → RetryHappened world next s → owes_of next t ≡ owes_of world t
+form_owes : (world next : WorldState) (s t : ℕ) → IsSound world → t < slot_count world → t ≢ s → RetryHappened world next s → owes_by_number next t ≡ owes_by_number world t
 form_owes world next s t sound within apart retried =
     let at : place next t ≡ place world t = ap (λ (channels : List ChannelState). place (record world { channels = channels }) t) retried.happened.stepped.channels in
     let goal : goal_at (box_at next (place world t).0) (place world t).1 ≡ goal_of world t = retry_goals_stay world next s retried (place world t).0 (place world t).1 in
     let slot : slot_at (box_at next (place world t).0) (place world t).1 ≡ slot_of world t =
     part_stays world next (place world s).0 (place world t).0 (place world t).1 (Retry (place world s).1) None world.lanes retried.happened
     (λ here. retried.did.turned.others (place world t).1 (apart_local world s t sound retried.inside within apart here)) in
-    ap (λ (p : ℕ × ℕ). goal_owes (goal_at (box_at next p.0) p.1) (slot_at (box_at next p.0) p.1)) at
-    ∙ (ap (λ (g : SlotGoal). goal_owes g (slot_at (box_at next (place world t).0) (place world t).1)) goal
-    ∙ ap (λ (a : Slot). goal_owes (goal_of world t) a) slot)
+    ap (λ (p : ℕ × ℕ). slot_owes (goal_at (box_at next p.0) p.1) (slot_at (box_at next p.0) p.1)) at
+    ∙ (ap (λ (g : SlotGoal). slot_owes g (slot_at (box_at next (place world t).0) (place world t).1)) goal
+    ∙ ap (λ (a : Slot). slot_owes (goal_of world t) a) slot)
 
 -- a retry of a slot is that slot's
 retry_form : (world next : WorldState) (s : ℕ) → IsSound world → s < slot_count world → step world (retry_of world s) ≡ Some next → RetryHappened world next s
@@ -40,7 +40,7 @@ retry_form world next s sound inside goes =
 
 -- by whether the slot owes the retry
 retries_by : (owes : Bool) (world next : WorldState) (s t : ℕ) → IsSound world → s < slot_count world → t < slot_count world → t ≢ s
-    → run world (if owes then retry_of world s ∷ [] else []) ≡ Some next → owes_of next t ≡ owes_of world t
+    → run world (if owes then retry_of world s ∷ [] else []) ≡ Some next → owes_by_number next t ≡ owes_by_number world t
 retries_by true world next s t sound inside within apart goes =
     let one = then_some (λ (w : WorldState). run w []) (step world (retry_of world s)) next goes in
     let same : Some one.0 ≡ Some next = one.2 in
@@ -48,12 +48,12 @@ retries_by true world next s t sound inside within apart goes =
     form_owes world next s t sound within apart (retry_form world next s sound inside (one.1 ∙ same))
 retries_by false world next s t sound inside within apart goes =
     let same : world ≡ next = cc in
-    ap (λ (w : WorldState). owes_of w t) (sym same)
+    ap (λ (w : WorldState). owes_by_number w t) (sym same)
 
 -- the retry of a slot, if it owes one, leaves what each other slot owes
 pub retry_else : (world next : WorldState) (s t : ℕ) → IsSound world → s < slot_count world → t < slot_count world → t ≢ s
-    → run world (owed_at world s) ≡ Some next → owes_of next t ≡ owes_of world t
-retry_else world next s t sound inside within apart goes = retries_by (owes_of world s) world next s t sound inside within apart goes
+    → run world (owed_at world s) ≡ Some next → owes_by_number next t ≡ owes_by_number world t
+retry_else world next s t sound inside within apart goes = retries_by (owes_by_number world s) world next s t sound inside within apart goes
 
 -- ---- one after another
 
@@ -62,11 +62,11 @@ pub count_same : (now start : WorldState) → HasShape now start → slot_count 
 count_same now start shape = ap (λ (channels : List ChannelState). length (places_among channels)) shape.channels
 
 -- what a slot owes still, it makes as at the beginning
-owed_same : (now start : WorldState) (s : ℕ) → HasShape now start → owes_of now s ≡ owes_of start s → owed_at now s ≡ owed_at start s
+owed_same : (now start : WorldState) (s : ℕ) → HasShape now start → owes_by_number now s ≡ owes_by_number start s → owed_at now s ≡ owed_at start s
 owed_same now start s shape owes =
     let at : retry_of now s ≡ retry_of start s = ap (λ (channels : List ChannelState). retry_of (record now { channels = channels }) s) shape.channels in
     ap (λ (b : Bool). if b then retry_of now s ∷ [] else []) owes
-    ∙ ap (λ (turn : Turn). if owes_of start s then turn ∷ [] else []) at
+    ∙ ap (λ (turn : Turn). if owes_by_number start s then turn ∷ [] else []) at
 
 -- the slots below a number have made the retries that they owed at the beginning, and the others owe what they owed
 pub record Retried (start : WorldState) (before : List Turn) (now : WorldState) (written : List Turn) (number : ℕ) : Type 0 where
@@ -74,7 +74,7 @@ pub record Retried (start : WorldState) (before : List Turn) (now : WorldState) 
   pub shape : HasShape now start
   pub ran : run start (owed_below start number) ≡ Some now
   pub logged : written ≡ before ++ owed_below start number
-  pub others : (t : ℕ) → number ≤ t → t < slot_count start → owes_of now t ≡ owes_of start t
+  pub others : (t : ℕ) → number ≤ t → t < slot_count start → owes_by_number now t ≡ owes_by_number start t
 
 -- the next slot makes its retry
 pub retried_more : (start now next : WorldState) (before written more : List Turn) (number : ℕ) → number < slot_count start → Retried start before now written number

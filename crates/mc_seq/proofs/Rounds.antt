@@ -3,11 +3,11 @@ use Rattle.std.proofs.Common.{◌≡◌, ◌≢◌, ◌<◌, ◌≤◌, ◌+◌,
 use Rattle.std.proofs.lemmas.Grind.{common_steps}
 use Rattle.mc_slot.specs.declared.Slot.{Slot}
 use Rattle.mc_slot.specs.declared.SlotGoal.{SlotGoal}
-use Rattle.mc_box.specs.Boxes.{goal_at, goal_owes, is_slot, owes_at, slot_at}
+use Rattle.mc_box.specs.Boxes.{goal_at, slot_owes, is_slot, box_owes, slot_at}
 use Rattle.mc_box.specs.declared.event.Event.TheVariants.{Retry}
 use Rattle.mc_box.specs.declared.event.Turn.{Turn}
 use Rattle.mc_laws.specs.Measures.{total}
-use Rattle.mc_model.specs.Settles.{is_retry_of, owes_retry, takes_or_retries}
+use Rattle.mc_model.specs.Settles.{is_retry_of, world_owes, takes_or_retries}
 use Rattle.mc_model.specs.Shapes.{HasShape}
 use Rattle.mc_model.specs.Sound.{IsSound}
 use Rattle.mc_model.specs.Steps.{run, step}
@@ -26,16 +26,16 @@ use Rattle.mc_seq.proofs.Runs.{run-append}
 -- ---- one retry
 
 -- each other slot owes what it owed
-form_owes : (world next : WorldState) (s w l : ℕ) → (w ≡ (place world s).0 → l ≢ (place world s).1) → RetryHappened world next s → owes_at (box_at next w) l ≡ owes_at (box_at world w) l
+form_owes : (world next : WorldState) (s w l : ℕ) → (w ≡ (place world s).0 → l ≢ (place world s).1) → RetryHappened world next s → box_owes (box_at next w) l ≡ box_owes (box_at world w) l
 form_owes world next s w l apart retried =
     let goal : goal_at (box_at next w) l ≡ goal_at (box_at world w) l = retry_goals_stay world next s retried w l in
     let slot : slot_at (box_at next w) l ≡ slot_at (box_at world w) l =
     part_stays world next (place world s).0 w l (Retry (place world s).1) None world.lanes retried.happened (λ here. retried.did.turned.others l (apart here)) in
-    ap (λ (g : SlotGoal). goal_owes g (slot_at (box_at next w) l)) goal ∙ ap (λ (a : Slot). goal_owes (goal_at (box_at world w) l) a) slot
+    ap (λ (g : SlotGoal). slot_owes g (slot_at (box_at next w) l)) goal ∙ ap (λ (a : Slot). slot_owes (goal_at (box_at world w) l) a) slot
 
 -- after a Retry, or none, other slots owe what they owed
 retries_by : (owes : Bool) (world next : WorldState) (who local w l : ℕ) → IsSound world → (w ≡ who → l ≢ local)
-    → run world (if owes then retry_turn who local ∷ [] else []) ≡ Some next → owes_at (box_at next w) l ≡ owes_at (box_at world w) l
+    → run world (if owes then retry_turn who local ∷ [] else []) ≡ Some next → box_owes (box_at next w) l ≡ box_owes (box_at world w) l
 retries_by true world next who local w l sound apart goes =
     let one = then_some (λ (x : WorldState). run x []) (step world (retry_turn who local)) next goes in
     let same : Some one.0 ≡ Some next = one.2 in
@@ -44,16 +44,16 @@ retries_by true world next who local w l sound apart goes =
     (λ here at. apart (here ∙ ap (λ (p : ℕ × ℕ). p.0) made.1) (at ∙ ap (λ (p : ℕ × ℕ). p.1) made.1)) made.2
 retries_by false world next who local w l sound apart goes =
     let same : world ≡ next = cc in
-    ap (λ (x : WorldState). owes_at (box_at x w) l) (sym same)
+    ap (λ (x : WorldState). box_owes (box_at x w) l) (sym same)
 
 -- the retry of a slot, if it owes one, leaves what each other slot owes
-retry_else : (world next : WorldState) (who local w l : ℕ) → IsSound world → (w ≡ who → l ≢ local) → run world (retry_where world who local) ≡ Some next → owes_at (box_at next w) l ≡ owes_at (box_at world w) l
-retry_else world next who local w l sound apart goes = retries_by (owes_at (box_at world who) local) world next who local w l sound apart goes
+retry_else : (world next : WorldState) (who local w l : ℕ) → IsSound world → (w ≡ who → l ≢ local) → run world (retry_where world who local) ≡ Some next → box_owes (box_at next w) l ≡ box_owes (box_at world w) l
+retry_else world next who local w l sound apart goes = retries_by (box_owes (box_at world who) local) world next who local w l sound apart goes
 
 -- ---- the slots of a box
 
 -- what a slot owes decides whether its Retry is in the round
-where_same : (now start : WorldState) (who local : ℕ) → owes_at (box_at now who) local ≡ owes_at (box_at start who) local → retry_where now who local ≡ retry_where start who local
+where_same : (now start : WorldState) (who local : ℕ) → box_owes (box_at now who) local ≡ box_owes (box_at start who) local → retry_where now who local ≡ retry_where start who local
 where_same now start who local same = ap (λ (b : Bool). if b then retry_turn who local ∷ [] else []) same
 
 -- the slots of a box below a number have made their retries, and the others owe what they owed
@@ -62,7 +62,7 @@ pub record BoxRetried (start : WorldState) (before : List Turn) (now : WorldStat
   pub shape : HasShape now start
   pub ran : run start (for_each (retry_where start who) number) ≡ Some now
   pub logged : logs ≡ before ++ for_each (retry_where start who) number
-  pub others : (w l : ℕ) → (w ≡ who → number ≤ l) → owes_at (box_at now w) l ≡ owes_at (box_at start w) l
+  pub others : (w l : ℕ) → (w ≡ who → number ≤ l) → box_owes (box_at now w) l ≡ box_owes (box_at start w) l
 
 -- one more slot of a box has had its turn
 pub box_more : (start now next : WorldState) (before logs more : List Turn) (who number : ℕ) → BoxRetried start before now logs who number
@@ -88,17 +88,17 @@ pub record AllRetried (start : WorldState) (before : List Turn) (now : WorldStat
   pub shape : HasShape now start
   pub ran : run start (for_each (retries_of start) number) ≡ Some now
   pub logged : logs ≡ before ++ for_each (retries_of start) number
-  pub others : (w l : ℕ) → number ≤ w → owes_at (box_at now w) l ≡ owes_at (box_at start w) l
+  pub others : (w l : ℕ) → number ≤ w → box_owes (box_at now w) l ≡ box_owes (box_at start w) l
 
 -- boxes of one shape that owe the same have the same Retries
-box_same : (now start : WorldState) (who : ℕ) → HasShape now start → ((l : ℕ) → owes_at (box_at now who) l ≡ owes_at (box_at start who) l) → retries_of now who ≡ retries_of start who
+box_same : (now start : WorldState) (who : ℕ) → HasShape now start → ((l : ℕ) → box_owes (box_at now who) l ≡ box_owes (box_at start who) l) → retries_of now who ≡ retries_of start who
 box_same now start who shape same =
     each_same (retry_where now who) (retry_where start who) (length (box_at now who).slots) (λ l. where_same now start who l (same l))
     ∙ ap (for_each (retry_where start who)) (shape.alike who).slots
 
 -- one more box has had its turns
 pub all_more : (start now next : WorldState) (before logs more : List Turn) (number : ℕ) → AllRetried start before now logs number
-    → run now (retries_of now number) ≡ Some next → more ≡ logs ++ retries_of now number → ((w l : ℕ) → w ≢ number → owes_at (box_at next w) l ≡ owes_at (box_at now w) l) → AllRetried start before next more (number + 1)
+    → run now (retries_of now number) ≡ Some next → more ≡ logs ++ retries_of now number → ((w l : ℕ) → w ≢ number → box_owes (box_at next w) l ≡ box_owes (box_at now w) l) → AllRetried start before next more (number + 1)
 all_more start now next before logs more number so_far goes logged others =
     let same = box_same now start number so_far.shape (λ l. so_far.others number l (omega arith)) in
     record {
@@ -124,7 +124,7 @@ where_besides false who local = refl
 pub round_besides : (world : WorldState) (n : ℕ) → all_besides (for_each (retries_of world) n) ≡ true
 round_besides world n =
     each_pass (λ turn. takes_or_retries turn.event) (retries_of world) n
-    (λ who. each_pass (λ turn. takes_or_retries turn.event) (retry_where world who) (length (box_at world who).slots) (λ local. where_besides (owes_at (box_at world who) local) who local))
+    (λ who. each_pass (λ turn. takes_or_retries turn.event) (retry_where world who) (length (box_at world who).slots) (λ local. where_besides (box_owes (box_at world who) local) who local))
 
 -- ---- each once
 
@@ -140,7 +140,7 @@ here_by false w l who local is = refl
 
 -- that of another slot doesn't
 where_else : (world : WorldState) (w l who local : ℕ) → (w ≡ who → l ≡ local → ⊥) → count_by (is_retry_of who local) (retry_where world w l) ≡ 0
-where_else world w l who local apart = else_by (owes_at (box_at world w) l) w l who local (other_test l local w who (λ at here. apart here at))
+where_else world w l who local apart = else_by (box_owes (box_at world w) l) w l who local (other_test l local w who (λ at here. apart here at))
 
 -- in a box the Retry of each of its slots comes once
 box_count : (world : WorldState) (w who local : ℕ) → count_by (is_retry_of who local) (retries_of world w) ≡ total (λ (l : ℕ). count_by (is_retry_of who local) (retry_where world w l)) (length (box_at world w).slots)
@@ -157,11 +157,11 @@ missing k n off below = grind (arith, common_steps)
 
 -- a slot of the box: its Retry comes as often as the slot is there and owes it
 box_here : (there : Bool) (world : WorldState) (who local : ℕ) → is_slot (box_at world who) local ≡ there
-    → count_by (is_retry_of who local) (retries_of world who) ≡ (if there && owes_at (box_at world who) local then 1 else 0)
+    → count_by (is_retry_of who local) (retries_of world who) ≡ (if there && box_owes (box_at world who) local then 1 else 0)
 box_here true world who local is =
     box_count world who who local
     ∙ (total_one (λ (l : ℕ). count_by (is_retry_of who local) (retry_where world who l)) (length (box_at world who).slots) local (slot_inside (box_at world who) local is) (λ l below apart. where_else world who l who local (λ here at. apart at))
-    ∙ here_by (owes_at (box_at world who) local) who local who local (same_test local who))
+    ∙ here_by (box_owes (box_at world who) local) who local who local (same_test local who))
 box_here false world who local is =
     box_count world who who local
     ∙ total_none (λ (l : ℕ). count_by (is_retry_of who local) (retry_where world who l)) (length (box_at world who).slots)
@@ -169,7 +169,7 @@ box_here false world who local is =
 
 -- a box that is there, or isn't
 round_by : (there : Bool) (world : WorldState) (who local : ℕ) → nat_lt who (length world.boxes) ≡ there
-    → count_by (is_retry_of who local) (round world) ≡ (if there && is_slot (box_at world who) local && owes_at (box_at world who) local then 1 else 0)
+    → count_by (is_retry_of who local) (round world) ≡ (if there && is_slot (box_at world who) local && box_owes (box_at world who) local then 1 else 0)
 round_by true world who local is =
     each_count (is_retry_of who local) (retries_of world) (length world.boxes)
     ∙ (total_one (λ (w : ℕ). count_by (is_retry_of who local) (retries_of world w)) (length world.boxes) who (box_inside world who is) (λ w below apart. box_else world w who local apart)
@@ -180,5 +180,5 @@ round_by false world who local is =
     (λ w below. box_else world w who local (λ here. missing who (length world.boxes) is (subst (λ (k : ℕ). k < length world.boxes) here below)))
 
 -- in a round each owed Retry comes once, and no other
-pub round_once : (world : WorldState) (who local : ℕ) → count_by (is_retry_of who local) (round world) ≡ (if owes_retry world who local then 1 else 0)
+pub round_once : (world : WorldState) (who local : ℕ) → count_by (is_retry_of who local) (round world) ≡ (if world_owes world who local then 1 else 0)
 round_once world who local = round_by (nat_lt who (length world.boxes)) world who local refl

@@ -13,7 +13,7 @@ use Rattle.mc_laws.proofs.CommandsGo.{allowed_parts}
 use Rattle.mc_model.specs.Shapes.{is_allowed}
 use Rattle.mc_model.specs.Paths.{has_ring}
 use Rattle.mc_model.specs.Rings.{IsFirstOnRing}
-use Rattle.mc_model.specs.Settles.{IsSettled, IsStopped, commands_of, is_quiet, is_retry_of, owes_retry, takes_or_retries}
+use Rattle.mc_model.specs.Settles.{IsSettled, IsStopped, commands_of, is_quiet, is_retry_of, world_owes, takes_or_retries}
 use Rattle.mc_model.specs.Sound.{IsSound}
 use Rattle.mc_model.specs.Steps.{run}
 use Rattle.mc_model.specs.Worlds.{WorldState}
@@ -22,7 +22,7 @@ use Rattle.mc_laws.proofs.ShapesKept.{run_keeps_shape}
 use Rattle.mc_laws.proofs.StepKeeps.{run_keeps_sound}
 use Rattle.mc_seq.specs.Draws.{AreAllowed, IsScheduled, ScheduleSettles, StopsAtRing, StopsAtVersion}
 use Rattle.mc_seq.specs.Drawing.{DrewAll, RanOut, Rested}
-use Rattle.mc_seq.specs.Schedule.{AreDrawn, Standing, begun, candidates, is_urgent, left_by, listed, moved, round, without_next}
+use Rattle.mc_seq.specs.Schedule.{AreDrawn, Standing, first_standing, candidates, is_urgent, left_by, listed, standing_after, round, without_next}
 use Rattle.mc_seq.proofs.Candidates.{IsListed, drawn_listed, listed_quiet, none_left, take_same}
 use Rattle.mc_seq.proofs.AllowedCommands.{all_kept, left_pass, next_pass, two_there}
 use Rattle.mc_seq.proofs.Nexts.{next_first}
@@ -36,12 +36,12 @@ use Rattle.mc_seq.proofs.Sittings.{drawn_take, take_left, take_none}
 -- turns that are drawn are a run
 pub drawn_run : (turns : List Turn) (now last : Standing) → AreDrawn now turns last → run now.world turns ≡ Some last.world
 drawn_run [] now last draws = ap (λ (s : Standing). Some s.world) draws
-drawn_run (turn ∷ turns) now last draws = ap (option_and_then (λ (w : WorldState). run w turns)) draws.3 ∙ drawn_run turns (moved now turn draws.0) last draws.4
+drawn_run (turn ∷ turns) now last draws = ap (option_and_then (λ (w : WorldState). run w turns)) draws.3 ∙ drawn_run turns (standing_after now turn draws.0) last draws.4
 
 -- what all that is left passes
 drawn_pass : (p : Turn → Bool) (turns : List Turn) (now last : Standing) → list_all p now.left ≡ true → AreDrawn now turns last → list_all p last.left ≡ true
 drawn_pass p [] now last all draws = subst (λ (s : Standing). list_all p s.left ≡ true) draws all
-drawn_pass p (turn ∷ turns) now last all draws = drawn_pass p turns (moved now turn draws.0) last (left_pass p turn now.left all) draws.4
+drawn_pass p (turn ∷ turns) now last all draws = drawn_pass p turns (standing_after now turn draws.0) last (left_pass p turn now.left all) draws.4
 
 -- ---- their commands
 
@@ -74,16 +74,16 @@ drawn_commands [] now last who all draws = ap (λ (s : Standing). commands_of wh
 drawn_commands (turn ∷ turns) now last who all draws =
     ap (λ (l : List Turn). l ++ commands_of who last.left) (filter-append (λ (t : Turn). is_command t.event && t.who == who) (turn ∷ []) turns)
     ∙ (append_assoc (commands_of who (turn ∷ [])) (commands_of who turns) (commands_of who last.left)
-    ∙ (ap (λ (l : List Turn). commands_of who (turn ∷ []) ++ l) (drawn_commands turns (moved now turn draws.0) last who (left_pass is_ordered turn now.left all) draws.4)
+    ∙ (ap (λ (l : List Turn). commands_of who (turn ∷ []) ++ l) (drawn_commands turns (standing_after now turn draws.0) last who (left_pass is_ordered turn now.left all) draws.4)
     ∙ moved_commands now.world now.left (is_urgent now.left now.since) turn who all (drawn_listed now turn draws.2)))
 
 -- so they are a stopped segment
-pub drawn_stopped : (world : WorldState) (batch turns : List Turn) (state : ℕ) (last : Standing) → AreAllowed world batch → AreDrawn (begun world batch state) turns last → IsStopped world batch turns last.world
+pub drawn_stopped : (world : WorldState) (batch turns : List Turn) (state : ℕ) (last : Standing) → AreAllowed world batch → AreDrawn (first_standing world batch state) turns last → IsStopped world batch turns last.world
 drawn_stopped world batch turns state last allowed draws = record {
-  runs = drawn_run turns (begun world batch state) last draws;
+  runs = drawn_run turns (first_standing world batch state) last draws;
   commands = λ who.
       sym (take-append_seam (commands_of who turns) (commands_of who last.left))
-      ∙ ap (take (length (commands_of who turns))) (drawn_commands turns (begun world batch state) last who (allowed_commands batch world allowed) draws);
+      ∙ ap (take (length (commands_of who turns))) (drawn_commands turns (first_standing world batch state) last who (allowed_commands batch world allowed) draws);
 }
 
 -- ---- where the batch is used up
@@ -99,7 +99,7 @@ pub drawn_takes : (turns : List Turn) (now last : Standing) → now.left ≡ [] 
 drawn_takes [] now last none draws = record { besides = refl; left = ap (λ (s : Standing). s.left) (sym draws) ∙ none; count = λ who local. refl }
 drawn_takes (turn ∷ turns) now last none draws =
     let take = drawn_take now turn none draws.2 in
-    let rest = drawn_takes turns (moved now turn draws.0) last (take_left turn now.left now.world take ∙ none) draws.4 in
+    let rest = drawn_takes turns (standing_after now turn draws.0) last (take_left turn now.left now.world take ∙ none) draws.4 in
     record {
       besides = ap (λ (e : Event). takes_or_retries e && all_besides turns) take.event ∙ rest.besides;
       left = rest.left;
@@ -123,11 +123,11 @@ record First (world : WorldState) (batch first : List Turn) (rested : Standing) 
 
 -- what the turns up to the first rest are
 first_is : (world : WorldState) (batch first : List Turn) (state : ℕ) (rested : Standing) → IsSound world → AreAllowed world batch
-    → AreDrawn (begun world batch state) first rested → candidates rested ≡ [] → First world batch first rested
+    → AreDrawn (first_standing world batch state) first rested → candidates rested ≡ [] → First world batch first rested
 first_is world batch first state rested sound allowed draws none =
-    let ran : run world first ≡ Some rested.world = drawn_run first (begun world batch state) rested draws in
+    let ran : run world first ≡ Some rested.world = drawn_run first (first_standing world batch state) rested draws in
     let kept = run_keeps_sound world rested.world first sound ran in
-    let still = all_kept rested.left world rested.world sound kept (run_keeps_shape world rested.world first sound ran) (drawn_pass (is_allowed world) first (begun world batch state) rested allowed draws) in
+    let still = all_kept rested.left world rested.world sound kept (run_keeps_shape world rested.world first sound ran) (drawn_pass (is_allowed world) first (first_standing world batch state) rested allowed draws) in
     let left = none_left rested.world rested.left (is_urgent rested.left rested.since) still none in
     record {
       ran = ran;
@@ -137,11 +137,11 @@ first_is world batch first state rested sound allowed draws none =
       used = λ who.
           sym (append-nil (commands_of who first))
           ∙ (ap (λ (l : List Turn). commands_of who first ++ commands_of who l) (sym left)
-          ∙ drawn_commands first (begun world batch state) rested who (allowed_commands batch world allowed) draws);
+          ∙ drawn_commands first (first_standing world batch state) rested who (allowed_commands batch world allowed) draws);
     }
 
 -- each retry that is owed comes once behind it
-counted : (world : WorldState) (others : List Turn) (who local : ℕ) → count_by (is_retry_of who local) others ≡ 0 → count_by (is_retry_of who local) (round world ++ others) ≡ (if owes_retry world who local then 1 else 0)
+counted : (world : WorldState) (others : List Turn) (who local : ℕ) → count_by (is_retry_of who local) others ≡ 0 → count_by (is_retry_of who local) (round world ++ others) ≡ (if world_owes world who local then 1 else 0)
 counted world others who local none =
     let both : count_by (is_retry_of who local) (round world ++ others) ≡ count_by (is_retry_of who local) (round world) + count_by (is_retry_of who local) others
     = sum_by-append (λ (turn : Turn). cond (is_retry_of who local turn) 1 0) (round world) others in
@@ -175,10 +175,10 @@ schedule_settles world last batch turns state end sound allowed scheduled =
 -- drawn turns behind drawn turns
 drawn_both : (one two : List Turn) (now next last : Standing) → AreDrawn now one next → AreDrawn next two last → AreDrawn now (one ++ two) last
 drawn_both [] two now next last first second = subst (λ (s : Standing). AreDrawn s two last) (sym first) second
-drawn_both (turn ∷ one) two now next last first second = (first.0, first.1, first.2, first.3, drawn_both one two (moved now turn first.0) next last first.4 second)
+drawn_both (turn ∷ one) two now next last first second = (first.0, first.1, first.2, first.3, drawn_both one two (standing_after now turn first.0) next last first.4 second)
 
 -- the parts of a settle, as they were written down one after another, are by the schedule
-pub scheduled_is : (world : WorldState) (batch : List Turn) (state : ℕ) (start used rested again ended : Standing) (none one two three four : List Turn) → start ≡ begun world batch state → none ≡ []
+pub scheduled_is : (world : WorldState) (batch : List Turn) (state : ℕ) (start used rested again ended : Standing) (none one two three four : List Turn) → start ≡ first_standing world batch state → none ≡ []
     → DrewAll start none used one → Rested used one rested two → again ≡ record rested { world = again.world } → run rested.world (round rested.world) ≡ Some again.world → three ≡ two ++ round rested.world
     → Rested again three ended four → IsScheduled world batch state four ended.world ended.draws
 scheduled_is world batch state start used rested again ended none one two three four begins nothing first second stays retries third last = record {
@@ -201,24 +201,24 @@ scheduled_is world batch state start used rested again ended none one two three 
 }
 
 -- turns drawn to the end of the batch and then to the first rest are drawn turns
-first_drawn : (world : WorldState) (batch : List Turn) (state : ℕ) (start used : Standing) (none one : List Turn) → start ≡ begun world batch state → none ≡ [] → DrewAll start none used one → AreDrawn (begun world batch state) one used
+first_drawn : (world : WorldState) (batch : List Turn) (state : ℕ) (start used : Standing) (none one : List Turn) → start ≡ first_standing world batch state → none ≡ [] → DrewAll start none used one → AreDrawn (first_standing world batch state) one used
 first_drawn world batch state start used none one begins nothing first =
-    subst (λ (t : List Turn). AreDrawn (begun world batch state) t used) (sym (first.logged ∙ ap (λ (t : List Turn). t ++ first.turns) nothing))
+    subst (λ (t : List Turn). AreDrawn (first_standing world batch state) t used) (sym (first.logged ∙ ap (λ (t : List Turn). t ++ first.turns) nothing))
     (subst (λ (s : Standing). AreDrawn s first.turns used) begins first.draws)
 
 -- a settle that stops at a ring
-pub ring_is : (world : WorldState) (batch : List Turn) (state at : ℕ) (start used : Standing) (none one : List Turn) → start ≡ begun world batch state → none ≡ [] → AreAllowed world batch
+pub ring_is : (world : WorldState) (batch : List Turn) (state at : ℕ) (start used : Standing) (none one : List Turn) → start ≡ first_standing world batch state → none ≡ [] → AreAllowed world batch
     → DrewAll start none used one → used.left ≡ [] → IsFirstOnRing used.world at → StopsAtRing world batch state one used.draws at
 ring_is world batch state at start used none one begins nothing allowed first left least =
     let draws = first_drawn world batch state start used none one begins nothing first in
     record { last = used; draws = draws; used_up = left; least = least; to_end = refl; stopped = drawn_stopped world batch one state used allowed draws }
 
 -- and one that stops at the last version
-pub version_is : (world : WorldState) (batch : List Turn) (state at : ℕ) (start used : Standing) (none one : List Turn) → start ≡ begun world batch state → none ≡ [] → AreAllowed world batch
+pub version_is : (world : WorldState) (batch : List Turn) (state at : ℕ) (start used : Standing) (none one : List Turn) → start ≡ first_standing world batch state → none ≡ [] → AreAllowed world batch
     → RanOut start none used one at → StopsAtVersion world batch state one used.draws at
 version_is world batch state at start used none one begins nothing allowed out =
     let draws = first_drawn world batch state start out.last none out.until begins nothing out.drew in
-    let same : AreDrawn (begun world batch state) one out.last = subst (λ (t : List Turn). AreDrawn (begun world batch state) t out.last) (sym out.ends.logged) draws in
+    let same : AreDrawn (first_standing world batch state) one out.last = subst (λ (t : List Turn). AreDrawn (first_standing world batch state) t out.last) (sym out.ends.logged) draws in
     record {
       last = out.last;
       turn = out.ends.turn;

@@ -11,15 +11,14 @@ use Rattle.mc_model.specs.Shapes.{is_allowed}
 use Rattle.mc_laws.specs.Measures.{IsRingFree, measure}
 use Rattle.mc_model.specs.Paths.{has_ring}
 use Rattle.mc_model.specs.Sound.{IsSound}
-use Rattle.mc_model.specs.Steps.{ends_version, ends_version_at}
-use Rattle.mc_model.specs.Steps.{step}
+use Rattle.mc_model.specs.Steps.{ends_version, ends_version_at, step}
 use Rattle.mc_model.specs.Worlds.{WorldState}
 use Rattle.mc_laws.proofs.Lowers.{take_lowers, take_stays_free}
 use Rattle.mc_laws.proofs.ShapesKept.{step_keeps_shape}
 use Rattle.mc_laws.proofs.StepKeeps.{step_keeps_sound}
 use Rattle.mc_seq.specs.Draws.{AreAllowed}
-use Rattle.mc_seq.specs.Drawing.{Comes, DrewAll, Ends, Made, RanOut, Rested, TurnMade, stands, written}
-use Rattle.mc_seq.specs.Schedule.{AreDrawn, MayGo, Standing, candidates, drawn, drawn_place, is_urgent, left_by, listed, moved, next_of, since_by, without_next}
+use Rattle.mc_seq.specs.Drawing.{Comes, DrewAll, EndsVersion, Made, RanOut, Rested, TurnMade, stands, written}
+use Rattle.mc_seq.specs.Schedule.{AreDrawn, MayGo, Standing, candidates, drawn, drawn_place, is_urgent, left_by, listed, standing_after, next_of, since_by, without_next}
 use Rattle.mc_seq.specs.declared.drawing.Draw.TheVariants.{Nothing}
 use Rattle.mc_seq.specs.declared.drawing.Sitting.{Sitting}
 use Rattle.mc_seq.proofs.Candidates.{IsListed, IsTake, drawn_listed, none_left, take_same}
@@ -33,7 +32,7 @@ some_length : (xs : List Turn) → length xs ≢ 0 → 0 < length xs
 some_length xs some = omega arith
 
 -- what was made is what was drawn
-pub made_is : (old new : Sitting) (state next : ℕ) (turn : Turn) → drawn (stands old state) ≡ Some turn → TurnMade old new turn → stands new next ≡ moved (stands old state) turn new.settled.world
+pub made_is : (old new : Sitting) (state next : ℕ) (turn : Turn) → drawn (stands old state) ≡ Some turn → TurnMade old new turn → stands new next ≡ standing_after (stands old state) turn new.settled.world
     → Made (stands old state) (written old) (stands new next) (written new)
 made_is old new state next turn is made moves = record { turn = turn; is_drawn = is; goes = made.goes; moves = moves; logged = made.logged }
 
@@ -205,7 +204,7 @@ version_apart turn local world is ends =
     cc (parts.1)
 
 -- no version ends there
-pub never_ends : (now next : Standing) (old new : List Turn) (at : ℕ) → now.left ≡ [] → Ends now old next new at → ⊥
+pub never_ends : (now next : Standing) (old new : List Turn) (at : ℕ) → now.left ≡ [] → EndsVersion now old next new at → ⊥
 never_ends now next old new at none ends =
     let take = drawn_take now ends.turn none ends.is_drawn in
     version_apart ends.turn take.local now.world take.event ends.version
@@ -224,7 +223,7 @@ rested_is start now next before old new so_far none free comes =
     }
 
 -- a version ends behind what was drawn
-pub ran_out : (start now next : Standing) (before old new : List Turn) (at : ℕ) → GoesOn start before now old → Ends now old next new at → RanOut start before next new at
+pub ran_out : (start now next : Standing) (before old new : List Turn) (at : ℕ) → GoesOn start before now old → EndsVersion now old next new at → RanOut start before next new at
 ran_out start now next before old new at so_far ends = record { last = now; until = old; drew = goes_last start now before old so_far; ends = ends }
 
 -- the test says yes

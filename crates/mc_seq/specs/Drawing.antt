@@ -3,10 +3,9 @@ use Rattle.std.specs.Prelude.{◌≡◌, ℕ, false, List, [], ◌∷◌, ◌++�
 use Rattle.mc_text.specs.Draws.{next_state}
 use Rattle.mc_box.specs.declared.event.Turn.{Turn}
 use Rattle.mc_model.specs.Paths.{has_ring}
-use Rattle.mc_model.specs.Steps.{ends_version}
-use Rattle.mc_model.specs.Steps.{step}
+use Rattle.mc_model.specs.Steps.{ends_version, step}
 use Rattle.mc_model.specs.Worlds.{WorldState}
-use Rattle.mc_seq.specs.Schedule.{AreDrawn, Standing, candidates, drawn, heard_slot, left_by, moved, since_by}
+use Rattle.mc_seq.specs.Schedule.{AreDrawn, Standing, candidates, drawn, heard_slot, left_by, standing_after, since_by}
 use Rattle.mc_seq.specs.declared.drawing.Draw.{Draw}
 use Rattle.mc_seq.specs.declared.drawing.Draw.TheVariants.{Drawn, Nothing, VersionEnd}
 use Rattle.mc_seq.specs.declared.drawing.Sitting.{Sitting}
@@ -50,11 +49,11 @@ pub record Made (old : Standing) (before : List Turn) (new : Standing) (after : 
   pub turn : Turn
   pub is_drawn : drawn old ≡ Some turn
   pub goes : step old.world turn ≡ Some new.world
-  pub moves : new ≡ moved old turn new.world
+  pub moves : new ≡ standing_after old turn new.world
   pub logged : after ≡ before ++ turn ∷ []
 
 -- a drawn turn ends a version
-pub record Ends (old : Standing) (before : List Turn) (new : Standing) (after : List Turn) (at : ℕ) : Type 0 where
+pub record EndsVersion (old : Standing) (before : List Turn) (new : Standing) (after : List Turn) (at : ℕ) : Type 0 where
   pub turn : Turn
   pub is_drawn : drawn old ≡ Some turn
   pub version : IsTrue (ends_version old.world turn)
@@ -66,7 +65,7 @@ pub record Ends (old : Standing) (before : List Turn) (new : Standing) (after : 
 abbrev pub Comes : Standing → List Turn → Standing → List Turn → Draw → Type 0
 Comes old before new after Drawn = Made old before new after
 Comes old before new after Nothing = (candidates old ≡ []) × (new ≡ old) × (after ≡ before)
-Comes old before new after (VersionEnd at) = Ends old before new after at
+Comes old before new after (VersionEnd at) = EndsVersion old before new after at
 
 -- turns that are drawn lead from one standing to another, and are written down behind what was written before
 pub record DrewAll (old : Standing) (before : List Turn) (new : Standing) (after : List Turn) : Type 0 where
@@ -79,7 +78,7 @@ pub record RanOut (old : Standing) (before : List Turn) (new : Standing) (after 
   pub last : Standing
   pub until : List Turn
   pub drew : DrewAll old before last until
-  pub ends : Ends last until new after at
+  pub ends : EndsVersion last until new after at
 
 -- the commands were used up, or a version ended
 abbrev pub UsedUp : Standing → List Turn → Standing → List Turn → Option ℕ → Type 0

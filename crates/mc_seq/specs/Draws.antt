@@ -9,10 +9,9 @@ use Rattle.mc_model.specs.Paths.{has_ring}
 use Rattle.mc_model.specs.Rings.{IsFirstOnRing}
 use Rattle.mc_model.specs.Settles.{IsSettled, IsStopped}
 use Rattle.mc_model.specs.Sound.{IsSound}
-use Rattle.mc_model.specs.Steps.{ends_version}
-use Rattle.mc_model.specs.Steps.{run}
+use Rattle.mc_model.specs.Steps.{ends_version, run}
 use Rattle.mc_model.specs.Worlds.{WorldState}
-use Rattle.mc_seq.specs.Schedule.{AreDrawn, Standing, begun, candidates, drawn, heard_slot, round}
+use Rattle.mc_seq.specs.Schedule.{AreDrawn, Standing, first_standing, candidates, drawn, heard_slot, round}
 use Rattle.mc_seq.specs.declared.fault.SettleFault.{SettleFault}
 use Rattle.mc_seq.specs.declared.fault.SettleFault.TheVariants.{NoMemory, Ring, VersionEnd}
 
@@ -24,7 +23,7 @@ pub record IsScheduled (world : WorldState) (batch : List Turn) (state : ℕ) (t
   pub first : List Turn
   pub others : List Turn
   pub are : turns ≡ first ++ (round rested.world ++ others)
-  pub draws : AreDrawn (begun world batch state) first rested
+  pub draws : AreDrawn (first_standing world batch state) first rested
   pub none : candidates rested ≡ []
   pub no_ring : has_ring rested.world ≡ false
   pub retries : run rested.world (round rested.world) ≡ Some retried
@@ -36,7 +35,7 @@ pub record IsScheduled (world : WorldState) (batch : List Turn) (state : ℕ) (t
 -- drawn turns use up the batch, which leaves a ring, of which this slot is the least
 pub record StopsAtRing (world : WorldState) (batch : List Turn) (state : ℕ) (turns : List Turn) (end at : ℕ) : Type 0 where
   pub last : Standing
-  pub draws : AreDrawn (begun world batch state) turns last
+  pub draws : AreDrawn (first_standing world batch state) turns last
   pub used_up : last.left ≡ []
   pub least : IsFirstOnRing last.world at
   pub to_end : last.draws ≡ end
@@ -46,7 +45,7 @@ pub record StopsAtRing (world : WorldState) (batch : List Turn) (state : ℕ) (t
 pub record StopsAtVersion (world : WorldState) (batch : List Turn) (state : ℕ) (turns : List Turn) (end at : ℕ) : Type 0 where
   pub last : Standing
   pub turn : Turn
-  pub draws : AreDrawn (begun world batch state) turns last
+  pub draws : AreDrawn (first_standing world batch state) turns last
   pub is_drawn : drawn last ≡ Some turn
   pub version : IsTrue (ends_version last.world turn)
   pub slot : heard_slot last.world turn ≡ Some at

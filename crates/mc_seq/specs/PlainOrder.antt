@@ -1,12 +1,11 @@
 -- The plain order of a settle: the commands, then Takes of the lowest slot, then the owed retries, then Takes again.
 use Rattle.std.specs.Prelude.{◌≡◌, ◌<◌, ℕ, zero, suc, false, if◌then◌else◌, List, [], ◌∷◌, ◌++◌, Some, None, IsSome, IsTrue}
 use Rattle.mc_model.specs.Settles.{IsSettled, IsStopped, is_quiet}
-use Rattle.mc_model.specs.Shapes.{owes_of, retry_of}
+use Rattle.mc_model.specs.Shapes.{owes_by_number, retry_of}
 use Rattle.mc_model.specs.Paths.{has_ring}
 use Rattle.mc_model.specs.Rings.{IsFirstOnRing}
 use Rattle.mc_model.specs.Sound.{IsSound}
-use Rattle.mc_model.specs.Steps.{take_of}
-use Rattle.mc_model.specs.Steps.{after, run, step}
+use Rattle.mc_model.specs.Steps.{after, run, step, take_of}
 use Rattle.mc_model.specs.Worlds.{WorldState, front, slot_count}
 use Rattle.mc_box.specs.declared.event.Turn.{Turn}
 use Rattle.mc_seq.specs.declared.fault.SettleFault.{SettleFault}
@@ -32,7 +31,7 @@ pub record TookAll (world : WorldState) (before : List Turn) (last : WorldState)
 
 -- the retry of a slot, if it owes one
 abbrev pub owed_at : WorldState → ℕ → List Turn
-owed_at world s = if owes_of world s then retry_of world s ∷ [] else []
+owed_at world s = if owes_by_number world s then retry_of world s ∷ [] else []
 
 -- the retries that the slots below a number owe, the lowest first
 abbrev pub owed_below : WorldState → ℕ → List Turn

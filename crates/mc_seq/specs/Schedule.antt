@@ -4,7 +4,7 @@ use Rattle.std.specs.List.{find}
 use Rattle.std.specs.Option.{is_some, option_and_then, option_to_list}
 use Rattle.mc_text.specs.Draws.{next_state}
 use Rattle.mc_box.specs.BoxEvents.{is_command}
-use Rattle.mc_box.specs.Boxes.{owes_at}
+use Rattle.mc_box.specs.Boxes.{box_owes}
 use Rattle.mc_box.specs.declared.event.Event.{Event}
 use Rattle.mc_box.specs.declared.event.Event.TheVariants.{Take, Media, Retry}
 use Rattle.mc_box.specs.declared.event.MediaChange.TheVariants.{Hear}
@@ -21,8 +21,8 @@ pub record Standing : Type 0 where
   pub draws : ℕ
 
 -- at the beginning all commands are left
-abbrev pub begun : WorldState → List Turn → ℕ → Standing
-begun world batch draws = record { world = world; left = batch; since = 0; draws = draws }
+abbrev pub first_standing : WorldState → List Turn → ℕ → Standing
+first_standing world batch draws = record { world = world; left = batch; since = 0; draws = draws }
 
 -- what a function gives for each number below a count, in rising order
 abbrev pub for_each : (ℕ → List Turn) → ℕ → List Turn
@@ -39,11 +39,11 @@ abbrev pub take_turn : ℕ → ℕ → Turn
 take_turn who local = record { who = who; event = Take local }
 
 -- whether a signal waits that a box's slot can take now
-abbrev pub waits : WorldState → ℕ → ℕ → Bool
-waits world who local = is_some (option_and_then (front world) (number world who local))
+abbrev pub take_waits : WorldState → ℕ → ℕ → Bool
+take_waits world who local = is_some (option_and_then (front world) (number world who local))
 
 abbrev pub take_where : WorldState → ℕ → ℕ → List Turn
-take_where world who local = if waits world who local then take_turn who local ∷ [] else []
+take_where world who local = if take_waits world who local then take_turn who local ∷ [] else []
 
 -- a Take for each local slot of a box at which one waits, in rising order
 abbrev pub takes_of : WorldState → ℕ → List Turn
@@ -86,8 +86,8 @@ abbrev pub since_by : Turn → ℕ → ℕ
 since_by turn since = if is_command turn.event then 0 else (if nat_lt since 63 then since + 1 else since)
 
 -- the standing after a drawn turn that led to this world
-abbrev pub moved : Standing → Turn → WorldState → Standing
-moved now turn next = record { world = next; left = left_by turn now.left; since = since_by turn now.since; draws = next_state now.draws }
+abbrev pub standing_after : Standing → Turn → WorldState → Standing
+standing_after now turn next = record { world = next; left = left_by turn now.left; since = since_by turn now.since; draws = next_state now.draws }
 
 -- where the batch is used up there is no ring
 abbrev pub MayGo : Standing → Type 0
@@ -96,7 +96,7 @@ MayGo now = now.left ≡ [] → has_ring now.world ≡ false
 -- turns that are drawn one after another lead from one standing to another
 abbrev pub AreDrawn : Standing → List Turn → Standing → Type 0
 AreDrawn now [] last = now ≡ last
-AreDrawn now (turn ∷ turns) last = (next : WorldState) × MayGo now × (drawn now ≡ Some turn) × (step now.world turn ≡ Some next) × AreDrawn (moved now turn next) turns last
+AreDrawn now (turn ∷ turns) last = (next : WorldState) × MayGo now × (drawn now ≡ Some turn) × (step now.world turn ≡ Some next) × AreDrawn (standing_after now turn next) turns last
 
 -- ---- a round of retries
 
@@ -104,7 +104,7 @@ abbrev pub retry_turn : ℕ → ℕ → Turn
 retry_turn who local = record { who = who; event = Retry local }
 
 abbrev pub retry_where : WorldState → ℕ → ℕ → List Turn
-retry_where world who local = if owes_at (box_at world who) local then retry_turn who local ∷ [] else []
+retry_where world who local = if box_owes (box_at world who) local then retry_turn who local ∷ [] else []
 
 abbrev pub retries_of : WorldState → ℕ → List Turn
 retries_of world who = for_each (retry_where world who) (length (box_at world who).slots)

@@ -3,7 +3,7 @@
 ghost use Rattle.std.specs.Prelude.{◌≡◌, ◌≢◌, ◌==◌, ◌<◌, ◌++◌, ℕ, [], false, length, position, Some, IsTrue, IfOk, IfErr, OnOk, slice_get};
 ghost use Rattle.std.specs.List.{list_all};
 ghost use Rattle.mc_text.specs.Draws.{next_state};
-ghost use Rattle.mc_box.specs.Boxes.{owes_at};
+ghost use Rattle.mc_box.specs.Boxes.{box_owes};
 ghost use Rattle.mc_box.specs.BoxEvents.{is_command};
 ghost use Rattle.mc_model.specs.Shapes.{is_allowed};
 ghost use Rattle.mc_model.specs.Paths.{has_ring};
@@ -299,7 +299,7 @@ fn retry(settled: &mut Settled, who: u32, local: u8) -> Result<(), AllocError>
 fn retry_box(settled: &mut Settled, who: u32) -> Result<(), AllocError>
     requires here { who < length settled.old.world.boxes }
     ensures ran { OnOk result (run settled.old.world (retries_of settled.old.world who) ≡ Some settled.new.world) }
-    ensures others { OnOk result ((other local : ℕ) → other ≢ who → owes_at (box_at settled.new.world other) local ≡ owes_at (box_at settled.old.world other) local) }
+    ensures others { OnOk result ((other local : ℕ) → other ≢ who → box_owes (box_at settled.new.world other) local ≡ box_owes (box_at settled.old.world other) local) }
     ensures logged { OnOk result (settled.new.turns.items ≡ settled.old.turns.items ++ retries_of settled.old.world who) }
 {
     settled.world.keeps();

@@ -1,7 +1,7 @@
 // What can come next in a settle by draws.
 
 ghost use Rattle.std.specs.Prelude.{◌≡◌, ◌<◌, ◌++◌, length, OnOk, IfOk};
-ghost use Rattle.mc_seq.specs.Schedule.{is_urgent, listed, next_of, of_box, take_where, takes_of, waits};
+ghost use Rattle.mc_seq.specs.Schedule.{is_urgent, listed, next_of, of_box, take_where, takes_of, take_waits};
 
 use mc_box::{Event, Turn};
 use mc_world::World;
@@ -9,7 +9,7 @@ use std::alloc::{AllocError, Global};
 
 // Whether a signal waits that a box's slot can take now.
 pub fn waits(world: &World, who: u32, local: u8) -> bool
-    ensures { result ≡ waits world.now who local }
+    ensures { result ≡ take_waits world.now who local }
 {
     match world.number(who, local) {
         Some(slot) => world.front(slot).is_some(),

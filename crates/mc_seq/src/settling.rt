@@ -4,7 +4,7 @@ ghost use Rattle.std.specs.Prelude.{◌≡◌, ◌<◌, ◌++◌, [], ◌∷◌,
 ghost use Rattle.mc_seq.specs.PlainOrder.{IsLowest, IsPlain, StopsBy, TookAll, owed_at, owed_retries};
 ghost use Rattle.mc_model.specs.Paths.{has_ring};
 ghost use Rattle.mc_model.specs.Settles.{IsSettled, is_quiet};
-ghost use Rattle.mc_model.specs.Shapes.{owes_of};
+ghost use Rattle.mc_model.specs.Shapes.{owes_by_number};
 ghost use Rattle.mc_model.specs.Steps.{after, run, step};
 ghost use Rattle.mc_model.specs.Worlds.{slot_count};
 
@@ -115,7 +115,7 @@ fn take_all(settled: &mut Settled) -> Result<(), AllocError>
 // Whether a slot owes a retry.
 fn owes_retry(world: &World, slot: u32) -> bool
     requires { slot < slot_count world.now }
-    ensures { result ≡ owes_of world.now slot }
+    ensures { result ≡ owes_by_number world.now slot }
 {
     match world.goal(slot) {
         SlotGoal::End(goal) => owes(&world.slot(slot), goal),

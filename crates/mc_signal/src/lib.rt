@@ -2,7 +2,7 @@
 #![tactic(auto)]
 
 ghost use Rattle.std.specs.Prelude.{◌≡◌};
-ghost use Rattle.mc_signal.specs.Choice.{answers, codecs_of, selector_of, shared_codec};
+ghost use Rattle.mc_signal.specs.Choice.{answers, codecs_of, choose, shared_codec};
 
 mod codec_list;
 pub mod laws;
@@ -75,7 +75,7 @@ pub struct Tagged {
 }
 
 // The first of the offered codecs that is among those that can be sent.
-fn first_shared(offered: &CodecList, able: &CodecList) -> Option<u8>
+fn shared_codec(offered: &CodecList, able: &CodecList) -> Option<u8>
     ensures { result ≡ shared_codec (codecs_of offered.now) (codecs_of able.now) }
 {
     offered
@@ -88,14 +88,14 @@ fn first_shared(offered: &CodecList, able: &CodecList) -> Option<u8>
 /// The selector with which a sender answers a descriptor: its codec is the first of the descriptor's
 /// that the sender can send, and none where it can send none of them.
 pub fn choose(d: Descriptor, me: &Sender) -> Selector
-    ensures { result ≡ selector_of d me.now }
+    ensures { result ≡ choose d me.now }
 {
     Selector {
         origin: d.origin,
         version: d.version,
         addr: me.addr,
         port: me.port,
-        codec: first_shared(&d.codecs, &me.codecs),
+        codec: shared_codec(&d.codecs, &me.codecs),
     }
 }
 

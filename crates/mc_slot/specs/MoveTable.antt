@@ -3,7 +3,7 @@ use Rattle.std.specs.Prelude.{◌≡◌, ◌↔◌, Option, Some, None, Bool, tr
 use Rattle.mc_signal.specs.declared.Descriptor.{Descriptor}
 use Rattle.mc_signal.specs.declared.Signal.{Signal}
 use Rattle.mc_signal.specs.declared.Signal.TheVariants.{Open, Oack, Close, Closeack, Describe, Select}
-use Rattle.mc_slot.specs.Moves.{cleared, moved, taken, sent}
+use Rattle.mc_slot.specs.Moves.{cleared, with_state, slot_take, slot_send}
 use Rattle.mc_slot.specs.declared.Slot.{Slot}
 use Rattle.mc_slot.specs.declared.State.{State}
 use Rattle.mc_slot.specs.declared.State.TheVariants.{Closed, Opening, Opened, Flowing, Closing}
@@ -16,12 +16,12 @@ FitsMedium slot signal = Unit {0}
 -- in this state old may send the signal, and is new after that
 abbrev pub SendsIn : State → Slot → Signal → Slot → Type 0
 SendsIn Closed old (Open medium d) new = new ≡ record (cleared old Opening) { sent = Some d }
-SendsIn Opening old Close new = new ≡ moved old Closing
-SendsIn Opened old (Oack d) new = new ≡ record (moved old Flowing) { sent = Some d }
-SendsIn Opened old Close new = new ≡ moved old Closing
+SendsIn Opening old Close new = new ≡ with_state old Closing
+SendsIn Opened old (Oack d) new = new ≡ record (with_state old Flowing) { sent = Some d }
+SendsIn Opened old Close new = new ≡ with_state old Closing
 SendsIn Flowing old (Describe d) new = new ≡ record old { sent = Some d }
 SendsIn Flowing old (Select s) new = new ≡ record old { sel_out = Some s }
-SendsIn Flowing old Close new = new ≡ moved old Closing
+SendsIn Flowing old Close new = new ≡ with_state old Closing
 SendsIn state old signal new = ⊥
 
 -- two opens cross: the initiator's side drops the other's, and the other side yields
@@ -33,7 +33,7 @@ Crosses false old d new = new ≡ record (cleared old Opened) { got = Some d }
 abbrev pub TakesIn : State → Slot → Signal → Option Signal → Slot → Type 0
 TakesIn Closed old (Open medium d) answer new = (answer ≡ None) × (new ≡ record (cleared old Opened) { got = Some d })
 TakesIn Opening old (Open medium d) answer new = (answer ≡ None) × Crosses old.initiator old d new
-TakesIn Opening old (Oack d) answer new = (answer ≡ None) × (new ≡ record (moved old Flowing) { got = Some d })
+TakesIn Opening old (Oack d) answer new = (answer ≡ None) × (new ≡ record (with_state old Flowing) { got = Some d })
 TakesIn Opening old Close answer new = (answer ≡ Some Closeack) × (new ≡ cleared old Closed)
 TakesIn Opened old Close answer new = (answer ≡ Some Closeack) × (new ≡ cleared old Closed)
 TakesIn Flowing old (Describe d) answer new = (answer ≡ None) × (new ≡ record old { got = Some d })
@@ -57,9 +57,9 @@ Takes old signal answer new = FitsMedium old signal × TakesIn old.state old sig
 
 -- the function of sending and its table are one
 abbrev pub SendsByTable : Type 0
-SendsByTable = (slot : Slot) (signal : Signal) (after : Slot) → (sent slot signal ≡ Some after) ↔ MaySend slot signal after
+SendsByTable = (slot : Slot) (signal : Signal) (after : Slot) → (slot_send slot signal ≡ Some after) ↔ MaySend slot signal after
 
 -- the function of taking and its table are one
 abbrev pub TakesByTable : Type 0
 TakesByTable = (slot : Slot) (signal : Signal) (answer : Option Signal) (after : Slot)
-    → (taken slot signal ≡ Some record { answer = answer; after = after }) ↔ Takes slot signal answer after
+    → (slot_take slot signal ≡ Some record { answer = answer; after = after }) ↔ Takes slot signal answer after

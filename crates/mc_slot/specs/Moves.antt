@@ -19,8 +19,8 @@ abbrev pub cleared : Slot → State → Slot
 cleared slot state = record slot { state = state; sent = None; got = None; sel_out = None; sel_in = None }
 
 -- the slot in another state, keeping what it kept
-abbrev pub moved : Slot → State → Slot
-moved slot state = record slot { state = state }
+abbrev pub with_state : Slot → State → Slot
+with_state slot state = record slot { state = state }
 
 -- opened by the other side, and keeping its descriptor
 abbrev pub opened_by : Slot → Descriptor → Slot
@@ -50,41 +50,41 @@ abbrev pub acked : Slot → Option Took
 acked after = Some record { answer = Some Closeack; after = after }
 
 -- the slot after sending in this state, if the signal may be sent
-abbrev pub sent_in : State → Slot → Signal → Option Slot
-sent_in Closed slot (Open medium d) = Some (record (cleared slot Opening) { sent = Some d })
-sent_in Opening slot Close = Some (moved slot Closing)
-sent_in Opened slot (Oack d) = Some (record (moved slot Flowing) { sent = Some d })
-sent_in Opened slot Close = Some (moved slot Closing)
-sent_in Flowing slot (Describe d) = Some (record slot { sent = Some d })
-sent_in Flowing slot (Select s) = Some (record slot { sel_out = Some s })
-sent_in Flowing slot Close = Some (moved slot Closing)
-sent_in state slot signal = None
+abbrev pub slot_send_in : State → Slot → Signal → Option Slot
+slot_send_in Closed slot (Open medium d) = Some (record (cleared slot Opening) { sent = Some d })
+slot_send_in Opening slot Close = Some (with_state slot Closing)
+slot_send_in Opened slot (Oack d) = Some (record (with_state slot Flowing) { sent = Some d })
+slot_send_in Opened slot Close = Some (with_state slot Closing)
+slot_send_in Flowing slot (Describe d) = Some (record slot { sent = Some d })
+slot_send_in Flowing slot (Select s) = Some (record slot { sel_out = Some s })
+slot_send_in Flowing slot Close = Some (with_state slot Closing)
+slot_send_in state slot signal = None
 
 -- what a taking in this state gives, if the signal is lawful
-abbrev pub taken_in : State → Slot → Signal → Option Took
-taken_in Closed slot (Open medium d) = silent (opened_by slot d)
-taken_in Opening slot (Open medium d) = silent (if slot.initiator then slot else opened_by slot d)
-taken_in Opening slot (Oack d) = silent (record (moved slot Flowing) { got = Some d })
-taken_in Opening slot Close = acked (cleared slot Closed)
-taken_in Opened slot Close = acked (cleared slot Closed)
-taken_in Flowing slot (Describe d) = silent (record slot { got = Some d })
-taken_in Flowing slot (Select s) = silent (record slot { sel_in = Some s })
-taken_in Flowing slot Close = acked (cleared slot Closed)
-taken_in Closing slot (Open medium d) = silent slot
-taken_in Closing slot (Oack d) = silent slot
-taken_in Closing slot (Describe d) = silent slot
-taken_in Closing slot (Select s) = silent slot
-taken_in Closing slot Close = acked slot
-taken_in Closing slot Closeack = silent (cleared slot Closed)
-taken_in state slot signal = None
+abbrev pub slot_take_in : State → Slot → Signal → Option Took
+slot_take_in Closed slot (Open medium d) = silent (opened_by slot d)
+slot_take_in Opening slot (Open medium d) = silent (if slot.initiator then slot else opened_by slot d)
+slot_take_in Opening slot (Oack d) = silent (record (with_state slot Flowing) { got = Some d })
+slot_take_in Opening slot Close = acked (cleared slot Closed)
+slot_take_in Opened slot Close = acked (cleared slot Closed)
+slot_take_in Flowing slot (Describe d) = silent (record slot { got = Some d })
+slot_take_in Flowing slot (Select s) = silent (record slot { sel_in = Some s })
+slot_take_in Flowing slot Close = acked (cleared slot Closed)
+slot_take_in Closing slot (Open medium d) = silent slot
+slot_take_in Closing slot (Oack d) = silent slot
+slot_take_in Closing slot (Describe d) = silent slot
+slot_take_in Closing slot (Select s) = silent slot
+slot_take_in Closing slot Close = acked slot
+slot_take_in Closing slot Closeack = silent (cleared slot Closed)
+slot_take_in state slot signal = None
 
 -- the slot after sending, if the signal may be sent
-abbrev pub sent : Slot → Signal → Option Slot
-sent slot signal = if fits_medium slot signal then sent_in slot.state slot signal else None
+abbrev pub slot_send : Slot → Signal → Option Slot
+slot_send slot signal = if fits_medium slot signal then slot_send_in slot.state slot signal else None
 
 -- what a taking gives, if the signal is lawful
-abbrev pub taken : Slot → Signal → Option Took
-taken slot signal = if fits_medium slot signal then taken_in slot.state slot signal else None
+abbrev pub slot_take : Slot → Signal → Option Took
+slot_take slot signal = if fits_medium slot signal then slot_take_in slot.state slot signal else None
 
 -- whether the signal is an open of the slot's medium
 abbrev pub is_open_for : Slot → Signal → Bool
@@ -98,9 +98,9 @@ is_live Flowing = true
 is_live state = false
 
 -- the slot after sending signals one after another, if each of them may be sent
-abbrev pub sent_all : Slot → List Signal → Option Slot
-sent_all slot [] = Some slot
-sent_all slot (signal ∷ signals) = option_and_then (λ next. sent_all next signals) (sent slot signal)
+abbrev pub slot_send_all : Slot → List Signal → Option Slot
+slot_send_all slot [] = Some slot
+slot_send_all slot (signal ∷ signals) = option_and_then (λ next. slot_send_all next signals) (slot_send slot signal)
 
 -- the answer of a taking, as a list
 abbrev pub answered : Option Signal → List Signal

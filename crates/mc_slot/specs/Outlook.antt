@@ -3,7 +3,7 @@ use Rattle.std.specs.Prelude.{ℕ, ◌+◌, Option, Some, List, [], ◌∷◌}
 use Rattle.std.specs.Option.{option_and_then}
 use Rattle.mc_signal.specs.declared.Signal.{Signal}
 use Rattle.mc_signal.specs.declared.Signal.TheVariants.{Close, Closeack}
-use Rattle.mc_slot.specs.Moves.{taken}
+use Rattle.mc_slot.specs.Moves.{slot_take}
 use Rattle.mc_slot.specs.declared.Slot.{Slot}
 use Rattle.mc_slot.specs.declared.State.{State}
 use Rattle.mc_slot.specs.declared.State.TheVariants.{Closing}
@@ -11,7 +11,7 @@ use Rattle.mc_slot.specs.declared.State.TheVariants.{Closing}
 -- the slot after taking the signals in order, if each is lawful when its turn comes
 abbrev pub outlook : Slot → List Signal → Option Slot
 outlook slot [] = Some slot
-outlook slot (signal ∷ signals) = option_and_then (λ took. outlook took.after signals) (taken slot signal)
+outlook slot (signal ∷ signals) = option_and_then (λ took. outlook took.after signals) (slot_take slot signal)
 
 -- 1 for a close
 abbrev pub close_of : Signal → ℕ

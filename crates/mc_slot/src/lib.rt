@@ -54,7 +54,7 @@ pub struct Slot {
 }
 
 impl Slot {
-    ghost use Rattle.mc_slot.specs.Moves.{cleared, closed_slot, opened_by, is_live, sent, taken, is_open_for};
+    ghost use Rattle.mc_slot.specs.Moves.{cleared, closed_slot, opened_by, is_live, slot_send, slot_take, is_open_for};
 
     /// A closed slot that keeps nothing.
     pub fn new(medium: Medium, initiator: bool) -> Slot
@@ -73,7 +73,7 @@ impl Slot {
 
     /// Whether the slot may take the signal now. An open of another medium is never lawful.
     pub fn lawful(&self, s: &Signal) -> bool
-        ensures { result ≡ is_some (taken self.now s.now) }
+        ensures { result ≡ is_some (slot_take self.now s.now) }
     {
         match self.state {
             State::Closed => self.is_open_for(s),
@@ -102,7 +102,7 @@ impl Slot {
 
     /// Whether the slot may send the signal now. A closeack is only ever the answer of a taking.
     pub fn may_send(&self, s: &Signal) -> bool
-        ensures { result ≡ is_some (sent self.now s.now) }
+        ensures { result ≡ is_some (slot_send self.now s.now) }
     {
         match (self.state, s) {
             (State::Closed, Signal::Open(medium, _)) => *medium == self.medium,
@@ -133,8 +133,8 @@ impl Slot {
 
     /// Takes a lawful signal, and answers the closeack, where one is due.
     pub fn take(&mut self, s: Signal) -> Option<Signal>
-        requires { IsSome (taken self.old s) }
-        ensures { taken self.old s ≡ Some record { answer = result; after = self.new } }
+        requires { IsSome (slot_take self.old s) }
+        ensures { slot_take self.old s ≡ Some record { answer = result; after = self.new } }
     {
         match (self.state, s) {
             (State::Closed, Signal::Open(_, d)) => self.enter_opened(d),
@@ -171,8 +171,8 @@ impl Slot {
 
     /// Sends a signal that may be sent.
     pub fn send(&mut self, s: Signal)
-        requires { IsSome (sent self.old s) }
-        ensures { sent self.old s ≡ Some self.new }
+        requires { IsSome (slot_send self.old s) }
+        ensures { slot_send self.old s ≡ Some self.new }
     {
         match s {
             Signal::Open(_, d) => {

@@ -1,7 +1,7 @@
 // What one turn sends.
 
 ghost use Rattle.std.specs.Prelude.{◌≡◌, ◌+◌, ◌-◌, ◌<◌, ◌≤◌};
-ghost use Rattle.mc_slot.specs.Blank.{IsBlankFrom};
+ghost use Rattle.mc_slot.specs.Blank.{AreUnused};
 
 use mc_signal::Signal;
 
@@ -13,7 +13,7 @@ pub struct Sends {
     pub len: u8,
     pub at: [(u8, Signal); 4],
     pub ghost short: { len ≤ 4 },
-    pub ghost blank: { IsBlankFrom len at },
+    pub ghost blank: { AreUnused len at },
 }
 
 impl Sends {

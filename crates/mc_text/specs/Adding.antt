@@ -3,7 +3,8 @@ use Rattle.std.specs.Prelude.{ℕ, ◌≡◌, List, length, Option, Some, None, 
 use Rattle.std.specs.Option.{is_some}
 use Rattle.mc_text.specs.declared.name_fault.NameFault.{NameFault}
 use Rattle.mc_text.specs.declared.name_fault.NameFault.TheVariants.{Used, TooMany, NoMemory}
-use Rattle.mc_text.specs.NameLists.{place_of, max_told}
+use Rattle.mc_text.specs.NameLists.{place_of}
+use Rattle.mc_text.specs.declared.limit.TheConstants.{TOLD_LIMIT}
 
 -- the number of a name that comes last, if there is room for it
 abbrev pub last_number : List (List ℕ) → ℕ → Result ℕ NameFault
@@ -20,11 +21,11 @@ number_or (Some number) other = Ok number
 
 -- the number of a told word, which is added where it is new
 abbrev pub told_number : List (List ℕ) → List ℕ → Result ℕ NameFault
-told_number names name = number_or (place_of names name) (last_number names max_told)
+told_number names name = number_or (place_of names name) (last_number names TOLD_LIMIT)
 
 -- a call answered what it ought to; want of memory comes only where it ought to succeed
-abbrev pub Gives : {X : Type 0} → Result X NameFault → Result X NameFault → Type 0
-Gives (Ok x) answer = answer ≡ Ok x
-Gives (Err (NoMemory e)) answer = IsOk answer
-Gives (Err Used) answer = answer ≡ Err Used
-Gives (Err TooMany) answer = answer ≡ Err TooMany
+abbrev pub GivesNumber : {X : Type 0} → Result X NameFault → Result X NameFault → Type 0
+GivesNumber (Ok x) answer = answer ≡ Ok x
+GivesNumber (Err (NoMemory e)) answer = IsOk answer
+GivesNumber (Err Used) answer = answer ≡ Err Used
+GivesNumber (Err TooMany) answer = answer ≡ Err TooMany

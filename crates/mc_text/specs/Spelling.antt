@@ -2,6 +2,7 @@
 use Rattle.std.specs.Prelude.{ℕ, ◌^◌, ◌==◌, Bool, false, ◌&&◌, ◌||◌, not, List, [], ◌∷◌, length, Option, Some, None, if◌then◌else◌, nat_lt, nat_le}
 use Rattle.std.specs.List.{list_all}
 use Rattle.std.specs.Str.Parse.{digits_value}
+use Rattle.mc_text.specs.declared.limit.TheConstants.{NAME_LIMIT}
 
 -- `a` to `z`
 abbrev pub is_letter : ℕ → Bool
@@ -20,9 +21,9 @@ abbrev pub is_spelt : List ℕ → Bool
 is_spelt [] = false
 is_spelt (first ∷ others) = is_letter first && list_all is_name_byte others
 
--- of at most 16 bytes
+-- and of at most so many bytes
 abbrev pub is_name : List ℕ → Bool
-is_name word = is_spelt word && nat_le (length word) 16
+is_name word = is_spelt word && nat_le (length word) NAME_LIMIT
 
 -- `0`, or 1 to 10 digits without a leading zero
 abbrev pub is_numeral : List ℕ → Bool

@@ -2,6 +2,7 @@
 #![tactic(auto)]
 
 mod draws;
+pub mod limit;
 mod lines;
 mod name_fault;
 mod name_list;
@@ -16,4 +17,4 @@ pub use lines::{line_end, next_line, next_word};
 pub use name_fault::NameFault;
 pub use names::Names;
 pub use spelling::{is_name, is_spelt, read_number};
-pub use words::{Parts, Words};
+pub use words::{FirstWords, Words};

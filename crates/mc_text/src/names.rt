@@ -1,22 +1,15 @@
 //! The names of a text, and the numbers that they have.
 
 ghost use Rattle.std.specs.Prelude.{◌≡◌, ◌<◌, ◌≤◌, ◌++◌, [], length, IfSome, OnOk, OnErr, IsTrue, Ok, Some, codes, slice_index_or, take};
-ghost use Rattle.mc_text.specs.Adding.{added, told_number, Gives};
-ghost use Rattle.mc_text.specs.NameLists.{place_of, no_names, slots_of, slot_word, with_codec, with_box, with_slot, with_told, max_codecs, max_boxes, max_slots, max_told};
+ghost use Rattle.mc_text.specs.Adding.{added, told_number, GivesNumber};
+ghost use Rattle.mc_text.specs.NameLists.{place_of, no_names, slot_names, slot_word, with_codec_name, with_box_name, with_slot_name, with_told_word};
 ghost use Rattle.mc_text.specs.Spelling.{is_name};
 
+use crate::limit::{BOX_LIMIT, CODEC_LIMIT, SLOT_LIMIT, TOLD_LIMIT};
 use crate::name_fault::NameFault;
 use crate::name_list::NameList;
 use std::alloc::{AllocError, Global};
 use std::marker::Model;
-
-const MAX_CODECS: usize = 64;
-
-const MAX_BOXES: usize = 256;
-
-const MAX_SLOTS: usize = 64;
-
-const MAX_TOLD: usize = 64;
 
 /// The names of codecs, of boxes, of the slots of each box, and the told words.
 ///
@@ -57,22 +50,22 @@ impl Names {
     /// Adds a codec last, of at most 64, and answers its number.
     pub fn add_codec(&mut self, name: &[u8]) -> Result<u8, NameFault>
         requires { IsTrue (is_name name.now) }
-        ensures answer { Gives result (added self.old.codecs max_codecs name.now) }
-        ensures added { OnOk result (self.new ≡ with_codec self.old name.now) }
+        ensures answer { GivesNumber result (added self.old.codecs CODEC_LIMIT name.now) }
+        ensures added { OnOk result (self.new ≡ with_codec_name self.old name.now) }
         ensures unchanged { OnErr result (self.new ≡ self.old) }
     {
-        let number = self.codecs.add(MAX_CODECS, name)?;
+        let number = self.codecs.add(CODEC_LIMIT, name)?;
         Ok(number as u8)
     }
 
     /// Adds a box last, of at most 256, and answers its number. It has no slots.
     pub fn add_box(&mut self, name: &[u8]) -> Result<u32, NameFault>
         requires { IsTrue (is_name name.now) }
-        ensures answer { Gives result (added self.old.boxes max_boxes name.now) }
-        ensures added { OnOk result (self.new ≡ with_box self.old name.now) }
+        ensures answer { GivesNumber result (added self.old.boxes BOX_LIMIT name.now) }
+        ensures added { OnOk result (self.new ≡ with_box_name self.old name.now) }
         ensures unchanged { OnErr result (self.new ≡ self.old) }
     {
-        let number = self.boxes.place_for(MAX_BOXES, name)?;
+        let number = self.boxes.place_for(BOX_LIMIT, name)?;
         if self.slots.push(NameList::new(self.alloc)).is_err() {
             return Err(NameFault::NoMemory(AllocError));
         }
@@ -89,27 +82,27 @@ impl Names {
     pub fn add_slot(&mut self, who: u32, name: &[u8]) -> Result<u8, NameFault>
         requires who { who < length self.old.boxes }
         requires name { IsTrue (is_name name.now) }
-        ensures answer { Gives result (added (slots_of self.old who) max_slots name.now) }
-        ensures added { OnOk result (self.new ≡ with_slot self.old who name.now) }
+        ensures answer { GivesNumber result (added (slot_names self.old who) SLOT_LIMIT name.now) }
+        ensures added { OnOk result (self.new ≡ with_slot_name self.old who name.now) }
         ensures unchanged { OnErr result (self.new ≡ self.old) }
     {
         let slots = &mut self.slots[who as usize];
-        let number = slots.add(MAX_SLOTS, name)?;
+        let number = slots.add(SLOT_LIMIT, name)?;
         Ok(number as u8)
     }
 
     /// The number of a told word, which is added last where it is new. There are at most 64.
     pub fn add_told(&mut self, name: &[u8]) -> Result<u8, NameFault>
         requires { IsTrue (is_name name.now) }
-        ensures answer { Gives result (told_number self.old.told name.now) }
+        ensures answer { GivesNumber result (told_number self.old.told name.now) }
         ensures known { IfSome (place_of self.old.told name.now) (λ word. result ≡ Ok word) }
-        ensures added { OnOk result (self.new ≡ with_told self.old name.now) }
+        ensures added { OnOk result (self.new ≡ with_told_word self.old name.now) }
         ensures unchanged { OnErr result (self.new ≡ self.old) }
     {
         if let Some(word) = self.find_told(name) {
             return Ok(word);
         }
-        let number = self.told.add(MAX_TOLD, name)?;
+        let number = self.told.add(TOLD_LIMIT, name)?;
         Ok(number as u8)
     }
 
@@ -132,8 +125,8 @@ impl Names {
     /// The number of a slot in its box. None where the box has no slot of that name.
     pub fn find_slot(&self, who: u32, name: &[u8]) -> Option<u8>
         requires { who < length self.now.boxes }
-        ensures place { result ≡ place_of (slots_of self.now who) name.now }
-        ensures within { IfSome result (λ slot. slot < length (slots_of self.now who)) }
+        ensures place { result ≡ place_of (slot_names self.now who) name.now }
+        ensures within { IfSome result (λ slot. slot < length (slot_names self.now who)) }
     {
         let slots = &self.slots[who as usize];
         slots.find(name).map(|number| number as u8)
@@ -170,9 +163,9 @@ impl Names {
     /// The name of a slot of a box.
     pub fn slot_name(&self, who: u32, slot: u8) -> &[u8]
         requires who { who < length self.now.boxes }
-        requires slot { slot < length (slots_of self.now who) }
-        ensures name { result.now ≡ slice_index_or (slots_of self.now who) slot [] }
-        ensures found { place_of (slots_of self.now who) result.now ≡ Some slot }
+        requires slot { slot < length (slot_names self.now who) }
+        ensures name { result.now ≡ slice_index_or (slot_names self.now who) slot [] }
+        ensures found { place_of (slot_names self.now who) result.now ≡ Some slot }
         ensures spelt { IsTrue (is_name result.now) }
     {
         self.slots[who as usize].name(slot as usize)
@@ -191,7 +184,7 @@ impl Names {
     /// How many codecs there are.
     pub fn codec_count(&self) -> usize
         ensures count { result ≡ length self.now.codecs }
-        ensures limit { result ≤ max_codecs }
+        ensures limit { result ≤ CODEC_LIMIT }
     {
         self.codecs.len()
     }
@@ -199,7 +192,7 @@ impl Names {
     /// How many boxes there are. Each has its list of slots.
     pub fn box_count(&self) -> usize
         ensures count { result ≡ length self.now.boxes }
-        ensures limit { result ≤ max_boxes }
+        ensures limit { result ≤ BOX_LIMIT }
         ensures listed { length self.now.slots ≡ result }
     {
         self.boxes.len()
@@ -208,8 +201,8 @@ impl Names {
     /// How many slots a box has.
     pub fn slot_count(&self, who: u32) -> usize
         requires { who < length self.now.boxes }
-        ensures count { result ≡ length (slots_of self.now who) }
-        ensures limit { result ≤ max_slots }
+        ensures count { result ≡ length (slot_names self.now who) }
+        ensures limit { result ≤ SLOT_LIMIT }
     {
         self.slots[who as usize].len()
     }
@@ -217,7 +210,7 @@ impl Names {
     /// How many told words there are.
     pub fn told_count(&self) -> usize
         ensures count { result ≡ length self.now.told }
-        ensures limit { result ≤ max_told }
+        ensures limit { result ≤ TOLD_LIMIT }
     {
         self.told.len()
     }
@@ -225,7 +218,7 @@ impl Names {
     /// Appends the name of a slot as `box/slot`.
     pub fn print_slot(&self, who: u32, slot: u8, out: &mut Vec<u8>) -> Result<(), AllocError>
         requires who { who < length self.now.boxes }
-        requires slot { slot < length (slots_of self.now who) }
+        requires slot { slot < length (slot_names self.now who) }
         ensures printed { OnOk result (out.new.items ≡ out.old.items ++ slot_word self.now who slot) }
         ensures unchanged { OnErr result (out.new.items ≡ out.old.items) }
     {

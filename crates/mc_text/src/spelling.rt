@@ -5,11 +5,12 @@ ghost use Rattle.std.specs.List.{list_all};
 ghost use Rattle.std.specs.Str.Parse.{digits_value};
 ghost use Rattle.mc_text.specs.Spelling.{is_letter, is_digit, is_name_byte, is_spelt, is_name, is_numeral, number_of};
 
+use crate::limit::NAME_LIMIT;
 /// Whether a word is a name: 1 to 16 bytes, the first `a` to `z`, the others `a` to `z`, `0` to `9`, `_` or `-`.
 pub fn is_name(word: &[u8]) -> bool
     ensures { result ≡ is_name word.now }
 {
-    is_spelt(word) && word.len() <= 16
+    is_spelt(word) && word.len() <= NAME_LIMIT
 }
 
 /// Whether a word is spelt as a name, of whatever length.

@@ -69,7 +69,7 @@ impl<'a> Iterator for Words<'a> {
 
 /// The first six of a line's words that are left, each None where the line has no such word.
 #[derive(Drop)]
-pub struct Parts<'a> {
+pub struct FirstWords<'a> {
     pub first: Option<&'a [u8]>,
     pub second: Option<&'a [u8]>,
     pub third: Option<&'a [u8]>,
@@ -78,9 +78,9 @@ pub struct Parts<'a> {
     pub sixth: Option<&'a [u8]>,
 }
 
-impl<'a> Parts<'a> {
+impl<'a> FirstWords<'a> {
     /// Reads the next six words.
-    pub fn new(mut words: Words<'a>) -> Parts<'a>
+    pub fn new(mut words: Words<'a>) -> FirstWords<'a>
         ensures first { option_copied result.first ≡ slice_get words.entry 0 }
         ensures second { option_copied result.second ≡ slice_get words.entry 1 }
         ensures third { option_copied result.third ≡ slice_get words.entry 2 }
@@ -88,7 +88,7 @@ impl<'a> Parts<'a> {
         ensures fifth { option_copied result.fifth ≡ slice_get words.entry 4 }
         ensures sixth { option_copied result.sixth ≡ slice_get words.entry 5 }
     {
-        Parts {
+        FirstWords {
             first: words.next_word(),
             second: words.next_word(),
             third: words.next_word(),

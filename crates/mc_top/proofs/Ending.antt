@@ -4,7 +4,7 @@ use Rattle.std.specs.declared.option.Option.{Option}
 use Rattle.std.specs.Io.KnownBytes.{Keeps}
 use Rattle.mc_top.specs.Journals.{IsJournal, HoldsAtSettles}
 use Rattle.mc_top.specs.Modes.{output_of}
-use Rattle.mc_net.specs.Nets.{DeclaresNet, turns_of}
+use Rattle.mc_net.specs.Nets.{DeclaresNet, batch_turns}
 use Rattle.mc_net.specs.Texts.{IsFault}
 use Rattle.mc_net.specs.declared.net.Net.{Net}
 use Rattle.mc_top.specs.Printed.{fault_line, printed}
@@ -19,7 +19,7 @@ printed_by Run net journal = refl
 
 -- the work was done, and what it printed was delivered
 pub ends_worked : (mode : Mode) (text : List ℕ) (net : Net) (old new : Option (List ℕ)) (status due : ℕ) (journal : List JournalLine) (output : List ℕ)
-    → DeclaresNet text net → IsJournal net.world (map turns_of net.batches.items) journal → HoldsAtSettles net.world journal
+    → DeclaresNet text net → IsJournal net.world (map batch_turns net.batches.items) journal → HoldsAtSettles net.world journal
     → output ≡ printed net.names 1 net.world journal → due ≡ 0 → Delivers status 0 old new output → Ends mode (Some text) old new status due journal
 ends_worked mode text net old new status due journal output declared settled holds is none delivered = record {
   worked = λ zero. record {

@@ -21,10 +21,10 @@ use Rattle.mc_laws.proofs.LinkFree.{run_keeps_link_free, settled_link_none}
 use Rattle.mc_path_laws.proofs.SettledHold.{settled_paths_hold}
 use Rattle.mc_text.specs.NameLists.{NameLists}
 use Rattle.mc_script.specs.declared.command.Batch.{Batch}
-use Rattle.mc_net.specs.Nets.{AreEndSets, NamesAll, is_end_set, turns_of}
+use Rattle.mc_net.specs.Nets.{AreEndSets, NamesAll, is_end_set, batch_turns}
 use Rattle.mc_top.specs.Journals.{HoldsAtSettles, IsJournal, lines_for, replayed}
 use Rattle.mc_top.specs.Printed.{printed, settle_text}
-use Rattle.mc_top.specs.Scripts.{ScriptState, Settling, begun}
+use Rattle.mc_top.specs.Scripts.{ScriptState, Settling, first_state}
 use Rattle.mc_top.proofs.EndSets.{end_sets_kept, end_sets_link_none}
 use Rattle.mc_script.specs.declared.command.JournalLine.{JournalLine}
 use Rattle.mc_script.specs.declared.command.JournalLine.TheVariants.{Turn as Made, Settled}
@@ -145,32 +145,32 @@ goes_settled names start all rest count batch now next none s on = record {
 }
 
 -- the next batch, and those behind it
-next_left : (i : ℕ) (all : List Batch) (none : Batch) → i < length all → map turns_of (drop i all) ≡ turns_of (slice_index_or all i none) ∷ map turns_of (drop (i + 1) all)
-next_left i all none within = ap (λ (left : List Batch). map turns_of left) (drop-cons all i none within ∙ ap (λ (n : ℕ). slice_index_or all i none ∷ drop n all) (sym (add-one i)))
+next_left : (i : ℕ) (all : List Batch) (none : Batch) → i < length all → map batch_turns (drop i all) ≡ batch_turns (slice_index_or all i none) ∷ map batch_turns (drop (i + 1) all)
+next_left i all none within = ap (λ (left : List Batch). map batch_turns left) (drop-cons all i none within ∙ ap (λ (n : ℕ). slice_index_or all i none ∷ drop n all) (sym (add-one i)))
 
 -- by the batch's place
-pub goes_next : (names : NameLists) (start : WorldState) (all : List Batch) (i : ℕ) (none : Batch) (now next : ScriptState) → i < length all → LinkNone (turns_of (slice_index_or all i none))
-    → Settling names (i + 1) (turns_of (slice_index_or all i none)) now next → GoesOn names start (map turns_of all) (map turns_of (drop i all)) i now
-    → GoesOn names start (map turns_of all) (map turns_of (drop (i + 1) all)) (i + 1) next
+pub goes_next : (names : NameLists) (start : WorldState) (all : List Batch) (i : ℕ) (none : Batch) (now next : ScriptState) → i < length all → LinkNone (batch_turns (slice_index_or all i none))
+    → Settling names (i + 1) (batch_turns (slice_index_or all i none)) now next → GoesOn names start (map batch_turns all) (map batch_turns (drop i all)) i now
+    → GoesOn names start (map batch_turns all) (map batch_turns (drop (i + 1) all)) (i + 1) next
 goes_next names start all i none now next within free s on =
-    goes_settled names start (map turns_of all) (map turns_of (drop (i + 1) all)) i (turns_of (slice_index_or all i none)) now next free s
-    (subst (λ (left : List (List Turn)). GoesOn names start (map turns_of all) left i now) (next_left i all none within) on)
+    goes_settled names start (map batch_turns all) (map batch_turns (drop (i + 1) all)) i (batch_turns (slice_index_or all i none)) now next free s
+    (subst (λ (left : List (List Turn)). GoesOn names start (map batch_turns all) left i now) (next_left i all none within) on)
 
 -- the batch at a place
-batch_at : (start : WorldState) (all : List Batch) (i : ℕ) (none : Batch) → i < length all → AreEndSets start (map turns_of all) → All (λ turn. IsTrue (is_end_set start turn)) (turns_of (slice_index_or all i none))
+batch_at : (start : WorldState) (all : List Batch) (i : ℕ) (none : Batch) → i < length all → AreEndSets start (map batch_turns all) → All (λ turn. IsTrue (is_end_set start turn)) (batch_turns (slice_index_or all i none))
 batch_at start all i none within sets =
-    subst (λ (batch : List Turn). All (λ turn. IsTrue (is_end_set start turn)) batch) (get_or-map turns_of all i none (turns_of none) within)
-    (sets i (turns_of none) (subst (λ (n : ℕ). i < n) (sym (length-map all turns_of)) within))
+    subst (λ (batch : List Turn). All (λ turn. IsTrue (is_end_set start turn)) batch) (get_or-map batch_turns all i none (batch_turns none) within)
+    (sets i (batch_turns none) (subst (λ (n : ℕ). i < n) (sym (length-map all batch_turns)) within))
 
 -- sets the goals of ends now
 pub batch_sets_ends : (names : NameLists) (start : WorldState) (all : List Batch) (i : ℕ) (none : Batch) (rest : List (List Turn)) (now : ScriptState) → i < length all
-    → AreEndSets start (map turns_of all) → GoesOn names start (map turns_of all) rest i now → All (λ turn. IsTrue (is_end_set now.world turn)) (turns_of (slice_index_or all i none))
+    → AreEndSets start (map batch_turns all) → GoesOn names start (map batch_turns all) rest i now → All (λ turn. IsTrue (is_end_set now.world turn)) (batch_turns (slice_index_or all i none))
 batch_sets_ends names start all i none rest now within sets on =
-    end_sets_kept now.world start (turns_of (slice_index_or all i none)) on.shape (batch_at start all i none within sets)
+    end_sets_kept now.world start (batch_turns (slice_index_or all i none)) on.shape (batch_at start all i none within sets)
 
 -- and links no slots
-pub batch_links_none : (start : WorldState) (all : List Batch) (i : ℕ) (none : Batch) → i < length all → AreEndSets start (map turns_of all) → LinkNone (turns_of (slice_index_or all i none))
-batch_links_none start all i none within sets = end_sets_link_none start (turns_of (slice_index_or all i none)) (batch_at start all i none within sets)
+pub batch_links_none : (start : WorldState) (all : List Batch) (i : ℕ) (none : Batch) → i < length all → AreEndSets start (map batch_turns all) → LinkNone (batch_turns (slice_index_or all i none))
+batch_links_none start all i none within sets = end_sets_link_none start (batch_turns (slice_index_or all i none)) (batch_at start all i none within sets)
 
 -- nor does any batch
 pub batches_link_none : (start : WorldState) (batches : List (List Turn)) → AreEndSets start batches → AllByRecursion LinkNone batches
@@ -182,7 +182,7 @@ pub names_now : (names : NameLists) (start : WorldState) (all rest : List (List 
 names_now names start all rest count now named on = names_kept names now.world start on.shape named
 
 -- nothing was run yet
-pub goes_first : (names : NameLists) (start : WorldState) (all : List (List Turn)) → IsLinkFree start → GoesOn names start all all 0 (begun start)
+pub goes_first : (names : NameLists) (start : WorldState) (all : List (List Turn)) → IsLinkFree start → GoesOn names start all all 0 (first_state start)
 goes_first names start all sound = record {
   sound = sound;
   shape = same_shape start;
@@ -192,10 +192,10 @@ goes_first names start all sound = record {
 
 -- no batch is left
 pub goes_to_end : (names : NameLists) (start : WorldState) (all : List Batch) (i : ℕ) (now last : ScriptState) → length all ≤ i → last ≡ now
-    → GoesOn names start (map turns_of all) (map turns_of (drop i all)) i now → GoesOn names start (map turns_of all) [] i last
+    → GoesOn names start (map batch_turns all) (map batch_turns (drop i all)) i now → GoesOn names start (map batch_turns all) [] i last
 goes_to_end names start all i now last past same on =
-    subst (λ (s : ScriptState). GoesOn names start (map turns_of all) [] i s) (sym same)
-    (subst (λ (left : List Batch). GoesOn names start (map turns_of all) (map turns_of left) i now) (drop_all i all past) on)
+    subst (λ (s : ScriptState). GoesOn names start (map batch_turns all) [] i s) (sym same)
+    (subst (λ (left : List Batch). GoesOn names start (map batch_turns all) (map batch_turns left) i now) (drop_all i all past) on)
 
 -- all was run
 pub all_settled : (names : NameLists) (start : WorldState) (all : List (List Turn)) (count : ℕ) (now : ScriptState) → GoesOn names start all [] count now → IsJournal start all now.journal

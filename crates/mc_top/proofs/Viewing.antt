@@ -4,7 +4,7 @@ use Rattle.std.specs.List.{AllByRecursion, flat_map}
 use Rattle.std.specs.Fmt.{decimal}
 use Rattle.std.proofs.lemmas.Grind.{common_steps}
 use Rattle.std.proofs.lemmas.List.Elements.{All-map, recursion_from_All}
-use Rattle.mc_signal.specs.Choice.{codecs_of, has_codec, selector_of, shared_codec}
+use Rattle.mc_signal.specs.Choice.{codecs_of, has_codec, choose, shared_codec}
 use Rattle.mc_signal.specs.Empty.{no_codecs}
 use Rattle.mc_signal.specs.declared.codec_list.CodecList.{CodecList}
 use Rattle.mc_signal.specs.declared.Descriptor.{Descriptor}
@@ -13,23 +13,23 @@ use Rattle.mc_signal.specs.declared.Sender.{Sender}
 use Rattle.mc_slot.specs.declared.State.{State}
 use Rattle.mc_slot.specs.declared.State.TheVariants.{Closed, Opening, Opened, Flowing, Closing}
 use Rattle.mc_box.specs.Boxes.{BoxState, media_at, own_of}
-use Rattle.mc_model.specs.PathTable.{PathHolds, heard, high_hears, low_hears, path_state}
+use Rattle.mc_model.specs.PathTable.{PathHolds, heard_codec, high_hears, low_hears, path_state}
 use Rattle.mc_model.specs.Paths.{PathEnds, end_goal, path_from, paths}
 use Rattle.mc_model.specs.Sound.{IsSound}
-use Rattle.mc_model.specs.Worlds.{WorldState, box_at, joint_of, joints, own_descriptor, own_sender, place, places, slot_count, slot_of}
+use Rattle.mc_model.specs.Worlds.{WorldState, box_at, tunnel_of, all_tunnels, own_descriptor, own_sender, place, places, slot_count, slot_of}
 use Rattle.mc_box.specs.declared.event.Kind.{Kind}
 use Rattle.mc_box.specs.declared.event.Kind.TheVariants.{Device, Feature}
 use Rattle.mc_box.specs.declared.setup.SlotMedia.{SlotMedia}
 use Rattle.mc_view.specs.declared.PathView.{PathView}
 use Rattle.mc_path_laws.specs.PathLaws.{AreIn, HearEachOther, IsQuietPath}
-use Rattle.mc_path.specs.Views.{end_view, heard_codec, is_flowing, path_flows, view_of}
+use Rattle.mc_path.specs.Views.{end_view, shown_codec, is_flowing, path_flows, view_of}
 use Rattle.mc_path_laws.proofs.Ends.{parts_of}
 use Rattle.mc_path_laws.proofs.Quiet.{each_from}
 use Rattle.mc_path_laws.proofs.Returns.{walk_back}
 use Rattle.mc_text.specs.NameLists.{NameLists}
 use Rattle.mc_script.specs.Meaning.{goal_word}
 use Rattle.mc_net.specs.Nets.{NamesAll}
-use Rattle.mc_top.specs.Printed.{IsNamed, hears_line, hears_lines, line_of, medium_word, path_line, path_text, place_word, settle_text, state_word}
+use Rattle.mc_top.specs.Printed.{IsNamedCodec, hears_line, hears_lines, line_of, medium_word, path_line, path_text, place_word, settle_text, state_word}
 use Rattle.mc_top.specs.Shown.{IsNamedEnd, IsNamedView, flow_word, hearing_line, hearing_lines, view_line, view_text, views_text}
 
 -- ---- text
@@ -60,17 +60,17 @@ both_flow state low high one two =
     ap (λ (s : State). is_flowing s && is_flowing high) one ∙ (ap (λ (s : State). is_flowing state && is_flowing s) two ∙ twice (is_flowing state))
 
 -- an end that got the choice for its own descriptor hears what the table says
-heard_is : (selector : Option Selector) (own : Descriptor) (far_sender : Sender) → selector ≡ Some (selector_of own far_sender) → heard_codec true selector ≡ heard own far_sender
-heard_is selector own far_sender chosen = ap (heard_codec true) chosen
+heard_is : (selector : Option Selector) (own : Descriptor) (far_sender : Sender) → selector ≡ Some (choose own far_sender) → shown_codec true selector ≡ heard_codec own far_sender
+heard_is selector own far_sender chosen = ap (shown_codec true) chosen
 
-hears_is : (names : NameLists) (world : WorldState) (s : ℕ) (codec : Option ℕ) → heard_codec true (slot_of world s).sel_in ≡ codec
+hears_is : (names : NameLists) (world : WorldState) (s : ℕ) (codec : Option ℕ) → shown_codec true (slot_of world s).sel_in ≡ codec
     → hearing_line names (end_view world true s) ≡ hears_line names world s codec
 hears_is names world s codec is = ap (λ (c : Option ℕ). hears_line names world s c) is
 
 -- what is printed of the ends of a path by its state
 lines_by : (state : State) (names : NameLists) (world : WorldState) (path : PathEnds)
-    → (state ≡ Flowing → heard_codec true (slot_of world path.low).sel_in ≡ low_hears world path)
-    → (state ≡ Flowing → heard_codec true (slot_of world path.high).sel_in ≡ high_hears world path)
+    → (state ≡ Flowing → shown_codec true (slot_of world path.low).sel_in ≡ low_hears world path)
+    → (state ≡ Flowing → shown_codec true (slot_of world path.high).sel_in ≡ high_hears world path)
     → hearing_lines (is_flowing state) names (view_by world path (is_flowing state)) ≡ hears_lines state names world path
 lines_by Closed names world path low high = refl
 lines_by Opening names world path low high = refl
@@ -90,7 +90,7 @@ line_is names world path =
     ∷ goal_word (end_goal world path.low)
     ∷ goal_word (end_goal world path.high)
     ∷ word
-    ∷ medium_word (joint_of world path.low).medium
+    ∷ medium_word (tunnel_of world path.low).medium
     ∷ []))
     (flow_is (path_state world path))
 
@@ -132,7 +132,7 @@ found_below p [] n codec all found = absurd (cc)
 found_below p (first ∷ codecs) n codec all found = found_by (p first) p first codecs n codec all.0 refl (found_below p codecs n codec all.1) found
 
 -- a shared codec is an offered one
-shared_named : (names : NameLists) (offered able : List ℕ) (shared : Option ℕ) → All (λ c. c < length names.codecs) offered → shared_codec offered able ≡ shared → IsNamed names shared
+shared_named : (names : NameLists) (offered able : List ℕ) (shared : Option ℕ) → All (λ c. c < length names.codecs) offered → shared_codec offered able ≡ shared → IsNamedCodec names shared
 shared_named names offered able None all is = tt
 shared_named names offered able (Some codec) all is = found_below (has_codec able) offered (length names.codecs) codec (recursion_from_All (λ c. c < length names.codecs) offered all) is
 
@@ -149,19 +149,19 @@ offered Feature names box media local all = λ k e within. absurd (omega arith)
 
 -- what an end hears has a name
 heard_named : (names : NameLists) (world : WorldState) (s : ℕ) (far_sender : Sender) (selector : Option Selector) → NamesAll names world
-    → selector ≡ Some (selector_of (own_descriptor world s) far_sender) → IsNamed names (heard_codec true selector)
+    → selector ≡ Some (choose (own_descriptor world s) far_sender) → IsNamedCodec names (shown_codec true selector)
 heard_named names world s far_sender selector all chosen =
-    subst (λ (o : Option Selector). IsNamed names (heard_codec true o)) (sym chosen)
-    (shared_named names (codecs_of (own_descriptor world s).codecs) (codecs_of far_sender.codecs) (heard (own_descriptor world s) far_sender)
+    subst (λ (o : Option Selector). IsNamedCodec names (shown_codec true o)) (sym chosen)
+    (shared_named names (codecs_of (own_descriptor world s).codecs) (codecs_of far_sender.codecs) (heard_codec (own_descriptor world s) far_sender)
     (offered (box_at world (place world s).0).kind names (box_at world (place world s).0) (media_at (box_at world (place world s).0) (place world s).1) (place world s).1 (all.codecs (place world s).0)) refl)
 
 -- an end has names, where what it hears has one
 end_named : (names : NameLists) (world : WorldState) (flowing : Bool) (s : ℕ) → NamesAll names world → IsSound world → s < slot_count world
-    → IsNamed names (heard_codec flowing (slot_of world s).sel_in) → IsNamedEnd names (end_view world flowing s)
-end_named names world flowing s all sound inside heard = record {
+    → IsNamedCodec names (shown_codec flowing (slot_of world s).sel_in) → IsNamedEnd names (end_view world flowing s)
+end_named names world flowing s all sound inside heard_codec = record {
   box = subst (λ (n : ℕ). (place world s).0 < n) (sym all.boxes) (sound.numbered.placed s inside);
   slot = subst (λ (n : ℕ). (place world s).1 < n) (sym (all.slots (place world s).0 (sound.numbered.placed s inside))) (sound.numbered.slots s inside);
-  codec = heard;
+  codec = heard_codec;
 }
 
 -- both ends of a quiet path have
@@ -189,7 +189,7 @@ are_inside world sound =
     each_from (AreInside world) (path_from world) (places world) 0 (slot_count world) (omega arith)
     (λ s inside path is.
     let parts = parts_of world s path is in
-    (subst (λ (n : ℕ). n < slot_count world) (sym parts.low_is) inside, (walk_back (length (joints world)) world s path.high sound inside parts.leads).inside))
+    (subst (λ (n : ℕ). n < slot_count world) (sym parts.low_is) inside, (walk_back (length (all_tunnels world)) world s path.high sound inside parts.leads).inside))
 
 -- so all that is shown has names
 pub views_named : (names : NameLists) (world : WorldState) → NamesAll names world → IsSound world → All (IsQuietPath world) (paths world)

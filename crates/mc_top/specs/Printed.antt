@@ -8,7 +8,7 @@ use Rattle.mc_slot.specs.declared.State.{State}
 use Rattle.mc_slot.specs.declared.State.TheVariants.{Flowing}
 use Rattle.mc_model.specs.PathTable.{path_state, low_hears, high_hears}
 use Rattle.mc_model.specs.Paths.{PathEnds, paths, end_goal}
-use Rattle.mc_model.specs.Worlds.{WorldState, joint_of, place}
+use Rattle.mc_model.specs.Worlds.{WorldState, tunnel_of, place}
 use Rattle.mc_text.specs.NameLists.{NameLists, slot_word}
 use Rattle.mc_script.specs.Meaning.{goal_word}
 use Rattle.mc_top.specs.Journals.{replayed}
@@ -26,9 +26,9 @@ medium_word Audio = codes "audio"
 medium_word Video = codes "video"
 
 -- the codec, if there is one, has a name
-abbrev pub IsNamed : NameLists → Option ℕ → Type 0
-IsNamed names None = Unit {0}
-IsNamed names (Some codec) = codec < length names.codecs
+abbrev pub IsNamedCodec : NameLists → Option ℕ → Type 0
+IsNamedCodec names None = Unit {0}
+IsNamedCodec names (Some codec) = codec < length names.codecs
 
 abbrev pub codec_word : NameLists → Option ℕ → List ℕ
 codec_word names None = codes "none"
@@ -52,7 +52,7 @@ path_line names world path = line_of (
     ∷ goal_word (end_goal world path.low)
     ∷ goal_word (end_goal world path.high)
     ∷ state_word (path_state world path)
-    ∷ medium_word (joint_of world path.low).medium
+    ∷ medium_word (tunnel_of world path.low).medium
     ∷ [])
 
 abbrev pub hears_line : NameLists → WorldState → ℕ → Option ℕ → List ℕ

@@ -14,8 +14,8 @@ pub record ScriptState : Type 0 where
   pub journal : List JournalLine
   pub output : List ℕ
 
-abbrev pub begun : WorldState → ScriptState
-begun world = record { world = world; journal = []; output = [] }
+abbrev pub first_state : WorldState → ScriptState
+first_state world = record { world = world; journal = []; output = [] }
 
 -- a batch was settled, and that was kept, and printed under the settle's number
 pub record Settling (names : NameLists) (number : ℕ) (batch : List Turn) (old new : ScriptState) : Type 0 where

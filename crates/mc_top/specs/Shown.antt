@@ -4,9 +4,9 @@ use Rattle.std.specs.Fmt.{decimal}
 use Rattle.std.specs.List.{flat_map}
 use Rattle.mc_view.specs.declared.EndView.{EndView}
 use Rattle.mc_view.specs.declared.PathView.{PathView}
-use Rattle.mc_text.specs.NameLists.{NameLists, slot_word, slots_of}
+use Rattle.mc_text.specs.NameLists.{NameLists, slot_word, slot_names}
 use Rattle.mc_script.specs.Meaning.{goal_word}
-use Rattle.mc_top.specs.Printed.{IsNamed, codec_word, line_of, medium_word}
+use Rattle.mc_top.specs.Printed.{IsNamedCodec, codec_word, line_of, medium_word}
 
 abbrev pub end_word : NameLists → EndView → List ℕ
 end_word names end = slot_word names end.who end.local
@@ -44,8 +44,8 @@ views_text names number views = line_of (codes "settle" ∷ decimal number ∷ [
 -- the box, the slot and the heard codec of an end have names
 pub record IsNamedEnd (names : NameLists) (end : EndView) : Type 0 where
   pub box : end.who < length names.boxes
-  pub slot : end.local < length (slots_of names end.who)
-  pub codec : IsNamed names end.hears
+  pub slot : end.local < length (slot_names names end.who)
+  pub codec : IsNamedCodec names end.hears
 
 -- both ends of a path have names
 pub record IsNamedView (names : NameLists) (view : PathView) : Type 0 where

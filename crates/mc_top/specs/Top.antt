@@ -3,10 +3,11 @@ use Rattle.std.specs.Prelude.{◌≡◌, ◌≢◌, ◌⊎◌, ◌≤◌, ℕ, L
 use Rattle.std.specs.declared.option.Option.{Option}
 use Rattle.std.specs.Io.KnownBytes.{Appends, Consumes, IsAtEnd, Keeps}
 use Rattle.mc_io.specs.Bytes.{AppendsPart}
-use Rattle.mc_net.specs.Nets.{DeclaresNet, turns_of}
-use Rattle.mc_net.specs.Rules.{read_limit, text_limit}
+use Rattle.mc_net.specs.Nets.{DeclaresNet, batch_turns}
+use Rattle.mc_net.specs.Rules.{read_limit}
 use Rattle.mc_net.specs.Texts.{IsFault}
 use Rattle.mc_net.specs.declared.net.Net.{Net}
+use Rattle.mc_net.specs.declared.limit.TheConstants.{TEXT_LIMIT}
 use Rattle.mc_top.specs.Journals.{IsJournal, HoldsAtSettles}
 use Rattle.mc_top.specs.Modes.{output_of}
 use Rattle.mc_top.specs.Printed.{fault_line}
@@ -28,11 +29,11 @@ pub record Delivers (status due : ℕ) (old new : Option (List ℕ)) (output : L
 pub record ReadsWhole (old new : Option (List ℕ)) (text : List ℕ) : Type 0 where
   pub consumed : Consumes old new text
   pub within : length text ≤ read_limit
-  pub at_end : length text ≤ text_limit → IsAtEnd new
+  pub at_end : length text ≤ TEXT_LIMIT → IsAtEnd new
 
 -- The journal is one settled segment for each settle, in order, all of them one run from the network's first world: the interleaving of the boxes. At each settle the two end slots of every path are in the state that the path table gives, and where it flows each has the other's newest descriptor and the choice for its own
 pub record Settles (net : Net) (journal : List JournalLine) : Type 0 where
-  pub settled : IsJournal net.world (map turns_of net.batches.items) journal
+  pub settled : IsJournal net.world (map batch_turns net.batches.items) journal
   pub holds : HoldsAtSettles net.world journal
 
 -- what is told of a text declares this network

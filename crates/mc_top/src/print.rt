@@ -1,6 +1,6 @@
 // What is printed at a settle, and for a faulty text.
 ghost use Rattle.std.specs.Prelude.{◌≡◌, ◌++◌, [], ◌∷◌, codes, map, take, All, IfOk, OnErr, OnOk};
-ghost use Rattle.mc_top.specs.Printed.{line_of, medium_word, codec_word, fault_line, IsNamed};
+ghost use Rattle.mc_top.specs.Printed.{line_of, medium_word, codec_word, fault_line, IsNamedCodec};
 ghost use Rattle.mc_top.specs.Shown.{end_word, flow_word, hearing_line, view_line, view_text, views_text, IsNamedEnd, IsNamedView};
 
 use mc_net::TextFault;
@@ -40,7 +40,7 @@ fn medium_word(medium: Medium) -> &'static [u8]
 
 // The word for a codec that is heard.
 fn codec_word<'a>(names: &'a Names, codec: Option<u8>) -> &'a [u8]
-    requires { IsNamed names.now codec }
+    requires { IsNamedCodec names.now codec }
     ensures { result.now ≡ codec_word names.now codec }
 {
     match codec {

@@ -1,10 +1,10 @@
 // A script, settle by settle.
 ghost use Rattle.std.specs.Prelude.{◌≡◌, ◌++◌, ◌+◌, map, All, IfOk, OnOk, IsTrue};
 ghost use Rattle.mc_model.specs.LinkFree.{HasNoLinks};
-ghost use Rattle.mc_net.specs.Nets.{AreEndSets, NamesAll, is_end_set, turns_of};
+ghost use Rattle.mc_net.specs.Nets.{AreEndSets, NamesAll, is_end_set, batch_turns};
 ghost use Rattle.mc_top.specs.Journals.{IsJournal, HoldsAtSettles, lines_for};
 ghost use Rattle.mc_top.specs.Printed.{printed};
-ghost use Rattle.mc_top.specs.Scripts.{begun, Settling};
+ghost use Rattle.mc_top.specs.Scripts.{first_state, Settling};
 
 use crate::print::print_settle;
 use mc_box::Turn;
@@ -41,7 +41,7 @@ impl Model for Progress {
 
 impl Progress {
     fn new(alloc: Global, world: World) -> Progress
-        ensures { result ≡ begun world }
+        ensures { result ≡ first_state world }
     {
         Progress {
             world,
@@ -102,8 +102,8 @@ pub fn run_script(
 ) -> Result<Run, AllocError>
     requires named { NamesAll names.now world }
     requires free { HasNoLinks world }
-    requires end_sets { AreEndSets world (map turns_of batches.now) }
-    ensures settled { IfOk result (λ run. IsJournal world (map turns_of batches.now) run.journal.items) }
+    requires end_sets { AreEndSets world (map batch_turns batches.now) }
+    ensures settled { IfOk result (λ run. IsJournal world (map batch_turns batches.now) run.journal.items) }
     ensures holds { IfOk result (λ run. HoldsAtSettles world run.journal.items) }
     ensures output { IfOk result (λ run. run.output.items ≡ printed names.now 1 world run.journal.items) }
 {

@@ -3,7 +3,7 @@ ghost use Rattle.std.specs.Prelude.{◌≡◌, ◌≢◌, ◌⊎◌, ◌==◌, �
 ghost use Rattle.mc_io.specs.Bytes.{ConsumesAtMost};
 ghost use Rattle.mc_io.specs.Causes.{Rose, faults_after, is_failed_read};
 ghost use Rattle.mc_model.specs.LinkFree.{HasNoLinks};
-ghost use Rattle.mc_net.specs.Nets.{AreEndSets, DeclaresNet, NamesAll, turns_of};
+ghost use Rattle.mc_net.specs.Nets.{AreEndSets, DeclaresNet, NamesAll, batch_turns};
 ghost use Rattle.mc_net.specs.Rules.{read_limit};
 ghost use Rattle.mc_net.specs.TextLaws.{first_bytes};
 ghost use Rattle.mc_net.specs.Texts.{IsFault};
@@ -110,7 +110,7 @@ fn run_net<K: Sink>(alloc: Global, mode: Mode, text: &[u8], net: Net, sink: &mut
     requires declares { DeclaresNet text.now net }
     requires named { NamesAll net.names net.world }
     requires free { HasNoLinks net.world }
-    requires end_sets { AreEndSets net.world (map turns_of net.batches.items) }
+    requires end_sets { AreEndSets net.world (map batch_turns net.batches.items) }
     ensures statuses { (result.due ≡ WORKED) ⊎ (result.due ≡ NO_MEMORY) }
     ensures status { (result.status ≡ result.due) ⊎ (result.status ≡ WRITE_FAULT) }
     ensures ends { Ends mode (Some text.now) (K.written sink.old) (K.written sink.new) result.status result.due result.journal.items }

@@ -5,7 +5,7 @@ use Rattle.mc_signal.specs.declared.Medium.{Medium}
 use Rattle.mc_signal.specs.declared.Selector.{Selector}
 use Rattle.mc_signal.specs.declared.Signal.{Signal}
 use Rattle.mc_signal.specs.declared.Signal.TheVariants.{Open, Oack, Close, Closeack, Describe, Select}
-use Rattle.mc_slot.specs.Moves.{sent, taken, Took}
+use Rattle.mc_slot.specs.Moves.{slot_send, slot_take, Took}
 use Rattle.mc_slot.specs.Outlook.{close_of, closes, outlook}
 use Rattle.mc_slot.specs.declared.Slot.{Slot}
 use Rattle.mc_slot.specs.declared.State.{State}
@@ -29,15 +29,15 @@ pub record Alike (a b : Slot) : Type 0 where
   pub states : AlikeIn a.state b.state
 
 -- a close brings alike slots to one and the same slot
-alike_close : (a b : Slot) (took : Took) → taken a Close ≡ Some took → Alike a b → taken b Close ≡ Some took
+alike_close : (a b : Slot) (took : Took) → slot_take a Close ≡ Some took → Alike a b → slot_take b Close ≡ Some took
 alike_close a b took goes alike = grind (arith)
 
 -- what the first of two alike slots takes, the second takes too
-alike_takes : (a b : Slot) (signal : Signal) (took : Took) → taken a signal ≡ Some took → Alike a b → close_of signal ≡ 0 → IsSome (taken b signal)
+alike_takes : (a b : Slot) (signal : Signal) (took : Took) → slot_take a signal ≡ Some took → Alike a b → close_of signal ≡ 0 → IsSome (slot_take b signal)
 alike_takes a b signal took goes alike none = grind (arith)
 
 -- and after that they are alike again
-alike_after : (a b : Slot) (signal : Signal) (took other_took : Took) → taken a signal ≡ Some took → Alike a b → close_of signal ≡ 0 → taken b signal ≡ Some other_took → Alike took.after other_took.after
+alike_after : (a b : Slot) (signal : Signal) (took other_took : Took) → slot_take a signal ≡ Some took → Alike a b → close_of signal ≡ 0 → slot_take b signal ≡ Some other_took → Alike took.after other_took.after
 alike_after a b signal took other_took goes alike none f = record { medium = grind (arith); side = grind (arith); states = grind (arith) }
 
 -- what is there can be named
@@ -51,27 +51,27 @@ out_alike [] a b out goes alike some = absurd (omega arith)
 out_alike (Close ∷ signals) a b out goes alike some = let walk = walked a Close signals out goes in rw (alike_close a b walk.took walk.first alike) walk.rest
 out_alike (Open m d ∷ signals) a b out goes alike some =
     let walk = walked a (Open m d) signals out goes in
-    let other_took = some_of (taken b (Open m d)) (alike_takes a b (Open m d) walk.took walk.first alike refl) in
+    let other_took = some_of (slot_take b (Open m d)) (alike_takes a b (Open m d) walk.took walk.first alike refl) in
     rw other_took.1 (out_alike signals walk.took.after other_took.0.after out walk.rest (alike_after a b (Open m d) walk.took other_took.0 walk.first alike refl other_took.1) (omega arith))
 out_alike (Oack d ∷ signals) a b out goes alike some =
     let walk = walked a (Oack d) signals out goes in
-    let other_took = some_of (taken b (Oack d)) (alike_takes a b (Oack d) walk.took walk.first alike refl) in
+    let other_took = some_of (slot_take b (Oack d)) (alike_takes a b (Oack d) walk.took walk.first alike refl) in
     rw other_took.1 (out_alike signals walk.took.after other_took.0.after out walk.rest (alike_after a b (Oack d) walk.took other_took.0 walk.first alike refl other_took.1) (omega arith))
 out_alike (Closeack ∷ signals) a b out goes alike some =
     let walk = walked a Closeack signals out goes in
-    let other_took = some_of (taken b Closeack) (alike_takes a b Closeack walk.took walk.first alike refl) in
+    let other_took = some_of (slot_take b Closeack) (alike_takes a b Closeack walk.took walk.first alike refl) in
     rw other_took.1 (out_alike signals walk.took.after other_took.0.after out walk.rest (alike_after a b Closeack walk.took other_took.0 walk.first alike refl other_took.1) (omega arith))
 out_alike (Describe d ∷ signals) a b out goes alike some =
     let walk = walked a (Describe d) signals out goes in
-    let other_took = some_of (taken b (Describe d)) (alike_takes a b (Describe d) walk.took walk.first alike refl) in
+    let other_took = some_of (slot_take b (Describe d)) (alike_takes a b (Describe d) walk.took walk.first alike refl) in
     rw other_took.1 (out_alike signals walk.took.after other_took.0.after out walk.rest (alike_after a b (Describe d) walk.took other_took.0 walk.first alike refl other_took.1) (omega arith))
 out_alike (Select s ∷ signals) a b out goes alike some =
     let walk = walked a (Select s) signals out goes in
-    let other_took = some_of (taken b (Select s)) (alike_takes a b (Select s) walk.took walk.first alike refl) in
+    let other_took = some_of (slot_take b (Select s)) (alike_takes a b (Select s) walk.took walk.first alike refl) in
     rw other_took.1 (out_alike signals walk.took.after other_took.0.after out walk.rest (alike_after a b (Select s) walk.took other_took.0 walk.first alike refl other_took.1) (omega arith))
 
 -- a sending that is no close makes an alike slot
-pub sent_alike : (a b : Slot) (signal : Signal) → sent a signal ≡ Some b → close_of signal ≡ 0 → Alike a b
+pub sent_alike : (a b : Slot) (signal : Signal) → slot_send a signal ≡ Some b → close_of signal ≡ 0 → Alike a b
 sent_alike a b signal goes none = record { medium = grind (arith); side = grind (arith); states = grind (arith) }
 
 -- without a close, a flowing slot flows on and never reads what it sent
@@ -101,7 +101,7 @@ IsActive Flowing = Unit {0}
 IsActive state = ⊥
 
 -- a slot that is active stays so where it takes no close
-took_active : (a : Slot) (signal : Signal) (took : Took) → taken a signal ≡ Some took → IsActive a.state → close_of signal ≡ 0 → IsActive took.after.state
+took_active : (a : Slot) (signal : Signal) (took : Took) → slot_take a signal ≡ Some took → IsActive a.state → close_of signal ≡ 0 → IsActive took.after.state
 took_active a signal took goes is none = grind (arith)
 
 -- and so over a list without a close
@@ -112,7 +112,7 @@ out_active (signal ∷ signals) a out goes is none =
     out_active signals walk.took.after out walk.rest (took_active a signal walk.took walk.first is (omega arith)) (omega arith)
 
 -- an opened slot takes only a close
-opened_takes : (a : Slot) (signal : Signal) (took : Took) → taken a signal ≡ Some took → a.state ≡ Opened → close_of signal ≡ 1
+opened_takes : (a : Slot) (signal : Signal) (took : Took) → slot_take a signal ≡ Some took → a.state ≡ Opened → close_of signal ≡ 1
 opened_takes a signal took goes is = grind (arith)
 
 -- to an opened slot nothing but a close is under way
@@ -126,11 +126,11 @@ pub data Opens : List Signal → Type 0 where
   one : (m : Medium) (d : Descriptor) → Opens (Open m d ∷ [])
 
 -- a closed slot becomes opened by what it takes
-closed_takes : (a : Slot) (signal : Signal) (took : Took) → taken a signal ≡ Some took → a.state ≡ Closed → took.after.state ≡ Opened
+closed_takes : (a : Slot) (signal : Signal) (took : Took) → slot_take a signal ≡ Some took → a.state ≡ Closed → took.after.state ≡ Opened
 closed_takes a signal took goes is = grind (arith)
 
 -- and that is an open
-closed_opens : (a : Slot) (signal : Signal) (took : Took) → taken a signal ≡ Some took → a.state ≡ Closed → Opens (signal ∷ [])
+closed_opens : (a : Slot) (signal : Signal) (took : Took) → slot_take a signal ≡ Some took → a.state ≡ Closed → Opens (signal ∷ [])
 closed_opens a (Open m d) took goes is = one m d
 closed_opens a (Oack d) took goes is = absurd (grind (arith))
 closed_opens a Close took goes is = absurd (grind (arith))

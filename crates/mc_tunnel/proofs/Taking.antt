@@ -2,7 +2,7 @@
 use Rattle.std.proofs.Common.{◌≡◌, ◌⊎◌, inl, inr, ◌+◌, ◌≤◌, Option, Some, None, List, [], ◌∷◌, ◌++◌, refl, subst, arith}
 use Rattle.mc_signal.specs.declared.Signal.{Signal}
 use Rattle.mc_signal.specs.declared.Signal.TheVariants.{Open, Oack, Close, Closeack, Describe, Select}
-use Rattle.mc_slot.specs.Moves.{answered, cleared, taken}
+use Rattle.mc_slot.specs.Moves.{answered, cleared, slot_take}
 use Rattle.mc_slot.specs.Outlook.{ack_of, acks, close_of, outlook, waits}
 use Rattle.mc_slot.specs.Tunnel.{Agree, Meet, TunnelSound}
 use Rattle.mc_slot.specs.declared.Slot.{Slot}
@@ -43,7 +43,7 @@ record Answered (a : Slot) (signal : Signal) (answer : Option Signal) (after : S
   count : waits after.state ≡ waits a.state
 
 -- each taking is one or the other
-answer_in : (a : Slot) (signal : Signal) (answer : Option Signal) (after : Slot) → taken a signal ≡ Some record { answer = answer; after = after }
+answer_in : (a : Slot) (signal : Signal) (answer : Option Signal) (after : Slot) → slot_take a signal ≡ Some record { answer = answer; after = after }
     → (Unanswered a signal answer after) ⊎ (Answered a signal answer after)
 answer_in a (Open medium d) answer after goes = inl (record { none = grind (arith); no_close = refl; count = grind (arith) })
 answer_in a (Oack d) answer after goes = inl (record { none = grind (arith); no_close = refl; count = grind (arith) })
@@ -66,7 +66,7 @@ agree_closed x b agree is = grind (arith)
 
 -- a taking without an answer keeps a tunnel sound
 take_silent : (a : Slot) (signal : Signal) (to_a : List Signal) (b : Slot) (to_b : List Signal) (answer : Option Signal) (after : Slot)
-    → TunnelSound a (signal ∷ to_a) b to_b → taken a signal ≡ Some record { answer = answer; after = after }
+    → TunnelSound a (signal ∷ to_a) b to_b → slot_take a signal ≡ Some record { answer = answer; after = after }
     → Unanswered a signal answer after → TunnelSound after to_a b to_b
 take_silent a signal to_a b to_b answer after s goes counted = record {
   medium = cc (took_medium a signal _ goes, s.medium);
@@ -80,7 +80,7 @@ take_silent a signal to_a b to_b answer after s goes counted = record {
 
 -- a taking that is answered keeps a tunnel sound
 take_answering : (a : Slot) (signal : Signal) (to_a : List Signal) (b : Slot) (to_b : List Signal) (answer : Option Signal) (after : Slot)
-    → TunnelSound a (signal ∷ to_a) b to_b → taken a signal ≡ Some record { answer = answer; after = after }
+    → TunnelSound a (signal ∷ to_a) b to_b → slot_take a signal ≡ Some record { answer = answer; after = after }
     → Answered a signal answer after → TunnelSound after to_a b (to_b ++ Closeack ∷ [])
 take_answering a signal to_a b to_b answer after s goes counted =
     let meet : Meet (outlook after to_a) (outlook b to_b) = rw goes at s.meet in
@@ -105,7 +105,7 @@ take_answering a signal to_a b to_b answer after s goes counted =
 
 -- each taking keeps a tunnel sound
 pub take_keeps : (a : Slot) (signal : Signal) (to_a : List Signal) (b : Slot) (to_b : List Signal) (answer : Option Signal) (after : Slot)
-    → TunnelSound a (signal ∷ to_a) b to_b → taken a signal ≡ Some record { answer = answer; after = after }
+    → TunnelSound a (signal ∷ to_a) b to_b → slot_take a signal ≡ Some record { answer = answer; after = after }
     → TunnelSound after to_a b (to_b ++ answered answer)
 take_keeps a signal to_a b to_b answer after s goes = elim (answer_in a signal answer after goes) [
   | inl counted ↦ rw (counted.none, append-nil to_b) (take_silent a signal to_a b to_b answer after s goes counted)

@@ -2,7 +2,7 @@
 use Rattle.std.proofs.Common.{◌≡◌, ◌+◌, Option, Some, None, List, [], ◌∷◌, ◌++◌, refl, subst, arith}
 use Rattle.std.specs.Option.{option_and_then}
 use Rattle.mc_signal.specs.declared.Signal.{Signal}
-use Rattle.mc_slot.specs.Moves.{taken, Took}
+use Rattle.mc_slot.specs.Moves.{slot_take, Took}
 use Rattle.mc_slot.specs.Outlook.{acks, closes, outlook}
 use Rattle.mc_slot.specs.Tunnel.{Kept}
 use Rattle.mc_slot.specs.declared.Slot.{Slot}
@@ -12,18 +12,18 @@ use Rattle.mc_tunnel.proofs.Steps.{took_medium, took_side, took_kept, took_closi
 -- the first taking, and the rest
 pub record Walked (a : Slot) (signal : Signal) (signals : List Signal) (out : Slot) : Type 0 where
   pub took : Took
-  pub first : taken a signal ≡ Some took
+  pub first : slot_take a signal ≡ Some took
   pub rest : outlook took.after signals ≡ Some out
 
 -- by what the first taking gives
-walked_by : (o : Option Took) (a : Slot) (signal : Signal) (signals : List Signal) (out : Slot) → taken a signal ≡ o
+walked_by : (o : Option Took) (a : Slot) (signal : Signal) (signals : List Signal) (out : Slot) → slot_take a signal ≡ o
     → option_and_then (λ (took : Took). outlook took.after signals) o ≡ Some out → Walked a signal signals out
 walked_by None a signal signals out is goes = absurd (cc)
 walked_by (Some took) a signal signals out is goes = record { took = took; first = is; rest = goes }
 
 -- a walk over a list that is not empty begins with a taking
 pub walked : (a : Slot) (signal : Signal) (signals : List Signal) (out : Slot) → outlook a (signal ∷ signals) ≡ Some out → Walked a signal signals out
-walked a signal signals out goes = walked_by (taken a signal) a signal signals out refl goes
+walked a signal signals out goes = walked_by (slot_take a signal) a signal signals out refl goes
 
 -- one step of taking two lists in order
 further_by : (first second : List Signal) (o : Option Took)
@@ -37,7 +37,7 @@ further_by first second (Some took) further = further took.after
 pub outlook-append : (a : Slot) (first second : List Signal)
     → outlook a (first ++ second) ≡ option_and_then (λ (slot : Slot). outlook slot second) (outlook a first)
 outlook-append a [] second = refl
-outlook-append a (signal ∷ signals) second = further_by signals second (taken a signal) (λ next. outlook-append next signals second)
+outlook-append a (signal ∷ signals) second = further_by signals second (slot_take a signal) (λ next. outlook-append next signals second)
 
 -- closes add up
 pub closes-append : (first second : List Signal) → closes (first ++ second) ≡ closes first + closes second

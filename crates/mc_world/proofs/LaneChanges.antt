@@ -7,7 +7,7 @@ use Rattle.std.proofs.lemmas.List.{map-set, set-get_or, with_items_is}
 use Rattle.mc_lane.specs.Queue.{Queue}
 use Rattle.mc_signal.specs.declared.Tagged.{Tagged}
 use Rattle.mc_world.specs.Lanes.{HasRoomFrom, signals_of}
-use Rattle.mc_world.specs.declared.ways.Ways.{Ways}
+use Rattle.mc_world.specs.declared.topology.Topology.{Topology}
 
 abbrev pub Lane : Type 0
 Lane = Queue Tagged
@@ -58,10 +58,10 @@ pub length_kept : (lanes : Vec Lane Global) (first made second : List Lane) → 
 length_kept lanes first made second is long again = ap (λ (l : List Lane). length l) (again ∙ refilled lanes made (rw is at long)) ∙ (long ∙ ap (λ (l : List Lane). length l) is)
 
 -- and their room, for as much as is sent
-pub room_kept : (lanes : Vec Lane Global) (first made second : List Lane) (ways : Ways) (who slots most count : ℕ) → first ≡ lanes.items → length made ≡ length first → second ≡ (with_items lanes made).items
-    → count ≤ most → HasRoomFrom made ways who slots most → HasRoomFrom second ways who slots count
-room_kept lanes first made second ways who slots most count is long again few room =
-    subst (λ (l : List Lane). HasRoomFrom l ways who slots count) (sym (again ∙ refilled lanes made (rw is at long))) (λ s below at d. omega (arith, few, room s below at d))
+pub room_kept : (lanes : Vec Lane Global) (first made second : List Lane) (topology : Topology) (who slots most count : ℕ) → first ≡ lanes.items → length made ≡ length first → second ≡ (with_items lanes made).items
+    → count ≤ most → HasRoomFrom made topology who slots most → HasRoomFrom second topology who slots count
+room_kept lanes first made second topology who slots most count is long again few room =
+    subst (λ (l : List Lane). HasRoomFrom l topology who slots count) (sym (again ∙ refilled lanes made (rw is at long))) (λ s below at d. omega (arith, few, room s below at d))
 
 -- and then one with others
 pub signals_written : (lanes : Vec Lane Global) (first made second last : List Lane) (out : List (List Tagged) → List (List Tagged)) → first ≡ lanes.items

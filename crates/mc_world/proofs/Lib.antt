@@ -1,7 +1,7 @@
-mod Homes
-mod JointTables
+mod SlotNumbers
+mod TunnelTables
 mod LaneChanges
 mod NewLanes
 mod Tables
-mod WayLanes
+mod TopologyLanes
 mod WorldSteps

@@ -7,24 +7,24 @@ use Rattle.mc_lane.specs.Queue.{Queue}
 use Rattle.mc_signal.specs.declared.Tagged.{Tagged}
 use Rattle.mc_box.specs.Boxes.{BoxState, no_box}
 use Rattle.mc_model.specs.Settles.{is_empty}
-use Rattle.mc_world.specs.Tables.{HasTables, channel_of, world_of}
-use Rattle.mc_model.specs.Worlds.{WorldState, box_at, joint_of, joints_from, slot_count}
+use Rattle.mc_world.specs.Tables.{HasTables, channel_of, world_state}
+use Rattle.mc_model.specs.Worlds.{WorldState, box_at, tunnel_of, tunnels_from, slot_count}
 use Rattle.mc_world.specs.declared.network.World.TheInside.{Inside}
-use Rattle.mc_world.proofs.JointTables.{in_table, slot_has_channel, tunnel_is_there}
+use Rattle.mc_world.proofs.TunnelTables.{in_table, slot_has_channel, tunnel_is_there}
 
 -- ---- the channel of a slot
 
 -- its place in the table
-pub joint_below : (inside : Inside) (s : ℕ) → HasTables inside → s < slot_count (world_of inside) → s / 2 < length inside.ways.joints.items
-joint_below inside s has below = rw (has.joints, length-map (joints_from 0 inside.channels.items) channel_of) (tunnel_is_there inside.channels.items s below)
+pub tunnel_below : (inside : Inside) (s : ℕ) → HasTables inside → s < slot_count (world_state inside) → s / 2 < length inside.topology.tunnels.items
+tunnel_below inside s has below = rw (has.tunnels, length-map (tunnels_from 0 inside.channels.items) channel_of) (tunnel_is_there inside.channels.items s below)
 
 -- what is read there
-pub joint_read : (inside : Inside) (s : ℕ) (read : ℕ × ℕ) → HasTables inside → s < slot_count (world_of inside) → read ≡ get_or inside.ways.joints.items (s / 2) read
-    → read ≡ channel_of (joint_of (world_of inside) s)
-joint_read inside s read has below is =
-    in_table (joints_from 0 inside.channels.items) (s / 2) read (tunnel_is_there inside.channels.items s below) (rw has.joints at is)
+pub tunnel_read : (inside : Inside) (s : ℕ) (read : ℕ × ℕ) → HasTables inside → s < slot_count (world_state inside) → read ≡ get_or inside.topology.tunnels.items (s / 2) read
+    → read ≡ channel_of (tunnel_of (world_state inside) s)
+tunnel_read inside s read has below is =
+    in_table (tunnels_from 0 inside.channels.items) (s / 2) read (tunnel_is_there inside.channels.items s below) (rw has.tunnels at is)
 
-pub channel_below : (inside : Inside) (s : ℕ) → s < slot_count (world_of inside) → (joint_of (world_of inside) s).channel < length (world_of inside).channels
+pub channel_below : (inside : Inside) (s : ℕ) → s < slot_count (world_state inside) → (tunnel_of (world_state inside) s).channel < length (world_state inside).channels
 channel_below inside s below = slot_has_channel inside.channels.items s below
 
 -- ---- the lane to a slot
@@ -46,6 +46,6 @@ all_empty (lane ∷ lanes) = rw (none_here lane.items, all_empty lanes) refl
 
 -- ---- a box that is read
 
-pub box_read : (inside : Inside) (world : WorldState) (who : ℕ) (read : BoxState) → world_of inside ≡ world → who < length world.boxes → read ≡ get_or inside.boxes.items who read
+pub box_read : (inside : Inside) (world : WorldState) (who : ℕ) (read : BoxState) → world_state inside ≡ world → who < length world.boxes → read ≡ get_or inside.boxes.items who read
     → read ≡ box_at world who
 box_read inside world who read is here reads = rw (← is) (get_or_read inside.boxes.items who read (rw (← is) at here) reads no_box)

@@ -13,17 +13,17 @@ use Rattle.mc_box.specs.Boxes.{BoxState, slot_at}
 use Rattle.mc_world.specs.Lanes.{all_sent, signals_of, without_front}
 use Rattle.mc_model.specs.Sound.{IsNumbered, IsSound}
 use Rattle.mc_model.specs.Steps.{made, popped, step, step_by, with_box}
-use Rattle.mc_model.specs.Worlds.{WorldState, box_at, front, joints, lane_of, number, place, places, slot_of}
+use Rattle.mc_model.specs.Worlds.{WorldState, box_at, front, all_tunnels, lane_of, number, place, places, slot_of}
 use Rattle.mc_box.specs.declared.event.Event.{Event}
 use Rattle.mc_box.specs.declared.event.Event.TheVariants.{Take, Set, Media, Tell, Retry, Shift}
 use Rattle.mc_world.specs.declared.network.World.TheInside.{Inside}
-use Rattle.mc_world.specs.declared.ways.Ways.{Ways}
-use Rattle.mc_world.specs.Tables.{HasTables, channel_of, world_of}
+use Rattle.mc_world.specs.declared.topology.Topology.{Topology}
+use Rattle.mc_world.specs.Tables.{HasTables, channel_of, world_state}
 use Rattle.mc_box.proofs.EventGoes.{event_goes, version_end_stops}
 use Rattle.mc_laws.proofs.Numbers.{number_is}
 use Rattle.mc_laws.proofs.StepGoes.{below_test, front_step_goes}
 use Rattle.mc_laws.proofs.StepKeeps.{step_keeps_sound}
-use Rattle.mc_world.proofs.WayLanes.{sent_out_by}
+use Rattle.mc_world.proofs.TopologyLanes.{sent_out_by}
 
 -- ---- slots and their numbers
 
@@ -43,15 +43,15 @@ number_slot world who local s is =
 -- ---- a step that is made
 
 -- the world where a box has made its step, and what it sent has gone away by these tables
-abbrev pub put : WorldState → Ways → ℕ → BoxStep → WorldState
-put world ways who step = record world { boxes = set world.boxes who step.after; lanes = all_sent ways who world.lanes step.sent }
+abbrev pub put : WorldState → Topology → ℕ → BoxStep → WorldState
+put world topology who step = record world { boxes = set world.boxes who step.after; lanes = all_sent topology who world.lanes step.sent }
 
 -- a slot takes the front of its lane
-pub take_is : (world : WorldState) (ways : Ways) (who local s lane : ℕ) (signal : Signal) (step : BoxStep) → number world who local ≡ Some s → front world s ≡ Some signal
-    → box_event (box_at world who) (Take local) (Some signal) ≡ Some step → lane ≡ lane_of world s → ways.places.items ≡ places world → ways.joints.items ≡ map channel_of (joints world)
-    → step_by world who (Take local) ≡ Some (record world { boxes = set world.boxes who step.after; lanes = all_sent ways who (without_front world.lanes lane) step.sent })
-take_is world ways who local s lane signal step is first goes leads at through =
-    rw (is, first, goes, leads) (ap (λ (w : WorldState). Some w) (sent_out_by step.sent (with_box (popped world s) who step.after) ways who at through))
+pub take_is : (world : WorldState) (topology : Topology) (who local s lane : ℕ) (signal : Signal) (step : BoxStep) → number world who local ≡ Some s → front world s ≡ Some signal
+    → box_event (box_at world who) (Take local) (Some signal) ≡ Some step → lane ≡ lane_of world s → topology.places.items ≡ places world → topology.tunnels.items ≡ map channel_of (all_tunnels world)
+    → step_by world who (Take local) ≡ Some (record world { boxes = set world.boxes who step.after; lanes = all_sent topology who (without_front world.lanes lane) step.sent })
+take_is world topology who local s lane signal step is first goes leads at through =
+    rw (is, first, goes, leads) (ap (λ (w : WorldState). Some w) (sent_out_by step.sent (with_box (popped world s) who step.after) topology who at through))
 
 is_there : {A : Type 0} (o : Option A) → IsSome o → (x : A) × (o ≡ Some x)
 is_there None some = absurd (cc)
@@ -96,11 +96,11 @@ act_goes world who event sound below other enabled more =
 pub act_stops : (world : WorldState) (who : ℕ) (event : Event) → is_take event ≡ false → is_version_end (box_at world who) event ≡ true → step_by world who event ≡ None
 act_stops world who event other last = rw (act_by world who event other, version_end_stops (box_at world who) event last) refl
 
-pub act_is : (world : WorldState) (ways : Ways) (who : ℕ) (event : Event) (step : BoxStep) → is_take event ≡ false
-    → box_event (box_at world who) event None ≡ Some step → ways.places.items ≡ places world → ways.joints.items ≡ map channel_of (joints world)
-    → step_by world who event ≡ Some (put world ways who step)
-act_is world ways who event step other goes at through =
-    rw (act_by world who event other, goes) (ap (λ (w : WorldState). Some w) (sent_out_by step.sent (with_box world who step.after) ways who at through))
+pub act_is : (world : WorldState) (topology : Topology) (who : ℕ) (event : Event) (step : BoxStep) → is_take event ≡ false
+    → box_event (box_at world who) event None ≡ Some step → topology.places.items ≡ places world → topology.tunnels.items ≡ map channel_of (all_tunnels world)
+    → step_by world who event ≡ Some (put world topology who step)
+act_is world topology who event step other goes at through =
+    rw (act_by world who event other, goes) (ap (λ (w : WorldState). Some w) (sent_out_by step.sent (with_box world who step.after) topology who at through))
 
 -- ---- a sound world after a step of one of its boxes
 
@@ -113,38 +113,38 @@ stays_sound world next who event sound here goes =
 -- ---- the world that code leaves
 
 -- a Take, from what the box and the lanes are then
-pub take_made : (inside : Inside) (world : WorldState) (who local s lane : ℕ) (signal : Signal) (step : BoxStep) (lanes : List (List Tagged)) → HasTables inside → world_of inside ≡ world
+pub take_made : (inside : Inside) (world : WorldState) (who local s lane : ℕ) (signal : Signal) (step : BoxStep) (lanes : List (List Tagged)) → HasTables inside → world_state inside ≡ world
     → number world who local ≡ Some s → front world s ≡ Some signal → lane ≡ lane_of world s → box_event (box_at world who) (Take local) (Some signal) ≡ Some step
-    → lanes ≡ all_sent inside.ways who (without_front (signals_of inside.lanes.items) lane) step.sent
-    → step_by world who (Take local) ≡ Some (record (world_of inside) { boxes = set inside.boxes.items who step.after; lanes = lanes })
+    → lanes ≡ all_sent inside.topology who (without_front (signals_of inside.lanes.items) lane) step.sent
+    → step_by world who (Take local) ≡ Some (record (world_state inside) { boxes = set inside.boxes.items who step.after; lanes = lanes })
 take_made inside world who local s lane signal step lanes has view is first leads goes lanes_is =
-    take_is world inside.ways who local s lane signal step is first goes leads
-    (subst (λ (w : WorldState). inside.ways.places.items ≡ places w) view has.places)
-    (subst (λ (w : WorldState). inside.ways.joints.items ≡ map channel_of (joints w)) view has.joints)
-    ∙ (ap (λ (w : WorldState). Some (record w { boxes = set w.boxes who step.after; lanes = all_sent inside.ways who (without_front w.lanes lane) step.sent })) (sym view)
-    ∙ ap (λ (l : List (List Tagged)). Some (record (world_of inside) { boxes = set inside.boxes.items who step.after; lanes = l })) (sym lanes_is))
+    take_is world inside.topology who local s lane signal step is first goes leads
+    (subst (λ (w : WorldState). inside.topology.places.items ≡ places w) view has.places)
+    (subst (λ (w : WorldState). inside.topology.tunnels.items ≡ map channel_of (all_tunnels w)) view has.tunnels)
+    ∙ (ap (λ (w : WorldState). Some (record w { boxes = set w.boxes who step.after; lanes = all_sent inside.topology who (without_front w.lanes lane) step.sent })) (sym view)
+    ∙ ap (λ (l : List (List Tagged)). Some (record (world_state inside) { boxes = set inside.boxes.items who step.after; lanes = l })) (sym lanes_is))
 
 -- another event
-pub act_made : (inside : Inside) (world : WorldState) (who : ℕ) (event : Event) (step : BoxStep) (lanes : List (List Tagged)) → HasTables inside → world_of inside ≡ world
-    → is_take event ≡ false → box_event (box_at world who) event None ≡ Some step → lanes ≡ all_sent inside.ways who (signals_of inside.lanes.items) step.sent
-    → step_by world who event ≡ Some (record (world_of inside) { boxes = set inside.boxes.items who step.after; lanes = lanes })
+pub act_made : (inside : Inside) (world : WorldState) (who : ℕ) (event : Event) (step : BoxStep) (lanes : List (List Tagged)) → HasTables inside → world_state inside ≡ world
+    → is_take event ≡ false → box_event (box_at world who) event None ≡ Some step → lanes ≡ all_sent inside.topology who (signals_of inside.lanes.items) step.sent
+    → step_by world who event ≡ Some (record (world_state inside) { boxes = set inside.boxes.items who step.after; lanes = lanes })
 act_made inside world who event step lanes has view other goes lanes_is =
-    act_is world inside.ways who event step other goes
-    (subst (λ (w : WorldState). inside.ways.places.items ≡ places w) view has.places)
-    (subst (λ (w : WorldState). inside.ways.joints.items ≡ map channel_of (joints w)) view has.joints)
-    ∙ (ap (λ (w : WorldState). Some (put w inside.ways who step)) (sym view)
-    ∙ ap (λ (l : List (List Tagged)). Some (record (world_of inside) { boxes = set inside.boxes.items who step.after; lanes = l })) (sym lanes_is))
+    act_is world inside.topology who event step other goes
+    (subst (λ (w : WorldState). inside.topology.places.items ≡ places w) view has.places)
+    (subst (λ (w : WorldState). inside.topology.tunnels.items ≡ map channel_of (all_tunnels w)) view has.tunnels)
+    ∙ (ap (λ (w : WorldState). Some (put w inside.topology who step)) (sym view)
+    ∙ ap (λ (l : List (List Tagged)). Some (record (world_state inside) { boxes = set inside.boxes.items who step.after; lanes = l })) (sym lanes_is))
 
 -- it has the tables as before, and is sound, since a step of a sound world led to it
-pub step_tables : (inside : Inside) (world : WorldState) (who : ℕ) (event : Event) (boxes : Vec BoxState Global) (lanes : Vec (Queue Tagged) Global) → HasTables inside → world_of inside ≡ world
-    → who < length world.boxes → step_by world who event ≡ Some (world_of (record inside { boxes = boxes; lanes = lanes })) → HasTables (record inside { boxes = boxes; lanes = lanes })
+pub step_tables : (inside : Inside) (world : WorldState) (who : ℕ) (event : Event) (boxes : Vec BoxState Global) (lanes : Vec (Queue Tagged) Global) → HasTables inside → world_state inside ≡ world
+    → who < length world.boxes → step_by world who event ≡ Some (world_state (record inside { boxes = boxes; lanes = lanes })) → HasTables (record inside { boxes = boxes; lanes = lanes })
 step_tables inside world who event boxes lanes has view here goes =
-    let kept : IsSound (world_of (record inside { boxes = boxes; lanes = lanes })) =
-    stays_sound world (world_of (record inside { boxes = boxes; lanes = lanes })) who event (subst (λ (w : WorldState). IsSound w) view has.sound) here goes in
+    let kept : IsSound (world_state (record inside { boxes = boxes; lanes = lanes })) =
+    stays_sound world (world_state (record inside { boxes = boxes; lanes = lanes })) who event (subst (λ (w : WorldState). IsSound w) view has.sound) here goes in
     record {
       channels = has.channels;
       places = has.places;
-      joints = has.joints;
+      all_tunnels = has.tunnels;
       found = has.found;
       few = has.few;
       lanes = sym (length-map lanes.items (λ (lane : Queue Tagged). lane.items)) ∙ kept.numbered.lanes;

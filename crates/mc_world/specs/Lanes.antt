@@ -7,7 +7,7 @@ use Rattle.mc_signal.specs.declared.Signal.{Signal}
 use Rattle.mc_signal.specs.declared.Tagged.{Tagged}
 use Rattle.mc_box.specs.Boxes.{BoxState}
 use Rattle.mc_model.specs.Worlds.{far, is_place}
-use Rattle.mc_world.specs.declared.ways.Ways.{Ways}
+use Rattle.mc_world.specs.declared.topology.Topology.{Topology}
 
 -- the signals of each lane
 abbrev pub signals_of : List (Queue Tagged) → List (List Tagged)
@@ -24,34 +24,34 @@ abbrev pub origins : BoxState → List ℕ
 origins box = map (λ media. media.origin) box.media
 
 -- and as the tables have them, in the order of their local numbers
-abbrev pub numbers_of : Ways → ℕ → List ℕ
-numbers_of ways who = slice_index_or (map (λ numbers. numbers.items) ways.homes.items) who []
+abbrev pub numbers_of : Topology → ℕ → List ℕ
+numbers_of topology who = slice_index_or (map (λ numbers. numbers.items) topology.numbers.items) who []
 
 -- each tunnel has its two slots, and its channel two of so many lanes; each slot is found by its box and local number, and by no others
-pub record IsLaid (ways : Ways) (count : ℕ) : Type 0 where
-  pub slots : length ways.places.items ≡ 2 * length ways.joints.items
-  pub lanes : (t : ℕ) → t < length ways.joints.items → 2 * (slice_index_or ways.joints.items t (0, 0)).0 + 1 < count
-  pub found : (who local : ℕ) → slice_get (numbers_of ways who) local ≡ position (is_place (who, local)) ways.places.items
-  pub once : (s : ℕ) → s < length ways.places.items → position (is_place (slice_index_or ways.places.items s (0, 0))) ways.places.items ≡ Some s
+pub record IsLaid (topology : Topology) (count : ℕ) : Type 0 where
+  pub slots : length topology.places.items ≡ 2 * length topology.tunnels.items
+  pub lanes : (t : ℕ) → t < length topology.tunnels.items → 2 * (slice_index_or topology.tunnels.items t (0, 0)).0 + 1 < count
+  pub found : (who local : ℕ) → slice_get (numbers_of topology who) local ≡ position (is_place (who, local)) topology.places.items
+  pub once : (s : ℕ) → s < length topology.places.items → position (is_place (slice_index_or topology.places.items s (0, 0))) topology.places.items ≡ Some s
 
 -- the lane that leads to a slot, and the number of the slot's tunnel within its channel
-abbrev pub lane_by : Ways → ℕ → ℕ
-lane_by ways s = 2 * (slice_index_or ways.joints.items (s / 2) (0, 0)).0 + s % 2
+abbrev pub lane_by : Topology → ℕ → ℕ
+lane_by topology s = 2 * (slice_index_or topology.tunnels.items (s / 2) (0, 0)).0 + s % 2
 
-abbrev pub tunnel_by : Ways → ℕ → ℕ
-tunnel_by ways s = (slice_index_or ways.joints.items (s / 2) (0, 0)).1
+abbrev pub tunnel_by : Topology → ℕ → ℕ
+tunnel_by topology s = (slice_index_or topology.tunnels.items (s / 2) (0, 0)).1
 
 -- a signal goes with its tunnel to the end of the lane that leads to a slot
-abbrev pub pushed_by : Ways → List (List Tagged) → Signal → ℕ → List (List Tagged)
-pushed_by ways lanes signal s = slice_set lanes (lane_by ways s) (slice_index_or lanes (lane_by ways s) [] ++ record { tunnel = tunnel_by ways s; signal = signal } ∷ [])
+abbrev pub with_sending : Topology → List (List Tagged) → Signal → ℕ → List (List Tagged)
+with_sending topology lanes signal s = slice_set lanes (lane_by topology s) (slice_index_or lanes (lane_by topology s) [] ++ record { tunnel = tunnel_by topology s; signal = signal } ∷ [])
 
 -- what a box sends by one of its slots goes to the far slot
-abbrev pub one_sent : Ways → ℕ → List (List Tagged) → ℕ × Signal → List (List Tagged)
-one_sent ways who lanes sending = unwrap_or (option_map (λ s. pushed_by ways lanes sending.1 (far s)) (position (is_place (who, sending.0)) ways.places.items)) lanes
+abbrev pub one_sent : Topology → ℕ → List (List Tagged) → ℕ × Signal → List (List Tagged)
+one_sent topology who lanes sending = unwrap_or (option_map (λ s. with_sending topology lanes sending.1 (far s)) (position (is_place (who, sending.0)) topology.places.items)) lanes
 
 -- and so does all that it sends, in the order of sending
-abbrev pub all_sent : Ways → ℕ → List (List Tagged) → List (ℕ × Signal) → List (List Tagged)
-all_sent ways who lanes sendings = fold (one_sent ways who) lanes sendings
+abbrev pub all_sent : Topology → ℕ → List (List Tagged) → List (ℕ × Signal) → List (List Tagged)
+all_sent topology who lanes sendings = fold (one_sent topology who) lanes sendings
 
 -- ---- room
 
@@ -60,5 +60,5 @@ abbrev pub HasRoom : List (Queue Tagged) → ℕ → ℕ → Type 0
 HasRoom lanes lane count = HoldsAt (λ queue. count ≤ queue.spare) lanes lane
 
 -- and so has each lane that leads away from one of the first slots, where it is the box's
-abbrev pub HasRoomFrom : List (Queue Tagged) → Ways → ℕ → ℕ → ℕ → Type 0
-HasRoomFrom lanes ways who first count = (s : ℕ) → s < first → (slice_index_or ways.places.items s (0, 0)).0 ≡ who → HasRoom lanes (lane_by ways (far s)) count
+abbrev pub HasRoomFrom : List (Queue Tagged) → Topology → ℕ → ℕ → ℕ → Type 0
+HasRoomFrom lanes topology who first count = (s : ℕ) → s < first → (slice_index_or topology.places.items s (0, 0)).0 ≡ who → HasRoom lanes (lane_by topology (far s)) count

@@ -3,22 +3,22 @@ use Rattle.std.specs.Prelude.{◌≡◌, ℕ, ◌*◌, ◌^◌, ◌≤◌, lengt
 use Rattle.std.specs.List.{slice_get}
 use Rattle.mc_world.specs.Lanes.{numbers_of}
 use Rattle.mc_model.specs.Sound.{IsSound}
-use Rattle.mc_model.specs.Worlds.{AreChannels, Joint, WorldState, is_place, joints_from, places_among}
+use Rattle.mc_model.specs.Worlds.{AreChannels, TunnelPlace, WorldState, is_place, tunnels_from, places_among}
 use Rattle.mc_world.specs.declared.network.World.TheInside.{Inside}
 
-abbrev pub world_of : Inside → WorldState
-world_of inside = record { boxes = inside.boxes.items; channels = inside.channels.items; lanes = map (λ lane. lane.items) inside.lanes.items }
+abbrev pub world_state : Inside → WorldState
+world_state inside = record { boxes = inside.boxes.items; channels = inside.channels.items; lanes = map (λ lane. lane.items) inside.lanes.items }
 
 -- the channel of a tunnel, and its number within the channel
-abbrev pub channel_of : Joint → ℕ × ℕ
-channel_of joint = (joint.channel, joint.within)
+abbrev pub channel_of : TunnelPlace → ℕ × ℕ
+channel_of tunnel = (tunnel.channel, tunnel.within)
 
 -- the channels are within the limits, places and channels are found by number, numbers of slots by their boxes, those numbers fit, each channel has its two lanes, and the world is sound
 pub record HasTables (inside : Inside) : Type 0 where
   pub channels : AreChannels inside.channels.items
-  pub places : inside.ways.places.items ≡ places_among inside.channels.items
-  pub joints : inside.ways.joints.items ≡ map channel_of (joints_from 0 inside.channels.items)
-  pub found : (who local : ℕ) → slice_get (numbers_of inside.ways who) local ≡ position (is_place (who, local)) inside.ways.places.items
-  pub few : length inside.ways.places.items ≤ 2 ^ 32
+  pub places : inside.topology.places.items ≡ places_among inside.channels.items
+  pub tunnels : inside.topology.tunnels.items ≡ map channel_of (tunnels_from 0 inside.channels.items)
+  pub found : (who local : ℕ) → slice_get (numbers_of inside.topology who) local ≡ position (is_place (who, local)) inside.topology.places.items
+  pub few : length inside.topology.places.items ≤ 2 ^ 32
   pub lanes : length inside.lanes.items ≡ 2 * length inside.channels.items
-  pub sound : IsSound (world_of inside)
+  pub sound : IsSound (world_state inside)

@@ -4,7 +4,7 @@ ghost use Rattle.std.specs.Prelude.{◌≡◌, ℕ, ◌+◌, ◌<◌, [], length
 ghost use Rattle.mc_slot.specs.Sending.{sends_of};
 ghost use Rattle.mc_world.specs.Lanes.{signals_of, without_front, one_sent, all_sent, IsLaid, HasRoom, HasRoomFrom};
 
-use crate::ways::Ways;
+use crate::topology::Topology;
 use mc_lane::Lane;
 use mc_signal::{Signal, Tagged};
 use mc_slot::Sends;
@@ -13,16 +13,16 @@ use std::alloc::AllocError;
 /// Makes room in each lane that leads away from a slot of the box, for as much as one event may send in all.
 pub fn make_room(
     lanes: &mut [Lane<Tagged>],
-    ways: &Ways,
+    topology: &Topology,
     who: u32,
     most: usize,
 ) -> Result<(), AllocError>
-    requires { IsLaid ways.now (length lanes.old) }
+    requires { IsLaid topology.now (length lanes.old) }
     ensures same { signals_of lanes.new ≡ signals_of lanes.old }
-    ensures room { OnOk result (HasRoomFrom lanes.new ways.now who (length ways.now.places.items) most) }
+    ensures room { OnOk result (HasRoomFrom lanes.new topology.now who (length topology.now.places.items) most) }
 {
-    for slot in ways.numbers(who) {
-        let (lane, _) = ways.away(*slot as usize);
+    for slot in topology.numbers(who) {
+        let (lane, _) = topology.away(*slot as usize);
         reserve(lanes, lane, most)?;
     }
     Ok(())
@@ -30,38 +30,38 @@ pub fn make_room(
 
 /// What a box sends goes away, each sending in its order to the end of the lane that leads to the far slot of its
 /// own slot.
-pub fn send_all(lanes: &mut [Lane<Tagged>], ways: &Ways, who: u32, sends: &Sends)
-    requires laid { IsLaid ways.now (length lanes.old) }
-    requires room { HasRoomFrom lanes.old ways.now who (length ways.now.places.items) sends.now.len }
-    ensures { signals_of lanes.new ≡ all_sent ways.now who (signals_of lanes.old) (sends_of sends.now) }
+pub fn send_all(lanes: &mut [Lane<Tagged>], topology: &Topology, who: u32, sends: &Sends)
+    requires laid { IsLaid topology.now (length lanes.old) }
+    requires room { HasRoomFrom lanes.old topology.now who (length topology.now.places.items) sends.now.len }
+    ensures { signals_of lanes.new ≡ all_sent topology.now who (signals_of lanes.old) (sends_of sends.now) }
 {
     for sending in &sends.at[..sends.len as usize] {
-        send(lanes, ways, who, sending.0, sending.1);
+        send(lanes, topology, who, sending.0, sending.1);
     }
 }
 
 /// The same for what stands in a queue.
-pub fn send_lane(lanes: &mut [Lane<Tagged>], ways: &Ways, who: u32, sends: &Lane<(u8, Signal)>)
-    requires laid { IsLaid ways.now (length lanes.old) }
-    requires room { HasRoomFrom lanes.old ways.now who (length ways.now.places.items) (length sends.now.items) }
-    ensures { signals_of lanes.new ≡ all_sent ways.now who (signals_of lanes.old) sends.now.items }
+pub fn send_lane(lanes: &mut [Lane<Tagged>], topology: &Topology, who: u32, sends: &Lane<(u8, Signal)>)
+    requires laid { IsLaid topology.now (length lanes.old) }
+    requires room { HasRoomFrom lanes.old topology.now who (length topology.now.places.items) (length sends.now.items) }
+    ensures { signals_of lanes.new ≡ all_sent topology.now who (signals_of lanes.old) sends.now.items }
 {
     for i in 0..sends.len() {
         let sending = sends.get(i);
-        send(lanes, ways, who, sending.0, sending.1);
+        send(lanes, topology, who, sending.0, sending.1);
     }
 }
 
 /// The front leaves a lane, and then what a box sends goes away.
-pub fn relay(lanes: &mut [Lane<Tagged>], lane: usize, ways: &Ways, who: u32, sends: &Sends)
-    requires laid { IsLaid ways.now (length lanes.old) }
+pub fn relay(lanes: &mut [Lane<Tagged>], lane: usize, topology: &Topology, who: u32, sends: &Sends)
+    requires laid { IsLaid topology.now (length lanes.old) }
     requires here { lane < length lanes.old }
     requires some { 0 < length (slice_index_or (signals_of lanes.old) lane []) }
-    requires room { HasRoomFrom lanes.old ways.now who (length ways.now.places.items) sends.now.len }
-    ensures { signals_of lanes.new ≡ all_sent ways.now who (without_front (signals_of lanes.old) lane) (sends_of sends.now) }
+    requires room { HasRoomFrom lanes.old topology.now who (length topology.now.places.items) sends.now.len }
+    ensures { signals_of lanes.new ≡ all_sent topology.now who (without_front (signals_of lanes.old) lane) (sends_of sends.now) }
 {
     pop_front(lanes, lane);
-    send_all(lanes, ways, who, sends);
+    send_all(lanes, topology, who, sends);
 }
 
 // The front leaves a lane. The room in each lane stays.
@@ -88,14 +88,14 @@ fn reserve(lanes: &mut [Lane<Tagged>], lane: usize, most: usize) -> Result<(), A
 
 // What a box sends by one of its slots goes to the end of the lane that leads to the far slot. A slot without a
 // number sends nothing.
-fn send(lanes: &mut [Lane<Tagged>], ways: &Ways, who: u32, local: u8, signal: Signal)
-    requires laid { IsLaid ways.now (length lanes.old) }
-    requires room { HasRoomFrom lanes.old ways.now who (length ways.now.places.items) 1 }
-    ensures sent { signals_of lanes.new ≡ one_sent ways.now who (signals_of lanes.old) (local, signal) }
+fn send(lanes: &mut [Lane<Tagged>], topology: &Topology, who: u32, local: u8, signal: Signal)
+    requires laid { IsLaid topology.now (length lanes.old) }
+    requires room { HasRoomFrom lanes.old topology.now who (length topology.now.places.items) 1 }
+    ensures sent { signals_of lanes.new ≡ one_sent topology.now who (signals_of lanes.old) (local, signal) }
     ensures room { (k count : ℕ) → HasRoom lanes.old k (count + 1) → HasRoom lanes.new k count }
 {
-    if let Some(slot) = ways.number(who, local) {
-        let (lane, tunnel) = ways.away(slot as usize);
+    if let Some(slot) = topology.number(who, local) {
+        let (lane, tunnel) = topology.away(slot as usize);
         let lane = &mut lanes[lane];
         lane.push(Tagged { tunnel, signal });
     }

@@ -4,7 +4,7 @@
 mod lanes;
 mod network;
 mod settled;
-mod ways;
+mod topology;
 
 pub use mc_laws::laws;
 pub use mc_model::{Channel, Tunnel};

@@ -6,12 +6,12 @@ ghost use Rattle.mc_model.specs.Settles.{is_quiet, rests};
 ghost use Rattle.mc_model.specs.Sound.{IsNumbered, IsSound};
 ghost use Rattle.mc_model.specs.Setups.{AreNew};
 ghost use Rattle.mc_world.specs.Tables.{channel_of};
-ghost use Rattle.mc_model.specs.Worlds.{AreChannels, tunnel_limit, first_world, slot_count, place, number, far, joint_of, lane_of, front, front_for, slot_of, goal_of, places_among, places_within, joints_from, joints_within};
+ghost use Rattle.mc_model.specs.Worlds.{AreChannels, tunnel_limit, first_world, slot_count, place, number, far, tunnel_of, lane_of, front, front_for, slot_of, goal_of, places_among, places_within, tunnels_from, tunnels_within};
 
 mod rings;
 mod step;
 
-use crate::ways::{Ways, homes_among};
+use crate::topology::{Topology, numbers_among};
 use mc_box::MediaBox;
 use mc_lane::Lane;
 use mc_model::{Channel, Tunnel};
@@ -31,7 +31,7 @@ pub struct World {
     boxes: Vec<MediaBox>,
     channels: Vec<Channel>,
     lanes: Vec<Lane<Tagged>>,
-    ways: Ways,
+    topology: Topology,
     alloc: Global,
 }
 
@@ -40,9 +40,9 @@ impl Model for World {
 
     ghost Value = { WorldState };
 
-    ghost use Rattle.mc_world.specs.Tables.{world_of, HasTables};
+    ghost use Rattle.mc_world.specs.Tables.{world_state, HasTables};
 
-    ghost view = { world_of };
+    ghost view = { world_state };
 
     ghost invariant = { HasTables };
 }
@@ -63,18 +63,18 @@ impl World {
     {
         let lanes = empty_lanes(alloc, channels.len())?;
         let places = places_among(alloc, &channels)?;
-        let joints = joints_among(alloc, &channels)?;
-        let homes = homes_among(alloc, &boxes)?;
-        let ways = Ways {
+        let tunnels = tunnels_among(alloc, &channels)?;
+        let numbers = numbers_among(alloc, &boxes)?;
+        let topology = Topology {
             places,
-            joints,
-            homes,
+            tunnels,
+            numbers,
         };
         Ok(World {
             boxes,
             channels,
             lanes,
-            ways,
+            topology,
             alloc,
         })
     }
@@ -86,7 +86,7 @@ impl World {
         ensures channels { AreChannels self.now.channels }
         ensures few { slot_count self.now ≤ 2 ^ 32 }
     {
-        let _ = self.ways.places.len();
+        let _ = self.topology.places.len();
     }
 
     /// The boxes, in the order of their numbers.
@@ -100,7 +100,7 @@ impl World {
     pub fn slot_count(&self) -> usize
         ensures { result ≡ slot_count self.now }
     {
-        self.ways.places.len()
+        self.topology.places.len()
     }
 
     /// The box of a slot, and the slot's local number there.
@@ -108,7 +108,7 @@ impl World {
         requires { slot < slot_count self.now }
         ensures { result ≡ place self.now slot }
     {
-        self.ways.places[slot as usize]
+        self.topology.places[slot as usize]
     }
 
     /// A slot, by its number.
@@ -145,16 +145,16 @@ impl World {
     pub fn number(&self, who: u32, local: u8) -> Option<u32>
         ensures { result ≡ number self.now who local }
     {
-        self.ways.number(who, local)
+        self.topology.number(who, local)
     }
 
     /// The channel of a slot, and the number of the slot's tunnel within it.
     pub fn channel(&self, slot: u32) -> (u32, u8)
         requires { slot < slot_count self.now }
-        ensures channel { result ≡ channel_of (joint_of self.now slot) }
+        ensures channel { result ≡ channel_of (tunnel_of self.now slot) }
         ensures there { result.0 < length self.now.channels }
     {
-        self.ways.joints[slot as usize / 2]
+        self.topology.tunnels[slot as usize / 2]
     }
 
     /// The signals under way in a channel, to its initiator or to the other end.
@@ -251,29 +251,29 @@ fn add_places(channel: &Channel, places: &mut Vec<(u32, u8)>) -> Result<(), Allo
 }
 
 // The channel of each tunnel of these channels, and its number within the channel.
-fn joints_among(alloc: Global, channels: &[Channel]) -> Result<Vec<(u32, u8)>, AllocError>
+fn tunnels_among(alloc: Global, channels: &[Channel]) -> Result<Vec<(u32, u8)>, AllocError>
     requires { AreChannels channels.now }
-    ensures { IfOk result (λ joints. joints.items ≡ map channel_of (joints_from 0 channels.now)) }
+    ensures { IfOk result (λ places. places.items ≡ map channel_of (tunnels_from 0 channels.now)) }
 {
-    let mut joints = Vec::new(alloc);
+    let mut places = Vec::new(alloc);
     for number in 0..channels.len() {
         let channel = &channels[number];
-        add_joints(number as u32, &channel.tunnels, &mut joints)?;
+        add_tunnels(number as u32, &channel.tunnels, &mut places)?;
     }
-    Ok(joints)
+    Ok(places)
 }
 
 // Adds the tunnels of a channel.
-fn add_joints(
+fn add_tunnels(
     channel: u32,
     tunnels: &[Tunnel],
-    joints: &mut Vec<(u32, u8)>,
+    places: &mut Vec<(u32, u8)>,
 ) -> Result<(), AllocError>
     requires { length tunnels.now ≤ tunnel_limit }
-    ensures { OnOk result (joints.new.items ≡ joints.old.items ++ map channel_of (joints_within channel 0 tunnels.now)) }
+    ensures { OnOk result (places.new.items ≡ places.old.items ++ map channel_of (tunnels_within channel 0 tunnels.now)) }
 {
     for within in 0..tunnels.len() {
-        joints.push((channel, within as u8))?;
+        places.push((channel, within as u8))?;
     }
     Ok(())
 }

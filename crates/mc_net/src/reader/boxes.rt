@@ -21,11 +21,11 @@ use crate::word_list::has_repeat;
 use mc_box::{BoxShape, Kind};
 use mc_script::LineFault;
 use mc_script::places::{is_misspelt, is_overlong};
+use mc_script::rule::{EXTRA_WORD, GIVEN_TWICE, LIMIT_PASSED, MISSING_WORD, NAME_TOO_LONG, UNDECLARED, WRONG_VERSION, WRONG_WORD};
 use mc_signal::CodecList;
-use mc_text::{Parts, Words};
+use mc_text::limit::BOX_LIMIT;
+use mc_text::{FirstWords, Words};
 use std::alloc::AllocError;
-
-const BOX_LIMIT: usize = 256;
 
 /// What a `dev` line declares.
 #[derive(Drop)]
@@ -43,25 +43,25 @@ impl Reader {
         let name = words.next_word();
         let codecs = codec_words(words.again());
         if lists_undeclared(&self.names, codecs.again()) {
-            return Err(LineFault { number: 4 });
+            return Err(LineFault { number: UNDECLARED });
         }
         if self.is_late(Section::Boxes) || is_misspelt(name) {
-            return Err(LineFault { number: 5 });
+            return Err(LineFault { number: WRONG_WORD });
         }
         let Some(spelt) = name else {
-            return Err(LineFault { number: 6 });
+            return Err(LineFault { number: MISSING_WORD });
         };
         if has_bad_version(words.again()) {
-            return Err(LineFault { number: 8 });
+            return Err(LineFault { number: WRONG_VERSION });
         }
         if self.names.find_box(spelt).is_some() || has_repeat(codecs.again()) {
-            return Err(LineFault { number: 9 });
+            return Err(LineFault { number: GIVEN_TWICE });
         }
         if BOX_LIMIT <= self.names.box_count() || is_overfull(codecs.again()) {
-            return Err(LineFault { number: 14 });
+            return Err(LineFault { number: LIMIT_PASSED });
         }
         if is_overlong(name) {
-            return Err(LineFault { number: 18 });
+            return Err(LineFault { number: NAME_TOO_LONG });
         }
         let media = BoxMedia {
             version: version_of(words),
@@ -86,24 +86,24 @@ impl Reader {
         ensures read { ReadsAsBy (λ name. name.now) result (least_broken (feature_rules self.now words.entry)) (slice_get words.entry 0) }
         ensures named { IfOk result (λ name. IsTrue (is_name name.now)) }
     {
-        let parts = Parts::new(words);
+        let parts = FirstWords::new(words);
         if self.is_late(Section::Boxes) || is_misspelt(parts.first) {
-            return Err(LineFault { number: 5 });
+            return Err(LineFault { number: WRONG_WORD });
         }
         let Some(name) = parts.first else {
-            return Err(LineFault { number: 6 });
+            return Err(LineFault { number: MISSING_WORD });
         };
         if parts.second.is_some() {
-            return Err(LineFault { number: 7 });
+            return Err(LineFault { number: EXTRA_WORD });
         }
         if self.names.find_box(name).is_some() {
-            return Err(LineFault { number: 9 });
+            return Err(LineFault { number: GIVEN_TWICE });
         }
         if BOX_LIMIT <= self.names.box_count() {
-            return Err(LineFault { number: 14 });
+            return Err(LineFault { number: LIMIT_PASSED });
         }
         if is_overlong(parts.first) {
-            return Err(LineFault { number: 18 });
+            return Err(LineFault { number: NAME_TOO_LONG });
         }
         Ok(name)
     }

@@ -2,7 +2,7 @@
 
 ghost use Rattle.std.specs.Prelude.{◌≡◌, ◌<◌, ◌≤◌, IfOk, IfSome, IsTrue, OnOk, length, nat_le};
 ghost use Rattle.std.specs.Option.{is_some};
-ghost use Rattle.mc_text.specs.NameLists.{place_of, slots_of};
+ghost use Rattle.mc_text.specs.NameLists.{place_of, slot_names};
 ghost use Rattle.mc_text.specs.Spelling.{is_name};
 ghost use Rattle.mc_script.specs.Places.{Fits};
 ghost use Rattle.mc_script.specs.Rules.{least_broken};
@@ -10,23 +10,22 @@ ghost use Rattle.mc_net.specs.BoxLines.{CanJoin, channel_seen};
 ghost use Rattle.mc_net.specs.Forms.{IsInForm};
 ghost use Rattle.mc_net.specs.Meaning.{channel_after, one_tunnel, with_medium, with_new_slot};
 ghost use Rattle.mc_net.specs.Readings.{Declares, ReadsAsBy};
-ghost use Rattle.mc_net.specs.Rules.{channel_rules, slot_limit};
+ghost use Rattle.mc_net.specs.Rules.{channel_rules};
 
 use crate::fault::ReadFault;
+use crate::limit::CHANNEL_LIMIT;
 use crate::places::fixed_medium;
 use crate::reader::Reader;
 use crate::section::Section;
 use mc_box::Shape;
 use mc_script::LineFault;
 use mc_script::places::{is_misspelt, is_overlong, known_box};
+use mc_script::rule::{EXTRA_WORD, GIVEN_TWICE, LIMIT_PASSED, MISSING_WORD, NAME_TOO_LONG, SAME_BOX, WRONG_WORD};
 use mc_signal::Medium;
-use mc_text::{Parts, Words};
+use mc_text::limit::SLOT_LIMIT;
+use mc_text::{FirstWords, Words};
 use mc_world::{Channel, Tunnel};
 use std::alloc::{AllocError, Global};
-
-const SLOT_LIMIT: usize = 64;
-
-const CHANNEL_LIMIT: usize = 1024;
 
 /// What a `chan` line declares: its medium, its two boxes, and the names of the slot that each gets.
 #[derive(Drop)]
@@ -45,7 +44,7 @@ impl Reader {
         ensures read { ReadsAsBy (channel_seen self.now) result (least_broken (channel_rules self.now words.entry)) (channel_after self.now words.entry) }
         ensures can_join { IfOk result (CanJoin self.now) }
     {
-        let parts = Parts::new(words);
+        let parts = FirstWords::new(words);
         let from = known_box(&self.names, parts.second)?;
         let to = known_box(&self.names, parts.fourth)?;
         let medium = fixed_medium(parts.first)?;
@@ -53,28 +52,28 @@ impl Reader {
             || from.is_some() && is_misspelt(parts.third)
             || to.is_some() && is_misspelt(parts.fifth)
         {
-            return Err(LineFault { number: 5 });
+            return Err(LineFault { number: WRONG_WORD });
         }
-        let missing = LineFault { number: 6 };
+        let missing = LineFault { number: MISSING_WORD };
         let medium = medium.ok_or(missing)?;
         let from = from.ok_or(missing)?;
         let slot = parts.third.ok_or(missing)?;
         let to = to.ok_or(missing)?;
         let far_slot = parts.fifth.ok_or(missing)?;
         if parts.sixth.is_some() {
-            return Err(LineFault { number: 7 });
+            return Err(LineFault { number: EXTRA_WORD });
         }
         if self.has_slot(from, slot) || self.has_slot(to, far_slot) {
-            return Err(LineFault { number: 9 });
+            return Err(LineFault { number: GIVEN_TWICE });
         }
         if from == to {
-            return Err(LineFault { number: 10 });
+            return Err(LineFault { number: SAME_BOX });
         }
         if self.is_full(from) || self.is_full(to) || CHANNEL_LIMIT <= self.channels.len() {
-            return Err(LineFault { number: 14 });
+            return Err(LineFault { number: LIMIT_PASSED });
         }
         if is_overlong(parts.third) || is_overlong(parts.fifth) {
-            return Err(LineFault { number: 18 });
+            return Err(LineFault { number: NAME_TOO_LONG });
         }
         Ok(ChannelLine {
             medium,
@@ -88,7 +87,7 @@ impl Reader {
     // Whether a box has a slot of this name.
     fn has_slot(&self, who: u32, name: &[u8]) -> bool
         requires { who < length self.now.names.boxes }
-        ensures { result ≡ is_some (place_of (slots_of self.now.names who) name.now) }
+        ensures { result ≡ is_some (place_of (slot_names self.now.names who) name.now) }
     {
         self.names.find_slot(who, name).is_some()
     }
@@ -96,7 +95,7 @@ impl Reader {
     // Whether a box has as many slots as it may have.
     fn is_full(&self, who: u32) -> bool
         requires { who < length self.now.names.boxes }
-        ensures { result ≡ nat_le slot_limit (length (slots_of self.now.names who)) }
+        ensures { result ≡ nat_le SLOT_LIMIT (length (slot_names self.now.names who)) }
     {
         SLOT_LIMIT <= self.names.slot_count(who)
     }

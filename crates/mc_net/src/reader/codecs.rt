@@ -14,10 +14,10 @@ use crate::reader::Reader;
 use crate::section::Section;
 use mc_script::LineFault;
 use mc_script::places::{is_misspelt, is_overlong};
-use mc_text::{Parts, Words};
+use mc_script::rule::{EXTRA_WORD, GIVEN_TWICE, LIMIT_PASSED, MISSING_WORD, NAME_TOO_LONG, WRONG_WORD};
+use mc_text::limit::CODEC_LIMIT;
+use mc_text::{FirstWords, Words};
 use std::alloc::AllocError;
-
-const CODEC_LIMIT: usize = 64;
 
 impl Reader {
     // The name that a `codec` line declares.
@@ -25,24 +25,24 @@ impl Reader {
         ensures read { ReadsAsBy (λ name. name.now) result (least_broken (codec_rules self.now words.entry)) (slice_get words.entry 0) }
         ensures named { IfOk result (λ name. IsTrue (is_name name.now)) }
     {
-        let parts = Parts::new(words);
+        let parts = FirstWords::new(words);
         if self.is_late(Section::Codecs) || is_misspelt(parts.first) {
-            return Err(LineFault { number: 5 });
+            return Err(LineFault { number: WRONG_WORD });
         }
         let Some(name) = parts.first else {
-            return Err(LineFault { number: 6 });
+            return Err(LineFault { number: MISSING_WORD });
         };
         if parts.second.is_some() {
-            return Err(LineFault { number: 7 });
+            return Err(LineFault { number: EXTRA_WORD });
         }
         if self.names.find_codec(name).is_some() {
-            return Err(LineFault { number: 9 });
+            return Err(LineFault { number: GIVEN_TWICE });
         }
         if CODEC_LIMIT <= self.names.codec_count() {
-            return Err(LineFault { number: 14 });
+            return Err(LineFault { number: LIMIT_PASSED });
         }
         if is_overlong(parts.first) {
-            return Err(LineFault { number: 18 });
+            return Err(LineFault { number: NAME_TOO_LONG });
         }
         Ok(name)
     }

@@ -9,13 +9,13 @@ ghost use Rattle.mc_net.specs.Readings.{Declares};
 ghost use Rattle.mc_net.specs.Rules.{begin_rules, command_line_rules};
 
 use crate::fault::ReadFault;
+use crate::limit::COMMAND_LIMIT;
 use crate::reader::Reader;
 use crate::section::Section;
 use mc_script::keyword::CommandWord;
+use mc_script::rule::{EXTRA_WORD, LIMIT_PASSED, UNFINISHED, WRONG_WORD};
 use mc_script::{Command, LineFault, read_kind};
 use mc_text::Words;
-
-const COMMAND_LIMIT: usize = 4096;
 
 impl Reader {
     /// Reads `begin`, behind which no word stands.
@@ -25,13 +25,13 @@ impl Reader {
         ensures in_form { OnOk result (IsInForm self.new) }
     {
         if self.is_late(Section::Begin) {
-            return Err(ReadFault::Line(LineFault { number: 5 }));
+            return Err(ReadFault::Line(LineFault { number: WRONG_WORD }));
         }
         if words.next_word().is_some() {
-            return Err(ReadFault::Line(LineFault { number: 7 }));
+            return Err(ReadFault::Line(LineFault { number: EXTRA_WORD }));
         }
         if self.is_unfinished() {
-            return Err(ReadFault::Line(LineFault { number: 15 }));
+            return Err(ReadFault::Line(LineFault { number: UNFINISHED }));
         }
         self.section = Section::Commands;
         self.begun = true;
@@ -46,10 +46,10 @@ impl Reader {
     {
         let command = read_kind(&self.names, &self.shape, kind, words)?;
         if COMMAND_LIMIT <= self.commands.len() {
-            return Err(LineFault { number: 14 });
+            return Err(LineFault { number: LIMIT_PASSED });
         }
         if self.is_unfinished() {
-            return Err(LineFault { number: 15 });
+            return Err(LineFault { number: UNFINISHED });
         }
         Ok(command)
     }

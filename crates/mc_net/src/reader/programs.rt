@@ -14,6 +14,7 @@ use crate::section::{Keyword, Section};
 use mc_box::Shape;
 use mc_script::LineFault;
 use mc_script::keyword::CommandWord;
+use mc_script::rule::WRONG_WORD;
 use mc_text::Words;
 
 impl Reader {
@@ -61,7 +62,7 @@ impl Reader {
     {
         match (self.section, self.blocks.last_mut()) {
             (Section::Programs, Some(block)) => Ok(block.read_goal(&self.names, words)?),
-            _ => Err(ReadFault::Line(LineFault { number: 5 })),
+            _ => Err(ReadFault::Line(LineFault { number: WRONG_WORD })),
         }
     }
 
@@ -73,7 +74,7 @@ impl Reader {
     {
         match (self.section, self.blocks.last_mut()) {
             (Section::Programs, Some(block)) => block.read_when(&mut self.names, words),
-            _ => Err(ReadFault::Line(LineFault { number: 5 })),
+            _ => Err(ReadFault::Line(LineFault { number: WRONG_WORD })),
         }
     }
 
@@ -97,7 +98,7 @@ impl Reader {
         ensures in_form { OnOk result (IsInForm self.new) }
     {
         match self.blocks.last_mut() {
-            None => Err(ReadFault::Line(LineFault { number: 5 })),
+            None => Err(ReadFault::Line(LineFault { number: WRONG_WORD })),
             Some(block) => Ok(block.read_link(&self.names, &self.shape, words)?),
         }
     }

@@ -81,10 +81,10 @@ impl World {
             return Err(StepFault::NotEnabled);
         };
         let lane = self.lane_to(slot);
-        make_room(&mut self.lanes, &self.ways, who, MOST_SENT)?;
+        make_room(&mut self.lanes, &self.topology, who, MOST_SENT)?;
         let actor = &mut self.boxes[who as usize];
         let sends = actor.take(local, signal);
-        relay(&mut self.lanes, lane, &self.ways, who, &sends);
+        relay(&mut self.lanes, lane, &self.topology, who, &sends);
         Ok(())
     }
 
@@ -103,14 +103,14 @@ impl World {
             return Err(StepFault::VersionEnd);
         }
         let most = 2 * actor.slots().len();
-        make_room(&mut self.lanes, &self.ways, who, most)?;
+        make_room(&mut self.lanes, &self.topology, who, most)?;
         let mut sends = Lane::new(self.alloc);
         sends.reserve(most)?;
         let actor = &mut self.boxes[who as usize];
         if actor.act(event, &mut sends).is_err() {
             unreachable!()
         }
-        send_lane(&mut self.lanes, &self.ways, who, &sends);
+        send_lane(&mut self.lanes, &self.topology, who, &sends);
         Ok(())
     }
 }

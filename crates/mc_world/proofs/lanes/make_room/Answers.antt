@@ -1,8 +1,8 @@
 use Rattle.std.proofs.Common.{ap, length, arith}
-use Rattle.mc_world.proofs.Homes.{room_from}
+use Rattle.mc_world.proofs.SlotNumbers.{room_from}
 use Rattle.mc_world.proofs.lanes.make_room.Goals as goal
 
 pub returns-clause-room : goal.returns-clause-room
 returns-clause-room c =
-    room_from c.loop-slot.lanes c.args.ways.now (length c.args.lanes.now) c.args.who c.args.most c.requires
+    room_from c.loop-slot.lanes c.args.topology.now (length c.args.lanes.now) c.args.who c.args.most c.requires
     (λ local inside. c.loop-slot.invariant.room local (omega (arith, inside, c.loop-slot-test.false, ap length c.numbers-slot-items.ensures)))

@@ -7,5 +7,5 @@ use Rattle.mc_world.proofs.lanes.make_room.Given as goal
 abbrev pub invariant-loop-slot : goal.invariant-loop-slot
 invariant-loop-slot l = record {
   same : signals_of l.lanes ≡ signals_of l.initial.lanes;
-  room : (local : ℕ) → local < l.slot-index → HasRoom l.lanes (lane_by l.ways (far (get_or (numbers_of l.ways l.who) local 0))) l.most;
+  room : (local : ℕ) → local < l.slot-index → HasRoom l.lanes (lane_by l.topology (far (get_or (numbers_of l.topology l.who) local 0))) l.most;
 }

@@ -10,15 +10,15 @@ use Rattle.mc_world.proofs.lanes.send_all.Goals as goal
 pub send-requires-clause-room : goal.send-requires-clause-room
 send-requires-clause-room c s below who =
     let left : c.loop-sending.sending-index < c.args.sends.now.len = grind (arith, common_steps) in
-    c.loop-sending.invariant.room (lane_by c.args.ways.now (far s)) 1 (λ e. omega (arith, c.requires.room s below who e, left))
+    c.loop-sending.invariant.room (lane_by c.args.topology.now (far s)) 1 (λ e. omega (arith, c.requires.room s below who e, left))
 
 pub loop-sending-preserved : goal.loop-sending-preserved
 loop-sending-preserved c =
     let items : List (ℕ × Signal) = take c.args.sends.now.len c.args.sends.now.at in
     record {
       sent = c.send.ensures.sent
-          ∙ (ap (λ (lanes : List (List Tagged)). one_sent c.args.ways.now c.args.who lanes c.sending-item.result) c.loop-sending.invariant.sent
-          ∙ (ap (λ (sending : ℕ × Signal). one_sent c.args.ways.now c.args.who (all_sent c.args.ways.now c.args.who (signals_of c.args.lanes.now) (take c.loop-sending.sending-index items)) sending) c.sending-item.is
-          ∙ sym (fold_more (one_sent c.args.ways.now c.args.who) (signals_of c.args.lanes.now) items c.loop-sending.sending-index c.sending-item.result c.loop-sending-test.true)));
+          ∙ (ap (λ (lanes : List (List Tagged)). one_sent c.args.topology.now c.args.who lanes c.sending-item.result) c.loop-sending.invariant.sent
+          ∙ (ap (λ (sending : ℕ × Signal). one_sent c.args.topology.now c.args.who (all_sent c.args.topology.now c.args.who (signals_of c.args.lanes.now) (take c.loop-sending.sending-index items)) sending) c.sending-item.is
+          ∙ sym (fold_more (one_sent c.args.topology.now c.args.who) (signals_of c.args.lanes.now) items c.loop-sending.sending-index c.sending-item.result c.loop-sending-test.true)));
       room = λ k count room. c.send.ensures.room k count (c.loop-sending.invariant.room k (count + 1) (λ e. omega (arith, room e)));
     }

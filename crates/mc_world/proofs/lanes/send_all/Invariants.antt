@@ -5,6 +5,6 @@ use Rattle.mc_world.proofs.lanes.send_all.Given as goal
 -- the sendings so far have gone away, and each lane has as much less room at most
 abbrev pub invariant-loop-sending : goal.invariant-loop-sending
 invariant-loop-sending l = record {
-  sent : signals_of l.lanes ≡ all_sent l.ways l.who (signals_of l.initial.lanes) (take l.sending-index l.sending-items);
+  sent : signals_of l.lanes ≡ all_sent l.topology l.who (signals_of l.initial.lanes) (take l.sending-index l.sending-items);
   room : (k count : ℕ) → HasRoom l.initial.lanes k (count + l.sending-index) → HasRoom l.lanes k count;
 }

@@ -5,6 +5,6 @@ use Rattle.mc_world.proofs.lanes.send_lane.Given as goal
 -- the sendings so far have gone away, and each lane has as much less room at most
 abbrev pub invariant-loop-i : goal.invariant-loop-i
 invariant-loop-i l = record {
-  sent : signals_of l.lanes ≡ all_sent l.ways l.who (signals_of l.initial.lanes) (take l.i l.sends.items);
+  sent : signals_of l.lanes ≡ all_sent l.topology l.who (signals_of l.initial.lanes) (take l.i l.sends.items);
   room : (k count : ℕ) → HasRoom l.initial.lanes k (count + l.i) → HasRoom l.lanes k count;
 }

@@ -8,17 +8,17 @@ use Rattle.mc_box.specs.BoxEvents.{Appends, box_event, is_enabled, is_version_en
 use Rattle.mc_box.specs.Boxes.{BoxState}
 use Rattle.mc_world.specs.Lanes.{IsLaid, all_sent, signals_of}
 use Rattle.mc_model.specs.Steps.{step_by}
-use Rattle.mc_world.specs.Tables.{world_of}
+use Rattle.mc_world.specs.Tables.{world_state}
 use Rattle.mc_model.specs.Worlds.{box_at}
 use Rattle.mc_world.proofs.LaneChanges.{Lane, length_kept, signals_kept, signals_written}
 use Rattle.mc_world.proofs.Tables.{box_read}
-use Rattle.mc_world.proofs.WayLanes.{tables_laid}
+use Rattle.mc_world.proofs.TopologyLanes.{tables_laid}
 use Rattle.mc_world.proofs.WorldSteps.{act_goes, act_made, done_of, step_tables}
 use Rattle.mc_world.proofs.network.World.act.Goals as goal
 
 pub make_room-requires : goal.make_room-requires
 make_room-requires c =
-    subst (λ (n : ℕ). IsLaid c.self.inside.ways n) (sym (ap (λ (l : List Lane). length l) c.deref_mut.ensures.value)) (tables_laid c.self.inside c.self.invariant)
+    subst (λ (n : ℕ). IsLaid c.self.inside.topology n) (sym (ap (λ (l : List Lane). length l) c.deref_mut.ensures.value)) (tables_laid c.self.inside c.self.invariant)
 
 pub returns-in_err-make_room : goal.returns-in_err-make_room
 returns-in_err-make_room c =
@@ -29,7 +29,7 @@ returns-in_err-make_room c =
       act_goes c.args.self.now c.args.who c.args.event c.requires.sound c.requires.here c.requires.other
           (subst (λ (box : BoxState). is_enabled box c.args.event ≡ true) actor (sym c.enabled.ensures ∙ c.if-not-enabled.false))
           (subst (λ (box : BoxState). is_version_end box c.args.event ≡ false) actor (sym c.is_version_end.ensures ∙ c.if-is_version_end.false)),
-      ap (λ (l : List (List Tagged)). record (world_of c.self.inside) { lanes = l }) lanes ∙ c.self.view_is,
+      ap (λ (l : List (List Tagged)). record (world_state c.self.inside) { lanes = l }) lanes ∙ c.self.view_is,
     )
 
 pub returns-in_err-reserve : goal.returns-in_err-reserve
@@ -41,18 +41,18 @@ returns-in_err-reserve c =
       act_goes c.args.self.now c.args.who c.args.event c.requires.sound c.requires.here c.requires.other
           (subst (λ (box : BoxState). is_enabled box c.args.event ≡ true) actor (sym c.enabled.ensures ∙ c.if-not-enabled.false))
           (subst (λ (box : BoxState). is_version_end box c.args.event ≡ false) actor (sym c.is_version_end.ensures ∙ c.if-is_version_end.false)),
-      ap (λ (l : List (List Tagged)). record (world_of c.self.inside) { lanes = l }) lanes ∙ c.self.view_is,
+      ap (λ (l : List (List Tagged)). record (world_state c.self.inside) { lanes = l }) lanes ∙ c.self.view_is,
     )
 
 pub send_lane-requires-clause-laid : goal.send_lane-requires-clause-laid
 send_lane-requires-clause-laid c =
-    subst (λ (n : ℕ). IsLaid c.self.inside.ways n)
+    subst (λ (n : ℕ). IsLaid c.self.inside.topology n)
     (sym (length_kept c.self.inside.lanes c.deref_mut.result.now c.make_room.new.lanes c.deref_mut-2.result.now c.deref_mut.ensures.value c.make_room.auto.lanes c.deref_mut-2.ensures.value))
     (tables_laid c.self.inside c.self.invariant)
 
 -- the world that was left is the next one
 stepped : (c : goal.After-drop-sends-inside-2) → step_by c.args.self.now c.args.who c.args.event
-    ≡ Some (world_of (record c.self.inside {
+    ≡ Some (world_state (record c.self.inside {
       boxes = with_item c.self.inside.boxes c.args.who c.act.new.self;
       lanes = with_items (with_items c.self.inside.lanes c.make_room.new.lanes) c.send_lane.new.lanes;
     }))
@@ -61,15 +61,15 @@ stepped c =
     let none : c.reserve.new.self.items ≡ [] = c.reserve.ensures.items ∙ ap (λ (q : Queue (ℕ × Signal)). q.items) c.new-sends.ensures in
     let sent_is : c.act.new.out.items ≡ made.sent = made.appended ∙ ap (λ (l : List (ℕ × Signal)). l ++ made.sent) none in
     let lanes : signals_of (with_items (with_items c.self.inside.lanes c.make_room.new.lanes) c.send_lane.new.lanes).items
-    ≡ all_sent c.self.inside.ways c.args.who (signals_of c.self.inside.lanes.items) c.act.new.out.items =
+    ≡ all_sent c.self.inside.topology c.args.who (signals_of c.self.inside.lanes.items) c.act.new.out.items =
     signals_written c.self.inside.lanes c.deref_mut.result.now c.make_room.new.lanes c.deref_mut-2.result.now c.send_lane.new.lanes
-    (λ (lanes : List (List Tagged)). all_sent c.self.inside.ways c.args.who lanes c.act.new.out.items)
+    (λ (lanes : List (List Tagged)). all_sent c.self.inside.topology c.args.who lanes c.act.new.out.items)
     c.deref_mut.ensures.value c.make_room.auto.lanes c.make_room.ensures.same c.deref_mut-2.ensures.value c.send_lane.auto.lanes c.send_lane.ensures in
     let actor = box_read c.self.inside c.args.self.now c.args.who c.index_mut-actor.result.now c.self.view_is c.requires.here c.index_mut-actor.ensures.value in
     let goes : box_event (box_at c.args.self.now c.args.who) c.args.event None ≡ Some (record { sent = made.sent; after = c.act.new.self }) =
     subst (λ (box : BoxState). box_event box c.args.event None ≡ Some (record { sent = made.sent; after = c.act.new.self })) actor made.goes in
     act_made c.self.inside c.args.self.now c.args.who c.args.event (record { sent = made.sent; after = c.act.new.self }) _ c.self.invariant c.self.view_is c.requires.other goes
-    (lanes ∙ ap (λ (l : List (ℕ × Signal)). all_sent c.self.inside.ways c.args.who (signals_of c.self.inside.lanes.items) l) sent_is)
+    (lanes ∙ ap (λ (l : List (ℕ × Signal)). all_sent c.self.inside.topology c.args.who (signals_of c.self.inside.lanes.items) l) sent_is)
 
 pub returns : goal.returns
 returns c = stepped c

@@ -7,9 +7,9 @@ use Rattle.mc_box.specs.Boxes.{BoxState}
 use Rattle.mc_world.specs.Lanes.{origins, signals_of}
 use Rattle.mc_model.specs.Sound.{IsSound}
 use Rattle.mc_model.specs.Worlds.{ChannelState, WorldState, first_world, is_place, places_among}
-use Rattle.mc_world.proofs.Homes.{found_by}
+use Rattle.mc_world.proofs.SlotNumbers.{found_by}
 use Rattle.mc_laws.proofs.NewWorlds.{first_is_sound}
-use Rattle.mc_world.proofs.JointTables.{few_slots}
+use Rattle.mc_world.proofs.TunnelTables.{few_slots}
 use Rattle.mc_world.proofs.network.World.new.Goals as goal
 
 -- a world, by its parts
@@ -23,17 +23,17 @@ invariant_of-result c =
     let lanes : length c.in_ok-lanes.lanes.items ≡ 2 * c.len.result =
     sym (length-map c.in_ok-lanes.lanes.items (λ (lane : Queue Tagged). lane.items)) ∙ ap (λ (l : List (List Tagged)). length l) c.in_ok-lanes.ensures ∙ length-replicate (2 * c.len.result) _ in
     let none : signals_of c.in_ok-lanes.lanes.items ≡ replicate (2 * length c.args.channels.items) [] = rw (c.len.ensures, c.args.channels.ok.0) at c.in_ok-lanes.ensures in
-    let homes : map (λ (numbers : Vec ℕ Global). numbers.items) c.in_ok-homes.homes.items ≡ map origins c.args.boxes.items = search rules in
+    let numbers : map (λ (numbers : Vec ℕ Global). numbers.items) c.in_ok-numbers.numbers.items ≡ map origins c.args.boxes.items = search rules in
     let first : first_world c.args.boxes.items c.args.channels.items ≡ world_with c.args.boxes.items c.args.channels.items (signals_of c.in_ok-lanes.lanes.items) =
     ap (world_with c.args.boxes.items c.args.channels.items) (sym none) in
     let most : length c.args.channels.items ≤ 2 ^ 28 = c.requires.channels.few in
     record {
       channels = c.requires.channels;
       places = places;
-      joints = search rules;
+      tunnels = search rules;
       found = λ who local.
-          found_by (first_world c.args.boxes.items c.args.channels.items) (record { places = c.in_ok-places.places; joints = c.in_ok-joints.joints; homes = c.in_ok-homes.homes }) who local
-          c.requires.numbered homes
+          found_by (first_world c.args.boxes.items c.args.channels.items) (record { places = c.in_ok-places.places; tunnels = c.in_ok-tunnels.tunnels; numbers = c.in_ok-numbers.numbers }) who local
+          c.requires.numbered numbers
           ∙ ap (position (is_place (who, local))) (sym places);
       few = rw places (omega arith);
       lanes = omega arith;

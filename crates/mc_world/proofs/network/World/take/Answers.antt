@@ -7,20 +7,20 @@ use Rattle.mc_box.specs.BoxEvents.{box_event}
 use Rattle.mc_box.specs.Boxes.{BoxState}
 use Rattle.mc_world.specs.Lanes.{IsLaid, all_sent, signals_of, without_front}
 use Rattle.mc_model.specs.Steps.{step_by}
-use Rattle.mc_world.specs.Tables.{world_of}
+use Rattle.mc_world.specs.Tables.{world_state}
 use Rattle.mc_model.specs.Worlds.{box_at, number}
 use Rattle.mc_box.specs.declared.event.Event.TheVariants.{Take}
 use Rattle.mc_world.proofs.LaneChanges.{Lane, length_kept, room_kept, signals_kept, signals_written}
 use Rattle.mc_laws.proofs.Numbers.{number_is}
 use Rattle.mc_laws.proofs.StepKeeps.{front_is_taken}
 use Rattle.mc_world.proofs.Tables.{box_read}
-use Rattle.mc_world.proofs.WayLanes.{tables_laid}
+use Rattle.mc_world.proofs.TopologyLanes.{tables_laid}
 use Rattle.mc_world.proofs.WorldSteps.{number_inside, number_slot, step_tables, take_enabled, take_made}
 use Rattle.mc_world.proofs.network.World.take.Goals as goal
 
 pub make_room-requires : goal.make_room-requires
 make_room-requires c =
-    subst (λ (n : ℕ). IsLaid c.self.inside.ways n) (sym (ap (λ (l : List Lane). length l) c.deref_mut.ensures.value)) (tables_laid c.self.inside c.self.invariant)
+    subst (λ (n : ℕ). IsLaid c.self.inside.topology n) (sym (ap (λ (l : List Lane). length l) c.deref_mut.ensures.value)) (tables_laid c.self.inside c.self.invariant)
 
 pub returns-in_err-make_room : goal.returns-in_err-make_room
 returns-in_err-make_room c =
@@ -28,7 +28,7 @@ returns-in_err-make_room c =
     let lanes = signals_kept c.self.inside.lanes c.deref_mut.result.now c.make_room.new.lanes c.deref_mut.ensures.value c.make_room.auto.lanes c.make_room.ensures.same in
     rw (p.1, p.2) (
       take_enabled c.args.self.now c.args.who c.args.local c.in-Some.slot c.in-Some-front.signal c.requires.sound (sym c.number.ensures ∙ c.in-Some.is) (sym c.front.ensures ∙ c.in-Some-front.is),
-      ap (λ (l : List (List Tagged)). record (world_of c.self.inside) { lanes = l }) lanes ∙ c.self.view_is,
+      ap (λ (l : List (List Tagged)). record (world_state c.self.inside) { lanes = l }) lanes ∙ c.self.view_is,
     )
 
 pub take-sends-requires-clause-here : goal.take-sends-requires-clause-here
@@ -46,26 +46,26 @@ take-sends-requires-clause-lawful c =
 
 pub relay-requires-clause-laid : goal.relay-requires-clause-laid
 relay-requires-clause-laid c =
-    subst (λ (n : ℕ). IsLaid c.self.inside.ways n)
+    subst (λ (n : ℕ). IsLaid c.self.inside.topology n)
     (sym (length_kept c.self.inside.lanes c.deref_mut.result.now c.make_room.new.lanes c.deref_mut-2.result.now c.deref_mut.ensures.value c.make_room.auto.lanes c.deref_mut-2.ensures.value))
     (tables_laid c.self.inside c.self.invariant)
 
 pub relay-requires-clause-room : goal.relay-requires-clause-room
 relay-requires-clause-room c =
-    room_kept c.self.inside.lanes c.deref_mut.result.now c.make_room.new.lanes c.deref_mut-2.result.now c.self.inside.ways c.args.who (length c.self.inside.ways.places.items) 4 c.take-sends.result.len
+    room_kept c.self.inside.lanes c.deref_mut.result.now c.make_room.new.lanes c.deref_mut-2.result.now c.self.inside.topology c.args.who (length c.self.inside.topology.places.items) 4 c.take-sends.result.len
     c.deref_mut.ensures.value c.make_room.auto.lanes c.deref_mut-2.ensures.value c.take-sends.result.short c.in_ok-make_room.ensures.room
 
 -- the world that was left is the next one
 stepped : (c : goal.After-self-3-1) → step_by c.args.self.now c.args.who (Take c.args.local)
-    ≡ Some (world_of (record c.self.inside {
+    ≡ Some (world_state (record c.self.inside {
       boxes = with_item c.self.inside.boxes c.args.who c.take-sends.new.self;
       lanes = with_items (with_items c.self.inside.lanes c.make_room.new.lanes) c.relay.new.lanes;
     }))
 stepped c =
     let lanes : signals_of (with_items (with_items c.self.inside.lanes c.make_room.new.lanes) c.relay.new.lanes).items
-    ≡ all_sent c.self.inside.ways c.args.who (without_front (signals_of c.self.inside.lanes.items) c.lane_to-lane.result) (sends_of c.take-sends.result) =
+    ≡ all_sent c.self.inside.topology c.args.who (without_front (signals_of c.self.inside.lanes.items) c.lane_to-lane.result) (sends_of c.take-sends.result) =
     signals_written c.self.inside.lanes c.deref_mut.result.now c.make_room.new.lanes c.deref_mut-2.result.now c.relay.new.lanes
-    (λ (lanes : List (List Tagged)). all_sent c.self.inside.ways c.args.who (without_front lanes c.lane_to-lane.result) (sends_of c.take-sends.result))
+    (λ (lanes : List (List Tagged)). all_sent c.self.inside.topology c.args.who (without_front lanes c.lane_to-lane.result) (sends_of c.take-sends.result))
     c.deref_mut.ensures.value c.make_room.auto.lanes c.make_room.ensures.same c.deref_mut-2.ensures.value c.relay.auto.lanes c.relay.ensures in
     let actor = box_read c.self.inside c.args.self.now c.args.who c.index_mut-actor.result.now c.self.view_is c.requires.here c.index_mut-actor.ensures.value in
     let goes : box_event (box_at c.args.self.now c.args.who) (Take c.args.local) (Some c.in-Some-front.signal) ≡ Some (record { sent = sends_of c.take-sends.result; after = c.take-sends.new.self }) =

@@ -1,0 +1,19 @@
+//! The limits of a text and of what it declares, which clauses cite.
+
+/// The most bytes of a text.
+pub const TEXT_LIMIT: usize = 1_048_576;
+
+/// The most codecs of a `dev` line.
+pub const LIST_LIMIT: u8 = 8;
+
+/// The most channels.
+pub const CHANNEL_LIMIT: usize = 1024;
+
+/// The most states of a program.
+pub const STATE_LIMIT: u8 = 64;
+
+/// The most transitions of a state.
+pub const TRANSITION_LIMIT: usize = 16;
+
+/// The most commands, settles included.
+pub const COMMAND_LIMIT: usize = 4096;

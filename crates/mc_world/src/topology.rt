@@ -1,0 +1,70 @@
+// Where slots stand, and how signals go from them.
+
+ghost use Rattle.std.specs.Prelude.{◌≡◌, ◌<◌, ◌/◌, IfOk, length, map};
+ghost use Rattle.std.specs.List.{slice_get};
+ghost use Rattle.mc_world.specs.Lanes.{lane_by, numbers_of, origins, tunnel_by};
+ghost use Rattle.mc_model.specs.Worlds.{far};
+
+use mc_box::MediaBox;
+use std::alloc::{AllocError, Global};
+
+/// The tables of a world: the box and local number of each slot, for each tunnel its channel and its number within
+/// the channel, and for each box the numbers of its slots.
+#[derive(Debug, Drop)]
+pub struct Topology {
+    pub places: Vec<(u32, u8)>,
+    pub tunnels: Vec<(u32, u8)>,
+    pub numbers: Vec<Vec<u32>>,
+}
+
+impl Topology {
+    /// The numbers of a box's slots, in the order of their local numbers; none where there is no such box.
+    pub fn numbers(&self, who: u32) -> &[u32]
+        ensures { result.now ≡ numbers_of self.now who }
+    {
+        match self.numbers.get(who as usize) {
+            Some(numbers) => numbers,
+            None => &[],
+        }
+    }
+
+    /// The number of a box's slot.
+    pub fn number(&self, who: u32, local: u8) -> Option<u32>
+        ensures { result ≡ slice_get (numbers_of self.now who) local }
+    {
+        self.numbers(who).get(local as usize).copied()
+    }
+
+    /// The lane that leads away from a slot, and the number of the slot's tunnel within its channel.
+    pub fn away(&self, slot: usize) -> (usize, u8)
+        requires { slot / 2 < length self.now.tunnels.items }
+        ensures lane { result.0 ≡ lane_by self.now (far slot) }
+        ensures tunnel { result.1 ≡ tunnel_by self.now (far slot) }
+    {
+        let (channel, tunnel) = self.tunnels[slot / 2];
+        (2 * channel as usize + (1 - slot % 2), tunnel)
+    }
+}
+
+/// The numbers of the slots of each of these boxes.
+pub fn numbers_among(alloc: Global, boxes: &[MediaBox]) -> Result<Vec<Vec<u32>>, AllocError>
+    ensures { IfOk result (λ numbers. map (λ numbers. numbers.items) numbers.items ≡ map origins boxes.now) }
+{
+    let mut numbers = Vec::new(alloc);
+    for home in boxes {
+        numbers.push(numbers_in(alloc, home)?)?;
+    }
+    Ok(numbers)
+}
+
+// The numbers of a box's slots, which its descriptors have as origins.
+fn numbers_in(alloc: Global, home: &MediaBox) -> Result<Vec<u32>, AllocError>
+    ensures { IfOk result (λ numbers. numbers.items ≡ origins home.now) }
+{
+    home.keeps();
+    let mut numbers = Vec::new(alloc);
+    for local in 0..home.slots().len() {
+        numbers.push(home.own(local as u8).origin)?;
+    }
+    Ok(numbers)
+}
