@@ -6,7 +6,7 @@ use Rattle.std.proofs.lemmas.Grind.{common_steps}
 use Rattle.mc_box.specs.BoxEvents.{is_command}
 use Rattle.mc_box.specs.Boxes.{BoxState}
 use Rattle.mc_box.specs.LinkFree.{is_linking}
-use Rattle.mc_box.specs.LinkFree as of_box
+use Rattle.mc_box.specs.LinkFree.{IsUnlinked}
 use Rattle.mc_box.specs.declared.event.Event.{Event}
 use Rattle.mc_box.specs.declared.event.Event.TheVariants.{Take, Set, Media, Tell, Retry, Shift}
 use Rattle.mc_box.specs.declared.event.Turn.{Turn}
@@ -22,12 +22,12 @@ use Rattle.mc_laws.proofs.StepKeeps.{step_keeps_sound}
 -- ---- steps and runs
 
 -- the box that acted is still without links, and the others stay
-free_after : (world next : WorldState) (who box : ℕ) (event : Event) → HasNoLinks world → is_linking event ≡ false → Turned world next who event → of_box.HasNoLinks (box_at next box)
+free_after : (world next : WorldState) (who box : ℕ) (event : Event) → HasNoLinks world → is_linking event ≡ false → Turned world next who event → IsUnlinked (box_at next box)
 free_after world next who box event free none turned = elim (cases_eq box who) [
   | inl is ↦
-      subst (λ (b : ℕ). of_box.HasNoLinks (box_at next b)) (sym is)
-      (subst (λ (b : BoxState). of_box.HasNoLinks b) (sym turned.after) (event_keeps_link_free (box_at world who) event turned.signal turned.step (free who) none turned.goes))
-  | inr away ↦ subst (λ (b : BoxState). of_box.HasNoLinks b) (sym (turned.stepped.boxes box away)) (free box)
+      subst (λ (b : ℕ). IsUnlinked (box_at next b)) (sym is)
+      (subst (λ (b : BoxState). IsUnlinked b) (sym turned.after) (event_keeps_link_free (box_at world who) event turned.signal turned.step (free who) none turned.goes))
+  | inr away ↦ subst (λ (b : BoxState). IsUnlinked b) (sym (turned.stepped.boxes box away)) (free box)
 ]
 
 pub step_keeps_link_free : (world next : WorldState) (turn : Turn) → IsLinkFree world → is_linking turn.event ≡ false → step world turn ≡ Some next → IsLinkFree next

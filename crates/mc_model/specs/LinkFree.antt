@@ -2,7 +2,7 @@
 use Rattle.std.specs.Prelude.{◌≡◌, ℕ, List, IsFalse, Some}
 use Rattle.std.specs.List.{list_any}
 use Rattle.mc_box.specs.LinkFree.{is_linking}
-use Rattle.mc_box.specs.LinkFree as of_box
+use Rattle.mc_box.specs.LinkFree.{IsUnlinked}
 use Rattle.mc_box.specs.declared.event.Turn.{Turn}
 use Rattle.mc_model.specs.Sound.{IsSound}
 use Rattle.mc_model.specs.Steps.{run}
@@ -10,7 +10,7 @@ use Rattle.mc_model.specs.Worlds.{WorldState, box_at}
 
 -- no slot of any box is linked
 abbrev pub HasNoLinks : WorldState → Type 0
-HasNoLinks world = (who : ℕ) → of_box.HasNoLinks (box_at world who)
+HasNoLinks world = (who : ℕ) → IsUnlinked (box_at world who)
 
 -- a sound world without links
 pub record IsLinkFree (world : WorldState) : Type 0 where
