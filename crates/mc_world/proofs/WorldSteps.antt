@@ -144,7 +144,7 @@ step_tables inside world who event boxes lanes has view here goes =
     record {
       channels = has.channels;
       places = has.places;
-      all_tunnels = has.tunnels;
+      tunnels = has.tunnels;
       found = has.found;
       few = has.few;
       lanes = sym (length-map lanes.items (λ (lane : Queue Tagged). lane.items)) ∙ kept.numbered.lanes;
