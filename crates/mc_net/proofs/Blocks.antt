@@ -7,7 +7,7 @@ use Rattle.mc_box.specs.BoxShapes.{BoxShapeState, shape_of}
 use Rattle.mc_script.specs.Places.{Fits}
 use Rattle.mc_net.specs.Meaning.{with_program}
 use Rattle.mc_net.specs.Forms.{IsOpenIn}
-use Rattle.mc_net.specs.Programs.{BlockState, FitsBox}
+use Rattle.mc_program.specs.Programs.{BlockState, FitsBox}
 
 at_length : {A : Type 0} (xs : List A) (x : A) → slice_get (xs ++ x ∷ []) (length xs) ≡ Some x
 at_length [] x = refl

@@ -13,7 +13,7 @@ use Rattle.mc_text.specs.NameLists.{NameLists, place_of}
 use Rattle.mc_net.specs.Listing.{can_add, is_codec}
 use Rattle.mc_net.specs.Meaning.{codec_number}
 use Rattle.mc_net.specs.Rules.{lists_undeclared}
-use Rattle.mc_net.specs.WordLists.{has_repeat}
+use Rattle.mc_program.specs.WordLists.{has_repeat}
 use Rattle.mc_net.specs.declared.limit.TheConstants.{LIST_LIMIT}
 
 -- declared codecs, at most eight and none twice

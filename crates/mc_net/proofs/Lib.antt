@@ -14,4 +14,3 @@ pub mod Named
 pub mod Reading
 pub mod Small
 pub mod Unfinished
-pub mod WordLists

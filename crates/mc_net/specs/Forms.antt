@@ -2,7 +2,7 @@
 use Rattle.std.specs.Prelude.{Option, Some, None}
 use Rattle.mc_text.specs.NameLists.{NameLists}
 use Rattle.mc_script.specs.Places.{Fits}
-use Rattle.mc_net.specs.Programs.{BlockState, FitsBox}
+use Rattle.mc_program.specs.Programs.{BlockState, FitsBox}
 use Rattle.mc_net.specs.Rules.{open_block}
 use Rattle.mc_net.specs.SoFar.{Declared}
 

@@ -3,10 +3,7 @@ pub mod Forms
 pub mod Listing
 pub mod Meaning
 pub mod Nets
-pub mod Programs
-pub mod Readings
 pub mod Rules
 pub mod SoFar
 pub mod TextLaws
 pub mod Texts
-pub mod WordLists

@@ -16,7 +16,7 @@ use Rattle.mc_script.specs.Places.{box_named, meant}
 use Rattle.mc_script.specs.declared.keyword.CommandWord.{CommandWord}
 use Rattle.mc_script.specs.declared.keyword.CommandWord.TheVariants as command
 use Rattle.mc_net.specs.Rules.{begins_digit, codec_words, is_skipped, keyword_of, spelt_medium, open_block}
-use Rattle.mc_net.specs.Programs.{◌>>=◌, BlockState, block_goal_after, block_link_after, block_when_after, new_block, with_new_part}
+use Rattle.mc_program.specs.Programs.{◌>>=◌, BlockState, block_goal_after, block_link_after, block_when_after, new_block, with_new_part}
 use Rattle.mc_net.specs.SoFar.{BoxMedia, Declared, no_box_media}
 use Rattle.mc_net.specs.declared.section.Keyword.{Keyword}
 use Rattle.mc_net.specs.declared.section.Keyword.TheVariants as keyword

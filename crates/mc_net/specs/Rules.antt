@@ -15,9 +15,9 @@ use Rattle.mc_script.specs.Rules.{byte_rules, kind_rules, least_broken}
 use Rattle.mc_script.specs.declared.keyword.CommandWord.{CommandWord}
 use Rattle.mc_script.specs.declared.keyword.CommandWord.TheVariants as command
 use Rattle.mc_script.specs.declared.rule.TheConstants.{EXTRA_WORD, GIVEN_TWICE, LIMIT_PASSED, MISSING_WORD, NAME_TOO_LONG, NO_BEGIN, NO_VERSION_LINE, SAME_BOX, TEXT_TOO_LONG, UNDECLARED, UNFINISHED, WRONG_VERSION, WRONG_WORD}
-use Rattle.mc_net.specs.Programs.{BlockState, block_goal_rules, block_link_rules, block_when_rules, in_block, is_unfinished_block, new_part_rules, new_program_rules}
+use Rattle.mc_program.specs.Programs.{BlockState, block_goal_rules, block_link_rules, block_when_rules, in_block, is_unfinished_block, new_part_rules, new_program_rules}
 use Rattle.mc_net.specs.SoFar.{Declared}
-use Rattle.mc_net.specs.WordLists.{has_repeat}
+use Rattle.mc_program.specs.WordLists.{has_repeat}
 use Rattle.mc_net.specs.declared.section.Keyword.{Keyword}
 use Rattle.mc_net.specs.declared.section.Keyword.TheVariants as keyword
 use Rattle.mc_net.specs.declared.section.Section.{Section}

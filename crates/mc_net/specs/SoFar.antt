@@ -4,7 +4,7 @@ use Rattle.mc_text.specs.NameLists.{NameLists, no_names}
 use Rattle.mc_box.specs.BoxShapes.{BoxShapeState}
 use Rattle.mc_model.specs.Worlds.{ChannelState}
 use Rattle.mc_script.specs.declared.command.Command.{Command}
-use Rattle.mc_net.specs.Programs.{BlockState}
+use Rattle.mc_program.specs.Programs.{BlockState}
 use Rattle.mc_net.specs.declared.section.Section.{Section}
 use Rattle.mc_net.specs.declared.section.Section.TheVariants as section
 

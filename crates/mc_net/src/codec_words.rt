@@ -6,12 +6,12 @@ ghost use Rattle.std.specs.Str.{bytes_eq};
 ghost use Rattle.mc_signal.specs.Choice.{codecs_of};
 ghost use Rattle.mc_net.specs.Listing.{can_add};
 ghost use Rattle.mc_net.specs.Meaning.{codec_number, version_of};
-ghost use Rattle.mc_net.specs.WordLists.{has_repeat};
+ghost use Rattle.mc_program.specs.WordLists.{has_repeat};
 ghost use Rattle.mc_net.specs.Rules.{codec_words, gives_version, has_bad_version, lists_undeclared};
 
 use crate::limit::LIST_LIMIT;
 use crate::places::begins_digit;
-use crate::word_list::are_more_than;
+use mc_program::word_list::are_more_than;
 use mc_signal::CodecList;
 use mc_text::{Names, Words, read_number};
 

@@ -1,11 +1,9 @@
 //! Why a text isn't taken.
 
-ghost use Rattle.std.specs.Prelude.{◌≡◌, alloc_error};
+ghost use Rattle.std.specs.Prelude.{◌≡◌};
 ghost use Rattle.mc_net.specs.declared.fault.NetFault.TheVariants as net;
-ghost use Rattle.mc_net.specs.declared.fault.ReadFault.TheVariants as read;
 
-use mc_script::LineFault;
-use std::alloc::{AllocError, AllocFailed};
+use std::alloc::AllocError;
 use thiserror::Error;
 
 /// The first line of a text that breaks a rule, counted from 1, and the least number of the rules that it breaks.
@@ -34,36 +32,5 @@ impl From<AllocError> for NetFault {
 
     fn from(e: AllocError) -> Self {
         NetFault::NoMemory(e)
-    }
-}
-
-/// Why a line isn't taken.
-#[derive(Debug, Drop)]
-pub(crate) enum ReadFault {
-    Line(LineFault),
-    NoMemory(AllocError),
-}
-
-impl From<LineFault> for ReadFault {
-    ghost from_gives = { λ e fault. fault ≡ read.Line e };
-
-    fn from(e: LineFault) -> Self {
-        ReadFault::Line(e)
-    }
-}
-
-impl From<AllocError> for ReadFault {
-    ghost from_gives = { λ e fault. fault ≡ read.NoMemory e };
-
-    fn from(e: AllocError) -> Self {
-        ReadFault::NoMemory(e)
-    }
-}
-
-impl<T: Drop> From<AllocFailed<T>> for ReadFault {
-    ghost from_gives = { λ _ fault. fault ≡ read.NoMemory alloc_error };
-
-    fn from(e: AllocFailed<T>) -> Self {
-        ReadFault::NoMemory(AllocError::from(e))
     }
 }

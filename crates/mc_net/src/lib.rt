@@ -7,18 +7,15 @@ mod keyword;
 pub mod laws;
 pub mod limit;
 mod net;
-mod part;
 mod places;
-mod program;
 mod reader;
 mod section;
 #[cfg(test)]
 mod tests;
 mod text;
-mod word_list;
 
 pub use fault::{NetFault, TextFault};
 pub use keyword::keyword_of;
 pub use net::{Net, Tail, read_net};
 pub use limit::TEXT_LIMIT;
-pub use section::{Keyword, Section, WaitWord};
+pub use section::{Keyword, Section};

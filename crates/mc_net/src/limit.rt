@@ -9,11 +9,5 @@ pub const LIST_LIMIT: u8 = 8;
 /// The most channels.
 pub const CHANNEL_LIMIT: usize = 1024;
 
-/// The most states of a program.
-pub const STATE_LIMIT: u8 = 64;
-
-/// The most transitions of a state.
-pub const TRANSITION_LIMIT: usize = 16;
-
 /// The most commands, settles included.
 pub const COMMAND_LIMIT: usize = 4096;

@@ -52,12 +52,3 @@ pub enum Keyword {
     Tell,
     Settle,
 }
-
-/// What a transition waits for.
-#[derive(Clone, Copy, PartialEq, Eq, Debug)]
-pub enum WaitWord {
-    /// A slot is in a state.
-    Is,
-    /// The box was told a word.
-    Told,
-}

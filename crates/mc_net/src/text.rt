@@ -3,7 +3,8 @@
 ghost use Rattle.std.specs.Prelude.{◌≡◌, IfErr, IfOk};
 ghost use Rattle.mc_net.specs.Texts.{Says, RefusesText};
 
-use crate::fault::{NetFault, ReadFault, TextFault};
+use crate::fault::{NetFault, TextFault};
+use mc_program::ReadFault;
 use crate::reader::Reader;
 use mc_script::rule::UNBUILT;
 use mc_text::next_line;

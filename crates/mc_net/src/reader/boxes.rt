@@ -8,16 +8,16 @@ ghost use Rattle.mc_script.specs.Rules.{least_broken};
 ghost use Rattle.mc_net.specs.BoxLines.{device_seen, media_seen};
 ghost use Rattle.mc_net.specs.Forms.{IsInForm};
 ghost use Rattle.mc_net.specs.Meaning.{device_after, feature_after, with_new_box};
-ghost use Rattle.mc_net.specs.Readings.{Declares, ReadsAsBy};
+ghost use Rattle.mc_program.specs.Readings.{Declares, ReadsAsBy};
 ghost use Rattle.mc_net.specs.Rules.{device_rules, feature_rules};
 
 use crate::codec_words::{
     codec_words, has_bad_version, is_overfull, listed, lists_undeclared, version_of,
 };
-use crate::fault::ReadFault;
+use mc_program::ReadFault;
 use crate::reader::{BoxMedia, Reader};
 use crate::section::Section;
-use crate::word_list::has_repeat;
+use mc_program::word_list::has_repeat;
 use mc_box::{BoxShape, Kind};
 use mc_script::LineFault;
 use mc_script::places::{is_misspelt, is_overlong};

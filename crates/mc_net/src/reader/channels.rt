@@ -9,10 +9,10 @@ ghost use Rattle.mc_script.specs.Rules.{least_broken};
 ghost use Rattle.mc_net.specs.BoxLines.{CanJoin, channel_seen};
 ghost use Rattle.mc_net.specs.Forms.{IsInForm};
 ghost use Rattle.mc_net.specs.Meaning.{channel_after, one_tunnel, with_medium, with_new_slot};
-ghost use Rattle.mc_net.specs.Readings.{Declares, ReadsAsBy};
+ghost use Rattle.mc_program.specs.Readings.{Declares, ReadsAsBy};
 ghost use Rattle.mc_net.specs.Rules.{channel_rules};
 
-use crate::fault::ReadFault;
+use mc_program::ReadFault;
 use crate::limit::CHANNEL_LIMIT;
 use crate::places::fixed_medium;
 use crate::reader::Reader;

@@ -6,10 +6,10 @@ ghost use Rattle.mc_text.specs.Spelling.{is_name};
 ghost use Rattle.mc_script.specs.Rules.{least_broken};
 ghost use Rattle.mc_net.specs.Forms.{IsInForm};
 ghost use Rattle.mc_net.specs.Meaning.{codec_after};
-ghost use Rattle.mc_net.specs.Readings.{Declares, ReadsAsBy};
+ghost use Rattle.mc_program.specs.Readings.{Declares, ReadsAsBy};
 ghost use Rattle.mc_net.specs.Rules.{codec_rules};
 
-use crate::fault::ReadFault;
+use mc_program::ReadFault;
 use crate::reader::Reader;
 use crate::section::Section;
 use mc_script::LineFault;

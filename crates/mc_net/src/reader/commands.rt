@@ -5,10 +5,10 @@ ghost use Rattle.mc_script.specs.Rules.{least_broken};
 ghost use Rattle.mc_script.specs.Meaning.{ReadsAs, command_by};
 ghost use Rattle.mc_net.specs.Forms.{IsInForm};
 ghost use Rattle.mc_net.specs.Meaning.{begin_after, command_after};
-ghost use Rattle.mc_net.specs.Readings.{Declares};
+ghost use Rattle.mc_program.specs.Readings.{Declares};
 ghost use Rattle.mc_net.specs.Rules.{begin_rules, command_line_rules};
 
-use crate::fault::ReadFault;
+use mc_program::ReadFault;
 use crate::limit::COMMAND_LIMIT;
 use crate::reader::Reader;
 use crate::section::Section;

@@ -4,11 +4,11 @@ ghost use Rattle.std.specs.Prelude.{◌≡◌, ◌<◌, OnOk, Some, length};
 ghost use Rattle.mc_script.specs.Rules.{least_broken};
 ghost use Rattle.mc_net.specs.Forms.{IsInForm};
 ghost use Rattle.mc_net.specs.Meaning.{after_by, with_program};
-ghost use Rattle.mc_net.specs.Readings.{Declares};
+ghost use Rattle.mc_program.specs.Readings.{Declares};
 ghost use Rattle.mc_net.specs.Rules.{rules_by};
 
-use crate::fault::ReadFault;
-use crate::program::{Block, program_line, state_line};
+use mc_program::ReadFault;
+use mc_program::{Block, program_line, state_line};
 use crate::reader::Reader;
 use crate::section::{Keyword, Section};
 use mc_box::Shape;

@@ -1,6 +1,6 @@
 use Rattle.std.proofs.Common.{sym, subst}
 use Rattle.mc_script.specs.Places.{Fits}
-use Rattle.mc_net.specs.Programs.{FitsBox}
+use Rattle.mc_program.specs.Programs.{FitsBox}
 use Rattle.mc_net.specs.SoFar.{Declared}
 use Rattle.mc_net.proofs.Blocks.{fits_program, pushed_is_open}
 use Rattle.mc_net.proofs.reader.Reader.read_program.Goals as goal

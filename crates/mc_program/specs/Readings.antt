@@ -1,8 +1,8 @@
 -- What reading a line answers.
 use Rattle.std.specs.Prelude.{ℕ, ◌≡◌, Option, Some, None, Result, Ok, Err}
 use Rattle.mc_script.specs.declared.command.LineFault.{LineFault}
-use Rattle.mc_net.specs.declared.fault.ReadFault.{ReadFault}
-use Rattle.mc_net.specs.declared.fault.ReadFault.TheVariants.{Line, NoMemory}
+use Rattle.mc_program.specs.declared.fault.ReadFault.{ReadFault}
+use Rattle.mc_program.specs.declared.fault.ReadFault.TheVariants.{Line, NoMemory}
 
 -- a line is refused by its fault, and else it is read as what it spells, seen by a view
 abbrev pub ReadsAsBy : {X Y : Type 0} → (X → Y) → Result X LineFault → Option ℕ → Option Y → Type 0

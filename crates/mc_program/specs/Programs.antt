@@ -15,12 +15,12 @@ use Rattle.mc_box.specs.BoxShapes.{BoxShapeState, shape_of}
 use Rattle.mc_script.specs.Places.{are_same, box_named, is_misspelt, is_no, is_overlong, lacks, meant, slot_named}
 use Rattle.mc_script.specs.Rules.{differ_in_medium, spelt_goal, is_no_feature, least_broken}
 use Rattle.mc_script.specs.declared.rule.TheConstants.{EXTRA_WORD, GIVEN_TWICE, LIMIT_PASSED, MISSING_WORD, NAME_TOO_LONG, NO_SUCH_SLOT, SAME_SLOT, TWO_MEDIA, UNDECLARED, UNFINISHED, WRONG_WORD}
-use Rattle.mc_net.specs.WordLists.{has_repeat}
-use Rattle.mc_net.specs.declared.part.Guard.TheVariants.{SlotIs, Told}
-use Rattle.mc_net.specs.declared.part.Transition.{Transition}
-use Rattle.mc_net.specs.declared.section.WaitWord.{WaitWord}
-use Rattle.mc_net.specs.declared.section.WaitWord.TheVariants as waits
-use Rattle.mc_net.specs.declared.limit.TheConstants.{STATE_LIMIT, TRANSITION_LIMIT}
+use Rattle.mc_program.specs.WordLists.{has_repeat}
+use Rattle.mc_program.specs.declared.part.Guard.TheVariants.{SlotIs, Told}
+use Rattle.mc_program.specs.declared.part.Transition.{Transition}
+use Rattle.mc_program.specs.declared.part.WaitWord.{WaitWord}
+use Rattle.mc_program.specs.declared.part.WaitWord.TheVariants as waits
+use Rattle.mc_program.specs.declared.limit.TheConstants.{STATE_LIMIT, TRANSITION_LIMIT}
 
 infixl 10 ◌>>=◌
 abbrev pub ◌>>=◌ : {A B : Type 0} → Option A → (A → Option B) → Option B

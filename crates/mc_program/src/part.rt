@@ -9,12 +9,11 @@ ghost use Rattle.mc_slot.specs.Moves.{is_same_medium};
 ghost use Rattle.mc_script.specs.Places.{Fits, is_no, lacks, meant, unless};
 ghost use Rattle.mc_script.specs.Rules.{least_broken};
 ghost use Rattle.mc_script.specs.Meaning.{ReadsAs};
-ghost use Rattle.mc_net.specs.Readings.{Declares, Makes};
-ghost use Rattle.mc_net.specs.Programs.{new_part, has_goal, lacks_goal, goal_rules, part_goal_after, part_link_rules, part_link_after, spelt_state, has_no_room, when_is_rules, when_told_rules, is_transition, with_transition, words_of, when_rules, part_when_after, told_after, waits_for, IsToldLine};
+ghost use Rattle.mc_program.specs.Readings.{Declares, Makes};
+ghost use Rattle.mc_program.specs.Programs.{new_part, has_goal, lacks_goal, goal_rules, part_goal_after, part_link_rules, part_link_after, spelt_state, has_no_room, when_is_rules, when_told_rules, is_transition, with_transition, words_of, when_rules, part_when_after, told_after, waits_for, IsToldLine};
 
 use crate::fault::ReadFault;
 use crate::limit::{STATE_LIMIT, TRANSITION_LIMIT};
-use crate::section::WaitWord;
 use mc_box::Shape;
 use mc_script::LineFault;
 use mc_script::places::{fixed_goal, is_misspelt, is_overlong, known_slot};
@@ -24,6 +23,15 @@ use mc_text::limit::TOLD_LIMIT;
 use mc_text::{FirstWords, Names, Words};
 use std::alloc::{AllocError, Global};
 use std::marker::Model;
+
+/// What a transition waits for.
+#[derive(Clone, Copy, PartialEq, Eq, Debug)]
+pub enum WaitWord {
+    /// A slot is in a state.
+    Is,
+    /// The box was told a word.
+    Told,
+}
 
 /// What a transition waits for: a slot that is in a state, or a told word.
 #[derive(Clone, Copy, PartialEq, Eq, Debug)]
@@ -41,13 +49,13 @@ pub struct Transition {
 
 /// A state's part: the goals that its lines gave so far, by slot, and its transitions in their order.
 #[derive(Debug, Drop)]
-pub struct Part {
+pub struct StatePart {
     pub goals: Vec<Option<SlotGoal>>,
     pub transitions: Vec<Transition>,
 }
 
-impl Model for Part {
-    ghost use Rattle.mc_net.specs.Programs.{PartState};
+impl Model for StatePart {
+    ghost use Rattle.mc_program.specs.Programs.{PartState};
 
     ghost Value = { PartState };
 
@@ -61,14 +69,14 @@ struct ToldLine<'a> {
     target: u32,
 }
 
-impl Part {
+impl StatePart {
     /// A part in which no slot has a goal.
-    pub fn new(alloc: Global, slots: usize) -> Result<Part, AllocError>
+    pub fn new(alloc: Global, slots: usize) -> Result<StatePart, AllocError>
         ensures { IfOk result (λ part. part ≡ new_part slots) }
     {
         let mut goals = Vec::new(alloc);
         goals.resize(slots, None)?;
-        Ok(Part {
+        Ok(StatePart {
             goals,
             transitions: Vec::new(alloc),
         })

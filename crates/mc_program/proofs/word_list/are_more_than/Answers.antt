@@ -1,7 +1,7 @@
 use Rattle.std.proofs.Common.{◌≡◌, drop, refl, arith, rules}
 use Rattle.std.proofs.lemmas.List.{drop-drop}
-use Rattle.mc_net.proofs.WordLists.{is_some-behind}
-use Rattle.mc_net.proofs.word_list.are_more_than.Goals as goal
+use Rattle.mc_program.proofs.WordLists.{is_some-behind}
+use Rattle.mc_program.proofs.word_list.are_more_than.Goals as goal
 
 pub loop-passed-preserved : goal.loop-passed-preserved
 loop-passed-preserved c = rw (c.next_word.ensures.rest, c.loop-passed.invariant, drop-drop) refl

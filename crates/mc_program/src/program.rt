@@ -6,12 +6,12 @@ ghost use Rattle.std.specs.List.{slice_get};
 ghost use Rattle.mc_script.specs.Places.{box_named, Fits};
 ghost use Rattle.mc_script.specs.Meaning.{ReadsAs};
 ghost use Rattle.mc_script.specs.Rules.{least_broken};
-ghost use Rattle.mc_net.specs.Readings.{Declares, Makes};
-ghost use Rattle.mc_net.specs.Programs.{block_goal_after, block_goal_rules, block_link_after, block_link_rules, block_when_after, block_when_rules, has_program, is_not_next, is_other, is_unfinished_block, new_block, open_part_of, new_part_rules, part_lacks_goal, new_program_rules, with_new_part, words_of, FitsBox};
+ghost use Rattle.mc_program.specs.Readings.{Declares, Makes};
+ghost use Rattle.mc_program.specs.Programs.{block_goal_after, block_goal_rules, block_link_after, block_link_rules, block_when_after, block_when_rules, has_program, is_not_next, is_other, is_unfinished_block, new_block, open_part_of, new_part_rules, part_lacks_goal, new_program_rules, with_new_part, words_of, FitsBox};
 
 use crate::fault::ReadFault;
 use crate::limit::STATE_LIMIT;
-use crate::part::Part;
+use crate::part::StatePart;
 use crate::word_list::{are_more_than, has_misspelt, has_overlong, has_repeat};
 use mc_box::Shape;
 use mc_script::LineFault;
@@ -27,12 +27,13 @@ use std::marker::Model;
 pub struct Block {
     pub who: u32,
     pub states: Vec<Vec<u8>>,
-    pub parts: Vec<Part>,
+    pub parts: Vec<StatePart>,
 }
 
 impl Model for Block {
     ghost use Rattle.std.specs.Prelude.{◌≤◌, length};
-    ghost use Rattle.mc_net.specs.Programs.{BlockState, words_of};
+    ghost use Rattle.mc_program.specs.Programs.{BlockState, words_of};
+    ghost use Rattle.mc_program.specs.declared.limit.TheConstants.{STATE_LIMIT};
 
     ghost Value = { BlockState };
 
@@ -88,7 +89,7 @@ impl Block {
         ensures fits { OnOk result (FitsBox names.now self.new) }
         ensures unchanged { OnErr result (self.new ≡ self.old) }
     {
-        let part = Part::new(alloc, names.slot_count(self.who))?;
+        let part = StatePart::new(alloc, names.slot_count(self.who))?;
         self.parts.push(part)?;
         Ok(())
     }

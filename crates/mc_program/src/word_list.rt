@@ -5,7 +5,7 @@ ghost use Rattle.std.specs.List.{list_any};
 ghost use Rattle.std.specs.Str.{bytes_eq};
 ghost use Rattle.mc_text.specs.Spelling.{is_spelt};
 ghost use Rattle.mc_script.specs.Places.{is_overlong};
-ghost use Rattle.mc_net.specs.WordLists.{has_repeat};
+ghost use Rattle.mc_program.specs.WordLists.{has_repeat};
 
 use mc_text::limit::NAME_LIMIT;
 use mc_text::{Words, is_spelt};

@@ -1,0 +1,40 @@
+// Why a line isn't taken.
+
+ghost use Rattle.std.specs.Prelude.{◌≡◌, alloc_error};
+ghost use Rattle.mc_program.specs.declared.fault.ReadFault.TheVariants as read;
+
+use mc_script::LineFault;
+use std::alloc::{AllocError, AllocFailed};
+
+/// Why a line isn't taken: the rule that it breaks, or want of memory.
+#[derive(Debug, Drop)]
+pub enum ReadFault {
+    /// The line breaks a rule.
+    Line(LineFault),
+    /// Memory ran out.
+    NoMemory(AllocError),
+}
+
+impl From<LineFault> for ReadFault {
+    ghost from_gives = { λ e fault. fault ≡ read.Line e };
+
+    fn from(e: LineFault) -> Self {
+        ReadFault::Line(e)
+    }
+}
+
+impl From<AllocError> for ReadFault {
+    ghost from_gives = { λ e fault. fault ≡ read.NoMemory e };
+
+    fn from(e: AllocError) -> Self {
+        ReadFault::NoMemory(e)
+    }
+}
+
+impl<T: Drop> From<AllocFailed<T>> for ReadFault {
+    ghost from_gives = { λ _ fault. fault ≡ read.NoMemory alloc_error };
+
+    fn from(e: AllocFailed<T>) -> Self {
+        ReadFault::NoMemory(AllocError::from(e))
+    }
+}

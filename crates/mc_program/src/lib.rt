@@ -1,0 +1,12 @@
+//! The lines that declare the program of a box: its states, and in each the goals of its slots and the ways out.
+#![tactic(auto)]
+
+mod fault;
+pub mod limit;
+mod part;
+mod program;
+pub mod word_list;
+
+pub use fault::ReadFault;
+pub use part::{Guard, StatePart, Transition, WaitWord};
+pub use program::{Block, is_unfinished, program_line, state_line};
