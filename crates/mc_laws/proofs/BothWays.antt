@@ -3,16 +3,17 @@ use Rattle.std.proofs.Common.{◌≡◌, ◌<◌, ◌≤◌, ◌+◌, ◌*◌, �
 use Rattle.std.specs.List.{enumerate_from, list_any}
 use Rattle.std.specs.Option.{is_none, is_some, option_and_then}
 use Rattle.std.proofs.lemmas.Bool.{cases_eq, cases_lt}
-use Rattle.mc_model.specs.Paths.{has_ring, other_end}
-use Rattle.mc_model.specs.Rings.{IsOnRing, IsLeastOnRing, NoneBefore, next_slot, partner_of, slot_after}
+use Rattle.mc_model.specs.Paths.{has_ring, next_slot, other_end, partner_of, slot_after}
+use Rattle.mc_model.specs.Rings.{IsOnRing, IsLeastOnRing, NoneBefore}
 use Rattle.mc_model.specs.Sound.{IsSound}
 use Rattle.mc_model.specs.Worlds.{WorldState, far, all_tunnels, places, slot_count}
 use Rattle.mc_laws.proofs.ActedWorlds.{far_inside}
 use Rattle.mc_laws.proofs.TunnelPlaces.{two_each}
 use Rattle.mc_laws.proofs.Numbers.{far_back}
 use Rattle.mc_laws.proofs.Partners.{are_linked, next_is}
-use Rattle.mc_laws.proofs.RingChains.{after_sum, ring_by}
+use Rattle.mc_laws.proofs.RingChains.{ring_by}
 use Rattle.mc_laws.proofs.RingWalks.{goes_round, ring_after, ring_before, ring_partner, rings_meet_no_end}
+use Rattle.mc_laws.proofs.Walks.{after_more, after_next}
 
 -- so many tunnels from a slot: the one walk is at a slot ahead of it, the other at a slot behind
 pub record WalkBoth (world : WorldState) (s done ahead behind : ℕ) : Type 0 where
@@ -30,14 +31,13 @@ pub both_on : (world : WorldState) (s done ahead behind next last : ℕ) → IsS
     → partner_of world (far ahead) ≡ Some next → partner_of world behind ≡ Some last → WalkBoth world s (done + 1) next (far last)
 both_on world s done ahead behind next last sound walk to_next to_last =
     let one : done + 1 ≡ suc done = omega arith in
-    let first : done + 1 ≡ 1 + done = omega arith in
     let link = are_linked world behind last sound walk.behind_inside to_last in
     let back : next_slot world (far last) ≡ Some behind = ap (partner_of world) (far_back last) ∙ link.back in
     record {
       ahead_inside = (next_is world ahead next sound walk.ahead_inside to_next).inside;
-      ahead_is = ap (λ (n : ℕ). slot_after world n s) one ∙ (ap (λ (o : Option ℕ). option_and_then (next_slot world) o) walk.ahead_is ∙ to_next);
+      ahead_is = ap (λ (n : ℕ). slot_after world n s) one ∙ (after_more world done s ∙ (ap (λ (o : Option ℕ). option_and_then (next_slot world) o) walk.ahead_is ∙ to_next));
       behind_inside = far_inside world last link.inside;
-      behind_is = ap (λ (n : ℕ). slot_after world n (far last)) first ∙ (after_sum world 1 done (far last) behind back ∙ walk.behind_is);
+      behind_is = ap (λ (n : ℕ). slot_after world n (far last)) one ∙ (after_next world done (far last) behind back ∙ walk.behind_is);
     }
 
 -- where the next slots were found one after the other
@@ -56,7 +56,7 @@ some_is_none o s some none = let clash : Some s ≡ None = sym some ∙ none in 
 pub ends_ahead : (world : WorldState) (s done ahead behind : ℕ) → WalkBoth world s done ahead behind → partner_of world (far ahead) ≡ None → IsOnRing world s → ⊥
 ends_ahead world s done ahead behind walk none ring =
     let more = goes_round world s (suc done) ring in
-    some_is_none (slot_after world (suc done) s) more.0 more.1 (ap (λ (o : Option ℕ). option_and_then (next_slot world) o) walk.ahead_is ∙ none)
+    some_is_none (slot_after world (suc done) s) more.0 more.1 (after_more world done s ∙ (ap (λ (o : Option ℕ). option_and_then (next_slot world) o) walk.ahead_is ∙ none))
 
 -- or behind it
 pub ends_behind : (world : WorldState) (s done ahead behind : ℕ) → IsSound world → WalkBoth world s done ahead behind → partner_of world behind ≡ None → IsOnRing world s → ⊥

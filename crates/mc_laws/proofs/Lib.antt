@@ -34,3 +34,4 @@ pub mod SteppedKeeps
 pub mod Sums
 pub mod TakeParts
 pub mod TwoPhones
+pub mod Walks

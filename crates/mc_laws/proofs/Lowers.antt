@@ -34,7 +34,8 @@ use Rattle.mc_laws.proofs.ActedWorlds.{place_apart}
 use Rattle.mc_laws.proofs.TunnelPlaces.{two_each}
 use Rattle.mc_laws.proofs.LaneSums.{lists_most}
 use Rattle.mc_laws.proofs.Partners.{IsPartner, has_partner, is_partner}
-use Rattle.mc_laws.proofs.Reaches.{GoalsStay, Reaches, crossed_most, reach_same, reaches, ring_same, with_boxes}
+use Rattle.mc_laws.proofs.Reaches.{GoalsStay, Reaches, reach_same, reaches, ring_same, with_boxes}
+use Rattle.mc_laws.proofs.Walks.{length_most}
 use Rattle.mc_laws.proofs.StepActs.{TakeHappened, take_happened}
 use Rattle.mc_laws.proofs.StepForms.{then_some}
 use Rattle.mc_laws.proofs.StepKeeps.{step_keeps_sound}
@@ -406,7 +407,7 @@ measure_most world sound =
     bound_sum (base world * (base world * (base world * base world))) (measure world) (total (λ (s : ℕ). length (list_to world s)) (slot_count world)) (under_way world) (slot_count world)
     (total_most (to_come (base world) (reach world) world) (λ s. length (list_to world s)) (base world * (base world * (base world * base world))) (slot_count world)
     (λ s within. part_most (base world) (base world * (base world * base world)) (reach world (far s)) (weights (base world) (list_to world s)) (length (list_to world s)) (reach world s) (stored_of (goal_of world s) world s)
-    (omega (arith, crossed_most (length (all_tunnels world)) world (far s))) (omega (arith, crossed_most (length (all_tunnels world)) world s))
+    (omega (arith, length_most (length (all_tunnels world)) world (Some (far s)))) (omega (arith, length_most (length (all_tunnels world)) world (Some s)))
     (weights_most (base world) (omega arith) (list_to world s)) (stored_most (goal_of world s) world s)))
     (lists_most world sound.numbered)
 

@@ -4,7 +4,7 @@ use Rattle.mc_slot.specs.declared.SlotGoal.{SlotGoal}
 use Rattle.mc_slot.specs.declared.SlotGoal.TheVariants.{End, Link}
 use Rattle.mc_box.specs.BoxSound.{IsLinked}
 use Rattle.mc_box.specs.Boxes.{goal_at, slot_at}
-use Rattle.mc_model.specs.Rings.{next_slot, partner_by, partner_of}
+use Rattle.mc_model.specs.Paths.{next_slot, partner_by, partner_of}
 use Rattle.mc_model.specs.Sound.{IsSound}
 use Rattle.mc_model.specs.Worlds.{WorldState, box_at, far, goal_of, number, place, slot_count, slot_of}
 use Rattle.mc_laws.proofs.ActedWorlds.{far_inside}

@@ -4,13 +4,15 @@ use Rattle.std.specs.Option.{option_and_then, unwrap_or}
 use Rattle.std.proofs.lemmas.Bool.{cases_lt}
 use Rattle.std.proofs.lemmas.Grind.{common_steps}
 use Rattle.mc_box.proofs.Options.{then_some}
-use Rattle.mc_model.specs.Rings.{IsOnRing, WalksNeverReturn, next_slot, partner_of, slot_after}
+use Rattle.mc_model.specs.Paths.{next_slot, partner_of, slot_after}
+use Rattle.mc_model.specs.Rings.{IsOnRing, WalksNeverReturn}
 use Rattle.mc_model.specs.Sound.{IsSound}
 use Rattle.mc_model.specs.Worlds.{WorldState, far, all_tunnels, slot_count}
 use Rattle.mc_laws.proofs.TunnelPlaces.{two_each}
 use Rattle.mc_laws.proofs.Numbers.{far_back, far_other, half_in, some_same}
 use Rattle.mc_laws.proofs.Partners.{IsNext, next_is}
 use Rattle.mc_laws.proofs.Repeats.{Repeated, repeated}
+use Rattle.mc_laws.proofs.Walks.{after_more}
 
 -- ---- over plain slots
 
@@ -80,22 +82,23 @@ pub after_sum : (world : WorldState) (a b s t : ℕ) → slot_after world a s �
 after_sum world a zero s t is = let none : a + 0 ≡ a = omega arith in ap (λ (n : ℕ). slot_after world n s) none ∙ is
 after_sum world a (suc b) s t is =
     let one : a + suc b ≡ suc (a + b) = omega arith in
-    ap (λ (n : ℕ). slot_after world n s) one ∙ ap (λ (o : Option ℕ). option_and_then (next_slot world) o) (after_sum world a b s t is)
+    ap (λ (n : ℕ). slot_after world n s) one
+    ∙ (after_more world (a + b) s ∙ (ap (λ (o : Option ℕ). option_and_then (next_slot world) o) (after_sum world a b s t is) ∙ sym (after_more world b t)))
 
 -- a chain passes slots on its way
 pub after_parts : (world : WorldState) (a b s t : ℕ) → slot_after world (a + b) s ≡ Some t → (between : ℕ) × (slot_after world a s ≡ Some between) × (slot_after world b between ≡ Some t)
 after_parts world a zero s t is = let none : a + 0 ≡ a = omega arith in (t, subst (λ (n : ℕ). slot_after world n s ≡ Some t) none is, refl)
 after_parts world a (suc b) s t is =
     let one : a + suc b ≡ suc (a + b) = omega arith in
-    let last = then_some (next_slot world) (slot_after world (a + b) s) t (subst (λ (n : ℕ). slot_after world n s ≡ Some t) one is) in
+    let last = then_some (next_slot world) (slot_after world (a + b) s) t (sym (after_more world (a + b) s) ∙ subst (λ (n : ℕ). slot_after world n s ≡ Some t) one is) in
     let rest = after_parts world a b s last.0 last.1 in
-    (rest.0, rest.1, ap (λ (o : Option ℕ). option_and_then (next_slot world) o) rest.2 ∙ last.2)
+    (rest.0, rest.1, after_more world b rest.0 ∙ (ap (λ (o : Option ℕ). option_and_then (next_slot world) o) rest.2 ∙ last.2))
 
 -- all of them are there
 pub after_inside : (world : WorldState) (count s t : ℕ) → IsSound world → s < slot_count world → slot_after world count s ≡ Some t → t < slot_count world
 after_inside world zero s t sound inside is = subst (λ (n : ℕ). n < slot_count world) (some_same s t is) inside
 after_inside world (suc count) s t sound inside is =
-    let last = then_some (next_slot world) (slot_after world count s) t is in
+    let last = then_some (next_slot world) (slot_after world count s) t (sym (after_more world count s) ∙ is) in
     (next_is world last.0 t sound (after_inside world count s last.0 sound inside last.1) last.2).inside
 
 -- the slots of a chain, by how far they are
@@ -111,7 +114,7 @@ passes world most k s t is within =
 
 -- the slot one further is next to it
 goes_next : (world : WorldState) (k s a b : ℕ) → slot_after world k s ≡ Some a → slot_after world (suc k) s ≡ Some b → next_slot world a ≡ Some b
-goes_next world k s a b here there = sym (ap (λ (o : Option ℕ). option_and_then (next_slot world) o) here) ∙ there
+goes_next world k s a b here there = sym (ap (λ (o : Option ℕ). option_and_then (next_slot world) o) here) ∙ (sym (after_more world k s) ∙ there)
 
 -- they are a chain
 pub chain_from : (world : WorldState) (most s t : ℕ) → IsSound world → s < slot_count world → slot_after world most s ≡ Some t → IsChain (partner_of world) (slots_from world s) most

@@ -1,18 +1,19 @@
 -- Walks on rings: a walk meets no end exactly where its slot stands on a ring, and a ring is the same from each of its slots.
-use Rattle.std.proofs.Common.{◌≡◌, ◌≢◌, ◌<◌, ◌≤◌, ◌+◌, ◌-◌, ◌*◌, ℕ, zero, suc, true, false, IsTrue, Option, Some, None, length, refl, ap, sym, ◌∙◌, subst, arith}
+use Rattle.std.proofs.Common.{◌≡◌, ◌≢◌, ◌<◌, ◌≤◌, ◌+◌, ◌-◌, ◌*◌, inl, inr, ℕ, zero, suc, true, false, IsTrue, Option, Some, None, length, refl, ap, sym, ◌∙◌, subst, arith}
 use Rattle.std.specs.Option.{option_and_then}
 use Rattle.mc_slot.specs.declared.SlotGoal.{SlotGoal}
 use Rattle.mc_slot.specs.declared.SlotGoal.TheVariants.{End, Link}
 use Rattle.mc_box.proofs.Options.{then_some}
 use Rattle.mc_slot.specs.EndTurn.{is_end_goal}
-use Rattle.mc_model.specs.Paths.{other_end, walk_by, walked}
-use Rattle.mc_model.specs.Rings.{IsOnRing, RingsMeetNoEnd, next_slot, partner_of, slot_after}
+use Rattle.mc_model.specs.Paths.{end_after, next_slot, other_end, partner_of, slot_after, walk}
+use Rattle.mc_model.specs.Rings.{IsOnRing, RingsMeetNoEnd}
 use Rattle.mc_model.specs.Sound.{IsSound}
 use Rattle.mc_model.specs.Worlds.{WorldState, far, goal_of, all_tunnels, number, place, slot_count}
 use Rattle.mc_laws.proofs.ActedWorlds.{far_inside}
 use Rattle.mc_laws.proofs.Partners.{by_goal, has_partner, linked_with, next_is, one_before}
 use Rattle.mc_laws.proofs.RingChains.{after_inside, after_parts, after_sum, no_way_back, ring_by}
 use Rattle.mc_laws.proofs.Numbers.{some_same}
+use Rattle.mc_laws.proofs.Walks.{after_first, after_more, after_next, end_beyond, end_here, end_parts, end_linked}
 
 -- ---- walks by their chains
 
@@ -20,39 +21,33 @@ none_or_some : (s : ℕ) → Some s ≡ None → ⊥
 none_or_some s is = cc
 
 -- a walk that meets no end goes on at a partner
-on_by : (world : WorldState) (most s : ℕ) (goal : SlotGoal) → IsSound world → s < slot_count world → goal_of world s ≡ goal → walk_by (walked world most) world goal s ≡ None
-    → (t : ℕ) × (partner_of world s ≡ Some t) × (walked world most t ≡ None)
-on_by world most s (End goal) sound inside aims walk = absurd (none_or_some s walk)
-on_by world most s (Link partner) sound inside aims walk =
+on_by : (world : WorldState) (most s : ℕ) (goal : SlotGoal) → IsSound world → s < slot_count world → goal_of world s ≡ goal → end_beyond world most s ≡ None
+    → (t : ℕ) × (partner_of world s ≡ Some t) × (end_after world (walk world (Some t) most) ≡ None)
+on_by world most s (End goal) sound inside aims none = absurd (none_or_some s (sym (end_here world most s (ap is_end_goal aims)) ∙ none))
+on_by world most s (Link partner) sound inside aims none =
     let link = has_partner world s partner sound inside aims in
-    (link.0, by_goal world s (Link partner) aims ∙ link.1, sym (ap (λ (o : Option ℕ). option_and_then (walked world most) o) link.1) ∙ walk)
+    let is : partner_of world s ≡ Some link.0 = by_goal world s (Link partner) aims ∙ link.1 in
+    (link.0, is, sym (end_linked world most s link.0 is) ∙ none)
 
 -- so its chain goes on for as long as the walk meets no end
-chain_of : (world : WorldState) (done left s : ℕ) → IsSound world → s < slot_count world → walked world (left + done) s ≡ None
-    → (t : ℕ) × (slot_after world done s ≡ Some t) × (walked world left t ≡ None)
-chain_of world zero left s sound inside walk =
-    let none : left + 0 ≡ left = omega arith in
-    (s, refl, subst (λ (n : ℕ). walked world n s ≡ None) none walk)
-chain_of world (suc done) left s sound inside walk =
+chain_of : (world : WorldState) (done left s : ℕ) → IsSound world → s < slot_count world → end_after world (walk world (Some s) (left + done)) ≡ None
+    → (t : ℕ) × (slot_after world done s ≡ Some t) × (end_after world (walk world (Some t) left) ≡ None)
+chain_of world zero left s sound inside none =
+    let all : left + 0 ≡ left = omega arith in
+    (s, refl, subst (λ (n : ℕ). end_after world (walk world (Some s) n) ≡ None) all none)
+chain_of world (suc done) left s sound inside none =
     let one : left + suc done ≡ suc left + done = omega arith in
-    let before = chain_of world done (suc left) s sound inside (subst (λ (n : ℕ). walked world n s ≡ None) one walk) in
+    let before = chain_of world done (suc left) s sound inside (subst (λ (n : ℕ). end_after world (walk world (Some s) n) ≡ None) one none) in
     let there = after_inside world done s before.0 sound inside before.1 in
     let on = on_by world left (far before.0) (goal_of world (far before.0)) sound (far_inside world before.0 there) refl before.2 in
-    (on.0, ap (λ (o : Option ℕ). option_and_then (next_slot world) o) before.1 ∙ on.1, on.2)
+    (on.0, after_more world done s ∙ (ap (λ (o : Option ℕ). option_and_then (next_slot world) o) before.1 ∙ on.1), on.2)
 
--- at a slot with a partner a walk meets no end
-pub meets_none : (world : WorldState) (most s t : ℕ) → partner_of world s ≡ Some t → walk_by (walked world most) world (goal_of world s) s ≡ walked world most t
-meets_none world most s t is =
-    let link = linked_with world s t (goal_of world s) is in
-    ap (λ (g : SlotGoal). walk_by (walked world most) world g s) link.1 ∙ ap (λ (o : Option ℕ). option_and_then (walked world most) o) link.2
-
--- and over a chain none
-pub no_end : (world : WorldState) (most s t : ℕ) → slot_after world most s ≡ Some t → walked world most s ≡ None
+-- and over a chain it meets none
+no_end : (world : WorldState) (most s t : ℕ) → slot_after world most s ≡ Some t → end_after world (walk world (Some s) most) ≡ None
 no_end world zero s t is = refl
 no_end world (suc most) s t is =
-    let one : suc most ≡ 1 + most = omega arith in
-    let next = after_parts world 1 most s t (subst (λ (n : ℕ). slot_after world n s ≡ Some t) one is) in
-    meets_none world most (far s) next.0 next.1 ∙ no_end world most next.0 t next.2
+    let next = then_some (λ (n : ℕ). slot_after world most n) (next_slot world s) t (sym (after_first world most s) ∙ is) in
+    end_linked world most (far s) next.0 next.1 ∙ no_end world most next.0 t next.2
 
 -- ---- rings
 
@@ -89,19 +84,14 @@ ring_after world s t count ring is =
 one_back : (world : WorldState) (s t count : ℕ) → IsSound world → s < slot_count world → next_slot world s ≡ Some t → IsOnRing world t → slot_after world (suc count) t ≡ Some t → IsOnRing world s
 one_back world s t count sound inside is ring back =
     let there = (next_is world s t sound inside is).inside in
-    let last = then_some (next_slot world) (slot_after world count t) t back in
+    let last = then_some (next_slot world) (slot_after world count t) t (sym (after_more world count t) ∙ back) in
     let same : last.0 ≡ s = one_before world last.0 s t sound (after_inside world count t last.0 sound there last.1) inside last.2 is in
-    let one : suc count ≡ 1 + count = omega arith in
-    record {
-      count = suc count;
-      some = omega arith;
-      back = ap (λ (n : ℕ). slot_after world n s) one ∙ (after_sum world 1 count s t is ∙ (last.1 ∙ ap Some same));
-    }
+    record { count = suc count; some = omega arith; back = after_next world count s t is ∙ (last.1 ∙ ap Some same) }
 
 pub ring_before : (world : WorldState) (s t count : ℕ) → IsSound world → s < slot_count world → slot_after world count s ≡ Some t → IsOnRing world t → IsOnRing world s
 ring_before world s t zero sound inside is ring = subst (IsOnRing world) (sym (some_same s t is)) ring
 ring_before world s t (suc count) sound inside is ring =
-    let last = then_some (next_slot world) (slot_after world count s) t is in
+    let last = then_some (next_slot world) (slot_after world count s) t (sym (after_more world count s) ∙ is) in
     let there = after_inside world count s last.0 sound inside last.1 in
     let sum : suc (ring.count - 1) ≡ ring.count = omega (arith, ring.some) in
     ring_before world s last.0 count sound inside last.1
@@ -111,7 +101,7 @@ ring_before world s t (suc count) sound inside is ring =
 pub ring_partner : (world : WorldState) (s : ℕ) → IsSound world → s < slot_count world → IsOnRing world s → (t : ℕ) × (partner_of world s ≡ Some t)
 ring_partner world s sound inside ring =
     let sum : suc (ring.count - 1) ≡ ring.count = omega (arith, ring.some) in
-    let last = then_some (next_slot world) (slot_after world (ring.count - 1) s) s (ap (λ (n : ℕ). slot_after world n s) sum ∙ ring.back) in
+    let last = then_some (next_slot world) (slot_after world (ring.count - 1) s) s (sym (after_more world (ring.count - 1) s) ∙ (ap (λ (n : ℕ). slot_after world n s) sum ∙ ring.back)) in
     let there = after_inside world (ring.count - 1) s last.0 sound inside last.1 in
     (far last.0, (next_is world last.0 s sound there last.2).back)
 
@@ -119,9 +109,9 @@ pub rings_meet_no_end : RingsMeetNoEnd
 rings_meet_no_end world s sound inside = (meets, comes)
   where
     meets : other_end world s ≡ None → IsOnRing world s
-    meets walk =
+    meets none =
         let sum : length (all_tunnels world) ≡ 0 + length (all_tunnels world) = omega arith in
-        let chain = chain_of world (length (all_tunnels world)) 0 s sound inside (subst (λ (n : ℕ). walked world n s ≡ None) sum walk) in
+        let chain = chain_of world (length (all_tunnels world)) 0 s sound inside (subst (λ (n : ℕ). end_after world (walk world (Some s) n) ≡ None) sum none) in
         ring_by world s chain.0 sound inside chain.1
 
     comes : IsOnRing world s → other_end world s ≡ None
@@ -149,21 +139,12 @@ end_is_met world s sound inside end =
     (λ none. let on : IsOnRing world s = (rings_meet_no_end world s sound inside).0 none in let link = ring_partner world s sound inside on in no_partner world s link.0 end link.1)
 
 -- the last tunnel of a walk, by its near slot
-last_of : (world : WorldState) (most s t : ℕ) (goal : SlotGoal) → goal_of world (far s) ≡ goal → walk_by (walked world most) world goal (far s) ≡ Some t
-    → ((next : ℕ) → next_slot world s ≡ Some next → walked world most next ≡ Some t → (count : ℕ) × (last : ℕ) × (slot_after world count next ≡ Some last) × (far last ≡ t))
-    → (count : ℕ) × (last : ℕ) × (slot_after world count s ≡ Some last) × (far last ≡ t)
-last_of world most s t (End goal) aims walk more = (0, s, refl, some_same (far s) t walk)
-last_of world most s t (Link partner) aims walk more =
-    let on = then_some (walked world most) (number world (place world (far s)).0 partner) t walk in
-    let next : next_slot world s ≡ Some on.0 = by_goal world (far s) (Link partner) aims ∙ on.1 in
-    let rest = more on.0 next on.2 in
-    let one : suc rest.0 ≡ 1 + rest.0 = omega arith in
-    (suc rest.0, rest.1, ap (λ (n : ℕ). slot_after world n s) one ∙ (after_sum world 1 rest.0 s on.0 next ∙ rest.2), rest.3)
-
-last_tunnel : (world : WorldState) (most s t : ℕ) → walked world most s ≡ Some t → (count : ℕ) × (last : ℕ) × (slot_after world count s ≡ Some last) × (far last ≡ t)
-last_tunnel world zero s t walk = absurd (none_or_some t (sym walk))
-last_tunnel world (suc most) s t walk =
-    last_of world most s t (goal_of world (far s)) refl walk (λ next is more. last_tunnel world most next t more)
+last_tunnel : (world : WorldState) (most s t : ℕ) → end_after world (walk world (Some s) most) ≡ Some t → (count : ℕ) × (last : ℕ) × (slot_after world count s ≡ Some last) × (far last ≡ t)
+last_tunnel world zero s t comes = absurd (none_or_some t (sym comes))
+last_tunnel world (suc most) s t comes = elim (end_parts world most (far s) t comes) [
+  | inl here ↦ (0, s, refl, here.1)
+  | inr on ↦ let rest = last_tunnel world most on.0 t on.2 in (suc rest.0, rest.1, after_next world rest.0 s on.0 on.1 ∙ rest.2, rest.3)
+]
 
 -- which is another one
 pub met_is_other : (world : WorldState) (s t : ℕ) → IsSound world → s < slot_count world → other_end world s ≡ Some t → s ≢ t

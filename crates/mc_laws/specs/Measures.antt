@@ -7,7 +7,7 @@ use Rattle.mc_slot.specs.declared.SlotGoal.TheVariants.{End, Link}
 use Rattle.mc_turn.specs.Weights.{weights, stored_end}
 use Rattle.mc_box.specs.BoxEvents.{is_take}
 use Rattle.mc_box.specs.Boxes.{slot_at}
-use Rattle.mc_model.specs.Paths.{crossed, has_ring}
+use Rattle.mc_model.specs.Paths.{has_ring, whole_walk}
 use Rattle.mc_model.specs.Sound.{IsSound}
 use Rattle.mc_model.specs.Steps.{run, step}
 use Rattle.mc_model.specs.Worlds.{WorldState, box_at, far, goal_of, all_tunnels, list_to, place, slot_count, slot_of}
@@ -21,7 +21,7 @@ total f (suc k) = f k + total f k
 
 -- the tunnels from a slot, over its own, to the end of its path there
 abbrev pub reach : WorldState → ℕ → ℕ
-reach world s = crossed world (length (all_tunnels world)) s
+reach world s = length (whole_walk world s)
 
 -- one more than the tunnels of a world, which no path has
 abbrev pub base : WorldState → ℕ

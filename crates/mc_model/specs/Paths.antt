@@ -1,7 +1,7 @@
 -- Paths and rings: chains of tunnels and links.
-use Rattle.std.specs.Prelude.{ℕ, ◌+◌, zero, suc, Bool, true, false, if◌then◌else◌, List, length, nat_lt, Option, Some, None}
-use Rattle.std.specs.List.{enumerate_from, filter_map, list_any}
-use Rattle.std.specs.Option.{option_and_then, option_map, is_none, unwrap_or}
+use Rattle.std.specs.Prelude.{ℕ, zero, suc, Bool, if◌then◌else◌, List, [], ◌∷◌, length, map, nat_lt, Option, Some, None}
+use Rattle.std.specs.List.{enumerate_from, filter_map, find, flat_map, list_any, slice_get}
+use Rattle.std.specs.Option.{option_and_then, is_none}
 use Rattle.mc_slot.specs.EndTurn.{is_end_goal}
 use Rattle.mc_slot.specs.declared.Goal.{Goal}
 use Rattle.mc_slot.specs.declared.Goal.TheVariants.{Close as ToClose}
@@ -9,29 +9,39 @@ use Rattle.mc_slot.specs.declared.SlotGoal.{SlotGoal}
 use Rattle.mc_slot.specs.declared.SlotGoal.TheVariants.{End, Link}
 use Rattle.mc_model.specs.Worlds.{WorldState, all_tunnels, places, place, number, far, goal_of}
 
--- at the far side of a tunnel a walk ends at an end, and goes on at the partner of a linked slot
-abbrev pub walk_by : (ℕ → Option ℕ) → WorldState → SlotGoal → ℕ → Option ℕ
-walk_by further world (End goal) s = Some s
-walk_by further world (Link partner) s = option_and_then further (number world (place world s).0 partner)
+abbrev pub partner_by : WorldState → SlotGoal → ℕ → Option ℕ
+partner_by world (End goal) s = None
+partner_by world (Link partner) s = number world (place world s).0 partner
 
--- the end slot to which a walk from a slot comes, over its tunnel and then from link to link, within so many tunnels
-abbrev pub walked : WorldState → ℕ → ℕ → Option ℕ
-walked world zero s = None
-walked world (suc most) s = walk_by (walked world most) world (goal_of world (far s)) (far s)
+-- the number of the slot that a slot is linked with
+abbrev pub partner_of : WorldState → ℕ → Option ℕ
+partner_of world s = partner_by world (goal_of world s) s
+
+-- the slot that is one tunnel and one link on: the partner of the far slot
+abbrev pub next_slot : WorldState → ℕ → Option ℕ
+next_slot world s = partner_of world (far s)
+
+-- the slots from which a walk goes over a tunnel, from a slot on, if there is one, within so many tunnels
+abbrev pub walk : WorldState → Option ℕ → ℕ → List ℕ
+walk world None most = []
+walk world (Some s) zero = []
+walk world (Some s) (suc most) = s ∷ walk world (next_slot world s) most
+
+-- the walk from a slot over as many tunnels as there are: all of its walk to an end, or more than a ring has
+abbrev pub whole_walk : WorldState → ℕ → List ℕ
+whole_walk world s = walk world (Some s) (length (all_tunnels world))
+
+-- the end to which a walk comes from these slots: the far slot of one of them that is an end
+abbrev pub end_after : WorldState → List ℕ → Option ℕ
+end_after world slots = find (λ s. is_end_goal (goal_of world s)) (map far slots)
 
 -- the other end of the path of a slot; none where the slot is on a ring
 abbrev pub other_end : WorldState → ℕ → Option ℕ
-other_end world s = walked world (length (all_tunnels world)) s
+other_end world s = end_after world (whole_walk world s)
 
--- the tunnels that a walk goes over from the far side of a tunnel, until it comes to an end
-abbrev pub crossed_by : (ℕ → ℕ) → WorldState → SlotGoal → ℕ → ℕ
-crossed_by further world (End goal) s = 0
-crossed_by further world (Link partner) s = unwrap_or (option_map further (number world (place world s).0 partner)) 0
-
--- the tunnels that a walk goes over from a slot, within so many
-abbrev pub crossed : WorldState → ℕ → ℕ → ℕ
-crossed world zero s = 0
-crossed world (suc most) s = 1 + crossed_by (crossed world most) world (goal_of world (far s)) (far s)
+-- the slot that is so many tunnels and links on
+abbrev pub slot_after : WorldState → ℕ → ℕ → Option ℕ
+slot_after world count s = slice_get (walk world (Some s) (suc count)) count
 
 -- a path by its two end slots, the lower first
 pub record PathEnds : Type 0 where
@@ -40,6 +50,14 @@ pub record PathEnds : Type 0 where
 
 abbrev pub from_low : ℕ → ℕ → Option PathEnds
 from_low s t = if nat_lt s t then Some (record { low = s; high = t }) else None
+
+-- both slots of tunnels, by the slot on one side of each
+abbrev pub both_sides : List ℕ → List ℕ
+both_sides slots = flat_map (λ s. s ∷ far s ∷ []) slots
+
+-- all slots of a path, from its lower end to its higher
+abbrev pub slots_on : WorldState → PathEnds → List ℕ
+slots_on world path = both_sides (whole_walk world path.low)
 
 -- the path of which a slot is the lower end
 abbrev pub path_from : WorldState → ℕ → Option PathEnds

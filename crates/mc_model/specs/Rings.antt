@@ -1,32 +1,12 @@
 -- Rings: closed chains of tunnels and links, which come to no end.
-use Rattle.std.specs.Prelude.{◌≡◌, ◌≢◌, ◌<◌, ◌↔◌, ℕ, zero, suc, List, IsTrue, Option, Some, None}
+use Rattle.std.specs.Prelude.{◌≡◌, ◌≢◌, ◌<◌, ◌↔◌, ℕ, List, IsTrue, Option, Some, None}
 use Rattle.std.specs.List.{list_all}
-use Rattle.std.specs.Option.{option_and_then}
-use Rattle.mc_slot.specs.declared.SlotGoal.{SlotGoal}
-use Rattle.mc_slot.specs.declared.SlotGoal.TheVariants.{End, Link}
-use Rattle.mc_model.specs.Paths.{has_ring, other_end}
+use Rattle.mc_model.specs.Paths.{has_ring, other_end, slot_after}
 use Rattle.mc_model.specs.Settles.{takes_or_retries}
 use Rattle.mc_model.specs.Sound.{IsSound}
 use Rattle.mc_model.specs.Steps.{run}
-use Rattle.mc_model.specs.Worlds.{WorldState, far, goal_of, number, place, slot_count}
+use Rattle.mc_model.specs.Worlds.{WorldState, far, slot_count}
 use Rattle.mc_box.specs.declared.event.Turn.{Turn}
-
-abbrev pub partner_by : WorldState → SlotGoal → ℕ → Option ℕ
-partner_by world (End goal) s = None
-partner_by world (Link partner) s = number world (place world s).0 partner
-
--- the number of the slot that a slot is linked with
-abbrev pub partner_of : WorldState → ℕ → Option ℕ
-partner_of world s = partner_by world (goal_of world s) s
-
--- the slot that is one tunnel and one link on: the partner of the far slot
-abbrev pub next_slot : WorldState → ℕ → Option ℕ
-next_slot world s = partner_of world (far s)
-
--- the slot that is so many tunnels and links on
-abbrev pub slot_after : WorldState → ℕ → ℕ → Option ℕ
-slot_after world zero s = Some s
-slot_after world (suc count) s = option_and_then (next_slot world) (slot_after world count s)
 
 -- a slot stands on a ring: some tunnels and links lead back to it
 pub record IsOnRing (world : WorldState) (s : ℕ) : Type 0 where

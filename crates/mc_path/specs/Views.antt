@@ -7,9 +7,8 @@ use Rattle.mc_slot.specs.declared.State.TheVariants.{Flowing}
 use Rattle.mc_view.specs.declared.EndView.{EndView}
 use Rattle.mc_view.specs.declared.PathView.{PathView}
 use Rattle.mc_box.specs.BoxShapes.{is_device}
-use Rattle.mc_model.specs.Paths.{PathEnds, crossed, end_goal}
-use Rattle.mc_model.specs.Worlds.{WorldState, box_at, tunnel_of, all_tunnels, own_descriptor, own_sender, place, slot_of}
-use Rattle.mc_path_laws.specs.PathLaws.{slots_on}
+use Rattle.mc_model.specs.Paths.{PathEnds, end_goal, slots_on, whole_walk}
+use Rattle.mc_model.specs.Worlds.{WorldState, box_at, tunnel_of, own_descriptor, own_sender, place, slot_of}
 
 abbrev pub is_flowing : State → Bool
 is_flowing Flowing = true
@@ -44,7 +43,7 @@ view_of world path = record {
   high = end_view world (path_flows world path) path.high;
   flowing = path_flows world path;
   medium = (tunnel_of world path.low).medium;
-  tunnels = crossed world (length (all_tunnels world)) path.low;
+  tunnels = length (whole_walk world path.low);
 }
 
 -- no end hears anything on a path that doesn't flow, whatever selector its slot keeps

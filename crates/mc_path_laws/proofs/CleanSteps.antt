@@ -18,7 +18,7 @@ use Rattle.mc_box.specs.declared.event.Event.{Event}
 use Rattle.mc_box.specs.declared.event.Event.TheVariants.{Take, Set, Media, Tell, Retry, Shift}
 use Rattle.mc_box.specs.declared.event.Turn.{Turn}
 use Rattle.mc_box.proofs.TakeTurns.{EndTook, Idle, LinkTook, TookBy}
-use Rattle.mc_model.specs.Rings.{partner_of}
+use Rattle.mc_model.specs.Paths.{partner_of}
 use Rattle.mc_model.specs.Settles.{is_retry_of, takes_or_retries}
 use Rattle.mc_model.specs.Sound.{IsSound}
 use Rattle.mc_laws.specs.Stepped.{Stepped}

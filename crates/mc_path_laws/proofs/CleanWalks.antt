@@ -6,15 +6,13 @@ use Rattle.std.proofs.lemmas.List.Sums.{sum_by-cons}
 use Rattle.mc_signal.specs.declared.Tagged.{Tagged}
 use Rattle.mc_slot.specs.declared.Goal.TheVariants.{Close as ToClose}
 use Rattle.mc_slot.specs.declared.Slot.{Slot}
-use Rattle.mc_slot.specs.declared.SlotGoal.{SlotGoal}
-use Rattle.mc_slot.specs.declared.SlotGoal.TheVariants.{End, Link}
+use Rattle.mc_slot.specs.declared.SlotGoal.TheVariants.{End}
 use Rattle.mc_slot.specs.declared.State.TheVariants.{Closed}
 use Rattle.mc_box.specs.Boxes.{BoxState, slot_at}
 use Rattle.mc_box.specs.declared.event.Turn.{Turn}
 use Rattle.mc_box.proofs.Options.{then_some}
 use Rattle.mc_slot.specs.EndTurn.{is_end_goal}
-use Rattle.mc_model.specs.Paths.{end_goal, end_goal_of, other_end, walk_by, walked}
-use Rattle.mc_model.specs.Rings.{partner_of}
+use Rattle.mc_model.specs.Paths.{end_after, end_goal, end_goal_of, other_end, partner_of, walk}
 use Rattle.mc_model.specs.Settles.{is_quiet, is_retry_of, takes_or_retries}
 use Rattle.mc_model.specs.Sound.{IsSound}
 use Rattle.mc_model.specs.Steps.{run, step}
@@ -22,9 +20,9 @@ use Rattle.mc_model.specs.Worlds.{ChannelState, WorldState, box_at, far, goal_of
 use Rattle.mc_laws.proofs.ActedWorlds.{far_inside}
 use Rattle.mc_laws.proofs.Numbers.{far_back, some_same}
 use Rattle.mc_laws.proofs.Partners.{are_linked}
-use Rattle.mc_laws.proofs.Reaches.{GoalsStay, walked_same, with_boxes}
-use Rattle.mc_laws.proofs.RingWalks.{meets_none}
+use Rattle.mc_laws.proofs.Reaches.{GoalsStay, end_same, with_boxes}
 use Rattle.mc_laws.proofs.StepKeeps.{step_keeps_sound}
+use Rattle.mc_laws.proofs.Walks.{end_beyond, end_here, end_linked}
 use Rattle.mc_path_laws.proofs.CleanEnds.{endings, endings-append}
 use Rattle.mc_path_laws.proofs.CleanSteps.{Calm, step_calm}
 use Rattle.mc_path_laws.proofs.QuietWalks.{list_none}
@@ -35,7 +33,7 @@ use Rattle.mc_path_laws.proofs.QuietWalks.{list_none}
 pub record Toward (world : WorldState) (s : ℕ) : Type 0 where
   pub most : ℕ
   pub end : ℕ
-  pub walk : walked world most s ≡ Some end
+  pub comes : end_after world (walk world (Some s) most) ≡ Some end
   pub stays : end_goal world end ≢ ToClose
 
 -- so do both walks from a slot
@@ -53,18 +51,17 @@ far_between world s between = record {
 }
 
 -- a walk over one tunnel more, from the far slot of a linked one
-over_link : (world : WorldState) (most s t : ℕ) → partner_of world s ≡ Some t → walked world (suc most) (far s) ≡ walked world most t
-over_link world most s t is =
-    ap (λ (n : ℕ). walk_by (walked world most) world (goal_of world n) n) (far_back s) ∙ meets_none world most s t is
+over_link : (world : WorldState) (most s t : ℕ) → partner_of world s ≡ Some t → end_after world (walk world (Some (far s)) (suc most)) ≡ end_after world (walk world (Some t) most)
+over_link world most s t is = ap (end_beyond world most) (far_back s) ∙ end_linked world most s t is
 
 -- none is no value
 none_or_some : (t : ℕ) → None ≡ Some t → ⊥
 none_or_some t is = cc
 
 -- from the far slot of a linked one a walk goes on at the partner
-on_link : (most : ℕ) (world : WorldState) (s t end : ℕ) → partner_of world s ≡ Some t → walked world most (far s) ≡ Some end → end_goal world end ≢ ToClose → Toward world t
-on_link zero world s t end is walk stays = absurd (none_or_some end walk)
-on_link (suc most) world s t end is walk stays = record { most = most; end = end; walk = sym (over_link world most s t is) ∙ walk; stays = stays }
+on_link : (most : ℕ) (world : WorldState) (s t end : ℕ) → partner_of world s ≡ Some t → end_after world (walk world (Some (far s)) most) ≡ Some end → end_goal world end ≢ ToClose → Toward world t
+on_link zero world s t end is comes stays = absurd (none_or_some end comes)
+on_link (suc most) world s t end is comes stays = record { most = most; end = end; comes = sym (over_link world most s t is) ∙ comes; stays = stays }
 
 -- and so is the partner
 pub partner_between : (world : WorldState) (s t : ℕ) → IsSound world → partner_of world s ≡ Some t → IsBetween world s → IsBetween world t
@@ -72,34 +69,32 @@ partner_between world s t sound is between =
     let link = are_linked world s t sound between.inside is in
     record {
       inside = link.inside;
-      near = record { most = suc between.away.most; end = between.away.end; walk = over_link world between.away.most t s link.back ∙ between.away.walk; stays = between.away.stays };
-      away = on_link between.near.most world s t between.near.end is between.near.walk between.near.stays;
+      near = record { most = suc between.away.most; end = between.away.end; comes = over_link world between.away.most t s link.back ∙ between.away.comes; stays = between.away.stays };
+      away = on_link between.near.most world s t between.near.end is between.near.comes between.near.stays;
     }
 
 -- from the far slot of an end a walk comes to the end
-pub at_end : (world : WorldState) (most s : ℕ) (goal : SlotGoal) → goal_of world s ≡ goal → is_end_goal goal ≡ true → walked world (suc most) (far s) ≡ Some s
-at_end world most s (End goal) aims is =
-    ap (λ (n : ℕ). walk_by (walked world most) world (goal_of world n) n) (far_back s) ∙ ap (λ (g : SlotGoal). walk_by (walked world most) world g s) aims
-at_end world most s (Link partner) aims is = absurd (cc)
+at_end : (world : WorldState) (most s : ℕ) → is_end_goal (goal_of world s) ≡ true → end_after world (walk world (Some (far s)) (suc most)) ≡ Some s
+at_end world most s aims = ap (end_beyond world most) (far_back s) ∙ end_here world most s aims
 
 -- which is the one that it comes to
-ends_at : (most : ℕ) (world : WorldState) (s end : ℕ) → goal_of world s ≡ End ToClose → walked world most (far s) ≡ Some end → s ≡ end
-ends_at zero world s end aims walk = absurd (none_or_some end walk)
-ends_at (suc most) world s end aims walk = some_same s end (sym (at_end world most s (End ToClose) aims refl) ∙ walk)
+ends_at : (most : ℕ) (world : WorldState) (s end : ℕ) → is_end_goal (goal_of world s) ≡ true → end_after world (walk world (Some (far s)) most) ≡ Some end → s ≡ end
+ends_at zero world s end aims comes = absurd (none_or_some end comes)
+ends_at (suc most) world s end aims comes = some_same s end (sym (at_end world most s aims) ∙ comes)
 
 -- so none of them is an end that closes
 pub never_closes : (world : WorldState) (s : ℕ) → IsBetween world s → goal_of world s ≢ End ToClose
 never_closes world s between closes =
-    let same : s ≡ between.near.end = ends_at between.near.most world s between.near.end closes between.near.walk in
+    let same : s ≡ between.near.end = ends_at between.near.most world s between.near.end (ap is_end_goal closes) between.near.comes in
     between.near.stays (subst (λ (n : ℕ). end_goal world n ≡ ToClose) same (ap end_goal_of closes))
 
 -- all slots from an end to another are such, where neither closes
 pub end_between : (world : WorldState) (s t : ℕ) → s < slot_count world → is_end_goal (goal_of world s) ≡ true → other_end world s ≡ Some t
     → end_goal world s ≢ ToClose → end_goal world t ≢ ToClose → IsBetween world s
-end_between world s t inside aims walk stays far_stays = record {
+end_between world s t inside aims comes stays far_stays = record {
   inside = inside;
-  near = record { most = suc zero; end = s; walk = at_end world zero s (goal_of world s) refl aims; stays = stays };
-  away = record { most = length (all_tunnels world); end = t; walk = walk; stays = far_stays };
+  near = record { most = suc zero; end = s; comes = at_end world zero s aims; stays = stays };
+  away = record { most = length (all_tunnels world); end = t; comes = comes; stays = far_stays };
 }
 
 -- ---- where the goals stay
@@ -109,7 +104,7 @@ toward_before : (world : WorldState) (boxes : List BoxState) (lanes : List (List
 toward_before world boxes lanes s stay toward = record {
   most = toward.most;
   end = toward.end;
-  walk = sym (walked_same toward.most world boxes lanes s stay) ∙ toward.walk;
+  comes = sym (end_same toward.most world boxes lanes s stay) ∙ toward.comes;
   stays = λ closes. toward.stays (ap end_goal_of (stay (place world toward.end).0 (place world toward.end).1) ∙ closes);
 }
 

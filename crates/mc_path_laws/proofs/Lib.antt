@@ -14,3 +14,4 @@ pub mod Returns
 pub mod SettledHold
 pub mod Standing
 pub mod TableHolds
+pub mod Sides

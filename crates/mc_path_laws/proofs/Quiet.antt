@@ -16,12 +16,12 @@ use Rattle.mc_slot.specs.declared.State.TheVariants.{Closed, Flowing}
 use Rattle.mc_box.specs.Boxes.{slot_owes}
 use Rattle.mc_box.proofs.Options.{if_some, then_some}
 use Rattle.mc_model.specs.PathTable.{Hears}
-use Rattle.mc_model.specs.Paths.{PathEnds, end_goal, end_goal_of, from_low, other_end, path_from, walked}
+use Rattle.mc_model.specs.Paths.{PathEnds, end_goal, both_sides, end_after, end_goal_of, from_low, other_end, path_from, walk}
 use Rattle.mc_model.specs.Settles.{is_quiet}
 use Rattle.mc_model.specs.Sound.{IsSound}
 use Rattle.mc_model.specs.Worlds.{WorldState, far, goal_of, all_tunnels, own_descriptor, own_sender, places, slot_count, slot_of}
 use Rattle.mc_laws.proofs.ActedWorlds.{far_inside}
-use Rattle.mc_path_laws.specs.PathLaws.{AreIn, HearEachOther, IsQuietPath, QuietPaths, passed}
+use Rattle.mc_path_laws.specs.PathLaws.{AreIn, HearEachOther, IsQuietPath, QuietPaths}
 use Rattle.mc_path_laws.proofs.Chains.{AllAre, FlowingChain, end_is, last_slot, quiet_chain}
 use Rattle.mc_path_laws.proofs.QuietWalks.{AllIn, Beyond, beyond, both_and, end_of, end_rests, quiet_tunnel}
 
@@ -63,17 +63,17 @@ then_flowing world s t (inr flowing) never = flowing.0
 -- the ends are alike, and the slots that a walk within so many tunnels goes over are as they are
 record IsAlike (world : WorldState) (most s t : ℕ) : Type 0 where
   ends : Alike world s t
-  along : (state : State) → (slot_of world s).state ≡ state → AllIn world state (passed world most s)
+  along : (state : State) → (slot_of world s).state ≡ state → AllIn world state (both_sides (walk world (Some s) most))
 
 -- a chain's slots are those of a walk
 alike_by : (world : WorldState) (most s t : ℕ) (slots : List (Slot × Slot)) → last_slot (slot_of world (far s)) slots ≡ slot_of world t
-    → ((state : State) → AllAre state ((slot_of world s, slot_of world (far s)) ∷ slots) → AllIn world state (passed world most s))
+    → ((state : State) → AllAre state ((slot_of world s, slot_of world (far s)) ∷ slots) → AllIn world state (both_sides (walk world (Some s) most)))
     → AllAre Closed ((slot_of world s, slot_of world (far s)) ∷ slots)
     ⊎ FlowingChain (slot_of world s) (slot_of world (far s)) slots (own_descriptor world s) (own_descriptor world t) (own_sender world s) (own_sender world t)
     → IsAlike world most s t
 alike_by world most s t slots last all (inl closed) = record {
   ends = inl (record { low = closed.0; high = ap (λ (a : Slot). a.state) (sym last) ∙ end_is Closed slots (slot_of world (far s)) closed.1 closed.2 });
-  along = λ state is. subst (λ (st : State). AllIn world st (passed world most s)) (sym closed.0 ∙ is) (all Closed closed);
+  along = λ state is. subst (λ (st : State). AllIn world st (both_sides (walk world (Some s) most))) (sym closed.0 ∙ is) (all Closed closed);
 }
 alike_by world most s t slots last all (inr flows) = record {
   ends = inr (
@@ -83,12 +83,12 @@ alike_by world most s t slots last all (inr flows) = record {
       high = subst (λ (a : Slot). Hears a (own_descriptor world t) (own_descriptor world s) (own_sender world s)) last flows.2;
     },
   );
-  along = λ state is. subst (λ (st : State). AllIn world st (passed world most s)) (sym flows.0.0 ∙ is) (all Flowing flows.0);
+  along = λ state is. subst (λ (st : State). AllIn world st (both_sides (walk world (Some s) most))) (sym flows.0.0 ∙ is) (all Flowing flows.0);
 }
 
 -- from a tunnel on, by what is beyond it
 alike_beyond : (world : WorldState) (most s t : ℕ) → IsSound world → IsTrue (is_quiet world) → s < slot_count world → goal_of world s ≡ End (end_goal world s)
-    → Beyond world most (goal_of world (far s)) (far s) t → IsAlike world (suc most) s t
+    → Beyond world most (far s) t → IsAlike world (suc most) s t
 alike_beyond world most s t sound quiet inside aims more =
     alike_by world (suc most) s t more.slots more.last (λ state are. both_and world most s state are.0 are.1 (more.all state are.2))
     (quiet_chain (end_goal world s) (end_goal world t) (own_descriptor world s) (own_descriptor world t) (own_sender world s) (own_sender world t) (slot_of world s) (slot_of world (far s)) more.slots
@@ -96,17 +96,17 @@ alike_beyond world most s t sound quiet inside aims more =
     (subst (λ (a : Slot). IsAtRest (end_goal world t) a (own_descriptor world t) (own_sender world t)) (sym more.last) (end_rests world t sound more.inside more.aims)))
 
 -- what a walk from an end leads to: slots that are alike, and an end
-record Walked (world : WorldState) (most s t : ℕ) : Type 0 where
+record Leads (world : WorldState) (most s t : ℕ) : Type 0 where
   alike : IsAlike world most s t
   inside : t < slot_count world
   aims : goal_of world t ≡ End (end_goal world t)
 
 -- from an end, by the tunnels that the walk may go over
 walk_leads : (most : ℕ) (world : WorldState) (s t : ℕ) → IsSound world → IsTrue (is_quiet world) → s < slot_count world → goal_of world s ≡ End (end_goal world s)
-    → walked world most s ≡ Some t → Walked world most s t
+    → end_after world (walk world (Some s) most) ≡ Some t → Leads world most s t
 walk_leads zero world s t sound quiet inside aims walk = absurd (cc)
 walk_leads (suc most) world s t sound quiet inside aims walk =
-    let more = beyond most (goal_of world (far s)) world (far s) t sound quiet (far_inside world s inside) refl walk in
+    let more = beyond most world (far s) t sound quiet (far_inside world s inside) walk in
     record { alike = alike_beyond world most s t sound quiet inside aims more; inside = more.inside; aims = more.aims }
 
 -- ---- a path
@@ -124,7 +124,7 @@ path_by world s t rest_low rest_high alike = record {
 
 -- a path from an end to an end
 quiet_path : (world : WorldState) (s t : ℕ) → IsSound world → IsTrue (is_quiet world) → s < slot_count world → goal_of world s ≡ End (end_goal world s)
-    → Walked world (length (all_tunnels world)) s t → IsQuietPath world (record { low = s; high = t })
+    → Leads world (length (all_tunnels world)) s t → IsQuietPath world (record { low = s; high = t })
 quiet_path world s t sound quiet inside aims walk =
     path_by world s t (end_rests world s sound inside aims) (end_rests world t sound walk.inside walk.aims) walk.alike
 

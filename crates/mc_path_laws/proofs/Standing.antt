@@ -1,23 +1,20 @@
 -- Each slot of a sound world stands on exactly one path, or on a ring: a path goes over a slot where the walk from that slot comes to one of the path's ends.
 use Rattle.std.proofs.Common.{◌≡◌, ◌<◌, ◌+◌, ◌==◌, ◌||◌, ◌⊎◌, ◌++◌, inl, inr, cond, if◌then◌else◌, ℕ, zero, suc, Bool, true, false, Option, Some, None, List, [], ◌∷◌, length, count_by, reverse, refl, ap, sym, ◌∙◌, subst, arith}
 use Rattle.std.specs.List.{cons_option, list_any}
-use Rattle.std.specs.Option.{is_none, option_and_then, option_map, unwrap_or}
+use Rattle.std.specs.Option.{is_none}
 use Rattle.std.proofs.lemmas.Bool.{cases_eq}
 use Rattle.std.proofs.lemmas.Grind.{common_steps}
 use Rattle.std.proofs.lemmas.List.Folds.{list_any-append}
 use Rattle.std.proofs.lemmas.List.Sums.{sum_by-cons}
 use Rattle.std.proofs.lemmas.List.Sorted.{IsPermutation-reverse, list_any-IsPermutation}
-use Rattle.mc_slot.specs.declared.SlotGoal.{SlotGoal}
-use Rattle.mc_slot.specs.declared.SlotGoal.TheVariants.{End, Link}
-use Rattle.mc_box.proofs.Options.{then_some}
-use Rattle.mc_model.specs.Paths.{PathEnds, other_end, path_from, paths, walk_by, walked}
+use Rattle.mc_model.specs.Paths.{PathEnds, both_sides, end_after, next_slot, other_end, partner_of, path_from, paths, walk, whole_walk}
 use Rattle.mc_model.specs.Sound.{IsSound}
-use Rattle.mc_model.specs.Worlds.{WorldState, far, goal_of, all_tunnels, number, place, places, slot_count}
-use Rattle.mc_laws.proofs.ActedWorlds.{far_inside}
+use Rattle.mc_model.specs.Worlds.{WorldState, far, all_tunnels, places, slot_count}
 use Rattle.mc_model.specs.Rings.{IsOnRing}
-use Rattle.mc_laws.proofs.Partners.{is_partner}
+use Rattle.mc_laws.proofs.Partners.{next_is}
 use Rattle.mc_laws.proofs.RingWalks.{rings_meet_no_end}
-use Rattle.mc_path_laws.specs.PathLaws.{EachEndOnce, EachSlotOnce, is_end_of, is_on, passed, passed_by}
+use Rattle.mc_laws.proofs.Walks.{end_alone, end_parts, walk_stays}
+use Rattle.mc_path_laws.specs.PathLaws.{EachEndOnce, EachSlotOnce, is_end_of, is_on}
 use Rattle.mc_path_laws.proofs.Ends.{each_end_once, count_none, high_ends, listed, low_ends, parts_of}
 use Rattle.mc_path_laws.proofs.Returns.{Returns, back_on, back_once, comes_back, slots_back, slots_beyond, walk_back}
 use Rattle.mc_laws.proofs.Numbers.{some_same}
@@ -56,48 +53,38 @@ never_true : (a : Bool) → (a ≡ true → ⊥) → a ≡ false
 never_true true none = absurd (none refl)
 never_true false none = refl
 
--- ---- a walk from a slot that another walk passes
+-- ---- a walk from a slot that another walk goes over
 
 -- the walk from t goes on to the end u of the other one, or back to where that began
 abbrev Either : WorldState → ℕ → ℕ → ℕ → ℕ → Type 0
-Either world most s t u = (walked world most t ≡ Some u) ⊎ Returns world most s t
+Either world most s t u = (end_after world (walk world (Some t) most) ≡ Some u) ⊎ Returns world most s t
 
--- what a walk comes to within so many tunnels, it comes to within more
-further_by : (most : ℕ) (world : WorldState) (goal : SlotGoal) (s u : ℕ) → ((next : ℕ) → walked world most next ≡ Some u → walked world (suc most) next ≡ Some u)
-    → walk_by (walked world most) world goal s ≡ Some u → walk_by (walked world (suc most)) world goal s ≡ Some u
-further_by most world (End goal) s u more walk = walk
-further_by most world (Link partner) s u more walk =
-    let on = then_some (walked world most) (number world (place world s).0 partner) u walk in
-    ap (option_and_then (walked world (suc most))) on.1 ∙ more on.0 on.2
+-- to what a walk comes within so many tunnels, it comes within more
+further : (most : ℕ) (world : WorldState) (s u : ℕ) → end_after world (walk world (Some s) most) ≡ Some u → end_after world (walk world (Some s) (suc most)) ≡ Some u
+further most world s u comes = ap (end_after world) (walk_stays most world s u comes) ∙ comes
 
-further : (most : ℕ) (world : WorldState) (s u : ℕ) → walked world most s ≡ Some u → walked world (suc most) s ≡ Some u
-further zero world s u walk = absurd (cc)
-further (suc most) world s u walk = further_by most world (goal_of world (far s)) (far s) u (λ next on. further most world next u on) walk
-
--- beyond a slot with this goal
-on_beyond : (most : ℕ) (goal : SlotGoal) (world : WorldState) (s t u : ℕ) → IsSound world → s < slot_count world → goal_of world (far s) ≡ goal
-    → ((next : ℕ) → next < slot_count world → walked world most next ≡ Some u → has t (passed world most next) ≡ true → Either world most next t u)
-    → walk_by (walked world most) world goal (far s) ≡ Some u → has t (passed_by (passed world most) world goal (far s)) ≡ true → Either world (suc most) s t u
-on_beyond most (End goal) world s t u sound inside aims later walk is = absurd (cc)
-on_beyond most (Link partner) world s t u sound inside aims later walk is =
-    let on = then_some (walked world most) (number world (place world (far s)).0 partner) u walk in
-    let link = is_partner world (far s) partner on.0 sound (far_inside world s inside) aims on.1 in
-    let here : has t (passed world most on.0) ≡ true = sym (ap (λ (o : Option ℕ). has t (unwrap_or (option_map (passed world most) o) [])) on.1) ∙ is in
-    elim (later on.0 link.inside on.2 here) [
-      | inl goes ↦ inl (further most world t u goes)
-      | inr returns ↦ inr (back_on world most s partner on.0 t link returns)
-    ]
-
--- from whichever slot that it passes
-on_walk : (most : ℕ) (world : WorldState) (s t u : ℕ) → IsSound world → s < slot_count world → walked world most s ≡ Some u → has t (passed world most s) ≡ true → Either world most s t u
-on_walk zero world s t u sound inside walk is = absurd (cc)
-on_walk (suc most) world s t u sound inside walk is =
-    let beyond : Bool = has t (passed_by (passed world most) world (goal_of world (far s)) (far s)) in
+-- from whichever slot that it goes over
+on_walk : (most : ℕ) (world : WorldState) (s t u : ℕ) → IsSound world → s < slot_count world → end_after world (walk world (Some s) most) ≡ Some u → has t (both_sides (walk world (Some s) most)) ≡ true
+    → Either world most s t u
+on_walk zero world s t u sound inside comes is = absurd (cc)
+on_walk (suc most) world s t u sound inside comes is =
+    let beyond : Bool = has t (both_sides (walk world (next_slot world s) most)) in
     elim (or_else s t (far s == t || beyond) is) [
-      | inl same ↦ inl (subst (λ (n : ℕ). walked world (suc most) n ≡ Some u) same walk)
+      | inl same ↦ inl (subst (λ (n : ℕ). end_after world (walk world (Some n) (suc most)) ≡ Some u) same comes)
       | inr others ↦ elim (or_else (far s) t beyond others) [
         | inl same ↦ inr (subst (λ (n : ℕ). Returns world (suc most) s n) same (back_once world most s))
-        | inr more ↦ on_beyond most (goal_of world (far s)) world s t u sound inside refl (λ next within on here. on_walk most world next t u sound within on here) walk more
+        | inr more ↦ elim (end_parts world most (far s) u comes) [
+          | inl here ↦
+              let never : false ≡ true = sym (ap (λ (o : Option ℕ). has t (both_sides (walk world o most))) (end_alone world (far s) here.0)) ∙ more in
+              absurd (cc)
+          | inr on ↦
+              let next = next_is world s on.0 sound inside on.1 in
+              let there : has t (both_sides (walk world (Some on.0) most)) ≡ true = sym (ap (λ (o : Option ℕ). has t (both_sides (walk world o most))) on.1) ∙ more in
+              elim (on_walk most world on.0 t u sound next.inside on.2 there) [
+                | inl goes ↦ inl (further most world t u goes)
+                | inr returns ↦ inr (back_on world most s on.0 t next.back returns)
+              ]
+        ]
       ]
     ]
 
@@ -108,24 +95,24 @@ on_path : (world : WorldState) (i s : ℕ) (path : PathEnds) → IsSound world �
     → (other_end world s ≡ Some path.high) ⊎ (other_end world s ≡ Some path.low)
 on_path world i s path sound inside is on =
     let parts = parts_of world i path is in
-    let here : has s (passed world (length (all_tunnels world)) i) ≡ true = subst (λ (n : ℕ). has s (passed world (length (all_tunnels world)) n) ≡ true) parts.low_is on in
+    let here : has s (both_sides (whole_walk world i)) ≡ true = subst (λ (n : ℕ). has s (both_sides (whole_walk world n)) ≡ true) parts.low_is on in
     elim (on_walk (length (all_tunnels world)) world i s path.high sound inside parts.leads here) [
       | inl goes ↦ inl goes
       | inr returns ↦ inr (comes_back world i s parts.aims returns ∙ ap (λ (n : ℕ). Some n) (sym parts.low_is))
     ]
 
--- a walk passes the slot that it begins from
-passes_own : (most : ℕ) (world : WorldState) (s u : ℕ) → walked world most s ≡ Some u → has s (passed world most s) ≡ true
-passes_own zero world s u walk = absurd (cc)
-passes_own (suc most) world s u walk = has_first s (far s ∷ passed_by (passed world most) world (goal_of world (far s)) (far s))
+-- a walk goes over the slot that it begins from
+over_own : (most : ℕ) (world : WorldState) (s u : ℕ) → end_after world (walk world (Some s) most) ≡ Some u → has s (both_sides (walk world (Some s) most)) ≡ true
+over_own zero world s u comes = absurd (cc)
+over_own (suc most) world s u comes = has_first s (far s ∷ both_sides (walk world (next_slot world s) most))
 
 -- and so does the walk back from its end
-end_passes : (world : WorldState) (s u : ℕ) → IsSound world → s < slot_count world → other_end world s ≡ Some u → has s (passed world (length (all_tunnels world)) u) ≡ true
-end_passes world s u sound inside walk =
-    let back = slots_beyond world s u sound inside walk in
-    let own : has s (passed world (length (all_tunnels world)) s) ≡ true = passes_own (length (all_tunnels world)) world s u walk in
+end_over : (world : WorldState) (s u : ℕ) → IsSound world → s < slot_count world → other_end world s ≡ Some u → has s (both_sides (whole_walk world u)) ≡ true
+end_over world s u sound inside comes =
+    let back = slots_beyond world s u sound inside comes in
     ap (has s) back.1
-    ∙ has_before s (reverse (passed world (length (all_tunnels world)) s)) back.0 (has_reverse s (passed world (length (all_tunnels world)) s) ∙ own)
+    ∙ has_before s (reverse (both_sides (whole_walk world s))) (both_sides (walk world (partner_of world s) back.0))
+    (has_reverse s (both_sides (whole_walk world s)) ∙ over_own (length (all_tunnels world)) world s u comes)
 
 -- an end of a path is its lower or its higher end
 which_end : (a b t : ℕ) → (a == t || b == t) ≡ true → (a ≡ t) ⊎ (b ≡ t)
@@ -139,14 +126,14 @@ over_slot : (world : WorldState) (i s t : ℕ) (path : PathEnds) → IsSound wor
     → is_end_of t path ≡ true → is_on world s path ≡ true
 over_slot world i s t path sound inside within is walk ends =
     let parts = parts_of world i path is in
-    let here : has s (passed world (length (all_tunnels world)) t) ≡ true = end_passes world s t sound within walk in
+    let here : has s (both_sides (whole_walk world t)) ≡ true = end_over world s t sound within walk in
     elim (which_end path.low path.high t ends) [
-      | inl low ↦ subst (λ (n : ℕ). has s (passed world (length (all_tunnels world)) n) ≡ true) (sym low) here
+      | inl low ↦ subst (λ (n : ℕ). has s (both_sides (whole_walk world n)) ≡ true) (sym low) here
       | inr high ↦
-          let turned : passed world (length (all_tunnels world)) path.high ≡ reverse (passed world (length (all_tunnels world)) i) = slots_back world i path.high sound inside parts.aims parts.leads in
-          let there : has s (passed world (length (all_tunnels world)) path.high) ≡ true = subst (λ (n : ℕ). has s (passed world (length (all_tunnels world)) n) ≡ true) (sym high) here in
-          let first : has s (passed world (length (all_tunnels world)) i) ≡ true = sym (has_reverse s (passed world (length (all_tunnels world)) i)) ∙ (sym (ap (has s) turned) ∙ there) in
-          subst (λ (n : ℕ). has s (passed world (length (all_tunnels world)) n) ≡ true) (sym parts.low_is) first
+          let back : both_sides (whole_walk world path.high) ≡ reverse (both_sides (whole_walk world i)) = slots_back world i path.high sound inside parts.aims parts.leads in
+          let there : has s (both_sides (whole_walk world path.high)) ≡ true = subst (λ (n : ℕ). has s (both_sides (whole_walk world n)) ≡ true) (sym high) here in
+          let first : has s (both_sides (whole_walk world i)) ≡ true = sym (has_reverse s (both_sides (whole_walk world i))) ∙ (sym (ap (has s) back) ∙ there) in
+          subst (λ (n : ℕ). has s (both_sides (whole_walk world n)) ≡ true) (sym parts.low_is) first
     ]
 
 -- so a path goes over a slot where it has the slot's end

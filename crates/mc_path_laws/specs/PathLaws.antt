@@ -1,22 +1,19 @@
 -- Laws of paths: what each path of a quiet world is, and that after a settle it is as the path table says.
-use Rattle.std.specs.Prelude.{◌≡◌, ◌≢◌, ◌⊎◌, ◌<◌, ◌≤◌, ◌==◌, ◌||◌, ℕ, zero, suc, ◌+◌, Bool, false, List, [], ◌∷◌, length, slice_index_or, IsTrue, Some}
+use Rattle.std.specs.Prelude.{◌≡◌, ◌≢◌, ◌⊎◌, ◌<◌, ◌≤◌, ◌==◌, ◌||◌, ℕ, ◌+◌, Bool, false, List, length, slice_index_or, IsTrue, Some}
 use Rattle.std.specs.List.{All, count_by, list_all, list_any}
-use Rattle.std.specs.Option.{option_map, unwrap_or}
 use Rattle.mc_slot.specs.Outlook.{acks, closes}
 use Rattle.mc_slot.specs.declared.Goal.TheVariants.{Open as ToOpen, Close as ToClose}
-use Rattle.mc_slot.specs.declared.SlotGoal.{SlotGoal}
-use Rattle.mc_slot.specs.declared.SlotGoal.TheVariants.{End, Link}
 use Rattle.mc_slot.specs.declared.State.{State}
 use Rattle.mc_slot.specs.declared.State.TheVariants.{Closed, Flowing, Closing}
 use Rattle.mc_model.specs.PathTable.{Hears, PathHolds}
 use Rattle.mc_slot.specs.EndTurn.{is_end_goal}
-use Rattle.mc_model.specs.Paths.{PathEnds, end_goal, paths}
+use Rattle.mc_model.specs.Paths.{PathEnds, end_goal, paths, slots_on}
 use Rattle.mc_model.specs.Rings.{IsOnRing}
 use Rattle.mc_model.specs.Settles.{IsSettled, is_quiet, is_retry_of, world_owes, takes_or_retries}
 use Rattle.mc_model.specs.Shapes.{owes_by_number}
 use Rattle.mc_model.specs.Sound.{IsSound}
 use Rattle.mc_model.specs.Steps.{run}
-use Rattle.mc_model.specs.Worlds.{WorldState, far, goal_of, tunnel_of, all_tunnels, list_to, number, own_descriptor, own_sender, place, slot_count, slot_of}
+use Rattle.mc_model.specs.Worlds.{WorldState, goal_of, tunnel_of, list_to, own_descriptor, own_sender, slot_count, slot_of}
 use Rattle.mc_box.specs.declared.event.Turn.{Turn}
 
 -- both end slots of a path are in a state
@@ -28,20 +25,6 @@ pub record AreIn (world : WorldState) (path : PathEnds) (state : State) : Type 0
 pub record HearEachOther (world : WorldState) (path : PathEnds) : Type 0 where
   pub low : Hears (slot_of world path.low) (own_descriptor world path.low) (own_descriptor world path.high) (own_sender world path.high)
   pub high : Hears (slot_of world path.high) (own_descriptor world path.high) (own_descriptor world path.low) (own_sender world path.low)
-
--- the slots that a walk goes over from the far side of a tunnel, until it comes to an end
-abbrev pub passed_by : (ℕ → List ℕ) → WorldState → SlotGoal → ℕ → List ℕ
-passed_by further world (End goal) s = []
-passed_by further world (Link partner) s = unwrap_or (option_map further (number world (place world s).0 partner)) []
-
--- the slots that a walk goes over from a slot, within so many tunnels: both slots of each tunnel
-abbrev pub passed : WorldState → ℕ → ℕ → List ℕ
-passed world zero s = []
-passed world (suc most) s = s ∷ far s ∷ passed_by (passed world most) world (goal_of world (far s)) (far s)
-
--- all slots of a path, from its lower end to its higher
-abbrev pub slots_on : WorldState → PathEnds → List ℕ
-slots_on world path = passed world (length (all_tunnels world)) path.low
 
 -- all slots of a path of a sound world have one medium, that of its lower end's tunnel
 abbrev pub PathsOfOneMedium : Type 0

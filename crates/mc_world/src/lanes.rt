@@ -41,7 +41,12 @@ pub fn send_all(lanes: &mut [Lane<Tagged>], topology: &Topology, who: u32, sends
 }
 
 /// The same for what stands in a queue.
-pub fn send_lane(lanes: &mut [Lane<Tagged>], topology: &Topology, who: u32, sends: &Lane<(u8, Signal)>)
+pub fn send_lane(
+    lanes: &mut [Lane<Tagged>],
+    topology: &Topology,
+    who: u32,
+    sends: &Lane<(u8, Signal)>,
+)
     requires laid { IsLaid topology.now (length lanes.old) }
     requires room { HasRoomFrom lanes.old topology.now who (length topology.now.places.items) (length sends.now.items) }
     ensures { signals_of lanes.new ≡ all_sent topology.now who (signals_of lanes.old) sends.now.items }

@@ -2,8 +2,8 @@
 
 ghost use Rattle.std.specs.Prelude.{◌≡◌, ◌↔◌, ◌<◌, IfSome, IsTrue};
 ghost use Rattle.std.specs.Option.{is_some};
-ghost use Rattle.mc_model.specs.Paths.{has_ring};
-ghost use Rattle.mc_model.specs.Rings.{IsOnRing, IsLeastOnRing, NoneBefore, partner_of};
+ghost use Rattle.mc_model.specs.Paths.{has_ring, partner_of};
+ghost use Rattle.mc_model.specs.Rings.{IsOnRing, IsLeastOnRing, NoneBefore};
 ghost use Rattle.mc_model.specs.Sound.{IsSound};
 ghost use Rattle.mc_model.specs.Worlds.{slot_count};
 

@@ -1,10 +1,13 @@
 use Rattle.std.proofs.Common.{ap, sym, ◌∙◌, arith, ℕ}
 use Rattle.mc_laws.proofs.ActedWorlds.{far_inside}
-use Rattle.mc_path.proofs.Walking.{breaks, ends, goes_on, half_of, stops}
+use Rattle.mc_path.proofs.Walking.{begins, breaks, ends, goes_on, half_of, stops}
 use Rattle.mc_path.proofs.walk.walk_from.Goals as goal
 
 pub goal-requires : goal.goal-requires
 goal-requires c = rw c.far-far.ensures (far_inside c.args.world.now c.loop-done.at c.loop-done.invariant.inside)
+
+pub loop-done-init : goal.loop-done-init
+loop-done-init c = begins c.args.world.now c.args.from c.requires
 
 pub returns-in-End-clause-walk : goal.returns-in-End-clause-walk
 returns-in-End-clause-walk c =

@@ -1,5 +1,5 @@
 use Rattle.std.proofs.Common.{◌≡◌, None, ap, sym, ◌∙◌, subst, ℕ, ◌+◌, arith}
-use Rattle.mc_model.specs.Rings.{partner_of}
+use Rattle.mc_model.specs.Paths.{partner_of}
 use Rattle.mc_model.specs.Worlds.{far}
 use Rattle.mc_laws.proofs.ActedWorlds.{far_inside}
 use Rattle.mc_laws.proofs.BothWays.{WalkBoth, both_next, comes_again, ends_ahead, ends_behind, is_off, is_on, lower_met, whole_way}

@@ -1,5 +1,5 @@
-use Rattle.std.proofs.Common.{Some, None, refl, arith}
-use Rattle.mc_laws.proofs.BothWays.{has_by}
+use Rattle.std.proofs.Common.{◌≡◌, true, false, Some, None, refl, arith}
+use Rattle.mc_laws.proofs.BothWays.{has_by, none_yet}
 use Rattle.mc_world.proofs.network.World.ring.Goals as goal
 
 pub returns-then-is_on_ring-clause-has : goal.returns-then-is_on_ring-clause-has
@@ -9,6 +9,9 @@ returns-then-is_on_ring-clause-has c =
       on = c.if-is_on_ring.ensures.0 refl;
       least = c.loop-slot.invariant;
     })
+
+pub loop-slot-preserved : goal.loop-slot-preserved
+loop-slot-preserved c = none_yet c.args.self.now c.loop-slot.slot c.loop-slot.invariant (λ on. let clash : false ≡ true = c.if-is_on_ring.ensures.1 on in absurd (cc))
 
 pub returns-clause-least : goal.returns-clause-least
 returns-clause-least c t below = c.loop-slot.invariant t (omega (arith, below, c.loop-slot-test.false, c.slot_count-slot-end.ensures))
