@@ -1,5 +1,5 @@
 -- Walks on rings: a walk meets no end exactly where its slot stands on a ring, and a ring is the same from each of its slots.
-use Rattle.std.proofs.Common.{◌≡◌, ◌≢◌, ◌<◌, ◌≤◌, ◌+◌, ◌-◌, ◌*◌, inl, inr, ℕ, zero, suc, true, false, IsTrue, Option, Some, None, length, refl, ap, sym, ◌∙◌, subst, arith}
+use Rattle.std.proofs.Common.{◌≡◌, ◌≢◌, ◌<◌, ◌≤◌, ◌+◌, ◌-◌, ◌*◌, inl, inr, ℕ, zero, suc, IsTrue, Option, Some, None, length, refl, ap, sym, ◌∙◌, subst, arith}
 use Rattle.std.specs.Option.{option_and_then}
 use Rattle.mc_slot.specs.declared.SlotGoal.{SlotGoal}
 use Rattle.mc_slot.specs.declared.SlotGoal.TheVariants.{End, Link}
@@ -8,12 +8,12 @@ use Rattle.mc_slot.specs.EndTurn.{is_end_goal}
 use Rattle.mc_model.specs.Paths.{end_after, next_slot, other_end, partner_of, slot_after, walk}
 use Rattle.mc_model.specs.Rings.{IsOnRing, RingsMeetNoEnd}
 use Rattle.mc_model.specs.Sound.{IsSound}
-use Rattle.mc_model.specs.Worlds.{WorldState, far, goal_of, all_tunnels, number, place, slot_count}
+use Rattle.mc_model.specs.Worlds.{WorldState, far, goal_of, all_tunnels, slot_count}
 use Rattle.mc_laws.proofs.ActedWorlds.{far_inside}
-use Rattle.mc_laws.proofs.Partners.{by_goal, has_partner, linked_with, next_is, one_before}
+use Rattle.mc_laws.proofs.Partners.{by_goal, has_partner, next_is, one_before}
 use Rattle.mc_laws.proofs.RingChains.{after_inside, after_parts, after_sum, no_way_back, ring_by}
 use Rattle.mc_laws.proofs.Numbers.{some_same}
-use Rattle.mc_laws.proofs.Walks.{after_first, after_more, after_next, end_beyond, end_here, end_parts, end_linked}
+use Rattle.mc_laws.proofs.Walks.{after_first, after_more, after_next, end_alone, end_beyond, end_here, end_linked, end_parts}
 
 -- ---- walks by their chains
 
@@ -121,13 +121,6 @@ rings_meet_no_end world s sound inside = (meets, comes)
 
 -- ---- ends
 
--- the goal of an end is no link
-no_partner : (world : WorldState) (s t : ℕ) → IsTrue (is_end_goal (goal_of world s)) → partner_of world s ≡ Some t → ⊥
-no_partner world s t end is =
-    let link = linked_with world s t (goal_of world s) is in
-    let clash : true ≡ false = sym end ∙ ap is_end_goal link.1 in
-    cc
-
 is_there : (o : Option ℕ) → (o ≡ None → ⊥) → (t : ℕ) × (o ≡ Some t)
 is_there None some = absurd (some refl)
 is_there (Some t) some = (t, refl)
@@ -136,7 +129,7 @@ is_there (Some t) some = (t, refl)
 pub end_is_met : (world : WorldState) (s : ℕ) → IsSound world → s < slot_count world → IsTrue (is_end_goal (goal_of world s)) → (t : ℕ) × (other_end world s ≡ Some t)
 end_is_met world s sound inside end =
     is_there (other_end world s)
-    (λ none. let on : IsOnRing world s = (rings_meet_no_end world s sound inside).0 none in let link = ring_partner world s sound inside on in no_partner world s link.0 end link.1)
+    (λ none. let on : IsOnRing world s = (rings_meet_no_end world s sound inside).0 none in let link = ring_partner world s sound inside on in none_or_some link.0 (sym link.1 ∙ end_alone world s end))
 
 -- the last tunnel of a walk, by its near slot
 last_tunnel : (world : WorldState) (most s t : ℕ) → end_after world (walk world (Some s) most) ≡ Some t → (count : ℕ) × (last : ℕ) × (slot_after world count s ≡ Some last) × (far last ≡ t)

@@ -1,5 +1,5 @@
 -- Walks by their slots: the slot so many tunnels and links on, the end to which a walk comes, and that it goes no further from there.
-use Rattle.std.proofs.Common.{◌≡◌, ◌≤◌, ◌<◌, ◌⊎◌, inl, inr, cond, ℕ, zero, suc, Bool, true, false, Option, Some, None, List, [], ◌∷◌, get_or, length, map, refl, ap, sym, ◌∙◌, arith}
+use Rattle.std.proofs.Common.{◌≡◌, ◌≤◌, ◌<◌, ◌⊎◌, inl, inr, cond, ℕ, zero, suc, Bool, true, false, Option, Some, None, List, ◌∷◌, get_or, length, map, refl, ap, sym, ◌∙◌, arith}
 use Rattle.std.specs.List.{find, slice_get}
 use Rattle.std.specs.Option.{option_and_then}
 use Rattle.mc_slot.specs.EndTurn.{is_end_goal}

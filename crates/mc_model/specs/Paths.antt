@@ -21,17 +21,17 @@ partner_of world s = partner_by world (goal_of world s) s
 abbrev pub next_slot : WorldState → ℕ → Option ℕ
 next_slot world s = partner_of world (far s)
 
--- the slots from which a walk goes over a tunnel, from a slot on, if there is one, within so many tunnels
+-- the walk from a slot, if there is one, within so many tunnels: the slots from which it goes over them
 abbrev pub walk : WorldState → Option ℕ → ℕ → List ℕ
 walk world None most = []
 walk world (Some s) zero = []
 walk world (Some s) (suc most) = s ∷ walk world (next_slot world s) most
 
--- the walk from a slot over as many tunnels as there are: all of its walk to an end, or more than a ring has
+-- the walk from a slot within as many tunnels as there are: the whole of it, unless it goes round a ring
 abbrev pub whole_walk : WorldState → ℕ → List ℕ
 whole_walk world s = walk world (Some s) (length (all_tunnels world))
 
--- the end to which a walk comes from these slots: the far slot of one of them that is an end
+-- the end to which a walk from these slots comes: the far slot of one of them that is an end
 abbrev pub end_after : WorldState → List ℕ → Option ℕ
 end_after world slots = find (λ s. is_end_goal (goal_of world s)) (map far slots)
 
@@ -39,7 +39,7 @@ end_after world slots = find (λ s. is_end_goal (goal_of world s)) (map far slot
 abbrev pub other_end : WorldState → ℕ → Option ℕ
 other_end world s = end_after world (whole_walk world s)
 
--- the slot that is so many tunnels and links on
+-- the slot that is so many tunnels and links on from a slot
 abbrev pub slot_after : WorldState → ℕ → ℕ → Option ℕ
 slot_after world count s = slice_get (walk world (Some s) (suc count)) count
 

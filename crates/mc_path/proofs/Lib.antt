@@ -1,3 +1,2 @@
-mod Lengths
 pub mod Shown
 pub mod Walking

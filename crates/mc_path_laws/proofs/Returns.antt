@@ -1,5 +1,5 @@
 -- The walk back from the end that a walk comes to: it goes over the same tunnels, the other way round, and comes to the slot that the walk began from.
-use Rattle.std.proofs.Common.{◌≡◌, ◌<◌, ◌≤◌, ◌+◌, ◌-◌, ◌++◌, inl, inr, ℕ, zero, suc, true, Option, Some, None, IsTrue, List, [], ◌∷◌, length, map, reverse, append_assoc, refl, ap, sym, ◌∙◌, subst, arith}
+use Rattle.std.proofs.Common.{◌≡◌, ◌<◌, ◌≤◌, ◌+◌, ◌-◌, ◌++◌, inl, inr, ℕ, zero, suc, true, Option, Some, IsTrue, List, [], ◌∷◌, length, map, reverse, append_assoc, ap, sym, ◌∙◌, subst, arith}
 use Rattle.std.proofs.lemmas.Grind.{flat_map-append}
 use Rattle.std.proofs.lemmas.List.{append-nil, reverse-append}
 use Rattle.mc_slot.specs.EndTurn.{is_end_goal}

@@ -1,5 +1,5 @@
 -- Both slots of the tunnels that a walk goes over: how many they are, which stands where, and what holds of all of them.
-use Rattle.std.proofs.Common.{◌≡◌, ◌<◌, ◌+◌, ◌*◌, ◌++◌, ℕ, zero, suc, Option, Some, None, List, [], ◌∷◌, All, get_or, length, map, reverse, refl, ap, sym, ◌∙◌, subst, arith}
+use Rattle.std.proofs.Common.{◌≡◌, ◌<◌, ◌+◌, ◌*◌, ◌++◌, ℕ, zero, suc, Option, Some, None, List, [], ◌∷◌, All, get_or, length, map, reverse, refl, ap, sym, ◌∙◌, arith}
 use Rattle.std.proofs.lemmas.Grind.{flat_map-append}
 use Rattle.std.proofs.lemmas.List.{reverse-append}
 use Rattle.std.proofs.lemmas.List.Elements.{All-nil, All-cons}
