@@ -3,6 +3,8 @@ use Rattle.std.proofs.Common.{◌≡◌, ◌≢◌, ◌<◌, ◌≤◌, ◌+◌,
 use Rattle.std.proofs.Math.ListN.{get_or}
 use Rattle.std.proofs.lemmas.Bool.{cases_eq, cases_lt, and_parts, le-leb, lt-leb, lt-ltb, le-ltb}
 use Rattle.mc_slot.specs.Same.{is_same_slot_goal}
+use Rattle.mc_turn.specs.Sums.{total}
+use Rattle.mc_turn.proofs.Sums.{total_grows, total_next, total_one, total_same}
 use Rattle.mc_slot.specs.declared.Goal.TheVariants.{Close as ToClose}
 use Rattle.mc_slot.specs.declared.SlotGoal.{SlotGoal}
 use Rattle.mc_slot.specs.declared.SlotGoal.TheVariants.{End, Link}
@@ -13,43 +15,10 @@ use Rattle.mc_box.proofs.Folds.{most_of}
 
 -- ---- sums
 
--- the sum of what a function gives for each number below a count
-abbrev pub total : (ℕ → ℕ) → ℕ → ℕ
-total f zero = 0
-total f (suc k) = f k + total f k
-
--- equal values have equal sums
-total_same : (f g : ℕ → ℕ) (k : ℕ) → ((t : ℕ) → t < k → f t ≡ g t) → total f k ≡ total g k
-total_same f g zero same = omega arith
-total_same f g (suc k) same = omega (arith, same k (omega arith), total_same f g k (λ t below. same t (omega arith)))
-
--- where one value changes, the sum changes by as much
-total_one : (f g : ℕ → ℕ) (k s : ℕ) → s < k → ((t : ℕ) → t < k → t ≢ s → f t ≡ g t) → total f k + g s ≡ total g k + f s
-total_one f g zero s inside same = absurd (omega arith)
-total_one f g (suc k) s inside same = elim (cases_eq k s) [
-  | inl is ↦
-      let rest : total f k ≡ total g k = total_same f g k (λ t below. same t (omega arith) (omega arith)) in
-      omega (arith, rest, ap f is, ap g is)
-  | inr apart ↦
-      let rest : total f k + g s ≡ total g k + f s = total_one f g k s (omega arith) (λ t below. same t (omega arith)) in
-      omega (arith, rest, same k (omega arith) apart)
-]
-
 -- no value, no sum
 total_none : (f : ℕ → ℕ) (k : ℕ) → ((t : ℕ) → t < k → f t ≡ 0) → total f k ≡ 0
 total_none f zero none = refl
 total_none f (suc k) none = omega (arith, none k (omega arith), total_none f k (λ t below. none t (omega arith)))
-
--- a longer sum is no smaller
-pub total_grows : (f : ℕ → ℕ) (k n : ℕ) → k ≤ n → total f k ≤ total f n
-total_grows f k zero within = let same : 0 ≡ k = omega arith in subst (λ (j : ℕ). total f j ≤ 0) same (omega arith)
-total_grows f k (suc n) within = elim (cases_lt k (suc n)) [
-  | inl below ↦ let rest : total f k ≤ total f n = total_grows f k n (omega arith) in omega (arith, rest)
-  | inr at ↦ let same : suc n ≡ k = omega arith in subst (λ (j : ℕ). total f j ≤ f n + total f n) same (omega arith)
-]
-
-pub total_next : (f : ℕ → ℕ) (k : ℕ) → total f (k + 1) ≡ f k + total f k
-total_next f k = rw add-one refl
 
 -- ---- what a slot's goal may send, where it has its turn there
 

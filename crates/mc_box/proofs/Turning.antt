@@ -3,6 +3,8 @@ use Rattle.std.proofs.Common.{◌≡◌, ℕ, ◌+◌, ◌*◌, ◌<◌, ◌≤�
 use Rattle.std.specs.Option.{option_and_then, option_map}
 use Rattle.std.proofs.Math.ListN.{get_or}
 use Rattle.std.proofs.lemmas.List.{append-nil, drop_all, drop_more}
+use Rattle.mc_turn.specs.Sums.{total}
+use Rattle.mc_turn.proofs.Sums.{total_grows, total_next}
 use Rattle.mc_signal.specs.declared.Signal.{Signal}
 use Rattle.mc_slot.specs.declared.Goal.TheVariants.{Close as ToClose}
 use Rattle.mc_slot.specs.declared.SlotGoal.{SlotGoal}
@@ -12,7 +14,7 @@ use Rattle.mc_box.specs.BoxSound.{IsWired}
 use Rattle.mc_box.specs.Boxes.{BoxState, goal_at}
 use Rattle.mc_box.specs.Goals.{changed_from, changed_slots, has_turn, most_signals}
 use Rattle.mc_box.proofs.GoalTurns.{turned}
-use Rattle.mc_box.proofs.Sums.{cost_at, total, total_grows, total_next, turn_cost, wired_cost}
+use Rattle.mc_box.proofs.Sums.{cost_at, turn_cost, wired_cost}
 
 -- the goals of the slots before i have had their turns; the rest is as from the start
 pub record Turning (start now : BoxState) (olds : List SlotGoal) (i : ℕ) (before items : List (ℕ × Signal)) : Type 0 where

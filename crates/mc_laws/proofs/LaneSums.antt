@@ -4,12 +4,13 @@ use Rattle.std.specs.List.{sum_by}
 use Rattle.std.proofs.Math.ListN.{get_or}
 use Rattle.std.proofs.lemmas.Grind.{common_steps}
 use Rattle.std.proofs.lemmas.List.Sums.{sum_by-cons}
+use Rattle.mc_turn.specs.Sums.{total}
+use Rattle.mc_turn.proofs.Sums.{total_same}
 use Rattle.mc_signal.specs.declared.Tagged.{Tagged}
-use Rattle.mc_laws.specs.Measures.{total}
 use Rattle.mc_model.specs.Sound.{IsNumbered}
 use Rattle.mc_model.specs.Worlds.{WorldState, for_tunnel, tunnel_of, lane_of, list_to, slot_count}
 use Rattle.mc_laws.proofs.LanesKept.{lane_apart, lane_in}
-use Rattle.mc_laws.proofs.Sums.{total_front, total_has, total_le, total_none, total_once, total_plus, total_same, total_swap}
+use Rattle.mc_laws.proofs.Sums.{total_front, total_has, total_le, total_none, total_once, total_plus, total_swap}
 
 -- ---- one lane
 

@@ -3,6 +3,8 @@ use Rattle.std.proofs.Common.{◌≡◌, ◌≢◌, ◌<◌, ◌≤◌, ◌+◌,
 use Rattle.std.specs.List.{list_all}
 use Rattle.std.proofs.lemmas.Grind.{common_steps}
 use Rattle.std.proofs.Math.Nat.{mul-le-mul_left, mul-one, mul_assoc, pow-succ', pow-zero}
+use Rattle.mc_turn.specs.Sums.{total}
+use Rattle.mc_turn.proofs.Sums.{total_one, total_same}
 use Rattle.mc_link.specs.LinkTurn.{link_turn, sent_by_first, sent_by_second, side_closed}
 use Rattle.mc_link.specs.LinkWeights.{stored_link}
 use Rattle.mc_link.specs.declared.Side.TheVariants.{First}
@@ -23,7 +25,7 @@ use Rattle.mc_box.specs.BoxEvents.{is_take}
 use Rattle.mc_box.specs.BoxSound.{RestsAt}
 use Rattle.mc_box.specs.Boxes.{BoxState, goal_at, slot_at}
 use Rattle.mc_box.proofs.TakeTurns.{EndTook, LinkTook, TookBy, link_rests_from}
-use Rattle.mc_laws.specs.Measures.{IsRingFree, MeasureBound, TakeLowers, TakesBound, TakesEnd, base, measure, reach, stored_of, to_come, total, under_way}
+use Rattle.mc_laws.specs.Measures.{IsRingFree, MeasureBound, TakeLowers, TakesBound, TakesEnd, base, measure, reach, stored_of, to_come, under_way}
 use Rattle.mc_model.specs.Sound.{IsSound}
 use Rattle.mc_model.specs.Steps.{run, step}
 use Rattle.mc_model.specs.Worlds.{WorldState, box_at, far, goal_of, all_tunnels, list_to, own_descriptor, own_sender, place, slot_count, slot_of}
@@ -40,7 +42,7 @@ use Rattle.mc_laws.proofs.StepActs.{TakeHappened, take_happened}
 use Rattle.mc_laws.proofs.StepForms.{then_some}
 use Rattle.mc_laws.proofs.StepKeeps.{step_keeps_sound}
 use Rattle.mc_laws.proofs.SteppedKeeps.{after_is}
-use Rattle.mc_laws.proofs.Sums.{total_most, total_one, total_plus, total_same, total_two, weights-append, weights_most}
+use Rattle.mc_laws.proofs.Sums.{total_most, total_plus, total_two, weights-append, weights_most}
 use Rattle.mc_laws.proofs.TakeParts.{first_goes, idle_sends, idle_stays, others_left, sent_here, take_goals_stay, took_is}
 
 -- ---- sums over far slots

@@ -5,26 +5,10 @@ use Rattle.std.proofs.lemmas.Bool.{cases_eq, cases_lt}
 use Rattle.mc_signal.specs.declared.Signal.{Signal}
 use Rattle.mc_signal.specs.declared.Signal.TheVariants.{Open, Oack, Close, Closeack, Describe, Select}
 use Rattle.mc_turn.specs.Weights.{weight, weights}
-use Rattle.mc_laws.specs.Measures.{total}
+use Rattle.mc_turn.specs.Sums.{total}
+use Rattle.mc_turn.proofs.Sums.{total_one, total_same}
 
 -- ---- sums
-
--- equal values have equal sums
-pub total_same : (f g : ℕ → ℕ) (k : ℕ) → ((t : ℕ) → t < k → f t ≡ g t) → total f k ≡ total g k
-total_same f g zero same = omega arith
-total_same f g (suc k) same = omega (arith, same k (omega arith), total_same f g k (λ t below. same t (omega arith)))
-
--- where one value changes, the sum changes by as much
-pub total_one : (f g : ℕ → ℕ) (k s : ℕ) → s < k → ((t : ℕ) → t < k → t ≢ s → f t ≡ g t) → total f k + g s ≡ total g k + f s
-total_one f g zero s inside same = absurd (omega arith)
-total_one f g (suc k) s inside same = elim (cases_eq k s) [
-  | inl is ↦
-      let rest : total f k ≡ total g k = total_same f g k (λ t below. same t (omega arith) (omega arith)) in
-      omega (arith, rest, ap f is, ap g is)
-  | inr apart ↦
-      let rest : total f k + g s ≡ total g k + f s = total_one f g k s (omega arith) (λ t below. same t (omega arith)) in
-      omega (arith, rest, same k (omega arith) apart)
-]
 
 -- where two values change, the sum changes by as much as both
 pub total_two : (f g : ℕ → ℕ) (k s p : ℕ) → s < k → p < k → p ≢ s → ((t : ℕ) → t < k → t ≢ s → t ≢ p → f t ≡ g t) → total f k + (g s + g p) ≡ total g k + (f s + f p)

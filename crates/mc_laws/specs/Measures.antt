@@ -4,6 +4,7 @@ use Rattle.std.specs.List.{list_all, sum_by}
 use Rattle.mc_link.specs.LinkWeights.{stored_link}
 use Rattle.mc_slot.specs.declared.SlotGoal.{SlotGoal}
 use Rattle.mc_slot.specs.declared.SlotGoal.TheVariants.{End, Link}
+use Rattle.mc_turn.specs.Sums.{total}
 use Rattle.mc_turn.specs.Weights.{weights, stored_end}
 use Rattle.mc_box.specs.BoxEvents.{is_take}
 use Rattle.mc_box.specs.Boxes.{slot_at}
@@ -13,11 +14,6 @@ use Rattle.mc_model.specs.Steps.{run, step}
 use Rattle.mc_model.specs.Worlds.{WorldState, box_at, far, goal_of, all_tunnels, list_to, place, slot_count, slot_of}
 use Rattle.mc_box.specs.declared.event.Event.TheVariants.{Take}
 use Rattle.mc_box.specs.declared.event.Turn.{Turn}
-
--- the sum of what a function gives for each number below a count
-abbrev pub total : (ℕ → ℕ) → ℕ → ℕ
-total f zero = 0
-total f (suc k) = f k + total f k
 
 -- the tunnels from a slot, over its own, to the end of its path there
 abbrev pub reach : WorldState → ℕ → ℕ

@@ -3,8 +3,8 @@ use Rattle.std.proofs.Common.{◌≡◌, ◌≢◌, ◌<◌, ◌+◌, ◌==◌, 
 use Rattle.std.proofs.lemmas.Bool.{cases_eq}
 use Rattle.std.proofs.lemmas.Grind.{common_steps}
 use Rattle.std.proofs.lemmas.List.Sums.{sum_by-append}
+use Rattle.mc_turn.specs.Sums.{total}
 use Rattle.mc_box.specs.Boxes.{is_slot, box_owes}
-use Rattle.mc_laws.specs.Measures.{total}
 use Rattle.mc_model.specs.Settles.{is_retry_of, world_owes}
 use Rattle.mc_model.specs.Shapes.{owes_by_number, retry_of}
 use Rattle.mc_model.specs.Sound.{IsSound}

@@ -6,8 +6,8 @@ use Rattle.std.proofs.lemmas.Bool.{cases_eq}
 use Rattle.std.proofs.lemmas.List.Elements.{All-append}
 use Rattle.std.proofs.lemmas.List.Folds.{list_all-append}
 use Rattle.std.proofs.lemmas.List.Sums.{sum_by-append}
+use Rattle.mc_turn.specs.Sums.{total}
 use Rattle.mc_box.specs.declared.event.Turn.{Turn}
-use Rattle.mc_laws.specs.Measures.{total}
 use Rattle.mc_seq.specs.Schedule.{for_each}
 use Rattle.mc_seq.proofs.OrderSettles.{both_there}
 

@@ -1,12 +1,12 @@
 -- A round of retries: each leaves what the other slots owe, and each that is owed comes once.
 use Rattle.std.proofs.Common.{◌≡◌, ◌≢◌, ◌<◌, ◌≤◌, ◌+◌, ◌++◌, ◌&&◌, if◌then◌else◌, nat_lt, ℕ, Bool, true, false, List, [], ◌∷◌, length, count_by, Some, None, append_assoc, add-one, refl, ap, sym, ◌∙◌, subst, arith}
 use Rattle.std.proofs.lemmas.Grind.{common_steps}
+use Rattle.mc_turn.specs.Sums.{total}
 use Rattle.mc_slot.specs.declared.Slot.{Slot}
 use Rattle.mc_slot.specs.declared.SlotGoal.{SlotGoal}
 use Rattle.mc_box.specs.Boxes.{goal_at, slot_owes, is_slot, box_owes, slot_at}
 use Rattle.mc_box.specs.declared.event.Event.TheVariants.{Retry}
 use Rattle.mc_box.specs.declared.event.Turn.{Turn}
-use Rattle.mc_laws.specs.Measures.{total}
 use Rattle.mc_model.specs.Settles.{is_retry_of, world_owes, takes_or_retries}
 use Rattle.mc_model.specs.Shapes.{HasShape}
 use Rattle.mc_model.specs.Sound.{IsSound}

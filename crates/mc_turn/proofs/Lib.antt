@@ -1,3 +1,4 @@
 pub mod EndPays
 pub mod EndRests
+pub mod Sums
 pub mod Weighing
