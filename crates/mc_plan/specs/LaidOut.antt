@@ -2,6 +2,7 @@
 use Rattle.std.specs.Prelude.{◌≡◌, ◌≢◌, ℕ, ◌<◌, ◌≤◌, List, All, count_by, length, slice_index_or, take}
 use Rattle.mc_model.specs.Worlds.{HasTunnels, places_among}
 use Rattle.mc_plan.specs.Plans.{PlanState, is_of, slots_of}
+use Rattle.mc_plan.specs.declared.limit.TheConstants.{BOX_LIMIT, CHANNEL_LIMIT, SLOT_LIMIT}
 
 -- the box and local number of a slot, by its number among these
 abbrev pub place_at : List (ℕ × ℕ) → ℕ → ℕ × ℕ
@@ -17,10 +18,10 @@ AreInOrder places = (s : ℕ) → s < length places → (place_at places s).1 �
 
 -- at most 256 boxes of 64 slots, and 1,024 channels of one to 8 tunnels between different boxes: each slot's box is there, and the slots of a box are numbered in the order of tunnels
 pub record IsLaidOut (plan : PlanState) : Type 0 where
-  pub boxes : length plan.boxes ≤ 256
-  pub channels : length plan.channels ≤ 1024
+  pub boxes : length plan.boxes ≤ BOX_LIMIT
+  pub channels : length plan.channels ≤ CHANNEL_LIMIT
   pub tunnels : All HasTunnels plan.channels
   pub apart : All (λ ends. ends.from ≢ ends.to) plan.channels
-  pub slots : (who : ℕ) → slots_of plan.channels who ≤ 64
+  pub slots : (who : ℕ) → slots_of plan.channels who ≤ SLOT_LIMIT
   pub there : AreThere (length plan.boxes) (places_among plan.channels)
   pub ordered : AreInOrder (places_among plan.channels)

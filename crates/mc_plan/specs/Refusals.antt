@@ -1,9 +1,9 @@
 -- When a box or a channel isn't added to a plan.
 use Rattle.std.specs.Prelude.{◌≡◌, ℕ, ◌+◌, ◌==◌, ◌||◌, Bool, if◌then◌else◌, List, length, nat_le, nat_lt, Option, Some, None, Result, Ok, Err}
 use Rattle.mc_signal.specs.declared.Medium.{Medium}
-use Rattle.mc_model.specs.Worlds.{tunnel_limit}
 use Rattle.mc_plan.specs.Plans.{PlanState, slots_of}
 use Rattle.mc_plan.specs.declared.fault.PlanFault.{PlanFault}
+use Rattle.mc_plan.specs.declared.limit.TheConstants.{BOX_LIMIT, CHANNEL_LIMIT, SLOT_LIMIT, TUNNEL_LIMIT}
 use Rattle.mc_plan.specs.declared.fault.PlanFault.TheVariants.{NoBox, SameBox, NoTunnels, TooManyTunnels, BoxesFull, ChannelsFull, SlotsFull, NoMemory}
 
 -- this fault where a rule is broken, and else the first of the others
@@ -12,11 +12,11 @@ fault_if broken fault others = if broken then Some fault else others
 
 -- why a box isn't added
 abbrev pub add_fault : PlanState → Option PlanFault
-add_fault plan = fault_if (nat_le 256 (length plan.boxes)) BoxesFull None
+add_fault plan = fault_if (nat_le BOX_LIMIT (length plan.boxes)) BoxesFull None
 
 -- whether a box would have more than 64 slots
 abbrev pub overfills : PlanState → (who more : ℕ) → Bool
-overfills plan who more = nat_lt 64 (slots_of plan.channels who + more)
+overfills plan who more = nat_lt SLOT_LIMIT (slots_of plan.channels who + more)
 
 -- why a channel isn't added: the first rule that it breaks
 abbrev pub join_fault : PlanState → (from to : ℕ) → List Medium → Option PlanFault
@@ -24,8 +24,8 @@ join_fault plan from to media =
     fault_if (nat_le (length plan.boxes) from || nat_le (length plan.boxes) to) NoBox
     (fault_if (from == to) SameBox
     (fault_if (length media == 0) NoTunnels
-    (fault_if (nat_lt tunnel_limit (length media)) TooManyTunnels
-    (fault_if (nat_le 1024 (length plan.channels)) ChannelsFull
+    (fault_if (nat_lt TUNNEL_LIMIT (length media)) TooManyTunnels
+    (fault_if (nat_le CHANNEL_LIMIT (length plan.channels)) ChannelsFull
     (fault_if (overfills plan from (length media) || overfills plan to (length media)) SlotsFull None)))))
 
 -- a refusal is the fault that there is; memory is asked for only where there is none

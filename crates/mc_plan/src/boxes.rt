@@ -5,6 +5,7 @@ ghost use Rattle.mc_model.specs.Setups.{setup_if, setups_of, setups_within};
 ghost use Rattle.mc_model.specs.Worlds.{HasTunnels};
 ghost use Rattle.mc_plan.specs.LaidOut.{IsLaidOut};
 ghost use Rattle.mc_plan.specs.Plans.{box_from, boxes_from, slots_of};
+ghost use Rattle.mc_plan.specs.declared.limit.TheConstants.{BOX_LIMIT, CHANNEL_LIMIT, SLOT_LIMIT};
 
 use crate::plan::BoxPlan;
 use mc_box::{MediaBox, Setup, SlotSetup};
@@ -35,10 +36,10 @@ fn new_box(
     who: u32,
     planned: BoxPlan,
 ) -> Result<MediaBox, AllocError>
-    requires channels { length channels.now ≤ 1024 }
+    requires channels { length channels.now ≤ CHANNEL_LIMIT }
     requires tunnels { All HasTunnels channels.now }
-    requires slots { slots_of channels.now who ≤ 64 }
-    requires number { who < 256 }
+    requires slots { slots_of channels.now who ≤ SLOT_LIMIT }
+    requires number { who < BOX_LIMIT }
     ensures { IfOk result (λ made. made ≡ box_from channels.now who planned) }
 {
     let slots = setups_of(alloc, channels, who)?;
@@ -55,7 +56,7 @@ fn new_box(
 
 // The slots of a box, in the order of their local numbers.
 fn setups_of(alloc: Global, channels: &[Channel], who: u32) -> Result<Vec<SlotSetup>, AllocError>
-    requires channels { length channels.now ≤ 1024 }
+    requires channels { length channels.now ≤ CHANNEL_LIMIT }
     requires tunnels { All HasTunnels channels.now }
     ensures { IfOk result (λ setups. setups.items ≡ setups_of channels.now who) }
 {

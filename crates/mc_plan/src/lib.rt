@@ -4,6 +4,7 @@
 mod boxes;
 mod fault;
 pub mod laws;
+pub mod limit;
 mod plan;
 #[cfg(test)]
 mod tests;

@@ -1,28 +1,20 @@
 // The plan of a network.
 
 ghost use Rattle.std.specs.Prelude.{◌≡◌, ◌≤◌, length, IfOk, OnOk, OnErr};
-ghost use Rattle.mc_model.specs.Worlds.{tunnel_limit};
 ghost use Rattle.mc_plan.specs.LaidOut.{IsLaidOut};
 ghost use Rattle.mc_plan.specs.Plans.{empty_plan, with_channel, slots_of, with_plan, world_of};
 ghost use Rattle.mc_plan.specs.Refusals.{add_fault, join_fault, overfills, Gives};
+ghost use Rattle.mc_plan.specs.declared.limit.TheConstants.{SLOT_LIMIT, TUNNEL_LIMIT};
 
 use crate::boxes::new_boxes;
 use crate::fault::PlanFault;
+use crate::limit::{BOX_LIMIT, CHANNEL_LIMIT, SLOT_LIMIT, TUNNEL_LIMIT};
 use crate::tunnels::{slots_of, tunnels_from};
 use mc_box::Kind;
 use mc_signal::{CodecList, Medium};
 use mc_world::{Channel, World};
 use std::alloc::{AllocError, Global};
 use std::marker::Model;
-
-// How many boxes and channels a plan may have, tunnels a channel, and slots a box.
-const MOST_BOXES: usize = 256;
-
-const MOST_CHANNELS: usize = 1024;
-
-const MOST_TUNNELS: usize = 8;
-
-const MOST_SLOTS: usize = 64;
 
 /// A box that is planned: its kind, the codecs that it receives and those that it sends, and the version that its
 /// descriptors begin at.
@@ -93,7 +85,7 @@ impl Plan {
     /// How many slots a box has so far, at most 64: 0 where there is no such box.
     pub fn slots(&self, who: u32) -> usize
         ensures slots { result ≡ slots_of self.now.channels who }
-        ensures few { result ≤ 64 }
+        ensures few { result ≤ SLOT_LIMIT }
     {
         slots_of(&self.channels, who)
     }
@@ -105,7 +97,7 @@ impl Plan {
         ensures unchanged { OnErr result (self.new ≡ self.old) }
     {
         let number = self.boxes.len();
-        if MOST_BOXES <= number {
+        if BOX_LIMIT <= number {
             return Err(PlanFault::BoxesFull);
         }
         self.boxes.push(planned)?;
@@ -153,10 +145,10 @@ impl Plan {
         if media.is_empty() {
             return Some(PlanFault::NoTunnels);
         }
-        if MOST_TUNNELS < media.len() {
+        if TUNNEL_LIMIT < media.len() {
             return Some(PlanFault::TooManyTunnels);
         }
-        if MOST_CHANNELS <= self.channels.len() {
+        if CHANNEL_LIMIT <= self.channels.len() {
             return Some(PlanFault::ChannelsFull);
         }
         if self.overfills(from, media.len()) || self.overfills(to, media.len()) {
@@ -167,9 +159,9 @@ impl Plan {
 
     // Whether a box would have too many slots.
     fn overfills(&self, who: u32, more: usize) -> bool
-        requires { more ≤ tunnel_limit }
+        requires { more ≤ TUNNEL_LIMIT }
         ensures { result ≡ overfills self.now who more }
     {
-        MOST_SLOTS < self.slots(who) + more
+        SLOT_LIMIT < self.slots(who) + more
     }
 }

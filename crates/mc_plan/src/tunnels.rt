@@ -2,6 +2,7 @@
 
 ghost use Rattle.std.specs.Prelude.{◌≡◌, ◌+◌, ◌≤◌, ◌∷◌, [], length, IfOk};
 ghost use Rattle.mc_plan.specs.Plans.{slots_of, tunnels_between};
+ghost use Rattle.mc_plan.specs.declared.limit.TheConstants.{SLOT_LIMIT};
 
 use mc_signal::Medium;
 use mc_world::{Channel, Tunnel};
@@ -9,7 +10,7 @@ use std::alloc::{AllocError, Global};
 
 // How many slots a box has at these channels.
 pub fn slots_of(channels: &[Channel], who: u32) -> usize
-    requires few { slots_of channels.now who ≤ 64 }
+    requires few { slots_of channels.now who ≤ SLOT_LIMIT }
     ensures { result ≡ slots_of channels.now who }
 {
     let mut count = 0;
@@ -36,8 +37,8 @@ pub fn tunnels_from(
     far: u8,
     media: &[Medium],
 ) -> Result<Vec<Tunnel>, AllocError>
-    requires near { near + length media.now ≤ 64 }
-    requires far { far + length media.now ≤ 64 }
+    requires near { near + length media.now ≤ SLOT_LIMIT }
+    requires far { far + length media.now ≤ SLOT_LIMIT }
     ensures { IfOk result (λ tunnels. tunnels.items ≡ tunnels_between near far media.now) }
 {
     let mut tunnels = Vec::new(alloc);
