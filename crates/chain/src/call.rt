@@ -25,8 +25,8 @@ pub fn hang_up(world: &mut World) -> Result<u64, ChainFault> {
     sweep_until_quiet(world)
 }
 
-/// A slot takes what waits for it, if anything does.
-pub fn take_at(world: &mut World, slot: u32) -> Result<bool, StepFault> {
+// A slot takes what waits for it, if anything does.
+fn take_at(world: &mut World, slot: u32) -> Result<bool, StepFault> {
     if world.slot_count() <= slot as usize || world.front(slot).is_none() {
         return Ok(false);
     }

@@ -7,8 +7,6 @@
 mod call;
 mod fault;
 mod network;
-#[cfg(test)]
-mod tests;
 
 use crate::call::{call, hang_up};
 use crate::fault::ChainFault;

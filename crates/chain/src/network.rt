@@ -16,8 +16,8 @@ pub const CALLEE: u32 = 1;
 // How many features a network has room for.
 const MOST_FEATURES: u32 = 254;
 
-/// A device that receives and sends the one codec 0.
-pub fn device() -> BoxPlan {
+// A device that receives and sends the one codec 0.
+fn device() -> BoxPlan {
     let mut codecs = CodecList::none();
     let _ = codecs.add(0);
     BoxPlan {
@@ -28,8 +28,8 @@ pub fn device() -> BoxPlan {
     }
 }
 
-/// A feature.
-pub fn feature() -> BoxPlan {
+// A feature.
+fn feature() -> BoxPlan {
     BoxPlan {
         kind: Kind::Feature,
         codecs: CodecList::none(),
