@@ -21,7 +21,8 @@ use Rattle.mc_seq.specs.Draws.{AreAllowed}
 use Rattle.mc_seq.specs.Drawing.{MayCome}
 use Rattle.mc_seq.specs.Schedule.{left_by, next_of, without_next}
 use Rattle.mc_seq.proofs.Candidates.{IsListed, take_goes}
-use Rattle.mc_seq.proofs.Retrying.{count_same}
+use Rattle.mc_seq.proofs.RetriesMade.{count_same}
+use Rattle.mc_seq.proofs.Segments.{both_there}
 
 -- ---- in a later world
 
@@ -61,23 +62,19 @@ allowed_kept start now turn before sound shape is =
     ap (λ (n : ℕ). nat_lt turn.who n && is_enabled_by (box_shape (box_at now turn.who)) turn.event) shape.boxes
     ∙ (ap (λ (s : BoxShapeState). nat_lt turn.who (length start.boxes) && is_enabled_by s turn.event) (shape_kept start now turn.who before sound shape below) ∙ is)
 
--- two tests that pass pass together
-pub two_there : (a b : Bool) → a ≡ true → b ≡ true → (a && b) ≡ true
-two_there a b one two = rw (one, two) refl
-
 -- what a world allows it allows after each run
 pub all_kept : (left : List Turn) (start now : WorldState) → IsSound start → IsSound now → HasShape now start → AreAllowed start left → AreAllowed now left
 all_kept [] start now before sound shape allowed = refl
 all_kept (turn ∷ left) start now before sound shape allowed =
     let parts = and_parts (is_allowed start turn) (list_all (is_allowed start) left) allowed in
-    two_there (is_allowed now turn) (list_all (is_allowed now) left) (allowed_kept start now turn before sound shape parts.0) (all_kept left start now before sound shape parts.1)
+    both_there (is_allowed now turn) (list_all (is_allowed now) left) (allowed_kept start now turn before sound shape parts.0) (all_kept left start now before sound shape parts.1)
 
 -- ---- of those that are left
 
 -- what is left behind a turn that is taken out passes
 rest_by : (here : Bool) (p : Turn → Bool) (turn : Turn) (rest less : List Turn) → p turn ≡ true → list_all p rest ≡ true → list_all p less ≡ true → list_all p (if here then rest else turn ∷ less) ≡ true
 rest_by true p turn rest less one all fewer = all
-rest_by false p turn rest less one all fewer = two_there (p turn) (list_all p less) one fewer
+rest_by false p turn rest less one all fewer = both_there (p turn) (list_all p less) one fewer
 
 -- so does what is left without the next command of a box
 pub without_pass : (p : Turn → Bool) (who : ℕ) (left : List Turn) → list_all p left ≡ true → list_all p (without_next who left) ≡ true

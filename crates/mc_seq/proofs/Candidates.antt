@@ -19,7 +19,7 @@ use Rattle.mc_laws.proofs.Numbers.{box_inside, number_is}
 use Rattle.mc_laws.proofs.StepForms.{then_some}
 use Rattle.mc_laws.proofs.StepGoes.{front_step_goes, some_of}
 use Rattle.mc_seq.specs.Draws.{AreAllowed}
-use Rattle.mc_seq.specs.Schedule.{Standing, candidates, drawn, drawn_place, is_urgent, listed, next_of, of_box, take_turn, take_where, takes_of, take_waits}
+use Rattle.mc_seq.specs.Schedule.{Standing, candidates, drawn_turn, drawn_place, is_urgent, all_candidates, next_of, candidates_of, take_turn, waiting_take, takes_of, take_waits}
 use Rattle.mc_seq.proofs.ForEach.{append_none, each_all, each_none, none_all, one_all}
 use Rattle.mc_seq.proofs.Fronts.{none_quiet}
 
@@ -66,25 +66,25 @@ where_by false world left who local is = none_all (IsListed world left false)
 -- so are the Takes of a box
 takes_by : (urgent : Bool) (world : WorldState) (left : List Turn) (who : ℕ) → All (IsListed world left urgent) (if urgent then [] else takes_of world who)
 takes_by true world left who = none_all (IsListed world left true)
-takes_by false world left who = each_all (IsListed world left false) (take_where world who) (length (box_at world who).slots) (λ local below. where_by (take_waits world who local) world left who local refl)
+takes_by false world left who = each_all (IsListed world left false) (waiting_take world who) (length (box_at world who).slots) (λ local below. where_by (take_waits world who local) world left who local refl)
 
 -- each candidate of a box is listed
-box_listed : (world : WorldState) (left : List Turn) (urgent : Bool) (who : ℕ) → All (IsListed world left urgent) (of_box world left urgent who)
+box_listed : (world : WorldState) (left : List Turn) (urgent : Bool) (who : ℕ) → All (IsListed world left urgent) (candidates_of world left urgent who)
 box_listed world left urgent who =
     All-append (IsListed world left urgent) (option_to_list (next_of who left)) (if urgent then [] else takes_of world who)
     (option_all (IsListed world left urgent) (next_of who left) (λ turn is. inl (ap (λ (w : ℕ). next_of w left) (next_who who left turn is) ∙ is)))
     (takes_by urgent world left who)
 
 -- and so is each candidate of all boxes
-pub all_listed : (world : WorldState) (left : List Turn) (urgent : Bool) → All (IsListed world left urgent) (listed world left urgent)
-all_listed world left urgent = each_all (IsListed world left urgent) (of_box world left urgent) (length world.boxes) (λ who below. box_listed world left urgent who)
+pub all_listed : (world : WorldState) (left : List Turn) (urgent : Bool) → All (IsListed world left urgent) (all_candidates world left urgent)
+all_listed world left urgent = each_all (IsListed world left urgent) (candidates_of world left urgent) (length world.boxes) (λ who below. box_listed world left urgent who)
 
 -- what holds of all holds of the one at a place
 got_all : (P : Turn → Type 0) (xs : List Turn) (k : ℕ) (x : Turn) → All P xs → slice_get xs k ≡ Some x → P x
 got_all P xs k x all got = subst P (get_or_from_slice_get xs k x x got) (all k x (slice_get_within xs k x got))
 
 -- so is the one that is drawn
-pub drawn_listed : (now : Standing) (turn : Turn) → drawn now ≡ Some turn → IsListed now.world now.left (is_urgent now.left now.since) turn
+pub drawn_listed : (now : Standing) (turn : Turn) → drawn_turn now ≡ Some turn → IsListed now.world now.left (is_urgent now.left now.since) turn
 drawn_listed now turn is =
     got_all (IsListed now.world now.left (is_urgent now.left now.since)) (candidates now) (drawn_place now.draws (length (candidates now))) turn
     (all_listed now.world now.left (is_urgent now.left now.since)) is
@@ -126,12 +126,12 @@ first_by true t later is none = cc
 first_by false t later is none = cc
 
 -- each command that is left is listed with its box
-pub none_left : (world : WorldState) (left : List Turn) (urgent : Bool) → AreAllowed world left → listed world left urgent ≡ [] → left ≡ []
+pub none_left : (world : WorldState) (left : List Turn) (urgent : Bool) → AreAllowed world left → all_candidates world left urgent ≡ [] → left ≡ []
 none_left world [] urgent allowed none = refl
 none_left world (turn ∷ left) urgent allowed none =
     let parts = and_parts (is_allowed world turn) (list_all (is_allowed world) left) allowed in
     let inside = box_inside world turn.who (allowed_parts world turn parts.0).below in
-    let box = each_none (of_box world (turn ∷ left) urgent) (length world.boxes) turn.who none inside in
+    let box = each_none (candidates_of world (turn ∷ left) urgent) (length world.boxes) turn.who none inside in
     let next = (append_none (option_to_list (next_of turn.who (turn ∷ left))) (if urgent then [] else takes_of world turn.who) box).0 in
     absurd (first_by (turn.who == turn.who) turn (find (λ t. t.who == turn.who) left) (self_test turn.who) next)
 
@@ -146,15 +146,15 @@ no_front None is = refl
 no_front (Some x) is = absurd (cc)
 
 -- where the batch is used up, and nothing is listed, no slot can take its front
-none_waits : (world : WorldState) → IsSound world → listed world [] false ≡ [] → (s : ℕ) → s < slot_count world → front world s ≡ None
+none_waits : (world : WorldState) → IsSound world → all_candidates world [] false ≡ [] → (s : ℕ) → s < slot_count world → front world s ≡ None
 none_waits world sound none s inside =
     let who : ℕ = (place world s).0 in
     let local : ℕ = (place world s).1 in
-    let takes : takes_of world who ≡ [] = each_none (of_box world [] false) (length world.boxes) who none (sound.numbered.placed s inside) in
-    let take : take_where world who local ≡ [] = each_none (take_where world who) (length (box_at world who).slots) local takes (sound.numbered.slots s inside) in
+    let takes : takes_of world who ≡ [] = each_none (candidates_of world [] false) (length world.boxes) who none (sound.numbered.placed s inside) in
+    let take : waiting_take world who local ≡ [] = each_none (waiting_take world who) (length (box_at world who).slots) local takes (sound.numbered.slots s inside) in
     let waiting : take_waits world who local ≡ false = unlisted_by (take_waits world who local) who local take in
     no_front (front world s) (ap (λ (o : Option ℕ). is_some (option_and_then (front world) o)) (sym (sound.numbered.once s inside)) ∙ waiting)
 
 -- where nothing is listed nothing is under way
-pub listed_quiet : (world : WorldState) → IsSound world → listed world [] false ≡ [] → IsTrue (is_quiet world)
+pub listed_quiet : (world : WorldState) → IsSound world → all_candidates world [] false ≡ [] → IsTrue (is_quiet world)
 listed_quiet world sound none = none_quiet world sound (none_waits world sound none)

@@ -3,7 +3,7 @@ use Rattle.std.proofs.Common.{◌≡◌, ◌<◌, ◌≤◌, ◌+◌, ◌++◌, 
 use Rattle.std.proofs.Math.ListN.{get_or}
 use Rattle.std.proofs.lemmas.Bool.{cases_eq}
 use Rattle.mc_box.specs.declared.event.Turn.{Turn}
-use Rattle.mc_seq.specs.Schedule.{for_each}
+use Rattle.mc_seq.specs.ForEach.{for_each}
 use Rattle.mc_seq.specs.Sums.{CountsEach}
 use Rattle.mc_seq.proofs.TreeSums.{take_one}
 

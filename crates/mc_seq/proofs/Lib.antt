@@ -1,7 +1,5 @@
 mod AllowedCommands
 mod Candidates
-mod Commanding
-mod Counting
 mod DrawsEnd
 mod Finds
 mod ForEach
@@ -9,13 +7,15 @@ mod Fronts
 mod FrontsStay
 mod Hears
 mod Kth
+mod Making
 mod Nexts
 mod OneSchedule
 mod OrderSettles
-mod Retrying
-mod Rounds
+mod Retries
+mod RetriesMade
 mod Runs
 mod Scheduled
+mod Segments
 mod Sittings
 mod Taking
 mod TreePuts

@@ -4,12 +4,13 @@ use Rattle.mc_box.specs.declared.event.Turn.{Turn}
 use Rattle.mc_model.specs.Steps.{run, step}
 use Rattle.mc_model.specs.Worlds.{WorldState}
 use Rattle.mc_seq.specs.Draws.{ScheduleIsOne}
-use Rattle.mc_seq.specs.Schedule.{AreDrawn, Standing, first_standing, candidates, drawn, drawn_place, standing_after, round}
+use Rattle.mc_seq.specs.Retries.{retries_by_box}
+use Rattle.mc_seq.specs.Schedule.{AreDrawn, Standing, first_standing, candidates, drawn_turn, drawn_place, standing_after}
 
 -- where nothing is listed, nothing is drawn
-none_drawn : (now : Standing) (turn : Turn) → candidates now ≡ [] → drawn now ≡ Some turn → ⊥
+none_drawn : (now : Standing) (turn : Turn) → candidates now ≡ [] → drawn_turn now ≡ Some turn → ⊥
 none_drawn now turn none is =
-    let nothing : drawn now ≡ None = ap (λ (l : List Turn). slice_get l (drawn_place now.draws (length l))) none in
+    let nothing : drawn_turn now ≡ None = ap (λ (l : List Turn). slice_get l (drawn_place now.draws (length l))) none in
     cc (nothing, is)
 
 record AreOne (one two : List Turn) (last other : Standing) : Type 0 where
@@ -30,7 +31,7 @@ drawn_one [] [] now last other first none second nothing = record { turns = refl
 drawn_one [] (t ∷ two) now last other first none second nothing = absurd (none_drawn now t (ap candidates first ∙ none) second.2)
 drawn_one (s ∷ one) [] now last other first none second nothing = absurd (none_drawn now s (ap candidates second ∙ nothing) first.2)
 drawn_one (s ∷ one) (t ∷ two) now last other first none second nothing =
-    let same = same_turn (drawn now) s t first.2 second.2 in
+    let same = same_turn (drawn_turn now) s t first.2 second.2 in
     let world = same_world now.world first.0 second.0 s t same first.3 second.3 in
     let rest : AreDrawn (standing_after now s first.0) two other =
     subst (λ (w : WorldState). AreDrawn (standing_after now s w) two other) (sym world) (subst (λ (x : Turn). AreDrawn (standing_after now x second.0) two other) (sym same) second.4) in
@@ -38,8 +39,8 @@ drawn_one (s ∷ one) (t ∷ two) now last other first none second nothing =
     record { turns = ap (λ (x : Turn). x ∷ one) same ∙ ap (λ (l : List Turn). t ∷ l) later.turns; stands = later.stands }
 
 -- one world has one round, and one world after it
-same_run : (world other n m : WorldState) → world ≡ other → run world (round world) ≡ Some n → run other (round other) ≡ Some m → n ≡ m
-same_run world other n m is one two = let both : run world (round world) ≡ run other (round other) = ap (λ (w : WorldState). run w (round w)) is in cc
+same_run : (world other n m : WorldState) → world ≡ other → run world (retries_by_box world) ≡ Some n → run other (retries_by_box other) ≡ Some m → n ≡ m
+same_run world other n m is one two = let both : run world (retries_by_box world) ≡ run other (retries_by_box other) = ap (λ (w : WorldState). run w (retries_by_box w)) is in cc
 
 -- so a settle by draws has one schedule
 pub schedule_is_one : ScheduleIsOne
@@ -51,9 +52,9 @@ schedule_is_one world last other batch turns more state end until one two =
     (subst (λ (s : Standing). AreDrawn (record s { world = two.retried }) two.others two.ended) (sym first.stands) two.more) in
     let later = drawn_one one.others two.others (record one.rested { world = one.retried }) one.ended two.ended one.more one.nothing again two.nothing in
     record {
-      turns_same = one.are ∙ (ap (λ (l : List Turn). l ++ (round one.rested.world ++ one.others)) first.turns
-          ∙ (ap (λ (s : Standing). two.first ++ (round s.world ++ one.others)) first.stands
-          ∙ (ap (λ (l : List Turn). two.first ++ (round two.rested.world ++ l)) later.turns ∙ sym two.are)));
+      turns_same = one.are ∙ (ap (λ (l : List Turn). l ++ (retries_by_box one.rested.world ++ one.others)) first.turns
+          ∙ (ap (λ (s : Standing). two.first ++ (retries_by_box s.world ++ one.others)) first.stands
+          ∙ (ap (λ (l : List Turn). two.first ++ (retries_by_box two.rested.world ++ l)) later.turns ∙ sym two.are)));
       worlds_same = sym one.to_last ∙ (ap (λ (s : Standing). s.world) later.stands ∙ two.to_last);
       ends_same = sym one.to_end ∙ (ap (λ (s : Standing). s.draws) later.stands ∙ two.to_end);
     }

@@ -21,13 +21,14 @@ use Rattle.mc_laws.proofs.GoalsKept.{rest_keeps_rings}
 use Rattle.mc_laws.proofs.ShapesKept.{run_keeps_shape}
 use Rattle.mc_laws.proofs.StepKeeps.{run_keeps_sound}
 use Rattle.mc_seq.specs.Draws.{AreAllowed, IsScheduled, ScheduleSettles, StopsAtRing, StopsAtVersion}
-use Rattle.mc_seq.specs.Drawing.{DrewAll, RanOut, Rested}
-use Rattle.mc_seq.specs.Schedule.{AreDrawn, Standing, first_standing, candidates, is_urgent, left_by, listed, standing_after, round, without_next}
+use Rattle.mc_seq.specs.Drawing.{CameToRest, DrewAll, RanOut, Sight}
+use Rattle.mc_seq.specs.Retries.{retries_by_box}
+use Rattle.mc_seq.specs.Schedule.{AreDrawn, Standing, first_standing, candidates, is_urgent, left_by, all_candidates, standing_after, without_next}
 use Rattle.mc_seq.proofs.Candidates.{IsListed, drawn_listed, listed_quiet, none_left, take_same}
-use Rattle.mc_seq.proofs.AllowedCommands.{all_kept, left_pass, next_pass, two_there}
+use Rattle.mc_seq.proofs.AllowedCommands.{all_kept, left_pass, next_pass}
 use Rattle.mc_seq.proofs.Nexts.{next_first}
-use Rattle.mc_seq.proofs.OrderSettles.{all_besides, besides_both, settled_at}
-use Rattle.mc_seq.proofs.Rounds.{round_besides, round_once}
+use Rattle.mc_seq.proofs.Segments.{all_besides, besides_both, both_there, settled_at}
+use Rattle.mc_seq.proofs.Retries.{boxes_besides, once_by_box}
 use Rattle.mc_seq.proofs.Runs.{run-append}
 use Rattle.mc_seq.proofs.Sittings.{drawn_take, take_left, take_none}
 
@@ -54,7 +55,7 @@ allowed_commands : (left : List Turn) (world : WorldState) → AreAllowed world 
 allowed_commands [] world allowed = refl
 allowed_commands (turn ∷ left) world allowed =
     let parts = and_parts (is_allowed world turn) (list_all (is_allowed world) left) allowed in
-    two_there (is_ordered turn) (list_all is_ordered left) (allowed_parts world turn parts.0).command (allowed_commands left world parts.1)
+    both_there (is_ordered turn) (list_all is_ordered left) (allowed_parts world turn parts.0).command (allowed_commands left world parts.1)
 
 -- a drawn turn and what is left behind it are the commands that were left, box by box
 moved_commands : (world : WorldState) (left : List Turn) (urgent : Bool) (turn : Turn) (who : ℕ) → list_all is_ordered left ≡ true → IsListed world left urgent turn
@@ -109,7 +110,7 @@ drawn_takes (turn ∷ turns) now last none draws =
 -- nothing is under way where nothing is listed
 rested_quiet : (now : Standing) → IsSound now.world → now.left ≡ [] → candidates now ≡ [] → IsTrue (is_quiet now.world)
 rested_quiet now sound left none =
-    listed_quiet now.world sound (subst (λ (l : List Turn). listed now.world l (is_urgent l now.since) ≡ []) left none)
+    listed_quiet now.world sound (subst (λ (l : List Turn). all_candidates now.world l (is_urgent l now.since) ≡ []) left none)
 
 -- ---- the segment
 
@@ -141,24 +142,24 @@ first_is world batch first state rested sound allowed draws none =
     }
 
 -- each retry that is owed comes once behind it
-counted : (world : WorldState) (others : List Turn) (who local : ℕ) → count_by (is_retry_of who local) others ≡ 0 → count_by (is_retry_of who local) (round world ++ others) ≡ (if world_owes world who local then 1 else 0)
+counted : (world : WorldState) (others : List Turn) (who local : ℕ) → count_by (is_retry_of who local) others ≡ 0 → count_by (is_retry_of who local) (retries_by_box world ++ others) ≡ (if world_owes world who local then 1 else 0)
 counted world others who local none =
-    let both : count_by (is_retry_of who local) (round world ++ others) ≡ count_by (is_retry_of who local) (round world) + count_by (is_retry_of who local) others
-    = sum_by-append (λ (turn : Turn). cond (is_retry_of who local turn) 1 0) (round world) others in
-    let sum : count_by (is_retry_of who local) (round world ++ others) ≡ count_by (is_retry_of who local) (round world) = omega arith in
-    sum ∙ round_once world who local
+    let both : count_by (is_retry_of who local) (retries_by_box world ++ others) ≡ count_by (is_retry_of who local) (retries_by_box world) + count_by (is_retry_of who local) others
+    = sum_by-append (λ (turn : Turn). cond (is_retry_of who local turn) 1 0) (retries_by_box world) others in
+    let sum : count_by (is_retry_of who local) (retries_by_box world ++ others) ≡ count_by (is_retry_of who local) (retries_by_box world) = omega arith in
+    sum ∙ once_by_box world who local
 
 -- with the round and the Takes behind it they are a settled segment
 settled_by : (world retried : WorldState) (batch first others : List Turn) (rested ended : Standing) → First world batch first rested → has_ring rested.world ≡ false
-    → run rested.world (round rested.world) ≡ Some retried → AreDrawn (record rested { world = retried }) others ended → candidates ended ≡ []
-    → IsSettled world batch (first ++ (round rested.world ++ others)) ended.world
+    → run rested.world (retries_by_box rested.world) ≡ Some retried → AreDrawn (record rested { world = retried }) others ended → candidates ended ≡ []
+    → IsSettled world batch (first ++ (retries_by_box rested.world ++ others)) ended.world
 settled_by world retried batch first others rested ended begins free retries draws none =
     let takes = drawn_takes others (record rested { world = retried }) ended begins.left draws in
-    let goes : run rested.world (round rested.world ++ others) ≡ Some ended.world = run-append (round rested.world) others rested.world retried retries ∙ drawn_run others (record rested { world = retried }) ended draws in
-    let besides = besides_both (round rested.world) others (round_besides rested.world (length rested.world.boxes)) takes.besides in
-    let kept = run_keeps_sound rested.world ended.world (round rested.world ++ others) begins.sound goes in
-    settled_at world rested.world ended.world batch first (round rested.world ++ others)
-    (rest_keeps_rings rested.world ended.world (round rested.world ++ others) begins.sound besides goes ∙ free)
+    let goes : run rested.world (retries_by_box rested.world ++ others) ≡ Some ended.world = run-append (retries_by_box rested.world) others rested.world retried retries ∙ drawn_run others (record rested { world = retried }) ended draws in
+    let besides = besides_both (retries_by_box rested.world) others (boxes_besides rested.world (length rested.world.boxes)) takes.besides in
+    let kept = run_keeps_sound rested.world ended.world (retries_by_box rested.world ++ others) begins.sound goes in
+    settled_at world rested.world ended.world batch first (retries_by_box rested.world ++ others)
+    (rest_keeps_rings rested.world ended.world (retries_by_box rested.world ++ others) begins.sound besides goes ∙ free)
     begins.ran goes begins.quiet (rested_quiet ended kept takes.left none) begins.used
     (λ who local. counted rested.world others who local (takes.count who local)) besides
 
@@ -166,7 +167,7 @@ settled_by world retried batch first others rested ended begins free retries dra
 pub schedule_settles : ScheduleSettles
 schedule_settles world last batch turns state end sound allowed scheduled =
     subst (λ (t : List Turn). IsSettled world batch t last) (sym scheduled.are)
-    (subst (λ (w : WorldState). IsSettled world batch (scheduled.first ++ (round scheduled.rested.world ++ scheduled.others)) w) scheduled.to_last
+    (subst (λ (w : WorldState). IsSettled world batch (scheduled.first ++ (retries_by_box scheduled.rested.world ++ scheduled.others)) w) scheduled.to_last
     (settled_by world scheduled.retried batch scheduled.first scheduled.others scheduled.rested scheduled.ended
     (first_is world batch scheduled.first state scheduled.rested sound allowed scheduled.draws scheduled.none) scheduled.no_ring scheduled.retries scheduled.more scheduled.nothing))
 
@@ -178,54 +179,58 @@ drawn_both [] two now next last first second = subst (λ (s : Standing). AreDraw
 drawn_both (turn ∷ one) two now next last first second = (first.0, first.1, first.2, first.3, drawn_both one two (standing_after now turn first.0) next last first.4 second)
 
 -- the parts of a settle, as they were written down one after another, are by the schedule
-pub scheduled_is : (world : WorldState) (batch : List Turn) (state : ℕ) (start used rested again ended : Standing) (none one two three four : List Turn) → start ≡ first_standing world batch state → none ≡ []
-    → DrewAll start none used one → Rested used one rested two → again ≡ record rested { world = again.world } → run rested.world (round rested.world) ≡ Some again.world → three ≡ two ++ round rested.world
-    → Rested again three ended four → IsScheduled world batch state four ended.world ended.draws
-scheduled_is world batch state start used rested again ended none one two three four begins nothing first second stays retries third last = record {
-  rested = rested;
-  retried = again.world;
-  ended = ended;
-  first = first.turns ++ second.drew.turns;
-  others = last.drew.turns;
-  are = last.drew.logged ∙ (ap (λ (t : List Turn). t ++ last.drew.turns)
-      (third ∙ ap (λ (t : List Turn). t ++ round rested.world) (second.drew.logged ∙ ap (λ (t : List Turn). t ++ second.drew.turns) (first.logged ∙ ap (λ (t : List Turn). t ++ first.turns) nothing)))
-      ∙ append_assoc (first.turns ++ second.drew.turns) (round rested.world) last.drew.turns);
-  draws = subst (λ (s : Standing). AreDrawn s (first.turns ++ second.drew.turns) rested) begins (drawn_both first.turns second.drew.turns start used rested first.draws second.drew.draws);
-  none = second.none;
-  no_ring = second.free;
-  retries = retries;
-  more = subst (λ (s : Standing). AreDrawn s last.drew.turns ended) stays last.drew.draws;
-  nothing = last.none;
-  to_last = refl;
-  to_end = refl;
-}
+pub scheduled_is : (world retried : WorldState) (batch : List Turn) (state : ℕ) (start used rested again ended : Sight) → start.standing ≡ first_standing world batch state → start.turns ≡ []
+    → DrewAll start used → CameToRest used rested → again.standing ≡ record rested.standing { world = retried } → run rested.standing.world (retries_by_box rested.standing.world) ≡ Some retried
+    → again.turns ≡ rested.turns ++ retries_by_box rested.standing.world → CameToRest again ended → IsScheduled world batch state ended.turns ended.standing.world ended.standing.draws
+scheduled_is world retried batch state start used rested again ended begins nothing first second stays retries third last =
+    let owed : List Turn = retries_by_box rested.standing.world in
+    record {
+      rested = rested.standing;
+      retried = retried;
+      ended = ended.standing;
+      first = first.turns ++ second.drew.turns;
+      others = last.drew.turns;
+      are = last.drew.logged ∙ (ap (λ (t : List Turn). t ++ last.drew.turns)
+          (third ∙ ap (λ (t : List Turn). t ++ owed) (second.drew.logged ∙ ap (λ (t : List Turn). t ++ second.drew.turns) (first.logged ∙ ap (λ (t : List Turn). t ++ first.turns) nothing)))
+          ∙ append_assoc (first.turns ++ second.drew.turns) owed last.drew.turns);
+      draws = subst (λ (s : Standing). AreDrawn s (first.turns ++ second.drew.turns) rested.standing) begins
+          (drawn_both first.turns second.drew.turns start.standing used.standing rested.standing first.draws second.drew.draws);
+      none = second.none;
+      no_ring = second.free;
+      retries = retries;
+      more = subst (λ (s : Standing). AreDrawn s last.drew.turns ended.standing) stays last.drew.draws;
+      nothing = last.none;
+      to_last = refl;
+      to_end = refl;
+    }
 
 -- turns drawn to the end of the batch and then to the first rest are drawn turns
-first_drawn : (world : WorldState) (batch : List Turn) (state : ℕ) (start used : Standing) (none one : List Turn) → start ≡ first_standing world batch state → none ≡ [] → DrewAll start none used one → AreDrawn (first_standing world batch state) one used
-first_drawn world batch state start used none one begins nothing first =
-    subst (λ (t : List Turn). AreDrawn (first_standing world batch state) t used) (sym (first.logged ∙ ap (λ (t : List Turn). t ++ first.turns) nothing))
-    (subst (λ (s : Standing). AreDrawn s first.turns used) begins first.draws)
+first_drawn : (world : WorldState) (batch : List Turn) (state : ℕ) (start used : Sight) → start.standing ≡ first_standing world batch state → start.turns ≡ [] → DrewAll start used
+    → AreDrawn (first_standing world batch state) used.turns used.standing
+first_drawn world batch state start used begins nothing first =
+    subst (λ (t : List Turn). AreDrawn (first_standing world batch state) t used.standing) (sym (first.logged ∙ ap (λ (t : List Turn). t ++ first.turns) nothing))
+    (subst (λ (s : Standing). AreDrawn s first.turns used.standing) begins first.draws)
 
 -- a settle that stops at a ring
-pub ring_is : (world : WorldState) (batch : List Turn) (state at : ℕ) (start used : Standing) (none one : List Turn) → start ≡ first_standing world batch state → none ≡ [] → AreAllowed world batch
-    → DrewAll start none used one → used.left ≡ [] → IsFirstOnRing used.world at → StopsAtRing world batch state one used.draws at
-ring_is world batch state at start used none one begins nothing allowed first left least =
-    let draws = first_drawn world batch state start used none one begins nothing first in
-    record { last = used; draws = draws; used_up = left; least = least; to_end = refl; stopped = drawn_stopped world batch one state used allowed draws }
+pub ring_is : (world : WorldState) (batch : List Turn) (state at : ℕ) (start used : Sight) → start.standing ≡ first_standing world batch state → start.turns ≡ [] → AreAllowed world batch
+    → DrewAll start used → used.standing.left ≡ [] → IsFirstOnRing used.standing.world at → StopsAtRing world batch state used.turns used.standing.draws at
+ring_is world batch state at start used begins nothing allowed first left least =
+    let draws = first_drawn world batch state start used begins nothing first in
+    record { last = used.standing; draws = draws; used_up = left; least = least; to_end = refl; stopped = drawn_stopped world batch used.turns state used.standing allowed draws }
 
 -- and one that stops at the last version
-pub version_is : (world : WorldState) (batch : List Turn) (state at : ℕ) (start used : Standing) (none one : List Turn) → start ≡ first_standing world batch state → none ≡ [] → AreAllowed world batch
-    → RanOut start none used one at → StopsAtVersion world batch state one used.draws at
-version_is world batch state at start used none one begins nothing allowed out =
-    let draws = first_drawn world batch state start out.last none out.until begins nothing out.drew in
-    let same : AreDrawn (first_standing world batch state) one out.last = subst (λ (t : List Turn). AreDrawn (first_standing world batch state) t out.last) (sym out.ends.logged) draws in
+pub version_is : (world : WorldState) (batch : List Turn) (state at : ℕ) (start used : Sight) → start.standing ≡ first_standing world batch state → start.turns ≡ [] → AreAllowed world batch
+    → RanOut start used at → StopsAtVersion world batch state used.turns used.standing.draws at
+version_is world batch state at start used begins nothing allowed out =
+    let draws = first_drawn world batch state start out.last begins nothing out.drew in
+    let same : AreDrawn (first_standing world batch state) used.turns out.last.standing = subst (λ (t : List Turn). AreDrawn (first_standing world batch state) t out.last.standing) (sym out.ends.logged) draws in
     record {
-      last = out.last;
+      last = out.last.standing;
       turn = out.ends.turn;
       draws = same;
       is_drawn = out.ends.is_drawn;
       version = out.ends.version;
       slot = out.ends.slot;
       to_end = sym (ap (λ (s : Standing). s.draws) out.ends.stays);
-      stopped = drawn_stopped world batch one state out.last allowed same;
+      stopped = drawn_stopped world batch used.turns state out.last.standing allowed same;
     }

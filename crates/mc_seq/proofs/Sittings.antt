@@ -17,8 +17,8 @@ use Rattle.mc_laws.proofs.Lowers.{take_lowers, take_stays_free}
 use Rattle.mc_laws.proofs.ShapesKept.{step_keeps_shape}
 use Rattle.mc_laws.proofs.StepKeeps.{step_keeps_sound}
 use Rattle.mc_seq.specs.Draws.{AreAllowed}
-use Rattle.mc_seq.specs.Drawing.{Comes, DrewAll, EndsVersion, Made, RanOut, Rested, TurnMade, stands, written}
-use Rattle.mc_seq.specs.Schedule.{AreDrawn, MayGo, Standing, candidates, drawn, drawn_place, is_urgent, left_by, listed, standing_after, next_of, since_by, without_next}
+use Rattle.mc_seq.specs.Drawing.{CameToRest, DrewAll, DrewOnce, DrewTurn, DrewVersionEnd, RanOut, Sight, TurnMade, sight_of}
+use Rattle.mc_seq.specs.Schedule.{AreDrawn, MayGo, Standing, candidates, drawn_turn, drawn_place, is_urgent, left_by, all_candidates, standing_after, next_of, since_by, without_next}
 use Rattle.mc_seq.specs.declared.drawing.Draw.TheVariants.{Nothing}
 use Rattle.mc_seq.specs.declared.drawing.Sitting.{Sitting}
 use Rattle.mc_seq.proofs.Candidates.{IsListed, IsTake, drawn_listed, none_left, take_same}
@@ -32,46 +32,46 @@ some_length : (xs : List Turn) → length xs ≢ 0 → 0 < length xs
 some_length xs some = omega arith
 
 -- what was made is what was drawn
-pub made_is : (old new : Sitting) (state next : ℕ) (turn : Turn) → drawn (stands old state) ≡ Some turn → TurnMade old new turn → stands new next ≡ standing_after (stands old state) turn new.settled.world
-    → Made (stands old state) (written old) (stands new next) (written new)
+pub made_is : (old new : Sitting) (state next : ℕ) (turn : Turn) → drawn_turn (sight_of old state).standing ≡ Some turn → TurnMade old new turn
+    → (sight_of new next).standing ≡ standing_after (sight_of old state).standing turn new.settled.world → DrewTurn (sight_of old state) (sight_of new next)
 made_is old new state next turn is made moves = record { turn = turn; is_drawn = is; goes = made.goes; moves = moves; logged = made.logged }
 
 -- ---- several draws
 
 -- whatever is drawn from here goes on from what was written down
-abbrev pub GoesOn : Standing → List Turn → Standing → List Turn → Type 0
-GoesOn start before now after = (more : List Turn) (last : Standing) → AreDrawn now more last → DrewAll start before last (after ++ more)
+abbrev pub GoesOn : Sight → Sight → Type 0
+GoesOn start now = (more : List Turn) (last : Standing) → AreDrawn now.standing more last → DrewAll start (record { standing = last; turns = now.turns ++ more })
 
 -- so it is at the beginning
-pub goes_first : (start : Standing) (before : List Turn) → GoesOn start before start before
-goes_first start before more last draws = record { turns = more; draws = draws; logged = refl }
+pub goes_first : (start : Sight) → GoesOn start start
+goes_first start more last draws = record { turns = more; draws = draws; logged = refl }
 
 -- and after one more drawn turn
-pub goes_more : (start now next : Standing) (before old new : List Turn) → MayGo now → Made now old next new → GoesOn start before now old → GoesOn start before next new
-goes_more start now next before old new may made so_far more last draws =
-    subst (λ (turns : List Turn). DrewAll start before last turns) (sym (ap (λ (turns : List Turn). turns ++ more) made.logged ∙ append_assoc old (made.turn ∷ []) more))
-    (so_far (made.turn ∷ more) last (next.world, may, made.is_drawn, made.goes, subst (λ (s : Standing). AreDrawn s more last) made.moves draws))
+pub goes_more : (start now next : Sight) → MayGo now.standing → DrewTurn now next → GoesOn start now → GoesOn start next
+goes_more start now next may made so_far more last draws =
+    subst (λ (turns : List Turn). DrewAll start (record { standing = last; turns = turns })) (sym (ap (λ (turns : List Turn). turns ++ more) made.logged ∙ append_assoc now.turns (made.turn ∷ []) more))
+    (so_far (made.turn ∷ more) last (next.standing.world, may, made.is_drawn, made.goes, subst (λ (s : Standing). AreDrawn s more last) made.moves draws))
 
 -- at the end what was drawn is all that was written down
-pub goes_last : (start last : Standing) (before after : List Turn) → GoesOn start before last after → DrewAll start before last after
-goes_last start last before after so_far = subst (λ (turns : List Turn). DrewAll start before last turns) (append-nil after) (so_far [] last refl)
+pub goes_last : (start last : Sight) → GoesOn start last → DrewAll start last
+goes_last start last so_far = subst (λ (turns : List Turn). DrewAll start (record { standing = last.standing; turns = turns })) (append-nil last.turns) (so_far [] last.standing refl)
 
 -- ---- while commands are left
 
 -- what a drawn turn is
-pub made_listed : (now next : Standing) (old new : List Turn) → (made : Made now old next new) → IsListed now.world now.left (is_urgent now.left now.since) made.turn
-made_listed now next old new made = drawn_listed now made.turn made.is_drawn
+pub made_listed : (now next : Sight) → (made : DrewTurn now next) → IsListed now.standing.world now.standing.left (is_urgent now.standing.left now.standing.since) made.turn
+made_listed now next made = drawn_listed now.standing made.turn made.is_drawn
 
 -- a drawn turn leaves a sound world
-pub made_sound : (now next : Standing) (old new : List Turn) → Made now old next new → IsSound now.world → IsSound next.world
-made_sound now next old new made sound = step_keeps_sound now.world next.world made.turn sound made.goes
+pub made_sound : (now next : Sight) → DrewTurn now next → IsSound now.standing.world → IsSound next.standing.world
+made_sound now next made sound = step_keeps_sound now.standing.world next.standing.world made.turn sound made.goes
 
 -- commands that are allowed stay so
-pub made_allowed : (now next : Standing) (old new : List Turn) → Made now old next new → IsSound now.world → AreAllowed now.world now.left → AreAllowed next.world next.left
-made_allowed now next old new made sound allowed =
-    subst (λ (left : List Turn). AreAllowed next.world left) (sym (ap (λ (s : Standing). s.left) made.moves))
-    (all_kept (left_by made.turn now.left) now.world next.world sound (made_sound now next old new made sound) (step_keeps_shape now.world next.world made.turn sound made.goes)
-    (left_pass (is_allowed now.world) made.turn now.left allowed))
+pub made_allowed : (now next : Sight) → DrewTurn now next → IsSound now.standing.world → AreAllowed now.standing.world now.standing.left → AreAllowed next.standing.world next.standing.left
+made_allowed now next made sound allowed =
+    subst (λ (left : List Turn). AreAllowed next.standing.world left) (sym (ap (λ (s : Standing). s.left) made.moves))
+    (all_kept (left_by made.turn now.standing.left) now.standing.world next.standing.world sound (made_sound now next made sound) (step_keeps_shape now.standing.world next.standing.world made.turn sound made.goes)
+    (left_pass (is_allowed now.standing.world) made.turn now.standing.left allowed))
 
 -- how many turns may come until the batch is used up
 abbrev pub to_come : List Turn → ℕ → ℕ
@@ -118,10 +118,11 @@ listed_lowers world turn left since allowed some is = elim is [
 ]
 
 -- each drawn turn lowers it, whether links make a ring or not
-pub made_lowers : (now next : Standing) (old new : List Turn) → Made now old next new → AreAllowed now.world now.left → length now.left ≢ 0 → to_come next.left next.since < to_come now.left now.since
-made_lowers now next old new made allowed some =
-    subst (λ (s : Standing). to_come s.left s.since < to_come now.left now.since) (sym made.moves)
-    (listed_lowers now.world made.turn now.left now.since allowed some (made_listed now next old new made))
+pub made_lowers : (now next : Sight) → DrewTurn now next → AreAllowed now.standing.world now.standing.left → length now.standing.left ≢ 0
+    → to_come next.standing.left next.standing.since < to_come now.standing.left now.standing.since
+made_lowers now next made allowed some =
+    subst (λ (s : Standing). to_come s.left s.since < to_come now.standing.left now.standing.since) (sym made.moves)
+    (listed_lowers now.standing.world made.turn now.standing.left now.standing.since allowed some (made_listed now next made))
 
 -- where commands are left, something is listed
 pub some_listed : (now : Standing) → AreAllowed now.world now.left → length now.left ≢ 0 → candidates now ≡ [] → ⊥
@@ -146,24 +147,24 @@ take_by world left urgent turn none is = elim is [
 ]
 
 -- only Takes are drawn
-pub drawn_take : (now : Standing) (turn : Turn) → now.left ≡ [] → drawn now ≡ Some turn → IsTake now.world turn
+pub drawn_take : (now : Standing) (turn : Turn) → now.left ≡ [] → drawn_turn now ≡ Some turn → IsTake now.world turn
 drawn_take now turn none is = take_by now.world now.left (is_urgent now.left now.since) turn none (drawn_listed now turn is)
 
 -- the drawn turn is a step, as a Take
-made_step : (now next : Standing) (old new : List Turn) (made : Made now old next new) (take : IsTake now.world made.turn) → step now.world (record { who = made.turn.who; event = Take take.local }) ≡ Some next.world
-made_step now next old new made take = ap (step now.world) (take_same made.turn take.local take.event) ∙ made.goes
+made_step : (now next : Sight) (made : DrewTurn now next) (take : IsTake now.standing.world made.turn) → step now.standing.world (record { who = made.turn.who; event = Take take.local }) ≡ Some next.standing.world
+made_step now next made take = ap (step now.standing.world) (take_same made.turn take.local take.event) ∙ made.goes
 
 -- it lowers the measure
-pub take_lower : (now next : Standing) (old new : List Turn) → Made now old next new → now.left ≡ [] → IsRingFree now.world → measure next.world < measure now.world
-take_lower now next old new made none free =
-    let take = drawn_take now made.turn none made.is_drawn in
-    take_lowers now.world next.world made.turn.who take.local free (made_step now next old new made take)
+pub take_lower : (now next : Sight) → DrewTurn now next → now.standing.left ≡ [] → IsRingFree now.standing.world → measure next.standing.world < measure now.standing.world
+take_lower now next made none free =
+    let take = drawn_take now.standing made.turn none made.is_drawn in
+    take_lowers now.standing.world next.standing.world made.turn.who take.local free (made_step now next made take)
 
 -- and leaves the world without a ring
-pub take_free : (now next : Standing) (old new : List Turn) → Made now old next new → now.left ≡ [] → IsRingFree now.world → IsRingFree next.world
-take_free now next old new made none free =
-    let take = drawn_take now made.turn none made.is_drawn in
-    take_stays_free now.world next.world made.turn.who take.local free (made_step now next old new made take)
+pub take_free : (now next : Sight) → DrewTurn now next → now.standing.left ≡ [] → IsRingFree now.standing.world → IsRingFree next.standing.world
+take_free now next made none free =
+    let take = drawn_take now.standing made.turn none made.is_drawn in
+    take_stays_free now.standing.world next.standing.world made.turn.who take.local free (made_step now next made take)
 
 -- no command is taken from those that are left by a turn that is none
 left_none : (b : Bool) (who : ℕ) (left : List Turn) → b ≡ false → (if b then without_next who left else left) ≡ left
@@ -175,19 +176,19 @@ pub take_left : (turn : Turn) (left : List Turn) (world : WorldState) → IsTake
 take_left turn left world take = left_none (is_command turn.event) turn.who left (take_none turn take.local take.event)
 
 -- so none are left after it
-pub made_none : (now next : Standing) (old new : List Turn) → Made now old next new → now.left ≡ [] → next.left ≡ []
-made_none now next old new made none =
-    ap (λ (s : Standing). s.left) made.moves ∙ (take_left made.turn now.left now.world (drawn_take now made.turn none made.is_drawn) ∙ none)
+pub made_none : (now next : Sight) → DrewTurn now next → now.standing.left ≡ [] → next.standing.left ≡ []
+made_none now next made none =
+    ap (λ (s : Standing). s.left) made.moves ∙ (take_left made.turn now.standing.left now.standing.world (drawn_take now.standing made.turn none made.is_drawn) ∙ none)
 
 -- ---- what is picked
 
 -- a list that code looked at is the list of candidates
-pub list_is : (now : Standing) (list seen looked : List Turn) (urgent : Bool) → list ≡ listed now.world seen urgent → seen ≡ now.left → urgent ≡ is_urgent looked now.since → looked ≡ now.left → list ≡ candidates now
+pub list_is : (now : Standing) (list seen looked : List Turn) (urgent : Bool) → list ≡ all_candidates now.world seen urgent → seen ≡ now.left → urgent ≡ is_urgent looked now.since → looked ≡ now.left → list ≡ candidates now
 list_is now list seen looked urgent is left by looks =
-    is ∙ (ap (λ (l : List Turn). listed now.world l urgent) left ∙ ap (listed now.world now.left) (by ∙ ap (λ (l : List Turn). is_urgent l now.since) looks))
+    is ∙ (ap (λ (l : List Turn). all_candidates now.world l urgent) left ∙ ap (all_candidates now.world now.left) (by ∙ ap (λ (l : List Turn). is_urgent l now.since) looks))
 
 -- what was picked of it is drawn
-pub picked : (now : Standing) (shown : List Turn) (turn : Turn) → shown ≡ candidates now → slice_get shown (drawn_place now.draws (length shown)) ≡ Some turn → drawn now ≡ Some turn
+pub picked : (now : Standing) (shown : List Turn) (turn : Turn) → shown ≡ candidates now → slice_get shown (drawn_place now.draws (length shown)) ≡ Some turn → drawn_turn now ≡ Some turn
 picked now shown turn is got = subst (λ (l : List Turn). slice_get l (drawn_place now.draws (length l)) ≡ Some turn) is got
 
 -- the test whether nothing is left says no
@@ -204,27 +205,27 @@ version_apart turn local world is ends =
     cc (parts.1)
 
 -- no version ends there
-pub never_ends : (now next : Standing) (old new : List Turn) (at : ℕ) → now.left ≡ [] → EndsVersion now old next new at → ⊥
-never_ends now next old new at none ends =
-    let take = drawn_take now ends.turn none ends.is_drawn in
-    version_apart ends.turn take.local now.world take.event ends.version
+pub never_ends : (now next : Sight) (at : ℕ) → now.standing.left ≡ [] → DrewVersionEnd now next at → ⊥
+never_ends now next at none ends =
+    let take = drawn_take now.standing ends.turn none ends.is_drawn in
+    version_apart ends.turn take.local now.standing.world take.event ends.version
 
 -- ---- the ends
 
 -- a draw that finds nothing changes nothing
-pub rested_is : (start now next : Standing) (before old new : List Turn) → GoesOn start before now old → now.left ≡ [] → IsRingFree now.world → Comes now old next new Nothing → Rested start before next new
-rested_is start now next before old new so_far none free comes =
-    let drew : DrewAll start before next new = subst (λ (s : Standing). DrewAll start before s new) (sym comes.1) (subst (λ (turns : List Turn). DrewAll start before now turns) (sym comes.2) (goes_last start now before old so_far)) in
+pub rested_is : (start now next : Sight) → GoesOn start now → now.standing.left ≡ [] → IsRingFree now.standing.world → DrewOnce now next Nothing → CameToRest start next
+rested_is start now next so_far none free comes =
+    let drew = goes_last start now so_far in
     record {
-      drew = drew;
+      drew = record { turns = drew.turns; draws = subst (λ (s : Standing). AreDrawn start.standing drew.turns s) (sym comes.1) drew.draws; logged = comes.2 ∙ drew.logged };
       none = ap candidates comes.1 ∙ comes.0;
       left = ap (λ (s : Standing). s.left) comes.1 ∙ none;
       free = ap (λ (s : Standing). has_ring s.world) comes.1 ∙ free.free;
     }
 
 -- a version ends behind what was drawn
-pub ran_out : (start now next : Standing) (before old new : List Turn) (at : ℕ) → GoesOn start before now old → EndsVersion now old next new at → RanOut start before next new at
-ran_out start now next before old new at so_far ends = record { last = now; until = old; drew = goes_last start now before old so_far; ends = ends }
+pub ran_out : (start now next : Sight) (at : ℕ) → GoesOn start now → DrewVersionEnd now next at → RanOut start next at
+ran_out start now next at so_far ends = record { last = now; drew = goes_last start now so_far; ends = ends }
 
 -- the test says yes
 zero_by : (b : Bool) (n : ℕ) → b ≡ (n == 0) → b ≡ true → n ≡ 0

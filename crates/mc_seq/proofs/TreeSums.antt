@@ -1,7 +1,7 @@
 -- Halved lists, and what a search in a tree of sums keeps.
 use Rattle.std.proofs.Common.{◌≡◌, ◌<◌, ◌≤◌, ◌+◌, ◌-◌, ◌*◌, ◌^◌, ℕ, zero, suc, List, [], ◌∷◌, length, sum, take, fold, add-one, refl, ap, sym, ◌∙◌, subst, arith}
 use Rattle.std.proofs.Math.ListN.{get_or}
-use Rattle.mc_seq.specs.Sums.{AreSums, halved, level_at}
+use Rattle.mc_seq.specs.Sums.{AreSums, pair_sums, level_at}
 
 -- ---- sums
 
@@ -40,7 +40,7 @@ two_and : (i : ℕ) → 2 * suc i + 1 ≡ suc (suc (2 * i + 1))
 two_and i = omega arith
 
 -- a half-way number is the sum of its two
-pub halved_at : (xs : List ℕ) (i : ℕ) → get_or (halved xs) i 0 ≡ get_or xs (2 * i) 0 + get_or xs (2 * i + 1) 0
+pub halved_at : (xs : List ℕ) (i : ℕ) → get_or (pair_sums xs) i 0 ≡ get_or xs (2 * i) 0 + get_or xs (2 * i + 1) 0
 halved_at [] i = refl
 halved_at (x ∷ []) zero = omega arith
 halved_at (x ∷ []) (suc i) =
@@ -51,7 +51,7 @@ halved_at (x ∷ y ∷ xs) zero = refl
 halved_at (x ∷ y ∷ xs) (suc i) =
     let one : get_or (x ∷ y ∷ xs) (2 * suc i) 0 ≡ get_or xs (2 * i) 0 = ap (λ (n : ℕ). get_or (x ∷ y ∷ xs) n 0) (two_more i) in
     let two : get_or (x ∷ y ∷ xs) (2 * suc i + 1) 0 ≡ get_or xs (2 * i + 1) 0 = ap (λ (n : ℕ). get_or (x ∷ y ∷ xs) n 0) (two_and i) in
-    let rest : get_or (halved xs) i 0 ≡ get_or xs (2 * i) 0 + get_or xs (2 * i + 1) 0 = halved_at xs i in
+    let rest : get_or (pair_sums xs) i 0 ≡ get_or xs (2 * i) 0 + get_or xs (2 * i + 1) 0 = halved_at xs i in
     omega arith
 
 -- nothing taken of nothing
@@ -60,7 +60,7 @@ take_none zero = refl
 take_none (suc i) = refl
 
 -- what stands before it is what stands before the first of them
-pub halved_before : (xs : List ℕ) (i : ℕ) → sum (take i (halved xs)) ≡ sum (take (2 * i) xs)
+pub halved_before : (xs : List ℕ) (i : ℕ) → sum (take i (pair_sums xs)) ≡ sum (take (2 * i) xs)
 halved_before [] i = ap sum (take_none i ∙ sym (take_none (2 * i)))
 halved_before (x ∷ []) zero = refl
 halved_before (x ∷ []) (suc i) =
@@ -69,19 +69,19 @@ halved_before (x ∷ []) (suc i) =
     one ∙ (ap (λ (l : List ℕ). x + sum l) (take_none i ∙ sym (take_none (suc (2 * i)))) ∙ sym two)
 halved_before (x ∷ y ∷ xs) zero = refl
 halved_before (x ∷ y ∷ xs) (suc i) =
-    let rest : sum (take i (halved xs)) ≡ sum (take (2 * i) xs) = halved_before xs i in
-    let one : sum (take (suc i) (halved (x ∷ y ∷ xs))) ≡ (x + y) + sum (take i (halved xs)) = sum_cons (x + y) (take i (halved xs)) in
+    let rest : sum (take i (pair_sums xs)) ≡ sum (take (2 * i) xs) = halved_before xs i in
+    let one : sum (take (suc i) (pair_sums (x ∷ y ∷ xs))) ≡ (x + y) + sum (take i (pair_sums xs)) = sum_cons (x + y) (take i (pair_sums xs)) in
     let two : sum (take (2 * suc i) (x ∷ y ∷ xs)) ≡ x + sum (y ∷ take (2 * i) xs) = ap (λ (n : ℕ). sum (take n (x ∷ y ∷ xs))) (two_more i) ∙ sum_cons x (y ∷ take (2 * i) xs) in
     let three : sum (y ∷ take (2 * i) xs) ≡ y + sum (take (2 * i) xs) = sum_cons y (take (2 * i) xs) in
     omega arith
 
 -- sums of neighbours have the same sum
-pub sum_halved : (xs : List ℕ) → sum (halved xs) ≡ sum xs
+pub sum_halved : (xs : List ℕ) → sum (pair_sums xs) ≡ sum xs
 sum_halved [] = refl
 sum_halved (x ∷ []) = refl
 sum_halved (x ∷ y ∷ xs) =
-    let rest : sum (halved xs) ≡ sum xs = sum_halved xs in
-    let one : sum ((x + y) ∷ halved xs) ≡ (x + y) + sum (halved xs) = sum_cons (x + y) (halved xs) in
+    let rest : sum (pair_sums xs) ≡ sum xs = sum_halved xs in
+    let one : sum ((x + y) ∷ pair_sums xs) ≡ (x + y) + sum (pair_sums xs) = sum_cons (x + y) (pair_sums xs) in
     let two : sum (x ∷ y ∷ xs) ≡ x + sum (y ∷ xs) = sum_cons x (y ∷ xs) in
     let three : sum (y ∷ xs) ≡ y + sum xs = sum_cons y xs in
     omega arith
@@ -92,7 +92,7 @@ sum_halved (x ∷ y ∷ xs) =
 pub level_sum : (levels : List (List ℕ)) (depth : ℕ) → AreSums levels → depth < length levels → sum (level_at levels depth) ≡ sum (level_at levels 0)
 level_sum levels zero sums inside = refl
 level_sum levels (suc depth) sums inside =
-    let step : level_at levels (suc depth) ≡ halved (level_at levels depth) = subst (λ (n : ℕ). level_at levels n ≡ halved (level_at levels depth)) (add-one depth) (sums.halves depth (omega arith)) in
+    let step : level_at levels (suc depth) ≡ pair_sums (level_at levels depth) = subst (λ (n : ℕ). level_at levels n ≡ pair_sums (level_at levels depth)) (add-one depth) (sums.halves depth (omega arith)) in
     ap sum step ∙ (sum_halved (level_at levels depth) ∙ level_sum levels depth sums (omega arith))
 
 -- a list of one number at most has that as its sum
@@ -120,12 +120,12 @@ starts levels k sums low = record {
 }
 
 -- one level down is the list whose halves stand above
-step_down : (levels : List (List ℕ)) (depth : ℕ) → AreSums levels → 0 < depth → depth < length levels → level_at levels depth ≡ halved (level_at levels (depth - 1))
+step_down : (levels : List (List ℕ)) (depth : ℕ) → AreSums levels → 0 < depth → depth < length levels → level_at levels depth ≡ pair_sums (level_at levels (depth - 1))
 step_down levels zero sums some inside = absurd (omega arith)
 step_down levels (suc depth) sums some inside =
     let less : suc depth - 1 ≡ depth = omega arith in
-    subst (λ (n : ℕ). level_at levels (suc depth) ≡ halved (level_at levels n)) (sym less)
-    (subst (λ (n : ℕ). level_at levels n ≡ halved (level_at levels depth)) (add-one depth) (sums.halves depth (omega arith)))
+    subst (λ (n : ℕ). level_at levels (suc depth) ≡ pair_sums (level_at levels n)) (sym less)
+    (subst (λ (n : ℕ). level_at levels n ≡ pair_sums (level_at levels depth)) (add-one depth) (sums.halves depth (omega arith)))
 
 -- one level down: the first of two
 pub goes_first : (levels : List (List ℕ)) (k depth place rest : ℕ) → AreSums levels → 0 < depth → IsAt levels k depth place rest → rest < get_or (level_at levels (depth - 1)) (2 * place) 0

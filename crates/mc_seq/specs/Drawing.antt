@@ -5,18 +5,24 @@ use Rattle.mc_box.specs.declared.event.Turn.{Turn}
 use Rattle.mc_model.specs.Paths.{has_ring}
 use Rattle.mc_model.specs.Steps.{ends_version, step}
 use Rattle.mc_model.specs.Worlds.{WorldState}
-use Rattle.mc_seq.specs.Schedule.{AreDrawn, Standing, candidates, drawn, heard_slot, left_by, standing_after, since_by}
+use Rattle.mc_seq.specs.Schedule.{AreDrawn, Standing, candidates, drawn_turn, heard_slot, left_by, standing_after, since_by}
 use Rattle.mc_seq.specs.declared.drawing.Draw.{Draw}
 use Rattle.mc_seq.specs.declared.drawing.Draw.TheVariants.{Drawn, Nothing, VersionEnd}
 use Rattle.mc_seq.specs.declared.drawing.Sitting.{Sitting}
 
--- where a sitting stands, with the state of the draws
-abbrev pub stands : Sitting → ℕ → Standing
-stands sitting draws = record { world = sitting.settled.world; left = sitting.left.items; since = sitting.since; draws = draws }
+-- what is seen of a sitting: where it stands, and its turns so far
+pub record Sight : Type 0 where
+  pub standing : Standing
+  pub turns : List Turn
 
--- the turns so far
-abbrev pub written : Sitting → List Turn
-written sitting = sitting.settled.turns.items
+-- with the state of the draws
+abbrev pub sight_of : Sitting → ℕ → Sight
+sight_of sitting draws = record {
+  standing = record { world = sitting.settled.world; left = sitting.left.items; since = sitting.since; draws = draws };
+  turns = sitting.settled.turns.items;
+}
+
+-- ---- one turn
 
 -- a turn can happen, or is the Hear of a slot that has the last version
 abbrev pub MayCome : WorldState → Turn → Type 0
@@ -27,7 +33,7 @@ pub record TurnMade (old new : Sitting) (turn : Turn) : Type 0 where
   pub goes : step old.settled.world turn ≡ Some new.settled.world
   pub left : new.left.items ≡ left_by turn old.left.items
   pub since : new.since ≡ since_by turn old.since
-  pub logged : written new ≡ written old ++ turn ∷ []
+  pub logged : new.settled.turns.items ≡ old.settled.turns.items ++ turn ∷ []
 
 -- or it ends a version
 pub record TurnEnds (old new : Sitting) (turn : Turn) (at : ℕ) : Type 0 where
@@ -36,58 +42,61 @@ pub record TurnEnds (old new : Sitting) (turn : Turn) (at : ℕ) : Type 0 where
   pub world : new.settled.world ≡ old.settled.world
   pub left : new.left.items ≡ old.left.items
   pub since : new.since ≡ old.since
-  pub logged : written new ≡ written old
+  pub logged : new.settled.turns.items ≡ old.settled.turns.items
 
 -- what becomes of a turn
-abbrev pub Becomes : Sitting → Sitting → Turn → Draw → Type 0
-Becomes old new turn Drawn = TurnMade old new turn
-Becomes old new turn Nothing = ⊥
-Becomes old new turn (VersionEnd at) = TurnEnds old new turn at
+abbrev pub TriedTurn : Sitting → Sitting → Turn → Draw → Type 0
+TriedTurn old new turn Drawn = TurnMade old new turn
+TriedTurn old new turn Nothing = ⊥
+TriedTurn old new turn (VersionEnd at) = TurnEnds old new turn at
+
+-- ---- one draw
 
 -- a drawn turn was made
-pub record Made (old : Standing) (before : List Turn) (new : Standing) (after : List Turn) : Type 0 where
+pub record DrewTurn (old new : Sight) : Type 0 where
   pub turn : Turn
-  pub is_drawn : drawn old ≡ Some turn
-  pub goes : step old.world turn ≡ Some new.world
-  pub moves : new ≡ standing_after old turn new.world
-  pub logged : after ≡ before ++ turn ∷ []
+  pub is_drawn : drawn_turn old.standing ≡ Some turn
+  pub goes : step old.standing.world turn ≡ Some new.standing.world
+  pub moves : new.standing ≡ standing_after old.standing turn new.standing.world
+  pub logged : new.turns ≡ old.turns ++ turn ∷ []
 
 -- a drawn turn ends a version
-pub record EndsVersion (old : Standing) (before : List Turn) (new : Standing) (after : List Turn) (at : ℕ) : Type 0 where
+pub record DrewVersionEnd (old new : Sight) (at : ℕ) : Type 0 where
   pub turn : Turn
-  pub is_drawn : drawn old ≡ Some turn
-  pub version : IsTrue (ends_version old.world turn)
-  pub slot : heard_slot old.world turn ≡ Some at
-  pub stays : new ≡ record old { draws = next_state old.draws }
-  pub logged : after ≡ before
+  pub is_drawn : drawn_turn old.standing ≡ Some turn
+  pub version : IsTrue (ends_version old.standing.world turn)
+  pub slot : heard_slot old.standing.world turn ≡ Some at
+  pub stays : new.standing ≡ record old.standing { draws = next_state old.standing.draws }
+  pub logged : new.turns ≡ old.turns
 
 -- what a draw comes to
-abbrev pub Comes : Standing → List Turn → Standing → List Turn → Draw → Type 0
-Comes old before new after Drawn = Made old before new after
-Comes old before new after Nothing = (candidates old ≡ []) × (new ≡ old) × (after ≡ before)
-Comes old before new after (VersionEnd at) = EndsVersion old before new after at
+abbrev pub DrewOnce : Sight → Sight → Draw → Type 0
+DrewOnce old new Drawn = DrewTurn old new
+DrewOnce old new Nothing = (candidates old.standing ≡ []) × (new.standing ≡ old.standing) × (new.turns ≡ old.turns)
+DrewOnce old new (VersionEnd at) = DrewVersionEnd old new at
+
+-- ---- several draws
 
 -- turns that are drawn lead from one standing to another, and are written down behind what was written before
-pub record DrewAll (old : Standing) (before : List Turn) (new : Standing) (after : List Turn) : Type 0 where
+pub record DrewAll (old new : Sight) : Type 0 where
   pub turns : List Turn
-  pub draws : AreDrawn old turns new
-  pub logged : after ≡ before ++ turns
+  pub draws : AreDrawn old.standing turns new.standing
+  pub logged : new.turns ≡ old.turns ++ turns
 
 -- turns were drawn, and then one that ends a version
-pub record RanOut (old : Standing) (before : List Turn) (new : Standing) (after : List Turn) (at : ℕ) : Type 0 where
-  pub last : Standing
-  pub until : List Turn
-  pub drew : DrewAll old before last until
-  pub ends : EndsVersion last until new after at
+pub record RanOut (old new : Sight) (at : ℕ) : Type 0 where
+  pub last : Sight
+  pub drew : DrewAll old last
+  pub ends : DrewVersionEnd last new at
 
 -- the commands were used up, or a version ended
-abbrev pub UsedUp : Standing → List Turn → Standing → List Turn → Option ℕ → Type 0
-UsedUp old before new after None = DrewAll old before new after × (new.left ≡ [])
-UsedUp old before new after (Some at) = RanOut old before new after at
+abbrev pub UsedUp : Sight → Sight → Option ℕ → Type 0
+UsedUp old new None = DrewAll old new × (new.standing.left ≡ [])
+UsedUp old new (Some at) = RanOut old new at
 
 -- turns were drawn until nothing is listed
-pub record Rested (old : Standing) (before : List Turn) (new : Standing) (after : List Turn) : Type 0 where
-  pub drew : DrewAll old before new after
-  pub none : candidates new ≡ []
-  pub left : new.left ≡ []
-  pub free : has_ring new.world ≡ false
+pub record CameToRest (old new : Sight) : Type 0 where
+  pub drew : DrewAll old new
+  pub none : candidates new.standing ≡ []
+  pub left : new.standing.left ≡ []
+  pub free : has_ring new.standing.world ≡ false

@@ -11,7 +11,9 @@ use Rattle.mc_model.specs.Settles.{IsSettled, IsStopped}
 use Rattle.mc_model.specs.Sound.{IsSound}
 use Rattle.mc_model.specs.Steps.{ends_version, run}
 use Rattle.mc_model.specs.Worlds.{WorldState}
-use Rattle.mc_seq.specs.Schedule.{AreDrawn, Standing, first_standing, candidates, drawn, heard_slot, round}
+use Rattle.mc_world.specs.declared.settled.Settled.{Settled}
+use Rattle.mc_seq.specs.Retries.{retries_by_box}
+use Rattle.mc_seq.specs.Schedule.{AreDrawn, Standing, first_standing, candidates, drawn_turn, heard_slot}
 use Rattle.mc_seq.specs.declared.fault.SettleFault.{SettleFault}
 use Rattle.mc_seq.specs.declared.fault.SettleFault.TheVariants.{NoMemory, Ring, VersionEnd}
 
@@ -22,15 +24,19 @@ pub record IsScheduled (world : WorldState) (batch : List Turn) (state : ℕ) (t
   pub ended : Standing
   pub first : List Turn
   pub others : List Turn
-  pub are : turns ≡ first ++ (round rested.world ++ others)
+  pub are : turns ≡ first ++ (retries_by_box rested.world ++ others)
   pub draws : AreDrawn (first_standing world batch state) first rested
   pub none : candidates rested ≡ []
   pub no_ring : has_ring rested.world ≡ false
-  pub retries : run rested.world (round rested.world) ≡ Some retried
+  pub retries : run rested.world (retries_by_box rested.world) ≡ Some retried
   pub more : AreDrawn (record rested { world = retried }) others ended
   pub nothing : candidates ended ≡ []
   pub to_last : ended.world ≡ last
   pub to_end : ended.draws ≡ end
+
+-- how a settle by draws ends
+abbrev pub SettlesByDraws : WorldState → List Turn → (state end : ℕ) → Settled → Type 0
+SettlesByDraws world batch state end done = IsScheduled world batch state done.turns.items done.world end
 
 -- drawn turns use up the batch, which leaves a ring, of which this slot is the least
 pub record StopsAtRing (world : WorldState) (batch : List Turn) (state : ℕ) (turns : List Turn) (end at : ℕ) : Type 0 where
@@ -46,14 +52,14 @@ pub record StopsAtVersion (world : WorldState) (batch : List Turn) (state : ℕ)
   pub last : Standing
   pub turn : Turn
   pub draws : AreDrawn (first_standing world batch state) turns last
-  pub is_drawn : drawn last ≡ Some turn
+  pub is_drawn : drawn_turn last ≡ Some turn
   pub version : IsTrue (ends_version last.world turn)
   pub slot : heard_slot last.world turn ≡ Some at
   pub to_end : next_state last.draws ≡ end
   pub stopped : IsStopped world batch turns last.world
 
 -- how a settle by draws stops
-abbrev pub StopsByDraws : WorldState → List Turn → ℕ → ℕ → SettleFault → Type 0
+abbrev pub StopsByDraws : WorldState → List Turn → (state end : ℕ) → SettleFault → Type 0
 StopsByDraws world batch state end (Ring stop) = StopsAtRing world batch state stop.turns.items end stop.at
 StopsByDraws world batch state end (VersionEnd stop) = StopsAtVersion world batch state stop.turns.items end stop.at
 StopsByDraws world batch state end (NoMemory e) = Unit {0}

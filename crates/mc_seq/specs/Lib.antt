@@ -1,6 +1,9 @@
 pub mod Drawing
 pub mod Draws
+pub mod ForEach
 pub mod PlainOrder
 pub mod Ready
+pub mod Retries
 pub mod Schedule
 pub mod Sums
+pub mod Turns

@@ -1,10 +1,15 @@
 -- What a search for the k-th candidate rests on: counts by box, and that a step changes few fronts.
-use Rattle.std.specs.Prelude.{◌≡◌, ◌≢◌, ◌<◌, ◌+◌, ℕ, List, length, sum, take, slice_get, slice_index_or, Some}
+use Rattle.std.specs.Prelude.{◌≡◌, ◌≢◌, ◌<◌, ◌+◌, ℕ, Bool, List, length, sum, take, slice_get, slice_index_or, Some}
 use Rattle.mc_box.specs.declared.event.Turn.{Turn}
 use Rattle.mc_model.specs.Steps.{step}
 use Rattle.mc_model.specs.Worlds.{WorldState, far, front, lane_of, place}
-use Rattle.mc_seq.specs.Schedule.{for_each}
+use Rattle.mc_seq.specs.ForEach.{for_each}
+use Rattle.mc_seq.specs.Schedule.{candidates_of}
 use Rattle.mc_seq.specs.Sums.{CountsEach}
+
+-- counts of the candidates of each box
+abbrev pub CountsCandidates : WorldState → List Turn → Bool → List ℕ → Type 0
+CountsCandidates world left urgent numbers = CountsEach (candidates_of world left urgent) numbers (length world.boxes)
 
 -- where a search in the sums of the counts ends, there is the k-th
 abbrev pub KthIsFound : Type 0

@@ -1,17 +1,17 @@
 -- The schedule of a settle by draws: what can come next, and which of that is drawn.
-use Rattle.std.specs.Prelude.{◌≡◌, ℕ, zero, suc, ◌+◌, ◌/◌, ◌%◌, ◌==◌, ◌&&◌, not, if◌then◌else◌, Bool, false, List, [], ◌∷◌, ◌++◌, length, nat_lt, slice_get, Option, Some, None}
+use Rattle.std.specs.Prelude.{◌≡◌, ℕ, ◌+◌, ◌/◌, ◌%◌, ◌==◌, ◌&&◌, not, if◌then◌else◌, Bool, false, List, [], ◌∷◌, ◌++◌, length, nat_lt, slice_get, Option, Some, None}
 use Rattle.std.specs.List.{find}
 use Rattle.std.specs.Option.{is_some, option_and_then, option_to_list}
 use Rattle.mc_text.specs.Draws.{next_state}
 use Rattle.mc_box.specs.BoxEvents.{is_command}
-use Rattle.mc_box.specs.Boxes.{box_owes}
 use Rattle.mc_box.specs.declared.event.Event.{Event}
-use Rattle.mc_box.specs.declared.event.Event.TheVariants.{Take, Media, Retry}
+use Rattle.mc_box.specs.declared.event.Event.TheVariants.{Take, Media}
 use Rattle.mc_box.specs.declared.event.MediaChange.TheVariants.{Hear}
 use Rattle.mc_box.specs.declared.event.Turn.{Turn}
 use Rattle.mc_model.specs.Paths.{has_ring}
 use Rattle.mc_model.specs.Steps.{step}
 use Rattle.mc_model.specs.Worlds.{WorldState, box_at, front, number}
+use Rattle.mc_seq.specs.ForEach.{for_each}
 
 -- where a settle stands: its world, the commands that are left, how many turns came since its last command or its beginning, counted to 63, and the state of the draws
 pub record Standing : Type 0 where
@@ -23,11 +23,6 @@ pub record Standing : Type 0 where
 -- at the beginning all commands are left
 abbrev pub first_standing : WorldState → List Turn → ℕ → Standing
 first_standing world batch draws = record { world = world; left = batch; since = 0; draws = draws }
-
--- what a function gives for each number below a count, in rising order
-abbrev pub for_each : (ℕ → List Turn) → ℕ → List Turn
-for_each f zero = []
-for_each f (suc n) = for_each f n ++ f n
 
 -- ---- the candidates
 
@@ -42,27 +37,28 @@ take_turn who local = record { who = who; event = Take local }
 abbrev pub take_waits : WorldState → ℕ → ℕ → Bool
 take_waits world who local = is_some (option_and_then (front world) (number world who local))
 
-abbrev pub take_where : WorldState → ℕ → ℕ → List Turn
-take_where world who local = if take_waits world who local then take_turn who local ∷ [] else []
+-- that Take, if one waits
+abbrev pub waiting_take : WorldState → ℕ → ℕ → List Turn
+waiting_take world who local = if take_waits world who local then take_turn who local ∷ [] else []
 
 -- a Take for each local slot of a box at which one waits, in rising order
 abbrev pub takes_of : WorldState → ℕ → List Turn
-takes_of world who = for_each (take_where world who) (length (box_at world who).slots)
+takes_of world who = for_each (waiting_take world who) (length (box_at world who).slots)
 
 -- whether commands alone are listed: some are left, and the last 63 turns were none
 abbrev pub is_urgent : List Turn → ℕ → Bool
 is_urgent left since = not (length left == 0) && not (nat_lt since 63)
 
 -- the candidates of a box: its next command; then its Takes, unless commands alone are listed. The Shift of its program would stand behind them
-abbrev pub of_box : WorldState → List Turn → Bool → ℕ → List Turn
-of_box world left urgent who = option_to_list (next_of who left) ++ (if urgent then [] else takes_of world who)
+abbrev pub candidates_of : WorldState → List Turn → Bool → ℕ → List Turn
+candidates_of world left urgent who = option_to_list (next_of who left) ++ (if urgent then [] else takes_of world who)
 
 -- the candidates of all boxes, box by box
-abbrev pub listed : WorldState → List Turn → Bool → List Turn
-listed world left urgent = for_each (of_box world left urgent) (length world.boxes)
+abbrev pub all_candidates : WorldState → List Turn → Bool → List Turn
+all_candidates world left urgent = for_each (candidates_of world left urgent) (length world.boxes)
 
 abbrev pub candidates : Standing → List Turn
-candidates now = listed now.world now.left (is_urgent now.left now.since)
+candidates now = all_candidates now.world now.left (is_urgent now.left now.since)
 
 -- ---- a turn
 
@@ -71,8 +67,8 @@ abbrev pub drawn_place : ℕ → ℕ → ℕ
 drawn_place draws count = next_state draws / 65536 % count
 
 -- the candidate that is drawn; none where there is none
-abbrev pub drawn : Standing → Option Turn
-drawn now = slice_get (candidates now) (drawn_place now.draws (length (candidates now)))
+abbrev pub drawn_turn : Standing → Option Turn
+drawn_turn now = slice_get (candidates now) (drawn_place now.draws (length (candidates now)))
 
 -- commands without the next one of a box
 abbrev pub without_next : ℕ → List Turn → List Turn
@@ -96,22 +92,7 @@ MayGo now = now.left ≡ [] → has_ring now.world ≡ false
 -- turns that are drawn one after another lead from one standing to another
 abbrev pub AreDrawn : Standing → List Turn → Standing → Type 0
 AreDrawn now [] last = now ≡ last
-AreDrawn now (turn ∷ turns) last = (next : WorldState) × MayGo now × (drawn now ≡ Some turn) × (step now.world turn ≡ Some next) × AreDrawn (standing_after now turn next) turns last
-
--- ---- a round of retries
-
-abbrev pub retry_turn : ℕ → ℕ → Turn
-retry_turn who local = record { who = who; event = Retry local }
-
-abbrev pub retry_where : WorldState → ℕ → ℕ → List Turn
-retry_where world who local = if box_owes (box_at world who) local then retry_turn who local ∷ [] else []
-
-abbrev pub retries_of : WorldState → ℕ → List Turn
-retries_of world who = for_each (retry_where world who) (length (box_at world who).slots)
-
--- each owed retry, by box and local slot in rising order
-abbrev pub round : WorldState → List Turn
-round world = for_each (retries_of world) (length world.boxes)
+AreDrawn now (turn ∷ turns) last = (next : WorldState) × MayGo now × (drawn_turn now ≡ Some turn) × (step now.world turn ≡ Some next) × AreDrawn (standing_after now turn next) turns last
 
 -- ---- the last version
 

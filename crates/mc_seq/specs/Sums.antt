@@ -1,20 +1,37 @@
 -- A tree of sums: counts, the sums of neighbours two by two, those of neighbours among these, and so on up to one.
 use Rattle.mc_box.specs.declared.event.Turn.{Turn}
-use Rattle.std.specs.Prelude.{◌≡◌, ◌<◌, ◌≤◌, ◌+◌, ◌-◌, ◌^◌, ℕ, List, [], ◌∷◌, length, slice_index_or}
+use Rattle.std.specs.Prelude.{◌≡◌, ◌<◌, ◌≤◌, ◌+◌, ◌-◌, ◌^◌, ℕ, List, [], ◌∷◌, length, map, slice_index_or, slice_set, Vec}
+use Rattle.std.specs.declared.alloc.Global.{Global}
 
--- the sums of neighbours, two by two; a last one without a neighbour stands alone
-abbrev pub halved : List ℕ → List ℕ
-halved [] = []
-halved (x ∷ []) = x ∷ []
-halved (x ∷ y ∷ rest) = (x + y) ∷ halved rest
+-- the sums of neighbours, two by two; a last number without a neighbour stands alone
+abbrev pub pair_sums : List ℕ → List ℕ
+pair_sums [] = []
+pair_sums (x ∷ []) = x ∷ []
+pair_sums (x ∷ y ∷ rest) = (x + y) ∷ pair_sums rest
 
 abbrev pub level_at : List (List ℕ) → ℕ → List ℕ
 level_at levels depth = slice_index_or levels depth []
 
+-- the levels, as code keeps them
+abbrev pub levels_of : List (Vec ℕ Global) → List (List ℕ)
+levels_of levels = map (λ level. level.items) levels
+
+-- the counts themselves: the lowest level
+abbrev pub counts_of : List (Vec ℕ Global) → List ℕ
+counts_of levels = level_at (levels_of levels) 0
+
+-- a level after a number of it has come to count one thing in place of another
+abbrev pub level_after : List ℕ → (place was count : ℕ) → List ℕ
+level_after level place was count = slice_set level place (slice_index_or level place 0 - was + count)
+
+-- the levels after that has happened to one of them
+abbrev pub levels_after : List (List ℕ) → (depth place was count : ℕ) → List (List ℕ)
+levels_after levels depth place was count = slice_set levels depth (level_after (level_at levels depth) place was count)
+
 -- each level is the one below it, halved, and the last has one number at most; places fit
 pub record AreSums (levels : List (List ℕ)) : Type 0 where
   pub some : 0 < length levels
-  pub halves : (depth : ℕ) → depth + 1 < length levels → level_at levels (depth + 1) ≡ halved (level_at levels depth)
+  pub halves : (depth : ℕ) → depth + 1 < length levels → level_at levels (depth + 1) ≡ pair_sums (level_at levels depth)
   pub few : (depth : ℕ) → length (level_at levels depth) ≤ 2 ^ 32
   pub top : length (level_at levels (length levels - 1)) ≤ 1
 

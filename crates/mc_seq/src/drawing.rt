@@ -1,23 +1,20 @@
 // A settle by draws.
 
-ghost use Rattle.std.specs.Prelude.{◌≡◌, ◌≢◌, ◌==◌, ◌<◌, ◌++◌, ℕ, [], false, length, position, Some, IsTrue, IfOk, IfErr, OnOk, slice_get};
+ghost use Rattle.std.specs.Prelude.{◌≡◌, ◌==◌, ◌<◌, [], false, length, position, Some, IsTrue, IfOk, IfErr, OnOk, slice_get};
 ghost use Rattle.std.specs.List.{list_all};
 ghost use Rattle.mc_text.specs.Draws.{next_state};
-ghost use Rattle.mc_box.specs.Boxes.{box_owes};
 ghost use Rattle.mc_box.specs.BoxEvents.{is_command};
 ghost use Rattle.mc_model.specs.Shapes.{is_allowed};
 ghost use Rattle.mc_model.specs.Paths.{has_ring};
 ghost use Rattle.mc_model.specs.Settles.{IsSettled};
 ghost use Rattle.mc_model.specs.Steps.{ends_version};
-ghost use Rattle.mc_model.specs.Steps.{run};
-ghost use Rattle.mc_model.specs.Worlds.{box_at};
-ghost use Rattle.mc_seq.specs.Draws.{AreAllowed, IsScheduled, StopsByDraws};
-ghost use Rattle.mc_seq.specs.Drawing.{Becomes, Comes, MayCome, Rested, UsedUp, stands, written};
-ghost use Rattle.mc_seq.specs.Schedule.{drawn_place, heard_local, heard_slot, left_by, retries_of, retry_where, round, since_by, without_next};
+ghost use Rattle.mc_seq.specs.Draws.{AreAllowed, SettlesByDraws, StopsByDraws};
+ghost use Rattle.mc_seq.specs.Drawing.{CameToRest, DrewOnce, MayCome, TriedTurn, UsedUp, sight_of};
+ghost use Rattle.mc_seq.specs.Schedule.{drawn_place, heard_local, heard_slot, left_by, since_by, without_next};
 
 use crate::fault::{SettleFault, Stopped};
-use crate::listing::{is_urgent, listed};
-use crate::settling::make;
+use crate::listing::{all_candidates, is_urgent};
+use crate::retrying::retry_by_box;
 use mc_box::{Event, MediaChange, Turn};
 use mc_text::Draws;
 use mc_world::{Settled, StepFault, World};
@@ -56,7 +53,7 @@ pub fn settle_one(
     draws: &mut Draws,
 ) -> Result<Settled, SettleFault>
     requires allowed { AreAllowed world batch.now }
-    ensures scheduled { IfOk result (λ done. IsScheduled world batch.now draws.old.state done.turns.items done.world draws.new.state) }
+    ensures scheduled { IfOk result (SettlesByDraws world batch.now draws.old.state draws.new.state) }
     ensures settled { IfOk result (λ done. IsSettled world batch.now done.turns.items done.world) }
     ensures stops { IfErr result (StopsByDraws world batch.now draws.old.state draws.new.state) }
 {
@@ -76,7 +73,7 @@ pub fn settle_one(
         return Err(SettleFault::Ring(stopped(sitting, at)));
     }
     come_to_rest(alloc, &mut sitting, draws)?;
-    retry_all(&mut sitting.settled)?;
+    retry_by_box(&mut sitting.settled)?;
     come_to_rest(alloc, &mut sitting, draws)?;
     Ok(settled_by(sitting))
 }
@@ -106,21 +103,7 @@ fn copied(alloc: Global, batch: &[Turn]) -> Result<Vec<Turn>, AllocError>
     batch.iter().copied().collect(alloc)
 }
 
-// The turns of a settle that stops.
-fn stopped(sitting: Sitting, at: u32) -> Stopped
-    ensures at { result.at ≡ at }
-    ensures turns { result.turns.items ≡ written sitting }
-{
-    let Sitting {
-        settled,
-        left: _,
-        since: _,
-    } = sitting;
-    let Settled { world: _, turns } = settled;
-    Stopped { at, turns }
-}
-
-// What a settle that ends leaves.
+// The world and the turns of a settle.
 fn settled_by(sitting: Sitting) -> Settled
     ensures { result ≡ sitting.settled }
 {
@@ -132,6 +115,15 @@ fn settled_by(sitting: Sitting) -> Settled
     settled
 }
 
+// The turns of a settle that stops.
+fn stopped(sitting: Sitting, at: u32) -> Stopped
+    ensures at { result.at ≡ at }
+    ensures turns { result.turns.items ≡ sitting.settled.turns.items }
+{
+    let Settled { world: _, turns } = settled_by(sitting);
+    Stopped { at, turns }
+}
+
 // Draws until the batch is used up, or to the last version of a slot.
 fn use_up(
     alloc: Global,
@@ -139,7 +131,7 @@ fn use_up(
     draws: &mut Draws,
 ) -> Result<Option<u32>, AllocError>
     requires { AreAllowed sitting.old.settled.world sitting.old.left.items }
-    ensures { IfOk result (UsedUp (stands sitting.old draws.old.state) (written sitting.old) (stands sitting.new draws.new.state) (written sitting.new)) }
+    ensures { IfOk result (UsedUp (sight_of sitting.old draws.old.state) (sight_of sitting.new draws.new.state)) }
 {
     sitting.settled.world.keeps();
     'commands: while !is_used_up(&sitting.left) {
@@ -163,7 +155,7 @@ fn is_used_up(left: &[Turn]) -> bool
 fn come_to_rest(alloc: Global, sitting: &mut Sitting, draws: &mut Draws) -> Result<(), AllocError>
     requires used_up { sitting.old.left.items ≡ [] }
     requires free { has_ring sitting.old.settled.world ≡ false }
-    ensures { OnOk result (Rested (stands sitting.old draws.old.state) (written sitting.old) (stands sitting.new draws.new.state) (written sitting.new)) }
+    ensures { OnOk result (CameToRest (sight_of sitting.old draws.old.state) (sight_of sitting.new draws.new.state)) }
 {
     sitting.settled.world.keeps();
     'takes: loop {
@@ -178,16 +170,16 @@ fn come_to_rest(alloc: Global, sitting: &mut Sitting, draws: &mut Draws) -> Resu
 // Draws once, where anything is listed, and makes the turn that is drawn.
 fn draw_once(alloc: Global, sitting: &mut Sitting, draws: &mut Draws) -> Result<Draw, AllocError>
     requires { AreAllowed sitting.old.settled.world sitting.old.left.items }
-    ensures { IfOk result (Comes (stands sitting.old draws.old.state) (written sitting.old) (stands sitting.new draws.new.state) (written sitting.new)) }
+    ensures { IfOk result (DrewOnce (sight_of sitting.old draws.old.state) (sight_of sitting.new draws.new.state)) }
 {
     sitting.settled.world.keeps();
     let urgent = is_urgent(&sitting.left, sitting.since);
-    let list = listed(alloc, &sitting.settled.world, &sitting.left, urgent)?;
+    let list = all_candidates(alloc, &sitting.settled.world, &sitting.left, urgent)?;
     if list.is_empty() {
         return Ok(Draw::Nothing);
     }
     let turn = pick(&list, draws);
-    make_drawn(sitting, turn)
+    try_turn(sitting, turn)
 }
 
 // The candidate that is drawn.
@@ -200,10 +192,10 @@ fn pick(list: &[Turn], draws: &mut Draws) -> Turn
     list[draw % list.len()]
 }
 
-// Makes a turn that was drawn.
-fn make_drawn(sitting: &mut Sitting, turn: Turn) -> Result<Draw, AllocError>
+// Makes a turn, unless it ends a version.
+fn try_turn(sitting: &mut Sitting, turn: Turn) -> Result<Draw, AllocError>
     requires { MayCome sitting.old.settled.world turn }
-    ensures { IfOk result (Becomes sitting.old sitting.new turn) }
+    ensures { IfOk result (TriedTurn sitting.old sitting.new turn) }
 {
     match sitting.settled.world.step(turn.who, turn.event) {
         Ok(()) => {
@@ -278,48 +270,4 @@ fn place_of(who: u32, left: &[Turn]) -> Option<usize>
     ensures { result ≡ position (λ turn. turn.who == who) left.now }
 {
     left.iter().position(|turn| turn.who == who)
-}
-
-// Makes the retry of a slot, if it owes one.
-fn retry(settled: &mut Settled, who: u32, local: u8) -> Result<(), AllocError>
-    requires here { who < length settled.old.world.boxes }
-    requires inside { local < length (box_at settled.old.world who).slots }
-    ensures ran { OnOk result (run settled.old.world (retry_where settled.old.world who local) ≡ Some settled.new.world) }
-    ensures logged { OnOk result (settled.new.turns.items ≡ settled.old.turns.items ++ retry_where settled.old.world who local) }
-{
-    settled.world.keeps();
-    let event = Event::Retry(local);
-    if !settled.world.boxes()[who as usize].enabled(&event) {
-        return Ok(());
-    }
-    make(settled, Turn { who, event })
-}
-
-// Makes each retry that the slots of a box owe at the beginning, in rising order.
-fn retry_box(settled: &mut Settled, who: u32) -> Result<(), AllocError>
-    requires here { who < length settled.old.world.boxes }
-    ensures ran { OnOk result (run settled.old.world (retries_of settled.old.world who) ≡ Some settled.new.world) }
-    ensures others { OnOk result ((other local : ℕ) → other ≢ who → box_owes (box_at settled.new.world other) local ≡ box_owes (box_at settled.old.world other) local) }
-    ensures logged { OnOk result (settled.new.turns.items ≡ settled.old.turns.items ++ retries_of settled.old.world who) }
-{
-    settled.world.keeps();
-    let slots = settled.world.boxes()[who as usize].slots().len();
-    for local in 0..slots {
-        retry(settled, who, local as u8)?;
-    }
-    Ok(())
-}
-
-// Makes each retry that is owed at the beginning, by box and local slot in rising order.
-fn retry_all(settled: &mut Settled) -> Result<(), AllocError>
-    ensures rings { OnOk result (has_ring settled.new.world ≡ has_ring settled.old.world) }
-    ensures ran { OnOk result (run settled.old.world (round settled.old.world) ≡ Some settled.new.world) }
-    ensures logged { OnOk result (settled.new.turns.items ≡ settled.old.turns.items ++ round settled.old.world) }
-{
-    settled.world.keeps();
-    let boxes = settled.world.boxes().len();
-    for who in 0..boxes {
-        retry_box(settled, who as u32)?;
-    }
-    Ok(())
 }

@@ -1,21 +1,22 @@
 // The k-th candidate, found without a list of them.
 
-ghost use Rattle.std.specs.Prelude.{◌≡◌, ◌<◌, ◌≤◌, Some, length, map, slice_get};
+ghost use Rattle.std.specs.Prelude.{◌≡◌, ◌<◌, ◌≤◌, Some, length, slice_get};
 ghost use Rattle.mc_model.specs.Worlds.{box_at};
-ghost use Rattle.mc_seq.specs.Schedule.{listed, of_box, take_where, takes_of};
-ghost use Rattle.mc_seq.specs.Sums.{AreSums, CountsEach, level_at};
+ghost use Rattle.mc_seq.specs.Schedule.{all_candidates, candidates_of, takes_of, waiting_take};
+ghost use Rattle.mc_seq.specs.Ready.{CountsCandidates};
+ghost use Rattle.mc_seq.specs.Sums.{AreSums, counts_of, levels_of};
 
-use crate::listing::{next_of, waits};
+use crate::listing::{next_of, take_waits};
 use crate::sums::find;
 use mc_box::{Event, Turn};
 use mc_world::World;
 
 /// The k-th candidate, where a tree of sums has how many candidates each box has.
 pub fn kth(levels: &[Vec<u64>], world: &World, left: &[Turn], urgent: bool, k: u64) -> Turn
-    requires sums { AreSums (map (λ level. level.items) levels.now) }
-    requires counts { CountsEach (of_box world.now left.now urgent) (level_at (map (λ level. level.items) levels.now) 0) (length world.now.boxes) }
-    requires inside { k < length (listed world.now left.now urgent) }
-    ensures { slice_get (listed world.now left.now urgent) k ≡ Some result }
+    requires sums { AreSums (levels_of levels.now) }
+    requires counts { CountsCandidates world.now left.now urgent (counts_of levels.now) }
+    requires inside { k < length (all_candidates world.now left.now urgent) }
+    ensures { slice_get (all_candidates world.now left.now urgent) k ≡ Some result }
 {
     world.keeps();
     let (who, rest) = find(levels, k);
@@ -25,8 +26,8 @@ pub fn kth(levels: &[Vec<u64>], world: &World, left: &[Turn], urgent: bool, k: u
 // The k-th candidate of a box.
 fn kth_of_box(world: &World, left: &[Turn], urgent: bool, who: u32, k: u64) -> Turn
     requires here { who < length world.now.boxes }
-    requires inside { k < length (of_box world.now left.now urgent who) }
-    ensures { slice_get (of_box world.now left.now urgent who) k ≡ Some result }
+    requires inside { k < length (candidates_of world.now left.now urgent who) }
+    ensures { slice_get (candidates_of world.now left.now urgent who) k ≡ Some result }
 {
     match next_of(who, left) {
         Some(turn) => {
@@ -70,7 +71,7 @@ fn slots_of(world: &World, who: u32) -> usize
 
 // How many Takes a slot has: one, or none.
 fn takes_at(world: &World, who: u32, local: u8) -> u64
-    ensures { result ≡ length (take_where world.now who local) }
+    ensures { result ≡ length (waiting_take world.now who local) }
 {
-    if waits(world, who, local) { 1 } else { 0 }
+    if take_waits(world, who, local) { 1 } else { 0 }
 }

@@ -6,8 +6,10 @@ mod fault;
 pub mod finding;
 pub mod laws;
 mod listing;
+mod retrying;
 mod settling;
 pub mod sums;
+mod turns;
 
 pub use drawing::{fits, settle_one};
 pub use fault::{SettleFault, Stopped};

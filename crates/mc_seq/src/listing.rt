@@ -1,14 +1,14 @@
 // What can come next in a settle by draws.
 
 ghost use Rattle.std.specs.Prelude.{◌≡◌, ◌<◌, ◌++◌, length, OnOk, IfOk};
-ghost use Rattle.mc_seq.specs.Schedule.{is_urgent, listed, next_of, of_box, take_where, takes_of, take_waits};
+ghost use Rattle.mc_seq.specs.Schedule.{all_candidates, candidates_of, is_urgent, next_of, take_waits, takes_of, waiting_take};
 
 use mc_box::{Event, Turn};
 use mc_world::World;
 use std::alloc::{AllocError, Global};
 
 // Whether a signal waits that a box's slot can take now.
-pub fn waits(world: &World, who: u32, local: u8) -> bool
+pub fn take_waits(world: &World, who: u32, local: u8) -> bool
     ensures { result ≡ take_waits world.now who local }
 {
     match world.number(who, local) {
@@ -19,9 +19,9 @@ pub fn waits(world: &World, who: u32, local: u8) -> bool
 
 // Lists the Take of a box's slot, if one can come.
 fn list_take(world: &World, who: u32, local: u8, list: &mut Vec<Turn>) -> Result<(), AllocError>
-    ensures { OnOk result (list.new.items ≡ list.old.items ++ take_where world.now who local) }
+    ensures { OnOk result (list.new.items ≡ list.old.items ++ waiting_take world.now who local) }
 {
-    if waits(world, who, local) {
+    if take_waits(world, who, local) {
         let event = Event::Take(local);
         list.push(Turn { who, event })?;
     }
@@ -56,7 +56,7 @@ fn list_box(
     list: &mut Vec<Turn>,
 ) -> Result<(), AllocError>
     requires { who < length world.now.boxes }
-    ensures { OnOk result (list.new.items ≡ list.old.items ++ of_box world.now left.now urgent who) }
+    ensures { OnOk result (list.new.items ≡ list.old.items ++ candidates_of world.now left.now urgent who) }
 {
     if let Some(turn) = next_of(who, left) {
         list.push(turn)?;
@@ -68,13 +68,13 @@ fn list_box(
 }
 
 // The candidates of all boxes, box by box.
-pub fn listed(
+pub fn all_candidates(
     alloc: Global,
     world: &World,
     left: &[Turn],
     urgent: bool,
 ) -> Result<Vec<Turn>, AllocError>
-    ensures { IfOk result (λ list. list.items ≡ listed world.now left.now urgent) }
+    ensures { IfOk result (λ list. list.items ≡ all_candidates world.now left.now urgent) }
 {
     world.keeps();
     let mut list = Vec::new(alloc);

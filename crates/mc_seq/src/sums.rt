@@ -1,15 +1,15 @@
 // A tree of sums, in which the place of the k-th of all that is counted is found by as many steps as it has levels.
 
-ghost use Rattle.std.specs.Prelude.{◌≡◌, ◌<◌, ◌≤◌, ◌+◌, ◌-◌, ◌^◌, length, map, slice_index_or, slice_set, sum, take};
-ghost use Rattle.mc_seq.specs.Sums.{AreSums, level_at};
+ghost use Rattle.std.specs.Prelude.{◌≡◌, ◌<◌, ◌≤◌, ◌+◌, ◌^◌, length, slice_index_or, slice_set, sum, take};
+ghost use Rattle.mc_seq.specs.Sums.{AreSums, counts_of, level_after, level_at, levels_after, levels_of};
 
 /// Where the k-th of all that is counted stands: at which count, and how many of that count come before it.
 pub fn find(levels: &[Vec<u64>], k: u64) -> (usize, u64)
-    requires sums { AreSums (map (λ level. level.items) levels.now) }
-    requires inside { k < sum (level_at (map (λ level. level.items) levels.now) 0) }
-    ensures before { sum (take result.0 (level_at (map (λ level. level.items) levels.now) 0)) + result.1 ≡ k }
-    ensures within { result.1 < slice_index_or (level_at (map (λ level. level.items) levels.now) 0) result.0 0 }
-    ensures place { result.0 < length (level_at (map (λ level. level.items) levels.now) 0) }
+    requires sums { AreSums (levels_of levels.now) }
+    requires inside { k < sum (counts_of levels.now) }
+    ensures before { sum (take result.0 (counts_of levels.now)) + result.1 ≡ k }
+    ensures within { result.1 < slice_index_or (counts_of levels.now) result.0 0 }
+    ensures place { result.0 < length (counts_of levels.now) }
 {
     let mut place = 0;
     let mut rest = k;
@@ -29,11 +29,11 @@ pub fn find(levels: &[Vec<u64>], k: u64) -> (usize, u64)
 
 /// Changes a count, and one number of each level with it.
 pub fn put(levels: &mut [Vec<u64>], place: usize, count: u64)
-    requires sums { AreSums (map (λ level. level.items) levels.old) }
-    requires inside { place < length (level_at (map (λ level. level.items) levels.old) 0) }
-    requires fits { sum (level_at (map (λ level. level.items) levels.old) 0) + count < 2 ^ 64 }
-    ensures sums { AreSums (map (λ level. level.items) levels.new) }
-    ensures counts { level_at (map (λ level. level.items) levels.new) 0 ≡ slice_set (level_at (map (λ level. level.items) levels.old) 0) place count }
+    requires sums { AreSums (levels_of levels.old) }
+    requires inside { place < length (counts_of levels.old) }
+    requires fits { sum (counts_of levels.old) + count < 2 ^ 64 }
+    ensures sums { AreSums (levels_of levels.new) }
+    ensures counts { counts_of levels.new ≡ slice_set (counts_of levels.old) place count }
 {
     let was = at(levels, 0, place);
     let mut here = place;
@@ -46,12 +46,10 @@ pub fn put(levels: &mut [Vec<u64>], place: usize, count: u64)
 // Changes a number of a level, which counts one thing in place of another.
 fn change(levels: &mut [Vec<u64>], depth: usize, place: usize, was: u64, count: u64)
     requires depth { depth < length levels.old }
-    requires inside { place < length (level_at (map (λ level. level.items) levels.old) depth) }
-    requires less { was ≤ slice_index_or (level_at (map (λ level. level.items) levels.old) depth) place 0 }
-    requires fits { slice_index_or (level_at (map (λ level. level.items) levels.old) depth) place 0 + count < 2 ^ 64 }
-    ensures { map (λ level. level.items) levels.new
-        ≡ slice_set (map (λ level. level.items) levels.old) depth
-        (slice_set (level_at (map (λ level. level.items) levels.old) depth) place (slice_index_or (level_at (map (λ level. level.items) levels.old) depth) place 0 - was + count)) }
+    requires inside { place < length (level_at (levels_of levels.old) depth) }
+    requires less { was ≤ slice_index_or (level_at (levels_of levels.old) depth) place 0 }
+    requires fits { slice_index_or (level_at (levels_of levels.old) depth) place 0 + count < 2 ^ 64 }
+    ensures { levels_of levels.new ≡ levels_after (levels_of levels.old) depth place was count }
 {
     change_level(&mut levels[depth], place, was, count);
 }
@@ -61,7 +59,7 @@ fn change_level(level: &mut Vec<u64>, place: usize, was: u64, count: u64)
     requires inside { place < length level.old.items }
     requires less { was ≤ slice_index_or level.old.items place 0 }
     requires fits { slice_index_or level.old.items place 0 + count < 2 ^ 64 }
-    ensures { level.new.items ≡ slice_set level.old.items place (slice_index_or level.old.items place 0 - was + count) }
+    ensures { level.new.items ≡ level_after level.old.items place was count }
 {
     level[place] = level[place] - was + count;
 }
@@ -69,7 +67,7 @@ fn change_level(level: &mut Vec<u64>, place: usize, was: u64, count: u64)
 // A number of a level; 0 past its end.
 fn at(levels: &[Vec<u64>], depth: usize, place: usize) -> u64
     requires { depth < length levels.now }
-    ensures { result ≡ slice_index_or (level_at (map (λ level. level.items) levels.now) depth) place 0 }
+    ensures { result ≡ slice_index_or (level_at (levels_of levels.now) depth) place 0 }
 {
     let level = &levels[depth];
     if place < level.len() { level[place] } else { 0 }

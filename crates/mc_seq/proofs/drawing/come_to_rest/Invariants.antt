@@ -1,6 +1,6 @@
 use Rattle.std.proofs.Common.{◌≡◌, []}
 use Rattle.mc_laws.specs.Measures.{IsRingFree, measure}
-use Rattle.mc_seq.specs.Drawing.{stands, written}
+use Rattle.mc_seq.specs.Drawing.{sight_of}
 use Rattle.mc_seq.proofs.Sittings.{GoesOn}
 use Rattle.mc_seq.proofs.drawing.come_to_rest.Given as goal
 
@@ -9,7 +9,7 @@ abbrev pub invariant-takes : goal.invariant-takes
 invariant-takes l = record {
   free : IsRingFree l.sitting.settled.world;
   left : l.sitting.left.items ≡ [];
-  drew : GoesOn (stands l.initial.sitting l.initial.draws.state) (written l.initial.sitting) (stands l.sitting l.draws.state) (written l.sitting);
+  drew : GoesOn (sight_of l.initial.sitting l.initial.draws.state) (sight_of l.sitting l.draws.state);
 }
 
 abbrev pub decreases-takes : goal.decreases-takes

@@ -1,6 +1,6 @@
 use Rattle.mc_model.specs.Sound.{IsSound}
 use Rattle.mc_seq.specs.Draws.{AreAllowed}
-use Rattle.mc_seq.specs.Drawing.{stands, written}
+use Rattle.mc_seq.specs.Drawing.{sight_of}
 use Rattle.mc_seq.proofs.Sittings.{GoesOn, to_come}
 use Rattle.mc_seq.proofs.drawing.use_up.Given as goal
 
@@ -9,7 +9,7 @@ abbrev pub invariant-commands : goal.invariant-commands
 invariant-commands l = record {
   sound : IsSound l.sitting.settled.world;
   allowed : AreAllowed l.sitting.settled.world l.sitting.left.items;
-  drew : GoesOn (stands l.initial.sitting l.initial.draws.state) (written l.initial.sitting) (stands l.sitting l.draws.state) (written l.sitting);
+  drew : GoesOn (sight_of l.initial.sitting l.initial.draws.state) (sight_of l.sitting l.draws.state);
 }
 
 abbrev pub decreases-commands : goal.decreases-commands

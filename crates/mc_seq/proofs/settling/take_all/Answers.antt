@@ -9,8 +9,8 @@ make-requires c = lowest_goes c.loop-slot.settled.world c.in-Some.slot c.place-w
 pub loop-slot-preserved : goal.loop-slot-preserved
 loop-slot-preserved c = record {
   sound = take_stays_free c.loop-slot.settled.world c.make.new.settled.world c.place-who.result.0 c.place-who.result.1 c.loop-slot.invariant.sound c.in_ok-make.ensures.made;
-  takes = goes_more c.args.settled.now.world c.loop-slot.settled.world c.make.new.settled.world c.args.settled.now.turns.items c.loop-slot.settled.turns.items c.make.new.settled.turns.items
-      c.in-Some.slot c.place-who.result c.in-Some.ensures.some c.place-who.ensures c.in_ok-make.ensures.made c.in_ok-make.ensures.logged c.loop-slot.invariant.takes;
+  takes = goes_more c.args.settled.now c.loop-slot.settled c.make.new.settled c.in-Some.slot c.place-who.result c.in-Some.ensures.some c.place-who.ensures c.in_ok-make.ensures.made c.in_ok-make.ensures.logged
+      c.loop-slot.invariant.takes;
 }
 
 pub loop-slot-smaller : goal.loop-slot-smaller
@@ -20,4 +20,4 @@ pub returns-clause-free : goal.returns-clause-free
 returns-clause-free c = c.loop-slot.invariant.sound.free
 
 pub returns-clause-took : goal.returns-clause-took
-returns-clause-took c = goes_last c.args.settled.now.world c.loop-slot.settled.world c.args.settled.now.turns.items c.loop-slot.settled.turns.items (c.in_default.ensures.none refl) c.loop-slot.invariant.takes
+returns-clause-took c = goes_last c.args.settled.now c.loop-slot.settled (c.in_default.ensures.none refl) c.loop-slot.invariant.takes

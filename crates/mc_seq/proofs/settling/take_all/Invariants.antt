@@ -6,7 +6,7 @@ use Rattle.mc_seq.proofs.settling.take_all.Given as goal
 abbrev pub invariant-loop-slot : goal.invariant-loop-slot
 invariant-loop-slot l = record {
   sound : IsRingFree l.settled.world;
-  takes : GoesOn l.initial.settled.world l.initial.settled.turns.items l.settled.world l.settled.turns.items;
+  takes : GoesOn l.initial.settled l.settled;
 }
 
 abbrev pub decreases-loop-slot : goal.decreases-loop-slot

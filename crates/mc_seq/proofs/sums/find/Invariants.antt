@@ -1,9 +1,9 @@
-use Rattle.std.proofs.Common.{map}
+use Rattle.mc_seq.specs.Sums.{levels_of}
 use Rattle.mc_seq.proofs.TreeSums.{IsAt}
 use Rattle.mc_seq.proofs.sums.find.Given as goal
 
 abbrev pub invariant-down : goal.invariant-down
-invariant-down l = IsAt (map (λ level. level.items) l.levels) l.k l.depth l.place l.rest
+invariant-down l = IsAt (levels_of l.levels) l.k l.depth l.place l.rest
 
 abbrev pub decreases-down : goal.decreases-down
 decreases-down l = l.depth

@@ -1,32 +1,33 @@
-use Rattle.std.proofs.Common.{◌≡◌, ◌<◌, List, ℕ, length, map, arith, refl, sym, subst}
+use Rattle.std.proofs.Common.{◌≡◌, ◌<◌, List, ℕ, length, arith, refl, sym, subst}
 use Rattle.std.proofs.lemmas.List.{length-map}
+use Rattle.mc_seq.specs.Sums.{levels_of}
 use Rattle.mc_seq.proofs.TreePuts.{put_ends, put_first, put_fits, put_more}
 use Rattle.mc_seq.proofs.sums.put.Goals as goal
 
 pub up-init : goal.up-init
 up-init c = record {
-  puts = put_first (map (λ level. level.items) c.args.levels.now) c.args.place c.args.count c.at-was.result c.at-was.ensures c.requires.inside;
+  puts = put_first (levels_of c.args.levels.now) c.args.place c.args.count c.at-was.result c.at-was.ensures c.requires.inside;
   begins = λ none. refl;
 }
 
 pub up-preserved : goal.up-preserved
 up-preserved c =
-    let start : List (List ℕ) = map (λ level. level.items) c.args.levels.now in
+    let start : List (List ℕ) = levels_of c.args.levels.now in
     let low : c.up.depth < length start = subst (λ (n : ℕ). c.up.depth < n) (sym (length-map c.args.levels.now (λ level. level.items))) c.up-test.true in
     record {
-      puts = put_more start (map (λ level. level.items) c.up.levels) (map (λ level. level.items) c.change.new.levels) c.args.place c.at-was.result c.args.count c.up.depth c.up.here
+      puts = put_more start (levels_of c.up.levels) (levels_of c.change.new.levels) c.args.place c.at-was.result c.args.count c.up.depth c.up.here
           c.requires.sums c.at-was.ensures c.up.invariant.begins low c.up.invariant.puts c.change.ensures;
       begins = λ none. absurd (omega arith);
     }
 
 pub change-requires-clause-fits : goal.change-requires-clause-fits
 change-requires-clause-fits c =
-    let start : List (List ℕ) = map (λ level. level.items) c.args.levels.now in
+    let start : List (List ℕ) = levels_of c.args.levels.now in
     let low : c.up.depth < length start = subst (λ (n : ℕ). c.up.depth < n) (sym (length-map c.args.levels.now (λ level. level.items))) c.up-test.true in
-    put_fits start (map (λ level. level.items) c.up.levels) c.args.place c.at-was.result c.args.count c.up.depth c.up.here c.requires.sums low c.requires.fits c.up.invariant.puts
+    put_fits start (levels_of c.up.levels) c.args.place c.at-was.result c.args.count c.up.depth c.up.here c.requires.sums low c.requires.fits c.up.invariant.puts
 
 pub returns-clause-sums : goal.returns-clause-sums
 returns-clause-sums c =
-    let start : List (List ℕ) = map (λ level. level.items) c.args.levels.now in
+    let start : List (List ℕ) = levels_of c.args.levels.now in
     let is : c.up.depth ≡ length start = subst (λ (n : ℕ). c.up.depth ≡ n) (sym (length-map c.args.levels.now (λ level. level.items))) (omega arith) in
-    put_ends start (map (λ level. level.items) c.up.levels) c.args.place c.at-was.result c.args.count c.up.depth c.up.here c.requires.sums is c.up.invariant.puts
+    put_ends start (levels_of c.up.levels) c.args.place c.at-was.result c.args.count c.up.depth c.up.here c.requires.sums is c.up.invariant.puts

@@ -1,6 +1,6 @@
 use Rattle.std.proofs.Common.{◌∙◌, ap, Err}
 use Rattle.mc_seq.proofs.Hears.{never_refused}
-use Rattle.mc_seq.proofs.drawing.make_drawn.Goals as goal
+use Rattle.mc_seq.proofs.drawing.try_turn.Goals as goal
 
 pub unreachable-requires : goal.unreachable-requires
 unreachable-requires c =

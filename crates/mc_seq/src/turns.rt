@@ -1,0 +1,35 @@
+// Turns that are made, and written down.
+
+ghost use Rattle.std.specs.Prelude.{◌≡◌, ◌++◌, [], ◌∷◌, Some, IsSome, OnOk};
+ghost use Rattle.mc_model.specs.Steps.{run, step};
+ghost use Rattle.mc_seq.specs.Turns.{MadeAll};
+
+use mc_box::Turn;
+use mc_world::{Settled, StepFault};
+use std::alloc::AllocError;
+
+// Makes a turn that can happen, and writes it down.
+pub fn make(settled: &mut Settled, turn: Turn) -> Result<(), AllocError>
+    requires { IsSome (step settled.old.world turn) }
+    ensures made { OnOk result (step settled.old.world turn ≡ Some settled.new.world) }
+    ensures logged { OnOk result (settled.new.turns.items ≡ settled.old.turns.items ++ turn ∷ []) }
+{
+    settled.turns.push(turn)?;
+    match settled.world.step(turn.who, turn.event) {
+        Ok(()) => Ok(()),
+        Err(StepFault::NoMemory(e)) => Err(e),
+        Err(StepFault::NotEnabled | StepFault::VersionEnd) => unreachable!(),
+    }
+}
+
+// Makes turns that can happen one after another.
+pub fn make_all(settled: &mut Settled, turns: &[Turn]) -> Result<(), AllocError>
+    requires { IsSome (run settled.old.world turns.now) }
+    ensures { OnOk result (MadeAll settled.old settled.new turns.now) }
+{
+    settled.world.keeps();
+    for turn in turns {
+        make(settled, *turn)?;
+    }
+    Ok(())
+}
