@@ -4,7 +4,7 @@ use Rattle.std.proofs.Math.ListN.{get_or}
 use Rattle.std.proofs.lemmas.Bool.{cases_eq, cases_lt, and_parts, le-leb, lt-leb, lt-ltb, le-ltb}
 use Rattle.mc_slot.specs.Same.{is_same_slot_goal}
 use Rattle.mc_turn.specs.Sums.{total}
-use Rattle.mc_turn.proofs.Sums.{total_grows, total_next, total_one, total_same}
+use Rattle.mc_turn.proofs.Sums.{total_grows, total_next, total_none, total_one, total_same}
 use Rattle.mc_slot.specs.declared.Goal.TheVariants.{Close as ToClose}
 use Rattle.mc_slot.specs.declared.SlotGoal.{SlotGoal}
 use Rattle.mc_slot.specs.declared.SlotGoal.TheVariants.{End, Link}
@@ -14,11 +14,6 @@ use Rattle.mc_box.specs.Goals.{changed_from, changed_slots, has_turn, leads, mos
 use Rattle.mc_box.proofs.Folds.{most_of}
 
 -- ---- sums
-
--- no value, no sum
-total_none : (f : ℕ → ℕ) (k : ℕ) → ((t : ℕ) → t < k → f t ≡ 0) → total f k ≡ 0
-total_none f zero none = refl
-total_none f (suc k) none = omega (arith, none k (omega arith), total_none f k (λ t below. none t (omega arith)))
 
 -- ---- what a slot's goal may send, where it has its turn there
 

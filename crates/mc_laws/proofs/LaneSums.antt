@@ -10,7 +10,7 @@ use Rattle.mc_signal.specs.declared.Tagged.{Tagged}
 use Rattle.mc_model.specs.Sound.{IsNumbered}
 use Rattle.mc_model.specs.Worlds.{WorldState, for_tunnel, tunnel_of, lane_of, list_to, slot_count}
 use Rattle.mc_laws.proofs.LanesKept.{lane_apart, lane_in}
-use Rattle.mc_laws.proofs.Sums.{total_front, total_has, total_le, total_none, total_once, total_plus, total_swap}
+use Rattle.mc_laws.proofs.Sums.{total_front, total_has, total_le, total_zero, total_once, total_plus, total_swap}
 
 -- ---- one lane
 
@@ -46,7 +46,7 @@ marked lane j within tagged some = (grind (arith, common_steps), grind (arith, c
 lane_total : (lane_at within : ℕ → ℕ) (k j : ℕ) (lane : List Tagged) → ((s t : ℕ) → s < k → t < k → lane_at s ≡ lane_at t → within s ≡ within t → s ≡ t)
     → total (λ (s : ℕ). on_lane (lane_at s == j) (within s) lane) k ≤ length lane
 lane_total lane_at within k j [] apart =
-    omega (arith, total_le (λ (s : ℕ). on_lane (lane_at s == j) (within s) []) (λ (s : ℕ). 0) k (λ s below. none_on_lane (lane_at s == j) (within s)), total_none k)
+    omega (arith, total_le (λ (s : ℕ). on_lane (lane_at s == j) (within s) []) (λ (s : ℕ). 0) k (λ s below. none_on_lane (lane_at s == j) (within s)), total_zero k)
 lane_total lane_at within k j (tagged ∷ lane) apart =
     let parts : total (λ (s : ℕ). on_lane (lane_at s == j) (within s) (tagged ∷ lane)) k ≡ total (λ (s : ℕ). mark (lane_at s == j) (within s) tagged + on_lane (lane_at s == j) (within s) lane) k =
     total_same (λ (s : ℕ). on_lane (lane_at s == j) (within s) (tagged ∷ lane)) (λ (s : ℕ). mark (lane_at s == j) (within s) tagged + on_lane (lane_at s == j) (within s) lane) k

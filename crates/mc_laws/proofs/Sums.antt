@@ -38,9 +38,9 @@ total_le f g zero each = omega arith
 total_le f g (suc k) each = omega (arith, each k (omega arith), total_le f g k (λ t below. each t (omega arith)))
 
 -- no value, no sum
-pub total_none : (k : ℕ) → total (λ (t : ℕ). 0) k ≡ 0
-total_none zero = refl
-total_none (suc k) = omega (arith, total_none k)
+pub total_zero : (k : ℕ) → total (λ (t : ℕ). 0) k ≡ 0
+total_zero zero = refl
+total_zero (suc k) = omega (arith, total_zero k)
 
 -- a sum of sums of two
 pub total_plus : (f g : ℕ → ℕ) (k : ℕ) → total (λ (t : ℕ). f t + g t) k ≡ total f k + total g k
@@ -57,7 +57,7 @@ total_has f (suc k) s inside = elim (cases_lt s k) [
 
 -- a sum of sums goes by rows or by columns
 pub total_swap : (f : ℕ → ℕ → ℕ) (k n : ℕ) → total (λ (s : ℕ). total (f s) n) k ≡ total (λ (j : ℕ). total (λ (s : ℕ). f s j) k) n
-total_swap f zero n = sym (total_none n)
+total_swap f zero n = sym (total_zero n)
 total_swap f (suc k) n =
     let rest : total (λ (s : ℕ). total (f s) n) k ≡ total (λ (j : ℕ). total (λ (s : ℕ). f s j) k) n = total_swap f k n in
     omega (arith, rest, total_plus (f k) (λ (j : ℕ). total (λ (s : ℕ). f s j) k) n)
@@ -73,7 +73,7 @@ total_once f (suc k) each once = elim (cases_lt (f k) 1) [
         | inl unmarked ↦ omega arith
         | inr too ↦ let same : t ≡ k = once t k (omega arith) (omega arith) (omega arith) (omega arith) in absurd (omega arith)
       ]) in
-      omega (arith, others, total_none k, each k (omega arith))
+      omega (arith, others, total_zero k, each k (omega arith))
 ]
 
 -- a sum from its first value on

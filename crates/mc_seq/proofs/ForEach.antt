@@ -6,15 +6,10 @@ use Rattle.std.proofs.lemmas.Bool.{cases_eq}
 use Rattle.std.proofs.lemmas.List.Elements.{All-append}
 use Rattle.std.proofs.lemmas.List.Folds.{list_all-append}
 use Rattle.std.proofs.lemmas.List.Sums.{sum_by-append}
-use Rattle.mc_turn.specs.Sums.{total}
 use Rattle.mc_box.specs.declared.event.Turn.{Turn}
-<<<<<<< HEAD
-use Rattle.mc_seq.specs.Schedule.{for_each}
-use Rattle.mc_seq.proofs.OrderSettles.{both_there}
-=======
+use Rattle.mc_turn.specs.Sums.{total}
 use Rattle.mc_seq.specs.ForEach.{for_each}
 use Rattle.mc_seq.proofs.Segments.{both_there}
->>>>>>> afcde72 (Say the owed retries of both engines by one word, and each settle's turns by records)
 
 -- what holds of all that is given holds of the list
 pub each_all : (P : Turn → Type 0) (f : ℕ → List Turn) (n : ℕ) → ((t : ℕ) → t < n → All P (f t)) → All P (for_each f n)

@@ -4,6 +4,7 @@ use Rattle.std.proofs.lemmas.Bool.{cases_eq}
 use Rattle.std.proofs.lemmas.Grind.{common_steps}
 use Rattle.mc_box.specs.Boxes.{is_slot, box_owes}
 use Rattle.mc_turn.specs.Sums.{total}
+use Rattle.mc_turn.proofs.Sums.{total_none}
 use Rattle.mc_model.specs.Settles.{is_retry_of, world_owes, takes_or_retries}
 use Rattle.mc_model.specs.Sound.{IsSound}
 use Rattle.mc_model.specs.Worlds.{WorldState, box_at, place, slot_count}
@@ -38,25 +39,17 @@ numbers_besides world n = each_pass (λ turn. takes_or_retries turn.event) (retr
 
 -- ---- sums
 
--- no number has anything
-pub total_none : (f : ℕ → ℕ) (n : ℕ) → ((t : ℕ) → t < n → f t ≡ 0) → total f n ≡ 0
-total_none f zero none = refl
-total_none f (suc n) none =
-    let here : f n ≡ 0 = none n (omega arith) in
-    let rest : total f n ≡ 0 = total_none f n (λ t below. none t (omega arith)) in
-    omega arith
-
 -- one number alone has something
-pub total_one : (f : ℕ → ℕ) (n s : ℕ) → s < n → ((t : ℕ) → t < n → t ≢ s → f t ≡ 0) → total f n ≡ f s
-total_one f zero s inside others = absurd (omega arith)
-total_one f (suc n) s inside others = elim (cases_eq n s) [
+pub total_alone : (f : ℕ → ℕ) (n s : ℕ) → s < n → ((t : ℕ) → t < n → t ≢ s → f t ≡ 0) → total f n ≡ f s
+total_alone f zero s inside others = absurd (omega arith)
+total_alone f (suc n) s inside others = elim (cases_eq n s) [
   | inl same ↦
       let rest : total f n ≡ 0 = total_none f n (λ t below. others t (omega arith) (omega arith)) in
       let here : f n ≡ f s = ap f same in
       omega arith
   | inr apart ↦
       let here : f n ≡ 0 = others n (omega arith) apart in
-      let rest : total f n ≡ f s = total_one f n s (omega arith) (λ t below other. others t (omega arith) other) in
+      let rest : total f n ≡ f s = total_alone f n s (omega arith) (λ t below other. others t (omega arith) other) in
       omega arith
 ]
 
@@ -108,7 +101,7 @@ box_here : (there : Bool) (world : WorldState) (who local : ℕ) → is_slot (bo
     → count_by (is_retry_of who local) (retries_of world who) ≡ (if there && box_owes (box_at world who) local then 1 else 0)
 box_here true world who local is =
     box_count world who who local
-    ∙ (total_one (λ (l : ℕ). count_by (is_retry_of who local) (owed_retry world who l)) (length (box_at world who).slots) local (slot_inside (box_at world who) local is) (λ l below apart. owed_else world who l who local (λ here at. apart at))
+    ∙ (total_alone (λ (l : ℕ). count_by (is_retry_of who local) (owed_retry world who l)) (length (box_at world who).slots) local (slot_inside (box_at world who) local is) (λ l below apart. owed_else world who l who local (λ here at. apart at))
     ∙ owed_here world who local)
 box_here false world who local is =
     box_count world who who local
@@ -120,7 +113,7 @@ boxes_by : (there : Bool) (world : WorldState) (who local : ℕ) → nat_lt who 
     → count_by (is_retry_of who local) (retries_by_box world) ≡ (if there && is_slot (box_at world who) local && box_owes (box_at world who) local then 1 else 0)
 boxes_by true world who local is =
     each_count (is_retry_of who local) (retries_of world) (length world.boxes)
-    ∙ (total_one (λ (w : ℕ). count_by (is_retry_of who local) (retries_of world w)) (length world.boxes) who (box_inside world who is) (λ w below apart. box_else world w who local apart)
+    ∙ (total_alone (λ (w : ℕ). count_by (is_retry_of who local) (retries_of world w)) (length world.boxes) who (box_inside world who is) (λ w below apart. box_else world w who local apart)
     ∙ box_here (is_slot (box_at world who) local) world who local refl)
 boxes_by false world who local is =
     each_count (is_retry_of who local) (retries_of world) (length world.boxes)
@@ -142,7 +135,7 @@ number_there : (world : WorldState) (s who local : ℕ) → IsSound world → s 
     → count_by (is_retry_of who local) (retries_by_number world) ≡ (if box_owes (box_at world who) local then 1 else 0)
 number_there world s who local sound inside at =
     each_count (is_retry_of who local) (retry_at world) (slot_count world)
-    ∙ (total_one (λ (t : ℕ). count_by (is_retry_of who local) (retry_at world t)) (slot_count world) s inside
+    ∙ (total_alone (λ (t : ℕ). count_by (is_retry_of who local) (retry_at world t)) (slot_count world) s inside
     (λ t within apart. number_else world t who local (λ who_is local_is. apart (place_apart world t s sound.numbered within inside
     (who_is ∙ sym (ap (λ (p : ℕ × ℕ). p.0) at)) (local_is ∙ sym (ap (λ (p : ℕ × ℕ). p.1) at)))))
     ∙ (ap (λ (p : ℕ × ℕ). count_by (is_retry_of who local) (owed_retry world p.0 p.1)) at ∙ owed_here world who local))

@@ -20,6 +20,11 @@ total_one f g (suc k) s inside same = elim (cases_eq k s) [
       omega (arith, rest, same k (omega arith) apart)
 ]
 
+-- no value, no sum
+pub total_none : (f : ℕ → ℕ) (k : ℕ) → ((t : ℕ) → t < k → f t ≡ 0) → total f k ≡ 0
+total_none f zero none = refl
+total_none f (suc k) none = omega (arith, none k (omega arith), total_none f k (λ t below. none t (omega arith)))
+
 -- a longer sum is no smaller
 pub total_grows : (f : ℕ → ℕ) (k n : ℕ) → k ≤ n → total f k ≤ total f n
 total_grows f k zero within = let same : 0 ≡ k = omega arith in subst (λ (j : ℕ). total f j ≤ 0) same (omega arith)
