@@ -1,13 +1,14 @@
 -- What each slot of a sound box does in an event.
-use Rattle.std.proofs.Common.{◌≡◌, ◌≢◌, ◌==◌, ℕ, ◌<◌, true, false, Option, Some, None, List, ◌∷◌, ◌++◌, map, inl, inr, length, refl, ap, sym, ◌∙◌, subst, arith}
+use Rattle.std.proofs.Common.{◌≡◌, ◌≢◌, ◌==◌, ℕ, ◌<◌, true, Option, Some, None, List, ◌∷◌, ◌++◌, map, inl, inr, length, refl, ap, sym, ◌∙◌, subst, arith}
 use Rattle.std.specs.Option.{option_map}
 use Rattle.std.proofs.Math.ListN.{get_or, set, length-set}
 use Rattle.std.proofs.lemmas.Bool.{and_parts, cases_eq}
 use Rattle.std.proofs.lemmas.List.{get_or-set_same, get_or-set_other}
 use Rattle.mc_signal.specs.declared.Signal.{Signal}
-use Rattle.mc_slot.specs.EndTurn.{pushes, closes_by}
+use Rattle.mc_slot.specs.EndTurn.{cause_of}
 use Rattle.mc_slot.specs.Moves.{answered, slot_send_all, slot_take, Took}
 use Rattle.mc_slot.specs.Sending.{pair_of}
+use Rattle.mc_slot.specs.declared.Cause.TheVariants.{Other, Push}
 use Rattle.mc_slot.specs.declared.Slot.{Slot}
 use Rattle.mc_slot.specs.declared.SlotGoal.{SlotGoal}
 use Rattle.mc_box.specs.Acting.{Acted, sends, takes, sent_by, BoxActs, IsSameMake}
@@ -77,9 +78,9 @@ take_acted : (box : BoxState) (local : ℕ) (signal : Signal) (step : BoxStep) (
     → to local ≡ signal ∷ left local → ((k : ℕ) → k < length box.slots → k ≢ local → left k ≡ to k) → BoxActs box to step left
 take_acted box local signal step to left sound here goes after_sound first others =
     let one = then_some (λ (took : Took). option_map (answering local took.answer)
-    (goal_step (with_slot box local took.after) local (pushes signal took.after.state) (closes_by signal took.after.state))) (slot_take (slot_at box local) signal) step goes in
-    let two = map_some (answering local one.0.answer) (goal_step (with_slot box local one.0.after) local (pushes signal one.0.after.state) (closes_by signal one.0.after.state)) step one.2 in
-    let turn = turn_acts (with_slot box local one.0.after) local (pushes signal one.0.after.state) (closes_by signal one.0.after.state) two.0
+    (goal_step (with_slot box local took.after) local (cause_of signal took.after.state))) (slot_take (slot_at box local) signal) step goes in
+    let two = map_some (answering local one.0.answer) (goal_step (with_slot box local one.0.after) local (cause_of signal one.0.after.state)) step one.2 in
+    let turn = turn_acts (with_slot box local one.0.after) local (cause_of signal one.0.after.state) two.0
     (took_wired box local signal one.0 sound.wired here one.1)
     (subst (λ (n : ℕ). local < n) (sym (length-set box.slots local one.0.after)) here) two.1 in
     record {
@@ -141,15 +142,15 @@ set_sends box change step sound enabled goes =
     (changed_inside box.goals (change_goals box.goals change) 0 (length box.slots) (omega (arith, sound.wired.whole.goals))) goes)
 
 changed_sends : (box : BoxState) (local : ℕ) (media : SlotMedia) (step : BoxStep) → IsSoundBox box → local < length box.slots → media.origin ≡ (media_at box local).origin
-    → goal_step (with_media box local media) local false false ≡ Some step → Sends box step
+    → goal_step (with_media box local media) local Other ≡ Some step → Sends box step
 changed_sends box local media step sound here same goes =
     sends_from box (with_media box local media) step refl (make_media box local media (subst (λ (n : ℕ). local < n) (sym sound.wired.whole.media) here) same)
-    (turn_acts (with_media box local media) local false false step (media_wired box local media sound.wired) here goes)
+    (turn_acts (with_media box local media) local Other step (media_wired box local media sound.wired) here goes)
 
 media_sends : (change : MediaChange) (box : BoxState) (step : BoxStep) → IsSoundBox box → is_enabled box (Media change) ≡ true → media_step box change ≡ Some step → Sends box step
 media_sends (Hear local on) box step sound enabled goes =
     let here = and_parts (is_device box.kind) (is_slot box local) enabled in
-    let turns = else_some ((media_at box local).version == last_version) (goal_step (with_media box local (with_hearing on (media_at box local))) local false false) step goes in
+    let turns = else_some ((media_at box local).version == last_version) (goal_step (with_media box local (with_hearing on (media_at box local))) local Other) step goes in
     changed_sends box local (with_hearing on (media_at box local)) step sound (slot_inside box local here.1) refl turns.1
 media_sends (Talk local on) box step sound enabled goes =
     let here = and_parts (is_device box.kind) (is_slot box local) enabled in
@@ -162,7 +163,7 @@ event_sends (Media change) box step sound enabled goes = media_sends change box 
 event_sends (Tell word) box step sound enabled goes = absurd (cc)
 event_sends (Retry local) box step sound enabled goes =
     let here = and_parts (is_slot box local) (box_owes box local) enabled in
-    let turn = turn_acts box local true false step sound.wired (slot_inside box local here.0) goes in
+    let turn = turn_acts box local Push step sound.wired (slot_inside box local here.0) goes in
     record { each = turn.each; make = turn.make }
 event_sends Shift box step sound enabled goes = absurd (cc)
 

@@ -3,8 +3,9 @@ use Rattle.std.proofs.Common.{◌≡◌, ◌==◌, ℕ, Bool, true, false, if◌
 use Rattle.std.specs.Option.{option_map}
 use Rattle.std.proofs.lemmas.Bool.{lt-ltb}
 use Rattle.mc_signal.specs.declared.Signal.{Signal}
-use Rattle.mc_slot.specs.EndTurn.{pushes, closes_by}
+use Rattle.mc_slot.specs.EndTurn.{cause_of}
 use Rattle.mc_slot.specs.Moves.{slot_take, Took}
+use Rattle.mc_slot.specs.declared.Cause.TheVariants.{Other, Push}
 use Rattle.mc_box.specs.BoxEvents.{BoxStep, answering, box_event, goal_step, happening, with_hearing, is_enabled, is_take, is_version_end, last_version, take_step, with_talking}
 use Rattle.mc_box.specs.BoxSound.{IsSoundBox}
 use Rattle.mc_box.specs.Boxes.{BoxState, is_slot, media_at, slot_at, with_goals, with_media, with_slot}
@@ -23,15 +24,15 @@ use Rattle.mc_box.proofs.TurnGoes.{some_is, some_of, turn_goes, turns_go}
 -- ---- a signal is taken
 
 take_made : (box : BoxState) (local : ℕ) (signal : Signal) (took : Took) (turn : BoxStep) → is_slot box local ≡ true → slot_take (slot_at box local) signal ≡ Some took
-    → goal_step (with_slot box local took.after) local (pushes signal took.after.state) (closes_by signal took.after.state) ≡ Some turn
+    → goal_step (with_slot box local took.after) local (cause_of signal took.after.state) ≡ Some turn
     → IsSome (box_event box (Take local) (Some signal))
 take_made box local signal took turn here goes turns = rw (here, goes, turns) refl
 
 pub take_goes : TakeGoes
 take_goes box local signal sound here lawful =
     let took = some_of (slot_take (slot_at box local) signal) lawful in
-    let turn = some_of (goal_step (with_slot box local took.0.after) local (pushes signal took.0.after.state) (closes_by signal took.0.after.state))
-    (turn_goes (with_slot box local took.0.after) local (pushes signal took.0.after.state) (closes_by signal took.0.after.state)
+    let turn = some_of (goal_step (with_slot box local took.0.after) local (cause_of signal took.0.after.state))
+    (turn_goes (with_slot box local took.0.after) local (cause_of signal took.0.after.state)
     (took_wired box local signal took.0 sound.wired here took.1)) in
     take_made box local signal took.0 turn.0 (lt-ltb local (length box.slots) here) took.1 turn.1
 
@@ -39,7 +40,7 @@ pub take_was_lawful : TakeWasLawful
 take_was_lawful box local signal step goes =
     let one = if_some (is_slot box local) (take_step box local signal) step goes in
     let two = then_some (λ (took : Took). option_map (answering local took.answer)
-    (goal_step (with_slot box local took.after) local (pushes signal took.after.state) (closes_by signal took.after.state))) (slot_take (slot_at box local) signal) step one.1 in
+    (goal_step (with_slot box local took.after) local (cause_of signal took.after.state))) (slot_take (slot_at box local) signal) step one.1 in
     (slot_inside box local one.0, some_is (slot_take (slot_at box local) signal) two.0 two.1)
 
 -- ---- an event that takes nothing
@@ -58,10 +59,10 @@ true_is false is = absurd (cc)
 
 media_goes : (change : MediaChange) (box : BoxState) → IsSoundBox box → is_version_end box (Media change) ≡ false → IsSome (happening box (Media change))
 media_goes (Hear local on) box sound newer =
-    hear_by ((media_at box local).version == last_version) (goal_step (with_media box local (with_hearing on (media_at box local))) local false false) newer
-    (turn_goes (with_media box local (with_hearing on (media_at box local))) local false false (media_wired box local (with_hearing on (media_at box local)) sound.wired))
+    hear_by ((media_at box local).version == last_version) (goal_step (with_media box local (with_hearing on (media_at box local))) local Other) newer
+    (turn_goes (with_media box local (with_hearing on (media_at box local))) local Other (media_wired box local (with_hearing on (media_at box local)) sound.wired))
 media_goes (Talk local on) box sound newer =
-    turn_goes (with_media box local (with_talking on (media_at box local))) local false false (media_wired box local (with_talking on (media_at box local)) sound.wired)
+    turn_goes (with_media box local (with_talking on (media_at box local))) local Other (media_wired box local (with_talking on (media_at box local)) sound.wired)
 
 happens : (event : Event) (box : BoxState) → IsSoundBox box → is_enabled box event ≡ true → is_take event ≡ false → is_version_end box event ≡ false → IsSome (happening box event)
 happens (Take local) box sound enabled untaken newer = absurd (cc)
@@ -70,7 +71,7 @@ happens (Set change) box sound enabled untaken newer =
     (changed_inside box.goals (change_goals box.goals change) 0 (length box.slots) (omega (arith, sound.wired.whole.goals)))
 happens (Media change) box sound enabled untaken newer = media_goes change box sound newer
 happens (Tell word) box sound enabled untaken newer = absurd (cc)
-happens (Retry local) box sound enabled untaken newer = turn_goes box local true false sound.wired
+happens (Retry local) box sound enabled untaken newer = turn_goes box local Push sound.wired
 happens Shift box sound enabled untaken newer = absurd (cc)
 
 -- the event of a box is what happens, where it is enabled
@@ -101,7 +102,7 @@ stops : (event : Event) (box : BoxState) → is_version_end box event ≡ true �
 stops (Take local) box end = absurd (cc)
 stops (Set change) box end = absurd (cc)
 stops (Media (Hear local on)) box end =
-    stops_by ((media_at box local).version == last_version) (is_enabled box (Media (Hear local on))) (goal_step (with_media box local (with_hearing on (media_at box local))) local false false) end
+    stops_by ((media_at box local).version == last_version) (is_enabled box (Media (Hear local on))) (goal_step (with_media box local (with_hearing on (media_at box local))) local Other) end
 stops (Media (Talk local on)) box end = absurd (cc)
 stops (Tell word) box end = absurd (cc)
 stops (Retry local) box end = absurd (cc)

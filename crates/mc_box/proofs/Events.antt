@@ -1,12 +1,14 @@
 -- Each event of a sound box leaves it sound, and sends few signals.
-use Rattle.std.proofs.Common.{◌≡◌, ◌≢◌, ◌==◌, ℕ, ◌*◌, ◌<◌, ◌≤◌, Bool, true, false, Some, None, [], length, refl, ap, sym, ◌∙◌, subst, arith}
+use Rattle.std.proofs.Common.{◌≡◌, ◌≢◌, ◌==◌, ℕ, ◌*◌, ◌<◌, ◌≤◌, true, Some, None, [], length, refl, ap, sym, ◌∙◌, subst, arith}
 use Rattle.std.specs.Option.{option_map}
 use Rattle.std.proofs.Math.ListN.{set, length-set}
 use Rattle.std.proofs.lemmas.List.{get_or-set_other}
 use Rattle.std.proofs.lemmas.Bool.{and_parts}
 use Rattle.mc_signal.specs.declared.Signal.{Signal}
-use Rattle.mc_slot.specs.EndTurn.{pushes, closes_by}
+use Rattle.mc_slot.specs.EndTurn.{cause_of}
 use Rattle.mc_slot.specs.Moves.{slot_take, Took}
+use Rattle.mc_slot.specs.declared.Cause.{Cause}
+use Rattle.mc_slot.specs.declared.Cause.TheVariants.{Other, Push}
 use Rattle.mc_slot.specs.declared.Slot.{Slot}
 use Rattle.mc_slot.specs.declared.SlotGoal.{SlotGoal}
 use Rattle.mc_slot.specs.declared.SlotGoal.TheVariants.{End, Link}
@@ -38,10 +40,10 @@ held_self (End end) k local lacks = lacks.0
 held_self (Link partner) k local lacks = lacks.0
 
 -- where all but one goal rest, its turn brings it to rest
-pub turn_sound : (box : BoxState) (local : ℕ) (pushed closed : Bool) (turn : BoxStep) → IsWired box → local < length box.slots
-    → RestsBut box (held (goal_at box local) local) → goal_step box local pushed closed ≡ Some turn → IsSoundBox turn.after
-turn_sound box local pushed closed turn wired inside but goes =
-    let made = turned box local pushed closed turn wired inside goes in
+pub turn_sound : (box : BoxState) (local : ℕ) (cause : Cause) (turn : BoxStep) → IsWired box → local < length box.slots
+    → RestsBut box (held (goal_at box local) local) → goal_step box local cause ≡ Some turn → IsSoundBox turn.after
+turn_sound box local cause turn wired inside but goes =
+    let made = turned box local cause turn wired inside goes in
     let rests : RestsBut (with_slots box made.slots) [] = made.rests [] (λ k lacks. but k (lacks_first k (held (goal_at box local) local) [] lacks)) in
     subst (λ (b : BoxState). IsSoundBox b) (sym made.is) (record { wired = made.wired; rests = λ k. rests k tt })
 
@@ -53,10 +55,10 @@ most_by (Link partner) box local wired inside is =
     let other : partner ≢ local = (wired.links local partner is).other in
     omega arith
 
-turn_twice : (box : BoxState) (local : ℕ) (pushed closed : Bool) (turn : BoxStep) → IsWired box → local < length box.slots
-    → goal_step box local pushed closed ≡ Some turn → length turn.sent ≤ 2 * length box.slots
-turn_twice box local pushed closed turn wired inside goes =
-    let made = turned box local pushed closed turn wired inside goes in
+turn_twice : (box : BoxState) (local : ℕ) (cause : Cause) (turn : BoxStep) → IsWired box → local < length box.slots
+    → goal_step box local cause ≡ Some turn → length turn.sent ≤ 2 * length box.slots
+turn_twice box local cause turn wired inside goes =
+    let made = turned box local cause turn wired inside goes in
     omega (arith, made.few, most_by (goal_at box local) box local wired inside refl)
 
 -- ---- a signal is taken
@@ -75,10 +77,10 @@ took_rests box local after sound k lacks =
 pub take_sound : (box : BoxState) (local : ℕ) (signal : Signal) (step : BoxStep) → IsSoundBox box → local < length box.slots → take_step box local signal ≡ Some step → IsSoundBox step.after
 take_sound box local signal step sound inside goes =
     let one = then_some (λ (took : Took). option_map (answering local took.answer)
-    (goal_step (with_slot box local took.after) local (pushes signal took.after.state) (closes_by signal took.after.state))) (slot_take (slot_at box local) signal) step goes in
-    let two = map_some (answering local one.0.answer) (goal_step (with_slot box local one.0.after) local (pushes signal one.0.after.state) (closes_by signal one.0.after.state)) step one.2 in
+    (goal_step (with_slot box local took.after) local (cause_of signal took.after.state))) (slot_take (slot_at box local) signal) step goes in
+    let two = map_some (answering local one.0.answer) (goal_step (with_slot box local one.0.after) local (cause_of signal one.0.after.state)) step one.2 in
     subst (λ (s : BoxStep). IsSoundBox s.after) two.2
-    (turn_sound (with_slot box local one.0.after) local (pushes signal one.0.after.state) (closes_by signal one.0.after.state) two.0
+    (turn_sound (with_slot box local one.0.after) local (cause_of signal one.0.after.state) two.0
     (took_wired box local signal one.0 sound.wired inside one.1)
     (subst (λ (n : ℕ). local < n) (sym (length-set box.slots local one.0.after)) inside)
     (took_rests box local one.0.after sound) two.1)
@@ -128,16 +130,16 @@ set_done box change step sound enabled goes =
     record { sound = made.sound; few = omega (arith, made.few, twice) }
 
 changed_done : (box : BoxState) (local : ℕ) (media : SlotMedia) (step : BoxStep) → IsSoundBox box → local < length box.slots
-    → goal_step (with_media box local media) local false false ≡ Some step → Done box step
+    → goal_step (with_media box local media) local Other ≡ Some step → Done box step
 changed_done box local media step sound inside goes = record {
-  sound = turn_sound (with_media box local media) local false false step (media_wired box local media sound.wired) inside (media_rests box local media sound) goes;
-  few = turn_twice (with_media box local media) local false false step (media_wired box local media sound.wired) inside goes;
+  sound = turn_sound (with_media box local media) local Other step (media_wired box local media sound.wired) inside (media_rests box local media sound) goes;
+  few = turn_twice (with_media box local media) local Other step (media_wired box local media sound.wired) inside goes;
 }
 
 media_done : (change : MediaChange) (box : BoxState) (step : BoxStep) → IsSoundBox box → is_enabled box (Media change) ≡ true → media_step box change ≡ Some step → Done box step
 media_done (Hear local on) box step sound enabled goes =
     let here = and_parts (is_device box.kind) (is_slot box local) enabled in
-    let turns = else_some ((media_at box local).version == last_version) (goal_step (with_media box local (with_hearing on (media_at box local))) local false false) step goes in
+    let turns = else_some ((media_at box local).version == last_version) (goal_step (with_media box local (with_hearing on (media_at box local))) local Other) step goes in
     changed_done box local (with_hearing on (media_at box local)) step sound (slot_inside box local here.1) turns.1
 media_done (Talk local on) box step sound enabled goes =
     let here = and_parts (is_device box.kind) (is_slot box local) enabled in
@@ -151,8 +153,8 @@ event_done (Tell word) box step sound enabled goes = absurd (cc)
 event_done (Retry local) box step sound enabled goes =
     let here = and_parts (is_slot box local) (box_owes box local) enabled in
     record {
-      sound = turn_sound box local true false step sound.wired (slot_inside box local here.0) (λ k lacks. sound.rests k) goes;
-      few = turn_twice box local true false step sound.wired (slot_inside box local here.0) goes;
+      sound = turn_sound box local Push step sound.wired (slot_inside box local here.0) (λ k lacks. sound.rests k) goes;
+      few = turn_twice box local Push step sound.wired (slot_inside box local here.0) goes;
     }
 event_done Shift box step sound enabled goes = absurd (cc)
 

@@ -14,6 +14,7 @@ use Rattle.mc_box.proofs.Changes.{start_rests, todo_of}
 use Rattle.mc_box.proofs.Held.{RestsBut, with_slots}
 use Rattle.mc_box.proofs.Options.{map_some, then_some}
 use Rattle.mc_box.proofs.GoalTurns.{turned}
+use Rattle.mc_slot.specs.declared.Cause.TheVariants.{Push}
 
 -- all of them are slots
 abbrev pub AreInside : ℕ → List ℕ → Type 0
@@ -54,9 +55,9 @@ pub turns_settle : (locals : List ℕ) (box : BoxState) (step : BoxStep) → IsW
     → goal_steps box locals ≡ Some step → Settled box locals step
 turns_settle [] box step wired inside but goes = let same : record { sent = []; after = box } ≡ step = cc in turns_end box step wired but same
 turns_settle (local ∷ locals) box step wired inside but goes =
-    let one = then_some (λ (turn : BoxStep). option_map (followed turn.sent) (goal_steps turn.after locals)) (goal_step box local true false) step goes in
+    let one = then_some (λ (turn : BoxStep). option_map (followed turn.sent) (goal_steps turn.after locals)) (goal_step box local Push) step goes in
     let two = map_some (followed one.0.sent) (goal_steps one.0.after locals) step one.2 in
-    let made = turned box local true false one.0 wired inside.0 one.1 in
+    let made = turned box local Push one.0 wired inside.0 one.1 in
     turns_next box local locals made.slots one.0 two.0 step made.few
     (turns_settle locals (with_slots box made.slots) two.0 made.wired (subst (λ (n : ℕ). AreInside n locals) (sym made.size) inside.1)
     (made.rests (todo_of box.goals locals) but)

@@ -1,16 +1,18 @@
 -- Each signal that a sound box sends is sent by one of its slots.
-use Rattle.std.proofs.Common.{◌≡◌, ◌==◌, ℕ, ◌<◌, Bool, true, false, Some, None, List, [], ◌∷◌, ◌++◌, map, length, All, max, min, refl, ap, sym, ◌∙◌, subst, arith}
+use Rattle.std.proofs.Common.{◌≡◌, ◌==◌, ℕ, ◌<◌, true, Some, None, List, [], ◌∷◌, ◌++◌, map, length, All, max, min, refl, ap, sym, ◌∙◌, subst, arith}
 use Rattle.std.specs.Option.{option_map}
 use Rattle.std.proofs.Math.ListN.{length-set}
 use Rattle.std.proofs.lemmas.Bool.{and_parts}
 use Rattle.std.proofs.lemmas.List.Elements.{All-append, All-map, All-nil}
-use Rattle.mc_link.specs.LinkTurn.{link_turn, numbered, side_closed}
+use Rattle.mc_link.specs.LinkTurn.{link_turn, numbered, closed_side}
 use Rattle.mc_link.specs.declared.Side.{Side}
 use Rattle.mc_link.specs.declared.Side.TheVariants.{First, Second}
 use Rattle.mc_signal.specs.declared.Signal.{Signal}
-use Rattle.mc_slot.specs.EndTurn.{end_turn, pushes, closes_by}
+use Rattle.mc_slot.specs.EndTurn.{end_turn, cause_of, is_push}
 use Rattle.mc_slot.specs.Moves.{answered, slot_take, Took}
 use Rattle.mc_slot.specs.Sending.{pair_of}
+use Rattle.mc_slot.specs.declared.Cause.{Cause}
+use Rattle.mc_slot.specs.declared.Cause.TheVariants.{Other, Push}
 use Rattle.mc_slot.specs.declared.SlotGoal.{SlotGoal}
 use Rattle.mc_slot.specs.declared.SlotGoal.TheVariants.{End, Link}
 use Rattle.mc_box.specs.BoxEvents.{BoxStep, answering, box_event, followed, goal_step, happening, with_hearing, is_enabled, last_version, media_step, set_step, side_of, take_step, with_talking, goal_step_by, goal_steps}
@@ -55,22 +57,22 @@ both_below count some more one two = All-append (λ (sending : ℕ × Signal). s
 
 -- ---- turns
 
-turn_by_below : (goal : SlotGoal) (box : BoxState) (local : ℕ) (pushed closed : Bool) (step : BoxStep) → IsWired box → local < length box.slots → goal_at box local ≡ goal
-    → goal_step_by goal box local pushed closed ≡ Some step → AreBelow (length box.slots) step.sent
-turn_by_below (End goal) box local pushed closed step wired here is goes =
-    subst (λ (s : BoxStep). AreBelow (length box.slots) s.sent) (end_form box local goal pushed step goes).is
-    (own_below (length box.slots) local (end_turn goal (slot_at box local) pushed (own box local) (sender box local)) here)
-turn_by_below (Link partner) box local pushed closed step wired here is goes =
+turn_by_below : (goal : SlotGoal) (box : BoxState) (local : ℕ) (cause : Cause) (step : BoxStep) → IsWired box → local < length box.slots → goal_at box local ≡ goal
+    → goal_step_by goal box local cause ≡ Some step → AreBelow (length box.slots) step.sent
+turn_by_below (End goal) box local cause step wired here is goes =
+    subst (λ (s : BoxStep). AreBelow (length box.slots) s.sent) (end_form box local goal cause step goes).is
+    (own_below (length box.slots) local (end_turn goal (slot_at box local) (is_push cause) (own box local) (sender box local)) here)
+turn_by_below (Link partner) box local cause step wired here is goes =
     let there : partner < length box.slots = (wired.links local partner is).inside in
-    let side = side_closed closed (side_of local partner) in
+    let side = closed_side cause (side_of local partner) in
     subst (λ (s : BoxStep). AreBelow (length box.slots) s.sent) (pair_form box (min local partner) (max local partner) side step goes).is
     (pair_below (length box.slots) (min local partner) (max local partner) (link_turn (slot_at box (min local partner)) (slot_at box (max local partner)) side)
     (at_min (λ (k : ℕ). k < length box.slots) local partner here there) (at_max (λ (k : ℕ). k < length box.slots) local partner here there))
 
 -- the turn of a goal
-turn_below : (box : BoxState) (local : ℕ) (pushed closed : Bool) (step : BoxStep) → IsWired box → local < length box.slots
-    → goal_step box local pushed closed ≡ Some step → AreBelow (length box.slots) step.sent
-turn_below box local pushed closed step wired here goes = turn_by_below (goal_at box local) box local pushed closed step wired here refl goes
+turn_below : (box : BoxState) (local : ℕ) (cause : Cause) (step : BoxStep) → IsWired box → local < length box.slots
+    → goal_step box local cause ≡ Some step → AreBelow (length box.slots) step.sent
+turn_below box local cause step wired here goes = turn_by_below (goal_at box local) box local cause step wired here refl goes
 
 -- turns one after another
 turns_below : (locals : List ℕ) (box : BoxState) (step : BoxStep) (count : ℕ) → IsWired box → length box.slots ≡ count → AreInside count locals
@@ -79,14 +81,14 @@ turns_below [] box step count wired size inside goes =
     let none : step.sent ≡ [] = cc in
     subst (λ (l : List (ℕ × Signal)). AreBelow count l) (sym none) (All-nil (λ (sending : ℕ × Signal). sending.0 < count))
 turns_below (local ∷ locals) box step count wired size inside goes =
-    let one = then_some (λ (turn : BoxStep). option_map (followed turn.sent) (goal_steps turn.after locals)) (goal_step box local true false) step goes in
+    let one = then_some (λ (turn : BoxStep). option_map (followed turn.sent) (goal_steps turn.after locals)) (goal_step box local Push) step goes in
     let two = map_some (followed one.0.sent) (goal_steps one.0.after locals) step one.2 in
     let here : local < length box.slots = subst (λ (n : ℕ). local < n) (sym size) inside.0 in
-    let made = turned box local true false one.0 wired here one.1 in
+    let made = turned box local Push one.0 wired here one.1 in
     let same : length one.0.after.slots ≡ count = ap (λ (b : BoxState). length b.slots) made.is ∙ (made.size ∙ size) in
     subst (λ (s : BoxStep). AreBelow count s.sent) two.2
     (both_below count one.0.sent two.0.sent
-    (subst (λ (n : ℕ). AreBelow n one.0.sent) size (turn_below box local true false one.0 wired here one.1))
+    (subst (λ (n : ℕ). AreBelow n one.0.sent) size (turn_below box local Push one.0 wired here one.1))
     (turns_below locals one.0.after two.0 count (subst (λ (b : BoxState). IsWired b) (sym made.is) made.wired) same inside.1 two.1))
 
 -- ---- events
@@ -95,14 +97,14 @@ take_below : (box : BoxState) (local : ℕ) (signal : Signal) (step : BoxStep) �
     → take_step box local signal ≡ Some step → AreBelow (length box.slots) step.sent
 take_below box local signal step sound here goes =
     let one = then_some (λ (took : Took). option_map (answering local took.answer)
-    (goal_step (with_slot box local took.after) local (pushes signal took.after.state) (closes_by signal took.after.state))) (slot_take (slot_at box local) signal) step goes in
-    let two = map_some (answering local one.0.answer) (goal_step (with_slot box local one.0.after) local (pushes signal one.0.after.state) (closes_by signal one.0.after.state)) step one.2 in
+    (goal_step (with_slot box local took.after) local (cause_of signal took.after.state))) (slot_take (slot_at box local) signal) step goes in
+    let two = map_some (answering local one.0.answer) (goal_step (with_slot box local one.0.after) local (cause_of signal one.0.after.state)) step one.2 in
     let size : length (with_slot box local one.0.after).slots ≡ length box.slots = length-set box.slots local one.0.after in
     subst (λ (s : BoxStep). AreBelow (length box.slots) s.sent) two.2
     (both_below (length box.slots) (map (pair_of local) (answered one.0.answer)) two.0.sent
     (own_below (length box.slots) local (answered one.0.answer) here)
     (subst (λ (n : ℕ). AreBelow n two.0.sent) size
-    (turn_below (with_slot box local one.0.after) local (pushes signal one.0.after.state) (closes_by signal one.0.after.state) two.0
+    (turn_below (with_slot box local one.0.after) local (cause_of signal one.0.after.state) two.0
     (took_wired box local signal one.0 sound.wired here one.1) (subst (λ (n : ℕ). local < n) (sym size) here) two.1)))
 
 set_below : (box : BoxState) (change : Change) (step : BoxStep) → IsSoundBox box → is_enabled box (Set change) ≡ true → set_step box change ≡ Some step
@@ -113,14 +115,14 @@ set_below box change step sound enabled goes =
     (changed_inside box.goals (change_goals box.goals change) 0 (length box.slots) (omega (arith, sound.wired.whole.goals))) goes
 
 changed_below : (box : BoxState) (local : ℕ) (media : SlotMedia) (step : BoxStep) → IsSoundBox box → local < length box.slots
-    → goal_step (with_media box local media) local false false ≡ Some step → AreBelow (length box.slots) step.sent
-changed_below box local media step sound here goes = turn_below (with_media box local media) local false false step (media_wired box local media sound.wired) here goes
+    → goal_step (with_media box local media) local Other ≡ Some step → AreBelow (length box.slots) step.sent
+changed_below box local media step sound here goes = turn_below (with_media box local media) local Other step (media_wired box local media sound.wired) here goes
 
 media_below : (change : MediaChange) (box : BoxState) (step : BoxStep) → IsSoundBox box → is_enabled box (Media change) ≡ true → media_step box change ≡ Some step
     → AreBelow (length box.slots) step.sent
 media_below (Hear local on) box step sound enabled goes =
     let here = and_parts (is_device box.kind) (is_slot box local) enabled in
-    let turns = else_some ((media_at box local).version == last_version) (goal_step (with_media box local (with_hearing on (media_at box local))) local false false) step goes in
+    let turns = else_some ((media_at box local).version == last_version) (goal_step (with_media box local (with_hearing on (media_at box local))) local Other) step goes in
     changed_below box local (with_hearing on (media_at box local)) step sound (slot_inside box local here.1) turns.1
 media_below (Talk local on) box step sound enabled goes =
     let here = and_parts (is_device box.kind) (is_slot box local) enabled in
@@ -135,7 +137,7 @@ event_below (Media change) box step sound enabled goes = media_below change box 
 event_below (Tell word) box step sound enabled goes = absurd (cc)
 event_below (Retry local) box step sound enabled goes =
     let here = and_parts (is_slot box local) (box_owes box local) enabled in
-    turn_below box local true false step sound.wired (slot_inside box local here.0) goes
+    turn_below box local Push step sound.wired (slot_inside box local here.0) goes
 event_below Shift box step sound enabled goes = absurd (cc)
 
 -- and one that takes a signal, which is a Take

@@ -4,7 +4,7 @@ use Rattle.std.specs.Option.{option_map}
 use Rattle.std.proofs.Math.ListN.{get_or, set, length-set}
 use Rattle.std.proofs.lemmas.Bool.{cases_eq}
 use Rattle.std.proofs.lemmas.List.{get_or-set_same, get_or-set_other, length-map}
-use Rattle.mc_link.specs.LinkTurn.{can_close, selector_due, lean, link_turn, numbered, descriptor_due, sent_by_first, sent_by_second, IsLinkAtRest, side_closed}
+use Rattle.mc_link.specs.LinkTurn.{can_close, selector_due, lean, link_turn, numbered, descriptor_due, sent_by_first, sent_by_second, IsLinkAtRest, closed_side}
 use Rattle.mc_link.specs.declared.Side.{Side}
 use Rattle.mc_link.specs.declared.Side.TheVariants.{First, Second}
 use Rattle.mc_link.proofs.LinkRests.{link_rests}
@@ -14,10 +14,11 @@ use Rattle.mc_link.proofs.Sides.{four_length}
 use Rattle.mc_signal.specs.declared.Descriptor.{Descriptor}
 use Rattle.mc_signal.specs.declared.Sender.{Sender}
 use Rattle.mc_signal.specs.declared.Signal.{Signal}
-use Rattle.mc_slot.specs.EndTurn.{end_turn}
+use Rattle.mc_slot.specs.EndTurn.{end_turn, is_push}
 use Rattle.mc_slot.specs.Moves.{is_live, slot_send, slot_send_all}
 use Rattle.mc_slot.specs.Sending.{pair_of}
 use Rattle.mc_slot.specs.Tunnel.{Kept}
+use Rattle.mc_slot.specs.declared.Cause.{Cause}
 use Rattle.mc_slot.specs.declared.Goal.{Goal}
 use Rattle.mc_slot.specs.declared.Slot.{Slot}
 use Rattle.mc_slot.specs.declared.SlotGoal.{SlotGoal}
@@ -90,10 +91,10 @@ pub record EndForm (box : BoxState) (local : ℕ) (goal : Goal) (pushed : Bool) 
   pub goes : slot_send_all (slot_at box local) (end_turn goal (slot_at box local) pushed (own box local) (sender box local)) ≡ Some last
   pub is : record { sent = map (pair_of local) (end_turn goal (slot_at box local) pushed (own box local) (sender box local)); after = with_slot box local last } ≡ step
 
-pub end_form : (box : BoxState) (local : ℕ) (goal : Goal) (pushed : Bool) (step : BoxStep) → end_step goal box local pushed ≡ Some step → EndForm box local goal pushed step
-end_form box local goal pushed step goes =
-    let one = map_some (λ (after : Slot). record { sent = map (pair_of local) (end_turn goal (slot_at box local) pushed (own box local) (sender box local)); after = with_slot box local after })
-    (slot_send_all (slot_at box local) (end_turn goal (slot_at box local) pushed (own box local) (sender box local))) step goes in
+pub end_form : (box : BoxState) (local : ℕ) (goal : Goal) (cause : Cause) (step : BoxStep) → end_step goal box local cause ≡ Some step → EndForm box local goal (is_push cause) step
+end_form box local goal cause step goes =
+    let one = map_some (λ (after : Slot). record { sent = map (pair_of local) (end_turn goal (slot_at box local) (is_push cause) (own box local) (sender box local)); after = with_slot box local after })
+    (slot_send_all (slot_at box local) (end_turn goal (slot_at box local) (is_push cause) (own box local) (sender box local))) step goes in
     record { last = one.0; goes = one.1; is = one.2 }
 
 pub record PairForm (box : BoxState) (low high : ℕ) (closed : Option Side) (step : BoxStep) : Type 0 where
@@ -144,23 +145,23 @@ end_slot_rests box local k goal pushed last todo wired inside is goes but lacks 
       (λ j apart. get_or-set_other box.slots local j last no_slot apart.0) (other, tt) (but k (other, lacks))
 ]
 
-end_turned : (box : BoxState) (local : ℕ) (goal : Goal) (pushed : Bool) (step : BoxStep) → IsWired box → local < length box.slots → goal_at box local ≡ End goal
-    → end_step goal box local pushed ≡ Some step → Turned (End goal) box local step
-end_turned box local goal pushed step wired inside is goes =
-    let form = end_form box local goal pushed step goes in
+end_turned : (box : BoxState) (local : ℕ) (goal : Goal) (cause : Cause) (step : BoxStep) → IsWired box → local < length box.slots → goal_at box local ≡ End goal
+    → end_step goal box local cause ≡ Some step → Turned (End goal) box local step
+end_turned box local goal cause step wired inside is goes =
+    let form = end_form box local goal cause step goes in
     record {
       slots = set box.slots local form.last;
       is = ap (λ (s : BoxStep). s.after) (sym form.is);
       size = length-set box.slots local form.last;
       wired = wired_slot box local form.last wired inside
-          (all_kept (end_turn goal (slot_at box local) pushed (own box local) (sender box local)) (slot_at box local) form.last form.goes (wired.kept local))
-          (all_medium (end_turn goal (slot_at box local) pushed (own box local) (sender box local)) (slot_at box local) form.last form.goes);
-      rests = λ todo but k lacks. end_slot_rests box local k goal pushed form.last todo wired inside is form.goes but lacks;
+          (all_kept (end_turn goal (slot_at box local) (is_push cause) (own box local) (sender box local)) (slot_at box local) form.last form.goes (wired.kept local))
+          (all_medium (end_turn goal (slot_at box local) (is_push cause) (own box local) (sender box local)) (slot_at box local) form.last form.goes);
+      rests = λ todo but k lacks. end_slot_rests box local k goal (is_push cause) form.last todo wired inside is form.goes but lacks;
       few = subst (λ (s : BoxStep). length s.sent ≤ 2) form.is
           (omega (
             arith,
-            length-map (end_turn goal (slot_at box local) pushed (own box local) (sender box local)) (pair_of local),
-            due_two goal (slot_at box local) pushed (own box local) (sender box local),
+            length-map (end_turn goal (slot_at box local) (is_push cause) (own box local) (sender box local)) (pair_of local),
+            due_two goal (slot_at box local) (is_push cause) (own box local) (sender box local),
           ));
     }
 
@@ -239,16 +240,16 @@ pair_turned box local partner low high closed step wired is low_is high_is order
           (omega (arith, length-map (link_turn (slot_at box low) (slot_at box high) closed) (numbered low high), link_four closed (slot_at box low) (slot_at box high)));
     }
 
-turned_by : (goal : SlotGoal) (box : BoxState) (local : ℕ) (pushed closed : Bool) (step : BoxStep) → IsWired box → local < length box.slots → goal_at box local ≡ goal
-    → goal_step_by goal box local pushed closed ≡ Some step → Turned goal box local step
-turned_by (End goal) box local pushed closed step wired inside is goes = end_turned box local goal pushed step wired inside is goes
-turned_by (Link partner) box local pushed closed step wired inside is goes =
+turned_by : (goal : SlotGoal) (box : BoxState) (local : ℕ) (cause : Cause) (step : BoxStep) → IsWired box → local < length box.slots → goal_at box local ≡ goal
+    → goal_step_by goal box local cause ≡ Some step → Turned goal box local step
+turned_by (End goal) box local cause step wired inside is goes = end_turned box local goal cause step wired inside is goes
+turned_by (Link partner) box local cause step wired inside is goes =
     let there : partner < length box.slots = (wired.links local partner is).inside in
     let other : partner ≢ local = (wired.links local partner is).other in
-    pair_turned box local partner (min local partner) (max local partner) (side_closed closed (side_of local partner)) step wired is refl refl
+    pair_turned box local partner (min local partner) (max local partner) (closed_side cause (side_of local partner)) step wired is refl refl
     (omega arith) (at_max (λ (k : ℕ). k < length box.slots) local partner inside there) goes
 
 -- whatever goal it is
-pub turned : (box : BoxState) (local : ℕ) (pushed closed : Bool) (step : BoxStep) → IsWired box → local < length box.slots
-    → goal_step box local pushed closed ≡ Some step → Turned (goal_at box local) box local step
-turned box local pushed closed step wired inside goes = turned_by (goal_at box local) box local pushed closed step wired inside refl goes
+pub turned : (box : BoxState) (local : ℕ) (cause : Cause) (step : BoxStep) → IsWired box → local < length box.slots
+    → goal_step box local cause ≡ Some step → Turned (goal_at box local) box local step
+turned box local cause step wired inside goes = turned_by (goal_at box local) box local cause step wired inside refl goes

@@ -8,10 +8,12 @@ use Rattle.mc_signal.specs.declared.codec_list.CodecList.{CodecList}
 use Rattle.mc_signal.specs.declared.Descriptor.{Descriptor}
 use Rattle.mc_signal.specs.declared.Sender.{Sender}
 use Rattle.mc_signal.specs.declared.Signal.{Signal}
-use Rattle.mc_slot.specs.EndTurn.{closes_by, end_turn, is_end_goal, pushes}
+use Rattle.mc_slot.specs.EndTurn.{end_turn, is_end_goal, cause_of, is_push}
 use Rattle.mc_slot.specs.Moves.{answered, slot_send_all, slot_take, Took}
 use Rattle.mc_slot.specs.Same.{is_same_slot_goal}
 use Rattle.mc_slot.specs.Sending.{pair_of}
+use Rattle.mc_slot.specs.declared.Cause.{Cause}
+use Rattle.mc_slot.specs.declared.Cause.TheVariants.{Other, Push}
 use Rattle.mc_slot.proofs.Equal.{slot_goal_eq, slot_goal_refl}
 use Rattle.mc_slot.specs.declared.Goal.{Goal}
 use Rattle.mc_slot.specs.declared.Goal.TheVariants.{Close as ToClose}
@@ -70,15 +72,15 @@ device_link_free box wired is local = end_by (goal_at box local) (λ partner lin
 
 -- ---- goals that no event links
 
-turn_by_goals : (goal : SlotGoal) (box : BoxState) (local : ℕ) (pushed closed : Bool) (step : BoxStep) → is_end_goal goal ≡ true
-    → goal_step_by goal box local pushed closed ≡ Some step → step.after.goals ≡ box.goals
-turn_by_goals (End goal) box local pushed closed step is goes = ap (λ (s : BoxStep). s.after.goals) (sym (end_form box local goal pushed step goes).is)
-turn_by_goals (Link partner) box local pushed closed step is goes = absurd (cc)
+turn_by_goals : (goal : SlotGoal) (box : BoxState) (local : ℕ) (cause : Cause) (step : BoxStep) → is_end_goal goal ≡ true
+    → goal_step_by goal box local cause ≡ Some step → step.after.goals ≡ box.goals
+turn_by_goals (End goal) box local cause step is goes = ap (λ (s : BoxStep). s.after.goals) (sym (end_form box local goal cause step goes).is)
+turn_by_goals (Link partner) box local cause step is goes = absurd (cc)
 
 -- a turn leaves the goals as they are
-turn_goals : (box : BoxState) (local : ℕ) (pushed closed : Bool) (step : BoxStep) → IsUnlinked box
-    → goal_step box local pushed closed ≡ Some step → step.after.goals ≡ box.goals
-turn_goals box local pushed closed step free goes = turn_by_goals (goal_at box local) box local pushed closed step (free local) goes
+turn_goals : (box : BoxState) (local : ℕ) (cause : Cause) (step : BoxStep) → IsUnlinked box
+    → goal_step box local cause ≡ Some step → step.after.goals ≡ box.goals
+turn_goals box local cause step free goes = turn_by_goals (goal_at box local) box local cause step (free local) goes
 
 turns_end : (box : BoxState) (step : BoxStep) → record { sent = []; after = box } ≡ step → step.after.goals ≡ box.goals
 turns_end box step is = ap (λ (s : BoxStep). s.after.goals) (sym is)
@@ -86,9 +88,9 @@ turns_end box step is = ap (λ (s : BoxStep). s.after.goals) (sym is)
 turns_goals : (locals : List ℕ) (box : BoxState) (step : BoxStep) → IsUnlinked box → goal_steps box locals ≡ Some step → step.after.goals ≡ box.goals
 turns_goals [] box step free goes = let same : record { sent = []; after = box } ≡ step = cc in turns_end box step same
 turns_goals (local ∷ locals) box step free goes =
-    let one = then_some (λ (turn : BoxStep). option_map (followed turn.sent) (goal_steps turn.after locals)) (goal_step box local true false) step goes in
+    let one = then_some (λ (turn : BoxStep). option_map (followed turn.sent) (goal_steps turn.after locals)) (goal_step box local Push) step goes in
     let two = map_some (followed one.0.sent) (goal_steps one.0.after locals) step one.2 in
-    let first : one.0.after.goals ≡ box.goals = turn_goals box local true false one.0 free one.1 in
+    let first : one.0.after.goals ≡ box.goals = turn_goals box local Push one.0 free one.1 in
     ap (λ (s : BoxStep). s.after.goals) (sym two.2)
     ∙ (turns_goals locals one.0.after two.0 (subst (λ (l : List SlotGoal). AreEnds l) (sym first) free) two.1 ∙ first)
 
@@ -149,10 +151,10 @@ free_same box after same free = subst (λ (l : List SlotGoal). AreEnds l) (sym s
 
 media_free : (change : MediaChange) (box : BoxState) (step : BoxStep) → IsUnlinked box → happening box (Media change) ≡ Some step → IsUnlinked step.after
 media_free (Hear local on) box step free goes =
-    let turns = else_some ((media_at box local).version == last_version) (goal_step (with_media box local (with_hearing on (media_at box local))) local false false) step goes in
-    free_same box step.after (turn_goals (with_media box local (with_hearing on (media_at box local))) local false false step free turns.1) free
+    let turns = else_some ((media_at box local).version == last_version) (goal_step (with_media box local (with_hearing on (media_at box local))) local Other) step goes in
+    free_same box step.after (turn_goals (with_media box local (with_hearing on (media_at box local))) local Other step free turns.1) free
 media_free (Talk local on) box step free goes =
-    free_same box step.after (turn_goals _ local false false step free goes) free
+    free_same box step.after (turn_goals _ local Other step free goes) free
 
 happens_free : (event : Event) (box : BoxState) (step : BoxStep) → IsUnlinked box → is_linking event ≡ false → happening box event ≡ Some step → IsUnlinked step.after
 happens_free (Take local) box step free other goes = absurd (cc)
@@ -163,17 +165,17 @@ happens_free (Set (NewEnd local goal)) box step free other goes =
 happens_free (Set (NewLink first second)) box step free other goes = absurd (cc)
 happens_free (Media change) box step free other goes = media_free change box step free goes
 happens_free (Tell word) box step free other goes = absurd (cc)
-happens_free (Retry local) box step free other goes = free_same box step.after (turn_goals box local true false step free goes) free
+happens_free (Retry local) box step free other goes = free_same box step.after (turn_goals box local Push step free goes) free
 happens_free Shift box step free other goes = absurd (cc)
 
 take_free : (box : BoxState) (local : ℕ) (signal : Signal) (step : BoxStep) → IsUnlinked box → take_step box local signal ≡ Some step → IsUnlinked step.after
 take_free box local signal step free goes =
     let one = then_some (λ (took : Took). option_map (answering local took.answer)
-    (goal_step (with_slot box local took.after) local (pushes signal took.after.state) (closes_by signal took.after.state))) (slot_take (slot_at box local) signal) step goes in
-    let two = map_some (answering local one.0.answer) (goal_step (with_slot box local one.0.after) local (pushes signal one.0.after.state) (closes_by signal one.0.after.state)) step one.2 in
+    (goal_step (with_slot box local took.after) local (cause_of signal took.after.state))) (slot_take (slot_at box local) signal) step goes in
+    let two = map_some (answering local one.0.answer) (goal_step (with_slot box local one.0.after) local (cause_of signal one.0.after.state)) step one.2 in
     free_same box step.after
     (ap (λ (s : BoxStep). s.after.goals) (sym two.2)
-    ∙ turn_goals (with_slot box local one.0.after) local (pushes signal one.0.after.state) (closes_by signal one.0.after.state) two.0 free two.1) free
+    ∙ turn_goals (with_slot box local one.0.after) local (cause_of signal one.0.after.state) two.0 free two.1) free
 
 taking_free : (event : Event) (box : BoxState) (signal : Signal) (step : BoxStep) → IsUnlinked box → box_event box event (Some signal) ≡ Some step → IsUnlinked step.after
 taking_free (Take local) box signal step free goes = take_free box local signal step free (if_some (is_slot box local) (take_step box local signal) step goes).1
@@ -197,11 +199,11 @@ pub record EndTurns (box : BoxState) (local : ℕ) (goal : Goal) (pushed : Bool)
   pub after : step.after ≡ with_slot box local last
 
 -- where the slot is an end, its goal's turn is that
-pub end_turns : (box : BoxState) (local : ℕ) (goal : Goal) (pushed closed : Bool) (step : BoxStep) → goal_at box local ≡ End goal
-    → goal_step box local pushed closed ≡ Some step → EndTurns box local goal pushed step
-end_turns box local goal pushed closed step is goes =
-    let turns : goal_step_by (End goal) box local pushed closed ≡ Some step = subst (λ (g : SlotGoal). goal_step_by g box local pushed closed ≡ Some step) is goes in
-    let form = end_form box local goal pushed step turns in
+pub end_turns : (box : BoxState) (local : ℕ) (goal : Goal) (cause : Cause) (step : BoxStep) → goal_at box local ≡ End goal
+    → goal_step box local cause ≡ Some step → EndTurns box local goal (is_push cause) step
+end_turns box local goal cause step is goes =
+    let turns : goal_step_by (End goal) box local cause ≡ Some step = subst (λ (g : SlotGoal). goal_step_by g box local cause ≡ Some step) is goes in
+    let form = end_form box local goal cause step turns in
     record { last = form.last; goes = form.goes; sent = ap (λ (s : BoxStep). s.sent) (sym form.is); after = ap (λ (s : BoxStep). s.after) (sym form.is) }
 
 -- ---- an end retries
@@ -209,7 +211,7 @@ end_turns box local goal pushed closed step is goes =
 -- a retry is one such turn, pushed
 pub retry_form : (box : BoxState) (local : ℕ) (goal : Goal) (step : BoxStep) → goal_at box local ≡ End goal
     → box_event box (Retry local) None ≡ Some step → EndTurns box local goal true step
-retry_form box local goal step is goes = end_turns box local goal true false step is (event_goes (Retry local) box step goes).1
+retry_form box local goal step is goes = end_turns box local goal Push step is (event_goes (Retry local) box step goes).1
 
 -- ---- an end takes a signal
 
@@ -220,27 +222,27 @@ pub record EndTakes (box : BoxState) (local : ℕ) (goal : Goal) (signal : Signa
   pub last : Slot
   pub inside : local < length box.slots
   pub took : slot_take (slot_at box local) signal ≡ Some record { answer = answer; after = middle }
-  pub goes : slot_send_all middle (end_turn goal middle (pushes signal middle.state) (own box local) (sender box local)) ≡ Some last
-  pub sent : step.sent ≡ map (pair_of local) (answered answer ++ end_turn goal middle (pushes signal middle.state) (own box local) (sender box local))
+  pub goes : slot_send_all middle (end_turn goal middle (is_push (cause_of signal middle.state)) (own box local) (sender box local)) ≡ Some last
+  pub sent : step.sent ≡ map (pair_of local) (answered answer ++ end_turn goal middle (is_push (cause_of signal middle.state)) (own box local) (sender box local))
   pub after : step.after ≡ with_slot box local last
 
 -- the turn of a slot that was put there
 takes_by : (box : BoxState) (local : ℕ) (goal : Goal) (signal : Signal) (answer : Option Signal) (middle slot : Slot) (mine : Descriptor) (me : Sender) (turn step : BoxStep) (last : Slot)
     → local < length box.slots → slot_take (slot_at box local) signal ≡ Some record { answer = answer; after = middle }
     → slot ≡ middle → mine ≡ own box local → me ≡ sender box local
-    → slot_send_all slot (end_turn goal slot (pushes signal middle.state) mine me) ≡ Some last
-    → turn.sent ≡ map (pair_of local) (end_turn goal slot (pushes signal middle.state) mine me)
+    → slot_send_all slot (end_turn goal slot (is_push (cause_of signal middle.state)) mine me) ≡ Some last
+    → turn.sent ≡ map (pair_of local) (end_turn goal slot (is_push (cause_of signal middle.state)) mine me)
     → turn.after ≡ with_slot (with_slot box local middle) local last
     → answering local answer turn ≡ step → EndTakes box local goal signal step
 takes_by box local goal signal answer middle slot mine me turn step last inside took slot_is mine_is me_is goes sent after is =
-    let here : slot_send_all middle (end_turn goal middle (pushes signal middle.state) (own box local) (sender box local)) ≡ Some last =
-    subst (λ (s : Slot). slot_send_all s (end_turn goal s (pushes signal middle.state) (own box local) (sender box local)) ≡ Some last) slot_is
-    (subst (λ (d : Descriptor). slot_send_all slot (end_turn goal slot (pushes signal middle.state) d (sender box local)) ≡ Some last) mine_is
-    (subst (λ (m : Sender). slot_send_all slot (end_turn goal slot (pushes signal middle.state) mine m) ≡ Some last) me_is goes)) in
-    let part : turn.sent ≡ map (pair_of local) (end_turn goal middle (pushes signal middle.state) (own box local) (sender box local)) =
-    sent ∙ (ap (λ (s : Slot). map (pair_of local) (end_turn goal s (pushes signal middle.state) mine me)) slot_is
-    ∙ (ap (λ (d : Descriptor). map (pair_of local) (end_turn goal middle (pushes signal middle.state) d me)) mine_is
-    ∙ ap (λ (m : Sender). map (pair_of local) (end_turn goal middle (pushes signal middle.state) (own box local) m)) me_is)) in
+    let here : slot_send_all middle (end_turn goal middle (is_push (cause_of signal middle.state)) (own box local) (sender box local)) ≡ Some last =
+    subst (λ (s : Slot). slot_send_all s (end_turn goal s (is_push (cause_of signal middle.state)) (own box local) (sender box local)) ≡ Some last) slot_is
+    (subst (λ (d : Descriptor). slot_send_all slot (end_turn goal slot (is_push (cause_of signal middle.state)) d (sender box local)) ≡ Some last) mine_is
+    (subst (λ (m : Sender). slot_send_all slot (end_turn goal slot (is_push (cause_of signal middle.state)) mine m) ≡ Some last) me_is goes)) in
+    let part : turn.sent ≡ map (pair_of local) (end_turn goal middle (is_push (cause_of signal middle.state)) (own box local) (sender box local)) =
+    sent ∙ (ap (λ (s : Slot). map (pair_of local) (end_turn goal s (is_push (cause_of signal middle.state)) mine me)) slot_is
+    ∙ (ap (λ (d : Descriptor). map (pair_of local) (end_turn goal middle (is_push (cause_of signal middle.state)) d me)) mine_is
+    ∙ ap (λ (m : Sender). map (pair_of local) (end_turn goal middle (is_push (cause_of signal middle.state)) (own box local) m)) me_is)) in
     record {
       answer = answer;
       middle = middle;
@@ -250,7 +252,7 @@ takes_by box local goal signal answer middle slot mine me turn step last inside 
       goes = here;
       sent = ap (λ (s : BoxStep). s.sent) (sym is)
           ∙ (ap (λ (l : List (ℕ × Signal)). map (pair_of local) (answered answer) ++ l) part
-          ∙ sym (map-append (pair_of local) (answered answer) (end_turn goal middle (pushes signal middle.state) (own box local) (sender box local))));
+          ∙ sym (map-append (pair_of local) (answered answer) (end_turn goal middle (is_push (cause_of signal middle.state)) (own box local) (sender box local))));
       after = ap (λ (s : BoxStep). s.after) (sym is) ∙ (after ∙ ap (λ (l : List Slot). record box { slots = l }) (set-set box.slots local middle last));
     }
 
@@ -261,9 +263,9 @@ take_form box local goal signal step is goes =
     let here = if_some (is_slot box local) (take_step box local signal) step goes in
     let inside : local < length box.slots = slot_inside box local here.0 in
     let one = then_some (λ (took : Took). option_map (answering local took.answer)
-    (goal_step (with_slot box local took.after) local (pushes signal took.after.state) (closes_by signal took.after.state))) (slot_take (slot_at box local) signal) step here.1 in
-    let two = map_some (answering local one.0.answer) (goal_step (with_slot box local one.0.after) local (pushes signal one.0.after.state) (closes_by signal one.0.after.state)) step one.2 in
-    let form = end_turns (with_slot box local one.0.after) local goal (pushes signal one.0.after.state) (closes_by signal one.0.after.state) two.0 is two.1 in
+    (goal_step (with_slot box local took.after) local (cause_of signal took.after.state))) (slot_take (slot_at box local) signal) step here.1 in
+    let two = map_some (answering local one.0.answer) (goal_step (with_slot box local one.0.after) local (cause_of signal one.0.after.state)) step one.2 in
+    let form = end_turns (with_slot box local one.0.after) local goal (cause_of signal one.0.after.state) two.0 is two.1 in
     takes_by box local goal signal one.0.answer one.0.after (slot_at (with_slot box local one.0.after) local) (own (with_slot box local one.0.after) local) (sender (with_slot box local one.0.after) local)
     two.0 step form.last inside one.1
     (get_or-set_same box.slots local one.0.after no_slot inside)
@@ -336,9 +338,9 @@ changes_by box local goal slot mine me turn step last new slot_is mine_is me_is 
 
 -- one turn, with nothing after it
 one_turn : (box : BoxState) (local : ℕ) (step : BoxStep) → goal_steps box (local ∷ []) ≡ Some step
-    → (turn : BoxStep) × (goal_step box local true false ≡ Some turn) × (record turn { sent = turn.sent ++ [] } ≡ step)
+    → (turn : BoxStep) × (goal_step box local Push ≡ Some turn) × (record turn { sent = turn.sent ++ [] } ≡ step)
 one_turn box local step goes =
-    let one = then_some (λ (turn : BoxStep). option_map (followed turn.sent) (goal_steps turn.after [])) (goal_step box local true false) step goes in
+    let one = then_some (λ (turn : BoxStep). option_map (followed turn.sent) (goal_steps turn.after [])) (goal_step box local Push) step goes in
     let is : record one.0 { sent = one.0.sent ++ [] } ≡ step = cc in
     (one.0, one.1, is)
 
@@ -355,7 +357,7 @@ set_by false box local goal step is inside goes =
     let turns : has_turn local (goal_at box local) (End goal) ≡ true = rw is refl in
     let one = one_turn (with_goals box (set box.goals local (End goal))) local step
     (subst (λ (b : Bool). goal_steps (with_goals box (set box.goals local (End goal))) (if b then local ∷ [] else []) ≡ Some step) turns goes) in
-    let form = end_turns (with_goals box (set box.goals local (End goal))) local goal true false one.0 (get_or-set_same box.goals local (End goal) (End ToClose) inside) one.1 in
+    let form = end_turns (with_goals box (set box.goals local (End goal))) local goal Push one.0 (get_or-set_same box.goals local (End goal) (End ToClose) inside) one.1 in
     inr (changes_by box local goal (slot_at box local) (own (with_goals box (set box.goals local (End goal))) local) (sender (with_goals box (set box.goals local (End goal))) local) one.0 step form.last
     (λ had. let same : is_same_slot_goal (goal_at box local) (End goal) ≡ true = ap (λ (g : SlotGoal). is_same_slot_goal g (End goal)) had ∙ slot_goal_refl (End goal) in absurd (cc))
     refl

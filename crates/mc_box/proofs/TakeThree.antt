@@ -5,7 +5,7 @@ use Rattle.std.proofs.Math.ListN.{set}
 use Rattle.std.proofs.lemmas.Bool.{cases_lt, lt-ltb, le-ltb}
 use Rattle.std.proofs.lemmas.Grind.{common_steps}
 use Rattle.std.proofs.lemmas.List.{get_or-set_same, get_or-set_other, length-map}
-use Rattle.mc_link.specs.LinkTurn.{link_turn, numbered, IsLinkAtRest, side_closed}
+use Rattle.mc_link.specs.LinkTurn.{link_turn, numbered, IsLinkAtRest, closed_side}
 use Rattle.mc_link.specs.declared.Side.{Side}
 use Rattle.mc_link.specs.declared.Side.TheVariants.{First, Second}
 use Rattle.mc_link.proofs.LinkThree.{link_sends_three}
@@ -13,7 +13,7 @@ use Rattle.mc_link.proofs.SecondSlot.{second_slot_sends_three}
 use Rattle.mc_signal.specs.declared.Descriptor.{Descriptor}
 use Rattle.mc_signal.specs.declared.Sender.{Sender}
 use Rattle.mc_signal.specs.declared.Signal.{Signal}
-use Rattle.mc_slot.specs.EndTurn.{end_turn, pushes, IsAtRest, closes_by}
+use Rattle.mc_slot.specs.EndTurn.{end_turn, IsAtRest, cause_of, is_push}
 use Rattle.mc_slot.specs.Moves.{answered, slot_take, Took}
 use Rattle.mc_slot.specs.Sending.{pair_of}
 use Rattle.mc_slot.specs.Tunnel.{Kept}
@@ -34,7 +34,7 @@ use Rattle.mc_box.proofs.GoalTurns.{end_form, pair_form}
 
 end_two : (goal : Goal) (slot after : Slot) (mine : Descriptor) (me : Sender) (signal : Signal) (answer : Option Signal)
     → Kept slot → IsAtRest goal slot mine me → slot_take slot signal ≡ Some record { answer = answer; after = after }
-    → length (answered answer) + length (end_turn goal after (pushes signal after.state) mine me) ≤ 2
+    → length (answered answer) + length (end_turn goal after (is_push (cause_of signal after.state)) mine me) ≤ 2
 end_two goal slot after mine me signal answer kept rest goes = grind (arith, common_steps)
 
 -- ---- a box
@@ -45,18 +45,18 @@ Three answer turn = length (answered answer) + length turn.sent ≤ 3
 
 end_takes : (box : BoxState) (local : ℕ) (signal : Signal) (goal : Goal) (answer : Option Signal) (after : Slot) (turn : BoxStep) → IsSoundBox box → local < length box.slots
     → goal_at box local ≡ End goal → slot_take (slot_at box local) signal ≡ Some record { answer = answer; after = after }
-    → end_step goal (with_slot box local after) local (pushes signal after.state) ≡ Some turn → Three answer turn
+    → end_step goal (with_slot box local after) local (cause_of signal after.state) ≡ Some turn → Three answer turn
 end_takes box local signal goal answer after turn sound inside is goes turns =
-    let form = end_form (with_slot box local after) local goal (pushes signal after.state) turn turns in
+    let form = end_form (with_slot box local after) local goal (cause_of signal after.state) turn turns in
     let slot : slot_at (with_slot box local after) local ≡ after = get_or-set_same box.slots local after no_slot inside in
     let mine : own (with_slot box local after) local ≡ own box local = own_put box.kind box (set box.slots local after) box.goals box.media (media_at box local) local in
     let me : sender (with_slot box local after) local ≡ sender box local = sender_put box.kind box (set box.slots local after) box.goals box.media (media_at box local) local in
     let rest : IsAtRest goal (slot_at box local) (own box local) (sender box local) = subst (λ (g : SlotGoal). RestsAt g box local) is (sound.rests local) in
     let two = end_two goal (slot_at box local) after (own box local) (sender box local) signal answer (sound.wired.kept local) rest goes in
-    let few : length (answered answer) + length (end_turn goal (slot_at (with_slot box local after) local) (pushes signal after.state) (own (with_slot box local after) local) (sender (with_slot box local after) local)) ≤ 2 =
+    let few : length (answered answer) + length (end_turn goal (slot_at (with_slot box local after) local) (is_push (cause_of signal after.state)) (own (with_slot box local after) local) (sender (with_slot box local after) local)) ≤ 2 =
     rw (slot, mine, me) two in
     subst (λ (s : BoxStep). Three answer s) form.is
-    (omega (arith, length-map (end_turn goal (slot_at (with_slot box local after) local) (pushes signal after.state) (own (with_slot box local after) local) (sender (with_slot box local after) local)) (pair_of local), few))
+    (omega (arith, length-map (end_turn goal (slot_at (with_slot box local after) local) (is_push (cause_of signal after.state)) (own (with_slot box local after) local) (sender (with_slot box local after) local)) (pair_of local), few))
 
 -- the lower of two linked slots takes, or the higher one
 link_sent : (box : BoxState) (low high : ℕ) (closed : Option Side) (a b : Slot) (answer : Option Signal) (turn : BoxStep)
@@ -71,7 +71,7 @@ link_sent box low high closed a b answer turn low_is high_is few goes =
 
 link_takes : (box : BoxState) (local partner : ℕ) (signal : Signal) (answer : Option Signal) (after : Slot) (turn : BoxStep) → IsSoundBox box → local < length box.slots
     → goal_at box local ≡ Link partner → slot_take (slot_at box local) signal ≡ Some record { answer = answer; after = after }
-    → link_step (with_slot box local after) local partner (closes_by signal after.state) ≡ Some turn → Three answer turn
+    → link_step (with_slot box local after) local partner (cause_of signal after.state) ≡ Some turn → Three answer turn
 link_takes box local partner signal answer after turn sound inside is goes turns =
     let other : partner ≢ local = (sound.wired.links local partner is).other in
     let here : slot_at (with_slot box local after) local ≡ after = get_or-set_same box.slots local after no_slot inside in
@@ -84,11 +84,11 @@ link_takes box local partner signal answer after turn sound inside is goes turns
           let side : side_of local partner ≡ First = let test : nat_lt local partner ≡ true = lt-ltb local partner below in rw test refl in
           let rests : IsLinkAtRest (slot_at box local) (slot_at box partner) =
           subst (λ (k : ℕ). IsLinkAtRest (slot_at box local) (slot_at box k)) high (subst (λ (k : ℕ). IsLinkAtRest (slot_at box k) (slot_at box (max local partner))) low rest) in
-          let made : pair_step (with_slot box local after) local partner (side_closed (closes_by signal after.state) First) ≡ Some turn =
-          subst (λ (s : Side). pair_step (with_slot box local after) local partner (side_closed (closes_by signal after.state) s) ≡ Some turn) side
-          (subst (λ (k : ℕ). pair_step (with_slot box local after) local k (side_closed (closes_by signal after.state) (side_of local partner)) ≡ Some turn) high
-          (subst (λ (k : ℕ). pair_step (with_slot box local after) k (max local partner) (side_closed (closes_by signal after.state) (side_of local partner)) ≡ Some turn) low turns)) in
-          link_sent (with_slot box local after) local partner (side_closed (closes_by signal after.state) First) after (slot_at box partner) answer turn here there
+          let made : pair_step (with_slot box local after) local partner (closed_side (cause_of signal after.state) First) ≡ Some turn =
+          subst (λ (s : Side). pair_step (with_slot box local after) local partner (closed_side (cause_of signal after.state) s) ≡ Some turn) side
+          (subst (λ (k : ℕ). pair_step (with_slot box local after) local k (closed_side (cause_of signal after.state) (side_of local partner)) ≡ Some turn) high
+          (subst (λ (k : ℕ). pair_step (with_slot box local after) k (max local partner) (closed_side (cause_of signal after.state) (side_of local partner)) ≡ Some turn) low turns)) in
+          link_sent (with_slot box local after) local partner (closed_side (cause_of signal after.state) First) after (slot_at box partner) answer turn here there
           (link_sends_three (slot_at box local) (slot_at box partner) after signal answer (sound.wired.kept local) rests goes) made
       | inr above ↦
           let low : min local partner ≡ partner = omega arith in
@@ -96,17 +96,17 @@ link_takes box local partner signal answer after turn sound inside is goes turns
           let side : side_of local partner ≡ Second = let test : nat_lt local partner ≡ false = le-ltb local partner above in rw test refl in
           let rests : IsLinkAtRest (slot_at box partner) (slot_at box local) =
           subst (λ (k : ℕ). IsLinkAtRest (slot_at box partner) (slot_at box k)) high (subst (λ (k : ℕ). IsLinkAtRest (slot_at box k) (slot_at box (max local partner))) low rest) in
-          let made : pair_step (with_slot box local after) partner local (side_closed (closes_by signal after.state) Second) ≡ Some turn =
-          subst (λ (s : Side). pair_step (with_slot box local after) partner local (side_closed (closes_by signal after.state) s) ≡ Some turn) side
-          (subst (λ (k : ℕ). pair_step (with_slot box local after) partner k (side_closed (closes_by signal after.state) (side_of local partner)) ≡ Some turn) high
-          (subst (λ (k : ℕ). pair_step (with_slot box local after) k (max local partner) (side_closed (closes_by signal after.state) (side_of local partner)) ≡ Some turn) low turns)) in
-          link_sent (with_slot box local after) partner local (side_closed (closes_by signal after.state) Second) (slot_at box partner) after answer turn there here
+          let made : pair_step (with_slot box local after) partner local (closed_side (cause_of signal after.state) Second) ≡ Some turn =
+          subst (λ (s : Side). pair_step (with_slot box local after) partner local (closed_side (cause_of signal after.state) s) ≡ Some turn) side
+          (subst (λ (k : ℕ). pair_step (with_slot box local after) partner k (closed_side (cause_of signal after.state) (side_of local partner)) ≡ Some turn) high
+          (subst (λ (k : ℕ). pair_step (with_slot box local after) k (max local partner) (closed_side (cause_of signal after.state) (side_of local partner)) ≡ Some turn) low turns)) in
+          link_sent (with_slot box local after) partner local (closed_side (cause_of signal after.state) Second) (slot_at box partner) after answer turn there here
           (second_slot_sends_three (slot_at box partner) (slot_at box local) after signal answer (sound.wired.kept local) rests goes) made
     ]
 
 goal_takes : (goal : SlotGoal) (box : BoxState) (local : ℕ) (signal : Signal) (answer : Option Signal) (after : Slot) (turn : BoxStep) → IsSoundBox box → local < length box.slots
     → goal_at box local ≡ goal → slot_take (slot_at box local) signal ≡ Some record { answer = answer; after = after }
-    → goal_step_by goal (with_slot box local after) local (pushes signal after.state) (closes_by signal after.state) ≡ Some turn → Three answer turn
+    → goal_step_by goal (with_slot box local after) local (cause_of signal after.state) ≡ Some turn → Three answer turn
 goal_takes (End goal) box local signal answer after turn sound inside is goes turns = end_takes box local signal goal answer after turn sound inside is goes turns
 goal_takes (Link partner) box local signal answer after turn sound inside is goes turns = link_takes box local partner signal answer after turn sound inside is goes turns
 
@@ -119,8 +119,8 @@ three_sent local answer turn step few is =
 pub take_three : (box : BoxState) (local : ℕ) (signal : Signal) (step : BoxStep) → IsSoundBox box → local < length box.slots → take_step box local signal ≡ Some step → length step.sent ≤ 3
 take_three box local signal step sound inside goes =
     let one = then_some (λ (took : Took). option_map (answering local took.answer)
-    (goal_step (with_slot box local took.after) local (pushes signal took.after.state) (closes_by signal took.after.state))) (slot_take (slot_at box local) signal) step goes in
-    let two = map_some (answering local one.0.answer) (goal_step (with_slot box local one.0.after) local (pushes signal one.0.after.state) (closes_by signal one.0.after.state)) step one.2 in
+    (goal_step (with_slot box local took.after) local (cause_of signal took.after.state))) (slot_take (slot_at box local) signal) step goes in
+    let two = map_some (answering local one.0.answer) (goal_step (with_slot box local one.0.after) local (cause_of signal one.0.after.state)) step one.2 in
     three_sent local one.0.answer two.0 step (goal_takes (goal_at box local) box local signal one.0.answer one.0.after two.0 sound inside refl one.1 two.1) two.2
 
 pub take_sends_three : TakeSendsThree

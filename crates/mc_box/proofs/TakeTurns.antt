@@ -1,25 +1,26 @@
 -- What a box's Take comes to, by the goal of the slot that takes: what that slot and, over a link, its partner send and become. No other slot does anything.
-use Rattle.std.proofs.Common.{◌≡◌, ◌≢◌, ℕ, ◌<◌, Bool, true, false, nat_lt, ◌&&◌, Option, Some, None, List, [], ◌++◌, map, inl, inr, length, max, min, refl, ap, sym, ◌∙◌, subst, arith}
+use Rattle.std.proofs.Common.{◌≡◌, ◌≢◌, ℕ, ◌<◌, true, false, nat_lt, ◌&&◌, Option, Some, None, List, [], ◌++◌, map, inl, inr, length, max, min, refl, ap, sym, ◌∙◌, subst, arith}
 use Rattle.std.specs.Option.{option_map}
 use Rattle.std.proofs.Math.ListN.{set, length-set}
 use Rattle.std.proofs.lemmas.Bool.{and_parts, cases_lt, lt-ltb, le-ltb}
 use Rattle.std.proofs.lemmas.List.{get_or-set_same, get_or-set_other}
 use Rattle.mc_link.specs.LinkLaws.{flipped}
-use Rattle.mc_link.specs.LinkTurn.{IsLinkAtRest, link_turn, numbered, sent_by_first, sent_by_second, side_closed}
+use Rattle.mc_link.specs.LinkTurn.{IsLinkAtRest, link_turn, numbered, sent_by_first, sent_by_second, closed_side}
 use Rattle.mc_link.specs.declared.Side.{Side}
 use Rattle.mc_link.specs.declared.Side.TheVariants.{First, Second}
 use Rattle.mc_link.proofs.Mirror.{link_mirror, mirror_rests, side_turned}
 use Rattle.mc_signal.specs.declared.Descriptor.{Descriptor}
 use Rattle.mc_signal.specs.declared.Sender.{Sender}
 use Rattle.mc_signal.specs.declared.Signal.{Signal}
-use Rattle.mc_slot.specs.EndTurn.{end_turn, owes, pushes, closes_by}
+use Rattle.mc_slot.specs.EndTurn.{end_turn, owes, cause_of, is_push}
 use Rattle.mc_slot.specs.Moves.{answered, slot_send_all, slot_take, Took}
 use Rattle.mc_slot.specs.Sending.{pair_of}
+use Rattle.mc_slot.specs.declared.Cause.{Cause}
+use Rattle.mc_slot.specs.declared.Cause.TheVariants.{Push}
 use Rattle.mc_slot.specs.declared.Goal.{Goal}
 use Rattle.mc_slot.specs.declared.Slot.{Slot}
 use Rattle.mc_slot.specs.declared.SlotGoal.{SlotGoal}
 use Rattle.mc_slot.specs.declared.SlotGoal.TheVariants.{End, Link}
-use Rattle.mc_slot.specs.declared.State.{State}
 use Rattle.mc_box.specs.Acting.{sent_by}
 use Rattle.mc_box.specs.BoxEvents.{BoxStep, answering, box_event, end_step, goal_step, link_step, pair_step, side_of, take_step, goal_step_by}
 use Rattle.mc_box.specs.BoxSound.{IsWired, IsSoundBox, RestsAt}
@@ -56,12 +57,12 @@ end_put box local signals last inside goes = record {
 }
 
 -- so what an end's turn comes to is what its slot sends and becomes
-pub end_turned : (box : BoxState) (local : ℕ) (goal : Goal) (pushed : Bool) (turn : BoxStep) → local < length box.slots → end_step goal box local pushed ≡ Some turn
-    → EndTurned box local (end_turn goal (slot_at box local) pushed (own box local) (sender box local)) (slot_at box local) turn
-end_turned box local goal pushed turn inside goes =
-    let form = end_form box local goal pushed turn goes in
-    subst (EndTurned box local (end_turn goal (slot_at box local) pushed (own box local) (sender box local)) (slot_at box local)) form.is
-    (end_put box local (end_turn goal (slot_at box local) pushed (own box local) (sender box local)) form.last inside form.goes)
+pub end_turned : (box : BoxState) (local : ℕ) (goal : Goal) (cause : Cause) (turn : BoxStep) → local < length box.slots → end_step goal box local cause ≡ Some turn
+    → EndTurned box local (end_turn goal (slot_at box local) (is_push cause) (own box local) (sender box local)) (slot_at box local) turn
+end_turned box local goal cause turn inside goes =
+    let form = end_form box local goal cause turn goes in
+    subst (EndTurned box local (end_turn goal (slot_at box local) (is_push cause) (own box local) (sender box local)) (slot_at box local)) form.is
+    (end_put box local (end_turn goal (slot_at box local) (is_push cause) (own box local) (sender box local)) form.last inside form.goes)
 
 -- the turn of a link, for its two slots as they are, and with the one of them that a close has closed
 pub record LinkTurned (box : BoxState) (local partner : ℕ) (a b : Slot) (closed : Option Side) (turn : BoxStep) : Type 0 where
@@ -110,29 +111,29 @@ turned_back box local partner a b closed turn turned =
     }
 
 -- seen from the slot that takes, whether it is the lower one or the higher
-pub link_turned : (box : BoxState) (local partner : ℕ) (signal : Signal) (state : State) (turn : BoxStep) → partner ≢ local → local < length box.slots → partner < length box.slots
-    → link_step box local partner (closes_by signal state) ≡ Some turn → LinkTurned box local partner (slot_at box local) (slot_at box partner) (side_closed (closes_by signal state) First) turn
-link_turned box local partner signal state turn other here there goes = elim (cases_lt local partner) [
+pub link_turned : (box : BoxState) (local partner : ℕ) (cause : Cause) (turn : BoxStep) → partner ≢ local → local < length box.slots → partner < length box.slots
+    → link_step box local partner cause ≡ Some turn → LinkTurned box local partner (slot_at box local) (slot_at box partner) (closed_side cause First) turn
+link_turned box local partner cause turn other here there goes = elim (cases_lt local partner) [
   | inl below ↦
       let low : min local partner ≡ local = omega arith in
       let high : max local partner ≡ partner = omega arith in
       let side : side_of local partner ≡ First = let test : nat_lt local partner ≡ true = lt-ltb local partner below in rw test refl in
-      let made : pair_step box local partner (side_closed (closes_by signal state) First) ≡ Some turn =
-      subst (λ (s : Side). pair_step box local partner (side_closed (closes_by signal state) s) ≡ Some turn) side
-      (subst (λ (k : ℕ). pair_step box local k (side_closed (closes_by signal state) (side_of local partner)) ≡ Some turn) high
-      (subst (λ (k : ℕ). pair_step box k (max local partner) (side_closed (closes_by signal state) (side_of local partner)) ≡ Some turn) low goes)) in
-      pair_turned box local partner (side_closed (closes_by signal state) First) turn below there made
+      let made : pair_step box local partner (closed_side cause First) ≡ Some turn =
+      subst (λ (s : Side). pair_step box local partner (closed_side cause s) ≡ Some turn) side
+      (subst (λ (k : ℕ). pair_step box local k (closed_side cause (side_of local partner)) ≡ Some turn) high
+      (subst (λ (k : ℕ). pair_step box k (max local partner) (closed_side cause (side_of local partner)) ≡ Some turn) low goes)) in
+      pair_turned box local partner (closed_side cause First) turn below there made
   | inr above ↦
       let low : min local partner ≡ partner = omega arith in
       let high : max local partner ≡ local = omega arith in
       let side : side_of local partner ≡ Second = let test : nat_lt local partner ≡ false = le-ltb local partner above in rw test refl in
-      let made : pair_step box partner local (side_closed (closes_by signal state) Second) ≡ Some turn =
-      subst (λ (s : Side). pair_step box partner local (side_closed (closes_by signal state) s) ≡ Some turn) side
-      (subst (λ (k : ℕ). pair_step box partner k (side_closed (closes_by signal state) (side_of local partner)) ≡ Some turn) high
-      (subst (λ (k : ℕ). pair_step box k (max local partner) (side_closed (closes_by signal state) (side_of local partner)) ≡ Some turn) low goes)) in
-      turned_back box local partner (slot_at box local) (slot_at box partner) (side_closed (closes_by signal state) First) turn
-      (subst (λ (closed : Option Side). LinkTurned box partner local (slot_at box partner) (slot_at box local) closed turn) (side_turned (closes_by signal state))
-      (pair_turned box partner local (side_closed (closes_by signal state) Second) turn (omega arith) here made))
+      let made : pair_step box partner local (closed_side cause Second) ≡ Some turn =
+      subst (λ (s : Side). pair_step box partner local (closed_side cause s) ≡ Some turn) side
+      (subst (λ (k : ℕ). pair_step box partner k (closed_side cause (side_of local partner)) ≡ Some turn) high
+      (subst (λ (k : ℕ). pair_step box k (max local partner) (closed_side cause (side_of local partner)) ≡ Some turn) low goes)) in
+      turned_back box local partner (slot_at box local) (slot_at box partner) (closed_side cause First) turn
+      (subst (λ (closed : Option Side). LinkTurned box partner local (slot_at box partner) (slot_at box local) closed turn) (side_turned cause)
+      (pair_turned box partner local (closed_side cause Second) turn (omega arith) here made))
 ]
 
 -- ---- a signal is taken
@@ -142,8 +143,8 @@ pub record EndTook (box : BoxState) (local : ℕ) (goal : Goal) (signal : Signal
   pub answer : Option Signal
   pub middle : Slot
   pub takes : slot_take (slot_at box local) signal ≡ Some record { answer = answer; after = middle }
-  pub goes : slot_send_all middle (end_turn goal middle (pushes signal middle.state) (own box local) (sender box local)) ≡ Some (slot_at step.after local)
-  pub sends : sent_by local step.sent ≡ answered answer ++ end_turn goal middle (pushes signal middle.state) (own box local) (sender box local)
+  pub goes : slot_send_all middle (end_turn goal middle (is_push (cause_of signal middle.state)) (own box local) (sender box local)) ≡ Some (slot_at step.after local)
+  pub sends : sent_by local step.sent ≡ answered answer ++ end_turn goal middle (is_push (cause_of signal middle.state)) (own box local) (sender box local)
   pub others : (k : ℕ) → k ≢ local → Idle box step k
   pub goals : step.after.goals ≡ box.goals
 
@@ -152,10 +153,10 @@ pub record LinkTook (box : BoxState) (local partner : ℕ) (signal : Signal) (st
   pub answer : Option Signal
   pub middle : Slot
   pub takes : slot_take (slot_at box local) signal ≡ Some record { answer = answer; after = middle }
-  pub first : slot_send_all middle (sent_by_first (link_turn middle (slot_at box partner) (side_closed (closes_by signal middle.state) First))) ≡ Some (slot_at step.after local)
-  pub second : slot_send_all (slot_at box partner) (sent_by_second (link_turn middle (slot_at box partner) (side_closed (closes_by signal middle.state) First))) ≡ Some (slot_at step.after partner)
-  pub sends : sent_by local step.sent ≡ answered answer ++ sent_by_first (link_turn middle (slot_at box partner) (side_closed (closes_by signal middle.state) First))
-  pub partner_sends : sent_by partner step.sent ≡ sent_by_second (link_turn middle (slot_at box partner) (side_closed (closes_by signal middle.state) First))
+  pub first : slot_send_all middle (sent_by_first (link_turn middle (slot_at box partner) (closed_side (cause_of signal middle.state) First))) ≡ Some (slot_at step.after local)
+  pub second : slot_send_all (slot_at box partner) (sent_by_second (link_turn middle (slot_at box partner) (closed_side (cause_of signal middle.state) First))) ≡ Some (slot_at step.after partner)
+  pub sends : sent_by local step.sent ≡ answered answer ++ sent_by_first (link_turn middle (slot_at box partner) (closed_side (cause_of signal middle.state) First))
+  pub partner_sends : sent_by partner step.sent ≡ sent_by_second (link_turn middle (slot_at box partner) (closed_side (cause_of signal middle.state) First))
   pub others : (k : ℕ) → k ≢ local → k ≢ partner → Idle box step k
   pub goals : step.after.goals ≡ box.goals
 
@@ -188,14 +189,14 @@ idle_still box local k middle answer turn apart idle = record {
 -- with the answer of a Take before it: at an end
 end_answers : (box : BoxState) (local : ℕ) (goal : Goal) (signal : Signal) (answer : Option Signal) (middle : Slot) (turn : BoxStep)
     → slot_take (slot_at box local) signal ≡ Some record { answer = answer; after = middle }
-    → EndTurned (with_slot box local middle) local (end_turn goal middle (pushes signal middle.state) (own box local) (sender box local)) middle turn
+    → EndTurned (with_slot box local middle) local (end_turn goal middle (is_push (cause_of signal middle.state)) (own box local) (sender box local)) middle turn
     → EndTook box local goal signal (answering local answer turn)
 end_answers box local goal signal answer middle turn takes turned = record {
   answer = answer;
   middle = middle;
   takes = takes;
   goes = turned.goes;
-  sends = answer_own local answer turn (end_turn goal middle (pushes signal middle.state) (own box local) (sender box local)) turned.sends;
+  sends = answer_own local answer turn (end_turn goal middle (is_push (cause_of signal middle.state)) (own box local) (sender box local)) turned.sends;
   others = λ k apart. idle_still box local k middle answer turn apart (turned.others k apart);
   goals = turned.goals;
 }
@@ -203,7 +204,7 @@ end_answers box local goal signal answer middle turn takes turned = record {
 -- and at a link
 link_answers : (box : BoxState) (local partner : ℕ) (signal : Signal) (answer : Option Signal) (middle : Slot) (turn : BoxStep) → partner ≢ local
     → slot_take (slot_at box local) signal ≡ Some record { answer = answer; after = middle }
-    → LinkTurned (with_slot box local middle) local partner middle (slot_at box partner) (side_closed (closes_by signal middle.state) First) turn
+    → LinkTurned (with_slot box local middle) local partner middle (slot_at box partner) (closed_side (cause_of signal middle.state) First) turn
     → LinkTook box local partner signal (answering local answer turn)
 link_answers box local partner signal answer middle turn other takes turned = record {
   answer = answer;
@@ -211,8 +212,8 @@ link_answers box local partner signal answer middle turn other takes turned = re
   takes = takes;
   first = turned.first;
   second = turned.second;
-  sends = answer_own local answer turn (sent_by_first (link_turn middle (slot_at box partner) (side_closed (closes_by signal middle.state) First))) turned.sends;
-  partner_sends = answer_else local partner answer turn (sent_by_second (link_turn middle (slot_at box partner) (side_closed (closes_by signal middle.state) First))) other turned.partner_sends;
+  sends = answer_own local answer turn (sent_by_first (link_turn middle (slot_at box partner) (closed_side (cause_of signal middle.state) First))) turned.sends;
+  partner_sends = answer_else local partner answer turn (sent_by_second (link_turn middle (slot_at box partner) (closed_side (cause_of signal middle.state) First))) other turned.partner_sends;
   others = λ k apart beyond. idle_still box local k middle answer turn apart (turned.others k apart beyond);
   goals = turned.goals;
 }
@@ -220,25 +221,25 @@ link_answers box local partner signal answer middle turn other takes turned = re
 -- so a Take comes to what the goal of its slot says
 took_by : (goal : SlotGoal) (box : BoxState) (local : ℕ) (signal : Signal) (answer : Option Signal) (middle : Slot) (turn : BoxStep) → IsWired box → local < length box.slots
     → goal_at box local ≡ goal → slot_take (slot_at box local) signal ≡ Some record { answer = answer; after = middle }
-    → goal_step_by goal (with_slot box local middle) local (pushes signal middle.state) (closes_by signal middle.state) ≡ Some turn → TookBy goal box local signal (answering local answer turn)
+    → goal_step_by goal (with_slot box local middle) local (cause_of signal middle.state) ≡ Some turn → TookBy goal box local signal (answering local answer turn)
 took_by (End goal) box local signal answer middle turn wired inside is takes goes =
     let slot : slot_at (with_slot box local middle) local ≡ middle = get_or-set_same box.slots local middle no_slot inside in
     let mine : own (with_slot box local middle) local ≡ own box local = own_put box.kind box (set box.slots local middle) box.goals box.media (media_at box local) local in
     let me : sender (with_slot box local middle) local ≡ sender box local = sender_put box.kind box (set box.slots local middle) box.goals box.media (media_at box local) local in
     let there : local < length (set box.slots local middle) = subst (λ (n : ℕ). local < n) (sym (length-set box.slots local middle)) inside in
     end_answers box local goal signal answer middle turn takes
-    (subst (λ (a : Slot). EndTurned (with_slot box local middle) local (end_turn goal a (pushes signal middle.state) (own box local) (sender box local)) a turn) slot
-    (subst (λ (d : Descriptor). EndTurned (with_slot box local middle) local (end_turn goal (slot_at (with_slot box local middle) local) (pushes signal middle.state) d (sender box local)) (slot_at (with_slot box local middle) local) turn) mine
-    (subst (λ (m : Sender). EndTurned (with_slot box local middle) local (end_turn goal (slot_at (with_slot box local middle) local) (pushes signal middle.state) (own (with_slot box local middle) local) m) (slot_at (with_slot box local middle) local) turn) me
-    (end_turned (with_slot box local middle) local goal (pushes signal middle.state) turn there goes))))
+    (subst (λ (a : Slot). EndTurned (with_slot box local middle) local (end_turn goal a (is_push (cause_of signal middle.state)) (own box local) (sender box local)) a turn) slot
+    (subst (λ (d : Descriptor). EndTurned (with_slot box local middle) local (end_turn goal (slot_at (with_slot box local middle) local) (is_push (cause_of signal middle.state)) d (sender box local)) (slot_at (with_slot box local middle) local) turn) mine
+    (subst (λ (m : Sender). EndTurned (with_slot box local middle) local (end_turn goal (slot_at (with_slot box local middle) local) (is_push (cause_of signal middle.state)) (own (with_slot box local middle) local) m) (slot_at (with_slot box local middle) local) turn) me
+    (end_turned (with_slot box local middle) local goal (cause_of signal middle.state) turn there goes))))
 took_by (Link partner) box local signal answer middle turn wired inside is takes goes =
     let link = wired.links local partner is in
     let here : slot_at (with_slot box local middle) local ≡ middle = get_or-set_same box.slots local middle no_slot inside in
     let there : slot_at (with_slot box local middle) partner ≡ slot_at box partner = get_or-set_other box.slots local partner middle no_slot link.other in
     link_answers box local partner signal answer middle turn link.other takes
-    (subst (λ (b : Slot). LinkTurned (with_slot box local middle) local partner middle b (side_closed (closes_by signal middle.state) First) turn) there
-    (subst (λ (a : Slot). LinkTurned (with_slot box local middle) local partner a (slot_at (with_slot box local middle) partner) (side_closed (closes_by signal middle.state) First) turn) here
-    (link_turned (with_slot box local middle) local partner signal middle.state turn link.other
+    (subst (λ (b : Slot). LinkTurned (with_slot box local middle) local partner middle b (closed_side (cause_of signal middle.state) First) turn) there
+    (subst (λ (a : Slot). LinkTurned (with_slot box local middle) local partner a (slot_at (with_slot box local middle) partner) (closed_side (cause_of signal middle.state) First) turn) here
+    (link_turned (with_slot box local middle) local partner (cause_of signal middle.state) turn link.other
     (subst (λ (n : ℕ). local < n) (sym (length-set box.slots local middle)) inside)
     (subst (λ (n : ℕ). partner < n) (sym (length-set box.slots local middle)) link.inside) goes)))
 
@@ -247,8 +248,8 @@ step_took : (box : BoxState) (local : ℕ) (signal : Signal) (step : BoxStep) �
     → TookBy (goal_at box local) box local signal step
 step_took box local signal step wired inside goes =
     let one = then_some (λ (took : Took). option_map (answering local took.answer)
-    (goal_step (with_slot box local took.after) local (pushes signal took.after.state) (closes_by signal took.after.state))) (slot_take (slot_at box local) signal) step goes in
-    let two = map_some (answering local one.0.answer) (goal_step (with_slot box local one.0.after) local (pushes signal one.0.after.state) (closes_by signal one.0.after.state)) step one.2 in
+    (goal_step (with_slot box local took.after) local (cause_of signal took.after.state))) (slot_take (slot_at box local) signal) step goes in
+    let two = map_some (answering local one.0.answer) (goal_step (with_slot box local one.0.after) local (cause_of signal one.0.after.state)) step one.2 in
     subst (TookBy (goal_at box local) box local signal) two.2
     (took_by (goal_at box local) box local signal one.0.answer one.0.after two.0 wired inside refl one.1 two.1)
 
@@ -280,14 +281,14 @@ pub record Retried (box : BoxState) (local : ℕ) (step : BoxStep) : Type 0 wher
 
 -- and so does a Retry, which an end alone owes
 retried_by : (goal : SlotGoal) (box : BoxState) (local : ℕ) (step : BoxStep) → local < length box.slots → goal_at box local ≡ goal → slot_owes goal (slot_at box local) ≡ true
-    → goal_step_by goal box local true false ≡ Some step → Retried box local step
-retried_by (End goal) box local step inside aims owed goes = record { goal = goal; inside = inside; aims = aims; owed = owed; turned = end_turned box local goal true step inside goes }
+    → goal_step_by goal box local Push ≡ Some step → Retried box local step
+retried_by (End goal) box local step inside aims owed goes = record { goal = goal; inside = inside; aims = aims; owed = owed; turned = end_turned box local goal Push step inside goes }
 retried_by (Link partner) box local step inside aims owed goes = absurd (cc)
 
 -- what a Retry comes to
 pub retry_turned : (box : BoxState) (local : ℕ) (step : BoxStep) → box_event box (Retry local) None ≡ Some step → Retried box local step
 retry_turned box local step goes =
-    let one = if_some (is_slot box local && box_owes box local) (goal_step box local true false) step goes in
+    let one = if_some (is_slot box local && box_owes box local) (goal_step box local Push) step goes in
     let parts = and_parts (is_slot box local) (box_owes box local) one.0 in
     retried_by (goal_at box local) box local step (slot_inside box local parts.0) refl parts.1 one.1
 

@@ -1,10 +1,11 @@
 -- A taking, from the turn that it leads to.
-use Rattle.std.proofs.Common.{◌≡◌, ℕ, ◌+◌, ◌<◌, ◌≤◌, Bool, Option, Some, length, map, refl, subst, arith, length-append, length-take-le}
+use Rattle.std.proofs.Common.{◌≡◌, ℕ, ◌+◌, ◌<◌, ◌≤◌, Option, Some, length, map, refl, subst, arith, length-append, length-take-le}
 use Rattle.std.proofs.lemmas.List.{length-map}
 use Rattle.mc_signal.specs.declared.Signal.{Signal}
-use Rattle.mc_slot.specs.EndTurn.{pushes, closes_by}
+use Rattle.mc_slot.specs.EndTurn.{cause_of}
 use Rattle.mc_slot.specs.Moves.{answered, slot_take}
 use Rattle.mc_slot.specs.Sending.{pair_of, sends_of}
+use Rattle.mc_slot.specs.declared.Cause.{Cause}
 use Rattle.mc_slot.specs.declared.Slot.{Slot}
 use Rattle.mc_slot.specs.declared.sends.Sends.{Sends}
 use Rattle.mc_box.specs.BoxEvents.{BoxStep, answering, goal_step, take_step}
@@ -14,14 +15,14 @@ use Rattle.mc_box.proofs.TakeThree.{take_three}
 
 pub take_made : (box : BoxState) (local : ℕ) (signal : Signal) (answer : Option Signal) (after : Slot) (turn : BoxStep)
     → slot_take (slot_at box local) signal ≡ Some record { answer = answer; after = after }
-    → goal_step (with_slot box local after) local (pushes signal after.state) (closes_by signal after.state) ≡ Some turn
+    → goal_step (with_slot box local after) local (cause_of signal after.state) ≡ Some turn
     → take_step box local signal ≡ Some (answering local answer turn)
 take_made box local signal answer after turn goes turns = rw (goes, turns) refl
 
 -- the answer and the turn are at most three
 pub take_few : (box : BoxState) (local : ℕ) (signal : Signal) (answer : Option Signal) (after : Slot) (turn : BoxStep) → IsSoundBox box → local < length box.slots
     → slot_take (slot_at box local) signal ≡ Some record { answer = answer; after = after }
-    → goal_step (with_slot box local after) local (pushes signal after.state) (closes_by signal after.state) ≡ Some turn
+    → goal_step (with_slot box local after) local (cause_of signal after.state) ≡ Some turn
     → length (answered answer) + length turn.sent ≤ 3
 take_few box local signal answer after turn sound inside goes turns =
     omega (
@@ -41,9 +42,7 @@ pub took_there : (box : BoxState) (local : ℕ) (slot : Slot) (signal : Signal) 
 took_there box local slot signal answer after is goes = subst (λ (s : Slot). slot_take s signal ≡ Some (record { answer = answer; after = after })) is goes
 
 -- the turn goes by the signal and the slot's state after it
-pub turn_there : (box : BoxState) (local : ℕ) (signal : Signal) (after : Slot) (pushed closed : Bool) (turn : BoxStep)
-    → pushed ≡ pushes signal after.state → closed ≡ closes_by signal after.state → goal_step (with_slot box local after) local pushed closed ≡ Some turn
-    → goal_step (with_slot box local after) local (pushes signal after.state) (closes_by signal after.state) ≡ Some turn
-turn_there box local signal after pushed closed turn push close goes =
-    subst (λ (p : Bool). goal_step (with_slot box local after) local p (closes_by signal after.state) ≡ Some turn) push
-    (subst (λ (c : Bool). goal_step (with_slot box local after) local pushed c ≡ Some turn) close goes)
+pub turn_there : (box : BoxState) (local : ℕ) (signal : Signal) (after : Slot) (cause : Cause) (turn : BoxStep)
+    → cause ≡ cause_of signal after.state → goal_step (with_slot box local after) local cause ≡ Some turn
+    → goal_step (with_slot box local after) local (cause_of signal after.state) ≡ Some turn
+turn_there box local signal after cause turn is goes = subst (λ (c : Cause). goal_step (with_slot box local after) local c ≡ Some turn) is goes

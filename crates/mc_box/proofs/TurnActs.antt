@@ -1,16 +1,18 @@
 -- What each slot does in the turns of goals: it sends its part of all that is sent.
-use Rattle.std.proofs.Common.{◌≡◌, ◌≢◌, ℕ, ◌<◌, Bool, true, false, Some, List, [], ◌∷◌, ◌++◌, map, inl, inr, length, max, min, refl, ap, sym, ◌∙◌, subst, arith}
+use Rattle.std.proofs.Common.{◌≡◌, ◌≢◌, ℕ, ◌<◌, Some, List, [], ◌∷◌, ◌++◌, map, inl, inr, length, max, min, refl, ap, sym, ◌∙◌, subst, arith}
 use Rattle.std.specs.Option.{option_map}
 use Rattle.std.proofs.Math.ListN.{get_or, set}
 use Rattle.std.proofs.lemmas.Bool.{cases_eq}
 use Rattle.std.proofs.lemmas.List.{get_or-set_same, get_or-set_other}
-use Rattle.mc_link.specs.LinkTurn.{link_turn, numbered, sent_by_first, sent_by_second, side_closed}
+use Rattle.mc_link.specs.LinkTurn.{link_turn, numbered, sent_by_first, sent_by_second, closed_side}
 use Rattle.mc_link.specs.declared.Side.{Side}
 use Rattle.mc_link.proofs.Sides.{sent_both}
 use Rattle.mc_signal.specs.declared.Signal.{Signal}
-use Rattle.mc_slot.specs.EndTurn.{end_turn}
+use Rattle.mc_slot.specs.EndTurn.{end_turn, is_push}
 use Rattle.mc_slot.specs.Moves.{slot_send_all}
 use Rattle.mc_slot.specs.Sending.{pair_of}
+use Rattle.mc_slot.specs.declared.Cause.{Cause}
+use Rattle.mc_slot.specs.declared.Cause.TheVariants.{Push}
 use Rattle.mc_slot.specs.declared.Slot.{Slot}
 use Rattle.mc_slot.specs.declared.SlotGoal.{SlotGoal}
 use Rattle.mc_slot.specs.declared.SlotGoal.TheVariants.{End, Link}
@@ -109,16 +111,16 @@ pair_each box low high first second l order here one two k inside =
       ]
     ]
 
-turn_by_each : (goal : SlotGoal) (box : BoxState) (local : ℕ) (pushed closed : Bool) (step : BoxStep) → IsWired box → local < length box.slots → goal_at box local ≡ goal
-    → goal_step_by goal box local pushed closed ≡ Some step → SendsEach box step.sent step.after
-turn_by_each (End goal) box local pushed closed step wired here is goes =
-    let form = end_form box local goal pushed step goes in
+turn_by_each : (goal : SlotGoal) (box : BoxState) (local : ℕ) (cause : Cause) (step : BoxStep) → IsWired box → local < length box.slots → goal_at box local ≡ goal
+    → goal_step_by goal box local cause ≡ Some step → SendsEach box step.sent step.after
+turn_by_each (End goal) box local cause step wired here is goes =
+    let form = end_form box local goal cause step goes in
     subst (λ (s : BoxStep). SendsEach box s.sent s.after) form.is
-    (end_each box local form.last (end_turn goal (slot_at box local) pushed (own box local) (sender box local)) here form.goes)
-turn_by_each (Link partner) box local pushed closed step wired here is goes =
+    (end_each box local form.last (end_turn goal (slot_at box local) (is_push cause) (own box local) (sender box local)) here form.goes)
+turn_by_each (Link partner) box local cause step wired here is goes =
     let there : partner < length box.slots = (wired.links local partner is).inside in
     let other : partner ≢ local = (wired.links local partner is).other in
-    let side = side_closed closed (side_of local partner) in
+    let side = closed_side cause (side_of local partner) in
     let form = pair_form box (min local partner) (max local partner) side step goes in
     subst (λ (s : BoxStep). SendsEach box s.sent s.after) form.is
     (pair_each box (min local partner) (max local partner) form.first form.second (link_turn (slot_at box (min local partner)) (slot_at box (max local partner)) side)
@@ -129,12 +131,12 @@ pub record TurnActs (box : BoxState) (step : BoxStep) : Type 0 where
   pub each : SendsEach box step.sent step.after
   pub make : IsSameMake step.after box
 
-pub turn_acts : (box : BoxState) (local : ℕ) (pushed closed : Bool) (step : BoxStep) → IsWired box → local < length box.slots
-    → goal_step box local pushed closed ≡ Some step → TurnActs box step
-turn_acts box local pushed closed step wired here goes =
-    let made = turned box local pushed closed step wired here goes in
+pub turn_acts : (box : BoxState) (local : ℕ) (cause : Cause) (step : BoxStep) → IsWired box → local < length box.slots
+    → goal_step box local cause ≡ Some step → TurnActs box step
+turn_acts box local cause step wired here goes =
+    let made = turned box local cause step wired here goes in
     record {
-      each = turn_by_each (goal_at box local) box local pushed closed step wired here refl goes;
+      each = turn_by_each (goal_at box local) box local cause step wired here refl goes;
       make = subst (λ (b : BoxState). IsSameMake b box) (sym made.is) (make_slots box made.slots made.size);
     }
 
@@ -155,10 +157,10 @@ pub turns_act : (locals : List ℕ) (box : BoxState) (step : BoxStep) → IsWire
     → goal_steps box locals ≡ Some step → TurnActs box step
 turns_act [] box step wired inside goes = let same : record { sent = []; after = box } ≡ step = cc in turns_end box step same
 turns_act (local ∷ locals) box step wired inside goes =
-    let one = then_some (λ (turn : BoxStep). option_map (followed turn.sent) (goal_steps turn.after locals)) (goal_step box local true false) step goes in
+    let one = then_some (λ (turn : BoxStep). option_map (followed turn.sent) (goal_steps turn.after locals)) (goal_step box local Push) step goes in
     let two = map_some (followed one.0.sent) (goal_steps one.0.after locals) step one.2 in
-    let made = turned box local true false one.0 wired inside.0 one.1 in
-    let acts = turn_acts box local true false one.0 wired inside.0 one.1 in
+    let made = turned box local Push one.0 wired inside.0 one.1 in
+    let acts = turn_acts box local Push one.0 wired inside.0 one.1 in
     turns_next box one.0 two.0 step acts
     (turns_act locals one.0.after two.0 (subst (λ (b : BoxState). IsWired b) (sym made.is) made.wired)
     (subst (λ (n : ℕ). AreInside n locals) (sym acts.make.alike.slots) inside.1) two.1)

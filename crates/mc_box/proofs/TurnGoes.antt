@@ -1,7 +1,7 @@
 -- Each goal of a wired box may have its turn: its slots may send all that the turn is to send.
 use Rattle.std.proofs.Common.{◌≡◌, ◌&&◌, ℕ, Bool, true, false, Option, Some, None, List, [], ◌∷◌, ◌++◌, IsSome, length, max, min, refl, ap, sym, ◌∙◌, subst, arith}
 use Rattle.mc_link.specs.LinkLaws.{flipped}
-use Rattle.mc_link.specs.LinkTurn.{can_close, selector_due, pass_selector, lean, link_turn, descriptor_due, sent_by_first, sent_by_second, side_closed}
+use Rattle.mc_link.specs.LinkTurn.{can_close, selector_due, pass_selector, lean, link_turn, descriptor_due, sent_by_first, sent_by_second, closed_side}
 use Rattle.mc_link.specs.declared.Side.{Side}
 use Rattle.mc_link.specs.declared.Side.TheVariants.{First, Second}
 use Rattle.mc_link.proofs.LinkRests.{passes}
@@ -13,9 +13,11 @@ use Rattle.mc_signal.specs.declared.Selector.{Selector}
 use Rattle.mc_signal.specs.declared.Sender.{Sender}
 use Rattle.mc_signal.specs.declared.Signal.{Signal}
 use Rattle.mc_signal.specs.declared.Signal.TheVariants.{Close}
-use Rattle.mc_slot.specs.EndTurn.{end_turn}
+use Rattle.mc_slot.specs.EndTurn.{end_turn, is_push}
 use Rattle.mc_slot.specs.Moves.{is_live, slot_send_all}
 use Rattle.mc_slot.specs.Tunnel.{Kept}
+use Rattle.mc_slot.specs.declared.Cause.{Cause}
+use Rattle.mc_slot.specs.declared.Cause.TheVariants.{Push}
 use Rattle.mc_slot.specs.declared.Goal.{Goal}
 use Rattle.mc_slot.specs.declared.Slot.{Slot}
 use Rattle.mc_slot.specs.declared.SlotGoal.{SlotGoal}
@@ -123,43 +125,43 @@ second_goes closed a b kept =
 
 -- ---- a turn
 
-end_made : (box : BoxState) (local : ℕ) (goal : Goal) (pushed : Bool) (last : Slot)
-    → slot_send_all (slot_at box local) (end_turn goal (slot_at box local) pushed (own box local) (sender box local)) ≡ Some last → IsSome (end_step goal box local pushed)
-end_made box local goal pushed last goes = rw goes refl
+end_made : (box : BoxState) (local : ℕ) (goal : Goal) (cause : Cause) (last : Slot)
+    → slot_send_all (slot_at box local) (end_turn goal (slot_at box local) (is_push cause) (own box local) (sender box local)) ≡ Some last → IsSome (end_step goal box local cause)
+end_made box local goal cause last goes = rw goes refl
 
 pair_made : (box : BoxState) (low high : ℕ) (closed : Option Side) (first second : Slot)
     → slot_send_all (slot_at box low) (sent_by_first (link_turn (slot_at box low) (slot_at box high) closed)) ≡ Some first
     → slot_send_all (slot_at box high) (sent_by_second (link_turn (slot_at box low) (slot_at box high) closed)) ≡ Some second → IsSome (pair_step box low high closed)
 pair_made box low high closed first second one two = rw (one, two) refl
 
-turn_by_goes : (goal : SlotGoal) (box : BoxState) (local : ℕ) (pushed closed : Bool) → IsWired box → IsSome (goal_step_by goal box local pushed closed)
-turn_by_goes (End goal) box local pushed closed wired =
-    let last = some_of (slot_send_all (slot_at box local) (end_turn goal (slot_at box local) pushed (own box local) (sender box local)))
-    (due_goes goal (slot_at box local) pushed (own box local) (sender box local) (wired.kept local)) in
-    end_made box local goal pushed last.0 last.1
-turn_by_goes (Link partner) box local pushed closed wired =
+turn_by_goes : (goal : SlotGoal) (box : BoxState) (local : ℕ) (cause : Cause) → IsWired box → IsSome (goal_step_by goal box local cause)
+turn_by_goes (End goal) box local cause wired =
+    let last = some_of (slot_send_all (slot_at box local) (end_turn goal (slot_at box local) (is_push cause) (own box local) (sender box local)))
+    (due_goes goal (slot_at box local) (is_push cause) (own box local) (sender box local) (wired.kept local)) in
+    end_made box local goal cause last.0 last.1
+turn_by_goes (Link partner) box local cause wired =
     let low = slot_at box (min local partner) in
     let high = slot_at box (max local partner) in
-    let side = side_closed closed (side_of local partner) in
+    let side = closed_side cause (side_of local partner) in
     let first = some_of (slot_send_all low (sent_by_first (link_turn low high side))) (first_goes side low high (wired.kept (max local partner))) in
     let second = some_of (slot_send_all high (sent_by_second (link_turn low high side))) (second_goes side low high (wired.kept (min local partner))) in
     pair_made box (min local partner) (max local partner) side first.0 second.0 first.1 second.1
 
 -- each goal's turn can happen
-pub turn_goes : (box : BoxState) (local : ℕ) (pushed closed : Bool) → IsWired box → IsSome (goal_step box local pushed closed)
-turn_goes box local pushed closed wired = turn_by_goes (goal_at box local) box local pushed closed wired
+pub turn_goes : (box : BoxState) (local : ℕ) (cause : Cause) → IsWired box → IsSome (goal_step box local cause)
+turn_goes box local cause wired = turn_by_goes (goal_at box local) box local cause wired
 
 -- ---- turns one after another
 
-turns_made : (box : BoxState) (local : ℕ) (locals : List ℕ) (turn more : BoxStep) → goal_step box local true false ≡ Some turn → goal_steps turn.after locals ≡ Some more
+turns_made : (box : BoxState) (local : ℕ) (locals : List ℕ) (turn more : BoxStep) → goal_step box local Push ≡ Some turn → goal_steps turn.after locals ≡ Some more
     → IsSome (goal_steps box (local ∷ locals))
 turns_made box local locals turn more one two = rw (one, two) refl
 
 pub turns_go : (locals : List ℕ) (box : BoxState) → IsWired box → AreInside (length box.slots) locals → IsSome (goal_steps box locals)
 turns_go [] box wired inside = refl
 turns_go (local ∷ locals) box wired inside =
-    let turn = some_of (goal_step box local true false) (turn_goes box local true false wired) in
-    let made = turned box local true false turn.0 wired inside.0 turn.1 in
+    let turn = some_of (goal_step box local Push) (turn_goes box local Push wired) in
+    let made = turned box local Push turn.0 wired inside.0 turn.1 in
     let size : length turn.0.after.slots ≡ length box.slots = ap (λ (b : BoxState). length b.slots) made.is ∙ made.size in
     let more = some_of (goal_steps turn.0.after locals)
     (turns_go locals turn.0.after (subst (λ (b : BoxState). IsWired b) (sym made.is) made.wired) (subst (λ (n : ℕ). AreInside n locals) (sym size) inside.1)) in

@@ -15,6 +15,7 @@ use Rattle.mc_box.specs.Boxes.{BoxState, goal_at}
 use Rattle.mc_box.specs.Goals.{changed_from, changed_slots, has_turn, most_signals}
 use Rattle.mc_box.proofs.GoalTurns.{turned}
 use Rattle.mc_box.proofs.Sums.{cost_at, turn_cost, wired_cost}
+use Rattle.mc_slot.specs.declared.Cause.TheVariants.{Push}
 
 -- the goals of the slots before i have had their turns; the rest is as from the start
 pub record Turning (start now : BoxState) (olds : List SlotGoal) (i : ℕ) (before items : List (ℕ × Signal)) : Type 0 where
@@ -85,7 +86,7 @@ turning_skip start now olds i before items inside size wired turns so_far =
 
 -- one that has: what is sent, and the box after it
 pub turning_turn : (start now next : BoxState) (olds : List SlotGoal) (i : ℕ) (before items more : List (ℕ × Signal)) → i < length olds → length olds ≡ length start.slots → IsWired start
-    → has_turn i (get_or olds i (End ToClose)) (goal_at now i) ≡ true → goal_step now i true false ≡ Some record { sent = more; after = next }
+    → has_turn i (get_or olds i (End ToClose)) (goal_at now i) ≡ true → goal_step now i Push ≡ Some record { sent = more; after = next }
     → Turning start now olds i before items → Turning start next olds (i + 1) before (items ++ more)
 turning_turn start now next olds i before items more inside size wired turns goes so_far =
     let also : i < length start.goals = omega (arith, size, wired.whole.goals) in
@@ -95,7 +96,7 @@ turning_turn start now next olds i before items more inside size wired turns goe
     let same : changed_from i (drop i olds) (drop i start.goals) ≡ i ∷ changed_from (i + 1) (drop (i + 1) olds) (drop (i + 1) start.goals) =
     next_changed olds start.goals i inside also
     ∙ turn_by (has_turn i (get_or olds i (End ToClose)) (get_or start.goals i (End ToClose))) i (changed_from (i + 1) (drop (i + 1) olds) (drop (i + 1) start.goals)) yes in
-    let made = turned now i true false (record { sent = more; after = next }) so_far.wired here goes in
+    let made = turned now i Push (record { sent = more; after = next }) so_far.wired here goes in
     let paid : most_signals (get_or start.goals i (End ToClose)) ≤ cost_at start.goals i = turn_cost i (get_or olds i (End ToClose)) (get_or start.goals i (End ToClose)) yes in
     let few : length more ≤ most_signals (get_or start.goals i (End ToClose)) = subst (λ (l : List SlotGoal). length more ≤ most_signals (get_or l i (End ToClose))) so_far.goals made.few in
     let turn : goal_steps now (i ∷ changed_from (i + 1) (drop (i + 1) olds) (drop (i + 1) start.goals)) ≡ option_map (followed more) (goal_steps next (changed_from (i + 1) (drop (i + 1) olds) (drop (i + 1) start.goals))) =

@@ -1,13 +1,15 @@
 -- One event of one box: what it sends, and what it is after that. An event that has no case can't happen.
 use Rattle.std.specs.Prelude.{◌≡◌, ℕ, ◌+◌, ◌==◌, ◌&&◌, Bool, true, false, if◌then◌else◌, not, List, [], ◌∷◌, ◌++◌, map, max, min, nat_lt, Option, Some, None}
 use Rattle.std.specs.Option.{option_map, option_and_then}
-use Rattle.mc_link.specs.LinkTurn.{link_turn, numbered, sent_by_first, sent_by_second, side_closed}
+use Rattle.mc_link.specs.LinkTurn.{link_turn, numbered, sent_by_first, sent_by_second, closed_side}
 use Rattle.mc_link.specs.declared.Side.{Side}
 use Rattle.mc_link.specs.declared.Side.TheVariants.{First, Second}
 use Rattle.mc_signal.specs.declared.Signal.{Signal}
-use Rattle.mc_slot.specs.EndTurn.{end_turn, pushes, closes_by}
+use Rattle.mc_slot.specs.EndTurn.{end_turn, cause_of, is_push}
 use Rattle.mc_slot.specs.Moves.{slot_take, slot_send_all, answered, is_same_medium}
 use Rattle.mc_slot.specs.Sending.{pair_of}
+use Rattle.mc_slot.specs.declared.Cause.{Cause}
+use Rattle.mc_slot.specs.declared.Cause.TheVariants.{Other, Push}
 use Rattle.mc_slot.specs.declared.Goal.{Goal}
 use Rattle.mc_slot.specs.declared.SlotGoal.{SlotGoal}
 use Rattle.mc_slot.specs.declared.SlotGoal.TheVariants.{End, Link}
@@ -30,9 +32,9 @@ pub record BoxStep : Type 0 where
 -- ---- the turn of a goal
 
 -- an end sends what its goal lacks
-abbrev pub end_step : Goal → BoxState → ℕ → Bool → Option BoxStep
-end_step goal box local pushed =
-    let signals = end_turn goal (slot_at box local) pushed (own box local) (sender box local) in
+abbrev pub end_step : Goal → BoxState → ℕ → Cause → Option BoxStep
+end_step goal box local cause =
+    let signals = end_turn goal (slot_at box local) (is_push cause) (own box local) (sender box local) in
     option_map (λ after. record { sent = map (pair_of local) signals; after = with_slot box local after }) (slot_send_all (slot_at box local) signals)
 
 -- two linked slots, the lower one first, pass on what each has of the other
@@ -48,16 +50,16 @@ abbrev pub side_of : ℕ → ℕ → Side
 side_of local partner = if nat_lt local partner then First else Second
 
 -- a link's turn, as seen from one of its slots
-abbrev pub link_step : BoxState → ℕ → ℕ → Bool → Option BoxStep
-link_step box local partner closed = pair_step box (min local partner) (max local partner) (side_closed closed (side_of local partner))
+abbrev pub link_step : BoxState → ℕ → ℕ → Cause → Option BoxStep
+link_step box local partner cause = pair_step box (min local partner) (max local partner) (closed_side cause (side_of local partner))
 
-abbrev pub goal_step_by : SlotGoal → BoxState → ℕ → Bool → Bool → Option BoxStep
-goal_step_by (End goal) box local pushed closed = end_step goal box local pushed
-goal_step_by (Link partner) box local pushed closed = link_step box local partner closed
+abbrev pub goal_step_by : SlotGoal → BoxState → ℕ → Cause → Option BoxStep
+goal_step_by (End goal) box local cause = end_step goal box local cause
+goal_step_by (Link partner) box local cause = link_step box local partner cause
 
--- the turn of the goal that holds a slot, pushed or not; closed says that the slot has taken a close that closed it
-abbrev pub goal_step : BoxState → ℕ → Bool → Bool → Option BoxStep
-goal_step box local pushed closed = goal_step_by (goal_at box local) box local pushed closed
+-- the turn of the goal that holds a slot, by what it follows
+abbrev pub goal_step : BoxState → ℕ → Cause → Option BoxStep
+goal_step box local cause = goal_step_by (goal_at box local) box local cause
 
 -- ---- a signal is taken
 
@@ -69,7 +71,7 @@ answering local answer step = record step { sent = map (pair_of local) (answered
 abbrev pub take_step : BoxState → ℕ → Signal → Option BoxStep
 take_step box local signal =
     option_and_then (λ took. option_map (answering local took.answer)
-    (goal_step (with_slot box local took.after) local (pushes signal took.after.state) (closes_by signal took.after.state)))
+    (goal_step (with_slot box local took.after) local (cause_of signal took.after.state)))
     (slot_take (slot_at box local) signal)
 
 -- ---- goals change
@@ -81,7 +83,7 @@ followed sent step = record step { sent = sent ++ step.sent }
 -- the goals of these slots have their turns one after another, each pushed
 abbrev pub goal_steps : BoxState → List ℕ → Option BoxStep
 goal_steps box [] = Some (record { sent = []; after = box })
-goal_steps box (local ∷ locals) = option_and_then (λ step. option_map (followed step.sent) (goal_steps step.after locals)) (goal_step box local true false)
+goal_steps box (local ∷ locals) = option_and_then (λ step. option_map (followed step.sent) (goal_steps step.after locals)) (goal_step box local Push)
 
 -- the box gets new goals, and each that has changed has its turn
 abbrev pub goals_step : BoxState → List SlotGoal → Option BoxStep
@@ -108,8 +110,8 @@ with_talking on media = record media { talks = on }
 abbrev pub media_step : BoxState → MediaChange → Option BoxStep
 media_step box (Hear local on) =
     if (media_at box local).version == last_version then None
-    else goal_step (with_media box local (with_hearing on (media_at box local))) local false false
-media_step box (Talk local on) = goal_step (with_media box local (with_talking on (media_at box local))) local false false
+    else goal_step (with_media box local (with_hearing on (media_at box local))) local Other
+media_step box (Talk local on) = goal_step (with_media box local (with_talking on (media_at box local))) local Other
 
 -- ---- an event
 
@@ -133,7 +135,7 @@ is_enabled box event = false
 abbrev pub happening : BoxState → Event → Option BoxStep
 happening box (Set change) = set_step box change
 happening box (Media change) = media_step box change
-happening box (Retry local) = goal_step box local true false
+happening box (Retry local) = goal_step box local Push
 happening box event = None
 
 -- an event of a box, with the signal that it takes; a Take alone takes one

@@ -1,6 +1,6 @@
 // The events of a box that take no signal.
 
-ghost use Rattle.std.specs.Prelude.{◌≡◌, ◌+◌, ◌*◌, ◌-◌, ◌^◌, ◌<◌, ◌≤◌, ◌++◌, length, true, false, is_err, IsTrue, IsFalse, OnErr, OnOk};
+ghost use Rattle.std.specs.Prelude.{◌≡◌, ◌≢◌, ◌+◌, ◌*◌, ◌-◌, ◌^◌, ◌<◌, ◌≤◌, ◌++◌, length, true, false, is_err, IsTrue, IsFalse, OnErr, OnOk};
 ghost use Rattle.mc_slot.specs.Sending.{sends_of};
 ghost use Rattle.mc_box.specs.BoxEvents.{box_event, goal_step, with_hearing, is_enabled, is_take, is_version_end, media_step, set_step, with_talking, goal_steps, Appends};
 ghost use Rattle.mc_box.specs.BoxSound.{box_state, IsSoundBox, IsWired};
@@ -14,18 +14,19 @@ use crate::parts::BoxParts;
 use crate::setup::SlotMedia;
 use mc_lane::Lane;
 use mc_signal::Signal;
-use mc_slot::{Goal, Sends, SlotGoal};
+use mc_slot::{Cause, Goal, Sends, SlotGoal};
 
 impl BoxParts {
-    // A goal has its turn, pushed or not.
-    fn send_turn(&mut self, local: u8, pushed: bool, out: &mut Lane<(u8, Signal)>)
+    // A goal has its turn, which no signal brought.
+    fn send_turn(&mut self, local: u8, cause: Cause, out: &mut Lane<(u8, Signal)>)
         requires wired { IsWired (box_state self.old) }
+        requires taken_none { cause ≢ Cause.Close }
         requires here { local < length self.old.slots.items }
         requires space { 2 * length self.old.slots.items ≤ out.old.spare }
-        ensures sent { Appends (goal_step (box_state self.old) local pushed false) (box_state self.new) out.old.items out.new.items }
+        ensures sent { Appends (goal_step (box_state self.old) local cause) (box_state self.new) out.old.items out.new.items }
         ensures room { out.new.spare + length out.new.items ≡ out.old.spare + length out.old.items }
     {
-        let turn = self.goal_step(local, pushed, false);
+        let turn = self.goal_step(local, cause);
         send_out(&turn, out);
     }
 
@@ -39,7 +40,7 @@ impl BoxParts {
     {
         for i in 0..old.len() {
             if has_turn(i as u8, old[i], self.goals[i]) {
-                let turn = self.goal_step(i as u8, true, false);
+                let turn = self.goal_step(i as u8, Cause::Push);
                 send_out(&turn, out);
             }
         }
@@ -66,11 +67,11 @@ impl BoxParts {
         requires wired { IsWired (box_state self.old) }
         requires here { local < length self.old.slots.items }
         requires space { 2 * length self.old.slots.items ≤ out.old.spare }
-        ensures sent { Appends (goal_step (with_media (box_state self.old) local media) local false false) (box_state self.new) out.old.items out.new.items }
+        ensures sent { Appends (goal_step (with_media (box_state self.old) local media) local Cause.Other) (box_state self.new) out.old.items out.new.items }
         ensures room { out.new.spare + length out.new.items ≡ out.old.spare + length out.old.items }
     {
         self.media[local as usize] = media;
-        self.send_turn(local, false, out);
+        self.send_turn(local, Cause::Other, out);
     }
 
     // Hearing is set, which makes the slot's descriptor a newer one.
@@ -137,7 +138,7 @@ impl BoxParts {
                 Ok(())
             }
             Event::Retry(local) => {
-                self.send_turn(local, true, out);
+                self.send_turn(local, Cause::Push, out);
                 Ok(())
             }
             Event::Take(_) | Event::Tell(_) | Event::Shift => unreachable!(),

@@ -1,33 +1,34 @@
 // The turns of a box's goals.
 
 ghost use Rattle.std.specs.Prelude.{◌≡◌, ◌+◌, ◌<◌, ◌≤◌, ◌++◌, length, map, max, min, Some, IsSome, IsTrue};
-ghost use Rattle.mc_link.specs.LinkTurn.{NamesClosed, side_closed};
+ghost use Rattle.mc_link.specs.LinkTurn.{NamesClosed, closed_side};
 ghost use Rattle.mc_slot.specs.Moves.{answered, slot_take};
 ghost use Rattle.mc_slot.specs.Sending.{pair_of, sends_of};
+ghost use Rattle.mc_slot.specs.declared.State.TheVariants.{Closed};
 ghost use Rattle.mc_box.specs.BoxEvents.{end_step, goal_step, link_step, pair_step, side_of, take_step};
 ghost use Rattle.mc_box.specs.BoxSound.{box_state, IsSoundBox, IsWired};
 ghost use Rattle.mc_box.specs.Boxes.{goal_at, slot_at};
 ghost use Rattle.mc_box.specs.Goals.{most_signals};
-ghost use Rattle.mc_slot.specs.EndTurn.{closes_by};
 
 use crate::parts::BoxParts;
-use mc_goal::{end_turn, pushes};
+use mc_goal::end_turn;
 use mc_link::{Side, link_turn};
 use mc_signal::Signal;
-use mc_slot::{Goal, Sends, SlotGoal, State};
+use mc_slot::{Cause, Goal, Sends, SlotGoal, cause_of};
 
 impl BoxParts {
     // An end sends what its goal lacks.
-    fn end_step(&mut self, local: u8, goal: Goal, pushed: bool) -> Sends
+    fn end_step(&mut self, local: u8, goal: Goal, cause: Cause) -> Sends
         requires wired { IsWired (box_state self.old) }
         requires here { local < length self.old.slots.items }
-        ensures turn { end_step goal (box_state self.old) local pushed ≡ Some record { sent = sends_of result; after = box_state self.new } }
+        ensures turn { end_step goal (box_state self.old) local cause ≡ Some record { sent = sends_of result; after = box_state self.new } }
         ensures few { result.len ≤ 2 }
     {
         let own = self.own(local);
         let me = self.sender(local);
         let mut slot = self.slots[local as usize];
-        let sends = end_turn(&mut slot, local, goal, pushed, own, &me);
+        let push = matches!(cause, Cause::Push);
+        let sends = end_turn(&mut slot, local, goal, push, own, &me);
         self.slots[local as usize] = slot;
         sends
     }
@@ -50,29 +51,28 @@ impl BoxParts {
     }
 
     // A link has its turn, as seen from one of its slots.
-    fn link_step(&mut self, local: u8, partner: u8, closed: bool) -> Sends
+    fn link_step(&mut self, local: u8, partner: u8, cause: Cause) -> Sends
         requires wired { IsWired (box_state self.old) }
         requires here { local < length self.old.slots.items }
         requires linked { goal_at (box_state self.old) local ≡ SlotGoal.Link partner }
-        requires closed { IsTrue closed → (slot_at (box_state self.old) local).state ≡ State.Closed }
-        ensures { link_step (box_state self.old) local partner closed ≡ Some record { sent = sends_of result; after = box_state self.new } }
+        requires closed { cause ≡ Cause.Close → (slot_at (box_state self.old) local).state ≡ Closed }
+        ensures { link_step (box_state self.old) local partner cause ≡ Some record { sent = sends_of result; after = box_state self.new } }
     {
-        let side = side_closed(closed, side_of(local, partner));
+        let side = closed_side(cause, side_of(local, partner));
         self.pair_step(local.min(partner), local.max(partner), side)
     }
 
-    /// The turn of the goal that holds a slot, pushed or not. `closed` says that the slot has taken a close that
-    /// closed it.
-    pub fn goal_step(&mut self, local: u8, pushed: bool, closed: bool) -> Sends
+    /// The turn of the goal that holds a slot, by what it follows.
+    pub fn goal_step(&mut self, local: u8, cause: Cause) -> Sends
         requires wired { IsWired (box_state self.old) }
         requires here { local < length self.old.slots.items }
-        requires closed { IsTrue closed → (slot_at (box_state self.old) local).state ≡ State.Closed }
-        ensures turn { goal_step (box_state self.old) local pushed closed ≡ Some record { sent = sends_of result; after = box_state self.new } }
+        requires closed { cause ≡ Cause.Close → (slot_at (box_state self.old) local).state ≡ Closed }
+        ensures turn { goal_step (box_state self.old) local cause ≡ Some record { sent = sends_of result; after = box_state self.new } }
         ensures few { result.len ≤ most_signals (goal_at (box_state self.old) local) }
     {
         match self.goals[local as usize] {
-            SlotGoal::End(goal) => self.end_step(local, goal, pushed),
-            SlotGoal::Link(partner) => self.link_step(local, partner, closed),
+            SlotGoal::End(goal) => self.end_step(local, goal, cause),
+            SlotGoal::Link(partner) => self.link_step(local, partner, cause),
         }
     }
 
@@ -88,7 +88,7 @@ impl BoxParts {
         let answer = slot.take(s);
         self.slots[local as usize] = slot;
         let mut sends = answering(local, answer);
-        let turn = self.goal_step(local, pushes(&s, slot.state), closes_by(&s, slot.state));
+        let turn = self.goal_step(local, cause_of(&s, slot.state));
         append(&mut sends, &turn);
         sends
     }
@@ -105,18 +105,14 @@ fn side_of(local: u8, partner: u8) -> Side
     }
 }
 
-// The side that is closed, where it is.
-fn side_closed(closed: bool, side: Side) -> Option<Side>
-    ensures { result ≡ side_closed closed side }
+// The side of the slot, where a close has closed it.
+fn closed_side(cause: Cause, side: Side) -> Option<Side>
+    ensures { result ≡ closed_side cause side }
 {
-    if closed { Some(side) } else { None }
-}
-
-// Whether a taken close made the slot closed.
-fn closes_by(s: &Signal, after: State) -> bool
-    ensures { result ≡ closes_by s.now after }
-{
-    matches!((s, after), (Signal::Close, State::Closed))
+    match cause {
+        Cause::Close => Some(side),
+        Cause::Other | Cause::Push => None,
+    }
 }
 
 // What a slot answers.

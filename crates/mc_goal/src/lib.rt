@@ -2,7 +2,7 @@
 #![tactic(auto)]
 
 ghost use Rattle.std.specs.Prelude.{◌≡◌, ◌≤◌, Some, IsSome, IsTrue, map};
-ghost use Rattle.mc_slot.specs.EndTurn.{end_turn, live_turn, owes, pushes};
+ghost use Rattle.mc_slot.specs.EndTurn.{end_turn, live_turn, owes};
 ghost use Rattle.mc_slot.specs.Moves.{is_live, slot_send_all};
 ghost use Rattle.mc_slot.specs.Sending.{sends_of, pair_of};
 
@@ -94,11 +94,4 @@ pub fn owes(slot: &Slot, goal: Goal) -> bool
     ensures { result ≡ owes goal slot.now }
 {
     goal == Goal::Open && slot.state == State::Closed
-}
-
-/// Whether a taken signal pushes the goal: a closeack that made the slot closed does.
-pub fn pushes(s: &Signal, after: State) -> bool
-    ensures { result ≡ pushes s.now after }
-{
-    matches!((s, after), (Signal::Closeack, State::Closed))
 }

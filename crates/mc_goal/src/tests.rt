@@ -38,6 +38,4 @@ fn a_closed_end_that_opens_owes_a_retry(rt: HostRuntime) {
     let slot = Slot::new(Medium::Audio, true);
     assert_eq!(rt; owes(&slot, Goal::Open), true);
     assert_eq!(rt; owes(&slot, Goal::Hold), false);
-    assert_eq!(rt; pushes(&Signal::Closeack, State::Closed), true);
-    assert_eq!(rt; pushes(&Signal::Close, State::Closed), false);
 }

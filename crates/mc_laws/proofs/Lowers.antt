@@ -5,13 +5,13 @@ use Rattle.std.proofs.lemmas.Grind.{common_steps}
 use Rattle.std.proofs.Math.Nat.{mul-le-mul_left, mul-one, mul_assoc, pow-succ', pow-zero}
 use Rattle.mc_turn.specs.Sums.{total}
 use Rattle.mc_turn.proofs.Sums.{total_one, total_same}
-use Rattle.mc_link.specs.LinkTurn.{link_turn, sent_by_first, sent_by_second, side_closed}
+use Rattle.mc_link.specs.LinkTurn.{link_turn, sent_by_first, sent_by_second, closed_side}
 use Rattle.mc_link.specs.LinkWeights.{stored_link}
 use Rattle.mc_link.specs.declared.Side.TheVariants.{First}
 use Rattle.mc_link.proofs.LinkPays.{link_pays}
 use Rattle.mc_signal.specs.declared.Signal.{Signal}
 use Rattle.mc_signal.specs.declared.Tagged.{Tagged}
-use Rattle.mc_slot.specs.EndTurn.{end_turn, pushes, IsAtRest, closes_by}
+use Rattle.mc_slot.specs.EndTurn.{end_turn, IsAtRest, cause_of, is_push}
 use Rattle.mc_slot.specs.Moves.{answered}
 use Rattle.mc_slot.specs.declared.Goal.{Goal}
 use Rattle.mc_slot.specs.declared.Slot.{Slot}
@@ -163,7 +163,7 @@ end_lowers world boxes lanes s n tunnels goal took sound far_from aims did =
     let local : ℕ = (place world s).1 in
     let left : ℕ → List Signal = took.happened.stepped.left in
     let sent : ℕ → List Signal = took.happened.stepped.sent in
-    let signals : List Signal = answered did.answer ++ end_turn goal did.middle (pushes took.signal did.middle.state) (own_descriptor world s) (own_sender world s) in
+    let signals : List Signal = answered did.answer ++ end_turn goal did.middle (is_push (cause_of took.signal did.middle.state)) (own_descriptor world s) (own_sender world s) in
     let stay : GoalsStay next world = take_goals_stay world next s took sound in
     let idle_slot = λ (who k : ℕ) (away : who ≡ (place world s).0 → k ≢ local). idle_stays world next s who k took (λ same. did.others k (away same)) in
     let change = total_one (by_sent n tunnels next left sent) (to_come n tunnels world) (slot_count world) s took.inside
@@ -216,8 +216,8 @@ link_lowers world boxes lanes s p n tunnels partner took sound far_from aims pai
     let left : ℕ → List Signal = took.happened.stepped.left in
     let sent : ℕ → List Signal = took.happened.stepped.sent in
     let after : BoxState = took.happened.step.after in
-    let signals : List Signal = answered did.answer ++ sent_by_first (link_turn did.middle (slot_at box partner) (side_closed (closes_by took.signal did.middle.state) First)) in
-    let others : List Signal = sent_by_second (link_turn did.middle (slot_at box partner) (side_closed (closes_by took.signal did.middle.state) First)) in
+    let signals : List Signal = answered did.answer ++ sent_by_first (link_turn did.middle (slot_at box partner) (closed_side (cause_of took.signal did.middle.state) First)) in
+    let others : List Signal = sent_by_second (link_turn did.middle (slot_at box partner) (closed_side (cause_of took.signal did.middle.state) First)) in
     let box_sound = sound.boxes (place world s).0 (sound.numbered.placed s took.inside) in
     let stay : GoalsStay next world = take_goals_stay world next s took sound in
     let idle_slot = λ (who k : ℕ) (away : who ≡ (place world s).0 → k ≢ local) (beyond : who ≡ (place world s).0 → k ≢ partner). idle_stays world next s who k took (λ same. did.others k (away same) (beyond same)) in

@@ -7,10 +7,12 @@ use Rattle.mc_signal.specs.declared.Descriptor.{Descriptor}
 use Rattle.mc_signal.specs.declared.Sender.{Sender}
 use Rattle.mc_signal.specs.declared.Signal.{Signal}
 use Rattle.mc_signal.specs.declared.Tagged.{Tagged}
-use Rattle.mc_slot.specs.EndTurn.{end_turn, IsAtRest}
+use Rattle.mc_slot.specs.EndTurn.{end_turn, IsAtRest, is_push}
 use Rattle.mc_slot.specs.Moves.{answered, slot_send_all}
 use Rattle.mc_slot.specs.Sending.{pair_of}
 use Rattle.mc_slot.specs.Tunnel.{Kept}
+use Rattle.mc_slot.specs.declared.Cause.{Cause}
+use Rattle.mc_slot.specs.declared.Cause.TheVariants.{Push}
 use Rattle.mc_slot.specs.declared.Goal.{Goal}
 use Rattle.mc_slot.specs.declared.Goal.TheVariants.{Close as ToClose}
 use Rattle.mc_slot.specs.declared.Slot.{Slot}
@@ -74,13 +76,13 @@ pub record TurnForm (box : BoxState) (local : ℕ) (goal : Goal) (pushed : Bool)
   pub goes : slot_send_all slot (end_turn goal slot pushed mine me) ≡ Some last
   pub is : record { sent = map (pair_of local) (end_turn goal slot pushed mine me); after = with_slot box local last } ≡ turn
 
-pub turn_form : (box : BoxState) (local : ℕ) (goal : Goal) (pushed closed : Bool) (slot : Slot) (mine : Descriptor) (me : Sender) (turn : BoxStep)
-    → goal_at box local ≡ End goal → slot_at box local ≡ slot → own box local ≡ mine → sender box local ≡ me → goal_step box local pushed closed ≡ Some turn
-    → TurnForm box local goal pushed slot mine me turn
-turn_form box local goal pushed closed slot mine me turn goal_is slot_is own_is sender_is goes =
-    let is : option_map (λ (after : Slot). record { sent = map (pair_of local) (end_turn goal slot pushed mine me); after = with_slot box local after }) (slot_send_all slot (end_turn goal slot pushed mine me)) ≡ Some turn =
+pub turn_form : (box : BoxState) (local : ℕ) (goal : Goal) (cause : Cause) (slot : Slot) (mine : Descriptor) (me : Sender) (turn : BoxStep)
+    → goal_at box local ≡ End goal → slot_at box local ≡ slot → own box local ≡ mine → sender box local ≡ me → goal_step box local cause ≡ Some turn
+    → TurnForm box local goal (is_push cause) slot mine me turn
+turn_form box local goal cause slot mine me turn goal_is slot_is own_is sender_is goes =
+    let is : option_map (λ (after : Slot). record { sent = map (pair_of local) (end_turn goal slot (is_push cause) mine me); after = with_slot box local after }) (slot_send_all slot (end_turn goal slot (is_push cause) mine me)) ≡ Some turn =
     rw (goal_is, slot_is, own_is, sender_is) at goes in
-    let parts = map_some (λ (after : Slot). record { sent = map (pair_of local) (end_turn goal slot pushed mine me); after = with_slot box local after }) (slot_send_all slot (end_turn goal slot pushed mine me)) turn is in
+    let parts = map_some (λ (after : Slot). record { sent = map (pair_of local) (end_turn goal slot (is_push cause) mine me); after = with_slot box local after }) (slot_send_all slot (end_turn goal slot (is_push cause) mine me)) turn is in
     record { last = parts.0; goes = parts.1; is = parts.2 }
 
 -- ---- a box's step is its slot's
@@ -113,9 +115,9 @@ take_is box local goal answer after last signals turn step goal_is turn_is step_
 
 -- a push of a goal that is there
 pub push_form : (box : BoxState) (local : ℕ) (goal : Goal) (step : BoxStep) (to_slot : List Signal)
-    → Kept (slot_at box local) → goal_at box local ≡ End goal → goal_step box local true false ≡ Some step → BoxForm box local step to_slot to_slot
+    → Kept (slot_at box local) → goal_at box local ≡ End goal → goal_step box local Push ≡ Some step → BoxForm box local step to_slot to_slot
 push_form box local goal step to_slot kept goal_is goes =
-    let form = turn_form box local goal true false (slot_at box local) (own box local) (sender box local) step goal_is refl refl refl goes in
+    let form = turn_form box local goal Push (slot_at box local) (own box local) (sender box local) step goal_is refl refl refl goes in
     record {
       last = form.last;
       aim = goal;

@@ -12,7 +12,7 @@ use Rattle.mc_slot.specs.declared.State.{State}
 use Rattle.mc_slot.specs.declared.State.TheVariants.{Closed, Opening, Opened, Flowing, Closing}
 use Rattle.mc_tunnel.proofs.Steps.{took_kept}
 use Rattle.mc_turn.proofs.Weighing.{weigh_one, weigh_times, weigh_list}
-use Rattle.mc_link.specs.LinkTurn.{selector_due, lean, link_turn, descriptor_due, sent_by_first, sent_by_second, side_closed}
+use Rattle.mc_link.specs.LinkTurn.{selector_due, lean, link_turn, descriptor_due, sent_by_first, sent_by_second, closed_side}
 use Rattle.mc_link.specs.LinkWeights.{stored_link, LinkPays}
 use Rattle.mc_link.specs.declared.Side.{Side}
 use Rattle.mc_link.specs.declared.Side.TheVariants.{First}
@@ -20,7 +20,7 @@ use Rattle.mc_link.proofs.LinkRests.{flowed}
 use Rattle.mc_link.proofs.LinkThree.{unanswered, unheard}
 use Rattle.mc_link.proofs.Parts.{both, quiet}
 use Rattle.mc_link.proofs.Weights.{Rates, weigh_at, total_at, weighed, flowing_passes, opened_passes, chooses_select, Payment, rates_of, own_rates, payment}
-use Rattle.mc_slot.specs.EndTurn.{closes_by}
+use Rattle.mc_slot.specs.EndTurn.{cause_of}
 
 -- the first slot of a link at rest takes a signal, and the link has its turn
 pub record Turned (a b middle a_last b_last : Slot) (signal : Signal) (answer : Option Signal) : Type 0 where
@@ -28,8 +28,8 @@ pub record Turned (a b middle a_last b_last : Slot) (signal : Signal) (answer : 
   pub b_kept : Kept b
   pub rest : lean a b ≡ []
   pub goes : slot_take a signal ≡ Some record { answer = answer; after = middle }
-  pub a_sends : slot_send_all middle (sent_by_first (link_turn middle b (side_closed (closes_by signal middle.state) First))) ≡ Some a_last
-  pub b_sends : slot_send_all b (sent_by_second (link_turn middle b (side_closed (closes_by signal middle.state) First))) ≡ Some b_last
+  pub a_sends : slot_send_all middle (sent_by_first (link_turn middle b (closed_side (cause_of signal middle.state) First))) ≡ Some a_last
+  pub b_sends : slot_send_all b (sent_by_second (link_turn middle b (closed_side (cause_of signal middle.state) First))) ≡ Some b_last
 
 -- the weights before and after, for a slot that a close may have closed
 abbrev EnoughBy : Option Side → (one near far : Rates) (a b middle a_last b_last : Slot) → Signal → Option Signal → Type 0
@@ -40,7 +40,7 @@ EnoughBy closed one near far a b middle a_last b_last signal answer =
 
 -- and with the slot that the signal closed
 abbrev Enough : (one near far : Rates) (a b middle a_last b_last : Slot) → Signal → Option Signal → Type 0
-Enough one near far a b middle a_last b_last signal answer = EnoughBy (side_closed (closes_by signal middle.state) First) one near far a b middle a_last b_last signal answer
+Enough one near far a b middle a_last b_last signal answer = EnoughBy (closed_side (cause_of signal middle.state) First) one near far a b middle a_last b_last signal answer
 
 -- an open is dropped, or it opens a closed or an opening slot
 opens : (a middle : Slot) (medium : Medium) (d : Descriptor) (answer : Option Signal) → slot_take a (Open medium d) ≡ Some record { answer = answer; after = middle }
@@ -271,5 +271,5 @@ link_pays a b middle a_last b_last signal answer n x y a_kept b_kept rest goes a
     let turned : Turned a b middle a_last b_last signal answer =
     record { a_kept = a_kept; b_kept = b_kept; rest = rest; goes = goes; a_sends = a_sends; b_sends = b_sends } in
     let linear = pays_by (is_live middle.state && is_live b.state) (own_rates n) (rates_of n y) (rates_of n x) a b middle a_last b_last signal answer refl (payment n x y x_some y_some less) turned in
-    let due = link_turn middle b (side_closed (closes_by signal middle.state) First) in
+    let due = link_turn middle b (closed_side (cause_of signal middle.state) First) in
     omega (arith, linear, weigh_one n signal, weigh_times n x signal, weigh_list n y (answered answer ++ sent_by_first due), weigh_list n x (sent_by_second due))

@@ -7,13 +7,13 @@ use Rattle.mc_slot.specs.Moves.{answered, is_live, slot_take}
 use Rattle.mc_slot.specs.Tunnel.{Kept}
 use Rattle.mc_slot.specs.declared.Slot.{Slot}
 use Rattle.mc_link.specs.LinkLaws.{LinkSendsThree}
-use Rattle.mc_link.specs.LinkTurn.{selector_due, lean, link_turn, descriptor_due, sent_by_first, sent_by_second, side_closed}
+use Rattle.mc_link.specs.LinkTurn.{selector_due, lean, link_turn, descriptor_due, sent_by_first, sent_by_second, closed_side}
 use Rattle.mc_link.specs.declared.Side.{Side}
 use Rattle.mc_link.specs.declared.Side.TheVariants.{First}
 use Rattle.mc_link.proofs.Mirror.{sides_length}
 use Rattle.mc_link.proofs.Parts.{both, live_both, quiet}
 use Rattle.mc_link.proofs.Sides.{first_of_four, second_of_four}
-use Rattle.mc_slot.specs.EndTurn.{closes_by}
+use Rattle.mc_slot.specs.EndTurn.{cause_of}
 
 -- an answer is one signal at most
 answers_one : (answer : Option Signal) → length (answered answer) ≤ 1
@@ -42,7 +42,7 @@ live_length a b a_live b_live =
 
 -- a slot that is live after a taking answers nothing, and no close made it closed
 pub unanswered : (a after : Slot) (signal : Signal) (answer : Option Signal) → slot_take a signal ≡ Some record { answer = answer; after = after } → is_live after.state ≡ true
-    → (answer ≡ None) × (side_closed (closes_by signal after.state) First ≡ None)
+    → (answer ≡ None) × (closed_side (cause_of signal after.state) First ≡ None)
 unanswered a after signal answer goes live = grind (arith)
 
 -- where a slot has got no selector, none is passed on
@@ -85,15 +85,15 @@ Three closed after b answer = length (answered answer) + length (link_turn after
 
 -- by whether both are live after the taking
 three_by : (live : Bool) (a b after : Slot) (signal : Signal) (answer : Option Signal) → is_live after.state && is_live b.state ≡ live
-    → Kept a → lean a b ≡ [] → slot_take a signal ≡ Some record { answer = answer; after = after } → Three (side_closed (closes_by signal after.state) First) after b answer
+    → Kept a → lean a b ≡ [] → slot_take a signal ≡ Some record { answer = answer; after = after } → Three (closed_side (cause_of signal after.state) First) after b answer
 three_by false a b after signal answer is kept rest goes =
-    omega (arith, answers_one answer, calm_one (side_closed (closes_by signal after.state) First) after b is)
+    omega (arith, answers_one answer, calm_one (closed_side (cause_of signal after.state) First) after b is)
 three_by true a b after signal answer is kept rest goes =
     let live = both (is_live after.state) (is_live b.state) is in
     let silent = unanswered a after signal answer goes live.0 in
     let few : length (lean after b) ≤ 3 = three_parts after b live.0 live.1 (one_stays signal a b after answer kept rest live.1 live.0 goes) in
     let plain : Three None after b None = omega (arith, few) in
-    subst (λ (o : Option Signal). Three (side_closed (closes_by signal after.state) First) after b o) (sym silent.0)
+    subst (λ (o : Option Signal). Three (closed_side (cause_of signal after.state) First) after b o) (sym silent.0)
     (subst (λ (closed : Option Side). Three closed after b None) (sym silent.1) plain)
 
 -- whatever the other slot is

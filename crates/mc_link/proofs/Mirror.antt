@@ -4,9 +4,11 @@ use Rattle.std.proofs.lemmas.List.{nil_from_length}
 use Rattle.mc_signal.specs.declared.Signal.{Signal}
 use Rattle.mc_signal.specs.declared.Signal.TheVariants.{Close}
 use Rattle.mc_slot.specs.Moves.{is_live}
+use Rattle.mc_slot.specs.declared.Cause.{Cause}
+use Rattle.mc_slot.specs.declared.Cause.TheVariants.{Other, Close as ByClose, Push}
 use Rattle.mc_slot.specs.declared.Slot.{Slot}
 use Rattle.mc_link.specs.LinkLaws.{flipped, LinkMirror}
-use Rattle.mc_link.specs.LinkTurn.{IsLinkAtRest, can_close, selector_due, lean, link_turn, descriptor_due, sent_by_first, sent_by_second, side_closed}
+use Rattle.mc_link.specs.LinkTurn.{IsLinkAtRest, can_close, selector_due, lean, link_turn, descriptor_due, sent_by_first, sent_by_second, closed_side}
 use Rattle.mc_link.specs.declared.Side.{Side}
 use Rattle.mc_link.specs.declared.Side.TheVariants.{First, Second}
 use Rattle.mc_link.proofs.Parts.{both, live_both}
@@ -79,6 +81,7 @@ mirror_rests a b rest =
     nil_from_length (link_turn b a None) (same ∙ ap (λ (l : List (Side × Signal)). length l) rest)
 
 -- a side that is named by a taken close, seen from the other side
-pub side_turned : (closed : Bool) → side_closed closed Second ≡ flipped (side_closed closed First)
-side_turned true = refl
-side_turned false = refl
+pub side_turned : (cause : Cause) → closed_side cause Second ≡ flipped (closed_side cause First)
+side_turned Other = refl
+side_turned ByClose = refl
+side_turned Push = refl

@@ -4,10 +4,10 @@ use Rattle.mc_signal.specs.declared.Signal.{Signal}
 use Rattle.mc_slot.specs.Moves.{answered, slot_send_all, slot_take}
 use Rattle.mc_slot.specs.Tunnel.{Kept}
 use Rattle.mc_slot.specs.declared.Slot.{Slot}
-use Rattle.mc_link.specs.LinkTurn.{link_turn, IsLinkAtRest, sent_by_first, sent_by_second, side_closed}
+use Rattle.mc_link.specs.LinkTurn.{link_turn, IsLinkAtRest, sent_by_first, sent_by_second, closed_side}
 use Rattle.mc_link.specs.declared.Side.{Side}
 use Rattle.mc_link.specs.declared.Side.TheVariants.{First, Second}
-use Rattle.mc_slot.specs.EndTurn.{closes_by}
+use Rattle.mc_slot.specs.EndTurn.{cause_of}
 
 -- the same slot, where the two change their places
 abbrev pub flipped : Option Side → Option Side
@@ -27,13 +27,13 @@ LinkRestsAfterTurn = (a b a_after b_after : Slot) (closed_by_far : Option Side)
 abbrev pub LinkSendsThree : Type 0
 LinkSendsThree = (a b after : Slot) (signal : Signal) (answer : Option Signal)
     → Kept a → IsLinkAtRest a b → slot_take a signal ≡ Some record { answer = answer; after = after }
-    → length (answered answer) + length (link_turn after b (side_closed (closes_by signal after.state) First)) ≤ 3
+    → length (answered answer) + length (link_turn after b (closed_side (cause_of signal after.state) First)) ≤ 3
 
 -- and so where the second slot takes one
 abbrev pub SecondSlotSendsThree : Type 0
 SecondSlotSendsThree = (a b after : Slot) (signal : Signal) (answer : Option Signal)
     → Kept b → IsLinkAtRest a b → slot_take b signal ≡ Some record { answer = answer; after = after }
-    → length (answered answer) + length (link_turn a after (side_closed (closes_by signal after.state) Second)) ≤ 3
+    → length (answered answer) + length (link_turn a after (closed_side (cause_of signal after.state) Second)) ≤ 3
 
 -- each slot sends the same, and both send as much, whichever of them is called the first
 abbrev pub LinkMirror : Type 0

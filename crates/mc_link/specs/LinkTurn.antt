@@ -6,6 +6,8 @@ use Rattle.mc_signal.specs.declared.Selector.{Selector}
 use Rattle.mc_signal.specs.declared.Signal.{Signal}
 use Rattle.mc_signal.specs.declared.Signal.TheVariants.{Open, Oack, Close}
 use Rattle.mc_slot.specs.EndTurn.{describe_newer, select_newer}
+use Rattle.mc_slot.specs.declared.Cause.{Cause}
+use Rattle.mc_slot.specs.declared.Cause.TheVariants.{Close as ByClose}
 use Rattle.mc_slot.specs.declared.Slot.{Slot}
 use Rattle.mc_slot.specs.declared.State.{State}
 use Rattle.mc_slot.specs.declared.State.TheVariants.{Closed, Opening, Opened, Flowing}
@@ -13,9 +15,9 @@ use Rattle.mc_link.specs.declared.Side.{Side}
 use Rattle.mc_link.specs.declared.Side.TheVariants.{First, Second}
 
 -- the slot of this side is named where a taken close has made it closed
-abbrev pub side_closed : Bool → Side → Option Side
-side_closed true side = Some side
-side_closed false side = None
+abbrev pub closed_side : Cause → Side → Option Side
+closed_side ByClose side = Some side
+closed_side cause side = None
 
 -- the slot that is named is closed
 abbrev pub NamesClosed : Option Side → Slot → Slot → Type 0

@@ -7,9 +7,9 @@ use Rattle.mc_slot.specs.declared.Slot.{Slot}
 use Rattle.mc_slot.specs.declared.State.{State}
 use Rattle.mc_slot.specs.declared.State.TheVariants.{Closed, Opening, Opened, Flowing, Closing}
 use Rattle.mc_turn.specs.Weights.{weight, weights}
-use Rattle.mc_link.specs.LinkTurn.{link_turn, IsLinkAtRest, sent_by_first, sent_by_second, side_closed}
+use Rattle.mc_link.specs.LinkTurn.{link_turn, IsLinkAtRest, sent_by_first, sent_by_second, closed_side}
 use Rattle.mc_link.specs.declared.Side.TheVariants.{First, Second}
-use Rattle.mc_slot.specs.EndTurn.{closes_by}
+use Rattle.mc_slot.specs.EndTurn.{cause_of}
 
 -- 1 for a linked slot that is closed, or will be, while the other slot asks for media: an open is still to come from it
 abbrev pub stored_link : State → State → ℕ
@@ -26,11 +26,11 @@ stored_link state other = 0
 abbrev pub LinkPays : Type 0
 LinkPays = (a b middle a_after b_after : Slot) (signal : Signal) (answer : Option Signal) (n x y : ℕ)
     → Kept a → Kept b → IsLinkAtRest a b → slot_take a signal ≡ Some record { answer = answer; after = middle }
-    → slot_send_all middle (sent_by_first (link_turn middle b (side_closed (closes_by signal middle.state) First))) ≡ Some a_after
-    → slot_send_all b (sent_by_second (link_turn middle b (side_closed (closes_by signal middle.state) First))) ≡ Some b_after
+    → slot_send_all middle (sent_by_first (link_turn middle b (closed_side (cause_of signal middle.state) First))) ≡ Some a_after
+    → slot_send_all b (sent_by_second (link_turn middle b (closed_side (cause_of signal middle.state) First))) ≡ Some b_after
     → 1 ≤ x → 1 ≤ y → y < n
-    → 1 + y * weights n (answered answer ++ sent_by_first (link_turn middle b (side_closed (closes_by signal middle.state) First)))
-    + x * weights n (sent_by_second (link_turn middle b (side_closed (closes_by signal middle.state) First)))
+    → 1 + y * weights n (answered answer ++ sent_by_first (link_turn middle b (closed_side (cause_of signal middle.state) First)))
+    + x * weights n (sent_by_second (link_turn middle b (closed_side (cause_of signal middle.state) First)))
     + n * (n * n) * (y * stored_link a_after.state b_after.state + x * stored_link b_after.state a_after.state)
     ≤ (x + 1) * weight n signal + n * (n * n) * (y * stored_link a.state b.state + x * stored_link b.state a.state)
 
@@ -38,10 +38,10 @@ LinkPays = (a b middle a_after b_after : Slot) (signal : Signal) (answer : Optio
 abbrev pub SecondSlotPays : Type 0
 SecondSlotPays = (a b middle a_after b_after : Slot) (signal : Signal) (answer : Option Signal) (n x y : ℕ)
     → Kept a → Kept b → IsLinkAtRest a b → slot_take b signal ≡ Some record { answer = answer; after = middle }
-    → slot_send_all a (sent_by_first (link_turn a middle (side_closed (closes_by signal middle.state) Second))) ≡ Some a_after
-    → slot_send_all middle (sent_by_second (link_turn a middle (side_closed (closes_by signal middle.state) Second))) ≡ Some b_after
+    → slot_send_all a (sent_by_first (link_turn a middle (closed_side (cause_of signal middle.state) Second))) ≡ Some a_after
+    → slot_send_all middle (sent_by_second (link_turn a middle (closed_side (cause_of signal middle.state) Second))) ≡ Some b_after
     → 1 ≤ x → 1 ≤ y → x < n
-    → 1 + x * weights n (answered answer ++ sent_by_second (link_turn a middle (side_closed (closes_by signal middle.state) Second)))
-    + y * weights n (sent_by_first (link_turn a middle (side_closed (closes_by signal middle.state) Second)))
+    → 1 + x * weights n (answered answer ++ sent_by_second (link_turn a middle (closed_side (cause_of signal middle.state) Second)))
+    + y * weights n (sent_by_first (link_turn a middle (closed_side (cause_of signal middle.state) Second)))
     + n * (n * n) * (y * stored_link a_after.state b_after.state + x * stored_link b_after.state a_after.state)
     ≤ (y + 1) * weight n signal + n * (n * n) * (y * stored_link a.state b.state + x * stored_link b.state a.state)

@@ -1,6 +1,6 @@
 -- A link of which no slot takes a close or a closeack: it sends none.
 use Rattle.std.proofs.Common.{◌≡◌, ◌+◌, ◌++◌, ◌&&◌, Bool, true, false, Option, Some, None, ap, refl, sym, ◌∙◌, arith}
-use Rattle.mc_link.specs.LinkTurn.{selector_due, lean, link_turn, descriptor_due, sent_by_first, sent_by_second, side_closed}
+use Rattle.mc_link.specs.LinkTurn.{selector_due, lean, link_turn, descriptor_due, sent_by_first, sent_by_second, closed_side}
 use Rattle.mc_link.specs.declared.Side.TheVariants.{First}
 use Rattle.mc_link.proofs.Mirror.{link_mirror}
 use Rattle.mc_link.proofs.Parts.{both, live_both}
@@ -11,7 +11,7 @@ use Rattle.mc_slot.specs.Outlook.{ack_of, close_of}
 use Rattle.mc_slot.specs.declared.Slot.{Slot}
 use Rattle.mc_slot.specs.declared.State.{State}
 use Rattle.mc_path_laws.proofs.CleanEnds.{endings, endings-append, took_open}
-use Rattle.mc_slot.specs.EndTurn.{closes_by}
+use Rattle.mc_slot.specs.EndTurn.{cause_of}
 
 -- ---- what a link sends by its states
 
@@ -47,16 +47,16 @@ second_none a b = ap endings (sym (link_mirror a b None).0) ∙ first_none b a
 -- ---- after a taking
 
 -- a signal that is none closes no slot
-closed_none : (signal : Signal) (state : State) → close_of signal + ack_of signal ≡ 0 → side_closed (closes_by signal state) First ≡ None
+closed_none : (signal : Signal) (state : State) → close_of signal + ack_of signal ≡ 0 → closed_side (cause_of signal state) First ≡ None
 closed_none signal state none = grind (arith)
 
 -- the slot that takes sends none, its answer counted
 pub taker_sends_none : (a b middle : Slot) (signal : Signal) (answer : Option Signal) → slot_take a signal ≡ Some record { answer = answer; after = middle } → close_of signal + ack_of signal ≡ 0
-    → endings (answered answer ++ sent_by_first (link_turn middle b (side_closed (closes_by signal middle.state) First))) ≡ 0
+    → endings (answered answer ++ sent_by_first (link_turn middle b (closed_side (cause_of signal middle.state) First))) ≡ 0
 taker_sends_none a b middle signal answer goes none =
     let silent = (took_open a middle signal answer goes none).0 in
     rw (silent, closed_none signal middle.state none) (first_none middle b)
 
 -- nor does its partner
-pub partner_sends_none : (b middle : Slot) (signal : Signal) → close_of signal + ack_of signal ≡ 0 → endings (sent_by_second (link_turn middle b (side_closed (closes_by signal middle.state) First))) ≡ 0
+pub partner_sends_none : (b middle : Slot) (signal : Signal) → close_of signal + ack_of signal ≡ 0 → endings (sent_by_second (link_turn middle b (closed_side (cause_of signal middle.state) First))) ≡ 0
 partner_sends_none b middle signal none = rw (closed_none signal middle.state none) (second_none middle b)

@@ -2,7 +2,7 @@
 use Rattle.std.proofs.Common.{◌≡◌, ◌≢◌, ◌<◌, ◌+◌, inl, inr, ℕ, true, Some, None, List, ◌∷◌, refl, ap, sym, ◌∙◌, subst, arith}
 use Rattle.std.proofs.lemmas.Bool.{cases_eq}
 use Rattle.std.proofs.lemmas.Grind.{common_steps}
-use Rattle.mc_link.specs.LinkTurn.{link_turn, sent_by_first, sent_by_second, side_closed}
+use Rattle.mc_link.specs.LinkTurn.{link_turn, sent_by_first, sent_by_second, closed_side}
 use Rattle.mc_link.specs.declared.Side.TheVariants.{First}
 use Rattle.mc_signal.specs.declared.Signal.{Signal}
 use Rattle.mc_slot.specs.Outlook.{ack_of, close_of}
@@ -31,7 +31,7 @@ use Rattle.mc_laws.proofs.StepActs.{TakeHappened, take_happened}
 use Rattle.mc_laws.proofs.TakeParts.{RetryHappened, apart_local, first_goes, idle_sends, idle_stays, others_left, part_idle, part_sent, part_stays, retry_goals_stay, retry_is, sent_here, take_goals_stay, took_is}
 use Rattle.mc_path_laws.proofs.CleanEnds.{all_open, due_ends_none, endings, front_none, retry_opens, take_ends, took_open}
 use Rattle.mc_path_laws.proofs.CleanLinks.{partner_sends_none, taker_sends_none}
-use Rattle.mc_slot.specs.EndTurn.{closes_by}
+use Rattle.mc_slot.specs.EndTurn.{cause_of}
 
 -- what a Take or a Retry does of closes and closeacks, slot by slot
 pub record Calm (world next : WorldState) (turn : Turn) : Type 0 where
@@ -102,8 +102,8 @@ link_calm : (world next : WorldState) (who local s p partner : ℕ) (took : Take
 link_calm world next who local s p partner took sound aims pair did =
     let b : Slot = slot_at (box_at world (place world s).0) partner in
     let after : BoxState = took.happened.step.after in
-    let due_first : List Signal = sent_by_first (link_turn did.middle (slot_at (box_at world (place world s).0) partner) (side_closed (closes_by took.signal did.middle.state) First)) in
-    let due_second : List Signal = sent_by_second (link_turn did.middle (slot_at (box_at world (place world s).0) partner) (side_closed (closes_by took.signal did.middle.state) First)) in
+    let due_first : List Signal = sent_by_first (link_turn did.middle (slot_at (box_at world (place world s).0) partner) (closed_side (cause_of took.signal did.middle.state) First)) in
+    let due_second : List Signal = sent_by_second (link_turn did.middle (slot_at (box_at world (place world s).0) partner) (closed_side (cause_of took.signal did.middle.state) First)) in
     let back : partner_of world p ≡ Some s = by_goal world p (Link (place world s).1) pair.goal ∙ pair.number in
     let idle : (t : ℕ) → t < slot_count world → t ≢ s → t ≢ p → (place world t).0 ≡ (place world s).0 → Idle (box_at world (place world s).0) took.happened.step (place world t).1 =
     λ t inside apart beyond here. did.others (place world t).1 (apart_local world s t sound took.inside inside apart here)

@@ -8,6 +8,8 @@ use Rattle.mc_signal.specs.declared.Selector.{Selector}
 use Rattle.mc_signal.specs.declared.Sender.{Sender}
 use Rattle.mc_signal.specs.declared.Signal.{Signal}
 use Rattle.mc_signal.specs.declared.Signal.TheVariants.{Open, Oack, Close, Closeack, Describe, Select}
+use Rattle.mc_slot.specs.declared.Cause.{Cause}
+use Rattle.mc_slot.specs.declared.Cause.TheVariants.{Other, Close as ByClose, Push}
 use Rattle.mc_slot.specs.declared.Goal.{Goal}
 use Rattle.mc_slot.specs.declared.Goal.TheVariants.{Open as ToOpen, Close as ToClose}
 use Rattle.mc_slot.specs.declared.Slot.{Slot}
@@ -64,15 +66,16 @@ owes_in goal state = false
 abbrev pub owes : Goal → Slot → Bool
 owes goal slot = owes_in goal slot.state
 
--- a taken closeack that made the slot closed pushes it
-abbrev pub pushes : Signal → State → Bool
-pushes Closeack Closed = true
-pushes signal state = false
+-- what the turn of a goal follows, by the signal that its slot took and the state after that
+abbrev pub cause_of : Signal → State → Cause
+cause_of Close Closed = ByClose
+cause_of Closeack Closed = Push
+cause_of signal state = Other
 
--- a taken close made the slot closed
-abbrev pub closes_by : Signal → State → Bool
-closes_by Close Closed = true
-closes_by signal state = false
+-- an end may open now
+abbrev pub is_push : Cause → Bool
+is_push Push = true
+is_push cause = false
 
 -- the goal of a slot is an end's
 abbrev pub is_end_goal : SlotGoal → Bool

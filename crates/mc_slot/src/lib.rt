@@ -2,6 +2,7 @@
 #![tactic(auto)]
 
 ghost use Rattle.std.specs.Prelude.{◌≡◌, Some, IsSome, is_some};
+ghost use Rattle.mc_slot.specs.EndTurn.{cause_of};
 
 use mc_signal::{Descriptor, Medium, Selector, Signal};
 
@@ -38,6 +39,17 @@ pub enum State {
     Flowing,
     /// It has sent a close, and waits for the closeack.
     Closing,
+}
+
+/// What a goal's turn follows, where that makes a difference to the turn.
+#[derive(Clone, Copy, PartialEq, Eq, Debug)]
+pub enum Cause {
+    /// Anything that makes no difference.
+    Other,
+    /// The slot took a close that made it closed: a link passes the close on.
+    Close,
+    /// An end may open now: its goal is new, a retry came, or the slot took a closeack that made it closed.
+    Push,
 }
 
 /// One end of a tunnel: its state, its medium, whether it is on the side of the channel's initiator, and
@@ -193,5 +205,16 @@ impl Slot {
                 self.state = State::Closing;
             }
         }
+    }
+}
+
+/// What the goal's turn follows after a slot has taken a signal, by the slot's state then.
+pub fn cause_of(s: &Signal, after: State) -> Cause
+    ensures { result ≡ cause_of s.now after }
+{
+    match (s, after) {
+        (Signal::Close, State::Closed) => Cause::Close,
+        (Signal::Closeack, State::Closed) => Cause::Push,
+        _ => Cause::Other,
     }
 }

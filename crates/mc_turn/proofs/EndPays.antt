@@ -6,7 +6,7 @@ use Rattle.mc_signal.specs.declared.Selector.{Selector}
 use Rattle.mc_signal.specs.declared.Sender.{Sender}
 use Rattle.mc_signal.specs.declared.Signal.{Signal}
 use Rattle.mc_signal.specs.declared.Signal.TheVariants.{Open, Oack, Close, Closeack, Describe, Select}
-use Rattle.mc_slot.specs.EndTurn.{end_turn, pushes}
+use Rattle.mc_slot.specs.EndTurn.{end_turn, cause_of, is_push}
 use Rattle.mc_slot.specs.Moves.{answered, slot_send_all, slot_take}
 use Rattle.mc_slot.specs.Tunnel.{Kept}
 use Rattle.mc_slot.specs.declared.Goal.{Goal}
@@ -17,7 +17,7 @@ use Rattle.mc_turn.proofs.Weighing.{weigh, weigh_all, weigh_one, weigh_list, Pay
 -- the weights before and after
 abbrev pub Enough : Goal → Slot → Slot → Slot → Descriptor → Sender → Signal → Option Signal → (n b c y yn yb yc : ℕ) → Type 0
 Enough goal slot after last own me signal answer n b c y yn yb yc =
-    1 + weigh_all y yn yb yc (answered answer ++ end_turn goal after (pushes signal after.state) own me) + yc * stored_end goal last.state
+    1 + weigh_all y yn yb yc (answered answer ++ end_turn goal after (is_push (cause_of signal after.state)) own me) + yc * stored_end goal last.state
     ≤ weigh 1 n b c signal + yc * stored_end goal slot.state
 
 -- a select: the end sends nothing for it
@@ -29,13 +29,13 @@ select_pays goal slot after last own me s answer n b c y yn yb yc paid kept rest
 -- a closeack: the end opens, where it stored that
 closeack_pays : (goal : Goal) (slot after last : Slot) (own : Descriptor) (me : Sender) (answer : Option Signal) (n b c y yn yb yc : ℕ)
     → Pays n b c y yn yb yc → Kept slot → end_turn goal slot false own me ≡ [] → slot_take slot Closeack ≡ Some record { answer = answer; after = after }
-    → slot_send_all after (end_turn goal after (pushes Closeack after.state) own me) ≡ Some last → Enough goal slot after last own me Closeack answer n b c y yn yb yc
+    → slot_send_all after (end_turn goal after (is_push (cause_of Closeack after.state)) own me) ≡ Some last → Enough goal slot after last own me Closeack answer n b c y yn yb yc
 closeack_pays goal slot after last own me answer n b c y yn yb yc paid kept rest goes sends = grind (arith)
 
 -- a close: it is answered, and the end is closed or stays closing
 close_pays : (goal : Goal) (slot after last : Slot) (own : Descriptor) (me : Sender) (answer : Option Signal) (n b c y yn yb yc : ℕ)
     → Pays n b c y yn yb yc → Kept slot → end_turn goal slot false own me ≡ [] → slot_take slot Close ≡ Some record { answer = answer; after = after }
-    → slot_send_all after (end_turn goal after false own me) ≡ Some last → Enough goal slot after last own me Close answer n b c y yn yb yc
+    → slot_send_all after (end_turn goal after (is_push (cause_of Close after.state)) own me) ≡ Some last → Enough goal slot after last own me Close answer n b c y yn yb yc
 close_pays goal slot after last own me answer n b c y yn yb yc paid kept rest goes sends = grind (arith)
 
 -- an open: the end answers it, closes, or drops it
@@ -59,7 +59,7 @@ describe_pays goal slot after last own me d answer n b c y yn yb yc paid kept re
 -- by the signal
 by_signal : (signal : Signal) (goal : Goal) (slot after last : Slot) (own : Descriptor) (me : Sender) (answer : Option Signal) (n b c y yn yb yc : ℕ)
     → Pays n b c y yn yb yc → Kept slot → end_turn goal slot false own me ≡ [] → slot_take slot signal ≡ Some record { answer = answer; after = after }
-    → slot_send_all after (end_turn goal after (pushes signal after.state) own me) ≡ Some last → Enough goal slot after last own me signal answer n b c y yn yb yc
+    → slot_send_all after (end_turn goal after (is_push (cause_of signal after.state)) own me) ≡ Some last → Enough goal slot after last own me signal answer n b c y yn yb yc
 by_signal (Open medium d) goal slot after last own me answer n b c y yn yb yc paid kept rest goes sends = open_pays goal slot after last own me medium d answer n b c y yn yb yc paid kept rest goes sends
 by_signal (Oack d) goal slot after last own me answer n b c y yn yb yc paid kept rest goes sends = oack_pays goal slot after last own me d answer n b c y yn yb yc paid kept rest goes sends
 by_signal Close goal slot after last own me answer n b c y yn yb yc paid kept rest goes sends = close_pays goal slot after last own me answer n b c y yn yb yc paid kept rest goes sends
@@ -71,4 +71,4 @@ by_signal (Select s) goal slot after last own me answer n b c y yn yb yc paid ke
 pub end_pays : EndPays
 end_pays goal slot after last own me signal answer n y kept rest goes sends some less =
     let linear = by_signal signal goal slot after last own me answer n (n * n) (n * (n * n)) y (y * n) (y * (n * n)) (y * (n * (n * n))) (pays n y some less) kept rest goes sends in
-    omega (arith, linear, weigh_one n signal, weigh_list n y (answered answer ++ end_turn goal after (pushes signal after.state) own me))
+    omega (arith, linear, weigh_one n signal, weigh_list n y (answered answer ++ end_turn goal after (is_push (cause_of signal after.state)) own me))

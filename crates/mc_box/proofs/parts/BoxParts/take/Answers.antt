@@ -20,7 +20,7 @@ append-requires c =
     take_few (box_state c.args.self.now) c.args.local c.args.s c.take-answer.result c.take-answer.new.self _ c.requires.sound c.requires.here
     (took_there (box_state c.args.self.now) c.args.local c.index.result.now c.args.s c.take-answer.result c.take-answer.new.self
     (get_or_read c.args.self.now.slots.items c.args.local c.index.result.now c.requires.here c.index.ensures no_slot) c.take-answer.ensures)
-    (turn_there (box_state c.args.self.now) c.args.local c.args.s c.take-answer.new.self c.pushes.result c.closes_by.result _ c.pushes.ensures c.closes_by.ensures c.goal_step-turn.ensures.turn) in
+    (turn_there (box_state c.args.self.now) c.args.local c.args.s c.take-answer.new.self c.cause_of.result _ c.cause_of.ensures c.goal_step-turn.ensures.turn) in
     let fits : c.goal_step-turn.result.len ≤ length c.goal_step-turn.result.at = search rules in
     let size : length (sends_of c.goal_step-turn.result) ≡ c.goal_step-turn.result.len = sends_length c.goal_step-turn.result fits in
     omega (arith, few, size, c.answering-sends.ensures.len)
@@ -31,7 +31,7 @@ returns-clause-few c =
     take_few (box_state c.args.self.now) c.args.local c.args.s c.take-answer.result c.take-answer.new.self _ c.requires.sound c.requires.here
     (took_there (box_state c.args.self.now) c.args.local c.index.result.now c.args.s c.take-answer.result c.take-answer.new.self
     (get_or_read c.args.self.now.slots.items c.args.local c.index.result.now c.requires.here c.index.ensures no_slot) c.take-answer.ensures)
-    (turn_there (box_state c.args.self.now) c.args.local c.args.s c.take-answer.new.self c.pushes.result c.closes_by.result _ c.pushes.ensures c.closes_by.ensures c.goal_step-turn.ensures.turn) in
+    (turn_there (box_state c.args.self.now) c.args.local c.args.s c.take-answer.new.self c.cause_of.result _ c.cause_of.ensures c.goal_step-turn.ensures.turn) in
     let fits : c.goal_step-turn.result.len ≤ length c.goal_step-turn.result.at = search rules in
     let size : length (sends_of c.goal_step-turn.result) ≡ c.goal_step-turn.result.len = sends_length c.goal_step-turn.result fits in
     omega (arith, few, size, c.answering-sends.ensures.len, c.append.ensures.len)
