@@ -12,7 +12,7 @@ use Rattle.mc_slot.specs.declared.Cause.TheVariants.{Other, Push}
 use Rattle.mc_slot.specs.declared.Slot.{Slot}
 use Rattle.mc_slot.specs.declared.SlotGoal.{SlotGoal}
 use Rattle.mc_box.specs.Acting.{Acted, sends, takes, sent_by, BoxActs, IsSameMake}
-use Rattle.mc_box.specs.BoxEvents.{BoxStep, answering, goal_step, happening, with_hearing, is_enabled, last_version, media_step, set_step, take_step, with_talking}
+use Rattle.mc_box.specs.BoxEvents.{BoxStep, answering, goal_step, happening, with_hearing, is_enabled, media_step, set_step, take_step, with_talking}
 use Rattle.mc_box.specs.BoxShapes.{is_device}
 use Rattle.mc_box.specs.BoxSound.{IsSoundBox}
 use Rattle.mc_box.specs.Boxes.{BoxState, is_slot, media_at, no_media, no_slot, box_owes, slot_at, with_goals, with_media, with_slot}
@@ -23,6 +23,7 @@ use Rattle.mc_box.specs.declared.event.Event.{Event}
 use Rattle.mc_box.specs.declared.event.Event.TheVariants.{Take, Set, Media, Tell, Retry, Shift}
 use Rattle.mc_box.specs.declared.event.MediaChange.{MediaChange}
 use Rattle.mc_box.specs.declared.event.MediaChange.TheVariants.{Hear, Talk}
+use Rattle.mc_box.specs.declared.limit.TheConstants.{LAST_VERSION}
 use Rattle.mc_box.specs.declared.setup.SlotMedia.{SlotMedia}
 use Rattle.mc_box.proofs.Changes.{change_wired, length_goals_from, slot_inside}
 use Rattle.mc_box.proofs.Events.{event_goes, event_keeps_sound, media_wired, took_wired}
@@ -150,7 +151,7 @@ changed_sends box local media step sound here same goes =
 media_sends : (change : MediaChange) (box : BoxState) (step : BoxStep) → IsSoundBox box → is_enabled box (Media change) ≡ true → media_step box change ≡ Some step → Sends box step
 media_sends (Hear local on) box step sound enabled goes =
     let here = and_parts (is_device box.kind) (is_slot box local) enabled in
-    let turns = else_some ((media_at box local).version == last_version) (goal_step (with_media box local (with_hearing on (media_at box local))) local Other) step goes in
+    let turns = else_some ((media_at box local).version == LAST_VERSION) (goal_step (with_media box local (with_hearing on (media_at box local))) local Other) step goes in
     changed_sends box local (with_hearing on (media_at box local)) step sound (slot_inside box local here.1) refl turns.1
 media_sends (Talk local on) box step sound enabled goes =
     let here = and_parts (is_device box.kind) (is_slot box local) enabled in

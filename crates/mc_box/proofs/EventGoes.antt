@@ -6,7 +6,7 @@ use Rattle.mc_signal.specs.declared.Signal.{Signal}
 use Rattle.mc_slot.specs.EndTurn.{cause_of}
 use Rattle.mc_slot.specs.Moves.{slot_take, Took}
 use Rattle.mc_slot.specs.declared.Cause.TheVariants.{Other, Push}
-use Rattle.mc_box.specs.BoxEvents.{BoxStep, answering, box_event, goal_step, happening, with_hearing, is_enabled, is_take, is_version_end, last_version, take_step, with_talking}
+use Rattle.mc_box.specs.BoxEvents.{BoxStep, answering, box_event, goal_step, happening, with_hearing, is_enabled, is_take, is_version_end, take_step, with_talking}
 use Rattle.mc_box.specs.BoxSound.{IsSoundBox}
 use Rattle.mc_box.specs.Boxes.{BoxState, is_slot, media_at, slot_at, with_goals, with_media, with_slot}
 use Rattle.mc_box.specs.EventLaws.{EventGoes, EventWasEnabled, TakeGoes, TakeWasLawful, VersionEndStops}
@@ -15,6 +15,7 @@ use Rattle.mc_box.specs.declared.event.Event.{Event}
 use Rattle.mc_box.specs.declared.event.Event.TheVariants.{Take, Set, Media, Tell, Retry, Shift}
 use Rattle.mc_box.specs.declared.event.MediaChange.{MediaChange}
 use Rattle.mc_box.specs.declared.event.MediaChange.TheVariants.{Hear, Talk}
+use Rattle.mc_box.specs.declared.limit.TheConstants.{LAST_VERSION}
 use Rattle.mc_box.proofs.Changes.{change_wired, slot_inside}
 use Rattle.mc_box.proofs.Events.{event_goes as was_enabled, media_wired, took_wired}
 use Rattle.mc_box.proofs.Folds.{changed_inside}
@@ -59,7 +60,7 @@ true_is false is = absurd (cc)
 
 media_goes : (change : MediaChange) (box : BoxState) → IsSoundBox box → is_version_end box (Media change) ≡ false → IsSome (happening box (Media change))
 media_goes (Hear local on) box sound newer =
-    hear_by ((media_at box local).version == last_version) (goal_step (with_media box local (with_hearing on (media_at box local))) local Other) newer
+    hear_by ((media_at box local).version == LAST_VERSION) (goal_step (with_media box local (with_hearing on (media_at box local))) local Other) newer
     (turn_goes (with_media box local (with_hearing on (media_at box local))) local Other (media_wired box local (with_hearing on (media_at box local)) sound.wired))
 media_goes (Talk local on) box sound newer =
     turn_goes (with_media box local (with_talking on (media_at box local))) local Other (media_wired box local (with_talking on (media_at box local)) sound.wired)
@@ -102,7 +103,7 @@ stops : (event : Event) (box : BoxState) → is_version_end box event ≡ true �
 stops (Take local) box end = absurd (cc)
 stops (Set change) box end = absurd (cc)
 stops (Media (Hear local on)) box end =
-    stops_by ((media_at box local).version == last_version) (is_enabled box (Media (Hear local on))) (goal_step (with_media box local (with_hearing on (media_at box local))) local Other) end
+    stops_by ((media_at box local).version == LAST_VERSION) (is_enabled box (Media (Hear local on))) (goal_step (with_media box local (with_hearing on (media_at box local))) local Other) end
 stops (Media (Talk local on)) box end = absurd (cc)
 stops (Tell word) box end = absurd (cc)
 stops (Retry local) box end = absurd (cc)

@@ -13,7 +13,7 @@ use Rattle.mc_slot.specs.declared.Slot.{Slot}
 use Rattle.mc_slot.specs.declared.SlotGoal.{SlotGoal}
 use Rattle.mc_slot.specs.declared.SlotGoal.TheVariants.{End, Link}
 use Rattle.mc_tunnel.proofs.Steps.{took_kept, took_medium}
-use Rattle.mc_box.specs.BoxEvents.{BoxStep, answering, box_event, goal_step, happening, with_hearing, is_enabled, last_version, media_step, set_step, take_step, with_talking}
+use Rattle.mc_box.specs.BoxEvents.{BoxStep, answering, box_event, goal_step, happening, with_hearing, is_enabled, media_step, set_step, take_step, with_talking}
 use Rattle.mc_box.specs.BoxShapes.{is_device}
 use Rattle.mc_box.specs.BoxSound.{IsSoundBox, IsWired}
 use Rattle.mc_box.specs.Boxes.{BoxState, is_slot, no_media, no_slot, slot_at, goal_at, media_at, own_of, box_owes, sender_of, with_goals, with_media, with_slot}
@@ -24,6 +24,7 @@ use Rattle.mc_box.specs.declared.event.Event.{Event}
 use Rattle.mc_box.specs.declared.event.Event.TheVariants.{Take, Set, Media, Tell, Retry, Shift}
 use Rattle.mc_box.specs.declared.event.MediaChange.{MediaChange}
 use Rattle.mc_box.specs.declared.event.MediaChange.TheVariants.{Hear, Talk}
+use Rattle.mc_box.specs.declared.limit.TheConstants.{LAST_VERSION}
 use Rattle.mc_box.specs.declared.setup.SlotMedia.{SlotMedia}
 use Rattle.mc_box.proofs.Changes.{change_wired, slot_inside}
 use Rattle.mc_box.proofs.Folds.{goals_settle}
@@ -139,7 +140,7 @@ changed_done box local media step sound inside goes = record {
 media_done : (change : MediaChange) (box : BoxState) (step : BoxStep) → IsSoundBox box → is_enabled box (Media change) ≡ true → media_step box change ≡ Some step → Done box step
 media_done (Hear local on) box step sound enabled goes =
     let here = and_parts (is_device box.kind) (is_slot box local) enabled in
-    let turns = else_some ((media_at box local).version == last_version) (goal_step (with_media box local (with_hearing on (media_at box local))) local Other) step goes in
+    let turns = else_some ((media_at box local).version == LAST_VERSION) (goal_step (with_media box local (with_hearing on (media_at box local))) local Other) step goes in
     changed_done box local (with_hearing on (media_at box local)) step sound (slot_inside box local here.1) turns.1
 media_done (Talk local on) box step sound enabled goes =
     let here = and_parts (is_device box.kind) (is_slot box local) enabled in
@@ -169,22 +170,25 @@ event_goes (Tell word) box step goes = if_some (is_enabled box (Tell word)) (hap
 event_goes (Retry local) box step goes = if_some (is_enabled box (Retry local)) (happening box (Retry local)) step goes
 event_goes Shift box step goes = if_some (is_enabled box Shift) (happening box Shift) step goes
 
--- and one that takes a signal is a Take
-taking_goes : (event : Event) (box : BoxState) (signal : Signal) (step : BoxStep) → IsSoundBox box → box_event box event (Some signal) ≡ Some step → IsSoundBox step.after
-taking_goes (Take local) box signal step sound goes =
+-- and one that takes a signal is a Take of a slot that is there
+pub taking_is : (event : Event) (box : BoxState) (signal : Signal) (step : BoxStep) → box_event box event (Some signal) ≡ Some step
+    → (local : ℕ) × (event ≡ Take local) × (local < length box.slots) × (take_step box local signal ≡ Some step)
+taking_is (Take local) box signal step goes =
     let one = if_some (is_slot box local) (take_step box local signal) step goes in
-    take_sound box local signal step sound (slot_inside box local one.0) one.1
-taking_goes (Set change) box signal step sound goes = absurd (cc)
-taking_goes (Media change) box signal step sound goes = absurd (cc)
-taking_goes (Tell word) box signal step sound goes = absurd (cc)
-taking_goes (Retry local) box signal step sound goes = absurd (cc)
-taking_goes Shift box signal step sound goes = absurd (cc)
+    (local, refl, slot_inside box local one.0, one.1)
+taking_is (Set change) box signal step goes = absurd (cc)
+taking_is (Media change) box signal step goes = absurd (cc)
+taking_is (Tell word) box signal step goes = absurd (cc)
+taking_is (Retry local) box signal step goes = absurd (cc)
+taking_is Shift box signal step goes = absurd (cc)
 
 pub event_keeps_sound : EventKeepsSound
 event_keeps_sound box event None step sound goes =
     let one = event_goes event box step goes in
     (event_done event box step sound one.0 one.1).sound
-event_keeps_sound box event (Some signal) step sound goes = taking_goes event box signal step sound goes
+event_keeps_sound box event (Some signal) step sound goes =
+    let one = taking_is event box signal step goes in
+    take_sound box one.0 signal step sound one.2 one.3
 
 pub event_sends_twice : EventSendsTwice
 event_sends_twice box event step sound goes =

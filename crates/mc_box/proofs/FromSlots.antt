@@ -15,7 +15,7 @@ use Rattle.mc_slot.specs.declared.Cause.{Cause}
 use Rattle.mc_slot.specs.declared.Cause.TheVariants.{Other, Push}
 use Rattle.mc_slot.specs.declared.SlotGoal.{SlotGoal}
 use Rattle.mc_slot.specs.declared.SlotGoal.TheVariants.{End, Link}
-use Rattle.mc_box.specs.BoxEvents.{BoxStep, answering, box_event, followed, goal_step, happening, with_hearing, is_enabled, last_version, media_step, set_step, side_of, take_step, with_talking, goal_step_by, goal_steps}
+use Rattle.mc_box.specs.BoxEvents.{BoxStep, answering, followed, goal_step, happening, with_hearing, is_enabled, media_step, set_step, side_of, take_step, with_talking, goal_step_by, goal_steps}
 use Rattle.mc_box.specs.BoxShapes.{is_device}
 use Rattle.mc_box.specs.BoxSound.{IsSoundBox, IsWired}
 use Rattle.mc_box.specs.Boxes.{BoxState, goal_at, is_slot, media_at, own, box_owes, sender, slot_at, with_goals, with_media, with_slot}
@@ -26,13 +26,14 @@ use Rattle.mc_box.specs.declared.event.Event.{Event}
 use Rattle.mc_box.specs.declared.event.Event.TheVariants.{Take, Set, Media, Tell, Retry, Shift}
 use Rattle.mc_box.specs.declared.event.MediaChange.{MediaChange}
 use Rattle.mc_box.specs.declared.event.MediaChange.TheVariants.{Hear, Talk}
+use Rattle.mc_box.specs.declared.limit.TheConstants.{LAST_VERSION}
 use Rattle.mc_box.specs.declared.setup.SlotMedia.{SlotMedia}
 use Rattle.mc_box.proofs.Changes.{change_wired, slot_inside}
-use Rattle.mc_box.proofs.Events.{event_goes, media_wired, took_wired}
+use Rattle.mc_box.proofs.Events.{event_goes, media_wired, taking_is, took_wired}
 use Rattle.mc_box.proofs.Folds.{changed_inside, AreInside}
 use Rattle.mc_box.proofs.GoalTurns.{end_form, pair_form, turned}
 use Rattle.mc_box.proofs.Held.{at_max, at_min}
-use Rattle.mc_box.proofs.Options.{else_some, if_some, map_some, then_some}
+use Rattle.mc_box.proofs.Options.{else_some, map_some, then_some}
 
 -- each sending has a number below this one
 abbrev AreBelow : ℕ → List (ℕ × Signal) → Type 0
@@ -122,7 +123,7 @@ media_below : (change : MediaChange) (box : BoxState) (step : BoxStep) → IsSou
     → AreBelow (length box.slots) step.sent
 media_below (Hear local on) box step sound enabled goes =
     let here = and_parts (is_device box.kind) (is_slot box local) enabled in
-    let turns = else_some ((media_at box local).version == last_version) (goal_step (with_media box local (with_hearing on (media_at box local))) local Other) step goes in
+    let turns = else_some ((media_at box local).version == LAST_VERSION) (goal_step (with_media box local (with_hearing on (media_at box local))) local Other) step goes in
     changed_below box local (with_hearing on (media_at box local)) step sound (slot_inside box local here.1) turns.1
 media_below (Talk local on) box step sound enabled goes =
     let here = and_parts (is_device box.kind) (is_slot box local) enabled in
@@ -140,20 +141,10 @@ event_below (Retry local) box step sound enabled goes =
     turn_below box local Push step sound.wired (slot_inside box local here.0) goes
 event_below Shift box step sound enabled goes = absurd (cc)
 
--- and one that takes a signal, which is a Take
-taking_below : (event : Event) (box : BoxState) (signal : Signal) (step : BoxStep) → IsSoundBox box → box_event box event (Some signal) ≡ Some step
-    → AreBelow (length box.slots) step.sent
-taking_below (Take local) box signal step sound goes =
-    let one = if_some (is_slot box local) (take_step box local signal) step goes in
-    take_below box local signal step sound (slot_inside box local one.0) one.1
-taking_below (Set change) box signal step sound goes = absurd (cc)
-taking_below (Media change) box signal step sound goes = absurd (cc)
-taking_below (Tell word) box signal step sound goes = absurd (cc)
-taking_below (Retry local) box signal step sound goes = absurd (cc)
-taking_below Shift box signal step sound goes = absurd (cc)
-
 pub event_sends_from_slots : EventSendsFromSlots
 event_sends_from_slots box event None step sound goes =
     let one = event_goes event box step goes in
     event_below event box step sound one.0 one.1
-event_sends_from_slots box event (Some signal) step sound goes = taking_below event box signal step sound goes
+event_sends_from_slots box event (Some signal) step sound goes =
+    let one = taking_is event box signal step goes in
+    take_below box one.0 signal step sound one.2 one.3

@@ -17,6 +17,7 @@ use Rattle.mc_box.specs.Boxes.{BoxState, no_slot, slot_at, goal_at, media_at, ow
 use Rattle.mc_box.specs.declared.event.Kind.{Kind}
 use Rattle.mc_box.specs.declared.event.Kind.TheVariants.{Device, Feature}
 use Rattle.mc_box.specs.declared.setup.SlotMedia.{SlotMedia}
+use Rattle.mc_box.specs.declared.limit.TheConstants.{SLOT_LIMIT}
 
 -- ---- numbers
 
@@ -72,7 +73,7 @@ pub wired_slots : (box : BoxState) (slots : List Slot) → IsWired box → lengt
     → ((k : ℕ) → Kept (get_or slots k no_slot) × ((get_or slots k no_slot).medium ≡ (slot_at box k).medium)) → IsWired (with_slots box slots)
 wired_slots box slots wired size each = record {
   whole = record { goals = wired.whole.goals ∙ sym size; media = wired.whole.media ∙ sym size };
-  few = subst (λ (n : ℕ). n ≤ 64) (sym size) wired.few;
+  few = subst (λ (n : ℕ). n ≤ SLOT_LIMIT) (sym size) wired.few;
   address = wired.address;
   kept = λ k. (each k).0;
   links = λ local partner is. record {

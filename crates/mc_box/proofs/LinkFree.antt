@@ -20,7 +20,7 @@ use Rattle.mc_slot.specs.declared.Goal.TheVariants.{Close as ToClose}
 use Rattle.mc_slot.specs.declared.Slot.{Slot}
 use Rattle.mc_slot.specs.declared.SlotGoal.{SlotGoal}
 use Rattle.mc_slot.specs.declared.SlotGoal.TheVariants.{End, Link}
-use Rattle.mc_box.specs.BoxEvents.{BoxStep, answering, box_event, followed, goal_step, happening, with_hearing, last_version, take_step, goal_step_by, goal_steps}
+use Rattle.mc_box.specs.BoxEvents.{BoxStep, answering, box_event, followed, goal_step, happening, with_hearing, take_step, goal_step_by, goal_steps}
 use Rattle.mc_box.specs.BoxSound.{IsWired}
 use Rattle.mc_box.specs.Boxes.{BoxState, IsBox, first_box, is_slot, media_at, no_slot, own, sender, slot_at, goal_at, with_goals, with_media, with_slot}
 use Rattle.mc_box.specs.Goals.{changed_from, changed_slots, goal_after, change_goals, has_turn, parted}
@@ -32,9 +32,10 @@ use Rattle.mc_box.specs.declared.event.Kind.{Kind}
 use Rattle.mc_box.specs.declared.event.Kind.TheVariants.{Device, Feature}
 use Rattle.mc_box.specs.declared.event.MediaChange.{MediaChange}
 use Rattle.mc_box.specs.declared.event.MediaChange.TheVariants.{Hear, Talk}
+use Rattle.mc_box.specs.declared.limit.TheConstants.{LAST_VERSION}
 use Rattle.mc_box.specs.declared.setup.SlotSetup.{SlotSetup}
 use Rattle.mc_box.proofs.Changes.{at_goals_after, length_goals_from, slot_inside}
-use Rattle.mc_box.proofs.Events.{event_goes}
+use Rattle.mc_box.proofs.Events.{event_goes, taking_is}
 use Rattle.mc_box.proofs.GoalTurns.{end_form}
 use Rattle.mc_box.proofs.Held.{own_put, sender_put}
 use Rattle.mc_box.proofs.NewBoxes.{new_goal}
@@ -151,7 +152,7 @@ free_same box after same free = subst (λ (l : List SlotGoal). AreEnds l) (sym s
 
 media_free : (change : MediaChange) (box : BoxState) (step : BoxStep) → IsUnlinked box → happening box (Media change) ≡ Some step → IsUnlinked step.after
 media_free (Hear local on) box step free goes =
-    let turns = else_some ((media_at box local).version == last_version) (goal_step (with_media box local (with_hearing on (media_at box local))) local Other) step goes in
+    let turns = else_some ((media_at box local).version == LAST_VERSION) (goal_step (with_media box local (with_hearing on (media_at box local))) local Other) step goes in
     free_same box step.after (turn_goals (with_media box local (with_hearing on (media_at box local))) local Other step free turns.1) free
 media_free (Talk local on) box step free goes =
     free_same box step.after (turn_goals _ local Other step free goes) free
@@ -177,17 +178,11 @@ take_free box local signal step free goes =
     (ap (λ (s : BoxStep). s.after.goals) (sym two.2)
     ∙ turn_goals (with_slot box local one.0.after) local (cause_of signal one.0.after.state) two.0 free two.1) free
 
-taking_free : (event : Event) (box : BoxState) (signal : Signal) (step : BoxStep) → IsUnlinked box → box_event box event (Some signal) ≡ Some step → IsUnlinked step.after
-taking_free (Take local) box signal step free goes = take_free box local signal step free (if_some (is_slot box local) (take_step box local signal) step goes).1
-taking_free (Set change) box signal step free goes = absurd (cc)
-taking_free (Media change) box signal step free goes = absurd (cc)
-taking_free (Tell word) box signal step free goes = absurd (cc)
-taking_free (Retry local) box signal step free goes = absurd (cc)
-taking_free Shift box signal step free goes = absurd (cc)
-
 pub event_keeps_link_free : EventKeepsLinkFree
 event_keeps_link_free box event None step free other goes = happens_free event box step free other (event_goes event box step goes).1
-event_keeps_link_free box event (Some signal) step free other goes = taking_free event box signal step free goes
+event_keeps_link_free box event (Some signal) step free other goes =
+    let one = taking_is event box signal step goes in
+    take_free box one.0 signal step free one.3
 
 -- ---- the turn of an end
 

@@ -18,6 +18,7 @@ use Rattle.mc_box.specs.BoxSound.{IsLinked, IsSoundBox, RestsAt}
 use Rattle.mc_box.specs.Boxes.{BoxState, IsNewBox, first_box, first_slot, first_goal, first_media, no_slot, slot_at, goal_at, own, sender}
 use Rattle.mc_box.specs.declared.event.Kind.{Kind}
 use Rattle.mc_box.specs.declared.setup.SlotSetup.{SlotSetup}
+use Rattle.mc_box.specs.declared.limit.TheConstants.{SLOT_LIMIT}
 
 -- a new slot keeps nothing
 new_kept : (setups : List SlotSetup) (local : ℕ) → Kept (get_or (map first_slot setups) local no_slot)
@@ -52,7 +53,7 @@ unlinked box local partner one two = absurd (cc)
 
 new_sound : (box : BoxState) (setups : List SlotSetup) (version : ℕ)
     → box.slots ≡ map first_slot setups → box.goals ≡ map first_goal setups → box.media ≡ map (first_media version) setups
-    → length setups ≤ 64 → address_of box.number < 2 ^ 32 → IsSoundBox box
+    → length setups ≤ SLOT_LIMIT → address_of box.number < 2 ^ 32 → IsSoundBox box
 new_sound box setups version slots goals media few address =
     let goal_is = λ (local : ℕ). ap (λ (l : List SlotGoal). get_or l local (End ToClose)) goals ∙ new_goal setups local in
     record {
@@ -68,14 +69,14 @@ new_sound box setups version slots goals media few address =
     }
 
 pub first_sound : (box : BoxState) (kind : Kind) (number : ℕ) (receives sends : CodecList) (version : ℕ) (setups : List SlotSetup)
-    → length setups ≤ 64 → address_of number < 2 ^ 32 → box ≡ first_box kind number receives sends version setups → IsSoundBox box
+    → length setups ≤ SLOT_LIMIT → address_of number < 2 ^ 32 → box ≡ first_box kind number receives sends version setups → IsSoundBox box
 first_sound box kind number receives sends version setups few address is =
     subst (λ (b : BoxState). IsSoundBox b) (sym is)
     (new_sound (first_box kind number receives sends version setups) setups version refl refl refl few address)
 
 -- whatever a box is made of, it is new
 pub first_is_new : (kind : Kind) (number : ℕ) (receives sends : CodecList) (version : ℕ) (setups : List SlotSetup)
-    → length setups ≤ 64 → address_of number < 2 ^ 32 → IsNewBox (first_box kind number receives sends version setups)
+    → length setups ≤ SLOT_LIMIT → address_of number < 2 ^ 32 → IsNewBox (first_box kind number receives sends version setups)
 first_is_new kind number receives sends version setups few address = record { version = version; setups = setups; few = few; address = address; is = refl }
 
 -- and a box that is new is sound

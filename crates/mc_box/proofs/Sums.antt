@@ -1,7 +1,7 @@
 -- Turns of changed goals send at most twice as many signals as there are slots.
-use Rattle.std.proofs.Common.{◌≡◌, ◌≢◌, ◌<◌, ◌≤◌, ◌+◌, ◌*◌, ℕ, Bool, true, false, not, if◌then◌else◌, inl, inr, zero, suc, List, [], ◌∷◌, length, nat_le, nat_lt, refl, ap, sym, ◌∙◌, subst, arith, add-one}
+use Rattle.std.proofs.Common.{◌≡◌, ◌≢◌, ◌<◌, ◌≤◌, ◌+◌, ◌*◌, ℕ, Bool, true, false, not, if◌then◌else◌, inl, inr, zero, suc, List, [], ◌∷◌, length, nat_le, nat_lt, refl, ap, sym, ◌∙◌, subst, arith}
 use Rattle.std.proofs.Math.ListN.{get_or}
-use Rattle.std.proofs.lemmas.Bool.{cases_eq, cases_lt, and_parts, le-leb, lt-leb, lt-ltb, le-ltb}
+use Rattle.std.proofs.lemmas.Bool.{cases_lt, and_parts, le-leb, lt-leb, lt-ltb, le-ltb}
 use Rattle.mc_slot.specs.Same.{is_same_slot_goal}
 use Rattle.mc_turn.specs.Sums.{total}
 use Rattle.mc_turn.proofs.Sums.{total_grows, total_next, total_none, total_one, total_same}

@@ -7,12 +7,13 @@ use Rattle.mc_link.specs.declared.Side.TheVariants.{First, Second}
 use Rattle.mc_signal.specs.declared.Signal.{Signal}
 use Rattle.mc_slot.specs.EndTurn.{end_turn, cause_of, is_push}
 use Rattle.mc_slot.specs.Moves.{slot_take, slot_send_all, answered, is_same_medium}
-use Rattle.mc_slot.specs.Sending.{pair_of}
+use Rattle.mc_slot.specs.Sending.{pair_of, sends_of}
 use Rattle.mc_slot.specs.declared.Cause.{Cause}
 use Rattle.mc_slot.specs.declared.Cause.TheVariants.{Other, Push}
 use Rattle.mc_slot.specs.declared.Goal.{Goal}
 use Rattle.mc_slot.specs.declared.SlotGoal.{SlotGoal}
 use Rattle.mc_slot.specs.declared.SlotGoal.TheVariants.{End, Link}
+use Rattle.mc_slot.specs.declared.sends.Sends.{Sends}
 use Rattle.mc_box.specs.BoxShapes.{is_device, is_feature}
 use Rattle.mc_box.specs.Boxes.{BoxState, is_slot, slot_at, goal_at, media_at, with_goals, with_media, with_slot, own, sender, box_owes}
 use Rattle.mc_box.specs.Goals.{changed_slots, change_goals}
@@ -21,13 +22,19 @@ use Rattle.mc_box.specs.declared.event.Change.TheVariants.{End as NewEnd, Link a
 use Rattle.mc_box.specs.declared.event.Event.{Event}
 use Rattle.mc_box.specs.declared.event.Event.TheVariants.{Take, Set, Media, Tell, Retry}
 use Rattle.mc_box.specs.declared.event.MediaChange.{MediaChange}
+use Rattle.mc_box.specs.declared.event.Turn.{Turn}
 use Rattle.mc_box.specs.declared.event.MediaChange.TheVariants.{Hear, Talk}
+use Rattle.mc_box.specs.declared.limit.TheConstants.{LAST_VERSION}
 use Rattle.mc_box.specs.declared.setup.SlotMedia.{SlotMedia}
 
 -- the signals that a box sends in an event, each with the local number of its slot, in the order of sending; and the box after it
 pub record BoxStep : Type 0 where
   pub sent : List (ℕ × Signal)
   pub after : BoxState
+
+-- the step that sends this, and after which the box is this one
+abbrev pub step_of : Sends → BoxState → BoxStep
+step_of sends after = record { sent = sends_of sends; after = after }
 
 -- ---- the turn of a goal
 
@@ -85,18 +92,18 @@ abbrev pub goal_steps : BoxState → List ℕ → Option BoxStep
 goal_steps box [] = Some (record { sent = []; after = box })
 goal_steps box (local ∷ locals) = option_and_then (λ step. option_map (followed step.sent) (goal_steps step.after locals)) (goal_step box local Push)
 
+-- each goal that isn't as it was has its turn
+abbrev pub changed_steps : BoxState → List SlotGoal → Option BoxStep
+changed_steps box olds = goal_steps box (changed_slots olds box.goals)
+
 -- the box gets new goals, and each that has changed has its turn
 abbrev pub goals_step : BoxState → List SlotGoal → Option BoxStep
-goals_step box goals = goal_steps (with_goals box goals) (changed_slots box.goals goals)
+goals_step box goals = changed_steps (with_goals box goals) box.goals
 
 abbrev pub set_step : BoxState → Change → Option BoxStep
 set_step box change = goals_step box (change_goals box.goals change)
 
 -- ---- a device's media change
-
--- no version comes after this one
-abbrev pub last_version : ℕ
-last_version = 4294967295
 
 -- hearing is set, which makes the descriptor a newer one, also where the flag stays
 abbrev pub with_hearing : Bool → SlotMedia → SlotMedia
@@ -106,12 +113,23 @@ with_hearing on media = record media { version = media.version + 1; hears = on }
 abbrev pub with_talking : Bool → SlotMedia → SlotMedia
 with_talking on media = record media { talks = on }
 
--- the flag is set, and the goal of the slot has its turn
+-- the media of a slot are set, and its goal has its turn
+abbrev pub change_media : BoxState → ℕ → SlotMedia → Option BoxStep
+change_media box local media = goal_step (with_media box local media) local Other
+
+-- hearing is set, where there is a newer version
+abbrev pub hear_step : BoxState → ℕ → Bool → Option BoxStep
+hear_step box local on =
+    if (media_at box local).version == LAST_VERSION then None else change_media box local (with_hearing on (media_at box local))
+
+-- talking is set
+abbrev pub talk_step : BoxState → ℕ → Bool → Option BoxStep
+talk_step box local on = change_media box local (with_talking on (media_at box local))
+
+-- a media flag is set
 abbrev pub media_step : BoxState → MediaChange → Option BoxStep
-media_step box (Hear local on) =
-    if (media_at box local).version == last_version then None
-    else goal_step (with_media box local (with_hearing on (media_at box local))) local Other
-media_step box (Talk local on) = goal_step (with_media box local (with_talking on (media_at box local))) local Other
+media_step box (Hear local on) = hear_step box local on
+media_step box (Talk local on) = talk_step box local on
 
 -- ---- an event
 
@@ -146,7 +164,7 @@ box_event box event (Some signal) = None
 
 -- a Hear has no case where its slot's version is the last
 abbrev pub is_version_end : BoxState → Event → Bool
-is_version_end box (Media (Hear local on)) = (media_at box local).version == last_version
+is_version_end box (Media (Hear local on)) = (media_at box local).version == LAST_VERSION
 is_version_end box event = false
 
 abbrev pub is_take : Event → Bool
@@ -159,6 +177,10 @@ is_command (Set change) = true
 is_command (Media change) = true
 is_command (Tell word) = true
 is_command event = false
+
+-- an event, and the box that it happens to
+abbrev pub turn_of : ℕ → Event → Turn
+turn_of who event = record { who = who; event = event }
 
 -- a step was made: the box is this one after it, and what it sends is appended to what was there
 pub record Appends (made : Option BoxStep) (after : BoxState) (before items : List (ℕ × Signal)) : Type 0 where

@@ -1,13 +1,17 @@
 -- What every box keeps, and a box's fields as clauses see them.
-use Rattle.std.specs.Prelude.{◌≡◌, ◌≢◌, ℕ, ◌^◌, ◌<◌, ◌≤◌, length, max, min}
+use Rattle.std.specs.Prelude.{◌≡◌, ◌≢◌, ℕ, ◌^◌, ◌<◌, ◌≤◌, length, max, min, Option}
 use Rattle.mc_link.specs.LinkTurn.{IsLinkAtRest}
 use Rattle.mc_signal.specs.Own.{address_of}
 use Rattle.mc_slot.specs.EndTurn.{IsAtRest}
 use Rattle.mc_slot.specs.Tunnel.{Kept}
 use Rattle.mc_slot.specs.declared.SlotGoal.{SlotGoal}
 use Rattle.mc_slot.specs.declared.SlotGoal.TheVariants.{End, Link}
+use Rattle.mc_lane.specs.Queue.{Queue}
+use Rattle.mc_signal.specs.declared.Signal.{Signal}
+use Rattle.mc_box.specs.BoxEvents.{Appends, BoxStep}
 use Rattle.mc_box.specs.Boxes.{BoxState, IsBox, slot_at, goal_at, own, sender}
 use Rattle.mc_box.specs.declared.event.Kind.TheVariants.{Feature}
+use Rattle.mc_box.specs.declared.limit.TheConstants.{SLOT_LIMIT}
 use Rattle.mc_box.specs.declared.parts.BoxParts.{BoxParts}
 
 -- a linked slot of a feature and its partner, another slot of the same medium, which is linked with it
@@ -21,7 +25,7 @@ pub record IsLinked (box : BoxState) (local partner : ℕ) : Type 0 where
 -- each slot has its goal and its media, local numbers and the address fit, each slot keeps what its state allows, and links are mutual
 pub record IsWired (box : BoxState) : Type 0 where
   pub whole : IsBox box
-  pub few : length box.slots ≤ 64
+  pub few : length box.slots ≤ SLOT_LIMIT
   pub address : address_of box.number < 2 ^ 32
   pub kept : (local : ℕ) → Kept (slot_at box local)
   pub links : (local partner : ℕ) → goal_at box local ≡ Link partner → IsLinked box local partner
@@ -46,3 +50,7 @@ box_state parts = record {
   goals = parts.goals.items;
   media = parts.media.items;
 }
+
+-- the parts of a box made a step, and what it sends is appended to a queue
+abbrev pub AppendsTo : Option BoxStep → BoxParts → Queue (ℕ × Signal) → Queue (ℕ × Signal) → Type 0
+AppendsTo made after old new = Appends made (box_state after) old.items new.items

@@ -14,6 +14,8 @@ use Rattle.mc_slot.specs.declared.SlotGoal.{SlotGoal}
 use Rattle.mc_slot.specs.declared.SlotGoal.TheVariants.{End, Link}
 use Rattle.mc_box.specs.declared.event.Kind.{Kind}
 use Rattle.mc_box.specs.declared.event.Kind.TheVariants.{Device, Feature}
+use Rattle.mc_box.specs.declared.limit.TheConstants.{SLOT_LIMIT}
+use Rattle.mc_box.specs.declared.setup.Setup.{Setup}
 use Rattle.mc_box.specs.declared.setup.SlotMedia.{SlotMedia}
 use Rattle.mc_box.specs.declared.setup.SlotSetup.{SlotSetup}
 
@@ -112,11 +114,15 @@ first_box kind number receives sends version setups = record {
   media = map (first_media version) setups;
 }
 
+-- the new box of a setup
+abbrev pub set_up : Setup → BoxState
+set_up setup = first_box setup.kind setup.number setup.codecs setup.sends setup.first_version setup.slots.items
+
 -- a box is new, within the limits: some version and slots give it
 pub record IsNewBox (box : BoxState) : Type 0 where
   pub version : ℕ
   pub setups : List SlotSetup
-  pub few : length setups ≤ 64
+  pub few : length setups ≤ SLOT_LIMIT
   pub address : address_of box.number < 2 ^ 32
   pub is : box ≡ first_box box.kind box.number box.receives box.sends version setups
 

@@ -1,20 +1,20 @@
 // The events of a box that take no signal.
 
 ghost use Rattle.std.specs.Prelude.{◌≡◌, ◌≢◌, ◌+◌, ◌*◌, ◌-◌, ◌^◌, ◌<◌, ◌≤◌, ◌++◌, length, true, false, is_err, IsTrue, IsFalse, OnErr, OnOk};
-ghost use Rattle.mc_slot.specs.Sending.{sends_of};
-ghost use Rattle.mc_box.specs.BoxEvents.{box_event, goal_step, with_hearing, is_enabled, is_take, is_version_end, media_step, set_step, with_talking, goal_steps, Appends};
-ghost use Rattle.mc_box.specs.BoxSound.{box_state, IsSoundBox, IsWired};
+ghost use Rattle.mc_box.specs.BoxEvents.{box_event, changed_steps, goal_step, hear_step, is_enabled, is_take, is_version_end, change_media, set_step, talk_step};
+ghost use Rattle.mc_box.specs.BoxSound.{box_state, AppendsTo, IsSoundBox, IsWired};
 ghost use Rattle.mc_box.specs.Boxes.{media_at, with_media};
 ghost use Rattle.mc_box.specs.Goals.{changed_slots};
 
 use crate::event::{Change, Event, MediaChange};
 use crate::goals::{change_goals, has_turn};
+use crate::limit::{LAST_VERSION, SLOT_LIMIT};
 use crate::media_box::VersionEnd;
 use crate::parts::BoxParts;
 use crate::setup::SlotMedia;
 use mc_lane::Lane;
 use mc_signal::Signal;
-use mc_slot::{Cause, Goal, Sends, SlotGoal};
+use mc_slot::{Cause, Goal, SlotGoal};
 
 impl BoxParts {
     // A goal has its turn, which no signal brought.
@@ -23,43 +23,43 @@ impl BoxParts {
         requires taken_none { cause ≢ Cause.Close }
         requires here { local < length self.old.slots.items }
         requires space { 2 * length self.old.slots.items ≤ out.old.spare }
-        ensures sent { Appends (goal_step (box_state self.old) local cause) (box_state self.new) out.old.items out.new.items }
+        ensures sent { AppendsTo (goal_step (box_state self.old) local cause) self.new out.old out.new }
         ensures room { out.new.spare + length out.new.items ≡ out.old.spare + length out.old.items }
     {
         let turn = self.goal_step(local, cause);
-        send_out(&turn, out);
+        out.push_all(turn.as_slice());
     }
 
     // The goals that have changed have their turns one after another, each pushed.
-    fn goal_steps(&mut self, old: &[SlotGoal], out: &mut Lane<(u8, Signal)>)
+    fn changed_steps(&mut self, old: &[SlotGoal], out: &mut Lane<(u8, Signal)>)
         requires wired { IsWired (box_state self.old) }
         requires olds { length old.now ≡ length self.old.slots.items }
         requires space { 2 * length self.old.slots.items ≤ out.old.spare }
-        ensures sent { Appends (goal_steps (box_state self.old) (changed_slots old.now self.old.goals.items)) (box_state self.new) out.old.items out.new.items }
+        ensures sent { AppendsTo (changed_steps (box_state self.old) old.now) self.new out.old out.new }
         ensures room { out.new.spare + length out.new.items ≡ out.old.spare + length out.old.items }
     {
         for i in 0..old.len() {
             if has_turn(i as u8, old[i], self.goals[i]) {
                 let turn = self.goal_step(i as u8, Cause::Push);
-                send_out(&turn, out);
+                out.push_all(turn.as_slice());
             }
         }
     }
 
     // Goals change, and each that has changed has its turn.
-    fn set(&mut self, change: Change, out: &mut Lane<(u8, Signal)>)
+    fn set_step(&mut self, change: Change, out: &mut Lane<(u8, Signal)>)
         requires sound { IsSoundBox (box_state self.old) }
         requires enabled { IsTrue (is_enabled (box_state self.old) (Event.Set change)) }
         requires space { 2 * length self.old.slots.items ≤ out.old.spare }
-        ensures sent { Appends (set_step (box_state self.old) change) (box_state self.new) out.old.items out.new.items }
+        ensures sent { AppendsTo (set_step (box_state self.old) change) self.new out.old out.new }
         ensures room { out.new.spare + length out.new.items ≡ out.old.spare + length out.old.items }
     {
         let count = self.goals.len();
-        let mut former = [SlotGoal::End(Goal::Close); 64];
+        let mut former = [SlotGoal::End(Goal::Close); SLOT_LIMIT];
         let old = &mut former[..count];
         old.copy_from_slice(&self.goals);
         change_goals(&mut self.goals, change);
-        self.goal_steps(old, out);
+        self.changed_steps(old, out);
     }
 
     // What a slot's descriptors are made of changes, and its goal has its turn.
@@ -67,7 +67,7 @@ impl BoxParts {
         requires wired { IsWired (box_state self.old) }
         requires here { local < length self.old.slots.items }
         requires space { 2 * length self.old.slots.items ≤ out.old.spare }
-        ensures sent { Appends (goal_step (with_media (box_state self.old) local media) local Cause.Other) (box_state self.new) out.old.items out.new.items }
+        ensures sent { AppendsTo (change_media (box_state self.old) local media) self.new out.old out.new }
         ensures room { out.new.spare + length out.new.items ≡ out.old.spare + length out.old.items }
     {
         self.media[local as usize] = media;
@@ -75,17 +75,22 @@ impl BoxParts {
     }
 
     // Hearing is set, which makes the slot's descriptor a newer one.
-    fn hear(&mut self, local: u8, on: bool, out: &mut Lane<(u8, Signal)>) -> Result<(), VersionEnd>
+    fn hear_step(
+        &mut self,
+        local: u8,
+        on: bool,
+        out: &mut Lane<(u8, Signal)>,
+    ) -> Result<(), VersionEnd>
         requires wired { IsWired (box_state self.old) }
         requires here { local < length self.old.slots.items }
         requires space { 2 * length self.old.slots.items ≤ out.old.spare }
-        ensures sent { OnOk result (Appends (media_step (box_state self.old) (MediaChange.Hear local on)) (box_state self.new) out.old.items out.new.items) }
+        ensures sent { OnOk result (AppendsTo (hear_step (box_state self.old) local on) self.new out.old out.new) }
         ensures end { is_err result ≡ is_version_end (box_state self.old) (Event.Media (MediaChange.Hear local on)) }
         ensures unchanged { OnErr result ((box_state self.new ≡ box_state self.old) × (out.new ≡ out.old)) }
         ensures room { out.new.spare + length out.new.items ≡ out.old.spare + length out.old.items }
     {
         let media = self.media[local as usize];
-        if media.version == u32::MAX {
+        if media.version == LAST_VERSION {
             return Err(VersionEnd);
         }
         let newer = SlotMedia {
@@ -99,11 +104,11 @@ impl BoxParts {
     }
 
     // Talking is set, which leaves the slot's descriptor.
-    fn talk(&mut self, local: u8, on: bool, out: &mut Lane<(u8, Signal)>)
+    fn talk_step(&mut self, local: u8, on: bool, out: &mut Lane<(u8, Signal)>)
         requires wired { IsWired (box_state self.old) }
         requires here { local < length self.old.slots.items }
         requires space { 2 * length self.old.slots.items ≤ out.old.spare }
-        ensures sent { Appends (media_step (box_state self.old) (MediaChange.Talk local on)) (box_state self.new) out.old.items out.new.items }
+        ensures sent { AppendsTo (talk_step (box_state self.old) local on) self.new out.old out.new }
         ensures room { out.new.spare + length out.new.items ≡ out.old.spare + length out.old.items }
     {
         let media = self.media[local as usize];
@@ -122,19 +127,19 @@ impl BoxParts {
         requires enabled { IsTrue (is_enabled (box_state self.old) e) }
         requires takes_nothing { IsFalse (is_take e) }
         requires space { 2 * length self.old.slots.items ≤ out.old.spare }
-        ensures sent { OnOk result (Appends (box_event (box_state self.old) e None) (box_state self.new) out.old.items out.new.items) }
+        ensures sent { OnOk result (AppendsTo (box_event (box_state self.old) e None) self.new out.old out.new) }
         ensures end { is_err result ≡ is_version_end (box_state self.old) e }
         ensures unchanged { OnErr result ((box_state self.new ≡ box_state self.old) × (out.new ≡ out.old)) }
         ensures room { out.new.spare + length out.new.items ≡ out.old.spare + length out.old.items }
     {
         match e {
             Event::Set(change) => {
-                self.set(change, out);
+                self.set_step(change, out);
                 Ok(())
             }
-            Event::Media(MediaChange::Hear(local, on)) => self.hear(local, on, out),
+            Event::Media(MediaChange::Hear(local, on)) => self.hear_step(local, on, out),
             Event::Media(MediaChange::Talk(local, on)) => {
-                self.talk(local, on, out);
+                self.talk_step(local, on, out);
                 Ok(())
             }
             Event::Retry(local) => {
@@ -143,16 +148,5 @@ impl BoxParts {
             }
             Event::Take(_) | Event::Tell(_) | Event::Shift => unreachable!(),
         }
-    }
-}
-
-// What a turn sends is appended, where there is room for it.
-fn send_out(sends: &Sends, out: &mut Lane<(u8, Signal)>)
-    requires { sends.now.len ≤ out.old.spare }
-    ensures items { out.new.items ≡ out.old.items ++ sends_of sends.now }
-    ensures room { out.new.spare + sends.now.len ≡ out.old.spare }
-{
-    for sending in &sends.at[..sends.len as usize] {
-        out.push(*sending);
     }
 }

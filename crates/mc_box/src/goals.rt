@@ -2,6 +2,7 @@
 
 ghost use Rattle.std.specs.Prelude.{◌≡◌, ◌≤◌, ◌++◌, length, take};
 ghost use Rattle.mc_box.specs.Goals.{goal_after, change_goals, has_turn, leads, parted};
+ghost use Rattle.mc_box.specs.declared.limit.TheConstants.{SLOT_LIMIT};
 
 use crate::event::Change;
 use mc_slot::{Goal, SlotGoal};
@@ -49,7 +50,7 @@ pub fn goal_after(change: Change, local: u8, old: SlotGoal) -> SlotGoal
 
 /// Changes all goals.
 pub fn change_goals(goals: &mut [SlotGoal], change: Change)
-    requires { length goals.old ≤ 64 }
+    requires { length goals.old ≤ SLOT_LIMIT }
     ensures { goals.new ≡ change_goals goals.old change }
 {
     for i in 0..goals.len() {

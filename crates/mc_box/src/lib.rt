@@ -5,6 +5,7 @@ mod acts;
 mod event;
 mod goals;
 pub mod laws;
+pub mod limit;
 mod media_box;
 mod parts;
 mod setup;

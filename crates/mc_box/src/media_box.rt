@@ -3,10 +3,10 @@
 ghost use Rattle.std.specs.Prelude.{◌≡◌, ◌+◌, ◌*◌, ◌^◌, ◌<◌, ◌≤◌, length, is_err, IfOk, IsFalse, IsSome, IsTrue, None, OnErr, OnOk, Some};
 ghost use Rattle.mc_signal.specs.Own.{address_of};
 ghost use Rattle.mc_slot.specs.Moves.{slot_take};
-ghost use Rattle.mc_slot.specs.Sending.{sends_of};
-ghost use Rattle.mc_box.specs.BoxEvents.{box_event, is_enabled, is_take, is_version_end, may_link, Appends};
+ghost use Rattle.mc_box.specs.BoxEvents.{box_event, is_enabled, is_take, is_version_end, may_link, step_of, Appends};
 ghost use Rattle.mc_box.specs.BoxSound.{IsSoundBox};
-ghost use Rattle.mc_box.specs.Boxes.{first_box, goal_at, is_slot, box_owes, own, sender, slot_at};
+ghost use Rattle.mc_box.specs.Boxes.{goal_at, is_slot, box_owes, own, sender, set_up, slot_at};
+ghost use Rattle.mc_box.specs.declared.limit.TheConstants.{SLOT_LIMIT};
 
 use crate::event::{Change, Event, Kind, MediaChange};
 use crate::parts::BoxParts;
@@ -43,9 +43,9 @@ impl Model for MediaBox {
 impl MediaBox {
     /// A new box: its slots are closed, its goals are close, and it hears and talks on every slot.
     pub fn new(alloc: Global, setup: Setup) -> Result<MediaBox, AllocError>
-        requires few { length setup.slots.items ≤ 64 }
+        requires few { length setup.slots.items ≤ SLOT_LIMIT }
         requires address { address_of setup.number < 2 ^ 32 }
-        ensures { IfOk result (λ made. made ≡ first_box setup.kind setup.number setup.codecs setup.sends setup.first_version setup.slots.items) }
+        ensures { IfOk result (λ made. made ≡ set_up setup) }
     {
         Ok(MediaBox {
             parts: BoxParts::new(alloc, setup)?,
@@ -77,7 +77,7 @@ impl MediaBox {
     /// The slots, by their local numbers. There are at most 64.
     pub fn slots(&self) -> &[Slot]
         ensures slots { result.now ≡ self.now.slots }
-        ensures few { length result.now ≤ 64 }
+        ensures few { length result.now ≤ SLOT_LIMIT }
     {
         &self.parts.slots
     }
@@ -141,7 +141,7 @@ impl MediaBox {
     pub fn take(&mut self, slot: u8, s: Signal) -> Sends
         requires here { slot < length self.old.slots }
         requires lawful { IsSome (slot_take (slot_at self.old slot) s) }
-        ensures event { box_event self.old (Event.Take slot) (Some s) ≡ Some record { sent = sends_of result; after = self.new } }
+        ensures event { box_event self.old (Event.Take slot) (Some s) ≡ Some (step_of result self.new) }
         ensures few { result.len ≤ 3 }
     {
         self.parts.take(slot, s)

@@ -4,7 +4,7 @@ ghost use Rattle.std.specs.Prelude.{◌≡◌, ◌^◌, ◌<◌, ◌≤◌, if�
 ghost use Rattle.mc_signal.specs.Empty.{no_codecs};
 ghost use Rattle.mc_signal.specs.Own.{port_of};
 ghost use Rattle.mc_box.specs.BoxSound.{box_state, IsWired};
-ghost use Rattle.mc_box.specs.Boxes.{first_box, first_slot, first_goal, first_media, own, sender};
+ghost use Rattle.mc_box.specs.Boxes.{first_slot, first_goal, first_media, own, sender, set_up};
 
 use crate::event::Kind;
 use crate::setup::{Setup, SlotMedia, SlotSetup};
@@ -27,7 +27,7 @@ pub struct BoxParts {
 impl BoxParts {
     /// The parts of a new box.
     pub fn new(alloc: Global, setup: Setup) -> Result<BoxParts, AllocError>
-        ensures { IfOk result (λ made. box_state made ≡ first_box setup.kind setup.number setup.codecs setup.sends setup.first_version setup.slots.items) }
+        ensures { IfOk result (λ made. box_state made ≡ set_up setup) }
     {
         Ok(BoxParts {
             kind: setup.kind,

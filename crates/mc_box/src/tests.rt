@@ -91,7 +91,7 @@ fn takes_signal(rt: &impl Abort, part: &mut MediaBox, slot: u8, s: Signal, want:
     assert!(rt; (slot as usize) < part.slots().len());
     assert!(rt; part.slots()[slot as usize].lawful(&s));
     let sends = part.take(slot, s);
-    assert_eq!(rt; &sends.at[..sends.len as usize], want);
+    assert_eq!(rt; sends.as_slice(), want);
 }
 
 #[test]

@@ -5,7 +5,7 @@ ghost use Rattle.mc_link.specs.LinkTurn.{NamesClosed, closed_side};
 ghost use Rattle.mc_slot.specs.Moves.{answered, slot_take};
 ghost use Rattle.mc_slot.specs.Sending.{pair_of, sends_of};
 ghost use Rattle.mc_slot.specs.declared.State.TheVariants.{Closed};
-ghost use Rattle.mc_box.specs.BoxEvents.{end_step, goal_step, link_step, pair_step, side_of, take_step};
+ghost use Rattle.mc_box.specs.BoxEvents.{end_step, goal_step, link_step, pair_step, side_of, step_of, take_step};
 ghost use Rattle.mc_box.specs.BoxSound.{box_state, IsSoundBox, IsWired};
 ghost use Rattle.mc_box.specs.Boxes.{goal_at, slot_at};
 ghost use Rattle.mc_box.specs.Goals.{most_signals};
@@ -21,7 +21,7 @@ impl BoxParts {
     fn end_step(&mut self, local: u8, goal: Goal, cause: Cause) -> Sends
         requires wired { IsWired (box_state self.old) }
         requires here { local < length self.old.slots.items }
-        ensures turn { end_step goal (box_state self.old) local cause ≡ Some record { sent = sends_of result; after = box_state self.new } }
+        ensures turn { end_step goal (box_state self.old) local cause ≡ Some (step_of result (box_state self.new)) }
         ensures few { result.len ≤ 2 }
     {
         let own = self.own(local);
@@ -40,7 +40,7 @@ impl BoxParts {
         requires here { high < length self.old.slots.items }
         requires medium { (slot_at (box_state self.old) low).medium ≡ (slot_at (box_state self.old) high).medium }
         requires closed { NamesClosed closed (slot_at (box_state self.old) low) (slot_at (box_state self.old) high) }
-        ensures { pair_step (box_state self.old) low high closed ≡ Some record { sent = sends_of result; after = box_state self.new } }
+        ensures { pair_step (box_state self.old) low high closed ≡ Some (step_of result (box_state self.new)) }
     {
         let mut first = self.slots[low as usize];
         let mut second = self.slots[high as usize];
@@ -56,7 +56,7 @@ impl BoxParts {
         requires here { local < length self.old.slots.items }
         requires linked { goal_at (box_state self.old) local ≡ SlotGoal.Link partner }
         requires closed { cause ≡ Cause.Close → (slot_at (box_state self.old) local).state ≡ Closed }
-        ensures { link_step (box_state self.old) local partner cause ≡ Some record { sent = sends_of result; after = box_state self.new } }
+        ensures { link_step (box_state self.old) local partner cause ≡ Some (step_of result (box_state self.new)) }
     {
         let side = closed_side(cause, side_of(local, partner));
         self.pair_step(local.min(partner), local.max(partner), side)
@@ -67,7 +67,7 @@ impl BoxParts {
         requires wired { IsWired (box_state self.old) }
         requires here { local < length self.old.slots.items }
         requires closed { cause ≡ Cause.Close → (slot_at (box_state self.old) local).state ≡ Closed }
-        ensures turn { goal_step (box_state self.old) local cause ≡ Some record { sent = sends_of result; after = box_state self.new } }
+        ensures turn { goal_step (box_state self.old) local cause ≡ Some (step_of result (box_state self.new)) }
         ensures few { result.len ≤ most_signals (goal_at (box_state self.old) local) }
     {
         match self.goals[local as usize] {
@@ -81,15 +81,15 @@ impl BoxParts {
         requires sound { IsSoundBox (box_state self.old) }
         requires here { local < length self.old.slots.items }
         requires lawful { IsSome (slot_take (slot_at (box_state self.old) local) s) }
-        ensures step { take_step (box_state self.old) local s ≡ Some record { sent = sends_of result; after = box_state self.new } }
+        ensures step { take_step (box_state self.old) local s ≡ Some (step_of result (box_state self.new)) }
         ensures few { result.len ≤ 3 }
     {
         let mut slot = self.slots[local as usize];
         let answer = slot.take(s);
         self.slots[local as usize] = slot;
-        let mut sends = answering(local, answer);
+        let mut sends = Sends::answer(local, answer);
         let turn = self.goal_step(local, cause_of(&s, slot.state));
-        append(&mut sends, &turn);
+        sends.append(&turn);
         sends
     }
 }
@@ -112,28 +112,5 @@ fn closed_side(cause: Cause, side: Side) -> Option<Side>
     match cause {
         Cause::Close => Some(side),
         Cause::Other | Cause::Push => None,
-    }
-}
-
-// What a slot answers.
-fn answering(no: u8, answer: Option<Signal>) -> Sends
-    ensures sends { sends_of result ≡ map (pair_of no) (answered answer) }
-    ensures len { result.len ≡ length (answered answer) }
-{
-    let mut sends = Sends::none();
-    if let Some(answer) = answer {
-        sends.push(no, answer);
-    }
-    sends
-}
-
-// Adds what was sent after that.
-fn append(sends: &mut Sends, more: &Sends)
-    requires { sends.old.len + more.now.len ≤ 4 }
-    ensures sent { sends_of sends.new ≡ sends_of sends.old ++ sends_of more.now }
-    ensures len { sends.new.len ≡ sends.old.len + more.now.len }
-{
-    for sending in &more.at[..more.len as usize] {
-        sends.push(sending.0, sending.1);
     }
 }

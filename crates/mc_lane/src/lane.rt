@@ -1,5 +1,6 @@
 // A queue with reserved room.
-ghost use Rattle.std.specs.Prelude.{◌≡◌, ◌==◌, ◌+◌, ◌<◌, ◌≤◌, [], ◌∷◌, ◌++◌, length, slice_get, IfNone, IsOk, MatchOption, OnErr, OnOk};
+ghost use Rattle.std.specs.Prelude.{◌≡◌, ◌==◌, ◌+◌, ◌<◌, ◌≤◌, [], ◌∷◌, ◌++◌, length, slice_get, IfNone, IsOk, OnErr, OnOk};
+ghost use Rattle.mc_lane.specs.Queue.{TakesFirst};
 
 use std::alloc::{AllocError, Global};
 use std::collections::VecDeque;
@@ -62,9 +63,20 @@ impl<T: Copy> Lane<T> {
         self.queue.push_back_reserved(item);
     }
 
+    /// Puts items last, in their order, into room that was asked for.
+    pub fn push_all(&mut self, items: &[T])
+        requires { length items.now ≤ self.old.spare }
+        ensures items { self.new.items ≡ self.old.items ++ items.now }
+        ensures room { self.new.spare + length items.now ≡ self.old.spare }
+    {
+        for item in items {
+            self.push(*item);
+        }
+    }
+
     /// Takes the first item, where there is one.
     pub fn pop(&mut self) -> Option<T>
-        ensures item { MatchOption result ((self.old.items ≡ []) × (self.new.items ≡ [])) (λ item. self.old.items ≡ item ∷ self.new.items) }
+        ensures item { TakesFirst result self.old.items self.new.items }
         ensures room { self.old.spare ≤ self.new.spare }
     {
         self.queue.pop_front()

@@ -17,7 +17,7 @@ fn items_come_out_in_their_order(rt: HostRuntime) -> Result<(), Fail> {
     lane.reserve(1)?;
     lane.push((3, true));
     lane.reserve(1)?;
-    lane.push((4, false));
+    lane.push_all(&[(4, false)]);
     assert_eq!(rt; lane.len(), 3);
     assert_eq!(rt; lane.get(0), (2, false));
     assert_eq!(rt; lane.get(2), (4, false));

@@ -4,7 +4,8 @@
 ghost use Rattle.std.specs.Prelude.{◌≡◌, ◌+◌, ◌<◌, ◌≤◌, ◌++◌, [], ◌∷◌, Some, IsSome, IsTrue, length, map};
 ghost use Rattle.mc_link.specs.LinkTurn.{NamesClosed, can_close, open_with, pass_descriptor, pass_selector, flow, lean, link_turn, sent_by_first, sent_by_second, numbered};
 ghost use Rattle.mc_slot.specs.Moves.{is_live, slot_send, slot_send_all};
-ghost use Rattle.mc_slot.specs.Sending.{sends_of, pair_of};
+ghost use Rattle.mc_slot.specs.Sending.{Adds, sends_of, pair_of};
+ghost use Rattle.mc_slot.specs.declared.sends.TheConstants.{SENDS_LIMIT};
 
 use mc_signal::{Descriptor, Selector, Signal, answers};
 use mc_slot::{Sends, Slot, State};
@@ -127,13 +128,13 @@ fn flow(a: &mut Slot, an: u8, b: &mut Slot, bn: u8) -> Sends
 fn pass_descriptor(slot: &mut Slot, no: u8, got: Option<Descriptor>, sends: &mut Sends)
     requires live { IsTrue (is_live slot.old.state) }
     requires got { IsSome got }
-    requires room { sends.old.len < 4 }
+    requires room { sends.old.len < SENDS_LIMIT }
     ensures after { slot_send_all slot.old (pass_descriptor slot.old.state slot.old.sent got) ≡ Some slot.new }
     ensures flowing { slot.new.state ≡ State.Flowing }
     ensures got { slot.new.got ≡ slot.old.got }
     ensures sel_in { slot.new.sel_in ≡ slot.old.sel_in }
     ensures sel_out { slot.new.sel_out ≡ slot.old.sel_out }
-    ensures sends { sends_of sends.new ≡ sends_of sends.old ++ map (pair_of no) (pass_descriptor slot.old.state slot.old.sent got) }
+    ensures sends { Adds sends.old sends.new no (pass_descriptor slot.old.state slot.old.sent got) }
     ensures len { sends.new.len ≡ sends.old.len + length (pass_descriptor slot.old.state slot.old.sent got) }
     ensures few { sends.new.len ≤ sends.old.len + 1 }
 {
@@ -151,10 +152,10 @@ fn pass_descriptor(slot: &mut Slot, no: u8, got: Option<Descriptor>, sends: &mut
 // A flowing slot passes on the selector that the other slot got, where it answers this slot's descriptor and is new.
 fn pass_selector(slot: &mut Slot, no: u8, heard: Option<Selector>, sends: &mut Sends)
     requires flowing { slot.old.state ≡ State.Flowing }
-    requires room { sends.old.len < 4 }
+    requires room { sends.old.len < SENDS_LIMIT }
     ensures after { slot_send_all slot.old (pass_selector heard slot.old.got slot.old.sel_out) ≡ Some slot.new }
     ensures sel_in { slot.new.sel_in ≡ slot.old.sel_in }
-    ensures sends { sends_of sends.new ≡ sends_of sends.old ++ map (pair_of no) (pass_selector heard slot.old.got slot.old.sel_out) }
+    ensures sends { Adds sends.old sends.new no (pass_selector heard slot.old.got slot.old.sel_out) }
     ensures len { sends.new.len ≡ sends.old.len + length (pass_selector heard slot.old.got slot.old.sel_out) }
     ensures few { sends.new.len ≤ sends.old.len + 1 }
 {

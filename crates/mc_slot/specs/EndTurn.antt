@@ -66,7 +66,7 @@ owes_in goal state = false
 abbrev pub owes : Goal → Slot → Bool
 owes goal slot = owes_in goal slot.state
 
--- what the turn of a goal follows, by the signal that its slot took and the state after that
+-- what a goal turn follows, by the signal that its slot took and the state after that
 abbrev pub cause_of : Signal → State → Cause
 cause_of Close Closed = ByClose
 cause_of Closeack Closed = Push

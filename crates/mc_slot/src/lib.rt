@@ -9,7 +9,7 @@ use mc_signal::{Descriptor, Medium, Selector, Signal};
 pub mod laws;
 mod sends;
 
-pub use sends::Sends;
+pub use sends::{SENDS_LIMIT, Sends};
 
 /// What an end of a path is to reach: media, no media, or what the other end asks for.
 #[derive(Clone, Copy, PartialEq, Eq, Debug)]
@@ -41,7 +41,7 @@ pub enum State {
     Closing,
 }
 
-/// What a goal's turn follows, where that makes a difference to the turn.
+/// What a goal turn follows, where that makes a difference to the turn.
 #[derive(Clone, Copy, PartialEq, Eq, Debug)]
 pub enum Cause {
     /// Anything that makes no difference.
@@ -208,7 +208,7 @@ impl Slot {
     }
 }
 
-/// What the goal's turn follows after a slot has taken a signal, by the slot's state then.
+/// What the goal turn follows after a slot has taken a signal, by the slot's state then.
 pub fn cause_of(s: &Signal, after: State) -> Cause
     ensures { result ≡ cause_of s.now after }
 {

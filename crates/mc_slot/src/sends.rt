@@ -2,8 +2,12 @@
 
 ghost use Rattle.std.specs.Prelude.{◌≡◌, ◌+◌, ◌-◌, ◌<◌, ◌≤◌};
 ghost use Rattle.mc_slot.specs.Blank.{AreUnused};
+ghost use Rattle.mc_slot.specs.declared.sends.TheConstants.{SENDS_LIMIT};
 
 use mc_signal::Signal;
+
+/// The most signals that one turn sends.
+pub const SENDS_LIMIT: usize = 4;
 
 /// At most four signals, each with the local number of the slot that sends it, in the order of sending.
 ///
@@ -11,13 +15,14 @@ use mc_signal::Signal;
 #[derive(Clone, Copy, PartialEq, Eq, Debug)]
 pub struct Sends {
     pub len: u8,
-    pub at: [(u8, Signal); 4],
-    pub ghost short: { len ≤ 4 },
+    pub at: [(u8, Signal); SENDS_LIMIT],
+    pub ghost short: { len ≤ SENDS_LIMIT },
     pub ghost blank: { AreUnused len at },
 }
 
 impl Sends {
-    ghost use Rattle.std.specs.Prelude.{◌++◌, [], ◌∷◌, length};
+    ghost use Rattle.std.specs.Prelude.{◌++◌, [], ◌∷◌, length, map};
+    ghost use Rattle.mc_slot.specs.Moves.{answered};
     ghost use Rattle.mc_slot.specs.Sending.{sends_of, pair_of};
 
     /// Nothing is sent.
@@ -26,17 +31,48 @@ impl Sends {
     {
         Sends {
             len: 0,
-            at: [(0, Signal::Close); 4],
+            at: [(0, Signal::Close); SENDS_LIMIT],
         }
+    }
+
+    /// What a slot answers.
+    pub fn answer(no: u8, answer: Option<Signal>) -> Sends
+        ensures sends { sends_of result ≡ map (pair_of no) (answered answer) }
+        ensures len { result.len ≡ length (answered answer) }
+    {
+        let mut sends = Sends::none();
+        if let Some(answer) = answer {
+            sends.push(no, answer);
+        }
+        sends
+    }
+
+    /// What is sent, in order.
+    pub fn as_slice(&self) -> &[(u8, Signal)]
+        ensures sends { result.now ≡ sends_of self.now }
+        ensures len { length result.now ≡ self.now.len }
+    {
+        &self.at[..self.len as usize]
     }
 
     /// Adds one signal more, sent by the slot with this local number.
     pub fn push(&mut self, no: u8, s: Signal)
-        requires { self.old.len < 4 }
+        requires { self.old.len < SENDS_LIMIT }
         ensures sent { sends_of self.new ≡ sends_of self.old ++ pair_of no s ∷ [] }
         ensures len { self.new.len ≡ self.old.len + 1 }
     {
         self.at[self.len as usize] = (no, s);
         self.len += 1;
+    }
+
+    /// Adds what is sent after that.
+    pub fn append(&mut self, more: &Sends)
+        requires { self.old.len + more.now.len ≤ SENDS_LIMIT }
+        ensures sent { sends_of self.new ≡ sends_of self.old ++ sends_of more.now }
+        ensures len { self.new.len ≡ self.old.len + more.now.len }
+    {
+        for sending in more.as_slice() {
+            self.push(sending.0, sending.1);
+        }
     }
 }

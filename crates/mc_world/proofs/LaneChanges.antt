@@ -1,10 +1,10 @@
 -- The signals of lanes, where one of them changes.
-use Rattle.std.proofs.Common.{◌≡◌, ℕ, ◌<◌, ◌≤◌, zero, suc, List, [], ◌∷◌, ◌++◌, drop, length, get_or, MatchOption, Option, Some, None, slice_get, Vec, refl, ap, sym, subst, ◌∙◌, arith}
+use Rattle.std.proofs.Common.{◌≡◌, ℕ, ◌<◌, ◌≤◌, zero, suc, List, [], ◌∷◌, ◌++◌, drop, length, get_or, Option, Some, None, slice_get, Vec, refl, ap, sym, subst, ◌∙◌, arith}
 use Rattle.std.proofs.Math.ListN.{set}
 use Rattle.std.specs.declared.alloc.Global.{Global}
 use Rattle.std.specs.Vec.{with_items}
 use Rattle.std.proofs.lemmas.List.{map-set, set-get_or, with_items_is}
-use Rattle.mc_lane.specs.Queue.{Queue}
+use Rattle.mc_lane.specs.Queue.{Queue, TakesFirst}
 use Rattle.mc_signal.specs.declared.Tagged.{Tagged}
 use Rattle.mc_world.specs.Lanes.{HasRoomFrom, signals_of}
 use Rattle.mc_world.specs.declared.topology.Topology.{Topology}
@@ -27,7 +27,7 @@ pub signals_stay : (lanes : List Lane) (k : ℕ) (d new : Lane) → k < length l
 signals_stay lanes k d new here same = rw (signals_of-set lanes k new, same, ← signals_at lanes k d here) (set-get_or (signals_of lanes) k [])
 
 -- what a pop leaves
-pub popped_is : (old new : List Tagged) (result : Option Tagged) → MatchOption result ((old ≡ []) × (new ≡ [])) (λ item. old ≡ item ∷ new) → new ≡ drop 1 old
+pub popped_is : (old new : List Tagged) (result : Option Tagged) → TakesFirst result old new → new ≡ drop 1 old
 popped_is old new None none = rw (none.0, none.1) refl
 popped_is old new (Some item) is = rw is refl
 

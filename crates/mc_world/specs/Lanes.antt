@@ -1,5 +1,5 @@
 -- Lanes as they change, by the tables of a world.
-use Rattle.std.specs.Prelude.{ℕ, ◌≡◌, ◌+◌, ◌*◌, ◌/◌, ◌%◌, ◌<◌, ◌≤◌, List, [], ◌∷◌, ◌++◌, drop, fold, length, map, position, slice_index_or, slice_set, HoldsAt, Some, unwrap_or}
+use Rattle.std.specs.Prelude.{ℕ, Bool, if◌then◌else◌, ◌≡◌, ◌+◌, ◌*◌, ◌/◌, ◌%◌, ◌<◌, ◌≤◌, List, [], ◌∷◌, ◌++◌, drop, fold, length, map, position, slice_index_or, slice_set, HoldsAt, Some, unwrap_or}
 use Rattle.std.specs.List.{slice_get}
 use Rattle.std.specs.Option.{option_map}
 use Rattle.mc_lane.specs.Queue.{Queue}
@@ -12,6 +12,10 @@ use Rattle.mc_world.specs.declared.topology.Topology.{Topology}
 -- the signals of each lane
 abbrev pub signals_of : List (Queue Tagged) → List (List Tagged)
 signals_of lanes = map (λ lane. lane.items) lanes
+
+-- the lane of a channel to its initiator, or to the other end
+abbrev pub lane_number : ℕ → Bool → ℕ
+lane_number channel to_initiator = 2 * channel + (if to_initiator then 0 else 1)
 
 -- the front leaves a lane
 abbrev pub without_front : List (List Tagged) → ℕ → List (List Tagged)
@@ -52,6 +56,10 @@ one_sent topology who lanes sending = unwrap_or (option_map (λ s. with_sending 
 -- and so does all that it sends, in the order of sending
 abbrev pub all_sent : Topology → ℕ → List (List Tagged) → List (ℕ × Signal) → List (List Tagged)
 all_sent topology who lanes sendings = fold (one_sent topology who) lanes sendings
+
+-- the front leaves a lane, and then what a box sends goes away
+abbrev pub relay : Topology → ℕ → List (List Tagged) → ℕ → List (ℕ × Signal) → List (List Tagged)
+relay topology who lanes lane sent = all_sent topology who (without_front lanes lane) sent
 
 -- ---- room
 

@@ -1,9 +1,10 @@
 -- What a world keeps: the tables beside its boxes and channels, and that it is sound.
-use Rattle.std.specs.Prelude.{◌≡◌, ℕ, ◌*◌, ◌^◌, ◌≤◌, length, map, position}
+use Rattle.std.specs.Prelude.{◌≡◌, ℕ, List, ◌*◌, ◌^◌, ◌≤◌, length, map, position}
 use Rattle.std.specs.List.{slice_get}
 use Rattle.mc_world.specs.Lanes.{numbers_of}
 use Rattle.mc_model.specs.Sound.{IsSound}
-use Rattle.mc_model.specs.Worlds.{AreChannels, TunnelPlace, WorldState, is_place, tunnels_from, places_among}
+use Rattle.mc_model.specs.Worlds.{AreChannels, TunnelPlace, WorldState, is_place, tunnels_from, tunnels_within, places_among}
+use Rattle.mc_model.specs.declared.channel.Tunnel.{Tunnel}
 use Rattle.mc_world.specs.declared.network.World.TheInside.{Inside}
 
 abbrev pub world_state : Inside → WorldState
@@ -12,6 +13,10 @@ world_state inside = record { boxes = inside.boxes.items; channels = inside.chan
 -- the channel of a tunnel, and its number within the channel
 abbrev pub channel_of : TunnelPlace → ℕ × ℕ
 channel_of tunnel = (tunnel.channel, tunnel.within)
+
+-- the same of each tunnel of one channel
+abbrev pub tunnels_by : ℕ → List Tunnel → List (ℕ × ℕ)
+tunnels_by channel tunnels = map channel_of (tunnels_within channel 0 tunnels)
 
 -- the channels are within the limits, places and channels are found by number, numbers of slots by their boxes, those numbers fit, each channel has its two lanes, and the world is sound
 pub record HasTables (inside : Inside) : Type 0 where

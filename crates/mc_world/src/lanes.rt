@@ -2,7 +2,7 @@
 
 ghost use Rattle.std.specs.Prelude.{◌≡◌, ℕ, ◌+◌, ◌<◌, [], length, slice_index_or, OnOk};
 ghost use Rattle.mc_slot.specs.Sending.{sends_of};
-ghost use Rattle.mc_world.specs.Lanes.{signals_of, without_front, one_sent, all_sent, IsLaid, HasRoom, HasRoomFrom};
+ghost use Rattle.mc_world.specs.Lanes.{signals_of, without_front, one_sent, all_sent, relay, IsLaid, HasRoom, HasRoomFrom};
 
 use crate::topology::Topology;
 use mc_lane::Lane;
@@ -35,7 +35,7 @@ pub fn send_all(lanes: &mut [Lane<Tagged>], topology: &Topology, who: u32, sends
     requires room { HasRoomFrom lanes.old topology.now who (length topology.now.places.items) sends.now.len }
     ensures { signals_of lanes.new ≡ all_sent topology.now who (signals_of lanes.old) (sends_of sends.now) }
 {
-    for sending in &sends.at[..sends.len as usize] {
+    for sending in sends.as_slice() {
         send(lanes, topology, who, sending.0, sending.1);
     }
 }
@@ -63,7 +63,7 @@ pub fn relay(lanes: &mut [Lane<Tagged>], lane: usize, topology: &Topology, who: 
     requires here { lane < length lanes.old }
     requires some { 0 < length (slice_index_or (signals_of lanes.old) lane []) }
     requires room { HasRoomFrom lanes.old topology.now who (length topology.now.places.items) sends.now.len }
-    ensures { signals_of lanes.new ≡ all_sent topology.now who (without_front (signals_of lanes.old) lane) (sends_of sends.now) }
+    ensures { signals_of lanes.new ≡ relay topology.now who (signals_of lanes.old) lane (sends_of sends.now) }
 {
     pop_front(lanes, lane);
     send_all(lanes, topology, who, sends);

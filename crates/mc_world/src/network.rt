@@ -5,7 +5,8 @@ ghost use Rattle.std.specs.List.{list_all};
 ghost use Rattle.mc_model.specs.Settles.{is_quiet, rests};
 ghost use Rattle.mc_model.specs.Sound.{IsNumbered, IsSound};
 ghost use Rattle.mc_model.specs.Setups.{AreNew};
-ghost use Rattle.mc_world.specs.Tables.{channel_of};
+ghost use Rattle.mc_world.specs.Lanes.{lane_number};
+ghost use Rattle.mc_world.specs.Tables.{channel_of, tunnels_by};
 ghost use Rattle.mc_model.specs.Worlds.{AreChannels, tunnel_limit, first_world, slot_count, place, number, far, tunnel_of, lane_of, front, front_for, slot_of, goal_of, places_among, places_within, tunnels_from, tunnels_within};
 
 mod rings;
@@ -160,7 +161,7 @@ impl World {
     /// The signals under way in a channel, to its initiator or to the other end.
     pub fn lane(&self, channel: u32, to_initiator: bool) -> &Lane<Tagged>
         requires { channel < length self.now.channels }
-        ensures { result.now.items ≡ slice_index_or self.now.lanes (2 * channel + (if to_initiator then 0 else 1)) [] }
+        ensures { result.now.items ≡ slice_index_or self.now.lanes (lane_number channel to_initiator) [] }
     {
         &self.lanes[2 * channel as usize + usize::from(!to_initiator)]
     }
@@ -270,7 +271,7 @@ fn add_tunnels(
     places: &mut Vec<(u32, u8)>,
 ) -> Result<(), AllocError>
     requires { length tunnels.now ≤ tunnel_limit }
-    ensures { OnOk result (places.new.items ≡ places.old.items ++ map channel_of (tunnels_within channel 0 tunnels.now)) }
+    ensures { OnOk result (places.new.items ≡ places.old.items ++ tunnels_by channel tunnels.now) }
 {
     for within in 0..tunnels.len() {
         places.push((channel, within as u8))?;

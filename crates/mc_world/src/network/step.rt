@@ -1,21 +1,19 @@
 // One step of a world.
 
 ghost use Rattle.std.specs.Prelude.{◌≡◌, ◌↔◌, ◌<◌, Some, None, false, length, IsFalse, IsTrue, OnOk, OnErr};
-ghost use Rattle.mc_box.specs.BoxEvents.{is_enabled, is_take, is_version_end};
+ghost use Rattle.mc_box.specs.BoxEvents.{is_enabled, is_take, is_version_end, turn_of};
 ghost use Rattle.mc_model.specs.Sound.{IsSound};
-ghost use Rattle.mc_world.specs.StepAnswers.{Answers};
-ghost use Rattle.mc_model.specs.Steps.{ends_version, ends_version_at};
-ghost use Rattle.mc_model.specs.Steps.{step, step_by};
+ghost use Rattle.mc_world.specs.StepAnswers.{Answers, CannotHappen, LacksVersion};
+ghost use Rattle.mc_model.specs.Steps.{ends_version_at, step, step_by};
 ghost use Rattle.mc_world.specs.declared.network.step.StepFault.TheVariants.{NoMemory};
 
 use super::World;
 use crate::lanes::{make_room, relay, send_lane};
+use mc_box::limit::LAST_VERSION;
 use mc_box::{Event, MediaBox, MediaChange};
 use mc_lane::Lane;
+use mc_slot::SENDS_LIMIT;
 use std::alloc::AllocError;
-
-// For how many signals a Take asks for room: as many as `Sends` holds.
-const MOST_SENT: usize = 4;
 
 /// Why a step isn't made.
 #[derive(Debug, Drop)]
@@ -38,15 +36,13 @@ impl From<AllocError> for StepFault {
 impl World {
     /// One event of one box, where it's enabled. What the box sends is under way then.
     pub fn step(&mut self, who: u32, event: Event) -> Result<(), StepFault>
-        ensures ok { OnOk result (step self.old (record { who = who; event = event }) ≡ Some self.new) }
+        ensures ok { OnOk result (step self.old (turn_of who event) ≡ Some self.new) }
         ensures unchanged { OnErr result (self.new ≡ self.old) }
 
         // An event that has no step is refused: as VersionEnd where it is a Hear that could happen but for the last
         // version, and else as NotEnabled.
-        ensures version_end { (result ≡ Err StepFault.VersionEnd)
-            ↔ ((step self.old (record { who = who; event = event }) ≡ None) × IsTrue (ends_version self.old (record { who = who; event = event }))) }
-        ensures not_enabled { (result ≡ Err StepFault.NotEnabled)
-            ↔ ((step self.old (record { who = who; event = event }) ≡ None) × IsFalse (ends_version self.old (record { who = who; event = event }))) }
+        ensures version_end { (result ≡ Err StepFault.VersionEnd) ↔ LacksVersion self.old (turn_of who event) }
+        ensures not_enabled { (result ≡ Err StepFault.NotEnabled) ↔ CannotHappen self.old (turn_of who event) }
     {
         if who as usize >= self.boxes.len() {
             return Err(StepFault::NotEnabled);
@@ -81,7 +77,7 @@ impl World {
             return Err(StepFault::NotEnabled);
         };
         let lane = self.lane_to(slot);
-        make_room(&mut self.lanes, &self.topology, who, MOST_SENT)?;
+        make_room(&mut self.lanes, &self.topology, who, SENDS_LIMIT)?;
         let actor = &mut self.boxes[who as usize];
         let sends = actor.take(local, signal);
         relay(&mut self.lanes, lane, &self.topology, who, &sends);
@@ -121,7 +117,7 @@ fn is_version_end(actor: &MediaBox, event: Event) -> bool
     ensures { result ≡ is_version_end actor.now event }
 {
     match event {
-        Event::Media(MediaChange::Hear(local, _)) => actor.own(local).version == u32::MAX,
+        Event::Media(MediaChange::Hear(local, _)) => actor.own(local).version == LAST_VERSION,
         _ => false,
     }
 }

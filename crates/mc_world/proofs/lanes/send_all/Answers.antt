@@ -9,12 +9,11 @@ use Rattle.mc_world.proofs.lanes.send_all.Goals as goal
 
 pub send-requires-clause-room : goal.send-requires-clause-room
 send-requires-clause-room c s below who =
-    let left : c.loop-sending.sending-index < c.args.sends.now.len = grind (arith, common_steps) in
-    c.loop-sending.invariant.room (lane_by c.args.topology.now (far s)) 1 (λ e. omega (arith, c.requires.room s below who e, left))
+    c.loop-sending.invariant.room (lane_by c.args.topology.now (far s)) 1 (λ e. omega (arith, c.requires.room s below who e, c.loop-sending-test.true, c.as_slice-sending-items.ensures.len))
 
 pub loop-sending-preserved : goal.loop-sending-preserved
 loop-sending-preserved c =
-    let items : List (ℕ × Signal) = take c.args.sends.now.len c.args.sends.now.at in
+    let items : List (ℕ × Signal) = c.as_slice-sending-items.result.now in
     record {
       sent = c.send.ensures.sent
           ∙ (ap (λ (lanes : List (List Tagged)). one_sent c.args.topology.now c.args.who lanes c.sending-item.result) c.loop-sending.invariant.sent

@@ -23,7 +23,7 @@ append-requires c =
     (turn_there (box_state c.args.self.now) c.args.local c.args.s c.take-answer.new.self c.cause_of.result _ c.cause_of.ensures c.goal_step-turn.ensures.turn) in
     let fits : c.goal_step-turn.result.len ≤ length c.goal_step-turn.result.at = search rules in
     let size : length (sends_of c.goal_step-turn.result) ≡ c.goal_step-turn.result.len = sends_length c.goal_step-turn.result fits in
-    omega (arith, few, size, c.answering-sends.ensures.len)
+    omega (arith, few, size, c.answer-sends.ensures.len)
 
 pub returns-clause-few : goal.returns-clause-few
 returns-clause-few c =
@@ -34,4 +34,4 @@ returns-clause-few c =
     (turn_there (box_state c.args.self.now) c.args.local c.args.s c.take-answer.new.self c.cause_of.result _ c.cause_of.ensures c.goal_step-turn.ensures.turn) in
     let fits : c.goal_step-turn.result.len ≤ length c.goal_step-turn.result.at = search rules in
     let size : length (sends_of c.goal_step-turn.result) ≡ c.goal_step-turn.result.len = sends_length c.goal_step-turn.result fits in
-    omega (arith, few, size, c.answering-sends.ensures.len, c.append.ensures.len)
+    omega (arith, few, size, c.answer-sends.ensures.len, c.append.ensures.len)

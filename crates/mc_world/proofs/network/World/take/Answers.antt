@@ -3,6 +3,7 @@ use Rattle.std.proofs.lemmas.Result.{err_from_is_err_and}
 use Rattle.std.specs.Vec.{with_item, with_items}
 use Rattle.mc_signal.specs.declared.Tagged.{Tagged}
 use Rattle.mc_slot.specs.Sending.{sends_of}
+use Rattle.mc_slot.specs.declared.sends.TheConstants.{SENDS_LIMIT}
 use Rattle.mc_box.specs.BoxEvents.{box_event}
 use Rattle.mc_box.specs.Boxes.{BoxState}
 use Rattle.mc_world.specs.Lanes.{IsLaid, all_sent, signals_of, without_front}
@@ -52,7 +53,7 @@ relay-requires-clause-laid c =
 
 pub relay-requires-clause-room : goal.relay-requires-clause-room
 relay-requires-clause-room c =
-    room_kept c.self.inside.lanes c.deref_mut.result.now c.make_room.new.lanes c.deref_mut-2.result.now c.self.inside.topology c.args.who (length c.self.inside.topology.places.items) 4 c.take-sends.result.len
+    room_kept c.self.inside.lanes c.deref_mut.result.now c.make_room.new.lanes c.deref_mut-2.result.now c.self.inside.topology c.args.who (length c.self.inside.topology.places.items) SENDS_LIMIT c.take-sends.result.len
     c.deref_mut.ensures.value c.make_room.auto.lanes c.deref_mut-2.ensures.value c.take-sends.result.short c.in_ok-make_room.ensures.room
 
 -- the world that was left is the next one

@@ -1,7 +1,7 @@
 use Rattle.std.proofs.Common.{◌≡◌, ◌+◌, length}
 use Rattle.mc_box.specs.BoxSound.{box_state}
 use Rattle.mc_box.proofs.Turning.{Turning}
-use Rattle.mc_box.proofs.parts.BoxParts.goal_steps.Given as goal
+use Rattle.mc_box.proofs.parts.BoxParts.changed_steps.Given as goal
 
 abbrev pub invariant-loop-i : goal.invariant-loop-i
 invariant-loop-i l = record {

@@ -5,10 +5,10 @@ use Rattle.mc_box.specs.BoxSound.{box_state, IsWired}
 use Rattle.mc_box.specs.Boxes.{with_goals}
 use Rattle.mc_box.specs.Goals.{change_goals}
 use Rattle.mc_box.proofs.Changes.{change_wired, length_goals_from}
-use Rattle.mc_box.proofs.parts.BoxParts.set.Goals as goal
+use Rattle.mc_box.proofs.parts.BoxParts.set_step.Goals as goal
 
-pub goal_steps-requires-clause-wired : goal.goal_steps-requires-clause-wired
-goal_steps-requires-clause-wired c =
+pub changed_steps-requires-clause-wired : goal.changed_steps-requires-clause-wired
+changed_steps-requires-clause-wired c =
     let changed : c.change_goals.new.goals ≡ change_goals c.args.self.now.goals.items c.args.change =
     c.change_goals.ensures ∙ ap (λ (l : List SlotGoal). change_goals l c.args.change) c.deref_mut.ensures.value in
     let size : length c.change_goals.new.goals ≡ c.args.self.now.goals.len =
