@@ -1,6 +1,6 @@
 -- Counts of faults.
 use Rattle.std.proofs.Common.{◌≡◌, ℕ, ◌==◌, ◌&&◌, Bool, true, false, arith}
-use Rattle.mc_io.specs.Causes.{faults_after}
+use Rattle.mc_io.specs.Faults.{faults_after}
 
 -- what doesn't fail leaves the count as it was
 stays : (before now : ℕ) (none empty : Bool) → now ≡ faults_after before (none && empty) → none ≡ false → now ≡ before

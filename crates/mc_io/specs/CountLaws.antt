@@ -1,6 +1,6 @@
 -- Laws of counts of faults.
 use Rattle.std.specs.Prelude.{ℕ, ◌-◌, ◌^◌, ◌<◌, ◌≤◌, ◌≡◌, ◌⊎◌, ◌↔◌, Bool}
-use Rattle.mc_io.specs.Causes.{faults_after, Rose}
+use Rattle.mc_io.specs.Faults.{faults_after, Rose}
 
 -- for counts that are values of a u64, to have risen is to be greater than before, or to stand at the last value
 abbrev pub RoseOrStands : Type 0

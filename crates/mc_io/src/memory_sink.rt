@@ -2,7 +2,7 @@
 ghost use Rattle.std.specs.Prelude.{◌-◌, ◌↔◌, ◌⊎◌, IsErr, min, length, ◌≡◌, ◌≤◌, ◌<◌, [], Some, IfOk, vec_len, vec_capacity};
 ghost use Rattle.std.specs.Io.{WritesAtMost};
 ghost use Rattle.std.specs.Io.KnownBytes.{WriteAppends};
-ghost use Rattle.mc_io.specs.Causes.{faults_after, is_failed_write, next_count};
+ghost use Rattle.mc_io.specs.Faults.{faults_after, is_failed_write, next_count};
 ghost use Rattle.mc_io.specs.Bytes.{Fails};
 
 use crate::count::next_count;
@@ -53,6 +53,8 @@ impl MemSink {
 }
 
 impl Sink for MemSink {
+    ghost use Rattle.mc_io.specs.InMemory.{write_count};
+
     ghost written = { λ s. Some s.bytes.items };
 
     ghost faults = { λ s. s.failed };
@@ -66,9 +68,11 @@ impl Sink for MemSink {
         // A call fails exactly where its number is in the list, or where it finds no room.
         ensures fails { IsErr result ↔ (Fails self.old.failing.items self.old.calls
             ⊎ ((0 < length piece.now) × (vec_len self.old.bytes ≡ self.old.room))) }
-        ensures taken { IfOk result (λ count. count ≡ min (min (length piece.now) (self.old.room - vec_len self.old.bytes)) self.old.per_call) }
+        ensures taken { IfOk result (λ count. count ≡ write_count self.old (length piece.now)) }
         ensures calls { self.new.calls ≡ next_count self.old.calls }
-        ensures rest { (self.new.room ≡ self.old.room) × (self.new.per_call ≡ self.old.per_call) × (self.new.failing ≡ self.old.failing) }
+        ensures room { self.new.room ≡ self.old.room }
+        ensures per_call { self.new.per_call ≡ self.old.per_call }
+        ensures failing { self.new.failing ≡ self.old.failing }
     {
         if self.calls < u64::MAX {
             self.calls += 1;

@@ -2,7 +2,7 @@
 ghost use Rattle.std.specs.Prelude.{◌≡◌, ◌<◌, ◌≤◌, ◌+◌, ◌-◌, ◌↔◌, IsErr, IfOk, Some, drop, is_err, length, min, take, vec_len};
 ghost use Rattle.std.specs.Io.{ReadsAtMost};
 ghost use Rattle.std.specs.Io.KnownBytes.{ReadConsumes};
-ghost use Rattle.mc_io.specs.Causes.{faults_after, next_count};
+ghost use Rattle.mc_io.specs.Faults.{faults_after, next_count};
 ghost use Rattle.mc_io.specs.Bytes.{Fails};
 
 use crate::count::next_count;
@@ -45,22 +45,26 @@ impl MemSource {
 }
 
 impl Source for MemSource {
-    ghost left = { λ s. Some (drop s.at s.bytes.items) };
+    ghost use Rattle.mc_io.specs.InMemory.{left_of, read_count};
+
+    ghost left = { λ s. Some (left_of s) };
 
     ghost faults = { λ s. s.failed };
 
     fn read(&mut self, buf: &mut [u8]) -> Result<usize, Failed>
         // as in the trait
         ensures bound { ReadsAtMost result buf.new }
-        ensures bytes { ReadConsumes (Some (drop self.old.at self.old.bytes.items)) (Some (drop self.new.at self.new.bytes.items)) result buf.new }
+        ensures bytes { ReadConsumes (Some (left_of self.old)) (Some (left_of self.new)) result buf.new }
         ensures faults { self.new.failed ≡ faults_after self.old.failed (is_err result) }
 
         // A call fails exactly where its number is in the list. Else it gives what is left, as far as there is room
         // and a call gives.
         ensures fails { IsErr result ↔ Fails self.old.failing.items self.old.calls }
-        ensures given { IfOk result (λ count. count ≡ min (min (vec_len self.old.bytes - self.old.at) (length buf.new)) self.old.per_call) }
+        ensures given { IfOk result (λ count. count ≡ read_count self.old (length buf.new)) }
         ensures calls { self.new.calls ≡ next_count self.old.calls }
-        ensures rest { (self.new.bytes.items ≡ self.old.bytes.items) × (self.new.per_call ≡ self.old.per_call) × (self.new.failing ≡ self.old.failing) }
+        ensures kept { self.new.bytes.items ≡ self.old.bytes.items }
+        ensures per_call { self.new.per_call ≡ self.old.per_call }
+        ensures failing { self.new.failing ≡ self.old.failing }
     {
         if self.calls < u64::MAX {
             self.calls += 1;

@@ -1,7 +1,7 @@
 // A whole text read, a whole output written.
 ghost use Rattle.std.specs.Prelude.{◌≡◌, ◌+◌, ◌^◌, ◌<◌, ◌≤◌, ℕ, List, is_err, take, length, vec_len, IfOk, IfSome, OnOk, OnErr};
 ghost use Rattle.std.specs.Io.KnownBytes.{Appends, Consumes, IsAtEnd};
-ghost use Rattle.mc_io.specs.Causes.{faults_after, is_failed_read};
+ghost use Rattle.mc_io.specs.Faults.{faults_after, is_failed_read};
 ghost use Rattle.mc_io.specs.Bytes.{AppendsPart, ConsumesAtMost};
 ghost use Rattle.mc_io.specs.declared.whole.ReadFault.TheVariants.{Failed, NoMemory};
 

@@ -1,7 +1,7 @@
 -- What was read of what a source has left.
 use Rattle.std.proofs.Common.{◌≡◌, ◌⊎◌, ◌==◌, ℕ, List, ◌≤◌, Bool, true, None, Some, IfSome, arith, refl, subst, ap, ◌∙◌}
 use Rattle.std.specs.declared.option.Option.{Option}
-use Rattle.mc_io.specs.Causes.{Rose, faults_after, next_count}
+use Rattle.mc_io.specs.Faults.{Rose, faults_after, next_count}
 use Rattle.mc_script.specs.declared.command.JournalLine.{JournalLine}
 use Rattle.mc_net.specs.Nets.{DeclaresNet}
 use Rattle.mc_net.specs.SoFar.{Declared}
