@@ -13,7 +13,7 @@ use Rattle.mc_model.specs.Steps.{run, step}
 use Rattle.mc_model.specs.Worlds.{ChannelState, WorldState}
 use Rattle.mc_laws.proofs.Reaches.{GoalsStay, ring_same, with_boxes}
 use Rattle.mc_laws.proofs.StepActs.{take_happened}
-use Rattle.mc_laws.proofs.StepForms.{then_some}
+use Rattle.mc_box.proofs.Options.{then_some}
 use Rattle.mc_laws.proofs.StepKeeps.{step_keeps_sound}
 use Rattle.mc_laws.proofs.TakeParts.{retry_goals_stay, retry_is, take_goals_stay}
 

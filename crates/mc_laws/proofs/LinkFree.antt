@@ -16,7 +16,7 @@ use Rattle.mc_model.specs.Steps.{run, step}
 use Rattle.mc_model.specs.Worlds.{WorldState, box_at}
 use Rattle.mc_box.proofs.LinkFree.{event_keeps_link_free}
 use Rattle.mc_laws.proofs.StepActs.{Turned, step_turns}
-use Rattle.mc_laws.proofs.StepForms.{then_some}
+use Rattle.mc_box.proofs.Options.{then_some}
 use Rattle.mc_laws.proofs.StepKeeps.{step_keeps_sound}
 
 -- ---- steps and runs

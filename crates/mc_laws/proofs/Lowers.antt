@@ -39,7 +39,7 @@ use Rattle.mc_laws.proofs.Partners.{IsPartner, has_partner, is_partner}
 use Rattle.mc_laws.proofs.Reaches.{GoalsStay, Reaches, reach_same, reaches, ring_same, with_boxes}
 use Rattle.mc_laws.proofs.Walks.{length_most}
 use Rattle.mc_laws.proofs.StepActs.{TakeHappened, take_happened}
-use Rattle.mc_laws.proofs.StepForms.{then_some}
+use Rattle.mc_box.proofs.Options.{then_some}
 use Rattle.mc_laws.proofs.StepKeeps.{step_keeps_sound}
 use Rattle.mc_laws.proofs.SteppedKeeps.{after_is}
 use Rattle.mc_laws.proofs.Sums.{total_most, total_plus, total_two, weights-append, weights_most}

@@ -8,7 +8,7 @@ use Rattle.mc_model.specs.Steps.{run, step}
 use Rattle.mc_model.specs.Worlds.{WorldState, box_at}
 use Rattle.mc_box.specs.declared.event.Turn.{Turn}
 use Rattle.mc_laws.proofs.StepActs.{step_acts}
-use Rattle.mc_laws.proofs.StepForms.{then_some}
+use Rattle.mc_box.proofs.Options.{then_some}
 use Rattle.mc_laws.proofs.StepKeeps.{step_keeps_sound}
 use Rattle.mc_laws.proofs.SteppedKeeps.{shape_stays}
 

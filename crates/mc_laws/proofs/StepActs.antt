@@ -25,7 +25,7 @@ use Rattle.mc_laws.proofs.LanesKept.{Fronts, front_next, lane_apart, lane_in}
 use Rattle.mc_laws.proofs.Numbers.{box_inside, number_is}
 use Rattle.mc_laws.proofs.Parts.{part_of, part_other, part_own}
 use Rattle.mc_laws.proofs.SentOut.{Sent, list_in, sends_out, sent_served}
-use Rattle.mc_laws.proofs.StepForms.{if_some, map_some, then_some}
+use Rattle.mc_box.proofs.Options.{if_some, map_some, then_some}
 
 -- ---- a box's step in its world
 

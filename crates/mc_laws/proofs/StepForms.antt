@@ -21,6 +21,7 @@ use Rattle.mc_slot.specs.declared.SlotGoal.TheVariants.{End}
 use Rattle.mc_box.specs.BoxEvents.{BoxStep, answering, goal_step}
 use Rattle.mc_box.specs.Boxes.{BoxState, goal_at, own, sender, slot_at, with_slot}
 use Rattle.mc_box.specs.Acting.{Acted, sends}
+use Rattle.mc_box.proofs.Options.{map_some}
 use Rattle.mc_model.specs.Sound.{IsNumbered}
 use Rattle.mc_model.specs.Steps.{made, pushed, sent_out, step, with_box, with_lane}
 use Rattle.mc_model.specs.Worlds.{WorldState, far, tunnel_of, lane_of, lane_to, number, slot_count}
@@ -28,20 +29,6 @@ use Rattle.mc_turn.proofs.EndRests.{rests_kept}
 use Rattle.mc_laws.proofs.ActedWorlds.{far_inside}
 use Rattle.mc_laws.proofs.BoxSound.{put}
 use Rattle.mc_laws.proofs.LanesKept.{far_lane, lane_in, tagged_for}
-
--- ---- options
-
-pub map_some : {A B : Type 0} (f : A → B) (o : Option A) (y : B) → option_map f o ≡ Some y → (x : A) × (o ≡ Some x) × (f x ≡ y)
-map_some f None y is = absurd (cc)
-map_some f (Some x) y is = (x, refl, cc)
-
-pub then_some : {A B : Type 0} (f : A → Option B) (o : Option A) (y : B) → option_and_then f o ≡ Some y → (x : A) × (o ≡ Some x) × (f x ≡ Some y)
-then_some f None y is = absurd (cc)
-then_some f (Some x) y is = (x, refl, is)
-
-pub if_some : {A : Type 0} (b : Bool) (o : Option A) (y : A) → (if b then o else None) ≡ Some y → (b ≡ true) × (o ≡ Some y)
-if_some true o y is = (refl, is)
-if_some false o y is = absurd (cc)
 
 -- ---- what is sent goes to the end of one lane
 

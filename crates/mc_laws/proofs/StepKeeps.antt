@@ -16,7 +16,7 @@ use Rattle.mc_box.specs.declared.event.Event.{Event}
 use Rattle.mc_box.specs.declared.event.Turn.{Turn}
 use Rattle.mc_laws.proofs.LanesKept.{front_next}
 use Rattle.mc_laws.proofs.StepActs.{Turned, step_turns}
-use Rattle.mc_laws.proofs.StepForms.{then_some}
+use Rattle.mc_box.proofs.Options.{then_some}
 use Rattle.mc_laws.proofs.SteppedKeeps.{after_is, numbers_stay, served_stays, tunnels_stay}
 pub use Rattle.mc_laws.proofs.Numbers.{box_inside, slot_inside}
 

@@ -17,7 +17,7 @@ use Rattle.mc_laws.proofs.LanesKept.{lane_in}
 use Rattle.mc_laws.proofs.Numbers.{number_is}
 use Rattle.mc_laws.proofs.SentOut.{sends_out}
 use Rattle.mc_laws.proofs.StepActs.{without}
-use Rattle.mc_laws.proofs.StepForms.{if_some, map_some, then_some}
+use Rattle.mc_box.proofs.Options.{if_some, map_some, then_some}
 
 -- what a box has sent stands at the ends of these lanes
 made_lanes : (world next : WorldState) (who lane : ℕ) (lanes : List (List Tagged)) (step : BoxStep) → IsNumbered world → length lanes ≡ length world.lanes

@@ -10,7 +10,7 @@ use Rattle.mc_slot.specs.declared.Goal.{Goal}
 use Rattle.mc_slot.specs.declared.Goal.TheVariants.{Close as ToClose}
 use Rattle.mc_slot.specs.declared.Slot.{Slot}
 use Rattle.mc_slot.specs.declared.State.TheVariants.{Closed}
-use Rattle.mc_laws.proofs.StepForms.{then_some}
+use Rattle.mc_box.proofs.Options.{then_some}
 
 -- the closes and closeacks among signals
 abbrev pub endings : List Signal → ℕ

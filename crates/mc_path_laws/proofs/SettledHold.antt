@@ -23,7 +23,7 @@ use Rattle.mc_box.specs.declared.event.Turn.{Turn}
 use Rattle.mc_laws.proofs.GoalsKept.{Stay, run_stays}
 use Rattle.mc_laws.proofs.NoPrograms.{quiet_rests}
 use Rattle.mc_laws.proofs.StepKeeps.{run_keeps_sound}
-use Rattle.mc_laws.proofs.StepForms.{then_some}
+use Rattle.mc_box.proofs.Options.{then_some}
 use Rattle.mc_laws.proofs.StepGoes.{below_test}
 use Rattle.mc_path_laws.specs.PathLaws.{RestedPathsHold, SettledPathsHold}
 use Rattle.mc_path_laws.proofs.CleanWalks.{IsBetween, between_before, end_between, quiet_clean, run_opens}

@@ -16,7 +16,7 @@ use Rattle.mc_model.specs.Sound.{IsSound}
 use Rattle.mc_model.specs.Steps.{step}
 use Rattle.mc_model.specs.Worlds.{WorldState, box_at, front, number, place, slot_count}
 use Rattle.mc_laws.proofs.Numbers.{box_inside, number_is}
-use Rattle.mc_laws.proofs.StepForms.{then_some}
+use Rattle.mc_box.proofs.Options.{then_some}
 use Rattle.mc_laws.proofs.StepGoes.{front_step_goes, some_of}
 use Rattle.mc_seq.specs.Draws.{AreAllowed}
 use Rattle.mc_seq.specs.Schedule.{Standing, candidates, drawn_turn, drawn_place, is_urgent, all_candidates, next_of, candidates_of, take_turn, waiting_take, takes_of, take_waits}

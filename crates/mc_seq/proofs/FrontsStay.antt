@@ -10,7 +10,7 @@ use Rattle.mc_box.specs.declared.event.Event.TheVariants.{Take, Set, Media, Tell
 use Rattle.mc_model.specs.Steps.{made, popped, pushed, sent_out, step_by, take_at, with_box}
 use Rattle.mc_model.specs.Worlds.{ChannelState, WorldState, box_at, far, front, front_for, tunnel_of, lane_of, number}
 use Rattle.mc_laws.proofs.Numbers.{number_is}
-use Rattle.mc_laws.proofs.StepForms.{if_some, map_some, then_some}
+use Rattle.mc_box.proofs.Options.{if_some, map_some, then_some}
 use Rattle.mc_seq.specs.Ready.{FrontsStay, IsAway}
 
 -- the same channels, and the same on one lane

@@ -12,7 +12,7 @@ use Rattle.mc_model.specs.Worlds.{ChannelState, WorldState, box_at, place, place
 use Rattle.mc_world.specs.declared.settled.Settled.{Settled}
 use Rattle.mc_laws.proofs.ActedWorlds.{place_apart}
 use Rattle.mc_laws.proofs.ShapesKept.{run_keeps_shape, shape_both}
-use Rattle.mc_laws.proofs.StepForms.{then_some}
+use Rattle.mc_box.proofs.Options.{then_some}
 use Rattle.mc_laws.proofs.StepKeeps.{run_keeps_sound}
 use Rattle.mc_laws.proofs.TakeParts.{RetryHappened, part_stays, retry_goals_stay, retry_is}
 use Rattle.mc_seq.specs.ForEach.{for_each}

@@ -9,7 +9,7 @@ use Rattle.mc_model.specs.Steps.{after, run, step}
 use Rattle.mc_model.specs.Worlds.{WorldState}
 use Rattle.mc_box.specs.declared.event.Turn.{Turn}
 use Rattle.mc_laws.proofs.BothWays.{has_by}
-use Rattle.mc_laws.proofs.StepForms.{then_some}
+use Rattle.mc_box.proofs.Options.{then_some}
 use Rattle.mc_laws.proofs.StepKeeps.{run_keeps_sound}
 use Rattle.mc_seq.specs.PlainOrder.{TakesUp}
 

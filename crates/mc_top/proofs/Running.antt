@@ -16,7 +16,7 @@ use Rattle.mc_box.specs.declared.event.Turn.{Turn}
 use Rattle.mc_laws.proofs.CommandsGo.{both_true}
 use Rattle.mc_laws.proofs.Rings.{no_ring}
 use Rattle.mc_laws.proofs.ShapesKept.{run_keeps_shape, same_shape, shape_both}
-use Rattle.mc_laws.proofs.StepForms.{then_some}
+use Rattle.mc_box.proofs.Options.{then_some}
 use Rattle.mc_laws.proofs.LinkFree.{run_keeps_link_free, settled_link_none}
 use Rattle.mc_path_laws.proofs.SettledHold.{settled_paths_hold}
 use Rattle.mc_text.specs.NameLists.{NameLists}
