@@ -16,7 +16,7 @@ use Rattle.mc_box.specs.BoxEvents.{is_enabled, may_link}
 use Rattle.mc_box.specs.BoxShapes.{is_feature}
 use Rattle.mc_box.specs.BoxSound.{IsLinked, IsSoundBox, IsWired, RestsAt}
 use Rattle.mc_box.specs.Boxes.{BoxState, is_slot, slot_at, goal_at, media_at, with_goals}
-use Rattle.mc_box.specs.Goals.{changed_from, changed_slots, goal_after, change_goals, goals_from, has_turn, leads, parted}
+use Rattle.mc_box.specs.Goals.{changed_from, changed_slots, goal_after, change_goals, goals_from, has_turn, leads, without_link}
 use Rattle.mc_box.specs.declared.event.Change.{Change}
 use Rattle.mc_box.specs.declared.event.Change.TheVariants.{End as NewEnd, Link as NewLink}
 use Rattle.mc_box.specs.declared.event.Event.TheVariants.{Set}
@@ -49,19 +49,19 @@ parted_by false local q partner is goes =
     let same : q ≡ partner = cc in
     (same, subst (λ (n : ℕ). n ≢ local) same (eqb-false q local is))
 
-parted_link : (goal : SlotGoal) (local partner : ℕ) → parted local goal ≡ Link partner → (goal ≡ Link partner) × (partner ≢ local)
+parted_link : (goal : SlotGoal) (local partner : ℕ) → without_link local goal ≡ Link partner → (goal ≡ Link partner) × (partner ≢ local)
 parted_link (End goal) local partner is = absurd (cc)
 parted_link (Link q) local partner is = let one = parted_by (q == local) local q partner refl is in (ap Link one.0, one.1)
 
 -- and stays so
-parted_stays : (local partner : ℕ) → partner ≢ local → parted local (Link partner) ≡ Link partner
+parted_stays : (local partner : ℕ) → partner ≢ local → without_link local (Link partner) ≡ Link partner
 parted_stays local partner other = let test : (partner == local) ≡ false = ne_eqb partner local other in rw test refl
 
 -- ---- an end is set
 
 -- a link that is there after it was there before, of two other slots
 end_link_by : (here : Bool) (slot local partner : ℕ) (goal : Goal) (old : SlotGoal) → (local == slot) ≡ here
-    → (if here then End goal else parted slot old) ≡ Link partner → (local ≢ slot) × (old ≡ Link partner) × (partner ≢ slot)
+    → (if here then End goal else without_link slot old) ≡ Link partner → (local ≢ slot) × (old ≡ Link partner) × (partner ≢ slot)
 end_link_by true slot local partner goal old is goes = absurd (cc)
 end_link_by false slot local partner goal old is goes =
     let one = parted_link old slot partner goes in
@@ -74,12 +74,12 @@ end_stays slot local partner goal here there = let test : (local == slot) ≡ fa
 
 -- a link that is there after is the new one, or was there before, of two other slots
 link_by : (one two : Bool) (first second local partner : ℕ) (old : SlotGoal) → (local == first) ≡ one → (local == second) ≡ two
-    → (if one then Link second else (if two then Link first else parted first (parted second old))) ≡ Link partner
+    → (if one then Link second else (if two then Link first else without_link first (without_link second old))) ≡ Link partner
     → ((local ≡ first) × (partner ≡ second)) ⊎ (((local ≢ first) × (local ≡ second) × (partner ≡ first)) ⊎ ((local ≢ first) × (local ≢ second) × (old ≡ Link partner) × (partner ≢ first) × (partner ≢ second)))
 link_by true two first second local partner old is also goes = inl (eqb-true local first is, cc)
 link_by false true first second local partner old is also goes = inr (inl (eqb-false local first is, eqb-true local second also, cc))
 link_by false false first second local partner old is also goes =
-    let outer = parted_link (parted second old) first partner goes in
+    let outer = parted_link (without_link second old) first partner goes in
     let inner = parted_link old second partner outer.0 in
     inr (inr (eqb-false local first is, eqb-false local second also, inner.0, outer.1, inner.1))
 
@@ -97,7 +97,7 @@ link_stays : (first second local partner : ℕ) → local ≢ first → local �
 link_stays first second local partner one two there also =
     let test : (local == first) ≡ false = ne_eqb local first one in
     let more : (local == second) ≡ false = ne_eqb local second two in
-    rw (test, more) (ap (parted first) (parted_stays second partner also) ∙ parted_stays first partner there)
+    rw (test, more) (ap (without_link first) (parted_stays second partner also) ∙ parted_stays first partner there)
 
 -- ---- links stay mutual
 

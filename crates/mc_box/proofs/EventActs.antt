@@ -6,13 +6,13 @@ use Rattle.std.proofs.lemmas.Bool.{and_parts, cases_eq}
 use Rattle.std.proofs.lemmas.List.{get_or-set_same, get_or-set_other}
 use Rattle.mc_signal.specs.declared.Signal.{Signal}
 use Rattle.mc_slot.specs.EndTurn.{cause_of}
-use Rattle.mc_slot.specs.Moves.{answered, slot_send_all, slot_take, Took}
+use Rattle.mc_slot.specs.Moves.{answer_signals, slot_send_all, slot_take, Took}
 use Rattle.mc_slot.specs.Sending.{pair_of}
 use Rattle.mc_slot.specs.declared.Cause.TheVariants.{Other, Push}
 use Rattle.mc_slot.specs.declared.Slot.{Slot}
 use Rattle.mc_slot.specs.declared.SlotGoal.{SlotGoal}
 use Rattle.mc_box.specs.Acting.{Acted, sends, takes, sent_by, BoxActs, IsSameMake}
-use Rattle.mc_box.specs.BoxEvents.{BoxStep, answering, goal_step, happening, with_hearing, is_enabled, media_step, set_step, take_step, with_talking}
+use Rattle.mc_box.specs.BoxEvents.{BoxStep, with_answer, goal_step, event_step, with_hearing, is_enabled, media_step, set_step, take_step, with_talking}
 use Rattle.mc_box.specs.BoxShapes.{is_device}
 use Rattle.mc_box.specs.BoxSound.{IsSoundBox}
 use Rattle.mc_box.specs.Boxes.{BoxState, is_slot, media_at, no_media, no_slot, box_owes, slot_at, with_goals, with_media, with_slot}
@@ -39,7 +39,7 @@ pub acted_sends : (slot after : Slot) (to left signals : List Signal) → left �
 acted_sends slot after to left signals same goes = subst (λ (l : List Signal). Acted slot to signals after l) (sym same) (sends goes)
 
 -- one that takes the first of what is under way to it
-pub acted_takes : (slot middle after : Slot) (signal : Signal) (to left signals more : List Signal) (answer : Option Signal) → to ≡ signal ∷ left → signals ≡ answered answer ++ more
+pub acted_takes : (slot middle after : Slot) (signal : Signal) (to left signals more : List Signal) (answer : Option Signal) → to ≡ signal ∷ left → signals ≡ answer_signals answer ++ more
     → slot_take slot signal ≡ Some record { answer = answer; after = middle } → slot_send_all middle more ≡ Some after → Acted slot to signals after left
 acted_takes slot middle after signal to left signals more answer first is goes sent =
     subst (λ (l : List Signal). Acted slot l signals after left) (sym first)
@@ -50,26 +50,26 @@ acted_takes slot middle after signal to left signals more answer first is goes s
 take_each : (box : BoxState) (local : ℕ) (signal : Signal) (answer : Option Signal) (middle : Slot) (turn : BoxStep) (to left : ℕ → List Signal) → local < length box.slots
     → slot_take (slot_at box local) signal ≡ Some record { answer = answer; after = middle } → SendsEach (with_slot box local middle) turn.sent turn.after
     → to local ≡ signal ∷ left local → ((k : ℕ) → k < length box.slots → k ≢ local → left k ≡ to k)
-    → (k : ℕ) → k < length box.slots → Acted (slot_at box k) (to k) (sent_by k (map (pair_of local) (answered answer) ++ turn.sent)) (slot_at turn.after k) (left k)
+    → (k : ℕ) → k < length box.slots → Acted (slot_at box k) (to k) (sent_by k (map (pair_of local) (answer_signals answer) ++ turn.sent)) (slot_at turn.after k) (left k)
 take_each box local signal answer middle turn to left here goes each first others k inside =
     let there : slot_send_all (slot_at (with_slot box local middle) k) (sent_by k turn.sent) ≡ Some (slot_at turn.after k) =
     each k (subst (λ (n : ℕ). k < n) (sym (length-set box.slots local middle)) inside) in
     elim (cases_eq k local) [
       | inl same ↦
           let now : slot_at (with_slot box local middle) k ≡ middle = ap (slot_at (with_slot box local middle)) same ∙ get_or-set_same box.slots local middle no_slot here in
-          let own : sent_by k (map (pair_of local) (answered answer) ++ turn.sent) ≡ answered answer ++ sent_by k turn.sent =
-          sent_by-append k (map (pair_of local) (answered answer)) turn.sent
-          ∙ ap (λ (l : List Signal). l ++ sent_by k turn.sent) (ap (λ (j : ℕ). sent_by j (map (pair_of local) (answered answer))) same ∙ sent_by_own local (answered answer)) in
-          acted_takes (slot_at box k) middle (slot_at turn.after k) signal (to k) (left k) (sent_by k (map (pair_of local) (answered answer) ++ turn.sent)) (sent_by k turn.sent) answer
+          let own : sent_by k (map (pair_of local) (answer_signals answer) ++ turn.sent) ≡ answer_signals answer ++ sent_by k turn.sent =
+          sent_by-append k (map (pair_of local) (answer_signals answer)) turn.sent
+          ∙ ap (λ (l : List Signal). l ++ sent_by k turn.sent) (ap (λ (j : ℕ). sent_by j (map (pair_of local) (answer_signals answer))) same ∙ sent_by_own local (answer_signals answer)) in
+          acted_takes (slot_at box k) middle (slot_at turn.after k) signal (to k) (left k) (sent_by k (map (pair_of local) (answer_signals answer) ++ turn.sent)) (sent_by k turn.sent) answer
           (subst (λ (j : ℕ). to j ≡ signal ∷ left j) (sym same) first) own
           (subst (λ (j : ℕ). slot_take (slot_at box j) signal ≡ Some (record { answer = answer; after = middle })) (sym same) goes)
           (subst (λ (s : Slot). slot_send_all s (sent_by k turn.sent) ≡ Some (slot_at turn.after k)) now there)
       | inr other ↦
           let now : slot_at (with_slot box local middle) k ≡ slot_at box k = get_or-set_other box.slots local k middle no_slot other in
-          let own : sent_by k (map (pair_of local) (answered answer) ++ turn.sent) ≡ sent_by k turn.sent =
-          sent_by-append k (map (pair_of local) (answered answer)) turn.sent
-          ∙ ap (λ (l : List Signal). l ++ sent_by k turn.sent) (sent_by_other k local (answered answer) other) in
-          acted_sends (slot_at box k) (slot_at turn.after k) (to k) (left k) (sent_by k (map (pair_of local) (answered answer) ++ turn.sent)) (others k inside other)
+          let own : sent_by k (map (pair_of local) (answer_signals answer) ++ turn.sent) ≡ sent_by k turn.sent =
+          sent_by-append k (map (pair_of local) (answer_signals answer)) turn.sent
+          ∙ ap (λ (l : List Signal). l ++ sent_by k turn.sent) (sent_by_other k local (answer_signals answer) other) in
+          acted_sends (slot_at box k) (slot_at turn.after k) (to k) (left k) (sent_by k (map (pair_of local) (answer_signals answer) ++ turn.sent)) (others k inside other)
           (subst (λ (l : List Signal). slot_send_all (slot_at box k) l ≡ Some (slot_at turn.after k)) (sym own)
           (subst (λ (s : Slot). slot_send_all s (sent_by k turn.sent) ≡ Some (slot_at turn.after k)) now there))
     ]
@@ -78,9 +78,9 @@ take_acted : (box : BoxState) (local : ℕ) (signal : Signal) (step : BoxStep) (
     → take_step box local signal ≡ Some step → IsSoundBox step.after
     → to local ≡ signal ∷ left local → ((k : ℕ) → k < length box.slots → k ≢ local → left k ≡ to k) → BoxActs box to step left
 take_acted box local signal step to left sound here goes after_sound first others =
-    let one = then_some (λ (took : Took). option_map (answering local took.answer)
+    let one = then_some (λ (took : Took). option_map (with_answer local took.answer)
     (goal_step (with_slot box local took.after) local (cause_of signal took.after.state))) (slot_take (slot_at box local) signal) step goes in
-    let two = map_some (answering local one.0.answer) (goal_step (with_slot box local one.0.after) local (cause_of signal one.0.after.state)) step one.2 in
+    let two = map_some (with_answer local one.0.answer) (goal_step (with_slot box local one.0.after) local (cause_of signal one.0.after.state)) step one.2 in
     let turn = turn_acts (with_slot box local one.0.after) local (cause_of signal one.0.after.state) two.0
     (took_wired box local signal one.0 sound.wired here one.1)
     (subst (λ (n : ℕ). local < n) (sym (length-set box.slots local one.0.after)) here) two.1 in
@@ -157,7 +157,7 @@ media_sends (Talk local on) box step sound enabled goes =
     let here = and_parts (is_device box.kind) (is_slot box local) enabled in
     changed_sends box local (with_talking on (media_at box local)) step sound (slot_inside box local here.1) refl goes
 
-event_sends : (event : Event) (box : BoxState) (step : BoxStep) → IsSoundBox box → is_enabled box event ≡ true → happening box event ≡ Some step → Sends box step
+event_sends : (event : Event) (box : BoxState) (step : BoxStep) → IsSoundBox box → is_enabled box event ≡ true → event_step box event ≡ Some step → Sends box step
 event_sends (Take local) box step sound enabled goes = absurd (cc)
 event_sends (Set change) box step sound enabled goes = set_sends box change step sound enabled goes
 event_sends (Media change) box step sound enabled goes = media_sends change box step sound enabled goes

@@ -6,7 +6,7 @@ use Rattle.mc_signal.specs.declared.Signal.{Signal}
 use Rattle.mc_slot.specs.EndTurn.{cause_of}
 use Rattle.mc_slot.specs.Moves.{slot_take, Took}
 use Rattle.mc_slot.specs.declared.Cause.TheVariants.{Other, Push}
-use Rattle.mc_box.specs.BoxEvents.{BoxStep, answering, box_event, goal_step, happening, with_hearing, is_enabled, is_take, is_version_end, take_step, with_talking}
+use Rattle.mc_box.specs.BoxEvents.{BoxStep, with_answer, box_event, goal_step, event_step, with_hearing, is_enabled, is_take, is_version_end, take_step, with_talking}
 use Rattle.mc_box.specs.BoxSound.{IsSoundBox}
 use Rattle.mc_box.specs.Boxes.{BoxState, is_slot, media_at, slot_at, with_goals, with_media, with_slot}
 use Rattle.mc_box.specs.EventLaws.{EventGoes, EventWasEnabled, TakeGoes, TakeWasLawful, VersionEndStops}
@@ -40,7 +40,7 @@ take_goes box local signal sound here lawful =
 pub take_was_lawful : TakeWasLawful
 take_was_lawful box local signal step goes =
     let one = if_some (is_slot box local) (take_step box local signal) step goes in
-    let two = then_some (λ (took : Took). option_map (answering local took.answer)
+    let two = then_some (λ (took : Took). option_map (with_answer local took.answer)
     (goal_step (with_slot box local took.after) local (cause_of signal took.after.state))) (slot_take (slot_at box local) signal) step one.1 in
     (slot_inside box local one.0, some_is (slot_take (slot_at box local) signal) two.0 two.1)
 
@@ -58,14 +58,14 @@ true_is : (b : Bool) → IsTrue b → b ≡ true
 true_is true is = refl
 true_is false is = absurd (cc)
 
-media_goes : (change : MediaChange) (box : BoxState) → IsSoundBox box → is_version_end box (Media change) ≡ false → IsSome (happening box (Media change))
+media_goes : (change : MediaChange) (box : BoxState) → IsSoundBox box → is_version_end box (Media change) ≡ false → IsSome (event_step box (Media change))
 media_goes (Hear local on) box sound newer =
     hear_by ((media_at box local).version == LAST_VERSION) (goal_step (with_media box local (with_hearing on (media_at box local))) local Other) newer
     (turn_goes (with_media box local (with_hearing on (media_at box local))) local Other (media_wired box local (with_hearing on (media_at box local)) sound.wired))
 media_goes (Talk local on) box sound newer =
     turn_goes (with_media box local (with_talking on (media_at box local))) local Other (media_wired box local (with_talking on (media_at box local)) sound.wired)
 
-happens : (event : Event) (box : BoxState) → IsSoundBox box → is_enabled box event ≡ true → is_take event ≡ false → is_version_end box event ≡ false → IsSome (happening box event)
+happens : (event : Event) (box : BoxState) → IsSoundBox box → is_enabled box event ≡ true → is_take event ≡ false → is_version_end box event ≡ false → IsSome (event_step box event)
 happens (Take local) box sound enabled untaken newer = absurd (cc)
 happens (Set change) box sound enabled untaken newer =
     turns_go (changed_slots box.goals (change_goals box.goals change)) (with_goals box (change_goals box.goals change)) (change_wired box change sound.wired enabled)
@@ -76,7 +76,7 @@ happens (Retry local) box sound enabled untaken newer = turn_goes box local Push
 happens Shift box sound enabled untaken newer = absurd (cc)
 
 -- the event of a box is what happens, where it is enabled
-pub event_is : (event : Event) (box : BoxState) → box_event box event None ≡ (if is_enabled box event then happening box event else None)
+pub event_is : (event : Event) (box : BoxState) → box_event box event None ≡ (if is_enabled box event then event_step box event else None)
 event_is (Take local) box = refl
 event_is (Set change) box = refl
 event_is (Media change) box = refl
@@ -87,7 +87,7 @@ event_is Shift box = refl
 pub event_goes : EventGoes
 event_goes box event sound enabled untaken newer =
     subst (λ (o : Option BoxStep). IsSome o) (sym (event_is event box))
-    (enabled_by (is_enabled box event) (happening box event) enabled (happens event box sound (true_is (is_enabled box event) enabled) untaken newer))
+    (enabled_by (is_enabled box event) (event_step box event) enabled (happens event box sound (true_is (is_enabled box event) enabled) untaken newer))
 
 pub event_was_enabled : EventWasEnabled
 event_was_enabled box event step goes = (was_enabled event box step goes).0

@@ -13,7 +13,7 @@ use Rattle.mc_slot.specs.declared.Slot.{Slot}
 use Rattle.mc_slot.specs.declared.SlotGoal.{SlotGoal}
 use Rattle.mc_slot.specs.declared.SlotGoal.TheVariants.{End, Link}
 use Rattle.mc_tunnel.proofs.Steps.{took_kept, took_medium}
-use Rattle.mc_box.specs.BoxEvents.{BoxStep, answering, box_event, goal_step, happening, with_hearing, is_enabled, media_step, set_step, take_step, with_talking}
+use Rattle.mc_box.specs.BoxEvents.{BoxStep, with_answer, box_event, goal_step, event_step, with_hearing, is_enabled, media_step, set_step, take_step, with_talking}
 use Rattle.mc_box.specs.BoxShapes.{is_device}
 use Rattle.mc_box.specs.BoxSound.{IsSoundBox, IsWired}
 use Rattle.mc_box.specs.Boxes.{BoxState, is_slot, no_media, no_slot, slot_at, goal_at, media_at, own_of, box_owes, sender_of, with_goals, with_media, with_slot}
@@ -77,9 +77,9 @@ took_rests box local after sound k lacks =
 
 pub take_sound : (box : BoxState) (local : ℕ) (signal : Signal) (step : BoxStep) → IsSoundBox box → local < length box.slots → take_step box local signal ≡ Some step → IsSoundBox step.after
 take_sound box local signal step sound inside goes =
-    let one = then_some (λ (took : Took). option_map (answering local took.answer)
+    let one = then_some (λ (took : Took). option_map (with_answer local took.answer)
     (goal_step (with_slot box local took.after) local (cause_of signal took.after.state))) (slot_take (slot_at box local) signal) step goes in
-    let two = map_some (answering local one.0.answer) (goal_step (with_slot box local one.0.after) local (cause_of signal one.0.after.state)) step one.2 in
+    let two = map_some (with_answer local one.0.answer) (goal_step (with_slot box local one.0.after) local (cause_of signal one.0.after.state)) step one.2 in
     subst (λ (s : BoxStep). IsSoundBox s.after) two.2
     (turn_sound (with_slot box local one.0.after) local (cause_of signal one.0.after.state) two.0
     (took_wired box local signal one.0 sound.wired inside one.1)
@@ -146,7 +146,7 @@ media_done (Talk local on) box step sound enabled goes =
     let here = and_parts (is_device box.kind) (is_slot box local) enabled in
     changed_done box local (with_talking on (media_at box local)) step sound (slot_inside box local here.1) goes
 
-event_done : (event : Event) (box : BoxState) (step : BoxStep) → IsSoundBox box → is_enabled box event ≡ true → happening box event ≡ Some step → Done box step
+event_done : (event : Event) (box : BoxState) (step : BoxStep) → IsSoundBox box → is_enabled box event ≡ true → event_step box event ≡ Some step → Done box step
 event_done (Take local) box step sound enabled goes = absurd (cc)
 event_done (Set change) box step sound enabled goes = set_done box change step sound enabled goes
 event_done (Media change) box step sound enabled goes = media_done change box step sound enabled goes
@@ -162,13 +162,13 @@ event_done Shift box step sound enabled goes = absurd (cc)
 -- ---- any event
 
 -- an event that takes nothing is one that is enabled
-pub event_goes : (event : Event) (box : BoxState) (step : BoxStep) → box_event box event None ≡ Some step → (is_enabled box event ≡ true) × (happening box event ≡ Some step)
-event_goes (Take local) box step goes = if_some (is_enabled box (Take local)) (happening box (Take local)) step goes
-event_goes (Set change) box step goes = if_some (is_enabled box (Set change)) (happening box (Set change)) step goes
-event_goes (Media change) box step goes = if_some (is_enabled box (Media change)) (happening box (Media change)) step goes
-event_goes (Tell word) box step goes = if_some (is_enabled box (Tell word)) (happening box (Tell word)) step goes
-event_goes (Retry local) box step goes = if_some (is_enabled box (Retry local)) (happening box (Retry local)) step goes
-event_goes Shift box step goes = if_some (is_enabled box Shift) (happening box Shift) step goes
+pub event_goes : (event : Event) (box : BoxState) (step : BoxStep) → box_event box event None ≡ Some step → (is_enabled box event ≡ true) × (event_step box event ≡ Some step)
+event_goes (Take local) box step goes = if_some (is_enabled box (Take local)) (event_step box (Take local)) step goes
+event_goes (Set change) box step goes = if_some (is_enabled box (Set change)) (event_step box (Set change)) step goes
+event_goes (Media change) box step goes = if_some (is_enabled box (Media change)) (event_step box (Media change)) step goes
+event_goes (Tell word) box step goes = if_some (is_enabled box (Tell word)) (event_step box (Tell word)) step goes
+event_goes (Retry local) box step goes = if_some (is_enabled box (Retry local)) (event_step box (Retry local)) step goes
+event_goes Shift box step goes = if_some (is_enabled box Shift) (event_step box Shift) step goes
 
 -- and one that takes a signal is a Take of a slot that is there
 pub taking_is : (event : Event) (box : BoxState) (signal : Signal) (step : BoxStep) → box_event box event (Some signal) ≡ Some step

@@ -6,7 +6,7 @@ use Rattle.mc_slot.specs.declared.Goal.TheVariants.{Close as ToClose}
 use Rattle.mc_slot.specs.declared.Slot.{Slot}
 use Rattle.mc_slot.specs.declared.SlotGoal.{SlotGoal}
 use Rattle.mc_slot.specs.declared.SlotGoal.TheVariants.{End}
-use Rattle.mc_box.specs.BoxEvents.{BoxStep, followed, goal_step, goals_step, goal_steps}
+use Rattle.mc_box.specs.BoxEvents.{BoxStep, sends_first, goal_step, goals_step, goal_steps}
 use Rattle.mc_box.specs.BoxSound.{IsSoundBox, IsWired}
 use Rattle.mc_box.specs.Boxes.{BoxState, goal_at, with_goals}
 use Rattle.mc_box.specs.Goals.{changed_from, changed_slots, has_turn, most_signals}
@@ -46,7 +46,7 @@ turns_end box step wired but is =
     subst (λ (s : BoxStep). Settled box [] s) is (record { sound = record { wired = wired; rests = λ k. but k tt }; few = omega arith })
 
 turns_next : (box : BoxState) (local : ℕ) (locals : List ℕ) (slots : List Slot) (turn more step : BoxStep) → length turn.sent ≤ most_signals (goal_at box local)
-    → Settled (with_slots box slots) locals more → followed turn.sent more ≡ step → Settled box (local ∷ locals) step
+    → Settled (with_slots box slots) locals more → sends_first turn.sent more ≡ step → Settled box (local ∷ locals) step
 turns_next box local locals slots turn more step few rest is =
     subst (λ (s : BoxStep). Settled box (local ∷ locals) s) is
     (record { sound = rest.sound; few = omega (arith, length-append turn.sent more.sent, few, rest.few) })
@@ -55,8 +55,8 @@ pub turns_settle : (locals : List ℕ) (box : BoxState) (step : BoxStep) → IsW
     → goal_steps box locals ≡ Some step → Settled box locals step
 turns_settle [] box step wired inside but goes = let same : record { sent = []; after = box } ≡ step = cc in turns_end box step wired but same
 turns_settle (local ∷ locals) box step wired inside but goes =
-    let one = then_some (λ (turn : BoxStep). option_map (followed turn.sent) (goal_steps turn.after locals)) (goal_step box local Push) step goes in
-    let two = map_some (followed one.0.sent) (goal_steps one.0.after locals) step one.2 in
+    let one = then_some (λ (turn : BoxStep). option_map (sends_first turn.sent) (goal_steps turn.after locals)) (goal_step box local Push) step goes in
+    let two = map_some (sends_first one.0.sent) (goal_steps one.0.after locals) step one.2 in
     let made = turned box local Push one.0 wired inside.0 one.1 in
     turns_next box local locals made.slots one.0 two.0 step made.few
     (turns_settle locals (with_slots box made.slots) two.0 made.wired (subst (λ (n : ℕ). AreInside n locals) (sym made.size) inside.1)

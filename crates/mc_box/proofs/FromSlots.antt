@@ -4,18 +4,18 @@ use Rattle.std.specs.Option.{option_map}
 use Rattle.std.proofs.Math.ListN.{length-set}
 use Rattle.std.proofs.lemmas.Bool.{and_parts}
 use Rattle.std.proofs.lemmas.List.Elements.{All-append, All-map, All-nil}
-use Rattle.mc_link.specs.LinkTurn.{link_turn, numbered, closed_side}
+use Rattle.mc_link.specs.LinkTurn.{link_turn, with_number, closed_side}
 use Rattle.mc_link.specs.declared.Side.{Side}
 use Rattle.mc_link.specs.declared.Side.TheVariants.{First, Second}
 use Rattle.mc_signal.specs.declared.Signal.{Signal}
 use Rattle.mc_slot.specs.EndTurn.{end_turn, cause_of, is_push}
-use Rattle.mc_slot.specs.Moves.{answered, slot_take, Took}
+use Rattle.mc_slot.specs.Moves.{answer_signals, slot_take, Took}
 use Rattle.mc_slot.specs.Sending.{pair_of}
 use Rattle.mc_slot.specs.declared.Cause.{Cause}
 use Rattle.mc_slot.specs.declared.Cause.TheVariants.{Other, Push}
 use Rattle.mc_slot.specs.declared.SlotGoal.{SlotGoal}
 use Rattle.mc_slot.specs.declared.SlotGoal.TheVariants.{End, Link}
-use Rattle.mc_box.specs.BoxEvents.{BoxStep, answering, followed, goal_step, happening, with_hearing, is_enabled, media_step, set_step, side_of, take_step, with_talking, goal_step_by, goal_steps}
+use Rattle.mc_box.specs.BoxEvents.{BoxStep, with_answer, sends_first, goal_step, event_step, with_hearing, is_enabled, media_step, set_step, side_of, take_step, with_talking, goal_step_by, goal_steps}
 use Rattle.mc_box.specs.BoxShapes.{is_device}
 use Rattle.mc_box.specs.BoxSound.{IsSoundBox, IsWired}
 use Rattle.mc_box.specs.Boxes.{BoxState, goal_at, is_slot, media_at, own, box_owes, sender, slot_at, with_goals, with_media, with_slot}
@@ -44,13 +44,13 @@ own_below : (count local : ℕ) (signals : List Signal) → local < count → Ar
 own_below count local signals here = All-map (λ (sending : ℕ × Signal). sending.0 < count) (pair_of local) signals (λ k d inside. here)
 
 -- two linked slots send
-number_below : (count low high : ℕ) (sending : Side × Signal) → low < count → high < count → (numbered low high sending).0 < count
+number_below : (count low high : ℕ) (sending : Side × Signal) → low < count → high < count → (with_number low high sending).0 < count
 number_below count low high (First, signal) below above = below
 number_below count low high (Second, signal) below above = above
 
-pair_below : (count low high : ℕ) (l : List (Side × Signal)) → low < count → high < count → AreBelow count (map (numbered low high) l)
+pair_below : (count low high : ℕ) (l : List (Side × Signal)) → low < count → high < count → AreBelow count (map (with_number low high) l)
 pair_below count low high l below above =
-    All-map (λ (sending : ℕ × Signal). sending.0 < count) (numbered low high) l (λ k d inside. number_below count low high _ below above)
+    All-map (λ (sending : ℕ × Signal). sending.0 < count) (with_number low high) l (λ k d inside. number_below count low high _ below above)
 
 -- one sending after another
 both_below : (count : ℕ) (some more : List (ℕ × Signal)) → AreBelow count some → AreBelow count more → AreBelow count (some ++ more)
@@ -82,8 +82,8 @@ turns_below [] box step count wired size inside goes =
     let none : step.sent ≡ [] = cc in
     subst (λ (l : List (ℕ × Signal)). AreBelow count l) (sym none) (All-nil (λ (sending : ℕ × Signal). sending.0 < count))
 turns_below (local ∷ locals) box step count wired size inside goes =
-    let one = then_some (λ (turn : BoxStep). option_map (followed turn.sent) (goal_steps turn.after locals)) (goal_step box local Push) step goes in
-    let two = map_some (followed one.0.sent) (goal_steps one.0.after locals) step one.2 in
+    let one = then_some (λ (turn : BoxStep). option_map (sends_first turn.sent) (goal_steps turn.after locals)) (goal_step box local Push) step goes in
+    let two = map_some (sends_first one.0.sent) (goal_steps one.0.after locals) step one.2 in
     let here : local < length box.slots = subst (λ (n : ℕ). local < n) (sym size) inside.0 in
     let made = turned box local Push one.0 wired here one.1 in
     let same : length one.0.after.slots ≡ count = ap (λ (b : BoxState). length b.slots) made.is ∙ (made.size ∙ size) in
@@ -97,13 +97,13 @@ turns_below (local ∷ locals) box step count wired size inside goes =
 take_below : (box : BoxState) (local : ℕ) (signal : Signal) (step : BoxStep) → IsSoundBox box → local < length box.slots
     → take_step box local signal ≡ Some step → AreBelow (length box.slots) step.sent
 take_below box local signal step sound here goes =
-    let one = then_some (λ (took : Took). option_map (answering local took.answer)
+    let one = then_some (λ (took : Took). option_map (with_answer local took.answer)
     (goal_step (with_slot box local took.after) local (cause_of signal took.after.state))) (slot_take (slot_at box local) signal) step goes in
-    let two = map_some (answering local one.0.answer) (goal_step (with_slot box local one.0.after) local (cause_of signal one.0.after.state)) step one.2 in
+    let two = map_some (with_answer local one.0.answer) (goal_step (with_slot box local one.0.after) local (cause_of signal one.0.after.state)) step one.2 in
     let size : length (with_slot box local one.0.after).slots ≡ length box.slots = length-set box.slots local one.0.after in
     subst (λ (s : BoxStep). AreBelow (length box.slots) s.sent) two.2
-    (both_below (length box.slots) (map (pair_of local) (answered one.0.answer)) two.0.sent
-    (own_below (length box.slots) local (answered one.0.answer) here)
+    (both_below (length box.slots) (map (pair_of local) (answer_signals one.0.answer)) two.0.sent
+    (own_below (length box.slots) local (answer_signals one.0.answer) here)
     (subst (λ (n : ℕ). AreBelow n two.0.sent) size
     (turn_below (with_slot box local one.0.after) local (cause_of signal one.0.after.state) two.0
     (took_wired box local signal one.0 sound.wired here one.1) (subst (λ (n : ℕ). local < n) (sym size) here) two.1)))
@@ -130,7 +130,7 @@ media_below (Talk local on) box step sound enabled goes =
     changed_below box local (with_talking on (media_at box local)) step sound (slot_inside box local here.1) goes
 
 -- an event that takes nothing
-event_below : (event : Event) (box : BoxState) (step : BoxStep) → IsSoundBox box → is_enabled box event ≡ true → happening box event ≡ Some step
+event_below : (event : Event) (box : BoxState) (step : BoxStep) → IsSoundBox box → is_enabled box event ≡ true → event_step box event ≡ Some step
     → AreBelow (length box.slots) step.sent
 event_below (Take local) box step sound enabled goes = absurd (cc)
 event_below (Set change) box step sound enabled goes = set_below box change step sound enabled goes

@@ -4,7 +4,7 @@ use Rattle.std.specs.Option.{option_map}
 use Rattle.std.proofs.Math.ListN.{get_or, set, length-set}
 use Rattle.std.proofs.lemmas.Bool.{cases_eq}
 use Rattle.std.proofs.lemmas.List.{get_or-set_same, get_or-set_other, length-map}
-use Rattle.mc_link.specs.LinkTurn.{can_close, selector_due, lean, link_turn, numbered, descriptor_due, sent_by_first, sent_by_second, IsLinkAtRest, closed_side}
+use Rattle.mc_link.specs.LinkTurn.{can_close, selector_due, lean, link_turn, with_number, descriptor_due, sent_by_first, sent_by_second, IsLinkAtRest, closed_side}
 use Rattle.mc_link.specs.declared.Side.{Side}
 use Rattle.mc_link.specs.declared.Side.TheVariants.{First, Second}
 use Rattle.mc_link.proofs.LinkRests.{link_rests}
@@ -102,17 +102,17 @@ pub record PairForm (box : BoxState) (low high : ℕ) (closed : Option Side) (st
   pub second : Slot
   pub first_goes : slot_send_all (slot_at box low) (sent_by_first (link_turn (slot_at box low) (slot_at box high) closed)) ≡ Some first
   pub second_goes : slot_send_all (slot_at box high) (sent_by_second (link_turn (slot_at box low) (slot_at box high) closed)) ≡ Some second
-  pub is : record { sent = map (numbered low high) (link_turn (slot_at box low) (slot_at box high) closed); after = with_slot (with_slot box low first) high second } ≡ step
+  pub is : record { sent = map (with_number low high) (link_turn (slot_at box low) (slot_at box high) closed); after = with_slot (with_slot box low first) high second } ≡ step
 
 pub pair_form : (box : BoxState) (low high : ℕ) (closed : Option Side) (step : BoxStep) → pair_step box low high closed ≡ Some step → PairForm box low high closed step
 pair_form box low high closed step goes =
     let one = then_some (λ (first : Slot). option_map (λ (second : Slot). record {
-      sent = map (numbered low high) (link_turn (slot_at box low) (slot_at box high) closed);
+      sent = map (with_number low high) (link_turn (slot_at box low) (slot_at box high) closed);
       after = with_slot (with_slot box low first) high second;
     }) (slot_send_all (slot_at box high) (sent_by_second (link_turn (slot_at box low) (slot_at box high) closed))))
     (slot_send_all (slot_at box low) (sent_by_first (link_turn (slot_at box low) (slot_at box high) closed))) step goes in
     let two = map_some (λ (second : Slot). record {
-      sent = map (numbered low high) (link_turn (slot_at box low) (slot_at box high) closed);
+      sent = map (with_number low high) (link_turn (slot_at box low) (slot_at box high) closed);
       after = with_slot (with_slot box low one.0) high second;
     }) (slot_send_all (slot_at box high) (sent_by_second (link_turn (slot_at box low) (slot_at box high) closed))) step one.2 in
     record { first = one.0; second = two.0; first_goes = one.1; second_goes = two.1; is = two.2 }
@@ -237,7 +237,7 @@ pair_turned box local partner low high closed step wired is low_is high_is order
           (subst (λ (i : ℕ). j ≢ i) (sym high_is) (at_max (λ (i : ℕ). j ≢ i) local partner apart.0 apart.1.0)))
           rest but lacks;
       few = subst (λ (s : BoxStep). length s.sent ≤ 4) form.is
-          (omega (arith, length-map (link_turn (slot_at box low) (slot_at box high) closed) (numbered low high), link_four closed (slot_at box low) (slot_at box high)));
+          (omega (arith, length-map (link_turn (slot_at box low) (slot_at box high) closed) (with_number low high), link_four closed (slot_at box low) (slot_at box high)));
     }
 
 turned_by : (goal : SlotGoal) (box : BoxState) (local : ℕ) (cause : Cause) (step : BoxStep) → IsWired box → local < length box.slots → goal_at box local ≡ goal

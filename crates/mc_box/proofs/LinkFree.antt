@@ -9,7 +9,7 @@ use Rattle.mc_signal.specs.declared.Descriptor.{Descriptor}
 use Rattle.mc_signal.specs.declared.Sender.{Sender}
 use Rattle.mc_signal.specs.declared.Signal.{Signal}
 use Rattle.mc_slot.specs.EndTurn.{end_turn, is_end_goal, cause_of, is_push}
-use Rattle.mc_slot.specs.Moves.{answered, slot_send_all, slot_take, Took}
+use Rattle.mc_slot.specs.Moves.{answer_signals, slot_send_all, slot_take, Took}
 use Rattle.mc_slot.specs.Same.{is_same_slot_goal}
 use Rattle.mc_slot.specs.Sending.{pair_of}
 use Rattle.mc_slot.specs.declared.Cause.{Cause}
@@ -20,10 +20,10 @@ use Rattle.mc_slot.specs.declared.Goal.TheVariants.{Close as ToClose}
 use Rattle.mc_slot.specs.declared.Slot.{Slot}
 use Rattle.mc_slot.specs.declared.SlotGoal.{SlotGoal}
 use Rattle.mc_slot.specs.declared.SlotGoal.TheVariants.{End, Link}
-use Rattle.mc_box.specs.BoxEvents.{BoxStep, answering, box_event, followed, goal_step, happening, with_hearing, take_step, goal_step_by, goal_steps}
+use Rattle.mc_box.specs.BoxEvents.{BoxStep, with_answer, box_event, sends_first, goal_step, event_step, with_hearing, take_step, goal_step_by, goal_steps}
 use Rattle.mc_box.specs.BoxSound.{IsWired}
 use Rattle.mc_box.specs.Boxes.{BoxState, IsBox, first_box, is_slot, media_at, no_slot, own, sender, slot_at, goal_at, with_goals, with_media, with_slot}
-use Rattle.mc_box.specs.Goals.{changed_from, changed_slots, goal_after, change_goals, has_turn, parted}
+use Rattle.mc_box.specs.Goals.{changed_from, changed_slots, goal_after, change_goals, has_turn, without_link}
 use Rattle.mc_box.specs.LinkFree.{is_linking, EventKeepsLinkFree, IsUnlinked}
 use Rattle.mc_box.specs.declared.event.Change.TheVariants.{End as NewEnd, Link as NewLink}
 use Rattle.mc_box.specs.declared.event.Event.{Event}
@@ -89,13 +89,13 @@ turns_end box step is = ap (λ (s : BoxStep). s.after.goals) (sym is)
 turns_goals : (locals : List ℕ) (box : BoxState) (step : BoxStep) → IsUnlinked box → goal_steps box locals ≡ Some step → step.after.goals ≡ box.goals
 turns_goals [] box step free goes = let same : record { sent = []; after = box } ≡ step = cc in turns_end box step same
 turns_goals (local ∷ locals) box step free goes =
-    let one = then_some (λ (turn : BoxStep). option_map (followed turn.sent) (goal_steps turn.after locals)) (goal_step box local Push) step goes in
-    let two = map_some (followed one.0.sent) (goal_steps one.0.after locals) step one.2 in
+    let one = then_some (λ (turn : BoxStep). option_map (sends_first turn.sent) (goal_steps turn.after locals)) (goal_step box local Push) step goes in
+    let two = map_some (sends_first one.0.sent) (goal_steps one.0.after locals) step one.2 in
     let first : one.0.after.goals ≡ box.goals = turn_goals box local Push one.0 free one.1 in
     ap (λ (s : BoxStep). s.after.goals) (sym two.2)
     ∙ (turns_goals locals one.0.after two.0 (subst (λ (l : List SlotGoal). AreEnds l) (sym first) free) two.1 ∙ first)
 
-parted_same : (goal : SlotGoal) (local : ℕ) → is_end_goal goal ≡ true → parted local goal ≡ goal
+parted_same : (goal : SlotGoal) (local : ℕ) → is_end_goal goal ≡ true → without_link local goal ≡ goal
 parted_same (End goal) local is = refl
 parted_same (Link partner) local is = absurd (cc)
 
@@ -150,14 +150,14 @@ set_ends goals slot goal free k = elim (cases_lt k (length goals)) [
 free_same : (box after : BoxState) → after.goals ≡ box.goals → IsUnlinked box → IsUnlinked after
 free_same box after same free = subst (λ (l : List SlotGoal). AreEnds l) (sym same) free
 
-media_free : (change : MediaChange) (box : BoxState) (step : BoxStep) → IsUnlinked box → happening box (Media change) ≡ Some step → IsUnlinked step.after
+media_free : (change : MediaChange) (box : BoxState) (step : BoxStep) → IsUnlinked box → event_step box (Media change) ≡ Some step → IsUnlinked step.after
 media_free (Hear local on) box step free goes =
     let turns = else_some ((media_at box local).version == LAST_VERSION) (goal_step (with_media box local (with_hearing on (media_at box local))) local Other) step goes in
     free_same box step.after (turn_goals (with_media box local (with_hearing on (media_at box local))) local Other step free turns.1) free
 media_free (Talk local on) box step free goes =
     free_same box step.after (turn_goals _ local Other step free goes) free
 
-happens_free : (event : Event) (box : BoxState) (step : BoxStep) → IsUnlinked box → is_linking event ≡ false → happening box event ≡ Some step → IsUnlinked step.after
+happens_free : (event : Event) (box : BoxState) (step : BoxStep) → IsUnlinked box → is_linking event ≡ false → event_step box event ≡ Some step → IsUnlinked step.after
 happens_free (Take local) box step free other goes = absurd (cc)
 happens_free (Set (NewEnd local goal)) box step free other goes =
     let ends : AreEnds (change_goals box.goals (NewEnd local goal)) = set_ends box.goals local goal free in
@@ -171,9 +171,9 @@ happens_free Shift box step free other goes = absurd (cc)
 
 take_free : (box : BoxState) (local : ℕ) (signal : Signal) (step : BoxStep) → IsUnlinked box → take_step box local signal ≡ Some step → IsUnlinked step.after
 take_free box local signal step free goes =
-    let one = then_some (λ (took : Took). option_map (answering local took.answer)
+    let one = then_some (λ (took : Took). option_map (with_answer local took.answer)
     (goal_step (with_slot box local took.after) local (cause_of signal took.after.state))) (slot_take (slot_at box local) signal) step goes in
-    let two = map_some (answering local one.0.answer) (goal_step (with_slot box local one.0.after) local (cause_of signal one.0.after.state)) step one.2 in
+    let two = map_some (with_answer local one.0.answer) (goal_step (with_slot box local one.0.after) local (cause_of signal one.0.after.state)) step one.2 in
     free_same box step.after
     (ap (λ (s : BoxStep). s.after.goals) (sym two.2)
     ∙ turn_goals (with_slot box local one.0.after) local (cause_of signal one.0.after.state) two.0 free two.1) free
@@ -218,7 +218,7 @@ pub record EndTakes (box : BoxState) (local : ℕ) (goal : Goal) (signal : Signa
   pub inside : local < length box.slots
   pub took : slot_take (slot_at box local) signal ≡ Some record { answer = answer; after = middle }
   pub goes : slot_send_all middle (end_turn goal middle (is_push (cause_of signal middle.state)) (own box local) (sender box local)) ≡ Some last
-  pub sent : step.sent ≡ map (pair_of local) (answered answer ++ end_turn goal middle (is_push (cause_of signal middle.state)) (own box local) (sender box local))
+  pub sent : step.sent ≡ map (pair_of local) (answer_signals answer ++ end_turn goal middle (is_push (cause_of signal middle.state)) (own box local) (sender box local))
   pub after : step.after ≡ with_slot box local last
 
 -- the turn of a slot that was put there
@@ -228,7 +228,7 @@ takes_by : (box : BoxState) (local : ℕ) (goal : Goal) (signal : Signal) (answe
     → slot_send_all slot (end_turn goal slot (is_push (cause_of signal middle.state)) mine me) ≡ Some last
     → turn.sent ≡ map (pair_of local) (end_turn goal slot (is_push (cause_of signal middle.state)) mine me)
     → turn.after ≡ with_slot (with_slot box local middle) local last
-    → answering local answer turn ≡ step → EndTakes box local goal signal step
+    → with_answer local answer turn ≡ step → EndTakes box local goal signal step
 takes_by box local goal signal answer middle slot mine me turn step last inside took slot_is mine_is me_is goes sent after is =
     let here : slot_send_all middle (end_turn goal middle (is_push (cause_of signal middle.state)) (own box local) (sender box local)) ≡ Some last =
     subst (λ (s : Slot). slot_send_all s (end_turn goal s (is_push (cause_of signal middle.state)) (own box local) (sender box local)) ≡ Some last) slot_is
@@ -246,8 +246,8 @@ takes_by box local goal signal answer middle slot mine me turn step last inside 
       took = took;
       goes = here;
       sent = ap (λ (s : BoxStep). s.sent) (sym is)
-          ∙ (ap (λ (l : List (ℕ × Signal)). map (pair_of local) (answered answer) ++ l) part
-          ∙ sym (map-append (pair_of local) (answered answer) (end_turn goal middle (is_push (cause_of signal middle.state)) (own box local) (sender box local))));
+          ∙ (ap (λ (l : List (ℕ × Signal)). map (pair_of local) (answer_signals answer) ++ l) part
+          ∙ sym (map-append (pair_of local) (answer_signals answer) (end_turn goal middle (is_push (cause_of signal middle.state)) (own box local) (sender box local))));
       after = ap (λ (s : BoxStep). s.after) (sym is) ∙ (after ∙ ap (λ (l : List Slot). record box { slots = l }) (set-set box.slots local middle last));
     }
 
@@ -257,9 +257,9 @@ pub take_form : (box : BoxState) (local : ℕ) (goal : Goal) (signal : Signal) (
 take_form box local goal signal step is goes =
     let here = if_some (is_slot box local) (take_step box local signal) step goes in
     let inside : local < length box.slots = slot_inside box local here.0 in
-    let one = then_some (λ (took : Took). option_map (answering local took.answer)
+    let one = then_some (λ (took : Took). option_map (with_answer local took.answer)
     (goal_step (with_slot box local took.after) local (cause_of signal took.after.state))) (slot_take (slot_at box local) signal) step here.1 in
-    let two = map_some (answering local one.0.answer) (goal_step (with_slot box local one.0.after) local (cause_of signal one.0.after.state)) step one.2 in
+    let two = map_some (with_answer local one.0.answer) (goal_step (with_slot box local one.0.after) local (cause_of signal one.0.after.state)) step one.2 in
     let form = end_turns (with_slot box local one.0.after) local goal (cause_of signal one.0.after.state) two.0 is two.1 in
     takes_by box local goal signal one.0.answer one.0.after (slot_at (with_slot box local one.0.after) local) (own (with_slot box local one.0.after) local) (sender (with_slot box local one.0.after) local)
     two.0 step form.last inside one.1
@@ -335,7 +335,7 @@ changes_by box local goal slot mine me turn step last new slot_is mine_is me_is 
 one_turn : (box : BoxState) (local : ℕ) (step : BoxStep) → goal_steps box (local ∷ []) ≡ Some step
     → (turn : BoxStep) × (goal_step box local Push ≡ Some turn) × (record turn { sent = turn.sent ++ [] } ≡ step)
 one_turn box local step goes =
-    let one = then_some (λ (turn : BoxStep). option_map (followed turn.sent) (goal_steps turn.after [])) (goal_step box local Push) step goes in
+    let one = then_some (λ (turn : BoxStep). option_map (sends_first turn.sent) (goal_steps turn.after [])) (goal_step box local Push) step goes in
     let is : record one.0 { sent = one.0.sent ++ [] } ≡ step = cc in
     (one.0, one.1, is)
 

@@ -5,7 +5,7 @@ use Rattle.std.proofs.Math.ListN.{set}
 use Rattle.std.proofs.lemmas.Bool.{cases_lt, lt-ltb, le-ltb}
 use Rattle.std.proofs.lemmas.Grind.{common_steps}
 use Rattle.std.proofs.lemmas.List.{get_or-set_same, get_or-set_other, length-map}
-use Rattle.mc_link.specs.LinkTurn.{link_turn, numbered, IsLinkAtRest, closed_side}
+use Rattle.mc_link.specs.LinkTurn.{link_turn, with_number, IsLinkAtRest, closed_side}
 use Rattle.mc_link.specs.declared.Side.{Side}
 use Rattle.mc_link.specs.declared.Side.TheVariants.{First, Second}
 use Rattle.mc_link.proofs.LinkThree.{link_sends_three}
@@ -14,14 +14,14 @@ use Rattle.mc_signal.specs.declared.Descriptor.{Descriptor}
 use Rattle.mc_signal.specs.declared.Sender.{Sender}
 use Rattle.mc_signal.specs.declared.Signal.{Signal}
 use Rattle.mc_slot.specs.EndTurn.{end_turn, IsAtRest, cause_of, is_push}
-use Rattle.mc_slot.specs.Moves.{answered, slot_take, Took}
+use Rattle.mc_slot.specs.Moves.{answer_signals, slot_take, Took}
 use Rattle.mc_slot.specs.Sending.{pair_of}
 use Rattle.mc_slot.specs.Tunnel.{Kept}
 use Rattle.mc_slot.specs.declared.Goal.{Goal}
 use Rattle.mc_slot.specs.declared.Slot.{Slot}
 use Rattle.mc_slot.specs.declared.SlotGoal.{SlotGoal}
 use Rattle.mc_slot.specs.declared.SlotGoal.TheVariants.{End, Link}
-use Rattle.mc_box.specs.BoxEvents.{BoxStep, answering, end_step, goal_step, link_step, pair_step, side_of, take_step, goal_step_by}
+use Rattle.mc_box.specs.BoxEvents.{BoxStep, with_answer, end_step, goal_step, link_step, pair_step, side_of, take_step, goal_step_by}
 use Rattle.mc_box.specs.BoxSound.{IsSoundBox, RestsAt}
 use Rattle.mc_box.specs.Boxes.{BoxState, is_slot, no_slot, slot_at, goal_at, media_at, own, sender, with_slot}
 use Rattle.mc_box.specs.EventLaws.{TakeSendsThree}
@@ -34,14 +34,14 @@ use Rattle.mc_box.proofs.GoalTurns.{end_form, pair_form}
 
 end_two : (goal : Goal) (slot after : Slot) (mine : Descriptor) (me : Sender) (signal : Signal) (answer : Option Signal)
     → Kept slot → IsAtRest goal slot mine me → slot_take slot signal ≡ Some record { answer = answer; after = after }
-    → length (answered answer) + length (end_turn goal after (is_push (cause_of signal after.state)) mine me) ≤ 2
+    → length (answer_signals answer) + length (end_turn goal after (is_push (cause_of signal after.state)) mine me) ≤ 2
 end_two goal slot after mine me signal answer kept rest goes = grind (arith, common_steps)
 
 -- ---- a box
 
 -- what the goal sends after a taking, with the answer
 abbrev Three : Option Signal → BoxStep → Type 0
-Three answer turn = length (answered answer) + length turn.sent ≤ 3
+Three answer turn = length (answer_signals answer) + length turn.sent ≤ 3
 
 end_takes : (box : BoxState) (local : ℕ) (signal : Signal) (goal : Goal) (answer : Option Signal) (after : Slot) (turn : BoxStep) → IsSoundBox box → local < length box.slots
     → goal_at box local ≡ End goal → slot_take (slot_at box local) signal ≡ Some record { answer = answer; after = after }
@@ -53,19 +53,19 @@ end_takes box local signal goal answer after turn sound inside is goes turns =
     let me : sender (with_slot box local after) local ≡ sender box local = sender_put box.kind box (set box.slots local after) box.goals box.media (media_at box local) local in
     let rest : IsAtRest goal (slot_at box local) (own box local) (sender box local) = subst (λ (g : SlotGoal). RestsAt g box local) is (sound.rests local) in
     let two = end_two goal (slot_at box local) after (own box local) (sender box local) signal answer (sound.wired.kept local) rest goes in
-    let few : length (answered answer) + length (end_turn goal (slot_at (with_slot box local after) local) (is_push (cause_of signal after.state)) (own (with_slot box local after) local) (sender (with_slot box local after) local)) ≤ 2 =
+    let few : length (answer_signals answer) + length (end_turn goal (slot_at (with_slot box local after) local) (is_push (cause_of signal after.state)) (own (with_slot box local after) local) (sender (with_slot box local after) local)) ≤ 2 =
     rw (slot, mine, me) two in
     subst (λ (s : BoxStep). Three answer s) form.is
     (omega (arith, length-map (end_turn goal (slot_at (with_slot box local after) local) (is_push (cause_of signal after.state)) (own (with_slot box local after) local) (sender (with_slot box local after) local)) (pair_of local), few))
 
 -- the lower of two linked slots takes, or the higher one
 link_sent : (box : BoxState) (low high : ℕ) (closed : Option Side) (a b : Slot) (answer : Option Signal) (turn : BoxStep)
-    → slot_at box low ≡ a → slot_at box high ≡ b → length (answered answer) + length (link_turn a b closed) ≤ 3
+    → slot_at box low ≡ a → slot_at box high ≡ b → length (answer_signals answer) + length (link_turn a b closed) ≤ 3
     → pair_step box low high closed ≡ Some turn → Three answer turn
 link_sent box low high closed a b answer turn low_is high_is few goes =
     let form = pair_form box low high closed turn goes in
-    let size : length (map (numbered low high) (link_turn (slot_at box low) (slot_at box high) closed)) ≡ length (link_turn a b closed) =
-    length-map (link_turn (slot_at box low) (slot_at box high) closed) (numbered low high)
+    let size : length (map (with_number low high) (link_turn (slot_at box low) (slot_at box high) closed)) ≡ length (link_turn a b closed) =
+    length-map (link_turn (slot_at box low) (slot_at box high) closed) (with_number low high)
     ∙ (ap (λ (s : Slot). length (link_turn s (slot_at box high) closed)) low_is ∙ ap (λ (s : Slot). length (link_turn a s closed)) high_is) in
     subst (λ (s : BoxStep). Three answer s) form.is (omega (arith, size, few))
 
@@ -111,16 +111,16 @@ goal_takes (End goal) box local signal answer after turn sound inside is goes tu
 goal_takes (Link partner) box local signal answer after turn sound inside is goes turns = link_takes box local partner signal answer after turn sound inside is goes turns
 
 -- the answer and the turn
-three_sent : (local : ℕ) (answer : Option Signal) (turn step : BoxStep) → Three answer turn → answering local answer turn ≡ step → length step.sent ≤ 3
+three_sent : (local : ℕ) (answer : Option Signal) (turn step : BoxStep) → Three answer turn → with_answer local answer turn ≡ step → length step.sent ≤ 3
 three_sent local answer turn step few is =
     subst (λ (s : BoxStep). length s.sent ≤ 3) is
-    (omega (arith, length-append (map (pair_of local) (answered answer)) turn.sent, length-map (answered answer) (pair_of local), few))
+    (omega (arith, length-append (map (pair_of local) (answer_signals answer)) turn.sent, length-map (answer_signals answer) (pair_of local), few))
 
 pub take_three : (box : BoxState) (local : ℕ) (signal : Signal) (step : BoxStep) → IsSoundBox box → local < length box.slots → take_step box local signal ≡ Some step → length step.sent ≤ 3
 take_three box local signal step sound inside goes =
-    let one = then_some (λ (took : Took). option_map (answering local took.answer)
+    let one = then_some (λ (took : Took). option_map (with_answer local took.answer)
     (goal_step (with_slot box local took.after) local (cause_of signal took.after.state))) (slot_take (slot_at box local) signal) step goes in
-    let two = map_some (answering local one.0.answer) (goal_step (with_slot box local one.0.after) local (cause_of signal one.0.after.state)) step one.2 in
+    let two = map_some (with_answer local one.0.answer) (goal_step (with_slot box local one.0.after) local (cause_of signal one.0.after.state)) step one.2 in
     three_sent local one.0.answer two.0 step (goal_takes (goal_at box local) box local signal one.0.answer one.0.after two.0 sound inside refl one.1 two.1) two.2
 
 pub take_sends_three : TakeSendsThree

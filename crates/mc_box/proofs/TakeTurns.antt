@@ -4,8 +4,8 @@ use Rattle.std.specs.Option.{option_map}
 use Rattle.std.proofs.Math.ListN.{set, length-set}
 use Rattle.std.proofs.lemmas.Bool.{and_parts, cases_lt, lt-ltb, le-ltb}
 use Rattle.std.proofs.lemmas.List.{get_or-set_same, get_or-set_other}
-use Rattle.mc_link.specs.LinkLaws.{flipped}
-use Rattle.mc_link.specs.LinkTurn.{IsLinkAtRest, link_turn, numbered, sent_by_first, sent_by_second, closed_side}
+use Rattle.mc_link.specs.LinkLaws.{other_side}
+use Rattle.mc_link.specs.LinkTurn.{IsLinkAtRest, link_turn, with_number, sent_by_first, sent_by_second, closed_side}
 use Rattle.mc_link.specs.declared.Side.{Side}
 use Rattle.mc_link.specs.declared.Side.TheVariants.{First, Second}
 use Rattle.mc_link.proofs.Mirror.{link_mirror, mirror_rests, side_turned}
@@ -13,7 +13,7 @@ use Rattle.mc_signal.specs.declared.Descriptor.{Descriptor}
 use Rattle.mc_signal.specs.declared.Sender.{Sender}
 use Rattle.mc_signal.specs.declared.Signal.{Signal}
 use Rattle.mc_slot.specs.EndTurn.{end_turn, owes, cause_of, is_push}
-use Rattle.mc_slot.specs.Moves.{answered, slot_send_all, slot_take, Took}
+use Rattle.mc_slot.specs.Moves.{answer_signals, slot_send_all, slot_take, Took}
 use Rattle.mc_slot.specs.Sending.{pair_of}
 use Rattle.mc_slot.specs.declared.Cause.{Cause}
 use Rattle.mc_slot.specs.declared.Cause.TheVariants.{Push}
@@ -22,7 +22,7 @@ use Rattle.mc_slot.specs.declared.Slot.{Slot}
 use Rattle.mc_slot.specs.declared.SlotGoal.{SlotGoal}
 use Rattle.mc_slot.specs.declared.SlotGoal.TheVariants.{End, Link}
 use Rattle.mc_box.specs.Acting.{sent_by}
-use Rattle.mc_box.specs.BoxEvents.{BoxStep, answering, box_event, end_step, goal_step, link_step, pair_step, side_of, take_step, goal_step_by}
+use Rattle.mc_box.specs.BoxEvents.{BoxStep, with_answer, box_event, end_step, goal_step, link_step, pair_step, side_of, take_step, goal_step_by}
 use Rattle.mc_box.specs.BoxSound.{IsWired, IsSoundBox, RestsAt}
 use Rattle.mc_box.specs.Boxes.{BoxState, slot_owes, is_slot, no_slot, box_owes, slot_at, goal_at, media_at, own, sender, with_slot}
 use Rattle.mc_box.specs.declared.event.Event.TheVariants.{Take, Retry}
@@ -76,7 +76,7 @@ pub record LinkTurned (box : BoxState) (local partner : ℕ) (a b : Slot) (close
 -- both slots of a link after what they send stand in the box
 pair_put : (box : BoxState) (low high : ℕ) (a b first second : Slot) (closed : Option Side) → low < high → high < length box.slots
     → slot_send_all a (sent_by_first (link_turn a b closed)) ≡ Some first → slot_send_all b (sent_by_second (link_turn a b closed)) ≡ Some second
-    → LinkTurned box low high a b closed (record { sent = map (numbered low high) (link_turn a b closed); after = with_slot (with_slot box low first) high second })
+    → LinkTurned box low high a b closed (record { sent = map (with_number low high) (link_turn a b closed); after = with_slot (with_slot box low first) high second })
 pair_put box low high a b first second closed order inside one two =
     let apart : low ≢ high = omega arith in
     record {
@@ -98,7 +98,7 @@ pair_turned box low high closed turn order inside goes =
 
 -- from the other side
 turned_back : (box : BoxState) (local partner : ℕ) (a b : Slot) (closed : Option Side) (turn : BoxStep)
-    → LinkTurned box partner local b a (flipped closed) turn → LinkTurned box local partner a b closed turn
+    → LinkTurned box partner local b a (other_side closed) turn → LinkTurned box local partner a b closed turn
 turned_back box local partner a b closed turn turned =
     let mirror = link_mirror a b closed in
     record {
@@ -144,7 +144,7 @@ pub record EndTook (box : BoxState) (local : ℕ) (goal : Goal) (signal : Signal
   pub middle : Slot
   pub takes : slot_take (slot_at box local) signal ≡ Some record { answer = answer; after = middle }
   pub goes : slot_send_all middle (end_turn goal middle (is_push (cause_of signal middle.state)) (own box local) (sender box local)) ≡ Some (slot_at step.after local)
-  pub sends : sent_by local step.sent ≡ answered answer ++ end_turn goal middle (is_push (cause_of signal middle.state)) (own box local) (sender box local)
+  pub sends : sent_by local step.sent ≡ answer_signals answer ++ end_turn goal middle (is_push (cause_of signal middle.state)) (own box local) (sender box local)
   pub others : (k : ℕ) → k ≢ local → Idle box step k
   pub goals : step.after.goals ≡ box.goals
 
@@ -155,7 +155,7 @@ pub record LinkTook (box : BoxState) (local partner : ℕ) (signal : Signal) (st
   pub takes : slot_take (slot_at box local) signal ≡ Some record { answer = answer; after = middle }
   pub first : slot_send_all middle (sent_by_first (link_turn middle (slot_at box partner) (closed_side (cause_of signal middle.state) First))) ≡ Some (slot_at step.after local)
   pub second : slot_send_all (slot_at box partner) (sent_by_second (link_turn middle (slot_at box partner) (closed_side (cause_of signal middle.state) First))) ≡ Some (slot_at step.after partner)
-  pub sends : sent_by local step.sent ≡ answered answer ++ sent_by_first (link_turn middle (slot_at box partner) (closed_side (cause_of signal middle.state) First))
+  pub sends : sent_by local step.sent ≡ answer_signals answer ++ sent_by_first (link_turn middle (slot_at box partner) (closed_side (cause_of signal middle.state) First))
   pub partner_sends : sent_by partner step.sent ≡ sent_by_second (link_turn middle (slot_at box partner) (closed_side (cause_of signal middle.state) First))
   pub others : (k : ℕ) → k ≢ local → k ≢ partner → Idle box step k
   pub goals : step.after.goals ≡ box.goals
@@ -167,20 +167,20 @@ TookBy (Link partner) box local signal step = LinkTook box local partner signal 
 
 -- the answer is the slot's own
 answer_own : (local : ℕ) (answer : Option Signal) (turn : BoxStep) (signals : List Signal) → sent_by local turn.sent ≡ signals
-    → sent_by local (map (pair_of local) (answered answer) ++ turn.sent) ≡ answered answer ++ signals
+    → sent_by local (map (pair_of local) (answer_signals answer) ++ turn.sent) ≡ answer_signals answer ++ signals
 answer_own local answer turn signals is =
-    sent_by-append local (map (pair_of local) (answered answer)) turn.sent
-    ∙ (ap (λ (l : List Signal). l ++ sent_by local turn.sent) (sent_by_own local (answered answer)) ∙ ap (λ (l : List Signal). answered answer ++ l) is)
+    sent_by-append local (map (pair_of local) (answer_signals answer)) turn.sent
+    ∙ (ap (λ (l : List Signal). l ++ sent_by local turn.sent) (sent_by_own local (answer_signals answer)) ∙ ap (λ (l : List Signal). answer_signals answer ++ l) is)
 
 -- and no other slot's
 answer_else : (local k : ℕ) (answer : Option Signal) (turn : BoxStep) (signals : List Signal) → k ≢ local → sent_by k turn.sent ≡ signals
-    → sent_by k (map (pair_of local) (answered answer) ++ turn.sent) ≡ signals
+    → sent_by k (map (pair_of local) (answer_signals answer) ++ turn.sent) ≡ signals
 answer_else local k answer turn signals apart is =
-    sent_by-append k (map (pair_of local) (answered answer)) turn.sent
-    ∙ (ap (λ (l : List Signal). l ++ sent_by k turn.sent) (sent_by_other k local (answered answer) apart) ∙ is)
+    sent_by-append k (map (pair_of local) (answer_signals answer)) turn.sent
+    ∙ (ap (λ (l : List Signal). l ++ sent_by k turn.sent) (sent_by_other k local (answer_signals answer) apart) ∙ is)
 
 -- a slot that does nothing in the turn, and hasn't taken
-idle_still : (box : BoxState) (local k : ℕ) (middle : Slot) (answer : Option Signal) (turn : BoxStep) → k ≢ local → Idle (with_slot box local middle) turn k → Idle box (answering local answer turn) k
+idle_still : (box : BoxState) (local k : ℕ) (middle : Slot) (answer : Option Signal) (turn : BoxStep) → k ≢ local → Idle (with_slot box local middle) turn k → Idle box (with_answer local answer turn) k
 idle_still box local k middle answer turn apart idle = record {
   sends = answer_else local k answer turn [] apart idle.sends;
   stays = idle.stays ∙ get_or-set_other box.slots local k middle no_slot apart;
@@ -190,7 +190,7 @@ idle_still box local k middle answer turn apart idle = record {
 end_answers : (box : BoxState) (local : ℕ) (goal : Goal) (signal : Signal) (answer : Option Signal) (middle : Slot) (turn : BoxStep)
     → slot_take (slot_at box local) signal ≡ Some record { answer = answer; after = middle }
     → EndTurned (with_slot box local middle) local (end_turn goal middle (is_push (cause_of signal middle.state)) (own box local) (sender box local)) middle turn
-    → EndTook box local goal signal (answering local answer turn)
+    → EndTook box local goal signal (with_answer local answer turn)
 end_answers box local goal signal answer middle turn takes turned = record {
   answer = answer;
   middle = middle;
@@ -205,7 +205,7 @@ end_answers box local goal signal answer middle turn takes turned = record {
 link_answers : (box : BoxState) (local partner : ℕ) (signal : Signal) (answer : Option Signal) (middle : Slot) (turn : BoxStep) → partner ≢ local
     → slot_take (slot_at box local) signal ≡ Some record { answer = answer; after = middle }
     → LinkTurned (with_slot box local middle) local partner middle (slot_at box partner) (closed_side (cause_of signal middle.state) First) turn
-    → LinkTook box local partner signal (answering local answer turn)
+    → LinkTook box local partner signal (with_answer local answer turn)
 link_answers box local partner signal answer middle turn other takes turned = record {
   answer = answer;
   middle = middle;
@@ -221,7 +221,7 @@ link_answers box local partner signal answer middle turn other takes turned = re
 -- so a Take comes to what the goal of its slot says
 took_by : (goal : SlotGoal) (box : BoxState) (local : ℕ) (signal : Signal) (answer : Option Signal) (middle : Slot) (turn : BoxStep) → IsWired box → local < length box.slots
     → goal_at box local ≡ goal → slot_take (slot_at box local) signal ≡ Some record { answer = answer; after = middle }
-    → goal_step_by goal (with_slot box local middle) local (cause_of signal middle.state) ≡ Some turn → TookBy goal box local signal (answering local answer turn)
+    → goal_step_by goal (with_slot box local middle) local (cause_of signal middle.state) ≡ Some turn → TookBy goal box local signal (with_answer local answer turn)
 took_by (End goal) box local signal answer middle turn wired inside is takes goes =
     let slot : slot_at (with_slot box local middle) local ≡ middle = get_or-set_same box.slots local middle no_slot inside in
     let mine : own (with_slot box local middle) local ≡ own box local = own_put box.kind box (set box.slots local middle) box.goals box.media (media_at box local) local in
@@ -247,9 +247,9 @@ took_by (Link partner) box local signal answer middle turn wired inside is takes
 step_took : (box : BoxState) (local : ℕ) (signal : Signal) (step : BoxStep) → IsWired box → local < length box.slots → take_step box local signal ≡ Some step
     → TookBy (goal_at box local) box local signal step
 step_took box local signal step wired inside goes =
-    let one = then_some (λ (took : Took). option_map (answering local took.answer)
+    let one = then_some (λ (took : Took). option_map (with_answer local took.answer)
     (goal_step (with_slot box local took.after) local (cause_of signal took.after.state))) (slot_take (slot_at box local) signal) step goes in
-    let two = map_some (answering local one.0.answer) (goal_step (with_slot box local one.0.after) local (cause_of signal one.0.after.state)) step one.2 in
+    let two = map_some (with_answer local one.0.answer) (goal_step (with_slot box local one.0.after) local (cause_of signal one.0.after.state)) step one.2 in
     subst (TookBy (goal_at box local) box local signal) two.2
     (took_by (goal_at box local) box local signal one.0.answer one.0.after two.0 wired inside refl one.1 two.1)
 

@@ -3,12 +3,12 @@ use Rattle.std.proofs.Common.{◌≡◌, ℕ, ◌+◌, ◌<◌, ◌≤◌, Optio
 use Rattle.std.proofs.lemmas.List.{length-map}
 use Rattle.mc_signal.specs.declared.Signal.{Signal}
 use Rattle.mc_slot.specs.EndTurn.{cause_of}
-use Rattle.mc_slot.specs.Moves.{answered, slot_take}
+use Rattle.mc_slot.specs.Moves.{answer_signals, slot_take}
 use Rattle.mc_slot.specs.Sending.{pair_of, sends_of}
 use Rattle.mc_slot.specs.declared.Cause.{Cause}
 use Rattle.mc_slot.specs.declared.Slot.{Slot}
 use Rattle.mc_slot.specs.declared.sends.Sends.{Sends}
-use Rattle.mc_box.specs.BoxEvents.{BoxStep, answering, goal_step, take_step}
+use Rattle.mc_box.specs.BoxEvents.{BoxStep, with_answer, goal_step, take_step}
 use Rattle.mc_box.specs.BoxSound.{IsSoundBox}
 use Rattle.mc_box.specs.Boxes.{BoxState, slot_at, with_slot}
 use Rattle.mc_box.proofs.TakeThree.{take_three}
@@ -16,20 +16,20 @@ use Rattle.mc_box.proofs.TakeThree.{take_three}
 pub take_made : (box : BoxState) (local : ℕ) (signal : Signal) (answer : Option Signal) (after : Slot) (turn : BoxStep)
     → slot_take (slot_at box local) signal ≡ Some record { answer = answer; after = after }
     → goal_step (with_slot box local after) local (cause_of signal after.state) ≡ Some turn
-    → take_step box local signal ≡ Some (answering local answer turn)
+    → take_step box local signal ≡ Some (with_answer local answer turn)
 take_made box local signal answer after turn goes turns = rw (goes, turns) refl
 
 -- the answer and the turn are at most three
 pub take_few : (box : BoxState) (local : ℕ) (signal : Signal) (answer : Option Signal) (after : Slot) (turn : BoxStep) → IsSoundBox box → local < length box.slots
     → slot_take (slot_at box local) signal ≡ Some record { answer = answer; after = after }
     → goal_step (with_slot box local after) local (cause_of signal after.state) ≡ Some turn
-    → length (answered answer) + length turn.sent ≤ 3
+    → length (answer_signals answer) + length turn.sent ≤ 3
 take_few box local signal answer after turn sound inside goes turns =
     omega (
       arith,
-      take_three box local signal (answering local answer turn) sound inside (take_made box local signal answer after turn goes turns),
-      length-append (map (pair_of local) (answered answer)) turn.sent,
-      length-map (answered answer) (pair_of local),
+      take_three box local signal (with_answer local answer turn) sound inside (take_made box local signal answer after turn goes turns),
+      length-append (map (pair_of local) (answer_signals answer)) turn.sent,
+      length-map (answer_signals answer) (pair_of local),
     )
 
 -- how many signals a turn sends

@@ -4,7 +4,7 @@ use Rattle.std.specs.Option.{option_map}
 use Rattle.std.proofs.Math.ListN.{get_or, set}
 use Rattle.std.proofs.lemmas.Bool.{cases_eq}
 use Rattle.std.proofs.lemmas.List.{get_or-set_same, get_or-set_other}
-use Rattle.mc_link.specs.LinkTurn.{link_turn, numbered, sent_by_first, sent_by_second, closed_side}
+use Rattle.mc_link.specs.LinkTurn.{link_turn, with_number, sent_by_first, sent_by_second, closed_side}
 use Rattle.mc_link.specs.declared.Side.{Side}
 use Rattle.mc_link.proofs.Sides.{sent_both}
 use Rattle.mc_signal.specs.declared.Signal.{Signal}
@@ -17,7 +17,7 @@ use Rattle.mc_slot.specs.declared.Slot.{Slot}
 use Rattle.mc_slot.specs.declared.SlotGoal.{SlotGoal}
 use Rattle.mc_slot.specs.declared.SlotGoal.TheVariants.{End, Link}
 use Rattle.mc_box.specs.Acting.{sent_by, IsSameMake}
-use Rattle.mc_box.specs.BoxEvents.{BoxStep, followed, goal_step, side_of, goal_step_by, goal_steps}
+use Rattle.mc_box.specs.BoxEvents.{BoxStep, sends_first, goal_step, side_of, goal_step_by, goal_steps}
 use Rattle.mc_box.specs.BoxSound.{IsWired}
 use Rattle.mc_box.specs.Boxes.{BoxState, no_slot, slot_at, goal_at, own, sender, with_slot}
 use Rattle.mc_box.proofs.Folds.{AreInside}
@@ -92,21 +92,21 @@ end_each box local last signals here goes k inside = elim (cases_eq k local) [
 
 pair_each : (box : BoxState) (low high : ℕ) (first second : Slot) (l : List (Side × Signal)) → low < high → high < length box.slots
     → slot_send_all (slot_at box low) (sent_by_first l) ≡ Some first → slot_send_all (slot_at box high) (sent_by_second l) ≡ Some second
-    → SendsEach box (map (numbered low high) l) (with_slot (with_slot box low first) high second)
+    → SendsEach box (map (with_number low high) l) (with_slot (with_slot box low first) high second)
 pair_each box low high first second l order here one two k inside =
     let apart : low ≢ high = omega arith in
     elim (cases_eq k low) [
       | inl same ↦
-          subst (λ (j : ℕ). slot_send_all (slot_at box j) (sent_by j (map (numbered low high) l)) ≡ Some (get_or (set (set box.slots low first) high second) j no_slot)) (sym same)
-          (sends_part (slot_at box low) first (get_or (set (set box.slots low first) high second) low no_slot) (sent_by_first l) (sent_by low (map (numbered low high) l))
+          subst (λ (j : ℕ). slot_send_all (slot_at box j) (sent_by j (map (with_number low high) l)) ≡ Some (get_or (set (set box.slots low first) high second) j no_slot)) (sym same)
+          (sends_part (slot_at box low) first (get_or (set (set box.slots low first) high second) low no_slot) (sent_by_first l) (sent_by low (map (with_number low high) l))
           (sent_by_low low high l apart) (pair_low box.slots low high first second order (omega arith)) one)
       | inr below ↦ elim (cases_eq k high) [
         | inl same ↦
-            subst (λ (j : ℕ). slot_send_all (slot_at box j) (sent_by j (map (numbered low high) l)) ≡ Some (get_or (set (set box.slots low first) high second) j no_slot)) (sym same)
-            (sends_part (slot_at box high) second (get_or (set (set box.slots low first) high second) high no_slot) (sent_by_second l) (sent_by high (map (numbered low high) l))
+            subst (λ (j : ℕ). slot_send_all (slot_at box j) (sent_by j (map (with_number low high) l)) ≡ Some (get_or (set (set box.slots low first) high second) j no_slot)) (sym same)
+            (sends_part (slot_at box high) second (get_or (set (set box.slots low first) high second) high no_slot) (sent_by_second l) (sent_by high (map (with_number low high) l))
             (sent_by_high low high l apart) (pair_high box.slots low high first second here) two)
         | inr above ↦
-            sends_none (slot_at box k) (get_or (set (set box.slots low first) high second) k no_slot) (sent_by k (map (numbered low high) l))
+            sends_none (slot_at box k) (get_or (set (set box.slots low first) high second) k no_slot) (sent_by k (map (with_number low high) l))
             (sent_by_neither k low high l below above) (pair_else box.slots low high k first second below above)
       ]
     ]
@@ -145,7 +145,7 @@ turn_acts box local cause step wired here goes =
 turns_end : (box : BoxState) (step : BoxStep) → record { sent = []; after = box } ≡ step → TurnActs box step
 turns_end box step is = subst (λ (s : BoxStep). TurnActs box s) is (record { each = none_each box; make = make_same box })
 
-turns_next : (box : BoxState) (turn more step : BoxStep) → TurnActs box turn → TurnActs turn.after more → followed turn.sent more ≡ step → TurnActs box step
+turns_next : (box : BoxState) (turn more step : BoxStep) → TurnActs box turn → TurnActs turn.after more → sends_first turn.sent more ≡ step → TurnActs box step
 turns_next box turn more step one two is =
     subst (λ (s : BoxStep). TurnActs box s) is
     (record {
@@ -157,8 +157,8 @@ pub turns_act : (locals : List ℕ) (box : BoxState) (step : BoxStep) → IsWire
     → goal_steps box locals ≡ Some step → TurnActs box step
 turns_act [] box step wired inside goes = let same : record { sent = []; after = box } ≡ step = cc in turns_end box step same
 turns_act (local ∷ locals) box step wired inside goes =
-    let one = then_some (λ (turn : BoxStep). option_map (followed turn.sent) (goal_steps turn.after locals)) (goal_step box local Push) step goes in
-    let two = map_some (followed one.0.sent) (goal_steps one.0.after locals) step one.2 in
+    let one = then_some (λ (turn : BoxStep). option_map (sends_first turn.sent) (goal_steps turn.after locals)) (goal_step box local Push) step goes in
+    let two = map_some (sends_first one.0.sent) (goal_steps one.0.after locals) step one.2 in
     let made = turned box local Push one.0 wired inside.0 one.1 in
     let acts = turn_acts box local Push one.0 wired inside.0 one.1 in
     turns_next box one.0 two.0 step acts

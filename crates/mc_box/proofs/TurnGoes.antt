@@ -1,6 +1,6 @@
 -- Each goal of a wired box may have its turn: its slots may send all that the turn is to send.
 use Rattle.std.proofs.Common.{◌≡◌, ◌&&◌, ℕ, Bool, true, false, Option, Some, None, List, [], ◌∷◌, ◌++◌, IsSome, length, max, min, refl, ap, sym, ◌∙◌, subst, arith}
-use Rattle.mc_link.specs.LinkLaws.{flipped}
+use Rattle.mc_link.specs.LinkLaws.{other_side}
 use Rattle.mc_link.specs.LinkTurn.{can_close, selector_due, pass_selector, lean, link_turn, descriptor_due, sent_by_first, sent_by_second, closed_side}
 use Rattle.mc_link.specs.declared.Side.{Side}
 use Rattle.mc_link.specs.declared.Side.TheVariants.{First, Second}
@@ -121,7 +121,7 @@ first_goes (Some Second) a b kept = near_by (can_close a.state) a b kept refl
 -- and so may the second
 pub second_goes : (closed : Option Side) (a b : Slot) → Kept a → IsSome (slot_send_all b (sent_by_second (link_turn a b closed)))
 second_goes closed a b kept =
-    subst (λ (l : List Signal). IsSome (slot_send_all b l)) (link_mirror a b closed).0 (first_goes (flipped closed) b a kept)
+    subst (λ (l : List Signal). IsSome (slot_send_all b l)) (link_mirror a b closed).0 (first_goes (other_side closed) b a kept)
 
 -- ---- a turn
 

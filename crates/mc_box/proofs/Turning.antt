@@ -9,7 +9,7 @@ use Rattle.mc_signal.specs.declared.Signal.{Signal}
 use Rattle.mc_slot.specs.declared.Goal.TheVariants.{Close as ToClose}
 use Rattle.mc_slot.specs.declared.SlotGoal.{SlotGoal}
 use Rattle.mc_slot.specs.declared.SlotGoal.TheVariants.{End}
-use Rattle.mc_box.specs.BoxEvents.{Appends, BoxStep, followed, goal_step, goal_steps}
+use Rattle.mc_box.specs.BoxEvents.{Appends, BoxStep, sends_first, goal_step, goal_steps}
 use Rattle.mc_box.specs.BoxSound.{IsWired}
 use Rattle.mc_box.specs.Boxes.{BoxState, goal_at}
 use Rattle.mc_box.specs.Goals.{changed_from, changed_slots, has_turn, most_signals}
@@ -25,15 +25,15 @@ pub record Turning (start now : BoxState) (olds : List SlotGoal) (i : ℕ) (befo
   pub sent : List (ℕ × Signal)
   pub is : items ≡ before ++ sent
   pub few : length sent ≤ total (cost_at start.goals) i
-  pub rest : option_map (followed sent) (goal_steps now (changed_from i (drop i olds) (drop i start.goals))) ≡ goal_steps start (changed_slots olds start.goals)
+  pub rest : option_map (sends_first sent) (goal_steps now (changed_from i (drop i olds) (drop i start.goals))) ≡ goal_steps start (changed_slots olds start.goals)
 
 -- ---- what was sent before
 
-followed_none : (o : Option BoxStep) → option_map (followed []) o ≡ o
+followed_none : (o : Option BoxStep) → option_map (sends_first []) o ≡ o
 followed_none None = refl
 followed_none (Some step) = refl
 
-followed_both : (sent more : List (ℕ × Signal)) (o : Option BoxStep) → option_map (followed sent) (option_map (followed more) o) ≡ option_map (followed (sent ++ more)) o
+followed_both : (sent more : List (ℕ × Signal)) (o : Option BoxStep) → option_map (sends_first sent) (option_map (sends_first more) o) ≡ option_map (sends_first (sent ++ more)) o
 followed_both sent more None = refl
 followed_both sent more (Some step) = ap (λ (l : List (ℕ × Signal)). Some (record step { sent = l })) (sym (append_assoc sent more step.sent))
 
@@ -81,7 +81,7 @@ turning_skip start now olds i before items inside size wired turns so_far =
       sent = so_far.sent;
       is = so_far.is;
       few = omega (arith, so_far.few, total_grows (cost_at start.goals) i (i + 1) (omega arith));
-      rest = ap (λ (l : List ℕ). option_map (followed so_far.sent) (goal_steps now l)) (sym same) ∙ so_far.rest;
+      rest = ap (λ (l : List ℕ). option_map (sends_first so_far.sent) (goal_steps now l)) (sym same) ∙ so_far.rest;
     }
 
 -- one that has: what is sent, and the box after it
@@ -99,8 +99,8 @@ turning_turn start now next olds i before items more inside size wired turns goe
     let made = turned now i Push (record { sent = more; after = next }) so_far.wired here goes in
     let paid : most_signals (get_or start.goals i (End ToClose)) ≤ cost_at start.goals i = turn_cost i (get_or olds i (End ToClose)) (get_or start.goals i (End ToClose)) yes in
     let few : length more ≤ most_signals (get_or start.goals i (End ToClose)) = subst (λ (l : List SlotGoal). length more ≤ most_signals (get_or l i (End ToClose))) so_far.goals made.few in
-    let turn : goal_steps now (i ∷ changed_from (i + 1) (drop (i + 1) olds) (drop (i + 1) start.goals)) ≡ option_map (followed more) (goal_steps next (changed_from (i + 1) (drop (i + 1) olds) (drop (i + 1) start.goals))) =
-    ap (λ (o : Option BoxStep). option_and_then (λ (step : BoxStep). option_map (followed step.sent) (goal_steps step.after (changed_from (i + 1) (drop (i + 1) olds) (drop (i + 1) start.goals)))) o) goes in
+    let turn : goal_steps now (i ∷ changed_from (i + 1) (drop (i + 1) olds) (drop (i + 1) start.goals)) ≡ option_map (sends_first more) (goal_steps next (changed_from (i + 1) (drop (i + 1) olds) (drop (i + 1) start.goals))) =
+    ap (λ (o : Option BoxStep). option_and_then (λ (step : BoxStep). option_map (sends_first step.sent) (goal_steps step.after (changed_from (i + 1) (drop (i + 1) olds) (drop (i + 1) start.goals)))) o) goes in
     record {
       wired = subst (λ (b : BoxState). IsWired b) (sym made.is) made.wired;
       goals = ap (λ (b : BoxState). b.goals) made.is ∙ so_far.goals;
@@ -109,8 +109,8 @@ turning_turn start now next olds i before items more inside size wired turns goe
       is = ap (λ (l : List (ℕ × Signal)). l ++ more) so_far.is ∙ append_assoc before so_far.sent more;
       few = omega (arith, length-append so_far.sent more, so_far.few, few, paid, total_next (cost_at start.goals) i);
       rest = sym (followed_both so_far.sent more (goal_steps next (changed_from (i + 1) (drop (i + 1) olds) (drop (i + 1) start.goals))))
-          ∙ (ap (λ (o : Option BoxStep). option_map (followed so_far.sent) o) (sym turn)
-          ∙ (ap (λ (l : List ℕ). option_map (followed so_far.sent) (goal_steps now l)) (sym same) ∙ so_far.rest));
+          ∙ (ap (λ (o : Option BoxStep). option_map (sends_first so_far.sent) o) (sym turn)
+          ∙ (ap (λ (l : List ℕ). option_map (sends_first so_far.sent) (goal_steps now l)) (sym same) ∙ so_far.rest));
     }
 
 -- when all have had theirs
@@ -118,8 +118,8 @@ pub turning_last : (start now : BoxState) (olds : List SlotGoal) (i : ℕ) (befo
     → Turning start now olds i before items → Appends (goal_steps start (changed_slots olds start.goals)) now before items
 turning_last start now olds i before items past so_far =
     let none : drop i olds ≡ [] = drop_all i olds past in
-    let end : option_map (followed so_far.sent) (goal_steps now (changed_from i (drop i olds) (drop i start.goals))) ≡ Some (record { sent = so_far.sent ++ []; after = now }) =
-    ap (λ (l : List SlotGoal). option_map (followed so_far.sent) (goal_steps now (changed_from i l (drop i start.goals)))) none in
+    let end : option_map (sends_first so_far.sent) (goal_steps now (changed_from i (drop i olds) (drop i start.goals))) ≡ Some (record { sent = so_far.sent ++ []; after = now }) =
+    ap (λ (l : List SlotGoal). option_map (sends_first so_far.sent) (goal_steps now (changed_from i l (drop i start.goals)))) none in
     record {
       sent = so_far.sent;
       goes = sym so_far.rest ∙ (end ∙ ap (λ (l : List (ℕ × Signal)). Some (record { sent = l; after = now })) (append-nil so_far.sent));

@@ -1,7 +1,7 @@
 -- What each slot of a box does while the box makes a step: it takes the first of what is under way to it, or nothing, and then sends.
 use Rattle.std.specs.Prelude.{◌≡◌, ◌<◌, ◌==◌, ℕ, Option, Some, if◌then◌else◌, List, [], ◌∷◌, ◌++◌, length}
 use Rattle.mc_signal.specs.declared.Signal.{Signal}
-use Rattle.mc_slot.specs.Moves.{answered, slot_send_all, slot_take}
+use Rattle.mc_slot.specs.Moves.{answer_signals, slot_send_all, slot_take}
 use Rattle.mc_slot.specs.declared.Slot.{Slot}
 use Rattle.mc_box.specs.BoxEvents.{BoxStep}
 use Rattle.mc_box.specs.BoxSound.{IsSoundBox}
@@ -11,7 +11,7 @@ use Rattle.mc_box.specs.Boxes.{BoxState, media_at, slot_at}
 pub data Acted : Slot → List Signal → List Signal → Slot → List Signal → Type 0 where
   sends : {a after : Slot} {to_a signals : List Signal} → slot_send_all a signals ≡ Some after → Acted a to_a signals after to_a
   takes : {a after : Slot} {signal : Signal} {rest : List Signal} (middle : Slot) (signals : List Signal) (answer : Option Signal)
-      → slot_take a signal ≡ Some record { answer = answer; after = middle } → slot_send_all middle signals ≡ Some after → Acted a (signal ∷ rest) (answered answer ++ signals) after rest
+      → slot_take a signal ≡ Some record { answer = answer; after = middle } → slot_send_all middle signals ≡ Some after → Acted a (signal ∷ rest) (answer_signals answer ++ signals) after rest
 
 -- what one slot sends, of all that its box sends, in order
 abbrev pub sent_by : ℕ → List (ℕ × Signal) → List Signal

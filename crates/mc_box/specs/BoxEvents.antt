@@ -1,12 +1,12 @@
 -- One event of one box: what it sends, and what it is after that. An event that has no case can't happen.
 use Rattle.std.specs.Prelude.{◌≡◌, ℕ, ◌+◌, ◌==◌, ◌&&◌, Bool, true, false, if◌then◌else◌, not, List, [], ◌∷◌, ◌++◌, map, max, min, nat_lt, Option, Some, None}
 use Rattle.std.specs.Option.{option_map, option_and_then}
-use Rattle.mc_link.specs.LinkTurn.{link_turn, numbered, sent_by_first, sent_by_second, closed_side}
+use Rattle.mc_link.specs.LinkTurn.{link_turn, with_number, sent_by_first, sent_by_second, closed_side}
 use Rattle.mc_link.specs.declared.Side.{Side}
 use Rattle.mc_link.specs.declared.Side.TheVariants.{First, Second}
 use Rattle.mc_signal.specs.declared.Signal.{Signal}
 use Rattle.mc_slot.specs.EndTurn.{end_turn, cause_of, is_push}
-use Rattle.mc_slot.specs.Moves.{slot_take, slot_send_all, answered, is_same_medium}
+use Rattle.mc_slot.specs.Moves.{slot_take, slot_send_all, answer_signals, is_same_medium}
 use Rattle.mc_slot.specs.Sending.{pair_of, sends_of}
 use Rattle.mc_slot.specs.declared.Cause.{Cause}
 use Rattle.mc_slot.specs.declared.Cause.TheVariants.{Other, Push}
@@ -48,7 +48,7 @@ end_step goal box local cause =
 abbrev pub pair_step : BoxState → ℕ → ℕ → Option Side → Option BoxStep
 pair_step box low high closed =
     let signals = link_turn (slot_at box low) (slot_at box high) closed in
-    option_and_then (λ first. option_map (λ second. record { sent = map (numbered low high) signals; after = with_slot (with_slot box low first) high second })
+    option_and_then (λ first. option_map (λ second. record { sent = map (with_number low high) signals; after = with_slot (with_slot box low first) high second })
     (slot_send_all (slot_at box high) (sent_by_second signals)))
     (slot_send_all (slot_at box low) (sent_by_first signals))
 
@@ -71,26 +71,26 @@ goal_step box local cause = goal_step_by (goal_at box local) box local cause
 -- ---- a signal is taken
 
 -- an answer stands before what the goal sends
-abbrev pub answering : ℕ → Option Signal → BoxStep → BoxStep
-answering local answer step = record step { sent = map (pair_of local) (answered answer) ++ step.sent }
+abbrev pub with_answer : ℕ → Option Signal → BoxStep → BoxStep
+with_answer local answer step = record step { sent = map (pair_of local) (answer_signals answer) ++ step.sent }
 
 -- the slot takes the signal, and the goal that holds it has its turn
 abbrev pub take_step : BoxState → ℕ → Signal → Option BoxStep
 take_step box local signal =
-    option_and_then (λ took. option_map (answering local took.answer)
+    option_and_then (λ took. option_map (with_answer local took.answer)
     (goal_step (with_slot box local took.after) local (cause_of signal took.after.state)))
     (slot_take (slot_at box local) signal)
 
 -- ---- goals change
 
 -- what was sent before stands first
-abbrev pub followed : List (ℕ × Signal) → BoxStep → BoxStep
-followed sent step = record step { sent = sent ++ step.sent }
+abbrev pub sends_first : List (ℕ × Signal) → BoxStep → BoxStep
+sends_first sent step = record step { sent = sent ++ step.sent }
 
 -- the goals of these slots have their turns one after another, each pushed
 abbrev pub goal_steps : BoxState → List ℕ → Option BoxStep
 goal_steps box [] = Some (record { sent = []; after = box })
-goal_steps box (local ∷ locals) = option_and_then (λ step. option_map (followed step.sent) (goal_steps step.after locals)) (goal_step box local Push)
+goal_steps box (local ∷ locals) = option_and_then (λ step. option_map (sends_first step.sent) (goal_steps step.after locals)) (goal_step box local Push)
 
 -- each goal that isn't as it was has its turn
 abbrev pub changed_steps : BoxState → List SlotGoal → Option BoxStep
@@ -150,16 +150,16 @@ is_enabled box (Retry local) = is_slot box local && box_owes box local
 is_enabled box event = false
 
 -- what an event that takes nothing does
-abbrev pub happening : BoxState → Event → Option BoxStep
-happening box (Set change) = set_step box change
-happening box (Media change) = media_step box change
-happening box (Retry local) = goal_step box local Push
-happening box event = None
+abbrev pub event_step : BoxState → Event → Option BoxStep
+event_step box (Set change) = set_step box change
+event_step box (Media change) = media_step box change
+event_step box (Retry local) = goal_step box local Push
+event_step box event = None
 
 -- an event of a box, with the signal that it takes; a Take alone takes one
 abbrev pub box_event : BoxState → Event → Option Signal → Option BoxStep
 box_event box (Take local) (Some signal) = if is_slot box local then take_step box local signal else None
-box_event box event None = if is_enabled box event then happening box event else None
+box_event box event None = if is_enabled box event then event_step box event else None
 box_event box event (Some signal) = None
 
 -- a Hear has no case where its slot's version is the last

@@ -8,15 +8,15 @@ use Rattle.mc_box.specs.declared.event.Change.{Change}
 use Rattle.mc_box.specs.declared.event.Change.TheVariants.{End as NewEnd, Link as NewLink}
 
 -- a slot that was linked with this one holds from now on
-abbrev pub parted : ℕ → SlotGoal → SlotGoal
-parted local (End goal) = End goal
-parted local (Link partner) = if partner == local then End ToHold else Link partner
+abbrev pub without_link : ℕ → SlotGoal → SlotGoal
+without_link local (End goal) = End goal
+without_link local (Link partner) = if partner == local then End ToHold else Link partner
 
 -- what the goal of a slot becomes: an end gets its goal, two slots are linked, and each former partner of these holds
 abbrev pub goal_after : Change → ℕ → SlotGoal → SlotGoal
-goal_after (NewEnd slot goal) local old = if local == slot then End goal else parted slot old
+goal_after (NewEnd slot goal) local old = if local == slot then End goal else without_link slot old
 goal_after (NewLink first second) local old =
-    if local == first then Link second else (if local == second then Link first else parted first (parted second old))
+    if local == first then Link second else (if local == second then Link first else without_link first (without_link second old))
 
 -- the same for the goals from a slot on
 abbrev pub goals_from : Change → ℕ → List SlotGoal → List SlotGoal

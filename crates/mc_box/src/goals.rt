@@ -1,15 +1,15 @@
 // How goals change, and which of them have their turn then.
 
 ghost use Rattle.std.specs.Prelude.{◌≡◌, ◌≤◌, ◌++◌, length, take};
-ghost use Rattle.mc_box.specs.Goals.{goal_after, change_goals, has_turn, leads, parted};
+ghost use Rattle.mc_box.specs.Goals.{goal_after, change_goals, has_turn, leads, without_link};
 ghost use Rattle.mc_box.specs.declared.limit.TheConstants.{SLOT_LIMIT};
 
 use crate::event::Change;
 use mc_slot::{Goal, SlotGoal};
 
 // What the goal of a slot becomes where a slot gets another goal with which it may have been linked.
-fn parted(local: u8, old: SlotGoal) -> SlotGoal
-    ensures { result ≡ parted local old }
+fn without_link(local: u8, old: SlotGoal) -> SlotGoal
+    ensures { result ≡ without_link local old }
 {
     match old {
         SlotGoal::Link(partner) => {
@@ -33,7 +33,7 @@ pub fn goal_after(change: Change, local: u8, old: SlotGoal) -> SlotGoal
             if local == slot {
                 SlotGoal::End(goal)
             } else {
-                parted(slot, old)
+                without_link(slot, old)
             }
         }
         Change::Link(first, second) => {
@@ -42,7 +42,7 @@ pub fn goal_after(change: Change, local: u8, old: SlotGoal) -> SlotGoal
             } else if local == second {
                 SlotGoal::Link(first)
             } else {
-                parted(first, parted(second, old))
+                without_link(first, without_link(second, old))
             }
         }
     }

@@ -2,7 +2,7 @@
 
 ghost use Rattle.std.specs.Prelude.{◌≡◌, ◌+◌, ◌<◌, ◌≤◌, ◌++◌, length, map, max, min, Some, IsSome, IsTrue};
 ghost use Rattle.mc_link.specs.LinkTurn.{NamesClosed, closed_side};
-ghost use Rattle.mc_slot.specs.Moves.{answered, slot_take};
+ghost use Rattle.mc_slot.specs.Moves.{answer_signals, slot_take};
 ghost use Rattle.mc_slot.specs.Sending.{pair_of, sends_of};
 ghost use Rattle.mc_slot.specs.declared.State.TheVariants.{Closed};
 ghost use Rattle.mc_box.specs.BoxEvents.{end_step, goal_step, link_step, pair_step, side_of, step_of, take_step};

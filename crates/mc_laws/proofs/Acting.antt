@@ -1,7 +1,7 @@
 -- A slot that acts leaves its tunnel sound.
 use Rattle.std.proofs.Common.{List, ◌++◌, append_assoc, subst, arith}
 use Rattle.mc_signal.specs.declared.Signal.{Signal}
-use Rattle.mc_slot.specs.Moves.{answered}
+use Rattle.mc_slot.specs.Moves.{answer_signals}
 use Rattle.mc_slot.specs.Tunnel.{TunnelSound}
 use Rattle.mc_slot.specs.declared.Slot.{Slot}
 use Rattle.mc_box.specs.Acting.{Acted, sends, takes}
@@ -14,8 +14,8 @@ pub act_keeps : (a : Slot) (to_a signals : List Signal) (after : Slot) (rest : L
 act_keeps a to_a signals after _ (sends goes) b to_b sound = sends_keep signals a to_a b to_b after sound goes
 act_keeps a _ _ after rest (takes {signal = signal} middle signals answer goes sent) b to_b sound =
     let one = take_keeps a signal rest b to_b answer middle sound goes in
-    let two = sends_keep signals middle rest b (to_b ++ answered answer) after one sent in
-    subst (λ (l : List Signal). TunnelSound after rest b l) (append_assoc to_b (answered answer) signals) two
+    let two = sends_keep signals middle rest b (to_b ++ answer_signals answer) after one sent in
+    subst (λ (l : List Signal). TunnelSound after rest b l) (append_assoc to_b (answer_signals answer) signals) two
 
 -- what comes to its list meanwhile makes no difference
 pub longer : (more : List Signal) (a : Slot) (to_a signals : List Signal) (after : Slot) (rest : List Signal) → Acted a to_a signals after rest → Acted a (to_a ++ more) signals after (rest ++ more)

@@ -8,7 +8,7 @@ use Rattle.mc_box.proofs.EventGoes.{event_goes}
 use Rattle.mc_box.proofs.ShapeEnables.{shape_enables}
 use Rattle.mc_model.specs.Shapes.{CommandGoes, RetryGoes, is_allowed}
 use Rattle.mc_model.specs.Sound.{IsSound}
-use Rattle.mc_model.specs.Steps.{ends_version, made, step}
+use Rattle.mc_model.specs.Steps.{ends_version, after_making, step}
 use Rattle.mc_model.specs.Worlds.{WorldState, box_at, place}
 use Rattle.mc_box.specs.declared.event.Event.{Event}
 use Rattle.mc_box.specs.declared.event.Event.TheVariants.{Take, Set, Media, Tell, Retry, Shift}
@@ -31,18 +31,18 @@ some_mapped f o x is = rw is refl
 act_steps : (world : WorldState) (who : ℕ) (event : Event) (turn : BoxStep) → is_take event ≡ false → nat_lt who (length world.boxes) ≡ true → box_event (box_at world who) event None ≡ Some turn
     → IsSome (step world (record { who = who; event = event }))
 act_steps world who (Take local) turn other below goes = absurd (cc)
-act_steps world who (Set change) turn other below goes = rw below (some_mapped (made world who) (box_event (box_at world who) (Set change) None) turn goes)
-act_steps world who (Media change) turn other below goes = rw below (some_mapped (made world who) (box_event (box_at world who) (Media change) None) turn goes)
-act_steps world who (Tell word) turn other below goes = rw below (some_mapped (made world who) (box_event (box_at world who) (Tell word) None) turn goes)
-act_steps world who (Retry local) turn other below goes = rw below (some_mapped (made world who) (box_event (box_at world who) (Retry local) None) turn goes)
-act_steps world who Shift turn other below goes = rw below (some_mapped (made world who) (box_event (box_at world who) Shift None) turn goes)
+act_steps world who (Set change) turn other below goes = rw below (some_mapped (after_making world who) (box_event (box_at world who) (Set change) None) turn goes)
+act_steps world who (Media change) turn other below goes = rw below (some_mapped (after_making world who) (box_event (box_at world who) (Media change) None) turn goes)
+act_steps world who (Tell word) turn other below goes = rw below (some_mapped (after_making world who) (box_event (box_at world who) (Tell word) None) turn goes)
+act_steps world who (Retry local) turn other below goes = rw below (some_mapped (after_making world who) (box_event (box_at world who) (Retry local) None) turn goes)
+act_steps world who Shift turn other below goes = rw below (some_mapped (after_making world who) (box_event (box_at world who) Shift None) turn goes)
 
 -- an enabled event that takes nothing and ends no version
 pub enabled_goes : (world : WorldState) (who : ℕ) (event : Event) → IsSound world → nat_lt who (length world.boxes) ≡ true → is_enabled (box_at world who) event ≡ true
     → is_take event ≡ false → is_version_end (box_at world who) event ≡ false → IsSome (step world (record { who = who; event = event }))
 enabled_goes world who event sound below enabled other stays =
-    let made = some_of (box_event (box_at world who) event None) (event_goes (box_at world who) event (sound.boxes who (box_inside world who below)) enabled other stays) in
-    act_steps world who event made.0 other below made.1
+    let after_making = some_of (box_event (box_at world who) event None) (event_goes (box_at world who) event (sound.boxes who (box_inside world who below)) enabled other stays) in
+    act_steps world who event after_making.0 other below after_making.1
 
 -- what a command that a world allows is
 pub record Allowed (world : WorldState) (turn : Turn) : Type 0 where
@@ -88,6 +88,6 @@ retry_goes world s sound inside owes =
     let box : BoxState = box_at world (place world s).0 in
     let placed = sound.numbered.placed s inside in
     let here : is_slot box (place world s).1 ≡ true = below_test (place world s).1 (length box.slots) (sound.numbered.slots s inside) in
-    let made = some_of (box_event box (Retry (place world s).1) None)
+    let after_making = some_of (box_event box (Retry (place world s).1) None)
     (event_goes box (Retry (place world s).1) (sound.boxes (place world s).0 placed) (both_is (is_slot box (place world s).1) (box_owes box (place world s).1) here owes) refl refl) in
-    act_steps world (place world s).0 (Retry (place world s).1) made.0 refl (below_test (place world s).0 (length world.boxes) placed) made.1
+    act_steps world (place world s).0 (Retry (place world s).1) after_making.0 refl (below_test (place world s).0 (length world.boxes) placed) after_making.1

@@ -12,7 +12,7 @@ use Rattle.mc_link.proofs.LinkPays.{link_pays}
 use Rattle.mc_signal.specs.declared.Signal.{Signal}
 use Rattle.mc_signal.specs.declared.Tagged.{Tagged}
 use Rattle.mc_slot.specs.EndTurn.{end_turn, IsAtRest, cause_of, is_push}
-use Rattle.mc_slot.specs.Moves.{answered}
+use Rattle.mc_slot.specs.Moves.{answer_signals}
 use Rattle.mc_slot.specs.declared.Goal.{Goal}
 use Rattle.mc_slot.specs.declared.Slot.{Slot}
 use Rattle.mc_slot.specs.declared.SlotGoal.{SlotGoal}
@@ -163,7 +163,7 @@ end_lowers world boxes lanes s n tunnels goal took sound far_from aims did =
     let local : ℕ = (place world s).1 in
     let left : ℕ → List Signal = took.happened.stepped.left in
     let sent : ℕ → List Signal = took.happened.stepped.sent in
-    let signals : List Signal = answered did.answer ++ end_turn goal did.middle (is_push (cause_of took.signal did.middle.state)) (own_descriptor world s) (own_sender world s) in
+    let signals : List Signal = answer_signals did.answer ++ end_turn goal did.middle (is_push (cause_of took.signal did.middle.state)) (own_descriptor world s) (own_sender world s) in
     let stay : GoalsStay next world = take_goals_stay world next s took sound in
     let idle_slot = λ (who k : ℕ) (away : who ≡ (place world s).0 → k ≢ local). idle_stays world next s who k took (λ same. did.others k (away same)) in
     let change = total_one (by_sent n tunnels next left sent) (to_come n tunnels world) (slot_count world) s took.inside
@@ -216,7 +216,7 @@ link_lowers world boxes lanes s p n tunnels partner took sound far_from aims pai
     let left : ℕ → List Signal = took.happened.stepped.left in
     let sent : ℕ → List Signal = took.happened.stepped.sent in
     let after : BoxState = took.happened.step.after in
-    let signals : List Signal = answered did.answer ++ sent_by_first (link_turn did.middle (slot_at box partner) (closed_side (cause_of took.signal did.middle.state) First)) in
+    let signals : List Signal = answer_signals did.answer ++ sent_by_first (link_turn did.middle (slot_at box partner) (closed_side (cause_of took.signal did.middle.state) First)) in
     let others : List Signal = sent_by_second (link_turn did.middle (slot_at box partner) (closed_side (cause_of took.signal did.middle.state) First)) in
     let box_sound = sound.boxes (place world s).0 (sound.numbered.placed s took.inside) in
     let stay : GoalsStay next world = take_goals_stay world next s took sound in

@@ -9,7 +9,7 @@ use Rattle.mc_signal.specs.declared.Tagged.{Tagged}
 use Rattle.mc_box.specs.Boxes.{BoxState}
 use Rattle.mc_laws.specs.Sendings.{sent_on, signal_on}
 use Rattle.mc_model.specs.Served.{AllServed}
-use Rattle.mc_model.specs.Steps.{pushed, sent_out}
+use Rattle.mc_model.specs.Steps.{after_push, after_sends}
 use Rattle.mc_model.specs.Worlds.{WorldState, far, for_tunnel, tunnel_of, lane_of, number, place, slot_count}
 use Rattle.mc_laws.proofs.ActedWorlds.{far_inside}
 use Rattle.mc_laws.proofs.LanesKept.{lane_apart, lane_in, sent_another, sent_own, tagged_for}
@@ -181,13 +181,13 @@ both_sent world lanes middle after who sending rest one two = record {
 -- what a box sends in a world with these boxes and lanes
 abbrev pub SendsOut : WorldState → List BoxState → List (List Tagged) → ℕ → List (ℕ × Signal) → Type 0
 SendsOut world boxes lanes who sendings =
-    (after : List (List Tagged)) × (sent_out (record world { boxes = boxes; lanes = lanes }) who sendings ≡ record world { boxes = boxes; lanes = after }) × Sent world lanes who sendings after
+    (after : List (List Tagged)) × (after_sends (record world { boxes = boxes; lanes = lanes }) who sendings ≡ record world { boxes = boxes; lanes = after }) × Sent world lanes who sendings after
 
 -- where its first sending goes
 first_sent : (found : Option ℕ) (world : WorldState) (boxes : List BoxState) (lanes : List (List Tagged)) (who : ℕ) (sending : ℕ × Signal) → AreOnce world → length lanes ≡ 2 * length world.channels
     → number world who sending.0 ≡ found
     → (middle : List (List Tagged))
-    × (unwrap_or (option_map (λ s. pushed (record world { boxes = boxes; lanes = lanes }) sending.1 (far s)) found) (record world { boxes = boxes; lanes = lanes }) ≡ record world { boxes = boxes; lanes = middle })
+    × (unwrap_or (option_map (λ s. after_push (record world { boxes = boxes; lanes = lanes }) sending.1 (far s)) found) (record world { boxes = boxes; lanes = lanes }) ≡ record world { boxes = boxes; lanes = middle })
     × Sent world lanes who (sending ∷ []) middle
 first_sent None world boxes lanes who sending once count is = (lanes, refl, unknown_sends world lanes who sending once is)
 first_sent (Some s) world boxes lanes who sending once count is = (with_signal world lanes (far s) sending.1, refl, slot_sends world lanes who s sending once count is)
@@ -198,4 +198,4 @@ sends_out [] world boxes lanes who once count = (lanes, refl, none_came world la
 sends_out (sending ∷ rest) world boxes lanes who once count =
     let one = first_sent (number world who sending.0) world boxes lanes who sending once count refl in
     let two = sends_out rest world boxes one.0 who once (one.2.count ∙ count) in
-    (two.0, ap (λ (w : WorldState). sent_out w who rest) one.1 ∙ two.1, both_sent world lanes one.0 two.0 who sending rest one.2 two.2)
+    (two.0, ap (λ (w : WorldState). after_sends w who rest) one.1 ∙ two.1, both_sent world lanes one.0 two.0 who sending rest one.2 two.2)

@@ -15,7 +15,7 @@ use Rattle.mc_laws.specs.Sendings.{sent_on}
 use Rattle.mc_model.specs.Sound.{IsNumbered, IsSound}
 use Rattle.mc_laws.specs.StepLaws.{StepActs}
 use Rattle.mc_laws.specs.Stepped.{Stepped}
-use Rattle.mc_model.specs.Steps.{made, popped, step, step_by, take_at}
+use Rattle.mc_model.specs.Steps.{after_making, after_pop, step, step_by, take_at}
 use Rattle.mc_model.specs.Worlds.{WorldState, box_at, for_tunnel, front, tunnel_of, lane_of, lane_to, list_to, number, place, slot_count, slot_of}
 use Rattle.mc_box.specs.declared.event.Event.{Event}
 use Rattle.mc_box.specs.declared.event.Event.TheVariants.{Take, Set, Media, Tell, Retry, Shift}
@@ -132,7 +132,7 @@ made_stepped world who step lanes after numbered below left acts sent = record {
 -- a box that acts makes a step of its world, by whichever of its slots it sends
 pub box_happens : (world next : WorldState) (who : ℕ) (event : Event) (signal : Option Signal) (step : BoxStep) (lanes : List (List Tagged)) → IsNumbered world → who < length world.boxes
     → box_event (box_at world who) event signal ≡ Some step → Left world who lanes
-    → BoxActs (box_at world who) (comes world who world.lanes) step (comes world who lanes) → made (record world { lanes = lanes }) who step ≡ next → Happened world next who event signal lanes
+    → BoxActs (box_at world who) (comes world who world.lanes) step (comes world who lanes) → after_making (record world { lanes = lanes }) who step ≡ next → Happened world next who event signal lanes
 unfolding made_stepped
 box_happens world next who event signal step lanes numbered below happens left acts goes =
     let out = sends_out step.sent world (set world.boxes who step.after) lanes who numbered.once (left.count ∙ numbered.lanes) in
@@ -153,13 +153,13 @@ all_left world who = record { count = refl; rest = λ lane. inl refl; others = �
 
 -- an event that takes nothing
 act_happens : (event : Event) (world next : WorldState) (who : ℕ) (step : BoxStep) → IsSound world → who < length world.boxes → box_event (box_at world who) event None ≡ Some step
-    → made world who step ≡ next → Happened world next who event None world.lanes
+    → after_making world who step ≡ next → Happened world next who event None world.lanes
 act_happens event world next who step sound below goes made_is =
     box_happens world next who event None step world.lanes sound.numbered below goes (all_left world who)
     (event_acts (box_at world who) event step (comes world who world.lanes) (comes world who world.lanes) (sound.boxes who below) goes (λ k inside. refl)) made_is
 
 act_turns : (event : Event) (world next : WorldState) (who : ℕ) (step : BoxStep) → IsSound world → who < length world.boxes → box_event (box_at world who) event None ≡ Some step
-    → made world who step ≡ next → Turned world next who event
+    → after_making world who step ≡ next → Turned world next who event
 act_turns event world next who step sound below goes made_is = turned_by world next who event None world.lanes (act_happens event world next who step sound below goes made_is)
 
 -- ---- a front leaves its lane
@@ -209,7 +209,7 @@ comes_else world who s local k signal numbered below there inside local_is front
 
 -- a Take
 take_happens : (world next : WorldState) (who local s : ℕ) (signal : Signal) (step : BoxStep) → IsSound world → who < length world.boxes → number world who local ≡ Some s → front world s ≡ Some signal
-    → box_event (box_at world who) (Take local) (Some signal) ≡ Some step → made (popped world s) who step ≡ next → Happened world next who (Take local) (Some signal) (without world s)
+    → box_event (box_at world who) (Take local) (Some signal) ≡ Some step → after_making (after_pop world s) who step ≡ next → Happened world next who (Take local) (Some signal) (without world s)
 take_happens world next who local s signal step sound below is first goes made_is =
     let found = number_is world who local s is in
     let there : lane_of world s < length world.lanes = subst (λ (n : ℕ). lane_of world s < n) (sym sound.numbered.lanes) (lane_in world s found.0) in
@@ -223,7 +223,7 @@ take_happens world next who local s signal step sound below is first goes made_i
     (λ k within apart. comes_else world who s local k signal sound.numbered below there found.0 found.2 fronts within apart)) made_is
 
 take_turns : (world next : WorldState) (who local s : ℕ) (signal : Signal) (step : BoxStep) → IsSound world → who < length world.boxes → number world who local ≡ Some s → front world s ≡ Some signal
-    → box_event (box_at world who) (Take local) (Some signal) ≡ Some step → made (popped world s) who step ≡ next → Turned world next who (Take local)
+    → box_event (box_at world who) (Take local) (Some signal) ≡ Some step → after_making (after_pop world s) who step ≡ next → Turned world next who (Take local)
 take_turns world next who local s signal step sound below is first goes made_is =
     turned_by world next who (Take local) (Some signal) (without world s) (take_happens world next who local s signal step sound below is first goes made_is)
 
@@ -232,19 +232,19 @@ take_turns world next who local s signal step sound below is first goes made_is 
 event_turns : (event : Event) (world next : WorldState) (who : ℕ) → IsSound world → who < length world.boxes → step_by world who event ≡ Some next → Turned world next who event
 event_turns (Take local) world next who sound below goes =
     let one = then_some (take_at world who local) (number world who local) next goes in
-    let two = then_some (λ (signal : Signal). option_map (made (popped world one.0) who) (box_event (box_at world who) (Take local) (Some signal))) (front world one.0) next one.2 in
-    let three = map_some (made (popped world one.0) who) (box_event (box_at world who) (Take local) (Some two.0)) next two.2 in
+    let two = then_some (λ (signal : Signal). option_map (after_making (after_pop world one.0) who) (box_event (box_at world who) (Take local) (Some signal))) (front world one.0) next one.2 in
+    let three = map_some (after_making (after_pop world one.0) who) (box_event (box_at world who) (Take local) (Some two.0)) next two.2 in
     take_turns world next who local one.0 two.0 three.0 sound below one.1 two.1 three.1 three.2
 event_turns (Set change) world next who sound below goes =
-    let one = map_some (made world who) (box_event (box_at world who) (Set change) None) next goes in act_turns (Set change) world next who one.0 sound below one.1 one.2
+    let one = map_some (after_making world who) (box_event (box_at world who) (Set change) None) next goes in act_turns (Set change) world next who one.0 sound below one.1 one.2
 event_turns (Media change) world next who sound below goes =
-    let one = map_some (made world who) (box_event (box_at world who) (Media change) None) next goes in act_turns (Media change) world next who one.0 sound below one.1 one.2
+    let one = map_some (after_making world who) (box_event (box_at world who) (Media change) None) next goes in act_turns (Media change) world next who one.0 sound below one.1 one.2
 event_turns (Tell word) world next who sound below goes =
-    let one = map_some (made world who) (box_event (box_at world who) (Tell word) None) next goes in act_turns (Tell word) world next who one.0 sound below one.1 one.2
+    let one = map_some (after_making world who) (box_event (box_at world who) (Tell word) None) next goes in act_turns (Tell word) world next who one.0 sound below one.1 one.2
 event_turns (Retry local) world next who sound below goes =
-    let one = map_some (made world who) (box_event (box_at world who) (Retry local) None) next goes in act_turns (Retry local) world next who one.0 sound below one.1 one.2
+    let one = map_some (after_making world who) (box_event (box_at world who) (Retry local) None) next goes in act_turns (Retry local) world next who one.0 sound below one.1 one.2
 event_turns Shift world next who sound below goes =
-    let one = map_some (made world who) (box_event (box_at world who) Shift None) next goes in act_turns Shift world next who one.0 sound below one.1 one.2
+    let one = map_some (after_making world who) (box_event (box_at world who) Shift None) next goes in act_turns Shift world next who one.0 sound below one.1 one.2
 
 pub step_turns : (world next : WorldState) (turn : Turn) → IsSound world → step world turn ≡ Some next → Turned world next turn.who turn.event
 step_turns world next turn sound goes =
@@ -268,8 +268,8 @@ take_happened world next who local sound goes =
     let open_step = if_some (nat_lt who (length world.boxes)) (step_by world who (Take local)) next goes in
     let below = box_inside world who open_step.0 in
     let one = then_some (take_at world who local) (number world who local) next open_step.1 in
-    let two = then_some (λ (signal : Signal). option_map (made (popped world one.0) who) (box_event (box_at world who) (Take local) (Some signal))) (front world one.0) next one.2 in
-    let three = map_some (made (popped world one.0) who) (box_event (box_at world who) (Take local) (Some two.0)) next two.2 in
+    let two = then_some (λ (signal : Signal). option_map (after_making (after_pop world one.0) who) (box_event (box_at world who) (Take local) (Some signal))) (front world one.0) next one.2 in
+    let three = map_some (after_making (after_pop world one.0) who) (box_event (box_at world who) (Take local) (Some two.0)) next two.2 in
     let found = number_is world who local one.0 one.1 in (
       one.0,
       record {
@@ -287,5 +287,5 @@ pub retry_happened : (world next : WorldState) (who local : ℕ) → IsSound wor
 retry_happened world next who local sound goes =
     let open_step = if_some (nat_lt who (length world.boxes)) (step_by world who (Retry local)) next goes in
     let below = box_inside world who open_step.0 in
-    let one = map_some (made world who) (box_event (box_at world who) (Retry local) None) next open_step.1 in
+    let one = map_some (after_making world who) (box_event (box_at world who) (Retry local) None) next open_step.1 in
     (below, act_happens (Retry local) world next who one.0 sound below one.1 one.2)

@@ -8,7 +8,7 @@ use Rattle.mc_signal.specs.declared.Sender.{Sender}
 use Rattle.mc_signal.specs.declared.Signal.{Signal}
 use Rattle.mc_signal.specs.declared.Tagged.{Tagged}
 use Rattle.mc_slot.specs.EndTurn.{end_turn, IsAtRest, is_push}
-use Rattle.mc_slot.specs.Moves.{answered, slot_send_all}
+use Rattle.mc_slot.specs.Moves.{answer_signals, slot_send_all}
 use Rattle.mc_slot.specs.Sending.{pair_of}
 use Rattle.mc_slot.specs.Tunnel.{Kept}
 use Rattle.mc_slot.specs.declared.Cause.{Cause}
@@ -18,12 +18,12 @@ use Rattle.mc_slot.specs.declared.Goal.TheVariants.{Close as ToClose}
 use Rattle.mc_slot.specs.declared.Slot.{Slot}
 use Rattle.mc_slot.specs.declared.SlotGoal.{SlotGoal}
 use Rattle.mc_slot.specs.declared.SlotGoal.TheVariants.{End}
-use Rattle.mc_box.specs.BoxEvents.{BoxStep, answering, goal_step}
+use Rattle.mc_box.specs.BoxEvents.{BoxStep, with_answer, goal_step}
 use Rattle.mc_box.specs.Boxes.{BoxState, goal_at, own, sender, slot_at, with_slot}
 use Rattle.mc_box.specs.Acting.{Acted, sends}
 use Rattle.mc_box.proofs.Options.{map_some}
 use Rattle.mc_model.specs.Sound.{IsNumbered}
-use Rattle.mc_model.specs.Steps.{made, pushed, sent_out, step, with_box, with_lane}
+use Rattle.mc_model.specs.Steps.{after_making, after_push, after_sends, step, with_box, with_lane}
 use Rattle.mc_model.specs.Worlds.{WorldState, far, tunnel_of, lane_of, lane_to, number, slot_count}
 use Rattle.mc_turn.proofs.EndRests.{rests_kept}
 use Rattle.mc_laws.proofs.ActedWorlds.{far_inside}
@@ -33,9 +33,9 @@ use Rattle.mc_laws.proofs.LanesKept.{far_lane, lane_in, tagged_for}
 -- ---- what is sent goes to the end of one lane
 
 sent_next : (world : WorldState) (who local s : ℕ) (signal : Signal) (signals : List Signal) → number world who local ≡ Some s
-    → sent_out world who (map (pair_of local) (signal ∷ signals)) ≡ sent_out (pushed world signal (far s)) who (map (pair_of local) signals)
+    → after_sends world who (map (pair_of local) (signal ∷ signals)) ≡ after_sends (after_push world signal (far s)) who (map (pair_of local) signals)
 sent_next world who local s signal signals is =
-    ap (λ (o : Option ℕ). sent_out (unwrap_or (option_map (λ (t : ℕ). pushed world signal (far t)) o) world) who (map (pair_of local) signals)) is
+    ap (λ (o : Option ℕ). after_sends (unwrap_or (option_map (λ (t : ℕ). after_push world signal (far t)) o) world) who (map (pair_of local) signals)) is
 
 -- two pushes at one lane are one
 pushed_twice : (lanes : List (List Tagged)) (lane : ℕ) (tagged : Tagged) (more : List Tagged) → lane < length lanes
@@ -45,23 +45,23 @@ pushed_twice lanes lane tagged more inside =
     rw (get_or-set_same lanes lane (get_or lanes lane [] ++ tagged ∷ []) [] inside, set-set lanes lane (get_or lanes lane [] ++ tagged ∷ []) ((get_or lanes lane [] ++ tagged ∷ []) ++ more), append_assoc (get_or lanes lane []) (tagged ∷ []) more) refl
 
 pub sent_is : (signals : List Signal) (world : WorldState) (who local s : ℕ) → number world who local ≡ Some s → lane_of world (far s) < length world.lanes
-    → sent_out world who (map (pair_of local) signals)
+    → after_sends world who (map (pair_of local) signals)
     ≡ with_lane world (lane_of world (far s)) (lane_to world (far s) ++ map (tagged_for (tunnel_of world (far s)).within) signals)
 sent_is [] world who local s is inside =
     sym (ap (λ (lanes : List (List Tagged)). record world { lanes = lanes })
     (ap (λ (lane : List Tagged). set world.lanes (lane_of world (far s)) lane) (append-nil (lane_to world (far s))) ∙ set-get_or world.lanes (lane_of world (far s)) []))
 sent_is (signal ∷ signals) world who local s is inside =
     sent_next world who local s signal signals is
-    ∙ (sent_is signals (pushed world signal (far s)) who local s is (rw (length-set world.lanes (lane_of world (far s)) (lane_to world (far s) ++ tagged_for (tunnel_of world (far s)).within signal ∷ [])) inside)
+    ∙ (sent_is signals (after_push world signal (far s)) who local s is (rw (length-set world.lanes (lane_of world (far s)) (lane_to world (far s) ++ tagged_for (tunnel_of world (far s)).within signal ∷ [])) inside)
     ∙ ap (λ (lanes : List (List Tagged)). record world { lanes = lanes })
     (pushed_twice world.lanes (lane_of world (far s)) (tagged_for (tunnel_of world (far s)).within signal) (map (tagged_for (tunnel_of world (far s)).within) signals) inside))
 
 -- ---- an end's turn
 
-pub record TurnForm (box : BoxState) (local : ℕ) (goal : Goal) (pushed : Bool) (slot : Slot) (mine : Descriptor) (me : Sender) (turn : BoxStep) : Type 0 where
+pub record TurnForm (box : BoxState) (local : ℕ) (goal : Goal) (after_push : Bool) (slot : Slot) (mine : Descriptor) (me : Sender) (turn : BoxStep) : Type 0 where
   pub last : Slot
-  pub goes : slot_send_all slot (end_turn goal slot pushed mine me) ≡ Some last
-  pub is : record { sent = map (pair_of local) (end_turn goal slot pushed mine me); after = with_slot box local last } ≡ turn
+  pub goes : slot_send_all slot (end_turn goal slot after_push mine me) ≡ Some last
+  pub is : record { sent = map (pair_of local) (end_turn goal slot after_push mine me); after = with_slot box local last } ≡ turn
 
 pub turn_form : (box : BoxState) (local : ℕ) (goal : Goal) (cause : Cause) (slot : Slot) (mine : Descriptor) (me : Sender) (turn : BoxStep)
     → goal_at box local ≡ End goal → slot_at box local ≡ slot → own box local ≡ mine → sender box local ≡ me → goal_step box local cause ≡ Some turn
@@ -91,13 +91,13 @@ same_goal box local last goal is =
 
 -- an answer and a turn are one list
 pub take_is : (box : BoxState) (local : ℕ) (goal : Goal) (answer : Option Signal) (after last : Slot) (signals : List Signal) (turn step : BoxStep)
-    → goal_at box local ≡ End goal → record { sent = map (pair_of local) signals; after = with_slot (with_slot box local after) local last } ≡ turn → answering local answer turn ≡ step
-    → step ≡ record { sent = map (pair_of local) (answered answer ++ signals); after = put box local last (End goal) }
+    → goal_at box local ≡ End goal → record { sent = map (pair_of local) signals; after = with_slot (with_slot box local after) local last } ≡ turn → with_answer local answer turn ≡ step
+    → step ≡ record { sent = map (pair_of local) (answer_signals answer ++ signals); after = put box local last (End goal) }
 take_is box local goal answer after last signals turn step goal_is turn_is step_is =
     sym step_is
-    ∙ (ap (answering local answer) (sym turn_is)
-    ∙ (ap (λ (sent : List (ℕ × Signal)). record { sent = sent; after = with_slot (with_slot box local after) local last }) (sym (map-append (pair_of local) (answered answer) signals))
-    ∙ ap (λ (b : BoxState). record { sent = map (pair_of local) (answered answer ++ signals); after = b })
+    ∙ (ap (with_answer local answer) (sym turn_is)
+    ∙ (ap (λ (sent : List (ℕ × Signal)). record { sent = sent; after = with_slot (with_slot box local after) local last }) (sym (map-append (pair_of local) (answer_signals answer) signals))
+    ∙ ap (λ (b : BoxState). record { sent = map (pair_of local) (answer_signals answer ++ signals); after = b })
     (ap (λ (slots : List Slot). record box { slots = slots }) (set-set box.slots local after last) ∙ same_goal box local last goal goal_is)))
 
 -- a push of a goal that is there
@@ -118,7 +118,7 @@ push_form box local goal step to_slot kept goal_is goes =
 
 -- what a box sends and is after that, in the world
 pub made_is : (world : WorldState) (who local s : ℕ) (left : List Tagged) (box : BoxState) (signals : List Signal) → IsNumbered world → s < slot_count world → number world who local ≡ Some s
-    → made (with_lane world (lane_of world s) left) who (record { sent = map (pair_of local) signals; after = box })
+    → after_making (with_lane world (lane_of world s) left) who (record { sent = map (pair_of local) signals; after = box })
     ≡ record world {
       boxes = set world.boxes who box;
       lanes = set (set world.lanes (lane_of world s) left) (lane_of world (far s)) (lane_to world (far s) ++ map (tagged_for (tunnel_of world (far s)).within) signals);

@@ -11,7 +11,7 @@ use Rattle.mc_box.specs.declared.event.Event.{Event}
 use Rattle.mc_box.specs.declared.event.Event.TheVariants.{Take, Set, Media, Tell, Retry, Shift}
 use Rattle.mc_laws.specs.Sendings.{MakesStep, StepAppends, StepIsMade, left_on, sendings, sent_on, taker}
 use Rattle.mc_model.specs.Sound.{IsNumbered}
-use Rattle.mc_model.specs.Steps.{made, popped, step_by, take_at}
+use Rattle.mc_model.specs.Steps.{after_making, after_pop, step_by, take_at}
 use Rattle.mc_model.specs.Worlds.{WorldState, box_at, front, lane_of, lane_to, number}
 use Rattle.mc_laws.proofs.LanesKept.{lane_in}
 use Rattle.mc_laws.proofs.Numbers.{number_is}
@@ -21,30 +21,30 @@ use Rattle.mc_box.proofs.Options.{if_some, map_some, then_some}
 
 -- what a box has sent stands at the ends of these lanes
 made_lanes : (world next : WorldState) (who lane : ℕ) (lanes : List (List Tagged)) (step : BoxStep) → IsNumbered world → length lanes ≡ length world.lanes
-    → made (record world { lanes = lanes }) who step ≡ next → get_or next.lanes lane [] ≡ get_or lanes lane [] ++ sent_on world who lane step.sent
+    → after_making (record world { lanes = lanes }) who step ≡ next → get_or next.lanes lane [] ≡ get_or lanes lane [] ++ sent_on world who lane step.sent
 made_lanes world next who lane lanes step numbered count is =
     let out = sends_out step.sent world (set world.boxes who step.after) lanes who numbered.once (count ∙ numbered.lanes) in
     ap (λ (w : WorldState). get_or w.lanes lane []) (sym is ∙ out.1) ∙ out.2.grown lane
 
 -- and the box is what its step leaves
 made_boxes : (world next : WorldState) (who : ℕ) (lanes : List (List Tagged)) (step : BoxStep) → IsNumbered world → length lanes ≡ length world.lanes
-    → made (record world { lanes = lanes }) who step ≡ next → next.boxes ≡ set world.boxes who step.after
+    → after_making (record world { lanes = lanes }) who step ≡ next → next.boxes ≡ set world.boxes who step.after
 made_boxes world next who lanes step numbered count is =
     let out = sends_out step.sent world (set world.boxes who step.after) lanes who numbered.once (count ∙ numbered.lanes) in
     ap (λ (w : WorldState). w.boxes) (sym is ∙ out.1)
 
 -- ---- an event that takes nothing
 
-act_lanes : (event : Event) (world next : WorldState) (who lane : ℕ) → IsNumbered world → taker world who event ≡ None → option_map (made world who) (box_event (box_at world who) event None) ≡ Some next
+act_lanes : (event : Event) (world next : WorldState) (who lane : ℕ) → IsNumbered world → taker world who event ≡ None → option_map (after_making world who) (box_event (box_at world who) event None) ≡ Some next
     → get_or next.lanes lane [] ≡ left_on world lane (taker world who event) ++ sent_on world who lane (sendings world who event)
 act_lanes event world next who lane numbered none goes =
-    let one = map_some (made world who) (box_event (box_at world who) event None) next goes in
+    let one = map_some (after_making world who) (box_event (box_at world who) event None) next goes in
     rw (none, one.1) (made_lanes world next who lane world.lanes one.0 numbered refl one.2)
 
-act_made : (event : Event) (world next : WorldState) (who : ℕ) → IsNumbered world → taker world who event ≡ None → option_map (made world who) (box_event (box_at world who) event None) ≡ Some next
+act_made : (event : Event) (world next : WorldState) (who : ℕ) → IsNumbered world → taker world who event ≡ None → option_map (after_making world who) (box_event (box_at world who) event None) ≡ Some next
     → MakesStep world next who event
 act_made event world next who numbered none goes =
-    let one = map_some (made world who) (box_event (box_at world who) event None) next goes in
+    let one = map_some (after_making world who) (box_event (box_at world who) event None) next goes in
     record {
       step = one.0;
       is = ap (λ (o : Option ℕ). box_event (box_at world who) event (option_and_then (front world) o)) none ∙ one.1;
@@ -78,8 +78,8 @@ take_lanes : (world next : WorldState) (who local lane : ℕ) → IsNumbered wor
 take_lanes world next who local lane numbered goes =
     let one = then_some (take_at world who local) (number world who local) next goes in
     let s : ℕ = one.0 in
-    let two = then_some (λ (signal : Signal). option_map (made (popped world one.0) who) (box_event (box_at world who) (Take local) (Some signal))) (front world one.0) next one.2 in
-    let three = map_some (made (popped world one.0) who) (box_event (box_at world who) (Take local) (Some two.0)) next two.2 in
+    let two = then_some (λ (signal : Signal). option_map (after_making (after_pop world one.0) who) (box_event (box_at world who) (Take local) (Some signal))) (front world one.0) next one.2 in
+    let three = map_some (after_making (after_pop world one.0) who) (box_event (box_at world who) (Take local) (Some two.0)) next two.2 in
     let there : lane_of world s < length world.lanes = subst (λ (n : ℕ). lane_of world s < n) (sym numbered.lanes) (lane_in world s (number_is world who local s one.1).0) in
     let lanes : get_or next.lanes lane [] ≡ left_on world lane (Some s) ++ sent_on world who lane three.0.sent =
     made_lanes world next who lane (without world s) three.0 numbered (length-set world.lanes (lane_of world s) (drop 1 (lane_to world s))) three.2
@@ -89,8 +89,8 @@ take_lanes world next who local lane numbered goes =
 take_step_made : (world next : WorldState) (who local : ℕ) → IsNumbered world → step_by world who (Take local) ≡ Some next → MakesStep world next who (Take local)
 take_step_made world next who local numbered goes =
     let one = then_some (take_at world who local) (number world who local) next goes in
-    let two = then_some (λ (signal : Signal). option_map (made (popped world one.0) who) (box_event (box_at world who) (Take local) (Some signal))) (front world one.0) next one.2 in
-    let three = map_some (made (popped world one.0) who) (box_event (box_at world who) (Take local) (Some two.0)) next two.2 in
+    let two = then_some (λ (signal : Signal). option_map (after_making (after_pop world one.0) who) (box_event (box_at world who) (Take local) (Some signal))) (front world one.0) next one.2 in
+    let three = map_some (after_making (after_pop world one.0) who) (box_event (box_at world who) (Take local) (Some two.0)) next two.2 in
     let taken : option_and_then (front world) (number world who local) ≡ Some two.0 = ap (λ (o : Option ℕ). option_and_then (front world) o) one.1 ∙ two.1 in
     record {
       step = three.0;

@@ -1,6 +1,5 @@
 -- Worked exchanges of two phones, computed by the definitions alone. alice can do with the codecs 0 and 1, bob with 1.
 use Rattle.std.specs.Prelude.{◌≡◌, ℕ, ◌≤◌, true, false, List, [], ◌∷◌, ◌++◌, replicate, Option, Some, None, IsSome, IsTrue}
-use Rattle.std.specs.Option.{option_and_then}
 use Rattle.std.proofs.Common.{arith}
 use Rattle.std.proofs.lemmas.Grind.{common_steps}
 use Rattle.mc_signal.specs.Codecs.{AreCodecs, AreDistinct, IsBlankFrom}
@@ -8,11 +7,10 @@ use Rattle.mc_signal.specs.declared.codec_list.CodecList.{CodecList}
 use Rattle.mc_signal.specs.declared.Medium.TheVariants.{Audio}
 use Rattle.mc_slot.specs.declared.Goal.{Goal}
 use Rattle.mc_slot.specs.declared.Goal.TheVariants.{Open as ToOpen, Close as ToClose, Hold as ToHold}
-use Rattle.mc_slot.specs.declared.Slot.{Slot}
 use Rattle.mc_slot.specs.declared.State.{State}
 use Rattle.mc_slot.specs.declared.State.TheVariants.{Closed, Flowing}
 use Rattle.mc_box.specs.Boxes.{first_box}
-use Rattle.mc_model.specs.PathTable.{path_state, low_hears, high_hears}
+use Rattle.mc_model.specs.PathTable.{path_state, low_hears, high_hears, selected_codec}
 use Rattle.mc_model.specs.Paths.{PathEnds, paths, has_ring}
 use Rattle.mc_model.specs.Settles.{rests}
 use Rattle.mc_model.specs.Steps.{run, after}
@@ -101,10 +99,6 @@ flows_held = opens_held ++ alice (sets ToHold) ∷ []
 abbrev pub opens_and_closes : List Turn
 opens_and_closes = alice (sets ToOpen) ∷ alice (sets ToClose) ∷ bob (sets ToHold) ∷ bob takes ∷ alice takes ∷ alice takes ∷ bob takes ∷ alice takes ∷ []
 
--- the codec of the selector that a slot last got
-abbrev pub selected : Slot → Option ℕ
-selected slot = option_and_then (λ selector. selector.codec) slot.sel_in
-
 -- the turns are a run of the two phones that comes to rest. Their one path is in this state, and so are its two slots; where it flows its ends hear these codecs, and the selectors that they got say so
 pub record ComesTo (turns : List Turn) (state : State) (low high : Option ℕ) : Type 0 where
   pub runs : IsSome (run two_phones turns)
@@ -114,8 +108,8 @@ pub record ComesTo (turns : List Turn) (state : State) (low high : Option ℕ) :
   pub answer : path_state (after two_phones turns) path ≡ state
   pub low_state : (slot_of (after two_phones turns) path.low).state ≡ state
   pub high_state : (slot_of (after two_phones turns) path.high).state ≡ state
-  pub low_selected : selected (slot_of (after two_phones turns) path.low) ≡ low
-  pub high_selected : selected (slot_of (after two_phones turns) path.high) ≡ high
+  pub low_selected : selected_codec (slot_of (after two_phones turns) path.low).sel_in ≡ low
+  pub high_selected : selected_codec (slot_of (after two_phones turns) path.high).sel_in ≡ high
   pub low_hears : state ≡ Flowing → low_hears (after two_phones turns) path ≡ low
   pub high_hears : state ≡ Flowing → high_hears (after two_phones turns) path ≡ high
 

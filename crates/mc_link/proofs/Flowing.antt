@@ -6,7 +6,7 @@ use Rattle.mc_signal.specs.declared.Signal.{Signal}
 use Rattle.mc_slot.specs.Moves.{slot_send_all}
 use Rattle.mc_slot.specs.Sending.{pair_of}
 use Rattle.mc_slot.specs.declared.Slot.{Slot}
-use Rattle.mc_link.specs.LinkTurn.{selector_due, flow, numbered, descriptor_due, pass_descriptor, sent_by_first, sent_by_second}
+use Rattle.mc_link.specs.LinkTurn.{selector_due, flow, with_number, descriptor_due, pass_descriptor, sent_by_first, sent_by_second}
 use Rattle.mc_link.proofs.Sides.{first_of_four, second_of_four, four_length, numbered_first, numbered_second, sent_both}
 
 -- which selector a slot passes on, after the descriptors
@@ -36,7 +36,7 @@ second_flows a b a_next b_next a_last b_last a_got got sel_out a_sel_in last_sel
 
 -- four parts, with the local numbers of their slots
 numbered_four : (an bn : ℕ) (a b : Slot)
-    → map (numbered an bn) (flow a b)
+    → map (with_number an bn) (flow a b)
     ≡ map (pair_of an) (descriptor_due a b) ++ (map (pair_of bn) (descriptor_due b a) ++ (map (pair_of an) (selector_due a b) ++ map (pair_of bn) (selector_due b a)))
 numbered_four an bn a b = simp (map-append, numbered_first an bn, numbered_second an bn)
 
@@ -49,7 +49,7 @@ pub flow_sends : (an bn : ℕ) (a b a_next b_next a_last : Slot) (none one two t
     → two ≡ one ++ map (pair_of bn) (pass_descriptor b.state b.sent a_next.got)
     → three ≡ two ++ map (pair_of an) (selector_due a_next b_next)
     → four ≡ three ++ map (pair_of bn) (selector_due b_next a_last)
-    → four ≡ map (numbered an bn) (flow a b)
+    → four ≡ map (with_number an bn) (flow a b)
 flow_sends an bn a b a_next b_next a_last none one two three four a_got a_sel_out a_sel_in b_got b_sel_out b_sel_in last_sel_in e0 e1 e2 e3 e4 =
     let passed : pass_descriptor b.state b.sent a_next.got ≡ descriptor_due b a = ap (pass_descriptor b.state b.sent) a_got in
     let first : selector_due a_next b_next ≡ selector_due a b = choosing_same a b a_next b_next a_got a_sel_out b_sel_in in

@@ -5,7 +5,7 @@ use Rattle.mc_signal.specs.declared.Medium.{Medium}
 use Rattle.mc_signal.specs.declared.Selector.{Selector}
 use Rattle.mc_signal.specs.declared.Signal.{Signal}
 use Rattle.mc_signal.specs.declared.Signal.TheVariants.{Open, Oack, Close, Closeack, Describe, Select}
-use Rattle.mc_slot.specs.Moves.{answered, is_live, opened_by, slot_send_all, slot_take}
+use Rattle.mc_slot.specs.Moves.{answer_signals, is_live, enter_opened, slot_send_all, slot_take}
 use Rattle.mc_slot.specs.Tunnel.{Kept}
 use Rattle.mc_slot.specs.declared.Slot.{Slot}
 use Rattle.mc_slot.specs.declared.State.{State}
@@ -34,7 +34,7 @@ pub record Turned (a b middle a_last b_last : Slot) (signal : Signal) (answer : 
 -- the weights before and after, for a slot that a close may have closed
 abbrev EnoughBy : Option Side → (one near far : Rates) (a b middle a_last b_last : Slot) → Signal → Option Signal → Type 0
 EnoughBy closed one near far a b middle a_last b_last signal answer =
-    1 + total_at near (answered answer ++ sent_by_first (link_turn middle b closed)) + total_at far (sent_by_second (link_turn middle b closed))
+    1 + total_at near (answer_signals answer ++ sent_by_first (link_turn middle b closed)) + total_at far (sent_by_second (link_turn middle b closed))
     + (near.asking * stored_link a_last.state b_last.state + far.asking * stored_link b_last.state a_last.state)
     ≤ weigh_at far signal + weigh_at one signal + (near.asking * stored_link a.state b.state + far.asking * stored_link b.state a.state)
 
@@ -44,7 +44,7 @@ Enough one near far a b middle a_last b_last signal answer = EnoughBy (closed_si
 
 -- an open is dropped, or it opens a closed or an opening slot
 opens : (a middle : Slot) (medium : Medium) (d : Descriptor) (answer : Option Signal) → slot_take a (Open medium d) ≡ Some record { answer = answer; after = middle }
-    → (answer ≡ None) × ((middle ≡ a) ⊎ ((middle ≡ opened_by a d) × ((a.state ≡ Closed) ⊎ (a.state ≡ Opening))))
+    → (answer ≡ None) × ((middle ≡ a) ⊎ ((middle ≡ enter_opened a d) × ((a.state ≡ Closed) ⊎ (a.state ≡ Opening))))
 opens a middle medium d answer goes = grind (arith)
 
 -- where it is dropped nothing is sent
@@ -61,8 +61,8 @@ dropped one near far a b a_last b_last medium d pays rest a_sends b_sends =
 -- the slot is opened, beside one that isn't live: by the other's state
 entered_calm : (second : State) (one near far : Rates) (a b a_last b_last : Slot) (medium : Medium) (d : Descriptor)
     → b.state ≡ second → Payment one near far → is_live b.state ≡ false → (a.state ≡ Closed) ⊎ (a.state ≡ Opening)
-    → slot_send_all (opened_by a d) (sent_by_first (lean (opened_by a d) b)) ≡ Some a_last → slot_send_all b (sent_by_second (lean (opened_by a d) b)) ≡ Some b_last
-    → Enough one near far a b (opened_by a d) a_last b_last (Open medium d) None
+    → slot_send_all (enter_opened a d) (sent_by_first (lean (enter_opened a d) b)) ≡ Some a_last → slot_send_all b (sent_by_second (lean (enter_opened a d) b)) ≡ Some b_last
+    → Enough one near far a b (enter_opened a d) a_last b_last (Open medium d) None
 entered_calm Closed one near far a b a_last b_last medium d is pays calm was a_sends b_sends = grind (arith)
 entered_calm Opening one near far a b a_last b_last medium d is pays calm was a_sends b_sends = grind (arith)
 entered_calm Opened one near far a b a_last b_last medium d is pays calm was a_sends b_sends = absurd (cc)
@@ -120,31 +120,31 @@ weighs_none rates signals none = rw none refl
 -- the slot is opened, beside a live one: by the other's state
 entered_live : (second : State) (one near far : Rates) (a b a_last b_last : Slot) (medium : Medium) (d : Descriptor)
     → b.state ≡ second → Payment one near far → is_live b.state ≡ true → Kept b
-    → slot_send_all (opened_by a d) (sent_by_first (lean (opened_by a d) b)) ≡ Some a_last → slot_send_all b (sent_by_second (lean (opened_by a d) b)) ≡ Some b_last
-    → Enough one near far a b (opened_by a d) a_last b_last (Open medium d) None
+    → slot_send_all (enter_opened a d) (sent_by_first (lean (enter_opened a d) b)) ≡ Some a_last → slot_send_all b (sent_by_second (lean (enter_opened a d) b)) ≡ Some b_last
+    → Enough one near far a b (enter_opened a d) a_last b_last (Open medium d) None
 entered_live Closed one near far a b a_last b_last medium d is pays live kept a_sends b_sends = absurd (cc)
 entered_live Opening one near far a b a_last b_last medium d is pays live kept a_sends b_sends = absurd (cc)
 entered_live Closing one near far a b a_last b_last medium d is pays live kept a_sends b_sends = absurd (cc)
 entered_live Opened one near far a b a_last b_last medium d is pays live kept a_sends b_sends =
-    let none = weighs_none near (selector_due (opened_by a d) b) (unheard (opened_by a d) b (grind (arith))) in
-    flow_pays one near far a b (opened_by a d) a_last b_last (Open medium d) (refl, refl, refl, refl) kept refl live a_sends b_sends
-    (omega (arith, pays, opened_passes near (opened_by a d) b refl, opened_passes far b (opened_by a d) is, none))
+    let none = weighs_none near (selector_due (enter_opened a d) b) (unheard (enter_opened a d) b (grind (arith))) in
+    flow_pays one near far a b (enter_opened a d) a_last b_last (Open medium d) (refl, refl, refl, refl) kept refl live a_sends b_sends
+    (omega (arith, pays, opened_passes near (enter_opened a d) b refl, opened_passes far b (enter_opened a d) is, none))
 entered_live Flowing one near far a b a_last b_last medium d is pays live kept a_sends b_sends =
-    flow_pays one near far a b (opened_by a d) a_last b_last (Open medium d) (refl, refl, refl, refl) kept refl live a_sends b_sends
-    (omega (arith, pays, opened_passes near (opened_by a d) b refl, chooses_select near (opened_by a d) b, flowing_passes far b (opened_by a d) is))
+    flow_pays one near far a b (enter_opened a d) a_last b_last (Open medium d) (refl, refl, refl, refl) kept refl live a_sends b_sends
+    (omega (arith, pays, opened_passes near (enter_opened a d) b refl, chooses_select near (enter_opened a d) b, flowing_passes far b (enter_opened a d) is))
 
 -- by whether the other is live
 entered : (live : Bool) (one near far : Rates) (a b a_last b_last : Slot) (medium : Medium) (d : Descriptor)
     → is_live b.state ≡ live → Payment one near far → Kept b → (a.state ≡ Closed) ⊎ (a.state ≡ Opening)
-    → slot_send_all (opened_by a d) (sent_by_first (lean (opened_by a d) b)) ≡ Some a_last → slot_send_all b (sent_by_second (lean (opened_by a d) b)) ≡ Some b_last
-    → Enough one near far a b (opened_by a d) a_last b_last (Open medium d) None
+    → slot_send_all (enter_opened a d) (sent_by_first (lean (enter_opened a d) b)) ≡ Some a_last → slot_send_all b (sent_by_second (lean (enter_opened a d) b)) ≡ Some b_last
+    → Enough one near far a b (enter_opened a d) a_last b_last (Open medium d) None
 entered true one near far a b a_last b_last medium d is pays kept was a_sends b_sends = entered_live b.state one near far a b a_last b_last medium d refl pays is kept a_sends b_sends
 entered false one near far a b a_last b_last medium d is pays kept was a_sends b_sends = entered_calm b.state one near far a b a_last b_last medium d refl pays is was a_sends b_sends
 
 -- by what the open did
 open_by : (one near far : Rates) (a b middle a_last b_last : Slot) (medium : Medium) (d : Descriptor)
     → Payment one near far → Kept b → lean a b ≡ []
-    → (middle ≡ a) ⊎ ((middle ≡ opened_by a d) × ((a.state ≡ Closed) ⊎ (a.state ≡ Opening)))
+    → (middle ≡ a) ⊎ ((middle ≡ enter_opened a d) × ((a.state ≡ Closed) ⊎ (a.state ≡ Opening)))
     → slot_send_all middle (sent_by_first (lean middle b)) ≡ Some a_last → slot_send_all b (sent_by_second (lean middle b)) ≡ Some b_last
     → Enough one near far a b middle a_last b_last (Open medium d) None
 open_by one near far a b middle a_last b_last medium d pays kept rest (inl same) =
@@ -272,4 +272,4 @@ link_pays a b middle a_last b_last signal answer n x y a_kept b_kept rest goes a
     record { a_kept = a_kept; b_kept = b_kept; rest = rest; goes = goes; a_sends = a_sends; b_sends = b_sends } in
     let linear = pays_by (is_live middle.state && is_live b.state) (own_rates n) (rates_of n y) (rates_of n x) a b middle a_last b_last signal answer refl (payment n x y x_some y_some less) turned in
     let due = link_turn middle b (closed_side (cause_of signal middle.state) First) in
-    omega (arith, linear, weigh_one n signal, weigh_times n x signal, weigh_list n y (answered answer ++ sent_by_first due), weigh_list n x (sent_by_second due))
+    omega (arith, linear, weigh_one n signal, weigh_times n x signal, weigh_list n y (answer_signals answer ++ sent_by_first due), weigh_list n x (sent_by_second due))

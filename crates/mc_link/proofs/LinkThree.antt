@@ -3,7 +3,7 @@ use Rattle.std.proofs.Common.{◌≡◌, ◌≤◌, ◌+◌, ◌&&◌, ◌⊎◌
 use Rattle.std.proofs.lemmas.List.{length-append}
 use Rattle.mc_signal.specs.declared.Signal.{Signal}
 use Rattle.mc_signal.specs.declared.Signal.TheVariants.{Open, Oack, Close, Closeack, Describe, Select}
-use Rattle.mc_slot.specs.Moves.{answered, is_live, slot_take}
+use Rattle.mc_slot.specs.Moves.{answer_signals, is_live, slot_take}
 use Rattle.mc_slot.specs.Tunnel.{Kept}
 use Rattle.mc_slot.specs.declared.Slot.{Slot}
 use Rattle.mc_link.specs.LinkLaws.{LinkSendsThree}
@@ -16,7 +16,7 @@ use Rattle.mc_link.proofs.Sides.{first_of_four, second_of_four}
 use Rattle.mc_slot.specs.EndTurn.{cause_of}
 
 -- an answer is one signal at most
-answers_one : (answer : Option Signal) → length (answered answer) ≤ 1
+answers_one : (answer : Option Signal) → length (answer_signals answer) ≤ 1
 answers_one answer = grind (arith)
 
 -- a slot passes on one descriptor at most
@@ -81,7 +81,7 @@ calm_one closed a b calm = grind (arith)
 
 -- how many signals follow
 abbrev Three : Option Side → Slot → Slot → Option Signal → Type 0
-Three closed after b answer = length (answered answer) + length (link_turn after b closed) ≤ 3
+Three closed after b answer = length (answer_signals answer) + length (link_turn after b closed) ≤ 3
 
 -- by whether both are live after the taking
 three_by : (live : Bool) (a b after : Slot) (signal : Signal) (answer : Option Signal) → is_live after.state && is_live b.state ≡ live

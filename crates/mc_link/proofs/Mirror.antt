@@ -7,7 +7,7 @@ use Rattle.mc_slot.specs.Moves.{is_live}
 use Rattle.mc_slot.specs.declared.Cause.{Cause}
 use Rattle.mc_slot.specs.declared.Cause.TheVariants.{Other, Close as ByClose, Push}
 use Rattle.mc_slot.specs.declared.Slot.{Slot}
-use Rattle.mc_link.specs.LinkLaws.{flipped, LinkMirror}
+use Rattle.mc_link.specs.LinkLaws.{other_side, LinkMirror}
 use Rattle.mc_link.specs.LinkTurn.{IsLinkAtRest, can_close, selector_due, lean, link_turn, descriptor_due, sent_by_first, sent_by_second, closed_side}
 use Rattle.mc_link.specs.declared.Side.{Side}
 use Rattle.mc_link.specs.declared.Side.TheVariants.{First, Second}
@@ -56,7 +56,7 @@ second_closes true a b = (refl, refl)
 second_closes false a b = (lean_mirror a b, sym (lean_mirror b a))
 
 -- by the slot that is closed
-sides_mirror : (closed : Option Side) (a b : Slot) → SidesMirror (link_turn b a (flipped closed)) (link_turn a b closed)
+sides_mirror : (closed : Option Side) (a b : Slot) → SidesMirror (link_turn b a (other_side closed)) (link_turn a b closed)
 sides_mirror None a b = (lean_mirror a b, sym (lean_mirror b a))
 sides_mirror (Some First) a b = first_closes (can_close b.state) a b
 sides_mirror (Some Second) a b = second_closes (can_close a.state) a b
@@ -72,7 +72,7 @@ length_mirror turned straight same =
 pub link_mirror : LinkMirror
 link_mirror a b closed =
     let same = sides_mirror closed a b in
-    (same.0, same.1, length_mirror (link_turn b a (flipped closed)) (link_turn a b closed) same)
+    (same.0, same.1, length_mirror (link_turn b a (other_side closed)) (link_turn a b closed) same)
 
 -- so a link at rest rests whichever slot is called the first
 pub mirror_rests : (a b : Slot) → IsLinkAtRest a b → IsLinkAtRest b a
@@ -81,7 +81,7 @@ mirror_rests a b rest =
     nil_from_length (link_turn b a None) (same ∙ ap (λ (l : List (Side × Signal)). length l) rest)
 
 -- a side that is named by a taken close, seen from the other side
-pub side_turned : (cause : Cause) → closed_side cause Second ≡ flipped (closed_side cause First)
+pub side_turned : (cause : Cause) → closed_side cause Second ≡ other_side (closed_side cause First)
 side_turned Other = refl
 side_turned ByClose = refl
 side_turned Push = refl

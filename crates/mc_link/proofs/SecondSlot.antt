@@ -2,9 +2,9 @@
 use Rattle.std.proofs.Common.{◌≡◌, ◌≤◌, ◌+◌, ◌*◌, ◌++◌, ℕ, Option, Some, List, length, ap, sym, ◌∙◌, subst, arith}
 use Rattle.mc_signal.specs.declared.Signal.{Signal}
 use Rattle.mc_slot.specs.EndTurn.{cause_of}
-use Rattle.mc_slot.specs.Moves.{answered, slot_send_all}
+use Rattle.mc_slot.specs.Moves.{answer_signals, slot_send_all}
 use Rattle.mc_turn.specs.Weights.{weight, weights}
-use Rattle.mc_link.specs.LinkLaws.{SecondSlotSendsThree, flipped}
+use Rattle.mc_link.specs.LinkLaws.{SecondSlotSendsThree, other_side}
 use Rattle.mc_link.specs.LinkTurn.{link_turn, sent_by_first, sent_by_second, closed_side}
 use Rattle.mc_link.specs.LinkWeights.{SecondSlotPays, stored_link}
 use Rattle.mc_link.specs.declared.Side.{Side}
@@ -15,19 +15,19 @@ use Rattle.mc_link.proofs.Mirror.{link_mirror, mirror_rests, side_turned}
 
 pub second_slot_sends_three : SecondSlotSendsThree
 second_slot_sends_three a b after signal answer kept rest goes =
-    let same : length (link_turn a after (flipped (closed_side (cause_of signal after.state) First))) ≡ length (link_turn after a (closed_side (cause_of signal after.state) First)) =
+    let same : length (link_turn a after (other_side (closed_side (cause_of signal after.state) First))) ≡ length (link_turn after a (closed_side (cause_of signal after.state) First)) =
     (link_mirror after a (closed_side (cause_of signal after.state) First)).2 in
-    subst (λ (closed : Option Side). length (answered answer) + length (link_turn a after closed) ≤ 3) (sym (side_turned (cause_of signal after.state)))
-    (subst (λ (n : ℕ). length (answered answer) + n ≤ 3) (sym same) (link_sends_three b a after signal answer kept (mirror_rests a b rest) goes))
+    subst (λ (closed : Option Side). length (answer_signals answer) + length (link_turn a after closed) ≤ 3) (sym (side_turned (cause_of signal after.state)))
+    (subst (λ (n : ℕ). length (answer_signals answer) + n ≤ 3) (sym same) (link_sends_three b a after signal answer kept (mirror_rests a b rest) goes))
 
 -- the weights of the two laws, by what the two slots send and by what they store
 abbrev Pays : (n x y : ℕ) → Signal → Option Signal → (own others : List Signal) → (after before : ℕ) → Type 0
 Pays n x y signal answer own others after before =
-    1 + x * weights n (answered answer ++ own) + y * weights n others + n * (n * n) * after ≤ (y + 1) * weight n signal + n * (n * n) * before
+    1 + x * weights n (answer_signals answer ++ own) + y * weights n others + n * (n * n) * after ≤ (y + 1) * weight n signal + n * (n * n) * before
 
 pub second_slot_pays : SecondSlotPays
 second_slot_pays a b middle a_after b_after signal answer n x y a_kept b_kept rest goes a_sends b_sends x_some y_some less =
-    let turned : closed_side (cause_of signal middle.state) Second ≡ flipped (closed_side (cause_of signal middle.state) First) = side_turned (cause_of signal middle.state) in
+    let turned : closed_side (cause_of signal middle.state) Second ≡ other_side (closed_side (cause_of signal middle.state) First) = side_turned (cause_of signal middle.state) in
     let mirror = link_mirror middle a (closed_side (cause_of signal middle.state) First) in
     let others : sent_by_first (link_turn a middle (closed_side (cause_of signal middle.state) Second)) ≡ sent_by_second (link_turn middle a (closed_side (cause_of signal middle.state) First)) =
     ap (λ (closed : Option Side). sent_by_first (link_turn a middle closed)) turned ∙ mirror.0 in

@@ -6,7 +6,7 @@ use Rattle.mc_signal.specs.declared.Signal.{Signal}
 use Rattle.mc_slot.specs.Moves.{slot_send, slot_send_all}
 use Rattle.mc_slot.specs.Sending.{pair_of}
 use Rattle.mc_slot.specs.declared.Slot.{Slot}
-use Rattle.mc_link.specs.LinkTurn.{from_side, sent_by_first, sent_by_second, numbered}
+use Rattle.mc_link.specs.LinkTurn.{from_side, sent_by_first, sent_by_second, with_number}
 use Rattle.mc_link.specs.declared.Side.{Side}
 use Rattle.mc_link.specs.declared.Side.TheVariants.{First, Second}
 
@@ -51,12 +51,12 @@ second_of_four p q r t =
     rw (second_of_first p (from_side Second q ++ (from_side First r ++ from_side Second t)), second_of_second q (from_side First r ++ from_side Second t), second_of_first r (from_side Second t), second_of_second_alone t) refl
 
 -- what the first slot sends has its local number
-pub numbered_first : (an bn : ℕ) (signals : List Signal) → map (numbered an bn) (from_side First signals) ≡ map (pair_of an) signals
+pub numbered_first : (an bn : ℕ) (signals : List Signal) → map (with_number an bn) (from_side First signals) ≡ map (pair_of an) signals
 numbered_first an bn [] = refl
 numbered_first an bn (signal ∷ signals) = ap (λ (rest : List (ℕ × Signal)). (an, signal) ∷ rest) (numbered_first an bn signals)
 
 -- and what the second slot sends has that one's
-pub numbered_second : (an bn : ℕ) (signals : List Signal) → map (numbered an bn) (from_side Second signals) ≡ map (pair_of bn) signals
+pub numbered_second : (an bn : ℕ) (signals : List Signal) → map (with_number an bn) (from_side Second signals) ≡ map (pair_of bn) signals
 numbered_second an bn [] = refl
 numbered_second an bn (signal ∷ signals) = ap (λ (rest : List (ℕ × Signal)). (bn, signal) ∷ rest) (numbered_second an bn signals)
 

@@ -107,6 +107,6 @@ sent_by_second ((First, signal) ∷ rest) = sent_by_second rest
 sent_by_second ((Second, signal) ∷ rest) = signal ∷ sent_by_second rest
 
 -- a signal with the local number of the slot that sends it, for the two slots' numbers
-abbrev pub numbered : ℕ → ℕ → Side × Signal → ℕ × Signal
-numbered an bn (First, signal) = (an, signal)
-numbered an bn (Second, signal) = (bn, signal)
+abbrev pub with_number : ℕ → ℕ → Side × Signal → ℕ × Signal
+with_number an bn (First, signal) = (an, signal)
+with_number an bn (Second, signal) = (bn, signal)

@@ -1,7 +1,7 @@
 -- That a taking at a link removes more weight than the link then sends.
 use Rattle.std.specs.Prelude.{◌≡◌, ◌≤◌, ◌<◌, ◌+◌, ◌*◌, ℕ, Option, Some, ◌++◌}
 use Rattle.mc_signal.specs.declared.Signal.{Signal}
-use Rattle.mc_slot.specs.Moves.{answered, slot_send_all, slot_take}
+use Rattle.mc_slot.specs.Moves.{answer_signals, slot_send_all, slot_take}
 use Rattle.mc_slot.specs.Tunnel.{Kept}
 use Rattle.mc_slot.specs.declared.Slot.{Slot}
 use Rattle.mc_slot.specs.declared.State.{State}
@@ -29,7 +29,7 @@ LinkPays = (a b middle a_after b_after : Slot) (signal : Signal) (answer : Optio
     → slot_send_all middle (sent_by_first (link_turn middle b (closed_side (cause_of signal middle.state) First))) ≡ Some a_after
     → slot_send_all b (sent_by_second (link_turn middle b (closed_side (cause_of signal middle.state) First))) ≡ Some b_after
     → 1 ≤ x → 1 ≤ y → y < n
-    → 1 + y * weights n (answered answer ++ sent_by_first (link_turn middle b (closed_side (cause_of signal middle.state) First)))
+    → 1 + y * weights n (answer_signals answer ++ sent_by_first (link_turn middle b (closed_side (cause_of signal middle.state) First)))
     + x * weights n (sent_by_second (link_turn middle b (closed_side (cause_of signal middle.state) First)))
     + n * (n * n) * (y * stored_link a_after.state b_after.state + x * stored_link b_after.state a_after.state)
     ≤ (x + 1) * weight n signal + n * (n * n) * (y * stored_link a.state b.state + x * stored_link b.state a.state)
@@ -41,7 +41,7 @@ SecondSlotPays = (a b middle a_after b_after : Slot) (signal : Signal) (answer :
     → slot_send_all a (sent_by_first (link_turn a middle (closed_side (cause_of signal middle.state) Second))) ≡ Some a_after
     → slot_send_all middle (sent_by_second (link_turn a middle (closed_side (cause_of signal middle.state) Second))) ≡ Some b_after
     → 1 ≤ x → 1 ≤ y → x < n
-    → 1 + x * weights n (answered answer ++ sent_by_second (link_turn a middle (closed_side (cause_of signal middle.state) Second)))
+    → 1 + x * weights n (answer_signals answer ++ sent_by_second (link_turn a middle (closed_side (cause_of signal middle.state) Second)))
     + y * weights n (sent_by_first (link_turn a middle (closed_side (cause_of signal middle.state) Second)))
     + n * (n * n) * (y * stored_link a_after.state b_after.state + x * stored_link b_after.state a_after.state)
     ≤ (y + 1) * weight n signal + n * (n * n) * (y * stored_link a.state b.state + x * stored_link b.state a.state)

@@ -2,7 +2,7 @@
 #![tactic(auto)]
 
 ghost use Rattle.std.specs.Prelude.{◌≡◌, ◌+◌, ◌<◌, ◌≤◌, ◌++◌, [], ◌∷◌, Some, IsSome, IsTrue, length, map};
-ghost use Rattle.mc_link.specs.LinkTurn.{NamesClosed, can_close, open_with, pass_descriptor, pass_selector, flow, lean, link_turn, sent_by_first, sent_by_second, numbered};
+ghost use Rattle.mc_link.specs.LinkTurn.{NamesClosed, can_close, open_with, pass_descriptor, pass_selector, flow, lean, link_turn, sent_by_first, sent_by_second, with_number};
 ghost use Rattle.mc_slot.specs.Moves.{is_live, slot_send, slot_send_all};
 ghost use Rattle.mc_slot.specs.Sending.{Adds, sends_of, pair_of};
 ghost use Rattle.mc_slot.specs.declared.sends.TheConstants.{SENDS_LIMIT};
@@ -30,7 +30,7 @@ pub fn link_turn(a: &mut Slot, an: u8, b: &mut Slot, bn: u8, closed_by_far: Opti
     requires got_first { IsTrue (is_live a.old.state) → IsSome a.old.got }
     requires got_second { IsTrue (is_live b.old.state) → IsSome b.old.got }
     requires closed { NamesClosed closed_by_far a.old b.old }
-    ensures sends { sends_of result ≡ map (numbered an bn) (link_turn a.old b.old closed_by_far) }
+    ensures sends { sends_of result ≡ map (with_number an bn) (link_turn a.old b.old closed_by_far) }
     ensures first { slot_send_all a.old (sent_by_first (link_turn a.old b.old closed_by_far)) ≡ Some a.new }
     ensures second { slot_send_all b.old (sent_by_second (link_turn a.old b.old closed_by_far)) ≡ Some b.new }
     ensures len { result.len ≡ length (link_turn a.old b.old closed_by_far) }
@@ -79,7 +79,7 @@ fn send_alone(slot: &mut Slot, no: u8, s: Signal) -> Sends
 fn lean(a: &mut Slot, an: u8, b: &mut Slot, bn: u8) -> Sends
     requires got_first { IsTrue (is_live a.old.state) → IsSome a.old.got }
     requires got_second { IsTrue (is_live b.old.state) → IsSome b.old.got }
-    ensures sends { sends_of result ≡ map (numbered an bn) (lean a.old b.old) }
+    ensures sends { sends_of result ≡ map (with_number an bn) (lean a.old b.old) }
     ensures first { slot_send_all a.old (sent_by_first (lean a.old b.old)) ≡ Some a.new }
     ensures second { slot_send_all b.old (sent_by_second (lean a.old b.old)) ≡ Some b.new }
     ensures len { result.len ≡ length (lean a.old b.old) }
@@ -111,7 +111,7 @@ fn flow(a: &mut Slot, an: u8, b: &mut Slot, bn: u8) -> Sends
     requires live_second { IsTrue (is_live b.old.state) }
     requires got_first { IsSome a.old.got }
     requires got_second { IsSome b.old.got }
-    ensures sends { sends_of result ≡ map (numbered an bn) (flow a.old b.old) }
+    ensures sends { sends_of result ≡ map (with_number an bn) (flow a.old b.old) }
     ensures first { slot_send_all a.old (sent_by_first (flow a.old b.old)) ≡ Some a.new }
     ensures second { slot_send_all b.old (sent_by_second (flow a.old b.old)) ≡ Some b.new }
     ensures len { result.len ≡ length (flow a.old b.old) }

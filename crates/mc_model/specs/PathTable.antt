@@ -1,8 +1,9 @@
 -- The path table: the state of a path at a settle by its two end goals, and what is then heard. It knows no slot between, no signal, and no kept value.
 use Rattle.std.specs.Prelude.{◌≡◌, ◌⊎◌, ℕ, Option, Some, None}
-use Rattle.std.specs.Option.{unwrap_or}
+use Rattle.std.specs.Option.{option_and_then, unwrap_or}
 use Rattle.mc_signal.specs.Choice.{codecs_of, shared_codec, choose}
 use Rattle.mc_signal.specs.declared.Descriptor.{Descriptor}
+use Rattle.mc_signal.specs.declared.Selector.{Selector}
 use Rattle.mc_signal.specs.declared.Sender.{Sender}
 use Rattle.mc_slot.specs.declared.Goal.{Goal}
 use Rattle.mc_slot.specs.declared.Goal.TheVariants.{Close as ToClose, Hold as ToHold}
@@ -26,6 +27,10 @@ path_state world path = unwrap_or (table (end_goal world path.low) (end_goal wor
 -- the codec that an end hears: the first that it offers among those that the other end can send
 abbrev pub heard_codec : Descriptor → Sender → Option ℕ
 heard_codec own sender = shared_codec (codecs_of own.codecs) (codecs_of sender.codecs)
+
+-- the codec that a selector says, where there is a selector
+abbrev pub selected_codec : Option Selector → Option ℕ
+selected_codec selector = option_and_then (λ chosen. chosen.codec) selector
 
 abbrev pub low_hears : WorldState → PathEnds → Option ℕ
 low_hears world path = heard_codec (own_descriptor world path.low) (own_sender world path.high)

@@ -17,31 +17,31 @@ abbrev pub with_lane : WorldState → ℕ → List Tagged → WorldState
 with_lane world lane signals = record world { lanes = slice_set world.lanes lane signals }
 
 -- the front leaves the lane that leads to a slot
-abbrev pub popped : WorldState → ℕ → WorldState
-popped world s = with_lane world (lane_of world s) (drop 1 (lane_to world s))
+abbrev pub after_pop : WorldState → ℕ → WorldState
+after_pop world s = with_lane world (lane_of world s) (drop 1 (lane_to world s))
 
 -- a signal goes with its tunnel to the end of the lane that leads to a slot
-abbrev pub pushed : WorldState → Signal → ℕ → WorldState
-pushed world signal s = with_lane world (lane_of world s) (lane_to world s ++ record { tunnel = (tunnel_of world s).within; signal = signal } ∷ [])
+abbrev pub after_push : WorldState → Signal → ℕ → WorldState
+after_push world signal s = with_lane world (lane_of world s) (lane_to world s ++ record { tunnel = (tunnel_of world s).within; signal = signal } ∷ [])
 
 -- what a box sends goes to the far slots, in the order of sending
-abbrev pub sent_out : WorldState → ℕ → List (ℕ × Signal) → WorldState
-sent_out world who [] = world
-sent_out world who (sending ∷ rest) =
-    sent_out (unwrap_or (option_map (λ s. pushed world sending.1 (far s)) (number world who sending.0)) world) who rest
+abbrev pub after_sends : WorldState → ℕ → List (ℕ × Signal) → WorldState
+after_sends world who [] = world
+after_sends world who (sending ∷ rest) =
+    after_sends (unwrap_or (option_map (λ s. after_push world sending.1 (far s)) (number world who sending.0)) world) who rest
 
 -- the world after a box has made its step
-abbrev pub made : WorldState → ℕ → BoxStep → WorldState
-made world who step = sent_out (with_box world who step.after) who step.sent
+abbrev pub after_making : WorldState → ℕ → BoxStep → WorldState
+after_making world who step = after_sends (with_box world who step.after) who step.sent
 
 -- a Take needs a signal that its slot can take now
 abbrev pub take_at : WorldState → ℕ → ℕ → ℕ → Option WorldState
 take_at world who local s =
-    option_and_then (λ signal. option_map (made (popped world s) who) (box_event (box_at world who) (Take local) (Some signal))) (front world s)
+    option_and_then (λ signal. option_map (after_making (after_pop world s) who) (box_event (box_at world who) (Take local) (Some signal))) (front world s)
 
 abbrev pub step_by : WorldState → ℕ → Event → Option WorldState
 step_by world who (Take local) = option_and_then (take_at world who local) (number world who local)
-step_by world who event = option_map (made world who) (box_event (box_at world who) event None)
+step_by world who event = option_map (after_making world who) (box_event (box_at world who) event None)
 
 -- the world after a turn, if the turn is enabled
 abbrev pub step : WorldState → Turn → Option WorldState

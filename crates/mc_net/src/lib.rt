@@ -16,6 +16,6 @@ mod text;
 
 pub use fault::{NetFault, TextFault};
 pub use keyword::keyword_of;
-pub use net::{Net, Tail, read_net};
 pub use limit::TEXT_LIMIT;
+pub use net::{Net, Tail, read_net};
 pub use section::{Keyword, Section};

@@ -19,13 +19,12 @@ mod commands;
 mod programs;
 
 use crate::codec_words::gives_version;
-use mc_program::ReadFault;
 use crate::keyword::keyword_of;
 use crate::limit::TEXT_LIMIT;
 use crate::places::{is_skipped, is_version};
-use mc_program::{Block, is_unfinished};
 use crate::section::{Keyword, Section};
 use mc_box::{BoxShape, Kind, Shape};
+use mc_program::{Block, ReadFault, is_unfinished};
 use mc_script::keyword::CommandWord;
 use mc_script::rule::{NO_BEGIN, NO_VERSION_LINE, TEXT_TOO_LONG, UNFINISHED, WRONG_WORD};
 use mc_script::{Command, LineFault, check_bytes};
@@ -227,7 +226,9 @@ impl Reader {
         ensures in_form { OnOk result (IsInForm self.new) }
     {
         if !is_version(words) {
-            return Err(ReadFault::Line(LineFault { number: NO_VERSION_LINE }));
+            return Err(ReadFault::Line(LineFault {
+                number: NO_VERSION_LINE,
+            }));
         }
         self.versioned = true;
         Ok(())
@@ -262,7 +263,9 @@ impl Reader {
         ensures in_form { OnOk result (IsInForm self.new) }
     {
         if TEXT_LIMIT < total && before <= TEXT_LIMIT && TEXT_LIMIT <= before + line.len() {
-            return Err(ReadFault::Line(LineFault { number: TEXT_TOO_LONG }));
+            return Err(ReadFault::Line(LineFault {
+                number: TEXT_TOO_LONG,
+            }));
         }
         check_bytes(line)?;
         let unbuilt = self.first_unbuilt(number, line);

@@ -4,8 +4,8 @@ ghost use Rattle.std.specs.Prelude.{◌≡◌, IfErr, IfOk};
 ghost use Rattle.mc_net.specs.Texts.{Says, RefusesText};
 
 use crate::fault::{NetFault, TextFault};
-use mc_program::ReadFault;
 use crate::reader::Reader;
+use mc_program::ReadFault;
 use mc_script::rule::UNBUILT;
 use mc_text::next_line;
 use std::alloc::Global;

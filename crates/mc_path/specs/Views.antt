@@ -1,12 +1,12 @@
 -- What is shown of a path.
 use Rattle.std.specs.Prelude.{◌≡◌, ℕ, ◌*◌, ◌&&◌, Bool, true, false, length, Option, None}
-use Rattle.std.specs.Option.{option_and_then}
 use Rattle.mc_signal.specs.declared.Selector.{Selector}
 use Rattle.mc_slot.specs.declared.State.{State}
 use Rattle.mc_slot.specs.declared.State.TheVariants.{Flowing}
 use Rattle.mc_view.specs.declared.EndView.{EndView}
 use Rattle.mc_view.specs.declared.PathView.{PathView}
 use Rattle.mc_box.specs.BoxShapes.{is_device}
+use Rattle.mc_model.specs.PathTable.{selected_codec}
 use Rattle.mc_model.specs.Paths.{PathEnds, end_goal, slots_on, whole_walk}
 use Rattle.mc_model.specs.Worlds.{WorldState, box_at, tunnel_of, own_descriptor, own_sender, place, slot_of}
 
@@ -16,7 +16,7 @@ is_flowing state = false
 
 -- the codec that an end hears: that of the selector that it last got, where there is one and its path flows
 abbrev pub shown_codec : Bool → Option Selector → Option ℕ
-shown_codec true selector = option_and_then (λ chosen. chosen.codec) selector
+shown_codec true selector = selected_codec selector
 shown_codec false selector = None
 
 -- an end of a path that flows, or of one that doesn't, by its slot's number

@@ -91,7 +91,7 @@ fn is_flowing(state: State) -> bool
 }
 
 // The codec that an end hears, by the selector that it last got.
-fn heard_codec(flowing: bool, selector: Option<Selector>) -> Option<u8>
+fn shown_codec(flowing: bool, selector: Option<Selector>) -> Option<u8>
     ensures { result ≡ shown_codec flowing selector }
 {
     if flowing {
@@ -115,7 +115,7 @@ fn end_view(world: &World, flowing: bool, slot: u32) -> EndView
         local,
         goal: end_goal(world.goal(slot)),
         own: home.own(local),
-        hears: heard_codec(flowing, world.slot(slot).sel_in),
+        hears: shown_codec(flowing, world.slot(slot).sel_in),
         sends: home.sender(local).codecs,
         device: home.kind() == Kind::Device,
     }

@@ -4,7 +4,7 @@ use Rattle.mc_signal.specs.declared.Descriptor.{Descriptor}
 use Rattle.mc_signal.specs.declared.Sender.{Sender}
 use Rattle.mc_signal.specs.declared.Signal.{Signal}
 use Rattle.mc_slot.specs.EndTurn.{end_turn, owes, cause_of, is_push}
-use Rattle.mc_slot.specs.Moves.{answered, slot_send, slot_send_all, slot_take}
+use Rattle.mc_slot.specs.Moves.{answer_signals, slot_send, slot_send_all, slot_take}
 use Rattle.mc_slot.specs.Outlook.{ack_of, acks, close_of, closes}
 use Rattle.mc_slot.specs.declared.Goal.{Goal}
 use Rattle.mc_slot.specs.declared.Goal.TheVariants.{Close as ToClose}
@@ -64,7 +64,7 @@ front_none signal rest none = parts_none (close_of signal) (ack_of signal) (clos
 -- an end that takes its next signal
 pub take_ends : (goal : Goal) (slot middle last : Slot) (own : Descriptor) (me : Sender) (signal : Signal) (answer : Option Signal) (rest : List Signal)
     → slot_take slot signal ≡ Some record { answer = answer; after = middle } → slot_send_all middle (end_turn goal middle (is_push (cause_of signal middle.state)) own me) ≡ Some last
-    → EndsNone goal slot (signal ∷ rest) (answered answer ++ end_turn goal middle (is_push (cause_of signal middle.state)) own me) last rest
+    → EndsNone goal slot (signal ∷ rest) (answer_signals answer ++ end_turn goal middle (is_push (cause_of signal middle.state)) own me) last rest
 take_ends goal slot middle last own me signal answer rest goes turns = record {
   sends_none = λ holds none.
       let silent = (took_open slot middle signal answer goes (front_none signal rest none).0).0 in

@@ -6,7 +6,7 @@ use Rattle.mc_link.proofs.Mirror.{link_mirror}
 use Rattle.mc_link.proofs.Parts.{both, live_both}
 use Rattle.mc_link.proofs.Sides.{first_of_four}
 use Rattle.mc_signal.specs.declared.Signal.{Signal}
-use Rattle.mc_slot.specs.Moves.{answered, is_live, slot_take}
+use Rattle.mc_slot.specs.Moves.{answer_signals, is_live, slot_take}
 use Rattle.mc_slot.specs.Outlook.{ack_of, close_of}
 use Rattle.mc_slot.specs.declared.Slot.{Slot}
 use Rattle.mc_slot.specs.declared.State.{State}
@@ -52,7 +52,7 @@ closed_none signal state none = grind (arith)
 
 -- the slot that takes sends none, its answer counted
 pub taker_sends_none : (a b middle : Slot) (signal : Signal) (answer : Option Signal) → slot_take a signal ≡ Some record { answer = answer; after = middle } → close_of signal + ack_of signal ≡ 0
-    → endings (answered answer ++ sent_by_first (link_turn middle b (closed_side (cause_of signal middle.state) First))) ≡ 0
+    → endings (answer_signals answer ++ sent_by_first (link_turn middle b (closed_side (cause_of signal middle.state) First))) ≡ 0
 taker_sends_none a b middle signal answer goes none =
     let silent = (took_open a middle signal answer goes none).0 in
     rw (silent, closed_none signal middle.state none) (first_none middle b)

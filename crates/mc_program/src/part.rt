@@ -17,7 +17,10 @@ use crate::limit::{STATE_LIMIT, TRANSITION_LIMIT};
 use mc_box::Shape;
 use mc_script::LineFault;
 use mc_script::places::{fixed_goal, is_misspelt, is_overlong, known_slot};
-use mc_script::rule::{EXTRA_WORD, GIVEN_TWICE, LIMIT_PASSED, MISSING_WORD, NAME_TOO_LONG, NO_SUCH_SLOT, SAME_SLOT, TWO_MEDIA, UNDECLARED, WRONG_WORD};
+use mc_script::rule::{
+    EXTRA_WORD, GIVEN_TWICE, LIMIT_PASSED, MISSING_WORD, NAME_TOO_LONG, NO_SUCH_SLOT, SAME_SLOT,
+    TWO_MEDIA, UNDECLARED, WRONG_WORD,
+};
 use mc_slot::{SlotGoal, State};
 use mc_text::limit::TOLD_LIMIT;
 use mc_text::{FirstWords, Names, Words};
@@ -104,16 +107,22 @@ impl StatePart {
         let parts = FirstWords::new(words);
         let goal = fixed_goal(parts.second)?;
         let (Some(slot), Some(goal)) = (parts.first, goal) else {
-            return Err(LineFault { number: MISSING_WORD });
+            return Err(LineFault {
+                number: MISSING_WORD,
+            });
         };
         if parts.third.is_some() {
             return Err(LineFault { number: EXTRA_WORD });
         }
         let Some(local) = names.find_slot(who, slot) else {
-            return Err(LineFault { number: NO_SUCH_SLOT });
+            return Err(LineFault {
+                number: NO_SUCH_SLOT,
+            });
         };
         if self.goals[local as usize].is_some() {
-            return Err(LineFault { number: GIVEN_TWICE });
+            return Err(LineFault {
+                number: GIVEN_TWICE,
+            });
         }
         self.goals[local as usize] = Some(SlotGoal::End(goal));
         Ok(())
@@ -135,7 +144,9 @@ impl StatePart {
     {
         let parts = FirstWords::new(words);
         let (Some(one), Some(other)) = (parts.first, parts.second) else {
-            return Err(LineFault { number: MISSING_WORD });
+            return Err(LineFault {
+                number: MISSING_WORD,
+            });
         };
         if parts.third.is_some() {
             return Err(LineFault { number: EXTRA_WORD });
@@ -143,10 +154,14 @@ impl StatePart {
         let one = names.find_slot(who, one);
         let other = names.find_slot(who, other);
         if self.has_goal(one) || self.has_goal(other) {
-            return Err(LineFault { number: GIVEN_TWICE });
+            return Err(LineFault {
+                number: GIVEN_TWICE,
+            });
         }
         let (Some(one), Some(other)) = (one, other) else {
-            return Err(LineFault { number: NO_SUCH_SLOT });
+            return Err(LineFault {
+                number: NO_SUCH_SLOT,
+            });
         };
         if one == other {
             return Err(LineFault { number: SAME_SLOT });
@@ -185,7 +200,9 @@ impl StatePart {
         ensures slots { OnOk result (names.new.slots ≡ names.old.slots) }
     {
         let Some(first) = words.next_word() else {
-            return Err(ReadFault::Line(LineFault { number: MISSING_WORD }));
+            return Err(ReadFault::Line(LineFault {
+                number: MISSING_WORD,
+            }));
         };
         match waits_for(first) {
             None => Err(ReadFault::Line(LineFault { number: WRONG_WORD })),
@@ -250,14 +267,18 @@ impl StatePart {
         let target = known_target(states, parts.third)?;
         let state = fixed_state(parts.second)?;
         let (Some(slot), Some(state), Some(target)) = (parts.first, state, target) else {
-            return Err(LineFault { number: MISSING_WORD });
+            return Err(LineFault {
+                number: MISSING_WORD,
+            });
         };
         if parts.fourth.is_some() {
             return Err(LineFault { number: EXTRA_WORD });
         }
         let local = known_slot(names, who, slot)?;
         if TRANSITION_LIMIT <= self.transitions.len() {
-            return Err(LineFault { number: LIMIT_PASSED });
+            return Err(LineFault {
+                number: LIMIT_PASSED,
+            });
         }
         Ok(Transition {
             guard: Guard::SlotIs(local, state),
@@ -283,16 +304,22 @@ impl StatePart {
             return Err(LineFault { number: WRONG_WORD });
         }
         let (Some(word), Some(target)) = (parts.first, target) else {
-            return Err(LineFault { number: MISSING_WORD });
+            return Err(LineFault {
+                number: MISSING_WORD,
+            });
         };
         if parts.third.is_some() {
             return Err(LineFault { number: EXTRA_WORD });
         }
         if TRANSITION_LIMIT <= self.transitions.len() || has_no_room(names, word) {
-            return Err(LineFault { number: LIMIT_PASSED });
+            return Err(LineFault {
+                number: LIMIT_PASSED,
+            });
         }
         if is_overlong(parts.first) {
-            return Err(LineFault { number: NAME_TOO_LONG });
+            return Err(LineFault {
+                number: NAME_TOO_LONG,
+            });
         }
         Ok(ToldLine { word, target })
     }

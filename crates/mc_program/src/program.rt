@@ -16,7 +16,9 @@ use crate::word_list::{are_more_than, has_misspelt, has_overlong, has_repeat};
 use mc_box::Shape;
 use mc_script::LineFault;
 use mc_script::places::{known_box, needs_feature};
-use mc_script::rule::{EXTRA_WORD, GIVEN_TWICE, LIMIT_PASSED, MISSING_WORD, NAME_TOO_LONG, UNFINISHED, WRONG_WORD};
+use mc_script::rule::{
+    EXTRA_WORD, GIVEN_TWICE, LIMIT_PASSED, MISSING_WORD, NAME_TOO_LONG, UNFINISHED, WRONG_WORD,
+};
 use mc_text::{Names, Words};
 use std::alloc::{AllocError, Global};
 use std::marker::Model;
@@ -170,19 +172,27 @@ pub fn program_line<'a>(
         return Err(LineFault { number: WRONG_WORD });
     }
     let (Some(who), Some(_)) = (who, states.again().next_word()) else {
-        return Err(LineFault { number: MISSING_WORD });
+        return Err(LineFault {
+            number: MISSING_WORD,
+        });
     };
     if has_program(shape, who) || has_repeat(states.again()) {
-        return Err(LineFault { number: GIVEN_TWICE });
+        return Err(LineFault {
+            number: GIVEN_TWICE,
+        });
     }
     if are_more_than(STATE_LIMIT, states.again()) {
-        return Err(LineFault { number: LIMIT_PASSED });
+        return Err(LineFault {
+            number: LIMIT_PASSED,
+        });
     }
     if is_unfinished(block) {
         return Err(LineFault { number: UNFINISHED });
     }
     if has_overlong(states) {
-        return Err(LineFault { number: NAME_TOO_LONG });
+        return Err(LineFault {
+            number: NAME_TOO_LONG,
+        });
     }
     Ok(who)
 }
@@ -220,7 +230,9 @@ pub fn state_line<'a>(
         return Err(LineFault { number: WRONG_WORD });
     }
     if name.is_none() {
-        return Err(LineFault { number: MISSING_WORD });
+        return Err(LineFault {
+            number: MISSING_WORD,
+        });
     }
     if words.next_word().is_some() {
         return Err(LineFault { number: EXTRA_WORD });

@@ -65,10 +65,14 @@ pub fn check_bytes(line: &[u8]) -> Result<(), LineFault>
     ensures { ReadsAs result (least_broken (byte_rules line.now)) (Some tt) }
 {
     if LINE_LIMIT < line.len() {
-        return Err(LineFault { number: LINE_TOO_LONG });
+        return Err(LineFault {
+            number: LINE_TOO_LONG,
+        });
     }
     if has_strange_byte(line) {
-        return Err(LineFault { number: STRANGE_BYTE });
+        return Err(LineFault {
+            number: STRANGE_BYTE,
+        });
     }
     Ok(())
 }

@@ -26,7 +26,9 @@ pub fn set_line<'a>(names: &Names, words: Words<'a>) -> Result<Command, LineFaul
     let who = known_box(names, parts.first)?;
     let goal = fixed_goal(parts.third)?;
     let (Some(who), Some(slot), Some(goal)) = (who, parts.second, goal) else {
-        return Err(LineFault { number: MISSING_WORD });
+        return Err(LineFault {
+            number: MISSING_WORD,
+        });
     };
     if parts.fourth.is_some() {
         return Err(LineFault { number: EXTRA_WORD });
@@ -44,7 +46,9 @@ pub fn link_line<'a>(names: &Names, shape: &Shape, words: Words<'a>) -> Result<C
     let who = known_box(names, parts.first)?;
     needs_feature(shape, who)?;
     let (Some(who), Some(slot), Some(other)) = (who, parts.second, parts.third) else {
-        return Err(LineFault { number: MISSING_WORD });
+        return Err(LineFault {
+            number: MISSING_WORD,
+        });
     };
     if parts.fourth.is_some() {
         return Err(LineFault { number: EXTRA_WORD });
@@ -94,7 +98,9 @@ pub fn tell_line<'a>(names: &Names, shape: &Shape, words: Words<'a>) -> Result<C
     let told = known_told(names, parts.second)?;
     needs_program(shape, who)?;
     let (Some(who), Some(told)) = (who, told) else {
-        return Err(LineFault { number: MISSING_WORD });
+        return Err(LineFault {
+            number: MISSING_WORD,
+        });
     };
     if parts.third.is_some() {
         return Err(LineFault { number: EXTRA_WORD });
@@ -135,7 +141,9 @@ fn switch_line<'a>(names: &Names, shape: &Shape, words: Words<'a>) -> Result<Swi
     needs_device(shape, who)?;
     let on = fixed_switch(parts.third)?;
     let (Some(who), Some(slot), Some(on)) = (who, parts.second, on) else {
-        return Err(LineFault { number: MISSING_WORD });
+        return Err(LineFault {
+            number: MISSING_WORD,
+        });
     };
     if parts.fourth.is_some() {
         return Err(LineFault { number: EXTRA_WORD });

@@ -42,7 +42,9 @@ pub fn known_slot(names: &Names, who: u32, word: &[u8]) -> Result<u8, LineFault>
 {
     match names.find_slot(who, word) {
         Some(local) => Ok(local),
-        None => Err(LineFault { number: NO_SUCH_SLOT }),
+        None => Err(LineFault {
+            number: NO_SUCH_SLOT,
+        }),
     }
 }
 

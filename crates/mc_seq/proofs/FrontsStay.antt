@@ -7,7 +7,7 @@ use Rattle.mc_signal.specs.declared.Signal.{Signal}
 use Rattle.mc_box.specs.BoxEvents.{BoxStep, box_event}
 use Rattle.mc_box.specs.declared.event.Event.{Event}
 use Rattle.mc_box.specs.declared.event.Event.TheVariants.{Take, Set, Media, Tell, Retry, Shift}
-use Rattle.mc_model.specs.Steps.{made, popped, pushed, sent_out, step_by, take_at, with_box}
+use Rattle.mc_model.specs.Steps.{after_making, after_pop, after_push, after_sends, step_by, take_at, with_box}
 use Rattle.mc_model.specs.Worlds.{ChannelState, WorldState, box_at, far, front, front_for, tunnel_of, lane_of, number}
 use Rattle.mc_laws.proofs.Numbers.{number_is}
 use Rattle.mc_box.proofs.Options.{if_some, map_some, then_some}
@@ -28,7 +28,7 @@ NoneTo world who lane = (local s : ℕ) → number world who local ≡ Some s �
 
 -- the world with one signal more
 abbrev sent_one : WorldState → Signal → Option ℕ → WorldState
-sent_one world signal found = unwrap_or (option_map (λ s. pushed world signal (far s)) found) world
+sent_one world signal found = unwrap_or (option_map (λ s. after_push world signal (far s)) found) world
 
 -- a signal that goes to another lane leaves this one
 one_same : (found : Option ℕ) (world : WorldState) (who local lane : ℕ) (signal : Signal) → number world who local ≡ found → NoneTo world who lane → SameLane world (sent_one world signal found) lane
@@ -44,16 +44,16 @@ one_none None world who lane signal none = none
 one_none (Some s) world who lane signal none = none
 
 -- so all that a box sends leaves such a lane
-out_same : (sent : List (ℕ × Signal)) (world : WorldState) (who lane : ℕ) → NoneTo world who lane → SameLane world (sent_out world who sent) lane
+out_same : (sent : List (ℕ × Signal)) (world : WorldState) (who lane : ℕ) → NoneTo world who lane → SameLane world (after_sends world who sent) lane
 out_same [] world who lane none = record { channels = refl; signals = refl }
 out_same (sending ∷ rest) world who lane none =
     let found : Option ℕ = number world who sending.0 in
-    both_same world (sent_one world sending.1 found) (sent_out (sent_one world sending.1 found) who rest) lane
+    both_same world (sent_one world sending.1 found) (after_sends (sent_one world sending.1 found) who rest) lane
     (one_same found world who sending.0 lane sending.1 refl none)
     (out_same rest (sent_one world sending.1 found) who lane (one_none found world who lane sending.1 none))
 
 -- what a box makes
-made_same : (world : WorldState) (who lane : ℕ) (turn : BoxStep) → NoneTo world who lane → SameLane world (made world who turn) lane
+made_same : (world : WorldState) (who lane : ℕ) (turn : BoxStep) → NoneTo world who lane → SameLane world (after_making world who turn) lane
 made_same world who lane turn none =
     let out = out_same turn.sent (with_box world who turn.after) who lane none in
     record { channels = out.channels; signals = out.signals }
@@ -63,19 +63,19 @@ away_none : (world : WorldState) (who lane : ℕ) → IsAway world who lane → 
 away_none world who lane away local s is = (away s (number_is world who local s is).1).1
 
 -- an event that takes nothing leaves it
-act_same : (world next : WorldState) (who lane : ℕ) (o : Option BoxStep) → option_map (made world who) o ≡ Some next → IsAway world who lane → SameLane world next lane
+act_same : (world next : WorldState) (who lane : ℕ) (o : Option BoxStep) → option_map (after_making world who) o ≡ Some next → IsAway world who lane → SameLane world next lane
 act_same world next who lane o goes away =
-    let parts = map_some (made world who) o next goes in
+    let parts = map_some (after_making world who) o next goes in
     subst (λ (w : WorldState). SameLane world w lane) parts.2 (made_same world who lane parts.0 (away_none world who lane away))
 
 -- and so does a Take
 take_same : (world next : WorldState) (who local s lane : ℕ) → number world who local ≡ Some s → take_at world who local s ≡ Some next → IsAway world who lane → SameLane world next lane
 take_same world next who local s lane is goes away =
-    let first = then_some (λ (signal : Signal). option_map (made (popped world s) who) (box_event (box_at world who) (Take local) (Some signal))) (front world s) next goes in
-    let parts = map_some (made (popped world s) who) (box_event (box_at world who) (Take local) (Some first.0)) next first.2 in
-    let pop : SameLane world (popped world s) lane = record { channels = refl; signals = get_or-set_other world.lanes (lane_of world s) lane _ [] (away s (number_is world who local s is).1).0 } in
-    both_same world (popped world s) next lane pop
-    (subst (λ (w : WorldState). SameLane (popped world s) w lane) parts.2 (made_same (popped world s) who lane parts.0 (away_none world who lane away)))
+    let first = then_some (λ (signal : Signal). option_map (after_making (after_pop world s) who) (box_event (box_at world who) (Take local) (Some signal))) (front world s) next goes in
+    let parts = map_some (after_making (after_pop world s) who) (box_event (box_at world who) (Take local) (Some first.0)) next first.2 in
+    let pop : SameLane world (after_pop world s) lane = record { channels = refl; signals = get_or-set_other world.lanes (lane_of world s) lane _ [] (away s (number_is world who local s is).1).0 } in
+    both_same world (after_pop world s) next lane pop
+    (subst (λ (w : WorldState). SameLane (after_pop world s) w lane) parts.2 (made_same (after_pop world s) who lane parts.0 (away_none world who lane away)))
 
 -- and so each event
 event_same : (event : Event) (world next : WorldState) (who lane : ℕ) → step_by world who event ≡ Some next → IsAway world who lane → SameLane world next lane
@@ -91,7 +91,7 @@ event_same Shift world next who lane goes away = act_same world next who lane (b
 -- so a step changes no front of such a lane
 pub fronts_stay : FrontsStay
 fronts_stay world next turn t goes away =
-    let made = if_some (nat_lt turn.who (length world.boxes)) (step_by world turn.who turn.event) next goes in
-    let same = event_same turn.event world next turn.who (lane_of world t) made.1 away in
+    let after_making = if_some (nat_lt turn.who (length world.boxes)) (step_by world turn.who turn.event) next goes in
+    let same = event_same turn.event world next turn.who (lane_of world t) after_making.1 away in
     ap (λ (channels : List ChannelState). front_for (tunnel_of (record next { channels = channels }) t).within (get_or next.lanes (lane_of (record next { channels = channels }) t) [])) same.channels
     ∙ ap (front_for (tunnel_of world t).within) same.signals

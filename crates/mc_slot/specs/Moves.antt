@@ -15,16 +15,16 @@ abbrev pub closed_slot : Medium → Bool → Slot
 closed_slot medium initiator = record { state = Closed; medium = medium; initiator = initiator; sent = None; got = None; sel_out = None; sel_in = None }
 
 -- a slot that enters a state and keeps nothing
-abbrev pub cleared : Slot → State → Slot
-cleared slot state = record slot { state = state; sent = None; got = None; sel_out = None; sel_in = None }
+abbrev pub clear : Slot → State → Slot
+clear slot state = record slot { state = state; sent = None; got = None; sel_out = None; sel_in = None }
 
 -- the slot in another state, keeping what it kept
 abbrev pub with_state : Slot → State → Slot
 with_state slot state = record slot { state = state }
 
 -- opened by the other side, and keeping its descriptor
-abbrev pub opened_by : Slot → Descriptor → Slot
-opened_by slot d = record (cleared slot Opened) { got = Some d }
+abbrev pub enter_opened : Slot → Descriptor → Slot
+enter_opened slot d = record (clear slot Opened) { got = Some d }
 
 abbrev pub is_same_medium : Medium → Medium → Bool
 is_same_medium Audio Audio = true
@@ -42,16 +42,16 @@ pub record Took : Type 0 where
   pub after : Slot
 
 -- takes the signal, owes no answer
-abbrev pub silent : Slot → Option Took
-silent after = Some record { answer = None; after = after }
+abbrev pub take_silently : Slot → Option Took
+take_silently after = Some record { answer = None; after = after }
 
 -- takes the signal and owes a closeack
-abbrev pub acked : Slot → Option Took
-acked after = Some record { answer = Some Closeack; after = after }
+abbrev pub take_with_ack : Slot → Option Took
+take_with_ack after = Some record { answer = Some Closeack; after = after }
 
 -- the slot after sending in this state, if the signal may be sent
 abbrev pub slot_send_in : State → Slot → Signal → Option Slot
-slot_send_in Closed slot (Open medium d) = Some (record (cleared slot Opening) { sent = Some d })
+slot_send_in Closed slot (Open medium d) = Some (record (clear slot Opening) { sent = Some d })
 slot_send_in Opening slot Close = Some (with_state slot Closing)
 slot_send_in Opened slot (Oack d) = Some (record (with_state slot Flowing) { sent = Some d })
 slot_send_in Opened slot Close = Some (with_state slot Closing)
@@ -62,20 +62,20 @@ slot_send_in state slot signal = None
 
 -- what a taking in this state gives, if the signal is lawful
 abbrev pub slot_take_in : State → Slot → Signal → Option Took
-slot_take_in Closed slot (Open medium d) = silent (opened_by slot d)
-slot_take_in Opening slot (Open medium d) = silent (if slot.initiator then slot else opened_by slot d)
-slot_take_in Opening slot (Oack d) = silent (record (with_state slot Flowing) { got = Some d })
-slot_take_in Opening slot Close = acked (cleared slot Closed)
-slot_take_in Opened slot Close = acked (cleared slot Closed)
-slot_take_in Flowing slot (Describe d) = silent (record slot { got = Some d })
-slot_take_in Flowing slot (Select s) = silent (record slot { sel_in = Some s })
-slot_take_in Flowing slot Close = acked (cleared slot Closed)
-slot_take_in Closing slot (Open medium d) = silent slot
-slot_take_in Closing slot (Oack d) = silent slot
-slot_take_in Closing slot (Describe d) = silent slot
-slot_take_in Closing slot (Select s) = silent slot
-slot_take_in Closing slot Close = acked slot
-slot_take_in Closing slot Closeack = silent (cleared slot Closed)
+slot_take_in Closed slot (Open medium d) = take_silently (enter_opened slot d)
+slot_take_in Opening slot (Open medium d) = take_silently (if slot.initiator then slot else enter_opened slot d)
+slot_take_in Opening slot (Oack d) = take_silently (record (with_state slot Flowing) { got = Some d })
+slot_take_in Opening slot Close = take_with_ack (clear slot Closed)
+slot_take_in Opened slot Close = take_with_ack (clear slot Closed)
+slot_take_in Flowing slot (Describe d) = take_silently (record slot { got = Some d })
+slot_take_in Flowing slot (Select s) = take_silently (record slot { sel_in = Some s })
+slot_take_in Flowing slot Close = take_with_ack (clear slot Closed)
+slot_take_in Closing slot (Open medium d) = take_silently slot
+slot_take_in Closing slot (Oack d) = take_silently slot
+slot_take_in Closing slot (Describe d) = take_silently slot
+slot_take_in Closing slot (Select s) = take_silently slot
+slot_take_in Closing slot Close = take_with_ack slot
+slot_take_in Closing slot Closeack = take_silently (clear slot Closed)
 slot_take_in state slot signal = None
 
 -- the slot after sending, if the signal may be sent
@@ -103,6 +103,6 @@ slot_send_all slot [] = Some slot
 slot_send_all slot (signal ∷ signals) = option_and_then (λ next. slot_send_all next signals) (slot_send slot signal)
 
 -- the answer of a taking, as a list
-abbrev pub answered : Option Signal → List Signal
-answered None = []
-answered (Some signal) = signal ∷ []
+abbrev pub answer_signals : Option Signal → List Signal
+answer_signals None = []
+answer_signals (Some signal) = signal ∷ []

@@ -66,7 +66,7 @@ pub struct Slot {
 }
 
 impl Slot {
-    ghost use Rattle.mc_slot.specs.Moves.{cleared, closed_slot, opened_by, is_live, slot_send, slot_take, is_open_for};
+    ghost use Rattle.mc_slot.specs.Moves.{clear, closed_slot, enter_opened, is_live, slot_send, slot_take, is_open_for};
 
     /// A closed slot that keeps nothing.
     pub fn new(medium: Medium, initiator: bool) -> Slot
@@ -134,7 +134,7 @@ impl Slot {
 
     // Enters a state and keeps nothing.
     fn clear(&mut self, state: State)
-        ensures { self.new ≡ cleared self.old state }
+        ensures { self.new ≡ clear self.old state }
     {
         self.state = state;
         self.sent = None;
@@ -175,7 +175,7 @@ impl Slot {
 
     // Becomes opened by the other side.
     fn enter_opened(&mut self, d: Descriptor)
-        ensures { self.new ≡ opened_by self.old d }
+        ensures { self.new ≡ enter_opened self.old d }
     {
         self.clear(State::Opened);
         self.got = Some(d);

@@ -22,7 +22,7 @@ pub struct Sends {
 
 impl Sends {
     ghost use Rattle.std.specs.Prelude.{◌++◌, [], ◌∷◌, length, map};
-    ghost use Rattle.mc_slot.specs.Moves.{answered};
+    ghost use Rattle.mc_slot.specs.Moves.{answer_signals};
     ghost use Rattle.mc_slot.specs.Sending.{sends_of, pair_of};
 
     /// Nothing is sent.
@@ -37,8 +37,8 @@ impl Sends {
 
     /// What a slot answers.
     pub fn answer(no: u8, answer: Option<Signal>) -> Sends
-        ensures sends { sends_of result ≡ map (pair_of no) (answered answer) }
-        ensures len { result.len ≡ length (answered answer) }
+        ensures sends { sends_of result ≡ map (pair_of no) (answer_signals answer) }
+        ensures len { result.len ≡ length (answer_signals answer) }
     {
         let mut sends = Sends::none();
         if let Some(answer) = answer {

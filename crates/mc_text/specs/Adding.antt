@@ -11,8 +11,8 @@ abbrev pub last_number : List (List ℕ) → ℕ → Result ℕ NameFault
 last_number names limit = if nat_lt (length names) limit then Ok (length names) else Err TooMany
 
 -- the number of a new name: `Used` where the list has it, else `TooMany` where the list is full
-abbrev pub added : List (List ℕ) → ℕ → List ℕ → Result ℕ NameFault
-added names limit name = if is_some (place_of names name) then Err Used else last_number names limit
+abbrev pub add_name : List (List ℕ) → ℕ → List ℕ → Result ℕ NameFault
+add_name names limit name = if is_some (place_of names name) then Err Used else last_number names limit
 
 -- the number that there is, or else this answer
 abbrev pub number_or : Option ℕ → Result ℕ NameFault → Result ℕ NameFault

@@ -3,7 +3,7 @@
 ghost use Rattle.std.specs.Prelude.{◌≡◌, ◌<◌, [], length, OnOk, OnErr, IsTrue, Some, None, slice_index_or};
 ghost use Rattle.std.specs.List.{slice_get};
 ghost use Rattle.std.specs.Option.{option_copied};
-ghost use Rattle.mc_text.specs.Adding.{added, GivesNumber};
+ghost use Rattle.mc_text.specs.Adding.{add_name, GivesNumber};
 ghost use Rattle.mc_text.specs.NameLists.{place_of, with_name};
 ghost use Rattle.mc_text.specs.Spelling.{is_name};
 
@@ -76,7 +76,7 @@ impl NameList {
     /// The number that a name would have if it were added. It is refused where the list has it, and then
     /// where the list has `limit` names.
     pub fn place_for(&self, limit: usize, name: &[u8]) -> Result<usize, NameFault>
-        ensures { result ≡ added self.now limit name.now }
+        ensures { result ≡ add_name self.now limit name.now }
     {
         if self.find(name).is_some() {
             return Err(NameFault::Used);
@@ -102,7 +102,7 @@ impl NameList {
     /// Adds a name last and answers its number, if the list hasn't got it and has fewer than `limit`.
     pub fn add(&mut self, limit: usize, name: &[u8]) -> Result<usize, NameFault>
         requires { IsTrue (is_name name.now) }
-        ensures answer { GivesNumber result (added self.old limit name.now) }
+        ensures answer { GivesNumber result (add_name self.old limit name.now) }
         ensures added { OnOk result (self.new ≡ with_name self.old name.now) }
         ensures unchanged { OnErr result (self.new ≡ self.old) }
     {

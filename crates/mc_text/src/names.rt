@@ -1,7 +1,7 @@
 //! The names of a text, and the numbers that they have.
 
 ghost use Rattle.std.specs.Prelude.{◌≡◌, ◌<◌, ◌≤◌, ◌++◌, [], length, IfSome, OnOk, OnErr, IsTrue, Ok, Some, codes, slice_index_or, take};
-ghost use Rattle.mc_text.specs.Adding.{added, told_number, GivesNumber};
+ghost use Rattle.mc_text.specs.Adding.{add_name, told_number, GivesNumber};
 ghost use Rattle.mc_text.specs.NameLists.{place_of, no_names, slot_names, slot_word, with_codec_name, with_box_name, with_slot_name, with_told_word};
 ghost use Rattle.mc_text.specs.Spelling.{is_name};
 
@@ -50,7 +50,7 @@ impl Names {
     /// Adds a codec last, of at most 64, and answers its number.
     pub fn add_codec(&mut self, name: &[u8]) -> Result<u8, NameFault>
         requires { IsTrue (is_name name.now) }
-        ensures answer { GivesNumber result (added self.old.codecs CODEC_LIMIT name.now) }
+        ensures answer { GivesNumber result (add_name self.old.codecs CODEC_LIMIT name.now) }
         ensures added { OnOk result (self.new ≡ with_codec_name self.old name.now) }
         ensures unchanged { OnErr result (self.new ≡ self.old) }
     {
@@ -61,7 +61,7 @@ impl Names {
     /// Adds a box last, of at most 256, and answers its number. It has no slots.
     pub fn add_box(&mut self, name: &[u8]) -> Result<u32, NameFault>
         requires { IsTrue (is_name name.now) }
-        ensures answer { GivesNumber result (added self.old.boxes BOX_LIMIT name.now) }
+        ensures answer { GivesNumber result (add_name self.old.boxes BOX_LIMIT name.now) }
         ensures added { OnOk result (self.new ≡ with_box_name self.old name.now) }
         ensures unchanged { OnErr result (self.new ≡ self.old) }
     {
@@ -82,7 +82,7 @@ impl Names {
     pub fn add_slot(&mut self, who: u32, name: &[u8]) -> Result<u8, NameFault>
         requires who { who < length self.old.boxes }
         requires name { IsTrue (is_name name.now) }
-        ensures answer { GivesNumber result (added (slot_names self.old who) SLOT_LIMIT name.now) }
+        ensures answer { GivesNumber result (add_name (slot_names self.old who) SLOT_LIMIT name.now) }
         ensures added { OnOk result (self.new ≡ with_slot_name self.old who name.now) }
         ensures unchanged { OnErr result (self.new ≡ self.old) }
     {

@@ -6,7 +6,7 @@ use Rattle.mc_signal.specs.declared.Medium.{Medium}
 use Rattle.mc_signal.specs.declared.Selector.{Selector}
 use Rattle.mc_signal.specs.declared.Signal.{Signal}
 use Rattle.mc_signal.specs.declared.Signal.TheVariants.{Open, Oack, Close, Closeack, Describe, Select}
-use Rattle.mc_slot.specs.Moves.{cleared, fits_medium, with_state, opened_by, slot_send, slot_send_all}
+use Rattle.mc_slot.specs.Moves.{clear, fits_medium, with_state, enter_opened, slot_send, slot_send_all}
 use Rattle.mc_slot.specs.Outlook.{ack_of, acks, close_of, closes, outlook, waits}
 use Rattle.mc_slot.specs.Tunnel.{Agree, Kept, Meet, TunnelSound}
 use Rattle.mc_slot.specs.declared.Slot.{Slot}
@@ -103,7 +103,7 @@ send_close a after x y to_a goes none known =
     let stays : outlook (with_state a Closing) to_a ≡ Some (with_state a Closing) = out_closing to_a (with_state a Closing) a x known.out refl refl none in
     let active : IsActive x.state = out_active to_a a x known.out moves.1 known.none in
     let agree = known.agree in
-    record { one = with_state a Closing; two = cleared y Closed; one_is = rw moves.0 stays; two_is = grind (arith); agree = tt }
+    record { one = with_state a Closing; two = clear y Closed; one_is = rw moves.0 stays; two_is = grind (arith); agree = tt }
 
 -- an oack: nothing is under way to the sender, and both will flow
 send_oack : (d : Descriptor) (a after x y : Slot) (to_a : List Signal) → slot_send a (Oack d) ≡ Some after → Known a x y to_a → Both after to_a y (Oack d)
@@ -137,21 +137,21 @@ open_alone m d a after x y goes known =
     let agree : Agree a y = subst (λ (z : Slot). Agree z y) same known.agree in
     let awake = known.awake in
     let closed : y.state ≡ Closed = grind (arith) in
-    record { one = after; two = opened_by y d; one_is = refl; two_is = grind (arith); agree = grind (arith) }
+    record { one = after; two = enter_opened y d; one_is = refl; two_is = grind (arith); agree = grind (arith) }
 
 -- two opens cross
 open_first : (m n : Medium) (d f : Descriptor) (a after x y : Slot) → slot_send a (Open m d) ≡ Some after → a.initiator ≡ true → Known a x y (Open n f ∷ []) → Both after (Open n f ∷ []) y (Open m d)
 open_first m n d f a after x y goes first known =
-    let same : x ≡ opened_by a f = grind (arith) in
-    let agree : Agree (opened_by a f) y = subst (λ (z : Slot). Agree z y) same known.agree in
-    record { one = after; two = opened_by y d; one_is = grind (arith); two_is = grind (arith); agree = grind (arith) }
+    let same : x ≡ enter_opened a f = grind (arith) in
+    let agree : Agree (enter_opened a f) y = subst (λ (z : Slot). Agree z y) same known.agree in
+    record { one = after; two = enter_opened y d; one_is = grind (arith); two_is = grind (arith); agree = grind (arith) }
 
 -- and where the sender is on the other side, its own open is dropped
 open_second : (m n : Medium) (d f : Descriptor) (a after x y : Slot) → slot_send a (Open m d) ≡ Some after → a.initiator ≡ false → Known a x y (Open n f ∷ []) → Both after (Open n f ∷ []) y (Open m d)
 open_second m n d f a after x y goes first known =
-    let same : x ≡ opened_by a f = grind (arith) in
-    let agree : Agree (opened_by a f) y = subst (λ (z : Slot). Agree z y) same known.agree in
-    record { one = opened_by a f; two = y; one_is = grind (arith); two_is = grind (arith); agree = agree }
+    let same : x ≡ enter_opened a f = grind (arith) in
+    let agree : Agree (enter_opened a f) y = subst (λ (z : Slot). Agree z y) same known.agree in
+    record { one = enter_opened a f; two = y; one_is = grind (arith); two_is = grind (arith); agree = agree }
 
 -- by the side of the sender
 open_crosses : (side : Bool) (m n : Medium) (d f : Descriptor) (a after x y : Slot) → a.initiator ≡ side → slot_send a (Open m d) ≡ Some after → Known a x y (Open n f ∷ []) → Both after (Open n f ∷ []) y (Open m d)

@@ -2,7 +2,7 @@
 use Rattle.std.proofs.Common.{◌≡◌, ◌⊎◌, inl, inr, ◌+◌, ◌≤◌, Option, Some, None, List, [], ◌∷◌, ◌++◌, refl, subst, arith}
 use Rattle.mc_signal.specs.declared.Signal.{Signal}
 use Rattle.mc_signal.specs.declared.Signal.TheVariants.{Open, Oack, Close, Closeack, Describe, Select}
-use Rattle.mc_slot.specs.Moves.{answered, cleared, slot_take}
+use Rattle.mc_slot.specs.Moves.{answer_signals, clear, slot_take}
 use Rattle.mc_slot.specs.Outlook.{ack_of, acks, close_of, outlook, waits}
 use Rattle.mc_slot.specs.Tunnel.{Agree, Meet, TunnelSound}
 use Rattle.mc_slot.specs.declared.Slot.{Slot}
@@ -61,7 +61,7 @@ pub at_most_one : (a : Slot) → waits a.state ≤ 1
 at_most_one a = grind (arith)
 
 -- what agrees with a closing slot agrees with it closed
-agree_closed : (x b : Slot) → Agree x b → b.state ≡ Closing → Agree x (cleared b Closed)
+agree_closed : (x b : Slot) → Agree x b → b.state ≡ Closing → Agree x (clear b Closed)
 agree_closed x b agree is = grind (arith)
 
 -- a taking without an answer keeps a tunnel sound
@@ -91,12 +91,12 @@ take_answering a signal to_a b to_b answer after s goes counted =
     let stays : outlook b to_b ≡ Some b = out_closing to_b b b both.second both.second_is waiting_b refl no_acks in
     let same : both.second ≡ b = cc (stays, both.second_is) in
     let agree : Agree both.first b = subst (λ (y : Slot). Agree both.first y) same both.agree in
-    let last : outlook b (Closeack ∷ []) ≡ Some (cleared b Closed) = grind (arith) in
-    let longer : outlook b (to_b ++ Closeack ∷ []) ≡ Some (cleared b Closed) = rw (outlook-append b to_b (Closeack ∷ []), stays) last in
+    let last : outlook b (Closeack ∷ []) ≡ Some (clear b Closed) = grind (arith) in
+    let longer : outlook b (to_b ++ Closeack ∷ []) ≡ Some (clear b Closed) = rw (outlook-append b to_b (Closeack ∷ []), stays) last in
     record {
       medium = cc (took_medium a signal _ goes, s.medium);
       sides = cc (took_side a signal _ goes, s.sides);
-      meet = meet_of _ _ both.first (cleared b Closed) both.first_is longer (agree_closed both.first b agree waiting_b);
+      meet = meet_of _ _ both.first (clear b Closed) both.first_is longer (agree_closed both.first b agree waiting_b);
       first_waits = omega (arith, s.first_waits, counted.count, counted.no_ack, closes-append to_b (Closeack ∷ []));
       second_waits = omega (arith, s.second_waits, counted.one_close, acks-append to_b (Closeack ∷ []));
       first_kept = took_kept a signal _ goes s.first_kept;
@@ -106,7 +106,7 @@ take_answering a signal to_a b to_b answer after s goes counted =
 -- each taking keeps a tunnel sound
 pub take_keeps : (a : Slot) (signal : Signal) (to_a : List Signal) (b : Slot) (to_b : List Signal) (answer : Option Signal) (after : Slot)
     → TunnelSound a (signal ∷ to_a) b to_b → slot_take a signal ≡ Some record { answer = answer; after = after }
-    → TunnelSound after to_a b (to_b ++ answered answer)
+    → TunnelSound after to_a b (to_b ++ answer_signals answer)
 take_keeps a signal to_a b to_b answer after s goes = elim (answer_in a signal answer after goes) [
   | inl counted ↦ rw (counted.none, append-nil to_b) (take_silent a signal to_a b to_b answer after s goes counted)
   | inr counted ↦ rw counted.some (take_answering a signal to_a b to_b answer after s goes counted)

@@ -2,7 +2,7 @@
 use Rattle.std.specs.Prelude.{◌≡◌, Option, Some, Bool, not, List, [], ◌∷◌, ◌++◌, IsSome}
 use Rattle.mc_signal.specs.declared.Medium.{Medium}
 use Rattle.mc_signal.specs.declared.Signal.{Signal}
-use Rattle.mc_slot.specs.Moves.{answered, closed_slot, slot_send_all, slot_take}
+use Rattle.mc_slot.specs.Moves.{answer_signals, closed_slot, slot_send_all, slot_take}
 use Rattle.mc_slot.specs.Tunnel.{TunnelSound}
 use Rattle.mc_slot.specs.declared.Slot.{Slot}
 
@@ -20,7 +20,7 @@ TunnelTurns = (a : Slot) (to_a : List Signal) (b : Slot) (to_b : List Signal)
 abbrev pub TakeKeepsTunnel : Type 0
 TakeKeepsTunnel = (a : Slot) (signal : Signal) (to_a : List Signal) (b : Slot) (to_b : List Signal) (answer : Option Signal) (after : Slot)
     → TunnelSound a (signal ∷ to_a) b to_b → slot_take a signal ≡ Some record { answer = answer; after = after }
-    → TunnelSound after to_a b (to_b ++ answered answer)
+    → TunnelSound after to_a b (to_b ++ answer_signals answer)
 
 -- a slot that sends signals, each where it may, keeps the tunnel sound
 abbrev pub SendsKeepTunnel : Type 0

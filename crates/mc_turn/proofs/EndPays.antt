@@ -7,7 +7,7 @@ use Rattle.mc_signal.specs.declared.Sender.{Sender}
 use Rattle.mc_signal.specs.declared.Signal.{Signal}
 use Rattle.mc_signal.specs.declared.Signal.TheVariants.{Open, Oack, Close, Closeack, Describe, Select}
 use Rattle.mc_slot.specs.EndTurn.{end_turn, cause_of, is_push}
-use Rattle.mc_slot.specs.Moves.{answered, slot_send_all, slot_take}
+use Rattle.mc_slot.specs.Moves.{answer_signals, slot_send_all, slot_take}
 use Rattle.mc_slot.specs.Tunnel.{Kept}
 use Rattle.mc_slot.specs.declared.Goal.{Goal}
 use Rattle.mc_slot.specs.declared.Slot.{Slot}
@@ -17,7 +17,7 @@ use Rattle.mc_turn.proofs.Weighing.{weigh, weigh_all, weigh_one, weigh_list, Pay
 -- the weights before and after
 abbrev pub Enough : Goal → Slot → Slot → Slot → Descriptor → Sender → Signal → Option Signal → (n b c y yn yb yc : ℕ) → Type 0
 Enough goal slot after last own me signal answer n b c y yn yb yc =
-    1 + weigh_all y yn yb yc (answered answer ++ end_turn goal after (is_push (cause_of signal after.state)) own me) + yc * stored_end goal last.state
+    1 + weigh_all y yn yb yc (answer_signals answer ++ end_turn goal after (is_push (cause_of signal after.state)) own me) + yc * stored_end goal last.state
     ≤ weigh 1 n b c signal + yc * stored_end goal slot.state
 
 -- a select: the end sends nothing for it
@@ -71,4 +71,4 @@ by_signal (Select s) goal slot after last own me answer n b c y yn yb yc paid ke
 pub end_pays : EndPays
 end_pays goal slot after last own me signal answer n y kept rest goes sends some less =
     let linear = by_signal signal goal slot after last own me answer n (n * n) (n * (n * n)) y (y * n) (y * (n * n)) (y * (n * (n * n))) (pays n y some less) kept rest goes sends in
-    omega (arith, linear, weigh_one n signal, weigh_list n y (answered answer ++ end_turn goal after (is_push (cause_of signal after.state)) own me))
+    omega (arith, linear, weigh_one n signal, weigh_list n y (answer_signals answer ++ end_turn goal after (is_push (cause_of signal after.state)) own me))

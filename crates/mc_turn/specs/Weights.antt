@@ -5,7 +5,7 @@ use Rattle.mc_signal.specs.declared.Sender.{Sender}
 use Rattle.mc_signal.specs.declared.Signal.{Signal}
 use Rattle.mc_signal.specs.declared.Signal.TheVariants.{Open, Oack, Close, Closeack, Describe, Select}
 use Rattle.mc_slot.specs.EndTurn.{end_turn, IsAtRest, cause_of, is_push}
-use Rattle.mc_slot.specs.Moves.{answered, slot_send_all, slot_take}
+use Rattle.mc_slot.specs.Moves.{answer_signals, slot_send_all, slot_take}
 use Rattle.mc_slot.specs.Tunnel.{Kept}
 use Rattle.mc_slot.specs.declared.Goal.{Goal}
 use Rattle.mc_slot.specs.declared.Goal.TheVariants.{Open as ToOpen}
@@ -38,5 +38,5 @@ EndPays = (goal : Goal) (slot after last : Slot) (own : Descriptor) (me : Sender
     → Kept slot → IsAtRest goal slot own me → slot_take slot signal ≡ Some record { answer = answer; after = after }
     → slot_send_all after (end_turn goal after (is_push (cause_of signal after.state)) own me) ≡ Some last
     → 1 ≤ y → y < n
-    → 1 + y * weights n (answered answer ++ end_turn goal after (is_push (cause_of signal after.state)) own me) + y * (n * (n * n)) * stored_end goal last.state
+    → 1 + y * weights n (answer_signals answer ++ end_turn goal after (is_push (cause_of signal after.state)) own me) + y * (n * (n * n)) * stored_end goal last.state
     ≤ weight n signal + y * (n * (n * n)) * stored_end goal slot.state

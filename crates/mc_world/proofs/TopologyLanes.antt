@@ -5,7 +5,7 @@ use Rattle.std.proofs.Math.ListN.{set, get_or-map}
 use Rattle.std.proofs.lemmas.List.{length-map}
 use Rattle.mc_signal.specs.declared.Signal.{Signal}
 use Rattle.mc_world.specs.Lanes.{IsLaid, all_sent, lane_by, one_sent, with_sending, signals_of, tunnel_by}
-use Rattle.mc_model.specs.Steps.{pushed, sent_out}
+use Rattle.mc_model.specs.Steps.{after_push, after_sends}
 use Rattle.mc_world.specs.Tables.{HasTables, channel_of}
 use Rattle.mc_model.specs.Worlds.{TunnelPlace, WorldState, far, is_place, tunnel_of, all_tunnels, tunnels_from, lane_of, no_tunnel, number, places}
 use Rattle.mc_world.specs.declared.network.World.TheInside.{Inside}
@@ -74,7 +74,7 @@ push_at : (world : WorldState) (signal : Signal) (lane one within tunnel : ℕ) 
 push_at world signal lane one within tunnel lane_is tunnel_is = rw (lane_is, tunnel_is) refl
 
 push_same : (world : WorldState) (topology : Topology) (signal : Signal) (found : Option ℕ) → topology.tunnels.items ≡ map channel_of (all_tunnels world)
-    → unwrap_or (option_map (λ s. pushed world signal (far s)) found) world
+    → unwrap_or (option_map (λ s. after_push world signal (far s)) found) world
     ≡ record world { lanes = unwrap_or (option_map (λ s. with_sending topology world.lanes signal (far s)) found) world.lanes }
 push_same world topology signal None is = refl
 push_same world topology signal (Some s) is =
@@ -82,11 +82,11 @@ push_same world topology signal (Some s) is =
 
 -- what a box sends, by the tables, is what the world sends
 pub sent_out_by : (sendings : List (ℕ × Signal)) (world : WorldState) (topology : Topology) (who : ℕ) → topology.places.items ≡ places world → topology.tunnels.items ≡ map channel_of (all_tunnels world)
-    → sent_out world who sendings ≡ record world { lanes = all_sent topology who world.lanes sendings }
+    → after_sends world who sendings ≡ record world { lanes = all_sent topology who world.lanes sendings }
 sent_out_by [] world topology who at through = refl
 sent_out_by (sending ∷ rest) world topology who at through =
-    let next : unwrap_or (option_map (λ s. pushed world sending.1 (far s)) (number world who sending.0)) world ≡ record world { lanes = one_sent topology who world.lanes sending } =
+    let next : unwrap_or (option_map (λ s. after_push world sending.1 (far s)) (number world who sending.0)) world ≡ record world { lanes = one_sent topology who world.lanes sending } =
     push_same world topology sending.1 (number world who sending.0) through
     ∙ ap (λ (places : List (ℕ × ℕ)). record world { lanes = unwrap_or (option_map (λ s. with_sending topology world.lanes sending.1 (far s)) (position (is_place (who, sending.0)) places)) world.lanes }) (sym at) in
-    ap (λ (w : WorldState). sent_out w who rest) next
+    ap (λ (w : WorldState). after_sends w who rest) next
     ∙ sent_out_by rest (record world { lanes = one_sent topology who world.lanes sending }) topology who at through

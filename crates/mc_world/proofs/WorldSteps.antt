@@ -12,7 +12,7 @@ use Rattle.mc_box.specs.BoxEvents.{BoxStep, box_event, is_enabled, is_take, is_v
 use Rattle.mc_box.specs.Boxes.{BoxState, slot_at}
 use Rattle.mc_world.specs.Lanes.{all_sent, signals_of, without_front}
 use Rattle.mc_model.specs.Sound.{IsNumbered, IsSound}
-use Rattle.mc_model.specs.Steps.{made, popped, step, step_by, with_box}
+use Rattle.mc_model.specs.Steps.{after_making, after_pop, step, step_by, with_box}
 use Rattle.mc_model.specs.Worlds.{WorldState, box_at, front, all_tunnels, lane_of, number, place, places, slot_of}
 use Rattle.mc_box.specs.declared.event.Event.{Event}
 use Rattle.mc_box.specs.declared.event.Event.TheVariants.{Take, Set, Media, Tell, Retry, Shift}
@@ -51,7 +51,7 @@ pub take_is : (world : WorldState) (topology : Topology) (who local s lane : ℕ
     → box_event (box_at world who) (Take local) (Some signal) ≡ Some step → lane ≡ lane_of world s → topology.places.items ≡ places world → topology.tunnels.items ≡ map channel_of (all_tunnels world)
     → step_by world who (Take local) ≡ Some (record world { boxes = set world.boxes who step.after; lanes = all_sent topology who (without_front world.lanes lane) step.sent })
 take_is world topology who local s lane signal step is first goes leads at through =
-    rw (is, first, goes, leads) (ap (λ (w : WorldState). Some w) (sent_out_by step.sent (with_box (popped world s) who step.after) topology who at through))
+    rw (is, first, goes, leads) (ap (λ (w : WorldState). Some w) (sent_out_by step.sent (with_box (after_pop world s) who step.after) topology who at through))
 
 is_there : {A : Type 0} (o : Option A) → IsSome o → (x : A) × (o ≡ Some x)
 is_there None some = absurd (cc)
@@ -72,7 +72,7 @@ take_enabled world who local s signal sound is first =
 
 -- ---- an event that takes nothing
 
-act_by : (world : WorldState) (who : ℕ) (event : Event) → is_take event ≡ false → step_by world who event ≡ option_map (made world who) (box_event (box_at world who) event None)
+act_by : (world : WorldState) (who : ℕ) (event : Event) → is_take event ≡ false → step_by world who event ≡ option_map (after_making world who) (box_event (box_at world who) event None)
 act_by world who (Take slot) other = absurd (cc)
 act_by world who (Set change) other = refl
 act_by world who (Media change) other = refl

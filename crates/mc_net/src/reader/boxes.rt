@@ -14,14 +14,17 @@ ghost use Rattle.mc_net.specs.Rules.{device_rules, feature_rules};
 use crate::codec_words::{
     codec_words, has_bad_version, is_overfull, listed, lists_undeclared, version_of,
 };
-use mc_program::ReadFault;
 use crate::reader::{BoxMedia, Reader};
 use crate::section::Section;
-use mc_program::word_list::has_repeat;
 use mc_box::{BoxShape, Kind};
+use mc_program::ReadFault;
+use mc_program::word_list::has_repeat;
 use mc_script::LineFault;
 use mc_script::places::{is_misspelt, is_overlong};
-use mc_script::rule::{EXTRA_WORD, GIVEN_TWICE, LIMIT_PASSED, MISSING_WORD, NAME_TOO_LONG, UNDECLARED, WRONG_VERSION, WRONG_WORD};
+use mc_script::rule::{
+    EXTRA_WORD, GIVEN_TWICE, LIMIT_PASSED, MISSING_WORD, NAME_TOO_LONG, UNDECLARED, WRONG_VERSION,
+    WRONG_WORD,
+};
 use mc_signal::CodecList;
 use mc_text::limit::BOX_LIMIT;
 use mc_text::{FirstWords, Words};
@@ -49,19 +52,29 @@ impl Reader {
             return Err(LineFault { number: WRONG_WORD });
         }
         let Some(spelt) = name else {
-            return Err(LineFault { number: MISSING_WORD });
+            return Err(LineFault {
+                number: MISSING_WORD,
+            });
         };
         if has_bad_version(words.again()) {
-            return Err(LineFault { number: WRONG_VERSION });
+            return Err(LineFault {
+                number: WRONG_VERSION,
+            });
         }
         if self.names.find_box(spelt).is_some() || has_repeat(codecs.again()) {
-            return Err(LineFault { number: GIVEN_TWICE });
+            return Err(LineFault {
+                number: GIVEN_TWICE,
+            });
         }
         if BOX_LIMIT <= self.names.box_count() || is_overfull(codecs.again()) {
-            return Err(LineFault { number: LIMIT_PASSED });
+            return Err(LineFault {
+                number: LIMIT_PASSED,
+            });
         }
         if is_overlong(name) {
-            return Err(LineFault { number: NAME_TOO_LONG });
+            return Err(LineFault {
+                number: NAME_TOO_LONG,
+            });
         }
         let media = BoxMedia {
             version: version_of(words),
@@ -91,19 +104,27 @@ impl Reader {
             return Err(LineFault { number: WRONG_WORD });
         }
         let Some(name) = parts.first else {
-            return Err(LineFault { number: MISSING_WORD });
+            return Err(LineFault {
+                number: MISSING_WORD,
+            });
         };
         if parts.second.is_some() {
             return Err(LineFault { number: EXTRA_WORD });
         }
         if self.names.find_box(name).is_some() {
-            return Err(LineFault { number: GIVEN_TWICE });
+            return Err(LineFault {
+                number: GIVEN_TWICE,
+            });
         }
         if BOX_LIMIT <= self.names.box_count() {
-            return Err(LineFault { number: LIMIT_PASSED });
+            return Err(LineFault {
+                number: LIMIT_PASSED,
+            });
         }
         if is_overlong(parts.first) {
-            return Err(LineFault { number: NAME_TOO_LONG });
+            return Err(LineFault {
+                number: NAME_TOO_LONG,
+            });
         }
         Ok(name)
     }

@@ -12,15 +12,17 @@ ghost use Rattle.mc_net.specs.Meaning.{channel_after, one_tunnel, with_medium, w
 ghost use Rattle.mc_program.specs.Readings.{Declares, ReadsAsBy};
 ghost use Rattle.mc_net.specs.Rules.{channel_rules};
 
-use mc_program::ReadFault;
 use crate::limit::CHANNEL_LIMIT;
 use crate::places::fixed_medium;
 use crate::reader::Reader;
 use crate::section::Section;
 use mc_box::Shape;
+use mc_program::ReadFault;
 use mc_script::LineFault;
 use mc_script::places::{is_misspelt, is_overlong, known_box};
-use mc_script::rule::{EXTRA_WORD, GIVEN_TWICE, LIMIT_PASSED, MISSING_WORD, NAME_TOO_LONG, SAME_BOX, WRONG_WORD};
+use mc_script::rule::{
+    EXTRA_WORD, GIVEN_TWICE, LIMIT_PASSED, MISSING_WORD, NAME_TOO_LONG, SAME_BOX, WRONG_WORD,
+};
 use mc_signal::Medium;
 use mc_text::limit::SLOT_LIMIT;
 use mc_text::{FirstWords, Words};
@@ -54,7 +56,9 @@ impl Reader {
         {
             return Err(LineFault { number: WRONG_WORD });
         }
-        let missing = LineFault { number: MISSING_WORD };
+        let missing = LineFault {
+            number: MISSING_WORD,
+        };
         let medium = medium.ok_or(missing)?;
         let from = from.ok_or(missing)?;
         let slot = parts.third.ok_or(missing)?;
@@ -64,16 +68,22 @@ impl Reader {
             return Err(LineFault { number: EXTRA_WORD });
         }
         if self.has_slot(from, slot) || self.has_slot(to, far_slot) {
-            return Err(LineFault { number: GIVEN_TWICE });
+            return Err(LineFault {
+                number: GIVEN_TWICE,
+            });
         }
         if from == to {
             return Err(LineFault { number: SAME_BOX });
         }
         if self.is_full(from) || self.is_full(to) || CHANNEL_LIMIT <= self.channels.len() {
-            return Err(LineFault { number: LIMIT_PASSED });
+            return Err(LineFault {
+                number: LIMIT_PASSED,
+            });
         }
         if is_overlong(parts.third) || is_overlong(parts.fifth) {
-            return Err(LineFault { number: NAME_TOO_LONG });
+            return Err(LineFault {
+                number: NAME_TOO_LONG,
+            });
         }
         Ok(ChannelLine {
             medium,

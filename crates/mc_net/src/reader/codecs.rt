@@ -9,12 +9,14 @@ ghost use Rattle.mc_net.specs.Meaning.{codec_after};
 ghost use Rattle.mc_program.specs.Readings.{Declares, ReadsAsBy};
 ghost use Rattle.mc_net.specs.Rules.{codec_rules};
 
-use mc_program::ReadFault;
 use crate::reader::Reader;
 use crate::section::Section;
+use mc_program::ReadFault;
 use mc_script::LineFault;
 use mc_script::places::{is_misspelt, is_overlong};
-use mc_script::rule::{EXTRA_WORD, GIVEN_TWICE, LIMIT_PASSED, MISSING_WORD, NAME_TOO_LONG, WRONG_WORD};
+use mc_script::rule::{
+    EXTRA_WORD, GIVEN_TWICE, LIMIT_PASSED, MISSING_WORD, NAME_TOO_LONG, WRONG_WORD,
+};
 use mc_text::limit::CODEC_LIMIT;
 use mc_text::{FirstWords, Words};
 use std::alloc::AllocError;
@@ -30,19 +32,27 @@ impl Reader {
             return Err(LineFault { number: WRONG_WORD });
         }
         let Some(name) = parts.first else {
-            return Err(LineFault { number: MISSING_WORD });
+            return Err(LineFault {
+                number: MISSING_WORD,
+            });
         };
         if parts.second.is_some() {
             return Err(LineFault { number: EXTRA_WORD });
         }
         if self.names.find_codec(name).is_some() {
-            return Err(LineFault { number: GIVEN_TWICE });
+            return Err(LineFault {
+                number: GIVEN_TWICE,
+            });
         }
         if CODEC_LIMIT <= self.names.codec_count() {
-            return Err(LineFault { number: LIMIT_PASSED });
+            return Err(LineFault {
+                number: LIMIT_PASSED,
+            });
         }
         if is_overlong(parts.first) {
-            return Err(LineFault { number: NAME_TOO_LONG });
+            return Err(LineFault {
+                number: NAME_TOO_LONG,
+            });
         }
         Ok(name)
     }

@@ -8,10 +8,10 @@ ghost use Rattle.mc_net.specs.Meaning.{begin_after, command_after};
 ghost use Rattle.mc_program.specs.Readings.{Declares};
 ghost use Rattle.mc_net.specs.Rules.{begin_rules, command_line_rules};
 
-use mc_program::ReadFault;
 use crate::limit::COMMAND_LIMIT;
 use crate::reader::Reader;
 use crate::section::Section;
+use mc_program::ReadFault;
 use mc_script::keyword::CommandWord;
 use mc_script::rule::{EXTRA_WORD, LIMIT_PASSED, UNFINISHED, WRONG_WORD};
 use mc_script::{Command, LineFault, read_kind};
@@ -46,7 +46,9 @@ impl Reader {
     {
         let command = read_kind(&self.names, &self.shape, kind, words)?;
         if COMMAND_LIMIT <= self.commands.len() {
-            return Err(LineFault { number: LIMIT_PASSED });
+            return Err(LineFault {
+                number: LIMIT_PASSED,
+            });
         }
         if self.is_unfinished() {
             return Err(LineFault { number: UNFINISHED });

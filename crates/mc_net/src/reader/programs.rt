@@ -7,11 +7,10 @@ ghost use Rattle.mc_net.specs.Meaning.{after_by, with_program};
 ghost use Rattle.mc_program.specs.Readings.{Declares};
 ghost use Rattle.mc_net.specs.Rules.{rules_by};
 
-use mc_program::ReadFault;
-use mc_program::{Block, program_line, state_line};
 use crate::reader::Reader;
 use crate::section::{Keyword, Section};
 use mc_box::Shape;
+use mc_program::{Block, ReadFault, program_line, state_line};
 use mc_script::LineFault;
 use mc_script::keyword::CommandWord;
 use mc_script::rule::WRONG_WORD;

@@ -1,6 +1,6 @@
 use Rattle.std.proofs.Common.{◌≡◌, ◌+◌, ◌≤◌, length, arith, rules}
 use Rattle.std.proofs.lemmas.List.{get_or_read}
-use Rattle.mc_slot.specs.Moves.{answered}
+use Rattle.mc_slot.specs.Moves.{answer_signals}
 use Rattle.mc_slot.specs.Sending.{sends_of}
 use Rattle.mc_box.specs.BoxSound.{box_state}
 use Rattle.mc_box.specs.Boxes.{no_slot}
@@ -16,7 +16,7 @@ goal_step-turn-requires-clause-wired c =
 
 pub append-requires : goal.append-requires
 append-requires c =
-    let few : length (answered c.take-answer.result) + length (sends_of c.goal_step-turn.result) ≤ 3 =
+    let few : length (answer_signals c.take-answer.result) + length (sends_of c.goal_step-turn.result) ≤ 3 =
     take_few (box_state c.args.self.now) c.args.local c.args.s c.take-answer.result c.take-answer.new.self _ c.requires.sound c.requires.here
     (took_there (box_state c.args.self.now) c.args.local c.index.result.now c.args.s c.take-answer.result c.take-answer.new.self
     (get_or_read c.args.self.now.slots.items c.args.local c.index.result.now c.requires.here c.index.ensures no_slot) c.take-answer.ensures)
@@ -27,7 +27,7 @@ append-requires c =
 
 pub returns-clause-few : goal.returns-clause-few
 returns-clause-few c =
-    let few : length (answered c.take-answer.result) + length (sends_of c.goal_step-turn.result) ≤ 3 =
+    let few : length (answer_signals c.take-answer.result) + length (sends_of c.goal_step-turn.result) ≤ 3 =
     take_few (box_state c.args.self.now) c.args.local c.args.s c.take-answer.result c.take-answer.new.self _ c.requires.sound c.requires.here
     (took_there (box_state c.args.self.now) c.args.local c.index.result.now c.args.s c.take-answer.result c.take-answer.new.self
     (get_or_read c.args.self.now.slots.items c.args.local c.index.result.now c.requires.here c.index.ensures no_slot) c.take-answer.ensures)
