@@ -13,7 +13,7 @@ use mc_world::Channel;
 use std::alloc::{AllocError, Global};
 
 // The boxes of these plans, in the order of their numbers.
-pub fn new_boxes(
+pub fn boxes_from(
     alloc: Global,
     plans: &[BoxPlan],
     channels: &[Channel],
@@ -23,14 +23,14 @@ pub fn new_boxes(
 {
     let mut boxes = Vec::new(alloc);
     for who in 0..plans.len() {
-        let made = new_box(alloc, channels, who as u32, plans[who])?;
+        let made = box_from(alloc, channels, who as u32, plans[who])?;
         boxes.push(made)?;
     }
     Ok(boxes)
 }
 
 // A planned box as new.
-fn new_box(
+fn box_from(
     alloc: Global,
     channels: &[Channel],
     who: u32,
@@ -74,10 +74,10 @@ fn add_setups(
     channel: &Channel,
     who: u32,
     count: u32,
-    setups: &mut Vec<SlotSetup>,
+    list: &mut Vec<SlotSetup>,
 ) -> Result<(), AllocError>
     requires { count + length channel.now.tunnels ≤ 2 ^ 16 }
-    ensures { OnOk result (setups.new.items ≡ setups.old.items ++ setups_within who count channel.now channel.now.tunnels) }
+    ensures { OnOk result (list.new.items ≡ list.old.items ++ setups_within who count channel.now channel.now.tunnels) }
 {
     for i in 0..channel.tunnels.len() {
         let medium = channel.tunnels[i].medium;
@@ -92,18 +92,18 @@ fn add_setups(
             medium,
             initiator: false,
         };
-        add_if(channel.from == who, near, setups)?;
-        add_if(channel.to == who, far, setups)?;
+        add_if(channel.from == who, near, list)?;
+        add_if(channel.to == who, far, list)?;
     }
     Ok(())
 }
 
 // Adds a slot, if it is of the box.
-fn add_if(here: bool, setup: SlotSetup, setups: &mut Vec<SlotSetup>) -> Result<(), AllocError>
-    ensures { OnOk result (setups.new.items ≡ setups.old.items ++ setup_if here setup.origin setup.medium setup.initiator) }
+fn add_if(here: bool, setup: SlotSetup, list: &mut Vec<SlotSetup>) -> Result<(), AllocError>
+    ensures { OnOk result (list.new.items ≡ list.old.items ++ setup_if here setup.origin setup.medium setup.initiator) }
 {
     if here {
-        setups.push(setup)?;
+        list.push(setup)?;
     }
     Ok(())
 }

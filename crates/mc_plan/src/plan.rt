@@ -6,10 +6,10 @@ ghost use Rattle.mc_plan.specs.Plans.{empty_plan, with_channel, slots_of, with_p
 ghost use Rattle.mc_plan.specs.Refusals.{add_fault, join_fault, overfills, Gives};
 ghost use Rattle.mc_plan.specs.declared.limit.TheConstants.{SLOT_LIMIT, TUNNEL_LIMIT};
 
-use crate::boxes::new_boxes;
+use crate::boxes::boxes_from;
 use crate::fault::PlanFault;
 use crate::limit::{BOX_LIMIT, CHANNEL_LIMIT, SLOT_LIMIT, TUNNEL_LIMIT};
-use crate::tunnels::{slots_of, tunnels_from};
+use crate::tunnels::{slots_of, tunnels_between};
 use mc_box::Kind;
 use mc_signal::{CodecList, Medium};
 use mc_world::{Channel, World};
@@ -118,7 +118,7 @@ impl Plan {
         let near = slots_of(&self.channels, from) as u8;
         let far = slots_of(&self.channels, to) as u8;
         let number = self.channels.len() as u32;
-        let tunnels = tunnels_from(self.alloc, near, far, media)?;
+        let tunnels = tunnels_between(self.alloc, near, far, media)?;
         self.channels.push(Channel { from, to, tunnels })?;
         Ok(number)
     }
@@ -127,7 +127,7 @@ impl Plan {
     pub fn world(self) -> Result<World, AllocError>
         ensures { IfOk result (λ world. world ≡ world_of self) }
     {
-        let boxes = new_boxes(self.alloc, &self.boxes, &self.channels)?;
+        let boxes = boxes_from(self.alloc, &self.boxes, &self.channels)?;
         World::new(self.alloc, boxes, self.channels)
     }
 

@@ -31,7 +31,7 @@ fn slots_at(channel: &Channel, who: u32) -> usize
 }
 
 // Tunnels of these media, whose slots have local numbers from `near` and from `far` on.
-pub fn tunnels_from(
+pub fn tunnels_between(
     alloc: Global,
     near: u8,
     far: u8,

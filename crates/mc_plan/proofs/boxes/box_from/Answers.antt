@@ -2,7 +2,7 @@ use Rattle.std.proofs.Common.{◌≡◌, List, ap, arith, length}
 use Rattle.mc_box.specs.declared.setup.SlotSetup.{SlotSetup}
 use Rattle.mc_model.specs.Setups.{setups_of}
 use Rattle.mc_plan.proofs.Picks.{length_setups}
-use Rattle.mc_plan.proofs.boxes.new_box.Goals as goal
+use Rattle.mc_plan.proofs.boxes.box_from.Goals as goal
 
 pub new-requires-clause-few : goal.new-requires-clause-few
 new-requires-clause-few c =

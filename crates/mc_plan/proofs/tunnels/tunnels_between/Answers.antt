@@ -1,6 +1,6 @@
 use Rattle.mc_signal.specs.declared.Medium.TheVariants.{Audio}
 use Rattle.mc_plan.proofs.Slots.{tunnels_more}
-use Rattle.mc_plan.proofs.tunnels.tunnels_from.Goals as goal
+use Rattle.mc_plan.proofs.tunnels.tunnels_between.Goals as goal
 
 pub loop-i-preserved : goal.loop-i-preserved
 loop-i-preserved c =

@@ -1,6 +1,6 @@
 use Rattle.std.proofs.Common.{◌≡◌, take}
 use Rattle.mc_plan.specs.Plans.{boxes_from}
-use Rattle.mc_plan.proofs.boxes.new_boxes.Given as goal
+use Rattle.mc_plan.proofs.boxes.boxes_from.Given as goal
 
 -- the boxes so far
 abbrev pub invariant-loop-who : goal.invariant-loop-who
