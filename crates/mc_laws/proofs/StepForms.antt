@@ -1,6 +1,6 @@
 -- What an end of a box does in its turn, and the world where one slot acts.
-use Rattle.std.proofs.Common.{◌≡◌, ◌<◌, ◌++◌, if◌then◌else◌, ℕ, Bool, true, false, Option, Some, None, List, [], ◌∷◌, map, length, append_assoc, refl, ap, sym, ◌∙◌, subst}
-use Rattle.std.specs.Option.{option_map, option_and_then, unwrap_or}
+use Rattle.std.proofs.Common.{◌≡◌, ◌<◌, ◌++◌, ℕ, Bool, true, Option, Some, List, [], ◌∷◌, map, length, append_assoc, refl, ap, sym, ◌∙◌, subst}
+use Rattle.std.specs.Option.{option_map, unwrap_or}
 use Rattle.std.proofs.Math.ListN.{get_or, set, length-set}
 use Rattle.std.proofs.lemmas.List.{append-nil, get_or-set_same, get_or-set_other, map-append, set-get_or, set-set}
 use Rattle.mc_signal.specs.declared.Descriptor.{Descriptor}
