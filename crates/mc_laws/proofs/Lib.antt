@@ -6,7 +6,6 @@ pub mod BothWays
 pub mod BoxSound
 pub mod CommandsGo
 pub mod Exchanges
-pub mod Firsts
 pub mod GoalsKept
 pub mod TunnelPlaces
 pub mod LaneSums
@@ -33,5 +32,4 @@ pub mod StepSendings
 pub mod SteppedKeeps
 pub mod Sums
 pub mod TakeParts
-pub mod TwoPhones
 pub mod Walks

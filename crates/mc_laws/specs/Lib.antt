@@ -3,4 +3,3 @@ pub mod Measures
 pub mod Sendings
 pub mod StepLaws
 pub mod Stepped
-pub mod TwoPhones

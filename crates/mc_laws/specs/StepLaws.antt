@@ -1,15 +1,12 @@
 -- Laws of steps and runs: a sound world stays sound, its slots may take what is under way to them, and something can be taken as long as anything is under way.
 use Rattle.std.specs.Prelude.{◌≡◌, ◌<◌, ℕ, false, List, length, Some, IsSome}
-use Rattle.mc_signal.specs.declared.codec_list.CodecList.{CodecList}
 use Rattle.mc_signal.specs.declared.Signal.{Signal}
 use Rattle.mc_slot.specs.Moves.{slot_take}
 use Rattle.mc_box.specs.Boxes.{BoxState}
 use Rattle.mc_model.specs.Settles.{is_quiet}
-use Rattle.mc_model.specs.Setups.{AreNew, world_of_devices}
-use Rattle.mc_model.specs.Sound.{IsNumbered, IsSound}
+use Rattle.mc_model.specs.Sound.{AreNew, IsNumbered, IsSound}
 use Rattle.mc_laws.specs.Stepped.{Stepped}
 use Rattle.mc_model.specs.Steps.{run, step, take_of}
-use Rattle.mc_laws.specs.TwoPhones.{JoinsTwo}
 use Rattle.mc_model.specs.Worlds.{ChannelState, WorldState, first_world, front, slot_count, slot_of}
 use Rattle.mc_box.specs.declared.event.Turn.{Turn}
 
@@ -41,8 +38,3 @@ UnderWayGoes = (world : WorldState) → IsSound world → is_quiet world ≡ fal
 abbrev pub FirstIsSound : Type 0
 FirstIsSound = (boxes : List BoxState) (channels : List ChannelState) → AreNew boxes
     → IsNumbered (first_world boxes channels) → IsSound (first_world boxes channels)
-
--- each run of two phones leads to a sound world
-abbrev pub TwoPhonesStaySound : Type 0
-TwoPhonesStaySound = (channels : List ChannelState) (lists : List CodecList) (turns : List Turn) (next : WorldState) → JoinsTwo channels → length lists ≡ 2
-    → run (world_of_devices channels lists) turns ≡ Some next → IsSound next

@@ -3,9 +3,8 @@
 ghost use Rattle.mc_laws.specs.Exchanges.{WorkedExchanges};
 ghost use Rattle.mc_laws.specs.Measures.{TakeLowers, TakesEnd, MeasureBound, TakesBound};
 ghost use Rattle.mc_laws.specs.Sendings.{StepIsMade, StepAppends};
-ghost use Rattle.mc_laws.specs.StepLaws.{StepActs, StepKeepsSound, RunKeepsSound, FrontIsTaken, FrontStepGoes, UnderWayGoes, FirstIsSound, TwoPhonesStaySound};
+ghost use Rattle.mc_laws.specs.StepLaws.{StepActs, StepKeepsSound, RunKeepsSound, FrontIsTaken, FrontStepGoes, UnderWayGoes, FirstIsSound};
 ghost use Rattle.mc_laws.specs.Stepped.{SteppedStays};
-ghost use Rattle.mc_laws.specs.TwoPhones.{TwoPhonesAreIdle};
 ghost use Rattle.mc_model.specs.LinkFree.{RunKeepsLinkFree};
 ghost use Rattle.mc_model.specs.Rings.{RingsMeetNoEnd, WalksNeverReturn, RestKeepsRings};
 ghost use Rattle.mc_model.specs.Settles.{SettledMakesItsBatch};
@@ -14,12 +13,6 @@ ghost use Rattle.mc_model.specs.Shapes.{StepKeepsShape, RunKeepsShape, CommandGo
 /// The definitions give the worked exchanges of two phones what a telephony engineer expects of them.
 pub fn worked_exchanges()
     ensures { WorkedExchanges }
-{}
-
-/// The first world of two devices and one audio channel between them is sound, and a settle without commands
-/// leaves it as it is: one path, closed, as its two end goals say.
-pub fn two_phones_are_idle()
-    ensures { TwoPhonesAreIdle }
 {}
 
 /// A turn of a sound world is what the slots of its box do: each takes its front or nothing and sends, and what it
@@ -74,11 +67,6 @@ pub fn under_way_goes()
 /// A world of new boxes is sound where tunnels join their slots, whatever the number of boxes and channels.
 pub fn first_is_sound()
     ensures { FirstIsSound }
-{}
-
-/// Each run of two phones leads to a sound world: it isn't stuck.
-pub fn two_phones_stay_sound()
-    ensures { TwoPhonesStaySound }
 {}
 
 /// In a sound world without a ring each Take lowers the measure: what is still to come of all slots.

@@ -4,7 +4,6 @@ pub mod Paths
 pub mod Rings
 pub mod Served
 pub mod Settles
-pub mod Setups
 pub mod Shapes
 pub mod Sound
 pub mod Steps

@@ -1,10 +1,14 @@
 -- A sound world: what every world of a run keeps.
-use Rattle.std.specs.Prelude.{◌≡◌, ℕ, ◌*◌, ◌%◌, ◌<◌, ◌==◌, length, Some}
+use Rattle.std.specs.Prelude.{◌≡◌, ℕ, ◌*◌, ◌%◌, ◌<◌, ◌==◌, List, length, slice_index_or, Some}
 use Rattle.mc_slot.specs.Tunnel.{TunnelSound}
 use Rattle.mc_box.specs.BoxSound.{IsSoundBox}
-use Rattle.mc_box.specs.Boxes.{IsBox, media_at}
+use Rattle.mc_box.specs.Boxes.{BoxState, IsBox, IsNewBox, media_at, no_box}
 use Rattle.mc_model.specs.Served.{LanesServed}
 use Rattle.mc_model.specs.Worlds.{WorldState, tunnel_of, slot_count, place, number, far, box_at, slot_of, list_to}
+
+-- each of these boxes is new
+abbrev pub AreNew : List BoxState → Type 0
+AreNew boxes = (who : ℕ) → who < length boxes → IsNewBox (slice_index_or boxes who no_box)
 
 -- boxes are numbered in order, tunnels join each slot of each box once, and each slot has its number, the medium of its tunnel, and the side that it stands on
 pub record IsNumbered (world : WorldState) : Type 0 where

@@ -1,82 +1,59 @@
--- All of a declared network's world has names, and each command sets the goal of an end.
-use Rattle.std.proofs.Common.{◌≡◌, inl, inr, ℕ, zero, suc, ◌<◌, List, [], ◌∷◌, length, map, slice_index_or, refl, sym, ap, ◌∙◌, arith}
+-- All of a network's world has names, and each command sets the goal of an end.
+use Rattle.std.proofs.Common.{◌≡◌, ℕ, zero, suc, ◌+◌, ◌<◌, List, [], ◌∷◌, length, map, slice_index_or, sym, ◌∙◌, subst, arith}
 use Rattle.std.specs.Prelude.{IsTrue}
 use Rattle.std.proofs.lemmas.Grind.{common_steps}
-use Rattle.std.proofs.lemmas.List.Elements.{All-cons, All-head, All-map, All-nil, All-tail}
+use Rattle.std.proofs.lemmas.List.{length-map}
+use Rattle.std.proofs.lemmas.List.Elements.{All-cons, All-head, All-nil, All-tail}
 use Rattle.std.specs.List.{All}
 use Rattle.mc_signal.specs.Choice.{codecs_of}
-use Rattle.mc_signal.specs.declared.Medium.{Medium}
-use Rattle.mc_signal.specs.declared.codec_list.CodecList.{CodecList}
-use Rattle.mc_text.specs.NameLists.{NameLists, slot_names}
-use Rattle.mc_model.specs.Setups.{world_of_devices}
+use Rattle.mc_text.specs.NameLists.{NameLists}
+use Rattle.mc_box.specs.Boxes.{no_box}
 use Rattle.mc_model.specs.Worlds.{ChannelState, WorldState, box_at}
 use Rattle.mc_box.specs.declared.event.Change.TheVariants.{End as NewEnd, Link as NewLink}
 use Rattle.mc_box.specs.declared.event.Event.{Event}
 use Rattle.mc_box.specs.declared.event.Event.TheVariants.{Set, Take, Media, Tell, Retry, Shift}
 use Rattle.mc_box.specs.declared.event.Turn.{Turn}
+use Rattle.mc_plan.specs.Plans.{PlanState, boxes_from, world_of}
+use Rattle.mc_plan.specs.declared.plan.BoxPlan.{BoxPlan}
+use Rattle.mc_plan.proofs.Numbered.{box_slots, length_boxes}
 use Rattle.mc_script.specs.declared.command.Command.{Command}
 use Rattle.mc_script.specs.declared.command.Command.TheVariants.{Stimulus, Settle}
-use Rattle.mc_net.specs.Nets.{AreEndSets, DeclaresNet, IsFirstWorld, JoinsPair, NamesAll, batches_of, before_next, first_channel, is_end_set, batch_turns}
-use Rattle.mc_net.specs.SoFar.{BoxMedia, Declared}
+use Rattle.mc_net.specs.BoxLines.{box_seen}
+use Rattle.mc_net.specs.Forms.{IsInForm, NamesEach}
+use Rattle.mc_net.specs.Nets.{AreEndSets, IsMadeOf, NamesAll, batches_of, before_next, is_end_set, batch_turns}
+use Rattle.mc_net.specs.SoFar.{Declared}
+use Rattle.mc_net.specs.Texts.{Says}
 use Rattle.mc_net.specs.declared.net.Net.{Net}
-use Rattle.mc_net.proofs.Named.{SetsOrSettles, SetsSlot}
-use Rattle.mc_net.proofs.Small.{HasPair, says_pair}
+use Rattle.mc_net.specs.declared.reader.Parts.{Parts}
+use Rattle.mc_net.proofs.Declaring.{AreOf}
+use Rattle.mc_net.proofs.Named.{HasCodecs, SetsOrSettles, SetsSlot}
+use Rattle.mc_net.proofs.Runnable.{IsRunnable, says_runnable}
 
 -- ---- names
 
--- all codecs of a list are below a number
-abbrev AreBelow : ℕ → List ℕ → Type 0
-AreBelow count codecs = All (λ codec. codec < count) codecs
+-- each box of the world receives the codecs that its plan names
+codecs_known : (names : NameLists) (channels : List ChannelState) (plans : List BoxPlan) (first who : ℕ) → All (HasCodecs names) (map box_seen plans)
+    → All (λ codec. codec < length names.codecs) (codecs_of (slice_index_or (boxes_from channels first plans) who no_box).receives)
+codecs_known names channels [] first who known = All-nil (λ codec. codec < length names.codecs)
+codecs_known names channels (planned ∷ plans) first zero known = All-head (HasCodecs names) (box_seen planned) (map box_seen plans) known
+codecs_known names channels (planned ∷ plans) first (suc who) known = codecs_known names channels plans (first + 1) who (All-tail (HasCodecs names) (box_seen planned) (map box_seen plans) known)
 
-module _ (names : NameLists) (m : Medium) (a b : CodecList) (boxes : length names.boxes ≡ 2) (slots : (who : ℕ) → who < 2 → length (slot_names names who) ≡ 1) (one : AreBelow (length names.codecs) (codecs_of a)) (two : AreBelow (length names.codecs) (codecs_of b)) where
-  forth_slots : (who : ℕ) → who < 2 → length (slot_names names who) ≡ length (box_at (world_of_devices (first_channel m 0 1 ∷ []) (a ∷ b ∷ [])) who).slots
-  forth_slots zero below = slots 0 (omega arith)
-  forth_slots (suc zero) below = slots 1 (omega arith)
-  forth_slots (suc (suc who)) below = absurd (omega arith)
+-- all of a plan's world has names
+plan_named : (names : NameLists) (plan : PlanState) → NamesEach names (map box_seen plan.boxes) plan.channels → All (HasCodecs names) (map box_seen plan.boxes) → NamesAll names (world_of plan)
+plan_named names plan each known =
+    let same : length (world_of plan).boxes ≡ length plan.boxes = length_boxes plan.channels plan.boxes 0 in
+    record {
+      boxes = sym each.boxes ∙ length-map plan.boxes box_seen ∙ sym same;
+      slots = λ who below. sym (box_slots plan who (subst (λ (n : ℕ). who < n) same below) ∙ each.slots who);
+      codecs = λ who. codecs_known names plan.channels plan.boxes 0 who known;
+    }
 
-  forth_codecs : (who : ℕ) → AreBelow (length names.codecs) (codecs_of (box_at (world_of_devices (first_channel m 0 1 ∷ []) (a ∷ b ∷ [])) who).receives)
-  forth_codecs zero = one
-  forth_codecs (suc zero) = two
-  forth_codecs (suc (suc who)) = All-nil (λ codec. codec < length names.codecs)
-
-  forth_named : NamesAll names (world_of_devices (first_channel m 0 1 ∷ []) (a ∷ b ∷ []))
-  forth_named = record { boxes = boxes; slots = forth_slots; codecs = forth_codecs }
-
-  back_slots : (who : ℕ) → who < 2 → length (slot_names names who) ≡ length (box_at (world_of_devices (first_channel m 1 0 ∷ []) (a ∷ b ∷ [])) who).slots
-  back_slots zero below = slots 0 (omega arith)
-  back_slots (suc zero) below = slots 1 (omega arith)
-  back_slots (suc (suc who)) below = absurd (omega arith)
-
-  back_codecs : (who : ℕ) → AreBelow (length names.codecs) (codecs_of (box_at (world_of_devices (first_channel m 1 0 ∷ []) (a ∷ b ∷ [])) who).receives)
-  back_codecs zero = one
-  back_codecs (suc zero) = two
-  back_codecs (suc (suc who)) = All-nil (λ codec. codec < length names.codecs)
-
-  back_named : NamesAll names (world_of_devices (first_channel m 1 0 ∷ []) (a ∷ b ∷ []))
-  back_named = record { boxes = boxes; slots = back_slots; codecs = back_codecs }
-
-pair_named : (names : NameLists) (channels : List ChannelState) (lists : List CodecList) → JoinsPair channels → length names.boxes ≡ 2 → ((who : ℕ) → who < 2 → length (slot_names names who) ≡ 1)
-    → length lists ≡ 2 → All (AreBelow (length names.codecs)) (map codecs_of lists) → NamesAll names (world_of_devices channels lists)
-pair_named names channels [] joins boxes slots count known = absurd cc
-pair_named names channels (a ∷ []) joins boxes slots count known = absurd (omega arith)
-pair_named names channels (a ∷ b ∷ c ∷ others) joins boxes slots count known = absurd (omega arith)
-pair_named names channels (a ∷ b ∷ []) (m, inl forth) boxes slots count known = rw forth (forth_named names m a b boxes slots (known 0 [] (omega arith)) (known 1 [] (omega arith)))
-pair_named names channels (a ∷ b ∷ []) (m, inr back) boxes slots count known = rw back (back_named names m a b boxes slots (known 0 [] (omega arith)) (known 1 [] (omega arith)))
-
-length-mapped : {A B : Type 0} (f : A → B) (xs : List A) → length (map f xs) ≡ length xs
-length-mapped f [] = refl
-length-mapped f (x ∷ xs) = ap suc (length-mapped f xs)
-
-first_named : (d : Declared) (world : WorldState) → HasPair d → IsFirstWorld d world → NamesAll d.names world
-first_named d world pair first =
-    let known : All (AreBelow (length d.names.codecs)) (map (λ media. media.codecs) d.media) = All-map (AreBelow (length d.names.codecs)) (λ (media : BoxMedia). media.codecs) d.media pair.known.codecs in
-    let same : length (map codecs_of first.lists) ≡ length d.media = rw first.codecs (length-mapped (λ (media : BoxMedia). media.codecs) d.media) in
-    let count : length first.lists ≡ 2 = sym (length-mapped codecs_of first.lists) ∙ same ∙ pair.two in
-    rw first.world (pair_named d.names d.channels first.lists pair.joins pair.boxes pair.slots count (rw first.codecs known))
-
--- all of a declared network's world has names
-pub net_named : (text : List ℕ) (net : Net) → DeclaresNet text net → NamesAll net.names net.world
-net_named text net declares = rw declares.names (first_named declares.declared net.world (says_pair text declares.declared declares.says) declares.world)
+-- so has all of a network's
+pub net_named : (text : List ℕ) (d : Declared) (parts : Parts) (net : Net) (place : ℕ) → Says text d → IsInForm d → AreOf d parts → IsMadeOf parts place net → NamesAll net.names net.world
+net_named text d parts net place says form are made =
+    let runs : IsRunnable d = says_runnable text d says in
+    rw (made.names, made.world, are.names)
+    (plan_named d.names parts.plan (rw (are.boxes, are.channels) form.named) (rw are.boxes runs.known))
 
 -- ---- commands
 
@@ -120,9 +97,9 @@ commands_set_ends names world commands all set = all_batches (λ turn. IsTrue (i
     by (Stimulus turn) sets = event_sets_end names world all turn.who turn.event sets
     by Settle sets = tt
 
--- each command of a declared network sets the goal of an end
-pub net_sets_ends : (text : List ℕ) (net : Net) → DeclaresNet text net → AreEndSets net.world (map batch_turns net.batches.items)
-net_sets_ends text net declares =
-    let pair = says_pair text declares.declared declares.says in
-    let named : NamesAll declares.declared.names net.world = first_named declares.declared net.world pair declares.world in
-    rw declares.batches (commands_set_ends declares.declared.names net.world declares.declared.commands named pair.known.set)
+-- each command of a network sets the goal of an end
+pub net_sets_ends : (text : List ℕ) (d : Declared) (parts : Parts) (net : Net) (place : ℕ) → Says text d → IsInForm d → AreOf d parts → IsMadeOf parts place net → AreEndSets net.world (map batch_turns net.batches.items)
+net_sets_ends text d parts net place says form are made =
+    let named : NamesAll net.names net.world = net_named text d parts net place says form are made in
+    let runs : IsRunnable d = says_runnable text d says in
+    rw made.batches (commands_set_ends net.names net.world parts.commands.items named (rw (made.names, are.names, are.commands) runs.set))

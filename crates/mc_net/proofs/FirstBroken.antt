@@ -1,9 +1,12 @@
 -- The first broken rule of two lists of rules.
-use Rattle.std.proofs.Common.{◌≡◌, ℕ, Bool, true, false, List, [], ◌∷◌, ◌++◌, Some, None, length, nat_le, ◌≤◌, ◌∙◌, refl, arith}
-use Rattle.mc_script.specs.Rules.{kind_rules, least_broken}
+use Rattle.std.proofs.Common.{◌≡◌, ℕ, zero, suc, Bool, true, false, List, [], ◌∷◌, ◌++◌, Some, None, length, nat_le, ◌≤◌, ◌∙◌, refl, arith}
+use Rattle.std.specs.List.{slice_get}
+use Rattle.mc_text.specs.Lines.{words}
+use Rattle.mc_script.specs.Rules.{byte_rules, kind_rules, least_broken}
 use Rattle.mc_script.specs.declared.keyword.CommandWord.{CommandWord}
-use Rattle.mc_net.specs.Rules.{command_line_rules, is_unfinished}
+use Rattle.mc_net.specs.Rules.{command_line_rules, entry_fault, is_skipped, is_unfinished, line_fault, line_words_rules, passes_limit}
 use Rattle.mc_net.specs.SoFar.{Declared}
+use Rattle.mc_net.proofs.Reading.{first_kept}
 use Rattle.mc_net.specs.declared.limit.TheConstants.{COMMAND_LIMIT}
 
 -- where a rule of the first list is broken, the others don't count
@@ -41,3 +44,22 @@ pub unfinished_before : (d : Declared) (kind : CommandWord) (words : List (List 
     → least_broken (command_line_rules d kind words) ≡ Some 15
 unfinished_before d kind words kept room unfinished =
     of_the_others (kind_rules d.names d.shape (Some kind) words) ((14, nat_le COMMAND_LIMIT (length d.commands)) ∷ (15, is_unfinished d) ∷ []) kept ∙ rw (room, unfinished) refl
+
+-- ---- no rule is broken
+
+-- where no rule is broken, none behind the first is
+pub others_kept : (number : ℕ) (broken : Bool) (others : List (ℕ × Bool)) → least_broken ((number, broken) ∷ others) ≡ None → least_broken others ≡ None
+others_kept number true others kept = absurd (let clash : Some number ≡ None = kept in cc)
+others_kept number false others kept = kept
+
+-- where no rule is broken, the one at a place is kept
+pub kept_at : (rules : List (ℕ × Bool)) (k : ℕ) (rule : ℕ × Bool) → least_broken rules ≡ None → slice_get rules k ≡ Some rule → rule.1 ≡ false
+kept_at [] k rule kept at = absurd cc
+kept_at (first ∷ others) zero rule kept at =
+    let same : first ≡ rule = cc in
+    rw (← same) (first_kept first.0 first.1 others kept)
+kept_at (first ∷ others) (suc k) rule kept at = kept_at others k rule (others_kept first.0 first.1 others kept) at
+
+-- a line that doesn't pass the limit, and whose bytes break no rule, breaks those of its words
+pub of_words : (total before : ℕ) (d : Declared) (line : List ℕ) → passes_limit total before line ≡ false → least_broken (byte_rules line) ≡ None → line_fault total before d line ≡ entry_fault d (words line)
+of_words total before d line short plain = rw short (of_the_others (byte_rules line) (line_words_rules (is_skipped (words line)) d (words line)) plain)

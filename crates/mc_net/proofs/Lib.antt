@@ -4,13 +4,14 @@ pub mod CodecLists
 pub mod Declaring
 pub mod EndSets
 pub mod Faults
-pub mod FirstBoxes
 pub mod FirstBroken
 pub mod FirstBytes
 pub mod Fitting
+pub mod Joining
 pub mod LinkFree
 pub mod Missing
 pub mod Named
 pub mod Reading
-pub mod Small
+pub mod Runnable
+pub mod Unbuilt
 pub mod Unfinished

@@ -1,23 +1,20 @@
--- The first world of devices has no links.
-use Rattle.std.proofs.Common.{◌+◌, ℕ, zero, suc, List, [], ◌∷◌, slice_index_or, sym, subst}
+-- The first world of a plan has no links.
+use Rattle.std.proofs.Common.{◌+◌, ℕ, zero, suc, List, [], ◌∷◌, slice_index_or}
 use Rattle.mc_signal.specs.Empty.{no_codecs}
-use Rattle.mc_signal.specs.declared.codec_list.CodecList.{CodecList}
 use Rattle.mc_box.specs.Boxes.{no_box}
 use Rattle.mc_box.specs.LinkFree.{IsUnlinked}
-use Rattle.mc_box.specs.declared.event.Kind.TheVariants.{Device, Feature}
-use Rattle.mc_model.specs.LinkFree.{HasNoLinks}
-use Rattle.mc_model.specs.Setups.{devices_from, setups_of}
-use Rattle.mc_model.specs.Worlds.{ChannelState, WorldState}
+use Rattle.mc_box.specs.declared.event.Kind.TheVariants.{Feature}
 use Rattle.mc_box.proofs.LinkFree.{first_link_free}
-use Rattle.mc_net.specs.Nets.{DeclaresNet}
-use Rattle.mc_net.specs.declared.net.Net.{Net}
+use Rattle.mc_model.specs.LinkFree.{HasNoLinks}
+use Rattle.mc_model.specs.Worlds.{ChannelState}
+use Rattle.mc_plan.specs.Plans.{PlanState, boxes_from, world_of}
+use Rattle.mc_plan.specs.Setups.{setups_of}
+use Rattle.mc_plan.specs.declared.plan.BoxPlan.{BoxPlan}
 
-devices_free : (channels : List ChannelState) (lists : List CodecList) (first who : ℕ) → IsUnlinked (slice_index_or (devices_from channels first lists) who no_box)
-devices_free channels [] first who = first_link_free Feature 0 no_codecs no_codecs 0 []
-devices_free channels (codecs ∷ lists) first zero = first_link_free Device first codecs codecs 1 (setups_of channels first)
-devices_free channels (codecs ∷ lists) first (suc who) = devices_free channels lists (first + 1) who
+boxes_free : (channels : List ChannelState) (plans : List BoxPlan) (first who : ℕ) → IsUnlinked (slice_index_or (boxes_from channels first plans) who no_box)
+boxes_free channels [] first who = first_link_free Feature 0 no_codecs no_codecs 0 []
+boxes_free channels (planned ∷ plans) first zero = first_link_free planned.kind first planned.codecs planned.sends planned.first_version (setups_of channels first)
+boxes_free channels (planned ∷ plans) first (suc who) = boxes_free channels plans (first + 1) who
 
--- so has the network of a text
-pub net_free : (text : List ℕ) (net : Net) → DeclaresNet text net → HasNoLinks net.world
-net_free text net declares =
-    subst (λ (world : WorldState). HasNoLinks world) (sym declares.world.world) (λ who. devices_free declares.declared.channels declares.world.lists 0 who)
+pub plan_free : (plan : PlanState) → HasNoLinks (world_of plan)
+plan_free plan = λ who. boxes_free plan.channels plan.boxes 0 who

@@ -7,7 +7,7 @@ use Rattle.mc_script.specs.declared.rule.TheConstants.{UNBUILT}
 use Rattle.mc_net.specs.Meaning.{line_after}
 use Rattle.mc_net.specs.Rules.{end_fault, is_skipped, line_fault, line_words_rules, passes_limit}
 use Rattle.mc_net.specs.SoFar.{Declared}
-use Rattle.mc_net.specs.Texts.{AreSound, IsFault, at_line, at_end, unbuilt, Says, after_line, bytes_before, declared_after, declared_by, fault_at, first_unbuilt, with_unbuilt}
+use Rattle.mc_net.specs.Texts.{AreSound, IsFault, at_line, at_end, unbuilt, Says, after_line, bytes_before, declared_after, declared_by, fault_at, first_unbuilt, is_unbuilt, with_unbuilt}
 use Rattle.mc_net.specs.declared.limit.TheConstants.{TEXT_LIMIT}
 
 -- so many lines were read, and broke no rule; these are left. The next line has the number `number`, and `before` bytes stand before it
@@ -71,8 +71,8 @@ after_is d after number line read = by (line_after d line) refl
     by : (o : Option Declared) → line_after d line ≡ o → after ≡ declared_after d number line
     by None e = absurd (let none : None ≡ Some after = rw e at read in cc)
     by (Some next) e =
-        let some : Some (with_unbuilt (first_unbuilt d number line) next) ≡ Some after = rw e at read in
-        let same : after ≡ with_unbuilt (first_unbuilt d number line) next = cc in
+        let some : Some (with_unbuilt (first_unbuilt d number (is_unbuilt d (words line))) next) ≡ Some after = rw e at read in
+        let same : after ≡ with_unbuilt (first_unbuilt d number (is_unbuilt d (words line))) next = cc in
         rw e same
 
 -- the next line's fault, by its place

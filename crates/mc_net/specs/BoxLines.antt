@@ -1,29 +1,45 @@
 -- What the lines of boxes and channels say, as clauses see it.
-use Rattle.std.specs.Prelude.{◌<◌, IsTrue, length}
+use Rattle.std.specs.Prelude.{ℕ, ◌≡◌, ◌<◌, ◌==◌, ◌||◌, Bool, if◌then◌else◌, List, Result, Ok, Err, IsTrue, length, nat_le}
 use Rattle.mc_signal.specs.Choice.{codecs_of}
+use Rattle.mc_text.specs.NameLists.{NameLists, slot_names}
 use Rattle.mc_text.specs.Spelling.{is_name}
-use Rattle.mc_box.specs.declared.event.Kind.TheVariants.{Device}
+use Rattle.mc_text.specs.declared.limit.TheConstants.{SLOT_LIMIT}
+use Rattle.mc_model.specs.Worlds.{ChannelState}
+use Rattle.mc_plan.specs.declared.plan.BoxPlan.{BoxPlan}
+use Rattle.mc_script.specs.Places.{unless}
+use Rattle.mc_script.specs.declared.command.LineFault.{LineFault}
+use Rattle.mc_script.specs.declared.rule.TheConstants.{LIMIT_PASSED, SAME_BOX}
 use Rattle.mc_net.specs.Meaning.{with_joined, with_new_box}
-use Rattle.mc_net.specs.SoFar.{Declared}
-use Rattle.mc_net.specs.SoFar as so_far
-use Rattle.mc_net.specs.declared.reader.BoxMedia.{BoxMedia}
+use Rattle.mc_net.specs.SoFar.{Declared, DeclaredBox}
+use Rattle.mc_net.specs.declared.limit.TheConstants.{CHANNEL_LIMIT}
 use Rattle.mc_net.specs.declared.reader.boxes.DeviceLine.{DeviceLine}
 use Rattle.mc_net.specs.declared.reader.channels.ChannelLine.{ChannelLine}
 
-abbrev pub media_seen : BoxMedia → so_far.BoxMedia
-media_seen media = record { version = media.version; codecs = codecs_of media.codecs }
+-- what is declared of a planned box
+abbrev pub box_seen : BoxPlan → DeclaredBox
+box_seen planned = record { kind = planned.kind; version = planned.first_version; receives = codecs_of planned.codecs; sends = codecs_of planned.sends }
 
 -- what is declared after a `dev` line
 abbrev pub device_seen : Declared → DeviceLine → Declared
-device_seen d line = with_new_box d line.name.now Device (media_seen line.media)
+device_seen d line = with_new_box d line.name.now (box_seen line.planned)
 
 -- what is declared after a `chan` line
 abbrev pub channel_seen : Declared → ChannelLine → Declared
 channel_seen d line = with_joined d line.medium line.from line.slot.now line.to line.far_slot.now
 
--- both boxes are declared, and both slots are named
+-- whether a box has as many slots as it may have
+abbrev pub is_full : NameLists → ℕ → Bool
+is_full names who = nat_le SLOT_LIMIT (length (slot_names names who))
+
+-- whether two boxes may be joined by one more channel of one tunnel
+abbrev pub may_join : NameLists → List ChannelState → (from to : ℕ) → Result (Unit {0}) LineFault
+may_join names channels from to = if from == to then Err (record { number = SAME_BOX })
+    else unless (is_full names from || is_full names to || nat_le CHANNEL_LIMIT (length channels)) LIMIT_PASSED tt
+
+-- both boxes are declared, they may be joined, and both slots are named
 pub record CanJoin (d : Declared) (line : ChannelLine) : Type 0 where
   pub near : line.from < length d.names.boxes
   pub far : line.to < length d.names.boxes
+  pub joins : may_join d.names d.channels line.from line.to ≡ Ok tt
   pub slot : IsTrue (is_name line.slot.now)
   pub far_slot : IsTrue (is_name line.far_slot.now)

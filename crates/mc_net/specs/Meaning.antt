@@ -4,20 +4,19 @@ use Rattle.std.specs.List.{slice_get}
 use Rattle.std.specs.Option.{option_and_then, option_map, unwrap_or}
 use Rattle.mc_signal.specs.declared.Medium.{Medium}
 use Rattle.mc_text.specs.Lines.{words}
-use Rattle.mc_text.specs.NameLists.{NameLists, place_of, slot_names, with_box_name, with_codec_name, with_slot_name}
+use Rattle.mc_text.specs.NameLists.{NameLists, place_of, with_box_name, with_codec_name, with_slot_name}
 use Rattle.mc_text.specs.Spelling.{number_of}
 use Rattle.mc_box.specs.BoxShapes.{BoxShapeState, shape_of}
-use Rattle.mc_model.specs.Worlds.{ChannelState}
 use Rattle.mc_box.specs.declared.event.Kind.{Kind}
-use Rattle.mc_model.specs.declared.channel.Tunnel.{Tunnel}
 use Rattle.mc_box.specs.declared.event.Kind.TheVariants.{Device, Feature}
+use Rattle.mc_plan.specs.Plans.{channel_between}
 use Rattle.mc_script.specs.Meaning.{command_by}
 use Rattle.mc_script.specs.Places.{box_named, meant}
 use Rattle.mc_script.specs.declared.keyword.CommandWord.{CommandWord}
 use Rattle.mc_script.specs.declared.keyword.CommandWord.TheVariants as command
-use Rattle.mc_net.specs.Rules.{begins_digit, codec_words, is_skipped, keyword_of, spelt_medium, open_block}
+use Rattle.mc_net.specs.Rules.{begins_digit, codec_words, is_skipped, kind_of, spelt_medium, open_block}
 use Rattle.mc_program.specs.Programs.{◌>>=◌, BlockState, block_goal_after, block_link_after, block_when_after, new_block, with_new_part}
-use Rattle.mc_net.specs.SoFar.{BoxMedia, Declared, no_box_media}
+use Rattle.mc_net.specs.SoFar.{Declared, DeclaredBox}
 use Rattle.mc_net.specs.declared.section.Keyword.{Keyword}
 use Rattle.mc_net.specs.declared.section.Keyword.TheVariants as keyword
 use Rattle.mc_net.specs.declared.section.Section.{Section}
@@ -33,12 +32,12 @@ abbrev pub new_shape : Kind → BoxShapeState
 new_shape kind = record { kind = kind; media = []; programmed = false }
 
 -- a box with the next number
-abbrev pub with_new_box : Declared → List ℕ → Kind → BoxMedia → Declared
-with_new_box d name kind media = record d {
+abbrev pub with_new_box : Declared → List ℕ → DeclaredBox → Declared
+with_new_box d name declared = record d {
   section = section.Boxes;
   names = with_box_name d.names name;
-  shape = d.shape ++ new_shape kind ∷ [];
-  media = d.media ++ media ∷ [];
+  shape = d.shape ++ new_shape declared.kind ∷ [];
+  boxes = d.boxes ++ declared ∷ [];
 }
 
 -- the version that a `dev` line gives, and else 1
@@ -49,15 +48,23 @@ version_of (first ∷ others) = if begins_digit first then unwrap_or (number_of 
 abbrev pub codec_number : NameLists → List ℕ → ℕ
 codec_number names word = unwrap_or (place_of names.codecs word) 0
 
--- what a `dev` line says of the media; the words are those behind the name
-abbrev pub media_of : NameLists → List (List ℕ) → BoxMedia
-media_of names words = record { version = version_of words; codecs = map (codec_number names) (codec_words words) }
+-- the codecs of a `dev` line, whose words are those behind the name
+abbrev pub codecs_in : NameLists → List (List ℕ) → List ℕ
+codecs_in names words = map (codec_number names) (codec_words words)
+
+-- the device that such a line declares: it sends the codecs that it receives
+abbrev pub device_in : NameLists → List (List ℕ) → DeclaredBox
+device_in names words = record { kind = Device; version = version_of words; receives = codecs_in names words; sends = codecs_in names words }
+
+-- a feature has no codecs of its own
+abbrev pub new_feature : DeclaredBox
+new_feature = record { kind = Feature; version = 1; receives = []; sends = [] }
 
 abbrev pub device_after : Declared → List (List ℕ) → Option Declared
-device_after d words = option_map (λ name. with_new_box d name Device (media_of d.names (drop 1 words))) (slice_get words 0)
+device_after d words = option_map (λ name. with_new_box d name (device_in d.names (drop 1 words))) (slice_get words 0)
 
 abbrev pub feature_after : Declared → List (List ℕ) → Option Declared
-feature_after d words = option_map (λ name. with_new_box d name Feature no_box_media) (slice_get words 0)
+feature_after d words = option_map (λ name. with_new_box d name new_feature) (slice_get words 0)
 
 -- a box has one more slot, of this medium
 abbrev pub with_medium : List BoxShapeState → ℕ → Medium → List BoxShapeState
@@ -67,16 +74,13 @@ with_medium shape who medium = slice_set shape who (record (shape_of shape who) 
 abbrev pub with_new_slot : Declared → ℕ → List ℕ → Medium → Declared
 with_new_slot d who name medium = record d { names = with_slot_name d.names who name; shape = with_medium d.shape who medium }
 
--- a channel of one tunnel
-abbrev pub one_tunnel : ℕ → ℕ → Tunnel → ChannelState
-one_tunnel from to tunnel = record { from = from; to = to; tunnels = tunnel ∷ [] }
+-- a channel of one tunnel more between two boxes
+abbrev pub with_new_channel : Declared → (from to : ℕ) → Medium → Declared
+with_new_channel d from to medium = record d { channels = d.channels ++ channel_between d.channels from to (medium ∷ []) ∷ [] }
 
 -- a channel of one tunnel between a new slot of each of two boxes
 abbrev pub with_joined : Declared → Medium → ℕ → List ℕ → ℕ → List ℕ → Declared
-with_joined d medium from slot to far_slot = record (with_new_slot (with_new_slot d from slot medium) to far_slot medium) {
-  section = section.Channels;
-  channels = d.channels ++ one_tunnel from to (record { medium = medium; from = length (slot_names d.names from); to = length (slot_names d.names to) }) ∷ [];
-}
+with_joined d medium from slot to far_slot = record (with_new_slot (with_new_slot (with_new_channel d from to medium) from slot medium) to far_slot medium) { section = section.Channels }
 
 abbrev pub channel_after : Declared → List (List ℕ) → Option Declared
 channel_after d words = do
@@ -145,7 +149,7 @@ after_by d other words = None
 
 abbrev pub words_after : Bool → Declared → List (List ℕ) → Option Declared
 words_after false d words = Some (record d { versioned = true })
-words_after true d words = after_by d (option_and_then keyword_of (slice_get words 0)) (drop 1 words)
+words_after true d words = after_by d (kind_of words) (drop 1 words)
 
 abbrev pub unless_skipped : Bool → Declared → Option Declared → Option Declared
 unless_skipped true d after = Some d

@@ -1,28 +1,23 @@
 -- The network that a text declares.
-use Rattle.std.specs.Prelude.{◌≡◌, ◌⊎◌, ◌<◌, ℕ, ◌&&◌, Bool, false, if◌then◌else◌, List, [], ◌∷◌, ◌==◌, length, map, nat_lt, slice_index_or, IsTrue}
+use Rattle.std.specs.Prelude.{◌≡◌, ◌<◌, ℕ, ◌&&◌, Bool, false, List, [], ◌∷◌, length, map, nat_lt, IsTrue}
 use Rattle.std.specs.List.{All}
 use Rattle.mc_signal.specs.Choice.{codecs_of}
-use Rattle.mc_signal.specs.declared.Medium.{Medium}
-use Rattle.mc_signal.specs.declared.Medium.TheVariants.{Audio}
-use Rattle.mc_signal.specs.declared.codec_list.CodecList.{CodecList}
 use Rattle.mc_text.specs.NameLists.{NameLists, slot_names}
-use Rattle.mc_box.specs.Boxes.{BoxState, first_box, is_slot}
-use Rattle.mc_model.specs.Setups.{world_of_devices}
-use Rattle.mc_model.specs.Worlds.{ChannelState, WorldState, box_at}
+use Rattle.mc_box.specs.Boxes.{BoxState, is_slot}
+use Rattle.mc_model.specs.Worlds.{WorldState, box_at}
+use Rattle.mc_plan.specs.Plans.{PlanState, world_of}
 use Rattle.mc_box.specs.declared.event.Change.TheVariants.{End as NewEnd}
 use Rattle.mc_box.specs.declared.event.Event.{Event}
 use Rattle.mc_box.specs.declared.event.Event.TheVariants.{Set}
-use Rattle.mc_box.specs.declared.event.Kind.TheVariants.{Device}
 use Rattle.mc_box.specs.declared.event.Turn.{Turn}
 use Rattle.mc_script.specs.declared.command.Batch.{Batch}
 use Rattle.mc_script.specs.declared.command.Command.{Command}
 use Rattle.mc_script.specs.declared.command.Command.TheVariants.{Stimulus, Settle}
-use Rattle.mc_net.specs.Meaning.{one_tunnel}
+use Rattle.mc_net.specs.BoxLines.{box_seen}
 use Rattle.mc_net.specs.Rules.{shapes}
 use Rattle.mc_net.specs.SoFar.{Declared}
 use Rattle.mc_net.specs.Texts.{Says}
 use Rattle.mc_net.specs.declared.net.Net.{Net}
-use Rattle.mc_net.specs.declared.reader.BoxMedia.{BoxMedia}
 use Rattle.mc_net.specs.declared.reader.Parts.{Parts}
 
 -- ---- batches
@@ -43,43 +38,20 @@ batch_turns batch = batch.turns.items
 
 -- ---- the first world
 
--- a channel of one tunnel between the first slots of two boxes
-abbrev pub first_channel : Medium → ℕ → ℕ → ChannelState
-first_channel medium from to = one_tunnel from to (record { medium = medium; from = 0; to = 0 })
-
--- one channel joins the first of two boxes to the second, or the second to the first
-abbrev pub JoinsPair : List ChannelState → Type 0
-JoinsPair channels = (medium : Medium) × ((channels ≡ first_channel medium 0 1 ∷ []) ⊎ (channels ≡ first_channel medium 1 0 ∷ []))
-
--- a device with one slot, on the initiator's side of the one channel or on the other
-abbrev pub one_device : Medium → ℕ → Bool → CodecList → BoxState
-one_device medium who initiator codecs =
-    first_box Device who codecs codecs 1 (record { origin = if initiator then 0 else 1; medium = medium; initiator = initiator } ∷ [])
-
--- the medium of a channel's first tunnel
-abbrev pub channel_medium : ChannelState → Medium
-channel_medium channel = (slice_index_or channel.tunnels 0 (record { medium = Audio; from = 0; to = 0 })).medium
-
--- two devices with a slot each, the one on the side of the initiator of their channel
-abbrev pub two_devices : ChannelState → CodecList → CodecList → List BoxState
-two_devices channel one other = one_device (channel_medium channel) 0 (channel.from == 0) one ∷ one_device (channel_medium channel) 1 (channel.from == 1) other ∷ []
-
-abbrev pub lists_of : List BoxMedia → List CodecList
-lists_of media = map (λ it. it.codecs) media
-
--- the network is of these parts: its world is the first one of the devices and channels
+-- the network is of these parts: its world is the first one of the plan
 pub record IsMadeOf (parts : Parts) (place : ℕ) (net : Net) : Type 0 where
-  pub world : net.world ≡ world_of_devices parts.channels.items (lists_of parts.media.items)
+  pub world : net.world ≡ world_of parts.plan
   pub names : net.names ≡ parts.names
   pub shape : net.shape ≡ parts.shape
   pub batches : map batch_turns net.batches.items ≡ batches_of parts.commands.items
   pub rest : net.rest ≡ place
 
--- the first world of what was declared: its boxes are devices with the declared codecs, as lists of codecs
+-- the first world of what was declared: that of a plan with the declared boxes and channels
 pub record IsFirstWorld (d : Declared) (first : WorldState) : Type 0 where
-  pub lists : List CodecList
-  pub codecs : map codecs_of lists ≡ map (λ media. media.codecs) d.media
-  pub world : first ≡ world_of_devices d.channels lists
+  pub plan : PlanState
+  pub boxes : map box_seen plan.boxes ≡ d.boxes
+  pub channels : plan.channels ≡ d.channels
+  pub world : first ≡ world_of plan
 
 -- the text is in the grammar, and this is the network that it declares
 pub record DeclaresNet (text : List ℕ) (net : Net) : Type 0 where

@@ -67,6 +67,10 @@ keyword_of word =
     else (if bytes_eq word (codes "settle") then Some keyword.Settle
     else None)))))))))))))))
 
+-- the kind of line that these words open
+abbrev pub kind_of : List (List ℕ) → Option Keyword
+kind_of words = option_and_then keyword_of (slice_get words 0)
+
 -- ---- values of words
 
 abbrev pub spelt_medium : List ℕ → Option Medium
@@ -224,7 +228,7 @@ is_version words = false
 -- the rules on the words of a line that isn't skipped; the first such line is the version line, of which nothing else is asked
 abbrev pub words_rules : Bool → Declared → List (List ℕ) → List (ℕ × Bool)
 words_rules false d words = (NO_VERSION_LINE, not (is_version words)) ∷ []
-words_rules true d words = rules_by d (option_and_then keyword_of (slice_get words 0)) (drop 1 words)
+words_rules true d words = rules_by d (kind_of words) (drop 1 words)
 
 -- a word that begins with #
 abbrev pub begins_hash : List ℕ → Bool

@@ -1,11 +1,10 @@
 -- A whole text: its first fault, and what it declares.
 use Rattle.std.specs.Prelude.{ℕ, zero, suc, ◌≡◌, ◌+◌, ◌<◌, ◌==◌, ◌&&◌, ◌||◌, not, Bool, true, false, List, [], Option, Some, None, count_by, drop, if◌then◌else◌, length, nat_le, slice_index_or}
-use Rattle.std.specs.List.{slice_get}
-use Rattle.std.specs.Option.{is_some, option_and_then, option_map, unwrap_or}
+use Rattle.std.specs.Option.{is_some, option_map, unwrap_or}
 use Rattle.mc_text.specs.Lines.{lines, words}
 use Rattle.mc_box.specs.BoxShapes.{is_device}
-use Rattle.mc_net.specs.Meaning.{line_after}
-use Rattle.mc_net.specs.Rules.{end_fault, gives_version, is_skipped, keyword_of, line_fault}
+use Rattle.mc_net.specs.Meaning.{entry_after, line_after, words_after}
+use Rattle.mc_net.specs.Rules.{end_fault, gives_version, is_skipped, kind_of, line_fault}
 use Rattle.mc_net.specs.SoFar.{Declared, nothing}
 use Rattle.mc_net.specs.declared.fault.NetFault.{NetFault}
 use Rattle.mc_net.specs.declared.fault.NetFault.TheVariants.{Line, NoMemory}
@@ -25,29 +24,44 @@ unbuilt_by d (Some keyword.Dev) words = gives_version (drop 1 words) || nat_le 2
 unbuilt_by d (Some keyword.Chan) words = nat_le 1 (length d.channels)
 unbuilt_by d (Some keyword.Prog) words = true
 unbuilt_by d (Some keyword.Begin) words = not (device_count d == 2 && length d.channels == 1)
+unbuilt_by d (Some keyword.Link) words = true
 unbuilt_by d (Some keyword.Hear) words = true
 unbuilt_by d (Some keyword.Talk) words = true
+unbuilt_by d (Some keyword.Tell) words = true
 unbuilt_by d other words = false
 
+-- a line of these words, behind the version line
+abbrev pub are_unbuilt : Declared → List (List ℕ) → Bool
+are_unbuilt d words = unbuilt_by d (kind_of words) (drop 1 words)
+
+-- a line of these words, wherever it stands
 abbrev pub is_unbuilt : Declared → List (List ℕ) → Bool
-is_unbuilt d words = d.versioned && not (is_skipped words) && unbuilt_by d (option_and_then keyword_of (slice_get words 0)) (drop 1 words)
+is_unbuilt d words = d.versioned && not (is_skipped words) && are_unbuilt d words
 
 -- ---- one line after another
 
--- the first line that can't be run yet: one before, or this one by its number
-abbrev pub first_unbuilt : Declared → ℕ → List ℕ → Option ℕ
-first_unbuilt d number line = if is_some d.unbuilt then d.unbuilt else (if is_unbuilt d (words line) then Some number else None)
+-- the first line that can't be run yet: one before, or this one by its number, if it can't
+abbrev pub first_unbuilt : Declared → ℕ → Bool → Option ℕ
+first_unbuilt d number unbuilt = if is_some d.unbuilt then d.unbuilt else (if unbuilt then Some number else None)
 
 abbrev pub with_unbuilt : Option ℕ → Declared → Declared
 with_unbuilt line d = record d { unbuilt = line }
 
+-- what is declared after a line of these words, by its number, behind the version line
+abbrev pub after_words : Declared → ℕ → List (List ℕ) → Option Declared
+after_words d number words = option_map (with_unbuilt (first_unbuilt d number (are_unbuilt d words))) (words_after true d words)
+
+-- what is declared after a line of these words, wherever it stands
+abbrev pub after_entry : Declared → ℕ → List (List ℕ) → Option Declared
+after_entry d number words = option_map (with_unbuilt (first_unbuilt d number (is_unbuilt d words))) (entry_after d words)
+
 -- what is declared after a line, by its number, if it means anything
 abbrev pub after_line : Declared → ℕ → List ℕ → Option Declared
-after_line d number line = option_map (with_unbuilt (first_unbuilt d number line)) (line_after d line)
+after_line d number line = after_entry d number (words line)
 
 -- what is declared after a line, by its number, with what the lines before it declared
 abbrev pub declared_after : Declared → ℕ → List ℕ → Declared
-declared_after d number line = with_unbuilt (first_unbuilt d number line) (unwrap_or (line_after d line) d)
+declared_after d number line = with_unbuilt (first_unbuilt d number (is_unbuilt d (words line))) (unwrap_or (line_after d line) d)
 
 -- what the first lines declare, so many of them
 abbrev pub declared_by : List (List ℕ) → ℕ → Declared

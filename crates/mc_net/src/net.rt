@@ -1,19 +1,17 @@
 //! The network that a text declares.
 
-ghost use Rattle.std.specs.Prelude.{◌≡◌, ◌<◌, IfErr, IfOk, length, map};
+ghost use Rattle.std.specs.Prelude.{◌≡◌, IfErr, IfOk, map};
 ghost use Rattle.mc_model.specs.LinkFree.{HasNoLinks};
-ghost use Rattle.mc_model.specs.Setups.{world_of_devices};
-ghost use Rattle.mc_net.specs.Nets.{AreEndSets, DeclaresNet, IsMadeOf, JoinsPair, NamesAll, batches_of, lists_of, channel_medium, one_device, batch_turns, two_devices};
+ghost use Rattle.mc_net.specs.Nets.{AreEndSets, DeclaresNet, IsMadeOf, NamesAll, batches_of, batch_turns};
 ghost use Rattle.mc_net.specs.Texts.{RefusesText};
 
 use crate::fault::NetFault;
-use crate::reader::{BoxMedia, Parts};
+use crate::reader::Parts;
 use crate::text::read_text;
-use mc_box::{Kind, MediaBox, Setup, Shape, SlotSetup};
+use mc_box::Shape;
 use mc_script::{Batch, Command};
-use mc_signal::{CodecList, Medium};
 use mc_text::Names;
-use mc_world::{Channel, World};
+use mc_world::World;
 use std::alloc::{AllocError, Global};
 
 /// What may stand behind the commands of a text.
@@ -51,18 +49,15 @@ pub fn read_net(alloc: Global, text: &[u8], tail: Tail) -> Result<Net, NetFault>
 
 // The network of what a text declares.
 fn make_net(alloc: Global, parts: Parts, rest: usize) -> Result<Net, AllocError>
-    requires joins { JoinsPair parts.channels.items }
-    requires two { length parts.media.items ≡ 2 }
     ensures { IfOk result (IsMadeOf parts rest) }
 {
     let Parts {
         names,
         shape,
-        media,
-        channels,
+        plan,
         commands,
     } = parts;
-    let world = first_world(alloc, &media, channels)?;
+    let world = plan.world()?;
     let batches = batches_of(alloc, &commands)?;
     Ok(Net {
         world,
@@ -89,75 +84,4 @@ fn batches_of(alloc: Global, commands: &[Command]) -> Result<Vec<Batch>, AllocEr
         }
     }
     Ok(batches)
-}
-
-// A device with one slot, on the initiator's side of the channel or on the other.
-fn one_device(
-    alloc: Global,
-    medium: Medium,
-    number: u32,
-    initiator: bool,
-    codecs: CodecList,
-) -> Result<MediaBox, AllocError>
-    requires { number < 2 }
-    ensures { IfOk result (λ made. made ≡ one_device medium number initiator codecs) }
-{
-    let slot = SlotSetup {
-        origin: if initiator { 0 } else { 1 },
-        medium,
-        initiator,
-    };
-    let mut slots = Vec::new(alloc);
-    slots.push(slot)?;
-    MediaBox::new(
-        alloc,
-        Setup {
-            kind: Kind::Device,
-            number,
-            codecs,
-            sends: codecs,
-            first_version: 1,
-            slots,
-        },
-    )
-}
-
-// The medium of a channel's first tunnel.
-fn channel_medium(channel: &Channel) -> Medium
-    requires { 0 < length channel.now.tunnels }
-    ensures { result ≡ channel_medium channel.now }
-{
-    channel.tunnels[0].medium
-}
-
-// Two devices with a slot each, the one on the side of the initiator of their channel.
-fn two_devices(
-    alloc: Global,
-    channel: &Channel,
-    one: CodecList,
-    other: CodecList,
-) -> Result<Vec<MediaBox>, AllocError>
-    requires { 0 < length channel.now.tunnels }
-    ensures { IfOk result (λ boxes. boxes.items ≡ two_devices channel.now one other) }
-{
-    let medium = channel_medium(channel);
-    let from = channel.from;
-    let mut boxes = Vec::new(alloc);
-    boxes.push(one_device(alloc, medium, 0, from == 0, one)?)?;
-    boxes.push(one_device(alloc, medium, 1, from == 1, other)?)?;
-    Ok(boxes)
-}
-
-// The first world of two devices and the channel between them.
-fn first_world(
-    alloc: Global,
-    media: &[BoxMedia],
-    channels: Vec<Channel>,
-) -> Result<World, AllocError>
-    requires joins { JoinsPair channels.items }
-    requires two { length media.now ≡ 2 }
-    ensures { IfOk result (λ world. world ≡ world_of_devices channels.items (lists_of media.now)) }
-{
-    let boxes = two_devices(alloc, &channels[0], media[0].codecs, media[1].codecs)?;
-    World::new(alloc, boxes, channels)
 }

@@ -4,13 +4,13 @@ ghost use Rattle.std.specs.Prelude.{◌≡◌, ◌+◌, ◌<◌, ◌^◌, length
 ghost use Rattle.std.specs.Option.{option_copied};
 ghost use Rattle.mc_script.specs.Rules.{least_broken};
 ghost use Rattle.mc_box.specs.BoxShapes.{is_device};
-ghost use Rattle.mc_net.specs.BoxLines.{media_seen};
+ghost use Rattle.mc_net.specs.BoxLines.{box_seen};
 ghost use Rattle.mc_net.specs.Forms.{IsInForm};
-ghost use Rattle.mc_net.specs.Meaning.{after_by, entry_after, words_after};
+ghost use Rattle.mc_net.specs.Meaning.{after_by, words_after};
 ghost use Rattle.mc_program.specs.Readings.{Declares};
 ghost use Rattle.mc_net.specs.Rules.{end_fault, entry_fault, is_late, is_unfinished, line_fault, open_block, rules_by, words_rules};
 ghost use Rattle.mc_net.specs.SoFar.{nothing};
-ghost use Rattle.mc_net.specs.Texts.{after_line, device_count, first_unbuilt, is_unbuilt, unbuilt_by};
+ghost use Rattle.mc_net.specs.Texts.{after_entry, after_line, after_words, device_count, first_unbuilt, unbuilt_by};
 
 mod boxes;
 mod channels;
@@ -24,30 +24,21 @@ use crate::limit::TEXT_LIMIT;
 use crate::places::{is_skipped, is_version};
 use crate::section::{Keyword, Section};
 use mc_box::{BoxShape, Kind, Shape};
+use mc_plan::Plan;
 use mc_program::{Block, ReadFault, is_unfinished};
 use mc_script::keyword::CommandWord;
 use mc_script::rule::{NO_BEGIN, NO_VERSION_LINE, TEXT_TOO_LONG, UNFINISHED, WRONG_WORD};
 use mc_script::{Command, LineFault, check_bytes};
-use mc_signal::CodecList;
 use mc_text::{Names, Words};
-use mc_world::Channel;
 use std::alloc::Global;
 use std::marker::Model;
 
-/// What the line of a box says of its media: the version that its descriptors begin at, and its codecs.
-#[derive(Clone, Copy)]
-pub struct BoxMedia {
-    pub version: u32,
-    pub codecs: CodecList,
-}
-
-/// What a text declares: names, for each box its shape and its media, channels, and commands.
+/// What a text declares: names, the shapes of the boxes, the plan of boxes and channels, and commands.
 #[derive(Drop)]
 pub struct Parts {
     pub names: Names,
     pub shape: Shape,
-    pub media: Vec<BoxMedia>,
-    pub channels: Vec<Channel>,
+    pub plan: Plan,
     pub commands: Vec<Command>,
 }
 
@@ -60,8 +51,7 @@ pub struct Reader {
     begun: bool,
     names: Names,
     shape: Shape,
-    media: Vec<BoxMedia>,
-    channels: Vec<Channel>,
+    plan: Plan,
     blocks: Vec<Block>,
     commands: Vec<Command>,
     unbuilt: Option<u32>,
@@ -69,12 +59,12 @@ pub struct Reader {
 
 impl Model for Reader {
     ghost use Rattle.std.specs.Prelude.{map};
-    ghost use Rattle.mc_net.specs.BoxLines.{media_seen};
+    ghost use Rattle.mc_net.specs.BoxLines.{box_seen};
     ghost use Rattle.mc_net.specs.SoFar.{Declared};
 
     ghost Value = { Declared };
 
-    ghost view = { λ r. record { section = r.section; versioned = r.versioned; begun = r.begun; names = r.names; shape = r.shape; media = map media_seen r.media.items; channels = r.channels.items; blocks = r.blocks.items; commands = r.commands.items; unbuilt = r.unbuilt } };
+    ghost view = { λ r. record { section = r.section; versioned = r.versioned; begun = r.begun; names = r.names; shape = r.shape; boxes = map box_seen r.plan.boxes; channels = r.plan.channels; blocks = r.blocks.items; commands = r.commands.items; unbuilt = r.unbuilt } };
 }
 
 impl Reader {
@@ -92,8 +82,7 @@ impl Reader {
             shape: Shape {
                 boxes: Vec::new(alloc),
             },
-            media: Vec::new(alloc),
-            channels: Vec::new(alloc),
+            plan: Plan::new(alloc),
             blocks: Vec::new(alloc),
             commands: Vec::new(alloc),
             unbuilt: None,
@@ -133,45 +122,34 @@ impl Reader {
     }
 
     // Whether a line of this kind is one that the program can't run yet. The words are those behind the first.
-    fn is_unbuilt_kind<'a>(&self, kind: Keyword, mut words: Words<'a>) -> bool
+    fn is_unbuilt<'a>(&self, kind: Keyword, mut words: Words<'a>) -> bool
         ensures { result ≡ unbuilt_by self.now (Some kind) words.entry }
     {
         match kind {
-            Keyword::Feat | Keyword::Prog | Keyword::Hear | Keyword::Talk => true,
+            Keyword::Feat
+            | Keyword::Prog
+            | Keyword::Link
+            | Keyword::Hear
+            | Keyword::Talk
+            | Keyword::Tell => true,
             Keyword::Dev => {
                 words.next_word();
                 gives_version(words) || 2 <= self.device_count()
             }
-            Keyword::Chan => 1 <= self.channels.len(),
-            Keyword::Begin => !(self.device_count() == 2 && self.channels.len() == 1),
+            Keyword::Chan => 1 <= self.plan.channels().len(),
+            Keyword::Begin => !(self.device_count() == 2 && self.plan.channels().len() == 1),
             _ => false,
         }
     }
 
-    // Whether a line is one that the program can't run yet.
-    fn is_unbuilt<'a>(&self, mut words: Words<'a>) -> bool
-        ensures { result ≡ is_unbuilt self.now words.entry }
-    {
-        if !self.versioned || is_skipped(words.again()) {
-            return false;
-        }
-        let Some(first) = words.next_word() else {
-            return false;
-        };
-        match keyword_of(first) {
-            Some(kind) => self.is_unbuilt_kind(kind, words),
-            None => false,
-        }
-    }
-
-    // The first line that the program can't run yet: one before, or this one.
-    fn first_unbuilt(&self, number: u32, line: &[u8]) -> Option<u32>
-        ensures { result ≡ first_unbuilt self.now number line.now }
+    // The first line that the program can't run yet: one before, or this one of this kind.
+    fn first_unbuilt<'a>(&self, number: u32, kind: Keyword, words: Words<'a>) -> Option<u32>
+        ensures { result ≡ first_unbuilt self.now number (unbuilt_by self.now (Some kind) words.entry) }
     {
         if self.unbuilt.is_some() {
             return self.unbuilt;
         }
-        if self.is_unbuilt(Words::new(line)) {
+        if self.is_unbuilt(kind, words) {
             return Some(number);
         }
         None
@@ -203,20 +181,23 @@ impl Reader {
         }
     }
 
-    // Reads a line of words, behind the version line.
-    fn read_words<'a>(&mut self, mut words: Words<'a>) -> Result<(), ReadFault>
+    // Reads a line of words, by its number, behind the version line.
+    fn read_words<'a>(&mut self, number: u32, mut words: Words<'a>) -> Result<(), ReadFault>
         requires { IsInForm self.old }
-        ensures declared { Declares result self.new (least_broken (words_rules true self.old words.entry)) (words_after true self.old words.entry) }
+        ensures declared { Declares result self.new (least_broken (words_rules true self.old words.entry)) (after_words self.old number words.entry) }
         ensures in_form { OnOk result (IsInForm self.new) }
     {
         let unknown = Err(ReadFault::Line(LineFault { number: WRONG_WORD }));
         let Some(first) = words.next_word() else {
             return unknown;
         };
-        match keyword_of(first) {
-            Some(kind) => self.read_kind(kind, words),
-            None => unknown,
-        }
+        let Some(kind) = keyword_of(first) else {
+            return unknown;
+        };
+        let unbuilt = self.first_unbuilt(number, kind, words.again());
+        self.read_kind(kind, words)?;
+        self.unbuilt = unbuilt;
+        Ok(())
     }
 
     // Reads the first line of words, which must be the version line.
@@ -234,17 +215,18 @@ impl Reader {
         Ok(())
     }
 
-    // Reads the words of a line, if it isn't skipped.
-    fn read_entry<'a>(&mut self, words: Words<'a>) -> Result<(), ReadFault>
+    // Reads the words of a line, by its number, if it isn't skipped.
+    #[tactic(auto, using(crate::proofs::Unbuilt::after_skipped, crate::proofs::Unbuilt::after_version))]
+    fn read_entry<'a>(&mut self, number: u32, words: Words<'a>) -> Result<(), ReadFault>
         requires { IsInForm self.old }
-        ensures declared { Declares result self.new (entry_fault self.old words.entry) (entry_after self.old words.entry) }
+        ensures declared { Declares result self.new (entry_fault self.old words.entry) (after_entry self.old number words.entry) }
         ensures in_form { OnOk result (IsInForm self.new) }
     {
         if is_skipped(words.again()) {
             return Ok(());
         }
         if self.versioned {
-            return self.read_words(words);
+            return self.read_words(number, words);
         }
         self.read_version(words)
     }
@@ -268,10 +250,7 @@ impl Reader {
             }));
         }
         check_bytes(line)?;
-        let unbuilt = self.first_unbuilt(number, line);
-        self.read_entry(Words::new(line))?;
-        self.unbuilt = unbuilt;
-        Ok(())
+        self.read_entry(number, Words::new(line))
     }
 
     /// The number of the rule that the end of the text breaks, if it breaks one.
@@ -294,15 +273,14 @@ impl Reader {
     pub fn into_parts(self) -> Parts
         ensures names { result.names ≡ self.names }
         ensures shape { result.shape ≡ self.shape }
-        ensures media { map media_seen result.media.items ≡ self.media }
-        ensures channels { result.channels.items ≡ self.channels }
+        ensures boxes { map box_seen result.plan.boxes ≡ self.boxes }
+        ensures channels { result.plan.channels ≡ self.channels }
         ensures commands { result.commands.items ≡ self.commands }
     {
         Parts {
             names: self.names,
             shape: self.shape,
-            media: self.media,
-            channels: self.channels,
+            plan: self.plan,
             commands: self.commands,
         }
     }

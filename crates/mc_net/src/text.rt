@@ -1,6 +1,7 @@
 //! Whole texts.
 
 ghost use Rattle.std.specs.Prelude.{◌≡◌, IfErr, IfOk};
+ghost use Rattle.mc_net.specs.Forms.{IsInForm};
 ghost use Rattle.mc_net.specs.Texts.{Says, RefusesText};
 
 use crate::fault::{NetFault, TextFault};
@@ -13,6 +14,7 @@ use std::alloc::Global;
 /// Reads a whole text, which must be in the grammar, and one that can be run.
 pub fn read_text(alloc: Global, text: &[u8]) -> Result<Reader, NetFault>
     ensures says { IfOk result (Says text.now) }
+    ensures in_form { IfOk result (λ reader. IsInForm reader) }
     ensures refused { IfErr result (RefusesText text.now) }
 {
     let total = text.len();

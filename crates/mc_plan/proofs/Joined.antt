@@ -12,7 +12,7 @@ use Rattle.mc_plan.proofs.Orders.{channel_ordered, channel_there, ordered_append
 use Rattle.mc_plan.proofs.Slots.{length_tunnels, part, slots_append, slots_one}
 
 -- what a channel that breaks no rule keeps
-record MayJoin (plan : PlanState) (from to : ℕ) (media : List Medium) : Type 0 where
+record KeepsRules (plan : PlanState) (from to : ℕ) (media : List Medium) : Type 0 where
   near : from < length plan.boxes
   far : to < length plan.boxes
   apart : from ≢ to
@@ -23,8 +23,8 @@ record MayJoin (plan : PlanState) (from to : ℕ) (media : List Medium) : Type 0
   far_slots : slots_of plan.channels to + length media ≤ 64
 
 -- by what is asked before
-may_join : (plan : PlanState) (from to : ℕ) (media : List Medium) → join_fault plan from to media ≡ None → MayJoin plan from to media
-may_join plan from to media none = record {
+kept_by_join : (plan : PlanState) (from to : ℕ) (media : List Medium) → join_fault plan from to media ≡ None → KeepsRules plan from to media
+kept_by_join plan from to media none = record {
   near = grind (arith, common_steps);
   far = grind (arith, common_steps);
   apart = grind (arith, common_steps);
@@ -44,7 +44,7 @@ places_joined : (channels : List ChannelState) (ends : ChannelState) → places_
 places_joined channels ends = flat_map-append places_within channels (ends ∷ []) ∙ ap (λ (l : List (ℕ × ℕ)). places_among channels ++ l) (append-nil (places_within ends))
 
 -- no box has too many slots then
-joined_slots : (plan : PlanState) (from to : ℕ) (media : List Medium) (who : ℕ) → IsLaidOut plan → MayJoin plan from to media
+joined_slots : (plan : PlanState) (from to : ℕ) (media : List Medium) (who : ℕ) → IsLaidOut plan → KeepsRules plan from to media
     → slots_of (plan.channels ++ channel_between plan.channels from to media ∷ []) who ≤ 64
 joined_slots plan from to media who laid may =
     let ends : ChannelState = channel_between plan.channels from to media in
@@ -64,7 +64,7 @@ one_all : (P : ChannelState → Type 0) (ends : ChannelState) → P ends → All
 one_all P ends holds = All-cons P ends [] holds (All-nil P)
 
 -- all that a plan keeps
-joined_by : (plan : PlanState) (from to : ℕ) (media : List Medium) → IsLaidOut plan → MayJoin plan from to media → IsLaidOut (with_channel plan from to media)
+joined_by : (plan : PlanState) (from to : ℕ) (media : List Medium) → IsLaidOut plan → KeepsRules plan from to media → IsLaidOut (with_channel plan from to media)
 joined_by plan from to media laid may =
     let ends : ChannelState = channel_between plan.channels from to media in
     let near : ℕ = slots_of plan.channels from in
@@ -84,4 +84,4 @@ joined_by plan from to media laid may =
 
 -- where the channel breaks no rule
 pub joined_laid_out : (plan : PlanState) (from to : ℕ) (media : List Medium) → IsLaidOut plan → join_fault plan from to media ≡ None → IsLaidOut (with_channel plan from to media)
-joined_laid_out plan from to media laid none = joined_by plan from to media laid (may_join plan from to media none)
+joined_laid_out plan from to media laid none = joined_by plan from to media laid (kept_by_join plan from to media none)

@@ -7,13 +7,13 @@ use Rattle.mc_slot.specs.declared.Slot.{Slot}
 use Rattle.mc_box.specs.Boxes.{BoxState, IsBox, IsNewBox, first_goal, first_media, first_slot, media_at, no_box, no_media, no_slot, slot_at}
 use Rattle.mc_box.specs.declared.setup.SlotMedia.{SlotMedia}
 use Rattle.mc_box.specs.declared.setup.SlotSetup.{SlotSetup}
-use Rattle.mc_model.specs.Setups.{AreNew, setups_of}
-use Rattle.mc_model.specs.Sound.{IsNumbered}
+use Rattle.mc_model.specs.Sound.{AreNew, IsNumbered}
 use Rattle.mc_model.specs.Worlds.{ChannelState, TunnelPlace, WorldState, box_at, tunnel_of, tunnels_from, no_tunnel, place, places_among, slot_count}
 use Rattle.mc_box.proofs.NewBoxes.{first_is_new}
 use Rattle.mc_plan.specs.LaidOut.{IsLaidOut, place_at}
 use Rattle.mc_plan.specs.PlanLaws.{PlansAreNumbered, PlansStaySound}
 use Rattle.mc_plan.specs.Plans.{PlanState, box_from, boxes_from, slots_of, world_of}
+use Rattle.mc_plan.specs.Setups.{setups_of}
 use Rattle.mc_plan.specs.declared.plan.BoxPlan.{BoxPlan}
 use Rattle.mc_plan.proofs.Picks.{SlotIs, length_setups, setup_of_slot}
 use Rattle.mc_plan.proofs.Places.{each_found, found_once, local_inside, same_box}
@@ -52,7 +52,7 @@ boxes_more channels (here ∷ plans) first (suc i) planned inside is =
     (boxes_more channels plans (first + 1) i planned (omega arith) is ∙ ap (λ (n : ℕ). boxes_from channels (first + 1) (take i plans) ++ box_from channels n planned ∷ []) next)
 
 -- one for each plan
-length_boxes : (channels : List ChannelState) (plans : List BoxPlan) (first : ℕ) → length (boxes_from channels first plans) ≡ length plans
+pub length_boxes : (channels : List ChannelState) (plans : List BoxPlan) (first : ℕ) → length (boxes_from channels first plans) ≡ length plans
 length_boxes channels [] first = refl
 length_boxes channels (planned ∷ plans) first = ap suc (length_boxes channels plans (first + 1))
 
@@ -150,7 +150,7 @@ whole_boxes plan who below =
     subst IsBox (sym made.is) (whole_from plan.channels who made.planned)
 
 -- its slots are those that lead to it
-box_slots : (plan : PlanState) (who : ℕ) → who < length plan.boxes → length (box_at (world_of plan) who).slots ≡ slots_of plan.channels who
+pub box_slots : (plan : PlanState) (who : ℕ) → who < length plan.boxes → length (box_at (world_of plan) who).slots ≡ slots_of plan.channels who
 box_slots plan who below =
     let made : Made plan.channels who (box_at (world_of plan) who) = box_made plan who below in
     ap (λ (box : BoxState). length box.slots) made.is ∙ slots_from plan.channels who made.planned

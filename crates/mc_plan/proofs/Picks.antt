@@ -2,7 +2,7 @@
 use Rattle.std.proofs.Common.{◌≡◌, ◌+◌, ◌*◌, ◌/◌, ◌%◌, ◌<◌, ◌==◌, ℕ, zero, suc, Bool, true, false, cond, List, [], ◌∷◌, ◌++◌, count_by, length, take, refl, ap, sym, ◌∙◌, subst, arith, append_assoc, flat_map, zero-add}
 use Rattle.std.proofs.Math.ListN.{get_or}
 use Rattle.mc_box.specs.declared.setup.SlotSetup.{SlotSetup}
-use Rattle.mc_model.specs.Setups.{setups_from, setups_of, setups_within}
+use Rattle.mc_plan.specs.Setups.{setups_from, setups_of, setups_within}
 use Rattle.mc_model.specs.Worlds.{ChannelState, TunnelPlace, tunnels_from, tunnels_within, no_tunnel, places_among, places_of, places_within}
 use Rattle.mc_model.specs.declared.channel.Tunnel.{Tunnel}
 use Rattle.mc_laws.proofs.TunnelPlaces.{two_each, within_slots}

@@ -2,3 +2,4 @@ pub mod LaidOut
 pub mod PlanLaws
 pub mod Plans
 pub mod Refusals
+pub mod Setups

@@ -1,7 +1,6 @@
 -- Laws of plans: the world that a plan lays out is one that a call can be set up in, and stays so whatever its boxes do.
 use Rattle.std.specs.Prelude.{◌≡◌, List, Some}
-use Rattle.mc_model.specs.Sound.{IsNumbered, IsSound}
-use Rattle.mc_model.specs.Setups.{AreNew}
+use Rattle.mc_model.specs.Sound.{AreNew, IsNumbered, IsSound}
 use Rattle.mc_model.specs.Steps.{run}
 use Rattle.mc_model.specs.Worlds.{WorldState}
 use Rattle.mc_box.specs.declared.event.Turn.{Turn}

@@ -2,7 +2,7 @@
 use Rattle.std.specs.Prelude.{ℕ, ◌+◌, ◌==◌, Bool, List, [], ◌∷◌, ◌++◌, count_by}
 use Rattle.mc_signal.specs.declared.Medium.{Medium}
 use Rattle.mc_box.specs.Boxes.{BoxState, first_box}
-use Rattle.mc_model.specs.Setups.{setups_of}
+use Rattle.mc_plan.specs.Setups.{setups_of}
 use Rattle.mc_model.specs.Worlds.{ChannelState, WorldState, first_world, places_among}
 use Rattle.mc_model.specs.declared.channel.Tunnel.{Tunnel}
 use Rattle.mc_plan.specs.declared.plan.BoxPlan.{BoxPlan}

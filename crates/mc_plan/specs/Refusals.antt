@@ -28,6 +28,15 @@ join_fault plan from to media =
     (fault_if (nat_le CHANNEL_LIMIT (length plan.channels)) ChannelsFull
     (fault_if (overfills plan from (length media) || overfills plan to (length media)) SlotsFull None)))))
 
+-- a fault, or nothing to say
+abbrev pub unless_fault : Option PlanFault → Result (Unit {0}) PlanFault
+unless_fault None = Ok tt
+unless_fault (Some fault) = Err fault
+
+-- whether a channel may be added: the first rule that it breaks, if it breaks one
+abbrev pub may_join : PlanState → (from to : ℕ) → List Medium → Result (Unit {0}) PlanFault
+may_join plan from to media = unless_fault (join_fault plan from to media)
+
 -- a refusal is the fault that there is; memory is asked for only where there is none
 abbrev pub IsRefusal : PlanFault → Option PlanFault → Type 0
 IsRefusal (NoMemory e) fault = fault ≡ None

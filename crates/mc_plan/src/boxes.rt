@@ -1,7 +1,7 @@
 // The new boxes that a plan gives: a slot for each tunnel that leads to a box.
 
 ghost use Rattle.std.specs.Prelude.{◌≡◌, ◌+◌, ◌<◌, ◌≤◌, ◌++◌, ◌^◌, All, IfOk, OnOk, length};
-ghost use Rattle.mc_model.specs.Setups.{setup_if, setups_of, setups_within};
+ghost use Rattle.mc_plan.specs.Setups.{setup_if, setups_of, setups_within};
 ghost use Rattle.mc_model.specs.Worlds.{HasTunnels};
 ghost use Rattle.mc_plan.specs.LaidOut.{IsLaidOut};
 ghost use Rattle.mc_plan.specs.Plans.{box_from, boxes_from, slots_of};

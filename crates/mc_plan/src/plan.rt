@@ -3,7 +3,7 @@
 ghost use Rattle.std.specs.Prelude.{◌≡◌, ◌≤◌, length, IfOk, OnOk, OnErr};
 ghost use Rattle.mc_plan.specs.LaidOut.{IsLaidOut};
 ghost use Rattle.mc_plan.specs.Plans.{empty_plan, with_channel, slots_of, with_plan, world_of};
-ghost use Rattle.mc_plan.specs.Refusals.{add_fault, join_fault, overfills, Gives};
+ghost use Rattle.mc_plan.specs.Refusals.{add_fault, join_fault, may_join, overfills, Gives};
 ghost use Rattle.mc_plan.specs.declared.limit.TheConstants.{SLOT_LIMIT, TUNNEL_LIMIT};
 
 use crate::boxes::boxes_from;
@@ -112,9 +112,7 @@ impl Plan {
         ensures joined { OnOk result (self.new ≡ with_channel self.old from to media.now) }
         ensures unchanged { OnErr result (self.new ≡ self.old) }
     {
-        if let Some(fault) = self.join_fault(from, to, media) {
-            return Err(fault);
-        }
+        self.may_join(from, to, media)?;
         let near = slots_of(&self.channels, from) as u8;
         let far = slots_of(&self.channels, to) as u8;
         let number = self.channels.len() as u32;
@@ -131,30 +129,31 @@ impl Plan {
         World::new(self.alloc, boxes, self.channels)
     }
 
-    // The first rule that a channel would break.
-    fn join_fault(&self, from: u32, to: u32, media: &[Medium]) -> Option<PlanFault>
-        ensures { result ≡ join_fault self.now from to media.now }
+    /// Whether two boxes may be joined by a channel with a tunnel for each of these media: else the first rule that
+    /// the channel would break, in the order of `PlanFault`.
+    pub fn may_join(&self, from: u32, to: u32, media: &[Medium]) -> Result<(), PlanFault>
+        ensures { result ≡ may_join self.now from to media.now }
     {
         let boxes = self.boxes.len();
         if boxes <= from as usize || boxes <= to as usize {
-            return Some(PlanFault::NoBox);
+            return Err(PlanFault::NoBox);
         }
         if from == to {
-            return Some(PlanFault::SameBox);
+            return Err(PlanFault::SameBox);
         }
         if media.is_empty() {
-            return Some(PlanFault::NoTunnels);
+            return Err(PlanFault::NoTunnels);
         }
         if TUNNEL_LIMIT < media.len() {
-            return Some(PlanFault::TooManyTunnels);
+            return Err(PlanFault::TooManyTunnels);
         }
         if CHANNEL_LIMIT <= self.channels.len() {
-            return Some(PlanFault::ChannelsFull);
+            return Err(PlanFault::ChannelsFull);
         }
         if self.overfills(from, media.len()) || self.overfills(to, media.len()) {
-            return Some(PlanFault::SlotsFull);
+            return Err(PlanFault::SlotsFull);
         }
-        None
+        Ok(())
     }
 
     // Whether a box would have too many slots.

@@ -3,9 +3,8 @@
 ghost use Rattle.std.specs.Prelude.{◌≡◌, IfOk, IsTrue, OnOk, drop};
 ghost use Rattle.std.specs.List.{slice_get};
 ghost use Rattle.mc_text.specs.Spelling.{is_name};
-ghost use Rattle.mc_script.specs.Places.{Fits};
 ghost use Rattle.mc_script.specs.Rules.{least_broken};
-ghost use Rattle.mc_net.specs.BoxLines.{device_seen, media_seen};
+ghost use Rattle.mc_net.specs.BoxLines.{box_seen, device_seen};
 ghost use Rattle.mc_net.specs.Forms.{IsInForm};
 ghost use Rattle.mc_net.specs.Meaning.{device_after, feature_after, with_new_box};
 ghost use Rattle.mc_program.specs.Readings.{Declares, ReadsAsBy};
@@ -14,9 +13,10 @@ ghost use Rattle.mc_net.specs.Rules.{device_rules, feature_rules};
 use crate::codec_words::{
     codec_words, has_bad_version, is_overfull, listed, lists_undeclared, version_of,
 };
-use crate::reader::{BoxMedia, Reader};
+use crate::reader::Reader;
 use crate::section::Section;
 use mc_box::{BoxShape, Kind};
+use mc_plan::BoxPlan;
 use mc_program::ReadFault;
 use mc_program::word_list::has_repeat;
 use mc_script::LineFault;
@@ -34,7 +34,7 @@ use std::alloc::AllocError;
 #[derive(Drop)]
 pub struct DeviceLine<'a> {
     name: &'a [u8],
-    media: BoxMedia,
+    planned: BoxPlan,
 }
 
 impl Reader {
@@ -76,11 +76,17 @@ impl Reader {
                 number: NAME_TOO_LONG,
             });
         }
-        let media = BoxMedia {
-            version: version_of(words),
-            codecs: listed(&self.names, codecs),
+        let codecs = listed(&self.names, codecs);
+        let planned = BoxPlan {
+            kind: Kind::Device,
+            codecs,
+            sends: codecs,
+            first_version: version_of(words),
         };
-        Ok(DeviceLine { name: spelt, media })
+        Ok(DeviceLine {
+            name: spelt,
+            planned,
+        })
     }
 
     /// Reads `dev NAME CODEC CODEC ..` or `dev NAME VERSION CODEC CODEC ..` from the name on.
@@ -90,7 +96,7 @@ impl Reader {
         ensures in_form { OnOk result (IsInForm self.new) }
     {
         let line = self.device_line(words)?;
-        self.add_box(line.name, Kind::Device, line.media)?;
+        self.add_box(line.name, line.planned)?;
         Ok(())
     }
 
@@ -136,33 +142,29 @@ impl Reader {
         ensures in_form { OnOk result (IsInForm self.new) }
     {
         let name = self.feature_line(words)?;
-        let media = BoxMedia {
-            version: 1,
+        let planned = BoxPlan {
+            kind: Kind::Feature,
             codecs: CodecList::none(),
+            sends: CodecList::none(),
+            first_version: 1,
         };
-        self.add_box(name, Kind::Feature, media)?;
+        self.add_box(name, planned)?;
         Ok(())
     }
 
     // Adds a box last, without slots.
-    #[tactic(auto, using(crate::proofs::Fitting::fits_box))]
-    fn add_box(&mut self, name: &[u8], kind: Kind, media: BoxMedia) -> Result<(), AllocError>
-        requires named { IsTrue (is_name name.now) }
-        requires fits { Fits self.old.names self.old.shape }
-        ensures added { OnOk result (self.new ≡ with_new_box self.old name.now kind (media_seen media)) }
-        ensures fits { OnOk result (Fits self.new.names self.new.shape) }
+    fn add_box(&mut self, name: &[u8], planned: BoxPlan) -> Result<(), AllocError>
+        requires { IsTrue (is_name name.now) }
+        ensures { OnOk result (self.new ≡ with_new_box self.old name.now (box_seen planned)) }
     {
-        // each box has its list of slots
-        let _ = self.names.box_count();
-        if self.names.add_box(name).is_err() {
+        if self.names.add_box(name).is_err() || self.plan.add(planned).is_err() {
             return Err(AllocError);
         }
         self.shape.boxes.push(BoxShape {
-            kind,
+            kind: planned.kind,
             media: Vec::new(self.alloc),
             programmed: false,
         })?;
-        self.media.push(media)?;
         self.section = Section::Boxes;
         Ok(())
     }

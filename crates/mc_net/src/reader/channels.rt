@@ -1,22 +1,21 @@
 //! Lines that declare channels.
 
-ghost use Rattle.std.specs.Prelude.{◌≡◌, ◌<◌, ◌≤◌, IfOk, IfSome, IsTrue, OnOk, length, nat_le};
+ghost use Rattle.std.specs.Prelude.{◌≡◌, ◌<◌, IfOk, IsTrue, OnOk, length};
 ghost use Rattle.std.specs.Option.{is_some};
 ghost use Rattle.mc_text.specs.NameLists.{place_of, slot_names};
 ghost use Rattle.mc_text.specs.Spelling.{is_name};
-ghost use Rattle.mc_script.specs.Places.{Fits};
 ghost use Rattle.mc_script.specs.Rules.{least_broken};
-ghost use Rattle.mc_net.specs.BoxLines.{CanJoin, channel_seen};
+ghost use Rattle.mc_net.specs.BoxLines.{CanJoin, channel_seen, may_join};
 ghost use Rattle.mc_net.specs.Forms.{IsInForm};
-ghost use Rattle.mc_net.specs.Meaning.{channel_after, one_tunnel, with_medium, with_new_slot};
+ghost use Rattle.mc_net.specs.Meaning.{channel_after, with_new_channel, with_medium, with_new_slot};
 ghost use Rattle.mc_program.specs.Readings.{Declares, ReadsAsBy};
 ghost use Rattle.mc_net.specs.Rules.{channel_rules};
 
-use crate::limit::CHANNEL_LIMIT;
 use crate::places::fixed_medium;
 use crate::reader::Reader;
 use crate::section::Section;
 use mc_box::Shape;
+use mc_plan::PlanFault;
 use mc_program::ReadFault;
 use mc_script::LineFault;
 use mc_script::places::{is_misspelt, is_overlong, known_box};
@@ -24,10 +23,8 @@ use mc_script::rule::{
     EXTRA_WORD, GIVEN_TWICE, LIMIT_PASSED, MISSING_WORD, NAME_TOO_LONG, SAME_BOX, WRONG_WORD,
 };
 use mc_signal::Medium;
-use mc_text::limit::SLOT_LIMIT;
 use mc_text::{FirstWords, Words};
-use mc_world::{Channel, Tunnel};
-use std::alloc::{AllocError, Global};
+use std::alloc::AllocError;
 
 /// What a `chan` line declares: its medium, its two boxes, and the names of the slot that each gets.
 #[derive(Drop)]
@@ -43,6 +40,7 @@ impl Reader {
     // What a `chan` line declares.
     #[tactic(auto, using(crate::proofs::Missing::no_word_without_box, crate::proofs::Missing::no_fifth_without_second, crate::proofs::Missing::no_fifth_without_third, crate::proofs::Missing::no_fifth_without_fourth))]
     fn channel_line<'a>(&self, words: Words<'a>) -> Result<ChannelLine<'a>, LineFault>
+        requires { IsInForm self.now }
         ensures read { ReadsAsBy (channel_seen self.now) result (least_broken (channel_rules self.now words.entry)) (channel_after self.now words.entry) }
         ensures can_join { IfOk result (CanJoin self.now) }
     {
@@ -72,14 +70,8 @@ impl Reader {
                 number: GIVEN_TWICE,
             });
         }
-        if from == to {
-            return Err(LineFault { number: SAME_BOX });
-        }
-        if self.is_full(from) || self.is_full(to) || CHANNEL_LIMIT <= self.channels.len() {
-            return Err(LineFault {
-                number: LIMIT_PASSED,
-            });
-        }
+        // asked before the length of the names, which comes behind it
+        self.may_join(from, to, medium)?;
         if is_overlong(parts.third) || is_overlong(parts.fifth) {
             return Err(LineFault {
                 number: NAME_TOO_LONG,
@@ -102,12 +94,22 @@ impl Reader {
         self.names.find_slot(who, name).is_some()
     }
 
-    // Whether a box has as many slots as it may have.
-    fn is_full(&self, who: u32) -> bool
-        requires { who < length self.now.names.boxes }
-        ensures { result ≡ nat_le SLOT_LIMIT (length (slot_names self.now.names who)) }
+    // Whether two boxes may be joined by one more channel of one tunnel: else fault 10 where they are the same box, and
+    // 14 where there would be too many channels, or slots of a box.
+    #[tactic(auto, using(crate::proofs::Joining::joins_by_plan))]
+    fn may_join(&self, from: u32, to: u32, medium: Medium) -> Result<(), LineFault>
+        requires in_form { IsInForm self.now }
+        requires near { from < length self.now.names.boxes }
+        requires far { to < length self.now.names.boxes }
+        ensures { result ≡ may_join self.now.names self.now.channels from to }
     {
-        SLOT_LIMIT <= self.names.slot_count(who)
+        match self.plan.may_join(from, to, &[medium]) {
+            Ok(()) => Ok(()),
+            Err(PlanFault::SameBox) => Err(LineFault { number: SAME_BOX }),
+            Err(_) => Err(LineFault {
+                number: LIMIT_PASSED,
+            }),
+        }
     }
 
     /// Reads `chan MEDIUM BOX SLOT BOX SLOT` from the medium on.
@@ -117,16 +119,20 @@ impl Reader {
         ensures in_form { OnOk result (IsInForm self.new) }
     {
         let line = self.channel_line(words)?;
-        let tunnel = Tunnel {
-            medium: line.medium,
-            from: self.names.slot_count(line.from) as u8,
-            to: self.names.slot_count(line.to) as u8,
-        };
+        self.join(line.from, line.to, line.medium)?;
         self.add_slot(line.from, line.slot, line.medium)?;
         self.add_slot(line.to, line.far_slot, line.medium)?;
-        let channel = one_tunnel(self.alloc, line.from, line.to, tunnel)?;
-        self.channels.push(channel)?;
         self.section = Section::Channels;
+        Ok(())
+    }
+
+    // Joins two boxes by one more channel of one tunnel.
+    fn join(&mut self, from: u32, to: u32, medium: Medium) -> Result<(), AllocError>
+        ensures { OnOk result (self.new ≡ with_new_channel self.old from to medium) }
+    {
+        if self.plan.join(from, to, &[medium]).is_err() {
+            return Err(AllocError);
+        }
         Ok(())
     }
 
@@ -134,9 +140,8 @@ impl Reader {
     fn add_slot(&mut self, who: u32, name: &[u8], medium: Medium) -> Result<(), AllocError>
         requires who { who < length self.old.names.boxes }
         requires named { IsTrue (is_name name.now) }
-        requires fits { Fits self.old.names self.old.shape }
+        requires boxes { length self.old.shape ≡ length self.old.names.boxes }
         ensures added { OnOk result (self.new ≡ with_new_slot self.old who name.now medium) }
-        ensures fits { OnOk result (Fits self.new.names self.new.shape) }
     {
         // each box has its list of slots
         let _ = self.names.box_count();
@@ -155,13 +160,4 @@ fn add_medium(shape: &mut Shape, who: u32, medium: Medium) -> Result<(), AllocEr
     let of_box = &mut shape.boxes[who as usize];
     of_box.media.push(medium)?;
     Ok(())
-}
-
-// A channel of one tunnel.
-fn one_tunnel(alloc: Global, from: u32, to: u32, tunnel: Tunnel) -> Result<Channel, AllocError>
-    ensures { IfOk result (λ channel. channel ≡ one_tunnel from to tunnel) }
-{
-    let mut tunnels = Vec::new(alloc);
-    tunnels.push(tunnel)?;
-    Ok(Channel { from, to, tunnels })
 }

@@ -1,5 +1,5 @@
 use Rattle.std.proofs.Common.{◌≡◌, ◌+◌, ◌++◌, drop}
-use Rattle.mc_model.specs.Setups.{setups_within}
+use Rattle.mc_plan.specs.Setups.{setups_within}
 use Rattle.mc_plan.proofs.boxes.add_setups.Given as goal
 
 -- the slots so far, and those at the other tunnels, are all

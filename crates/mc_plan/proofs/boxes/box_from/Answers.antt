@@ -1,6 +1,6 @@
 use Rattle.std.proofs.Common.{◌≡◌, List, ap, arith, length}
 use Rattle.mc_box.specs.declared.setup.SlotSetup.{SlotSetup}
-use Rattle.mc_model.specs.Setups.{setups_of}
+use Rattle.mc_plan.specs.Setups.{setups_of}
 use Rattle.mc_plan.proofs.Picks.{length_setups}
 use Rattle.mc_plan.proofs.boxes.box_from.Goals as goal
 

@@ -1,5 +1,5 @@
 use Rattle.std.proofs.Common.{◌≡◌, ◌≤◌, ◌*◌, ◌++◌, drop}
-use Rattle.mc_model.specs.Setups.{setups_from, setups_of}
+use Rattle.mc_plan.specs.Setups.{setups_from, setups_of}
 use Rattle.mc_plan.proofs.boxes.setups_of.Given as goal
 
 -- the slots so far, and those at the other channels, are all

@@ -1,7 +1,6 @@
 use Rattle.std.proofs.Common.{◌≡◌, List, rules, subst, sym}
 use Rattle.mc_box.specs.Boxes.{BoxState}
-use Rattle.mc_model.specs.Sound.{IsNumbered}
-use Rattle.mc_model.specs.Setups.{AreNew}
+use Rattle.mc_model.specs.Sound.{AreNew, IsNumbered}
 use Rattle.mc_model.specs.Worlds.{first_world}
 use Rattle.mc_plan.specs.Plans.{PlanState, boxes_from}
 use Rattle.mc_plan.proofs.Numbered.{laid_out_is_new, laid_out_is_numbered}
