@@ -14,7 +14,7 @@ use Rattle.mc_script.specs.declared.command.Command.{Command}
 use Rattle.mc_script.specs.declared.command.Command.TheVariants.{Settle}
 use Rattle.mc_script.specs.declared.keyword.CommandWord.{CommandWord}
 use Rattle.mc_script.specs.declared.keyword.CommandWord.TheVariants as command
-use Rattle.mc_net.specs.Meaning.{after_by, begin_after, channel_after, codec_after, command_after, device_after, device_in, with_joined, line_after, unless_skipped, with_new_box, words_after}
+use Rattle.mc_net.specs.Meaning.{after_by, begin_after, channel_after, codec_after, command_after, device_after, device_in, with_joined, line_after, unless_skipped, with_new_box, with_new_codec, words_after}
 use Rattle.mc_net.specs.Rules.{codec_words, device_rules, is_skipped, kind_of, line_fault, line_words_rules, lists_undeclared, spelt_medium, open_block, passes_limit, rules_by, words_rules}
 use Rattle.mc_net.specs.SoFar.{Declared, DeclaredBox, nothing}
 use Rattle.mc_net.specs.Texts.{AreSound, Says, bytes_before, declared_by, first_unbuilt, is_unbuilt, unbuilt_by, with_unbuilt}
@@ -43,7 +43,7 @@ nothing_runs = record { plain = refl; known = All-nil (HasCodecs nothing.names);
 
 codec_runs : (d after : Declared) (words : List (List ℕ)) → IsRunnable d → codec_after d words ≡ Some after → IsRunnable after
 codec_runs d after words runs means =
-    let m = mapped (λ name. record d { section = section.Codecs; names = with_codec_name d.names name }) (slice_get words 0) after means in
+    let m = mapped (with_new_codec d) (slice_get words 0) after means in
     subst (λ (x : Declared). IsRunnable x) (sym m.2) (record {
       plain = runs.plain;
       known = All-weaker (HasCodecs d.names) (HasCodecs (with_codec_name d.names m.0)) (λ declared has. All-weaker (λ codec. codec < length d.names.codecs) (λ codec. codec < length (d.names.codecs ++ m.0 ∷ [])) (λ codec below. one_more m.0 codec below) declared.receives has) d.boxes runs.known;

@@ -1,5 +1,6 @@
 pub mod BoxLines
 pub mod Forms
+pub mod LineReadings
 pub mod Listing
 pub mod Meaning
 pub mod Nets

@@ -24,8 +24,12 @@ use Rattle.mc_net.specs.declared.section.Section.TheVariants as section
 
 -- ---- codecs, boxes, channels
 
+-- a codec with the next number
+abbrev pub with_new_codec : Declared → List ℕ → Declared
+with_new_codec d name = record d { section = section.Codecs; names = with_codec_name d.names name }
+
 abbrev pub codec_after : Declared → List (List ℕ) → Option Declared
-codec_after d words = option_map (λ name. record d { section = section.Codecs; names = with_codec_name d.names name }) (slice_get words 0)
+codec_after d words = option_map (with_new_codec d) (slice_get words 0)
 
 -- a box as its line leaves it: without slots, without a program
 abbrev pub new_shape : Kind → BoxShapeState
@@ -63,8 +67,11 @@ new_feature = record { kind = Feature; version = 1; receives = []; sends = [] }
 abbrev pub device_after : Declared → List (List ℕ) → Option Declared
 device_after d words = option_map (λ name. with_new_box d name (device_in d.names (drop 1 words))) (slice_get words 0)
 
+abbrev pub with_new_feature : Declared → List ℕ → Declared
+with_new_feature d name = with_new_box d name new_feature
+
 abbrev pub feature_after : Declared → List (List ℕ) → Option Declared
-feature_after d words = option_map (λ name. with_new_box d name new_feature) (slice_get words 0)
+feature_after d words = option_map (with_new_feature d) (slice_get words 0)
 
 -- a box has one more slot, of this medium
 abbrev pub with_medium : List BoxShapeState → ℕ → Medium → List BoxShapeState

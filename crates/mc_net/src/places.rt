@@ -2,7 +2,7 @@
 
 ghost use Rattle.std.specs.Prelude.{◌≡◌};
 ghost use Rattle.std.specs.Option.{option_copied};
-ghost use Rattle.mc_script.specs.Places.{is_no, meant, unless};
+ghost use Rattle.mc_script.specs.Places.{fixed_word};
 ghost use Rattle.mc_net.specs.Rules.{begins_digit, begins_hash, is_skipped, is_version, spelt_medium};
 
 use mc_script::LineFault;
@@ -12,7 +12,7 @@ use mc_text::Words;
 
 /// The medium that a word spells. Fault 5 where it spells none.
 pub fn fixed_medium(word: Option<&[u8]>) -> Result<Option<Medium>, LineFault>
-    ensures { result ≡ unless (is_no spelt_medium (option_copied word.entry)) WRONG_WORD (meant spelt_medium (option_copied word.entry)) }
+    ensures { result ≡ fixed_word spelt_medium (option_copied word.entry) }
 {
     let Some(word) = word else { return Ok(None) };
     match spelt_medium(word) {

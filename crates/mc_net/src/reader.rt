@@ -1,16 +1,14 @@
 //! The lines of a text, one after the other, and what they declare.
 
-ghost use Rattle.std.specs.Prelude.{◌≡◌, ◌+◌, ◌<◌, ◌^◌, length, OnOk, Some, map, true, false};
+ghost use Rattle.std.specs.Prelude.{◌≡◌, ◌+◌, ◌<◌, ◌^◌, length, OnOk, Some, map};
 ghost use Rattle.std.specs.Option.{option_copied};
-ghost use Rattle.mc_script.specs.Rules.{least_broken};
 ghost use Rattle.mc_box.specs.BoxShapes.{is_device};
 ghost use Rattle.mc_net.specs.BoxLines.{box_seen};
 ghost use Rattle.mc_net.specs.Forms.{IsInForm};
-ghost use Rattle.mc_net.specs.Meaning.{after_by, words_after};
-ghost use Rattle.mc_program.specs.Readings.{Declares};
-ghost use Rattle.mc_net.specs.Rules.{end_fault, entry_fault, is_late, is_unfinished, line_fault, open_block, rules_by, words_rules};
+ghost use Rattle.mc_net.specs.LineReadings.{ReadsEntry, ReadsKind, ReadsLine, ReadsVersion, ReadsWords};
+ghost use Rattle.mc_net.specs.Rules.{end_fault, is_late, is_unfinished, open_block};
 ghost use Rattle.mc_net.specs.SoFar.{nothing};
-ghost use Rattle.mc_net.specs.Texts.{after_entry, after_line, after_words, device_count, first_unbuilt, unbuilt_by};
+ghost use Rattle.mc_net.specs.Texts.{device_count, first_unbuilt, unbuilt_by};
 
 mod boxes;
 mod channels;
@@ -158,7 +156,7 @@ impl Reader {
     // Reads a line of this kind. The words are those behind the first.
     fn read_kind<'a>(&mut self, kind: Keyword, words: Words<'a>) -> Result<(), ReadFault>
         requires { IsInForm self.old }
-        ensures declared { Declares result self.new (least_broken (rules_by self.old (Some kind) words.entry)) (after_by self.old (Some kind) words.entry) }
+        ensures declared { ReadsKind self.old kind words.entry result self.new }
         ensures in_form { OnOk result (IsInForm self.new) }
     {
         match kind {
@@ -184,7 +182,7 @@ impl Reader {
     // Reads a line of words, by its number, behind the version line.
     fn read_words<'a>(&mut self, number: u32, mut words: Words<'a>) -> Result<(), ReadFault>
         requires { IsInForm self.old }
-        ensures declared { Declares result self.new (least_broken (words_rules true self.old words.entry)) (after_words self.old number words.entry) }
+        ensures declared { ReadsWords self.old number words.entry result self.new }
         ensures in_form { OnOk result (IsInForm self.new) }
     {
         let unknown = Err(ReadFault::Line(LineFault { number: WRONG_WORD }));
@@ -203,7 +201,7 @@ impl Reader {
     // Reads the first line of words, which must be the version line.
     fn read_version<'a>(&mut self, words: Words<'a>) -> Result<(), ReadFault>
         requires { IsInForm self.old }
-        ensures declared { Declares result self.new (least_broken (words_rules false self.old words.entry)) (words_after false self.old words.entry) }
+        ensures declared { ReadsVersion self.old words.entry result self.new }
         ensures in_form { OnOk result (IsInForm self.new) }
     {
         if !is_version(words) {
@@ -219,7 +217,7 @@ impl Reader {
     #[tactic(auto, using(crate::proofs::Unbuilt::after_skipped, crate::proofs::Unbuilt::after_version))]
     fn read_entry<'a>(&mut self, number: u32, words: Words<'a>) -> Result<(), ReadFault>
         requires { IsInForm self.old }
-        ensures declared { Declares result self.new (entry_fault self.old words.entry) (after_entry self.old number words.entry) }
+        ensures declared { ReadsEntry self.old number words.entry result self.new }
         ensures in_form { OnOk result (IsInForm self.new) }
     {
         if is_skipped(words.again()) {
@@ -241,7 +239,7 @@ impl Reader {
     ) -> Result<(), ReadFault>
         requires small { before + length line.now < 2 ^ 64 }
         requires in_form { IsInForm self.old }
-        ensures declared { Declares result self.new (line_fault total before self.old line.now) (after_line self.old number line.now) }
+        ensures declared { ReadsLine total before self.old number line.now result self.new }
         ensures in_form { OnOk result (IsInForm self.new) }
     {
         if TEXT_LIMIT < total && before <= TEXT_LIMIT && TEXT_LIMIT <= before + line.len() {

@@ -1,26 +1,29 @@
 -- The slots that channels give a box.
 use Rattle.std.specs.Prelude.{ℕ, ◌+◌, ◌*◌, ◌==◌, Bool, true, false, if◌then◌else◌, List, [], ◌∷◌, ◌++◌, length}
-use Rattle.mc_signal.specs.declared.Medium.{Medium}
 use Rattle.mc_model.specs.Worlds.{ChannelState}
 use Rattle.mc_box.specs.declared.setup.SlotSetup.{SlotSetup}
 use Rattle.mc_model.specs.declared.channel.Tunnel.{Tunnel}
 
 -- a slot, if it is of the box
-abbrev pub setup_if : Bool → ℕ → Medium → Bool → List SlotSetup
-setup_if here s medium initiator = if here then record { origin = s; medium = medium; initiator = initiator } ∷ [] else []
+abbrev pub setup_if : Bool → SlotSetup → List SlotSetup
+setup_if here setup = if here then setup ∷ [] else []
 
 -- the slots of a box at these tunnels of a channel, which are counted from a number on
 abbrev pub setups_within : ℕ → ℕ → ChannelState → List Tunnel → List SlotSetup
 setups_within who count ends [] = []
 setups_within who count ends (tunnel ∷ tunnels) =
-    setup_if (ends.from == who) (2 * count) tunnel.medium true
-    ++ setup_if (ends.to == who) (2 * count + 1) tunnel.medium false
+    setup_if (ends.from == who) (record { origin = 2 * count; medium = tunnel.medium; initiator = true })
+    ++ setup_if (ends.to == who) (record { origin = 2 * count + 1; medium = tunnel.medium; initiator = false })
     ++ setups_within who (count + 1) ends tunnels
+
+-- the slots of a box at a channel, whose tunnels are counted from a number on
+abbrev pub setups_at : ℕ → ℕ → ChannelState → List SlotSetup
+setups_at who count ends = setups_within who count ends ends.tunnels
 
 -- the slots of a box at these channels, whose tunnels are counted from a number on
 abbrev pub setups_from : ℕ → ℕ → List ChannelState → List SlotSetup
 setups_from who count [] = []
-setups_from who count (ends ∷ channels) = setups_within who count ends ends.tunnels ++ setups_from who (count + length ends.tunnels) channels
+setups_from who count (ends ∷ channels) = setups_at who count ends ++ setups_from who (count + length ends.tunnels) channels
 
 -- all slots of a box
 abbrev pub setups_of : List ChannelState → ℕ → List SlotSetup

@@ -1,7 +1,7 @@
 // The new boxes that a plan gives: a slot for each tunnel that leads to a box.
 
 ghost use Rattle.std.specs.Prelude.{◌≡◌, ◌+◌, ◌<◌, ◌≤◌, ◌++◌, ◌^◌, All, IfOk, OnOk, length};
-ghost use Rattle.mc_plan.specs.Setups.{setup_if, setups_of, setups_within};
+ghost use Rattle.mc_plan.specs.Setups.{setup_if, setups_at, setups_of};
 ghost use Rattle.mc_model.specs.Worlds.{HasTunnels};
 ghost use Rattle.mc_plan.specs.LaidOut.{IsLaidOut};
 ghost use Rattle.mc_plan.specs.Plans.{box_from, boxes_from, slots_of};
@@ -77,7 +77,7 @@ fn add_setups(
     list: &mut Vec<SlotSetup>,
 ) -> Result<(), AllocError>
     requires { count + length channel.now.tunnels ≤ 2 ^ 16 }
-    ensures { OnOk result (list.new.items ≡ list.old.items ++ setups_within who count channel.now channel.now.tunnels) }
+    ensures { OnOk result (list.new.items ≡ list.old.items ++ setups_at who count channel.now) }
 {
     for i in 0..channel.tunnels.len() {
         let medium = channel.tunnels[i].medium;
@@ -100,7 +100,7 @@ fn add_setups(
 
 // Adds a slot, if it is of the box.
 fn add_if(here: bool, setup: SlotSetup, list: &mut Vec<SlotSetup>) -> Result<(), AllocError>
-    ensures { OnOk result (list.new.items ≡ list.old.items ++ setup_if here setup.origin setup.medium setup.initiator) }
+    ensures { OnOk result (list.new.items ≡ list.old.items ++ setup_if here setup) }
 {
     if here {
         list.push(setup)?;

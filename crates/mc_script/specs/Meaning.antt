@@ -1,5 +1,5 @@
 -- The command that a line spells.
-use Rattle.std.specs.Prelude.{ℕ, ◌≡◌, ◌++◌, Bool, true, false, List, [], ◌∷◌, Option, Some, None, Result, Ok, Err, codes, drop, slice_index_or}
+use Rattle.std.specs.Prelude.{ℕ, ◌≡◌, ◌++◌, Bool, true, false, List, [], ◌∷◌, Option, Some, None, OnOk, Result, Ok, Err, codes, drop, slice_index_or}
 use Rattle.std.specs.List.{join_with_byte, slice_get}
 use Rattle.std.specs.Option.{option_and_then, option_map}
 use Rattle.mc_slot.specs.declared.Goal.{Goal}
@@ -49,6 +49,10 @@ abbrev pub ReadsAs : {X : Type 0} → Result X LineFault → Option ℕ → Opti
 ReadsAs (Ok x) fault meaning = (fault ≡ None) × (meaning ≡ Some x)
 ReadsAs (Err e) fault meaning = fault ≡ Some e.number
 
+-- the line of a command is refused by the least of these rules that it breaks, and else it is read as what its words spell
+abbrev pub ReadsCommand : NameLists → CommandWord → List (ℕ × Bool) → List (List ℕ) → Result Command LineFault → Type 0
+ReadsCommand names kind rules words result = ReadsAs result (least_broken rules) (command_by names (Some kind) words)
+
 -- ---- the spelling of a command
 
 abbrev pub goal_word : Goal → List ℕ
@@ -78,6 +82,10 @@ event_words names who event = []
 abbrev pub spelt : NameLists → Command → List (List ℕ)
 spelt names (Stimulus turn) = event_words names turn.who turn.event
 spelt names Settle = codes "settle" ∷ []
+
+-- these words are appended, with single spaces, unless memory runs out
+abbrev pub Puts : {E : Type 0} → Result (Unit {0}) E → (before after : List ℕ) → List (List ℕ) → Type 0
+Puts result before after words = OnOk result (after ≡ before ++ join_with_byte 32 words)
 
 -- with single spaces
 abbrev pub spelling : NameLists → Command → List ℕ

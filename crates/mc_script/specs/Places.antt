@@ -6,6 +6,7 @@ use Rattle.mc_text.specs.Spelling.{is_spelt}
 use Rattle.mc_text.specs.declared.limit.TheConstants.{NAME_LIMIT}
 use Rattle.mc_box.specs.BoxShapes.{BoxShapeState, shape_of}
 use Rattle.mc_script.specs.declared.command.LineFault.{LineFault}
+use Rattle.mc_script.specs.declared.rule.TheConstants.{UNDECLARED, WRONG_WORD}
 
 -- names and shapes are of the same boxes, with equally many slots each
 pub record Fits (names : NameLists) (shape : List BoxShapeState) : Type 0 where
@@ -48,6 +49,14 @@ is_no meaning (Some word) = is_none (meaning word)
 -- the value that a word spells
 abbrev pub meant : {X : Type 0} → (List ℕ → Option X) → Option (List ℕ) → Option X
 meant meaning word = option_and_then meaning word
+
+-- the value that a word in a place spells; rule 5 where it spells none
+abbrev pub fixed_word : {X : Type 0} → (List ℕ → Option X) → Option (List ℕ) → Result (Option X) LineFault
+fixed_word meaning word = unless (is_no meaning word) WRONG_WORD (meant meaning word)
+
+-- the number of the name that a word in a place is; rule 4 where the list hasn't the name
+abbrev pub known_name : List (List ℕ) → Option (List ℕ) → Result (Option ℕ) LineFault
+known_name names word = unless (lacks names word) UNDECLARED (meant (place_of names) word)
 
 -- a word stands there, and isn't spelt as a name, whatever its length
 abbrev pub is_misspelt : Option (List ℕ) → Bool

@@ -5,7 +5,7 @@ ghost use Rattle.std.specs.List.{list_any};
 ghost use Rattle.mc_text.specs.Lines.{words};
 ghost use Rattle.mc_script.specs.Places.{Fits};
 ghost use Rattle.mc_script.specs.Rules.{is_plain, byte_rules, kind_rules, least_broken};
-ghost use Rattle.mc_script.specs.Meaning.{command_by, command_of, command_fault, ReadsAs};
+ghost use Rattle.mc_script.specs.Meaning.{command_of, command_fault, ReadsAs, ReadsCommand};
 
 use crate::command::{Command, LineFault};
 use crate::keyword::{CommandWord, command_word};
@@ -47,7 +47,7 @@ pub fn read_kind<'a>(
     words: Words<'a>,
 ) -> Result<Command, LineFault>
     requires { Fits names.now shape.now }
-    ensures { ReadsAs result (least_broken (kind_rules names.now shape.now (Some kind) words.entry)) (command_by names.now (Some kind) words.entry) }
+    ensures { ReadsCommand names.now kind (kind_rules names.now shape.now (Some kind) words.entry) words.entry result }
 {
     match kind {
         CommandWord::Set => set_line(names, words),

@@ -1,12 +1,12 @@
 //! The lines of each kind of command, by the words behind the first.
 
-ghost use Rattle.std.specs.Prelude.{◌≡◌, ◌<◌, MatchResult, length, slice_index_or};
+ghost use Rattle.std.specs.Prelude.{◌≡◌, ◌<◌, MatchResult, length};
 ghost use Rattle.std.specs.List.{slice_get};
-ghost use Rattle.mc_signal.specs.declared.Medium.TheVariants.{Audio};
 ghost use Rattle.mc_slot.specs.Moves.{is_same_medium};
+ghost use Rattle.mc_box.specs.BoxShapes.{slot_medium};
 ghost use Rattle.mc_script.specs.Places.{box_named, slot_named, meant, Fits};
 ghost use Rattle.mc_script.specs.Rules.{least_broken, set_rules, link_rules, media_rules, tell_rules, settle_rules, spelt_switch};
-ghost use Rattle.mc_script.specs.Meaning.{command_by, ReadsAs};
+ghost use Rattle.mc_script.specs.Meaning.{ReadsAs, ReadsCommand};
 
 use crate::command::{Command, LineFault};
 use crate::keyword::CommandWord;
@@ -20,7 +20,7 @@ use mc_text::{FirstWords, Names, Words};
 
 /// Reads `set BOX SLOT GOAL` from the box on.
 pub fn set_line<'a>(names: &Names, words: Words<'a>) -> Result<Command, LineFault>
-    ensures { ReadsAs result (least_broken (set_rules names.now words.entry)) (command_by names.now (Some CommandWord.Set) words.entry) }
+    ensures { ReadsCommand names.now CommandWord.Set (set_rules names.now words.entry) words.entry result }
 {
     let parts = FirstWords::new(words);
     let who = known_box(names, parts.first)?;
@@ -40,7 +40,7 @@ pub fn set_line<'a>(names: &Names, words: Words<'a>) -> Result<Command, LineFaul
 /// Reads `link BOX SLOT SLOT` from the box on, which must be a feature.
 pub fn link_line<'a>(names: &Names, shape: &Shape, words: Words<'a>) -> Result<Command, LineFault>
     requires { Fits names.now shape.now }
-    ensures { ReadsAs result (least_broken (link_rules names.now shape.now words.entry)) (command_by names.now (Some CommandWord.Link) words.entry) }
+    ensures { ReadsCommand names.now CommandWord.Link (link_rules names.now shape.now words.entry) words.entry result }
 {
     let parts = FirstWords::new(words);
     let who = known_box(names, parts.first)?;
@@ -67,7 +67,7 @@ pub fn link_line<'a>(names: &Names, shape: &Shape, words: Words<'a>) -> Result<C
 /// Reads `hear BOX SLOT SWITCH` from the box on, which must be a device.
 pub fn hear_line<'a>(names: &Names, shape: &Shape, words: Words<'a>) -> Result<Command, LineFault>
     requires { Fits names.now shape.now }
-    ensures { ReadsAs result (least_broken (media_rules names.now shape.now words.entry)) (command_by names.now (Some CommandWord.Hear) words.entry) }
+    ensures { ReadsCommand names.now CommandWord.Hear (media_rules names.now shape.now words.entry) words.entry result }
 {
     let switch = switch_line(names, shape, words)?;
     Ok(stimulus(
@@ -79,7 +79,7 @@ pub fn hear_line<'a>(names: &Names, shape: &Shape, words: Words<'a>) -> Result<C
 /// Reads `talk BOX SLOT SWITCH` from the box on, which must be a device.
 pub fn talk_line<'a>(names: &Names, shape: &Shape, words: Words<'a>) -> Result<Command, LineFault>
     requires { Fits names.now shape.now }
-    ensures { ReadsAs result (least_broken (media_rules names.now shape.now words.entry)) (command_by names.now (Some CommandWord.Talk) words.entry) }
+    ensures { ReadsCommand names.now CommandWord.Talk (media_rules names.now shape.now words.entry) words.entry result }
 {
     let switch = switch_line(names, shape, words)?;
     Ok(stimulus(
@@ -91,7 +91,7 @@ pub fn talk_line<'a>(names: &Names, shape: &Shape, words: Words<'a>) -> Result<C
 /// Reads `tell BOX WORD` from the box on, which must have a program.
 pub fn tell_line<'a>(names: &Names, shape: &Shape, words: Words<'a>) -> Result<Command, LineFault>
     requires { Fits names.now shape.now }
-    ensures { ReadsAs result (least_broken (tell_rules names.now shape.now words.entry)) (command_by names.now (Some CommandWord.Tell) words.entry) }
+    ensures { ReadsCommand names.now CommandWord.Tell (tell_rules names.now shape.now words.entry) words.entry result }
 {
     let parts = FirstWords::new(words);
     let who = known_box(names, parts.first)?;
@@ -162,7 +162,7 @@ fn stimulus(who: u32, event: Event) -> Command
 fn are_of_one_medium(shape: &BoxShape, one: u8, other: u8) -> bool
     requires one { one < length shape.now.media }
     requires other { other < length shape.now.media }
-    ensures { result ≡ is_same_medium (slice_index_or shape.now.media one Audio) (slice_index_or shape.now.media other Audio) }
+    ensures { result ≡ is_same_medium (slot_medium shape.now one) (slot_medium shape.now other) }
 {
     shape.media[one as usize] == shape.media[other as usize]
 }

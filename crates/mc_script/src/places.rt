@@ -3,7 +3,7 @@
 ghost use Rattle.std.specs.Prelude.{◌≡◌, ◌<◌, length, IfSome};
 ghost use Rattle.std.specs.Option.{option_copied, ok_or};
 ghost use Rattle.mc_text.specs.NameLists.{place_of, slot_names};
-ghost use Rattle.mc_script.specs.Places.{box_named, is_misspelt, is_no, is_overlong, lacks, meant, unless};
+ghost use Rattle.mc_script.specs.Places.{fixed_word, is_misspelt, is_overlong, known_name, unless};
 ghost use Rattle.mc_script.specs.Rules.{spelt_goal, spelt_switch, is_no_device, is_no_feature, has_no_program};
 
 use crate::command::LineFault;
@@ -15,7 +15,7 @@ use mc_text::{Names, is_spelt};
 
 /// The box that a word names. Fault 4 where no box has the name.
 pub fn known_box(names: &Names, word: Option<&[u8]>) -> Result<Option<u32>, LineFault>
-    ensures { result ≡ unless (lacks names.now.boxes (option_copied word.entry)) UNDECLARED (box_named names.now (option_copied word.entry)) }
+    ensures { result ≡ known_name names.now.boxes (option_copied word.entry) }
 {
     let Some(word) = word else { return Ok(None) };
     match names.find_box(word) {
@@ -26,7 +26,7 @@ pub fn known_box(names: &Names, word: Option<&[u8]>) -> Result<Option<u32>, Line
 
 /// The number of a told word. Fault 4 where no program uses the word.
 pub fn known_told(names: &Names, word: Option<&[u8]>) -> Result<Option<u8>, LineFault>
-    ensures { result ≡ unless (lacks names.now.told (option_copied word.entry)) UNDECLARED (meant (place_of names.now.told) (option_copied word.entry)) }
+    ensures { result ≡ known_name names.now.told (option_copied word.entry) }
 {
     let Some(word) = word else { return Ok(None) };
     match names.find_told(word) {
@@ -50,7 +50,7 @@ pub fn known_slot(names: &Names, who: u32, word: &[u8]) -> Result<u8, LineFault>
 
 /// The goal that a word spells. Fault 5 where it spells none.
 pub fn fixed_goal(word: Option<&[u8]>) -> Result<Option<Goal>, LineFault>
-    ensures { result ≡ unless (is_no spelt_goal (option_copied word.entry)) WRONG_WORD (meant spelt_goal (option_copied word.entry)) }
+    ensures { result ≡ fixed_word spelt_goal (option_copied word.entry) }
 {
     let Some(word) = word else { return Ok(None) };
     match spelt_goal(word) {
@@ -61,7 +61,7 @@ pub fn fixed_goal(word: Option<&[u8]>) -> Result<Option<Goal>, LineFault>
 
 /// Whether a word is `on` and not `off`. Fault 5 where it is neither.
 pub fn fixed_switch(word: Option<&[u8]>) -> Result<Option<bool>, LineFault>
-    ensures { result ≡ unless (is_no spelt_switch (option_copied word.entry)) WRONG_WORD (meant spelt_switch (option_copied word.entry)) }
+    ensures { result ≡ fixed_word spelt_switch (option_copied word.entry) }
 {
     let Some(word) = word else { return Ok(None) };
     match spelt_switch(word) {

@@ -1,8 +1,7 @@
 //! Commands as text.
 
 ghost use Rattle.std.specs.Prelude.{◌≡◌, ◌++◌, [], ◌∷◌, length, take, OnOk, OnErr};
-ghost use Rattle.std.specs.List.{join_with_byte};
-ghost use Rattle.mc_script.specs.Meaning.{event_words, goal_word, switch_word, spelling};
+ghost use Rattle.mc_script.specs.Meaning.{Puts, event_words, goal_word, switch_word, spelling};
 ghost use Rattle.mc_script.specs.Printed.{IsNamed, IsNamedEvent, IsFoundCommand, IsFoundEvent};
 
 use crate::command::Command;
@@ -44,7 +43,7 @@ fn put_command(names: &Names, command: &Command, out: &mut Vec<u8>) -> Result<()
 
 fn put_turn(names: &Names, turn: Turn, out: &mut Vec<u8>) -> Result<(), AllocError>
     requires { IsNamedEvent names.now turn.who turn.event }
-    ensures printed { OnOk result (out.new.items ≡ out.old.items ++ join_with_byte 32 (event_words names.now turn.who turn.event)) }
+    ensures printed { Puts result out.old.items out.new.items (event_words names.now turn.who turn.event) }
     ensures before { take (length out.old.items) out.new.items ≡ out.old.items }
     ensures found { IsFoundEvent names.now turn.who turn.event }
 {
@@ -90,7 +89,7 @@ fn put_four(
     fourth: &[u8],
     out: &mut Vec<u8>,
 ) -> Result<(), AllocError>
-    ensures printed { OnOk result (out.new.items ≡ out.old.items ++ join_with_byte 32 (first.now ∷ second.now ∷ third.now ∷ fourth.now ∷ [])) }
+    ensures printed { Puts result out.old.items out.new.items (first.now ∷ second.now ∷ third.now ∷ fourth.now ∷ []) }
     ensures before { take (length out.old.items) out.new.items ≡ out.old.items }
 {
     put_three(first, second, third, out)?;
@@ -98,7 +97,7 @@ fn put_four(
 }
 
 fn put_three(first: &[u8], second: &[u8], third: &[u8], out: &mut Vec<u8>) -> Result<(), AllocError>
-    ensures printed { OnOk result (out.new.items ≡ out.old.items ++ join_with_byte 32 (first.now ∷ second.now ∷ third.now ∷ [])) }
+    ensures printed { Puts result out.old.items out.new.items (first.now ∷ second.now ∷ third.now ∷ []) }
     ensures before { take (length out.old.items) out.new.items ≡ out.old.items }
 {
     out.extend_from_slice(first)?;

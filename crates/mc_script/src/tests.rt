@@ -12,7 +12,8 @@ use std::alloc::{AllocError, Global};
 
 // A device `alice` with a slot `a`, and a feature `f` with a slot `w`.
 fn example_names(alloc: Global) -> Result<Names, NameFault>
-    ensures { IfOk result (λ names. (length names.boxes ≡ 2) × (length (slot_names names 0) ≡ 1) × (length (slot_names names 1) ≡ 1)) }
+    ensures boxes { IfOk result (λ names. length names.boxes ≡ 2) }
+    ensures slots { IfOk result (λ names. (length (slot_names names 0) ≡ 1) × (length (slot_names names 1) ≡ 1)) }
 {
     let mut names = Names::new(alloc);
     names.add_box(b"alice")?;
@@ -35,7 +36,9 @@ fn one_slot(alloc: Global, kind: Kind) -> Result<BoxShape, AllocError>
 }
 
 fn example_shape(alloc: Global) -> Result<Shape, AllocError>
-    ensures { IfOk result (λ shape. (length shape ≡ 2) × (length (shape_of shape 0).media ≡ 1) × (length (shape_of shape 1).media ≡ 1)) }
+    ensures boxes { IfOk result (λ shape. length shape ≡ 2) }
+    ensures first { IfOk result (λ shape. length (shape_of shape 0).media ≡ 1) }
+    ensures second { IfOk result (λ shape. length (shape_of shape 1).media ≡ 1) }
 {
     let mut boxes = Vec::new(alloc);
     boxes.push(one_slot(alloc, Kind::Device)?)?;

@@ -1,20 +1,17 @@
 //! Lines that declare boxes.
 
-ghost use Rattle.std.specs.Prelude.{◌≡◌, IfOk, IsTrue, OnOk, drop};
-ghost use Rattle.std.specs.List.{slice_get};
+ghost use Rattle.std.specs.Prelude.{◌≡◌, IfOk, IsTrue, OnOk};
 ghost use Rattle.mc_text.specs.Spelling.{is_name};
-ghost use Rattle.mc_script.specs.Rules.{least_broken};
 ghost use Rattle.mc_net.specs.BoxLines.{box_seen, device_seen};
 ghost use Rattle.mc_net.specs.Forms.{IsInForm};
-ghost use Rattle.mc_net.specs.Meaning.{device_after, feature_after, with_new_box};
-ghost use Rattle.mc_program.specs.Readings.{Declares, ReadsAsBy};
-ghost use Rattle.mc_net.specs.Rules.{device_rules, feature_rules};
+ghost use Rattle.mc_net.specs.Meaning.{with_new_box, with_new_feature};
+ghost use Rattle.mc_net.specs.LineReadings.{ReadsKind, SpellsKind};
 
 use crate::codec_words::{
     codec_words, has_bad_version, is_overfull, listed, lists_undeclared, version_of,
 };
 use crate::reader::Reader;
-use crate::section::Section;
+use crate::section::{Keyword, Section};
 use mc_box::{BoxShape, Kind};
 use mc_plan::BoxPlan;
 use mc_program::ReadFault;
@@ -40,7 +37,7 @@ pub struct DeviceLine<'a> {
 impl Reader {
     // What a `dev` line declares.
     fn device_line<'a>(&self, mut words: Words<'a>) -> Result<DeviceLine<'a>, LineFault>
-        ensures read { ReadsAsBy (device_seen self.now) result (least_broken (device_rules self.now words.entry)) (device_after self.now words.entry) }
+        ensures read { SpellsKind (device_seen self.now) self.now Keyword.Dev words.entry result }
         ensures named { IfOk result (λ line. IsTrue (is_name line.name.now)) }
     {
         let name = words.next_word();
@@ -92,7 +89,7 @@ impl Reader {
     /// Reads `dev NAME CODEC CODEC ..` or `dev NAME VERSION CODEC CODEC ..` from the name on.
     pub fn read_device<'a>(&mut self, words: Words<'a>) -> Result<(), ReadFault>
         requires { IsInForm self.old }
-        ensures declared { Declares result self.new (least_broken (device_rules self.old words.entry)) (device_after self.old words.entry) }
+        ensures declared { ReadsKind self.old Keyword.Dev words.entry result self.new }
         ensures in_form { OnOk result (IsInForm self.new) }
     {
         let line = self.device_line(words)?;
@@ -102,7 +99,7 @@ impl Reader {
 
     // The name that a `feat` line declares.
     fn feature_line<'a>(&self, words: Words<'a>) -> Result<&'a [u8], LineFault>
-        ensures read { ReadsAsBy (λ name. name.now) result (least_broken (feature_rules self.now words.entry)) (slice_get words.entry 0) }
+        ensures read { SpellsKind (λ name. with_new_feature self.now name.now) self.now Keyword.Feat words.entry result }
         ensures named { IfOk result (λ name. IsTrue (is_name name.now)) }
     {
         let parts = FirstWords::new(words);
@@ -138,7 +135,7 @@ impl Reader {
     /// Reads `feat NAME` from the name on.
     pub fn read_feature<'a>(&mut self, words: Words<'a>) -> Result<(), ReadFault>
         requires { IsInForm self.old }
-        ensures declared { Declares result self.new (least_broken (feature_rules self.old words.entry)) (feature_after self.old words.entry) }
+        ensures declared { ReadsKind self.old Keyword.Feat words.entry result self.new }
         ensures in_form { OnOk result (IsInForm self.new) }
     {
         let name = self.feature_line(words)?;

@@ -4,16 +4,14 @@ ghost use Rattle.std.specs.Prelude.{◌≡◌, ◌<◌, IfOk, IsTrue, OnOk, leng
 ghost use Rattle.std.specs.Option.{is_some};
 ghost use Rattle.mc_text.specs.NameLists.{place_of, slot_names};
 ghost use Rattle.mc_text.specs.Spelling.{is_name};
-ghost use Rattle.mc_script.specs.Rules.{least_broken};
 ghost use Rattle.mc_net.specs.BoxLines.{CanJoin, channel_seen, may_join};
 ghost use Rattle.mc_net.specs.Forms.{IsInForm};
-ghost use Rattle.mc_net.specs.Meaning.{channel_after, with_new_channel, with_medium, with_new_slot};
-ghost use Rattle.mc_program.specs.Readings.{Declares, ReadsAsBy};
-ghost use Rattle.mc_net.specs.Rules.{channel_rules};
+ghost use Rattle.mc_net.specs.Meaning.{with_new_channel, with_medium, with_new_slot};
+ghost use Rattle.mc_net.specs.LineReadings.{ReadsKind, SpellsKind};
 
 use crate::places::fixed_medium;
 use crate::reader::Reader;
-use crate::section::Section;
+use crate::section::{Keyword, Section};
 use mc_box::Shape;
 use mc_plan::PlanFault;
 use mc_program::ReadFault;
@@ -41,7 +39,7 @@ impl Reader {
     #[tactic(auto, using(crate::proofs::Missing::no_word_without_box, crate::proofs::Missing::no_fifth_without_second, crate::proofs::Missing::no_fifth_without_third, crate::proofs::Missing::no_fifth_without_fourth))]
     fn channel_line<'a>(&self, words: Words<'a>) -> Result<ChannelLine<'a>, LineFault>
         requires { IsInForm self.now }
-        ensures read { ReadsAsBy (channel_seen self.now) result (least_broken (channel_rules self.now words.entry)) (channel_after self.now words.entry) }
+        ensures read { SpellsKind (channel_seen self.now) self.now Keyword.Chan words.entry result }
         ensures can_join { IfOk result (CanJoin self.now) }
     {
         let parts = FirstWords::new(words);
@@ -115,7 +113,7 @@ impl Reader {
     /// Reads `chan MEDIUM BOX SLOT BOX SLOT` from the medium on.
     pub fn read_channel<'a>(&mut self, words: Words<'a>) -> Result<(), ReadFault>
         requires { IsInForm self.old }
-        ensures declared { Declares result self.new (least_broken (channel_rules self.old words.entry)) (channel_after self.old words.entry) }
+        ensures declared { ReadsKind self.old Keyword.Chan words.entry result self.new }
         ensures in_form { OnOk result (IsInForm self.new) }
     {
         let line = self.channel_line(words)?;

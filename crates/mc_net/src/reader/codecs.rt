@@ -1,16 +1,13 @@
 //! Lines that declare codecs.
 
-ghost use Rattle.std.specs.Prelude.{◌≡◌, IfOk, IsTrue, OnOk};
-ghost use Rattle.std.specs.List.{slice_get};
+ghost use Rattle.std.specs.Prelude.{IfOk, IsTrue, OnOk};
 ghost use Rattle.mc_text.specs.Spelling.{is_name};
-ghost use Rattle.mc_script.specs.Rules.{least_broken};
 ghost use Rattle.mc_net.specs.Forms.{IsInForm};
-ghost use Rattle.mc_net.specs.Meaning.{codec_after};
-ghost use Rattle.mc_program.specs.Readings.{Declares, ReadsAsBy};
-ghost use Rattle.mc_net.specs.Rules.{codec_rules};
+ghost use Rattle.mc_net.specs.Meaning.{with_new_codec};
+ghost use Rattle.mc_net.specs.LineReadings.{ReadsKind, SpellsKind};
 
 use crate::reader::Reader;
-use crate::section::Section;
+use crate::section::{Keyword, Section};
 use mc_program::ReadFault;
 use mc_script::LineFault;
 use mc_script::places::{is_misspelt, is_overlong};
@@ -24,7 +21,7 @@ use std::alloc::AllocError;
 impl Reader {
     // The name that a `codec` line declares.
     fn codec_line<'a>(&self, words: Words<'a>) -> Result<&'a [u8], LineFault>
-        ensures read { ReadsAsBy (λ name. name.now) result (least_broken (codec_rules self.now words.entry)) (slice_get words.entry 0) }
+        ensures read { SpellsKind (λ name. with_new_codec self.now name.now) self.now Keyword.Codec words.entry result }
         ensures named { IfOk result (λ name. IsTrue (is_name name.now)) }
     {
         let parts = FirstWords::new(words);
@@ -60,7 +57,7 @@ impl Reader {
     /// Reads `codec NAME` from the name on.
     pub fn read_codec<'a>(&mut self, words: Words<'a>) -> Result<(), ReadFault>
         requires { IsInForm self.old }
-        ensures declared { Declares result self.new (least_broken (codec_rules self.old words.entry)) (codec_after self.old words.entry) }
+        ensures declared { ReadsKind self.old Keyword.Codec words.entry result self.new }
         ensures in_form { OnOk result (IsInForm self.new) }
     {
         let name = self.codec_line(words)?;

@@ -1,16 +1,14 @@
 //! The line `begin`, and commands.
 
-ghost use Rattle.std.specs.Prelude.{◌≡◌, OnOk, Some};
-ghost use Rattle.mc_script.specs.Rules.{least_broken};
-ghost use Rattle.mc_script.specs.Meaning.{ReadsAs, command_by};
+ghost use Rattle.std.specs.Prelude.{OnOk};
+ghost use Rattle.mc_script.specs.Meaning.{ReadsCommand};
 ghost use Rattle.mc_net.specs.Forms.{IsInForm};
-ghost use Rattle.mc_net.specs.Meaning.{begin_after, command_after};
-ghost use Rattle.mc_program.specs.Readings.{Declares};
-ghost use Rattle.mc_net.specs.Rules.{begin_rules, command_line_rules};
+ghost use Rattle.mc_net.specs.LineReadings.{ReadsCommandLine, ReadsKind};
+ghost use Rattle.mc_net.specs.Rules.{command_line_rules};
 
 use crate::limit::COMMAND_LIMIT;
 use crate::reader::Reader;
-use crate::section::Section;
+use crate::section::{Keyword, Section};
 use mc_program::ReadFault;
 use mc_script::keyword::CommandWord;
 use mc_script::rule::{EXTRA_WORD, LIMIT_PASSED, UNFINISHED, WRONG_WORD};
@@ -21,7 +19,7 @@ impl Reader {
     /// Reads `begin`, behind which no word stands.
     pub fn read_begin<'a>(&mut self, mut words: Words<'a>) -> Result<(), ReadFault>
         requires { IsInForm self.old }
-        ensures declared { Declares result self.new (least_broken (begin_rules self.old words.entry)) (Some (begin_after self.old)) }
+        ensures declared { ReadsKind self.old Keyword.Begin words.entry result self.new }
         ensures in_form { OnOk result (IsInForm self.new) }
     {
         if self.is_late(Section::Begin) {
@@ -42,7 +40,7 @@ impl Reader {
     #[tactic(auto, using(crate::proofs::FirstBroken::of_the_first, crate::proofs::FirstBroken::of_the_others))]
     fn command_line<'a>(&self, kind: CommandWord, words: Words<'a>) -> Result<Command, LineFault>
         requires { IsInForm self.now }
-        ensures { ReadsAs result (least_broken (command_line_rules self.now kind words.entry)) (command_by self.now.names (Some kind) words.entry) }
+        ensures { ReadsCommand self.now.names kind (command_line_rules self.now kind words.entry) words.entry result }
     {
         let command = read_kind(&self.names, &self.shape, kind, words)?;
         if COMMAND_LIMIT <= self.commands.len() {
@@ -59,7 +57,7 @@ impl Reader {
     /// Reads a command of a kind, by the words behind the first.
     pub fn read_command<'a>(&mut self, kind: CommandWord, words: Words<'a>) -> Result<(), ReadFault>
         requires { IsInForm self.old }
-        ensures declared { Declares result self.new (least_broken (command_line_rules self.old kind words.entry)) (command_after self.old kind words.entry) }
+        ensures declared { ReadsCommandLine self.old kind words.entry result self.new }
         ensures in_form { OnOk result (IsInForm self.new) }
     {
         let command = self.command_line(kind, words)?;

@@ -1,11 +1,9 @@
 //! Lines of programs.
 
-ghost use Rattle.std.specs.Prelude.{◌≡◌, ◌<◌, OnOk, Some, length};
-ghost use Rattle.mc_script.specs.Rules.{least_broken};
+ghost use Rattle.std.specs.Prelude.{◌≡◌, ◌<◌, OnOk, length};
 ghost use Rattle.mc_net.specs.Forms.{IsInForm};
-ghost use Rattle.mc_net.specs.Meaning.{after_by, with_program};
-ghost use Rattle.mc_program.specs.Readings.{Declares};
-ghost use Rattle.mc_net.specs.Rules.{rules_by};
+ghost use Rattle.mc_net.specs.Meaning.{with_program};
+ghost use Rattle.mc_net.specs.LineReadings.{ReadsKind};
 
 use crate::reader::Reader;
 use crate::section::{Keyword, Section};
@@ -20,7 +18,7 @@ impl Reader {
     /// Reads `prog BOX STATE STATE ..` from the box on.
     pub fn read_program<'a>(&mut self, mut words: Words<'a>) -> Result<(), ReadFault>
         requires { IsInForm self.old }
-        ensures declared { Declares result self.new (least_broken (rules_by self.old (Some Keyword.Prog) words.entry)) (after_by self.old (Some Keyword.Prog) words.entry) }
+        ensures declared { ReadsKind self.old Keyword.Prog words.entry result self.new }
         ensures in_form { OnOk result (IsInForm self.new) }
     {
         let late = self.is_late(Section::Programs);
@@ -42,7 +40,7 @@ impl Reader {
     /// Reads `state NAME` from the name on.
     pub fn read_state<'a>(&mut self, words: Words<'a>) -> Result<(), ReadFault>
         requires { IsInForm self.old }
-        ensures declared { Declares result self.new (least_broken (rules_by self.old (Some Keyword.State) words.entry)) (after_by self.old (Some Keyword.State) words.entry) }
+        ensures declared { ReadsKind self.old Keyword.State words.entry result self.new }
         ensures in_form { OnOk result (IsInForm self.new) }
     {
         let late = self.is_late(Section::Programs);
@@ -56,7 +54,7 @@ impl Reader {
     /// Reads `goal SLOT GOAL` from the slot on, which must stand in a part.
     pub fn read_goal<'a>(&mut self, words: Words<'a>) -> Result<(), ReadFault>
         requires { IsInForm self.old }
-        ensures declared { Declares result self.new (least_broken (rules_by self.old (Some Keyword.Goal) words.entry)) (after_by self.old (Some Keyword.Goal) words.entry) }
+        ensures declared { ReadsKind self.old Keyword.Goal words.entry result self.new }
         ensures in_form { OnOk result (IsInForm self.new) }
     {
         match (self.section, self.blocks.last_mut()) {
@@ -68,7 +66,7 @@ impl Reader {
     /// Reads `when is ..` or `when told ..` from the second word on, which must stand in a part.
     pub fn read_when<'a>(&mut self, words: Words<'a>) -> Result<(), ReadFault>
         requires { IsInForm self.old }
-        ensures declared { Declares result self.new (least_broken (rules_by self.old (Some Keyword.When) words.entry)) (after_by self.old (Some Keyword.When) words.entry) }
+        ensures declared { ReadsKind self.old Keyword.When words.entry result self.new }
         ensures in_form { OnOk result (IsInForm self.new) }
     {
         match (self.section, self.blocks.last_mut()) {
@@ -80,7 +78,7 @@ impl Reader {
     /// Reads `link ..` from the second word on: in the programs a part's line, and else a command.
     pub fn read_link<'a>(&mut self, words: Words<'a>) -> Result<(), ReadFault>
         requires { IsInForm self.old }
-        ensures declared { Declares result self.new (least_broken (rules_by self.old (Some Keyword.Link) words.entry)) (after_by self.old (Some Keyword.Link) words.entry) }
+        ensures declared { ReadsKind self.old Keyword.Link words.entry result self.new }
         ensures in_form { OnOk result (IsInForm self.new) }
     {
         match self.section {
@@ -93,7 +91,7 @@ impl Reader {
     fn read_part_link<'a>(&mut self, words: Words<'a>) -> Result<(), ReadFault>
         requires in_form { IsInForm self.old }
         requires programs { self.old.section ≡ Section.Programs }
-        ensures declared { Declares result self.new (least_broken (rules_by self.old (Some Keyword.Link) words.entry)) (after_by self.old (Some Keyword.Link) words.entry) }
+        ensures declared { ReadsKind self.old Keyword.Link words.entry result self.new }
         ensures in_form { OnOk result (IsInForm self.new) }
     {
         match self.blocks.last_mut() {
