@@ -11,7 +11,7 @@ use Rattle.mc_script.specs.declared.command.LineFault.{LineFault}
 use Rattle.mc_script.specs.declared.rule.TheConstants.{LIMIT_PASSED, SAME_BOX}
 use Rattle.mc_net.specs.Meaning.{with_joined, with_new_box}
 use Rattle.mc_net.specs.SoFar.{Declared, DeclaredBox}
-use Rattle.mc_net.specs.declared.limit.TheConstants.{CHANNEL_LIMIT}
+use Rattle.mc_plan.specs.declared.limit.TheConstants.{CHANNEL_LIMIT}
 use Rattle.mc_net.specs.declared.reader.boxes.DeviceLine.{DeviceLine}
 use Rattle.mc_net.specs.declared.reader.channels.ChannelLine.{ChannelLine}
 

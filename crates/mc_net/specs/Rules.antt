@@ -22,7 +22,8 @@ use Rattle.mc_net.specs.declared.section.Keyword.{Keyword}
 use Rattle.mc_net.specs.declared.section.Keyword.TheVariants as keyword
 use Rattle.mc_net.specs.declared.section.Section.{Section}
 use Rattle.mc_net.specs.declared.section.Section.TheVariants as section
-use Rattle.mc_net.specs.declared.limit.TheConstants.{CHANNEL_LIMIT, COMMAND_LIMIT, LIST_LIMIT, TEXT_LIMIT}
+use Rattle.mc_plan.specs.declared.limit.TheConstants.{CHANNEL_LIMIT}
+use Rattle.mc_net.specs.declared.limit.TheConstants.{COMMAND_LIMIT, LIST_LIMIT, TEXT_LIMIT}
 
 -- ---- limits
 

@@ -6,8 +6,5 @@ pub const TEXT_LIMIT: usize = 1_048_576;
 /// The most codecs of a `dev` line.
 pub const LIST_LIMIT: u8 = 8;
 
-/// The most channels.
-pub const CHANNEL_LIMIT: usize = 1024;
-
 /// The most commands, settles included.
 pub const COMMAND_LIMIT: usize = 4096;

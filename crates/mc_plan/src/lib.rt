@@ -1,4 +1,4 @@
-//! Networks that are laid out by hand: boxes and the channels between them, and their first world.
+//! Networks as they are laid out: boxes and the channels between them, and their first world.
 #![tactic(auto)]
 
 mod boxes;
