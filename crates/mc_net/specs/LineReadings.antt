@@ -1,23 +1,62 @@
 -- What reading a line of a text answers, by the kind of line: what it declares is declared now, or it is refused by the least number of the rules that it breaks.
-use Rattle.std.specs.Prelude.{ℕ, true, false, List, Some, Result}
-use Rattle.mc_program.specs.Readings.{Declares, ReadsAsBy}
+use Rattle.std.specs.Prelude.{ℕ, ◌≡◌, Bool, true, false, if◌then◌else◌, List, [], ◌∷◌, length, nat_le, Option, Some, Result, Ok, Err}
+use Rattle.std.specs.Option.{is_some}
+use Rattle.mc_text.specs.NameLists.{place_of}
+use Rattle.mc_text.specs.declared.limit.TheConstants.{BOX_LIMIT, CODEC_LIMIT}
+use Rattle.mc_program.specs.Readings.{Declares}
 use Rattle.mc_program.specs.declared.fault.ReadFault.{ReadFault}
+use Rattle.mc_script.specs.Places.{is_overlong}
 use Rattle.mc_script.specs.Rules.{least_broken}
+use Rattle.mc_script.specs.declared.rule.TheConstants.{GIVEN_TWICE, LIMIT_PASSED, NAME_TOO_LONG}
 use Rattle.mc_script.specs.declared.command.LineFault.{LineFault}
 use Rattle.mc_script.specs.declared.keyword.CommandWord.{CommandWord}
-use Rattle.mc_net.specs.Meaning.{after_by, command_after, words_after}
+use Rattle.mc_net.specs.Meaning.{after_by, command_after, with_new_box, with_new_codec, words_after}
 use Rattle.mc_net.specs.Rules.{command_line_rules, entry_fault, line_fault, rules_by, words_rules}
-use Rattle.mc_net.specs.SoFar.{Declared}
+use Rattle.mc_net.specs.SoFar.{Declared, DeclaredBox}
 use Rattle.mc_net.specs.Texts.{after_entry, after_line, after_words}
+use Rattle.mc_net.specs.declared.reader.boxes.DeviceLine.{DeviceLine}
 use Rattle.mc_net.specs.declared.section.Keyword.{Keyword}
 
+-- a line is refused by its fault, and else these rules are left to ask of what it spells, seen by a view
+abbrev pub LeavesRules : {X Y : Type 0} → (X → Y) → (X → List (ℕ × Bool)) → Result X LineFault → Option ℕ → Option Y → Type 0
+LeavesRules view rules (Ok x) fault meaning = (fault ≡ least_broken (rules x)) × (meaning ≡ Some (view x))
+LeavesRules view rules (Err e) fault meaning = fault ≡ Some e.number
+
 -- a line of this kind, whose words are those behind the first, spells something, seen as what is declared after it
-abbrev pub SpellsKind : {X : Type 0} → (X → Declared) → Declared → Keyword → List (List ℕ) → Result X LineFault → Type 0
-SpellsKind view d kind words result = ReadsAsBy view result (least_broken (rules_by d (Some kind) words)) (after_by d (Some kind) words)
+abbrev pub SpellsKind : {X : Type 0} → (X → Declared) → (X → List (ℕ × Bool)) → Declared → Keyword → List (List ℕ) → Result X LineFault → Type 0
+SpellsKind view rules d kind words result = LeavesRules view rules result (least_broken (rules_by d (Some kind) words)) (after_by d (Some kind) words)
+
+-- the rules on a name that comes last in a list: none is the same, there is room, and it isn't too long
+abbrev pub name_rules : List (List ℕ) → ℕ → List ℕ → List (ℕ × Bool)
+name_rules names limit name = (GIVEN_TWICE, is_some (place_of names name)) ∷ (LIMIT_PASSED, nat_le limit (length names)) ∷ (NAME_TOO_LONG, is_overlong (Some name)) ∷ []
+
+-- the first of them that a name breaks which is too long
+abbrev pub overlong : (used full : Bool) → ℕ
+overlong used full = if used then GIVEN_TWICE else (if full then LIMIT_PASSED else NAME_TOO_LONG)
+
+-- the name of a codec may be the last
+abbrev pub codec_name_rules : Declared → List ℕ → List (ℕ × Bool)
+codec_name_rules d name = name_rules d.names.codecs CODEC_LIMIT name
+
+-- the name of a box may be the last
+abbrev pub box_name_rules : Declared → List ℕ → List (ℕ × Bool)
+box_name_rules d name = name_rules d.names.boxes BOX_LIMIT name
+
+-- the name on the line of a device may be the last
+abbrev pub device_name_rules : Declared → DeviceLine → List (ℕ × Bool)
+device_name_rules d line = box_name_rules d line.name.now
 
 -- a line of this kind is read
 abbrev pub ReadsKind : Declared → Keyword → List (List ℕ) → Result (Unit {0}) ReadFault → Declared → Type 0
 ReadsKind d kind words result now = Declares result now (least_broken (rules_by d (Some kind) words)) (after_by d (Some kind) words)
+
+-- a box of this name is
+abbrev pub ReadsBox : Declared → List ℕ → DeclaredBox → Result (Unit {0}) ReadFault → Declared → Type 0
+ReadsBox d name declared result now = Declares result now (least_broken (box_name_rules d name)) (Some (with_new_box d name declared))
+
+-- a codec of this name is
+abbrev pub ReadsCodec : Declared → List ℕ → Result (Unit {0}) ReadFault → Declared → Type 0
+ReadsCodec d name result now = Declares result now (least_broken (codec_name_rules d name)) (Some (with_new_codec d name))
 
 -- the line of a command is, outside programs
 abbrev pub ReadsCommandLine : Declared → CommandWord → List (List ℕ) → Result (Unit {0}) ReadFault → Declared → Type 0

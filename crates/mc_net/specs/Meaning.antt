@@ -35,14 +35,13 @@ codec_after d words = option_map (with_new_codec d) (slice_get words 0)
 abbrev pub new_shape : Kind → BoxShapeState
 new_shape kind = record { kind = kind; media = []; programmed = false }
 
--- a box with the next number
+-- a box comes last
+abbrev pub with_planned : Declared → DeclaredBox → Declared
+with_planned d declared = record d { shape = d.shape ++ new_shape declared.kind ∷ []; boxes = d.boxes ++ declared ∷ [] }
+
+-- a box with the next number, and its name
 abbrev pub with_new_box : Declared → List ℕ → DeclaredBox → Declared
-with_new_box d name declared = record d {
-  section = section.Boxes;
-  names = with_box_name d.names name;
-  shape = d.shape ++ new_shape declared.kind ∷ [];
-  boxes = d.boxes ++ declared ∷ [];
-}
+with_new_box d name declared = record (with_planned d declared) { section = section.Boxes; names = with_box_name d.names name }
 
 -- the version that a `dev` line gives, and else 1
 abbrev pub version_of : List (List ℕ) → ℕ

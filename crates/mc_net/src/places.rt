@@ -3,10 +3,12 @@
 ghost use Rattle.std.specs.Prelude.{◌≡◌};
 ghost use Rattle.std.specs.Option.{option_copied};
 ghost use Rattle.mc_script.specs.Places.{fixed_word};
+ghost use Rattle.mc_net.specs.LineReadings.{overlong};
 ghost use Rattle.mc_net.specs.Rules.{begins_digit, begins_hash, is_skipped, is_version, spelt_medium};
 
+use mc_program::ReadFault;
 use mc_script::LineFault;
-use mc_script::rule::WRONG_WORD;
+use mc_script::rule::{GIVEN_TWICE, LIMIT_PASSED, NAME_TOO_LONG, WRONG_WORD};
 use mc_signal::Medium;
 use mc_text::Words;
 
@@ -74,4 +76,18 @@ pub fn is_version<'a>(mut words: Words<'a>) -> bool
         return false;
     };
     first == b"media".as_slice() && second == b"1".as_slice()
+}
+
+/// The fault of a name that is too long to be added to a list: what is asked of a name before its length comes first.
+pub fn overlong(used: bool, full: bool) -> ReadFault
+    ensures { result ≡ ReadFault.Line (record { number = overlong used full }) }
+{
+    let number = if used {
+        GIVEN_TWICE
+    } else if full {
+        LIMIT_PASSED
+    } else {
+        NAME_TOO_LONG
+    };
+    ReadFault::Line(LineFault { number })
 }

@@ -1,13 +1,17 @@
 -- What reading a line answers.
 use Rattle.std.specs.Prelude.{ℕ, ◌≡◌, Option, Some, None, Result, Ok, Err}
+use Rattle.mc_text.specs.declared.name_fault.NameFault.{NameFault}
+use Rattle.mc_text.specs.declared.name_fault.NameFault.TheVariants.{Used, TooMany, NoMemory as OutOfMemory}
 use Rattle.mc_script.specs.declared.command.LineFault.{LineFault}
+use Rattle.mc_script.specs.declared.rule.TheConstants.{GIVEN_TWICE, LIMIT_PASSED}
 use Rattle.mc_program.specs.declared.fault.ReadFault.{ReadFault}
 use Rattle.mc_program.specs.declared.fault.ReadFault.TheVariants.{Line, NoMemory}
 
--- a line is refused by its fault, and else it is read as what it spells, seen by a view
-abbrev pub ReadsAsBy : {X Y : Type 0} → (X → Y) → Result X LineFault → Option ℕ → Option Y → Type 0
-ReadsAsBy view (Ok x) fault meaning = (fault ≡ None) × (meaning ≡ Some (view x))
-ReadsAsBy view (Err e) fault meaning = fault ≡ Some e.number
+-- why a line isn't taken whose name can't be added
+abbrev pub name_refusal : NameFault → ReadFault
+name_refusal Used = Line (record { number = GIVEN_TWICE })
+name_refusal TooMany = Line (record { number = LIMIT_PASSED })
+name_refusal (OutOfMemory e) = NoMemory e
 
 -- a line is refused by its fault, and else there is now what it makes
 abbrev pub Makes : {X : Type 0} → Result (Unit {0}) LineFault → X → Option ℕ → Option X → Type 0

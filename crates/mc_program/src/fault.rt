@@ -1,9 +1,12 @@
 // Why a line isn't taken.
 
 ghost use Rattle.std.specs.Prelude.{◌≡◌, alloc_error};
+ghost use Rattle.mc_program.specs.Readings.{name_refusal};
 ghost use Rattle.mc_program.specs.declared.fault.ReadFault.TheVariants as read;
 
 use mc_script::LineFault;
+use mc_script::rule::{GIVEN_TWICE, LIMIT_PASSED};
+use mc_text::NameFault;
 use std::alloc::{AllocError, AllocFailed};
 
 /// Why a line isn't taken: the rule that it breaks, or want of memory.
@@ -36,5 +39,21 @@ impl<T: Drop> From<AllocFailed<T>> for ReadFault {
 
     fn from(e: AllocFailed<T>) -> Self {
         ReadFault::NoMemory(AllocError::from(e))
+    }
+}
+
+impl From<NameFault> for ReadFault {
+    ghost from_gives = { λ e fault. fault ≡ name_refusal e };
+
+    fn from(e: NameFault) -> Self {
+        match e {
+            NameFault::Used => ReadFault::Line(LineFault {
+                number: GIVEN_TWICE,
+            }),
+            NameFault::TooMany => ReadFault::Line(LineFault {
+                number: LIMIT_PASSED,
+            }),
+            NameFault::NoMemory(e) => ReadFault::NoMemory(e),
+        }
     }
 }

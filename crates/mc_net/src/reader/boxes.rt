@@ -1,15 +1,16 @@
 //! Lines that declare boxes.
 
 ghost use Rattle.std.specs.Prelude.{◌≡◌, IfOk, IsTrue, OnOk};
-ghost use Rattle.mc_text.specs.Spelling.{is_name};
+ghost use Rattle.mc_text.specs.Spelling.{is_spelt};
 ghost use Rattle.mc_net.specs.BoxLines.{box_seen, device_seen};
 ghost use Rattle.mc_net.specs.Forms.{IsInForm};
-ghost use Rattle.mc_net.specs.Meaning.{with_new_box, with_new_feature};
-ghost use Rattle.mc_net.specs.LineReadings.{ReadsKind, SpellsKind};
+ghost use Rattle.mc_net.specs.Meaning.{with_planned};
+ghost use Rattle.mc_net.specs.LineReadings.{ReadsBox, ReadsKind, SpellsKind, device_name_rules};
 
 use crate::codec_words::{
     codec_words, has_bad_version, is_overfull, listed, lists_undeclared, version_of,
 };
+use crate::places::overlong;
 use crate::reader::Reader;
 use crate::section::{Keyword, Section};
 use mc_box::{BoxShape, Kind};
@@ -19,8 +20,7 @@ use mc_program::word_list::has_repeat;
 use mc_script::LineFault;
 use mc_script::places::{is_misspelt, is_overlong};
 use mc_script::rule::{
-    EXTRA_WORD, GIVEN_TWICE, LIMIT_PASSED, MISSING_WORD, NAME_TOO_LONG, UNDECLARED, WRONG_VERSION,
-    WRONG_WORD,
+    EXTRA_WORD, GIVEN_TWICE, LIMIT_PASSED, MISSING_WORD, UNDECLARED, WRONG_VERSION, WRONG_WORD,
 };
 use mc_signal::CodecList;
 use mc_text::limit::BOX_LIMIT;
@@ -37,8 +37,8 @@ pub struct DeviceLine<'a> {
 impl Reader {
     // What a `dev` line declares.
     fn device_line<'a>(&self, mut words: Words<'a>) -> Result<DeviceLine<'a>, LineFault>
-        ensures read { SpellsKind (device_seen self.now) self.now Keyword.Dev words.entry result }
-        ensures named { IfOk result (λ line. IsTrue (is_name line.name.now)) }
+        ensures read { SpellsKind (device_seen self.now) (device_name_rules self.now) self.now Keyword.Dev words.entry result }
+        ensures spelt { IfOk result (λ line. IsTrue (is_spelt line.name.now)) }
     {
         let name = words.next_word();
         let codecs = codec_words(words.again());
@@ -58,19 +58,16 @@ impl Reader {
                 number: WRONG_VERSION,
             });
         }
-        if self.names.find_box(spelt).is_some() || has_repeat(codecs.again()) {
+        if has_repeat(codecs.again()) {
             return Err(LineFault {
                 number: GIVEN_TWICE,
             });
         }
-        if BOX_LIMIT <= self.names.box_count() || is_overfull(codecs.again()) {
+        if is_overfull(codecs.again()) {
+            // a name that is used comes before too many codecs
+            let used = self.names.find_box(spelt).is_some();
             return Err(LineFault {
-                number: LIMIT_PASSED,
-            });
-        }
-        if is_overlong(name) {
-            return Err(LineFault {
-                number: NAME_TOO_LONG,
+                number: if used { GIVEN_TWICE } else { LIMIT_PASSED },
             });
         }
         let codecs = listed(&self.names, codecs);
@@ -93,43 +90,7 @@ impl Reader {
         ensures in_form { OnOk result (IsInForm self.new) }
     {
         let line = self.device_line(words)?;
-        self.add_box(line.name, line.planned)?;
-        Ok(())
-    }
-
-    // The name that a `feat` line declares.
-    fn feature_line<'a>(&self, words: Words<'a>) -> Result<&'a [u8], LineFault>
-        ensures read { SpellsKind (λ name. with_new_feature self.now name.now) self.now Keyword.Feat words.entry result }
-        ensures named { IfOk result (λ name. IsTrue (is_name name.now)) }
-    {
-        let parts = FirstWords::new(words);
-        if self.is_late(Section::Boxes) || is_misspelt(parts.first) {
-            return Err(LineFault { number: WRONG_WORD });
-        }
-        let Some(name) = parts.first else {
-            return Err(LineFault {
-                number: MISSING_WORD,
-            });
-        };
-        if parts.second.is_some() {
-            return Err(LineFault { number: EXTRA_WORD });
-        }
-        if self.names.find_box(name).is_some() {
-            return Err(LineFault {
-                number: GIVEN_TWICE,
-            });
-        }
-        if BOX_LIMIT <= self.names.box_count() {
-            return Err(LineFault {
-                number: LIMIT_PASSED,
-            });
-        }
-        if is_overlong(parts.first) {
-            return Err(LineFault {
-                number: NAME_TOO_LONG,
-            });
-        }
-        Ok(name)
+        self.add_box(line.name, line.planned)
     }
 
     /// Reads `feat NAME` from the name on.
@@ -138,23 +99,50 @@ impl Reader {
         ensures declared { ReadsKind self.old Keyword.Feat words.entry result self.new }
         ensures in_form { OnOk result (IsInForm self.new) }
     {
-        let name = self.feature_line(words)?;
+        let parts = FirstWords::new(words);
+        if self.is_late(Section::Boxes) || is_misspelt(parts.first) {
+            return Err(ReadFault::Line(LineFault { number: WRONG_WORD }));
+        }
+        let Some(name) = parts.first else {
+            return Err(ReadFault::Line(LineFault {
+                number: MISSING_WORD,
+            }));
+        };
+        if parts.second.is_some() {
+            return Err(ReadFault::Line(LineFault { number: EXTRA_WORD }));
+        }
         let planned = BoxPlan {
             kind: Kind::Feature,
             codecs: CodecList::none(),
             sends: CodecList::none(),
             first_version: 1,
         };
-        self.add_box(name, planned)?;
-        Ok(())
+        self.add_box(name, planned)
     }
 
     // Adds a box last, without slots.
-    fn add_box(&mut self, name: &[u8], planned: BoxPlan) -> Result<(), AllocError>
-        requires { IsTrue (is_name name.now) }
-        ensures { OnOk result (self.new ≡ with_new_box self.old name.now (box_seen planned)) }
+    fn add_box(&mut self, name: &[u8], planned: BoxPlan) -> Result<(), ReadFault>
+        requires spelt { IsTrue (is_spelt name.now) }
+        requires in_form { IsInForm self.old }
+        ensures declared { ReadsBox self.old name.now (box_seen planned) result self.new }
+        ensures in_form { OnOk result (IsInForm self.new) }
     {
-        if self.names.add_box(name).is_err() || self.plan.add(planned).is_err() {
+        if is_overlong(Some(name)) {
+            let used = self.names.find_box(name).is_some();
+            return Err(overlong(used, BOX_LIMIT <= self.names.box_count()));
+        }
+        self.names.add_box(name)?;
+        self.plan_box(planned)?;
+        self.section = Section::Boxes;
+        Ok(())
+    }
+
+    // Plans a box, which has no slots.
+    fn plan_box(&mut self, planned: BoxPlan) -> Result<(), AllocError>
+        ensures { OnOk result (self.new ≡ with_planned self.old (box_seen planned)) }
+    {
+        // there is room, since its name had room
+        if self.plan.add(planned).is_err() {
             return Err(AllocError);
         }
         self.shape.boxes.push(BoxShape {
@@ -162,7 +150,6 @@ impl Reader {
             media: Vec::new(self.alloc),
             programmed: false,
         })?;
-        self.section = Section::Boxes;
         Ok(())
     }
 }

@@ -1,6 +1,6 @@
 //! Lines that declare channels.
 
-ghost use Rattle.std.specs.Prelude.{◌≡◌, ◌<◌, IfOk, IsTrue, OnOk, length};
+ghost use Rattle.std.specs.Prelude.{◌≡◌, ◌<◌, [], IfOk, IsTrue, OnOk, length};
 ghost use Rattle.std.specs.Option.{is_some};
 ghost use Rattle.mc_text.specs.NameLists.{place_of, slot_names};
 ghost use Rattle.mc_text.specs.Spelling.{is_name};
@@ -39,7 +39,7 @@ impl Reader {
     #[tactic(auto, using(crate::proofs::Missing::no_word_without_box, crate::proofs::Missing::no_fifth_without_second, crate::proofs::Missing::no_fifth_without_third, crate::proofs::Missing::no_fifth_without_fourth))]
     fn channel_line<'a>(&self, words: Words<'a>) -> Result<ChannelLine<'a>, LineFault>
         requires { IsInForm self.now }
-        ensures read { SpellsKind (channel_seen self.now) self.now Keyword.Chan words.entry result }
+        ensures read { SpellsKind (channel_seen self.now) (λ line. []) self.now Keyword.Chan words.entry result }
         ensures can_join { IfOk result (CanJoin self.now) }
     {
         let parts = FirstWords::new(words);
