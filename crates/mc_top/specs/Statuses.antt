@@ -6,6 +6,10 @@ use Rattle.mc_top.specs.declared.status.TheConstants.{WORKED, FAULTY_TEXT, USAGE
 abbrev pub IsDue : ℕ → Type 0
 IsDue due = (due ≡ WORKED) ⊎ (due ≡ FAULTY_TEXT) ⊎ (due ≡ USAGE) ⊎ (due ≡ NO_MEMORY) ⊎ (due ≡ READ_FAULT)
 
+-- the status may be due where the words are a mode's
+abbrev pub IsDueForMode : ℕ → Type 0
+IsDueForMode due = (due ≡ WORKED) ⊎ (due ≡ FAULTY_TEXT) ⊎ (due ≡ NO_MEMORY) ⊎ (due ≡ READ_FAULT)
+
 -- the text was read, and it was found to have a fault or none
 abbrev pub judges_text : ℕ → Bool
 judges_text due = due == WORKED || due == FAULTY_TEXT

@@ -1,19 +1,21 @@
 -- What the top call promises.
-use Rattle.std.specs.Prelude.{◌≡◌, ◌≢◌, ◌⊎◌, ◌≤◌, ℕ, List, [], ◌∷◌, ◌++◌, codes, length, map, IfSome, IsFalse}
+use Rattle.std.specs.Prelude.{◌≡◌, ◌≢◌, ◌⊎◌, ◌≤◌, ℕ, List, [], ◌∷◌, ◌++◌, codes, length, map, IfSome, IsFalse, IsTrue}
 use Rattle.std.specs.declared.option.Option.{Option}
 use Rattle.std.specs.Io.KnownBytes.{Appends, Consumes, IsAtEnd, Keeps}
 use Rattle.mc_io.specs.Bytes.{AppendsPart}
 use Rattle.mc_net.specs.Nets.{DeclaresNet, batch_turns}
 use Rattle.mc_net.specs.Rules.{read_limit}
+use Rattle.mc_net.specs.TextLaws.{first_bytes}
 use Rattle.mc_net.specs.Texts.{IsFault}
 use Rattle.mc_net.specs.declared.net.Net.{Net}
 use Rattle.mc_net.specs.declared.limit.TheConstants.{TEXT_LIMIT}
 use Rattle.mc_top.specs.Journals.{IsJournal, HoldsAtSettles}
-use Rattle.mc_top.specs.Modes.{output_of}
+use Rattle.mc_top.specs.Modes.{output_of, reads}
 use Rattle.mc_top.specs.Printed.{fault_line}
 use Rattle.mc_top.specs.Statuses.{keeps_journal}
 use Rattle.mc_script.specs.declared.command.JournalLine.{JournalLine}
-use Rattle.mc_top.specs.declared.status.TheConstants.{WORKED, FAULTY_TEXT, NO_MEMORY, READ_FAULT, WRITE_FAULT}
+use Rattle.mc_top.specs.declared.status.TheConstants.{WORKED, FAULTY_TEXT, USAGE, NO_MEMORY, READ_FAULT, WRITE_FAULT}
+use Rattle.mc_top.specs.declared.top.Done.{Done}
 use Rattle.mc_top.specs.declared.words.Mode.{Mode}
 
 -- the one line that is printed for words that are no command
@@ -30,6 +32,18 @@ pub record ReadsWhole (old new : Option (List ℕ)) (text : List ℕ) : Type 0 w
   pub consumed : Consumes old new text
   pub within : length text ≤ read_limit
   pub at_end : length text ≤ TEXT_LIMIT → IsAtEnd new
+
+-- so some text was
+abbrev pub HasReadWhole : (old new : Option (List ℕ)) → Type 0
+HasReadWhole old new = (text : List ℕ) × ReadsWhole old new text
+
+-- this text was read so, if the mode reads
+abbrev pub ReadsFor : Mode → (old new : Option (List ℕ)) → List ℕ → Type 0
+ReadsFor mode old new text = IsTrue (reads mode) → ReadsWhole old new text
+
+-- the text, or its first bytes up to one more than the limit, of what is told
+abbrev pub IsTextOf : Option (List ℕ) → List ℕ → Type 0
+IsTextOf told text = IfSome told (λ all. text ≡ first_bytes all)
 
 -- The journal is one settled segment for each settle, in order, all of them one run from the network's first world: the interleaving of the boxes. At each settle the two end slots of every path are in the state that the path table gives, and where it flows each has the other's newest descriptor and the choice for its own
 pub record Settles (net : Net) (journal : List JournalLine) : Type 0 where
@@ -66,3 +80,11 @@ pub record Ends (mode : Mode) (told old new : Option (List ℕ)) (status due : �
   pub refused : due ≡ FAULTY_TEXT → Refused told old new status
   pub stopped : (due ≡ NO_MEMORY) ⊎ (due ≡ READ_FAULT) → (status ≡ due) × Keeps old new
   pub no_journal : IsFalse (keeps_journal due) → journal ≡ []
+
+-- it is what the call ended with
+abbrev pub EndsAs : Mode → (told old new : Option (List ℕ)) → Done → Type 0
+EndsAs mode told old new done = Ends mode told old new done.status done.due done.journal.items
+
+-- the one line for words that are no command was delivered
+abbrev pub PrintsUsage : (old new : Option (List ℕ)) → Done → Type 0
+PrintsUsage old new done = Delivers done.status USAGE old new usage_text

@@ -1,15 +1,14 @@
 // The top call.
-ghost use Rattle.std.specs.Prelude.{◌≡◌, ◌≢◌, ◌⊎◌, ◌==◌, ℕ, List, [], map, IfOk, IfSome, IsFalse, IsTrue, Some};
+ghost use Rattle.std.specs.Prelude.{◌≡◌, ◌≢◌, ◌⊎◌, ◌==◌, ℕ, List, [], map, IfOk, IsFalse, IsTrue, Some};
 ghost use Rattle.mc_io.specs.Bytes.{ConsumesAtMost};
 ghost use Rattle.mc_io.specs.Faults.{Rose, faults_after, is_failed_read};
 ghost use Rattle.mc_model.specs.LinkFree.{HasNoLinks};
 ghost use Rattle.mc_net.specs.Nets.{AreEndSets, DeclaresNet, NamesAll, batch_turns};
 ghost use Rattle.mc_net.specs.Rules.{read_limit};
-ghost use Rattle.mc_net.specs.TextLaws.{first_bytes};
 ghost use Rattle.mc_net.specs.Texts.{IsFault};
 ghost use Rattle.mc_top.specs.Modes.{AsksToRead, IsCommand, IsWorkable, reads, text_for};
-ghost use Rattle.mc_top.specs.Statuses.{IsDue, judges_text, keeps_journal};
-ghost use Rattle.mc_top.specs.Top.{Delivers, Ends, ReadsWhole, usage_text};
+ghost use Rattle.mc_top.specs.Statuses.{IsDue, IsDueForMode, judges_text, keeps_journal};
+ghost use Rattle.mc_top.specs.Top.{Delivers, EndsAs, HasReadWhole, IsTextOf, PrintsUsage, ReadsFor};
 ghost use Rattle.mc_top.specs.declared.words.Mode.{Mode};
 
 use crate::print::print_fault;
@@ -35,8 +34,8 @@ pub struct Done {
 
 // The text that a mode works on, or its first bytes up to one more than the limit.
 fn text_of<S: Source>(alloc: Global, mode: Mode, source: &mut S) -> Result<Vec<u8>, ReadFault>
-    ensures text { IfOk result (λ text. IfSome (text_for mode (S.left source.old)) (λ told. text.items ≡ first_bytes told)) }
-    ensures whole { IfOk result (λ text. IsTrue (reads mode) → ReadsWhole (S.left source.old) (S.left source.new) text.items) }
+    ensures text { IfOk result (λ text. IsTextOf (text_for mode (S.left source.old)) text.items) }
+    ensures whole { IfOk result (λ text. ReadsFor mode (S.left source.old) (S.left source.new) text.items) }
     ensures unread { IsFalse (reads mode) → source.new ≡ source.old }
     ensures at_most { ConsumesAtMost (S.left source.old) (S.left source.new) read_limit }
     ensures faults { S.faults source.new ≡ faults_after (S.faults source.old) (is_failed_read result) }
@@ -96,7 +95,7 @@ fn refuse<K: Sink>(alloc: Global, text: &[u8], fault: TextFault, sink: &mut K) -
     requires { IsFault text.now fault.number fault.line }
     ensures statuses { (result.due ≡ FAULTY_TEXT) ⊎ (result.due ≡ NO_MEMORY) }
     ensures status { (result.status ≡ result.due) ⊎ (result.status ≡ WRITE_FAULT) }
-    ensures ends { (mode : Mode) → Ends mode (Some text.now) (K.written sink.old) (K.written sink.new) result.status result.due result.journal.items }
+    ensures ends { (mode : Mode) → EndsAs mode (Some text.now) (K.written sink.old) (K.written sink.new) result }
     ensures fault { K.faults sink.new ≡ faults_after (K.faults sink.old) (result.status == WRITE_FAULT) }
 {
     match print_fault(alloc, fault) {
@@ -113,7 +112,7 @@ fn run_net<K: Sink>(alloc: Global, mode: Mode, text: &[u8], net: Net, sink: &mut
     requires end_sets { AreEndSets net.world (map batch_turns net.batches.items) }
     ensures statuses { (result.due ≡ WORKED) ⊎ (result.due ≡ NO_MEMORY) }
     ensures status { (result.status ≡ result.due) ⊎ (result.status ≡ WRITE_FAULT) }
-    ensures ends { Ends mode (Some text.now) (K.written sink.old) (K.written sink.new) result.status result.due result.journal.items }
+    ensures ends { EndsAs mode (Some text.now) (K.written sink.old) (K.written sink.new) result }
     ensures fault { K.faults sink.new ≡ faults_after (K.faults sink.old) (result.status == WRITE_FAULT) }
 {
     let Net {
@@ -132,7 +131,7 @@ fn run_net<K: Sink>(alloc: Global, mode: Mode, text: &[u8], net: Net, sink: &mut
 fn run_text<K: Sink>(alloc: Global, mode: Mode, text: &[u8], sink: &mut K) -> Done
     ensures statuses { (result.due ≡ WORKED) ⊎ (result.due ≡ FAULTY_TEXT) ⊎ (result.due ≡ NO_MEMORY) }
     ensures status { (result.status ≡ result.due) ⊎ (result.status ≡ WRITE_FAULT) }
-    ensures ends { Ends mode (Some text.now) (K.written sink.old) (K.written sink.new) result.status result.due result.journal.items }
+    ensures ends { EndsAs mode (Some text.now) (K.written sink.old) (K.written sink.new) result }
     ensures fault { K.faults sink.new ≡ faults_after (K.faults sink.old) (result.status == WRITE_FAULT) }
 {
     match read_net(alloc, text, Tail::Nothing) {
@@ -144,11 +143,12 @@ fn run_text<K: Sink>(alloc: Global, mode: Mode, text: &[u8], sink: &mut K) -> Do
 
 // Does a mode's work on the text that it reads.
 fn run_mode<S: Source, K: Sink>(alloc: Global, mode: Mode, source: &mut S, sink: &mut K) -> Done
-    ensures statuses { (result.due ≡ WORKED) ⊎ (result.due ≡ FAULTY_TEXT) ⊎ (result.due ≡ NO_MEMORY) ⊎ (result.due ≡ READ_FAULT) }
+    ensures statuses { IsDueForMode result.due }
     ensures status { (result.status ≡ result.due) ⊎ (result.status ≡ WRITE_FAULT) }
-    ensures ends { Ends mode (text_for mode (S.left source.old)) (K.written sink.old) (K.written sink.new) result.status result.due result.journal.items }
+    ensures ends { EndsAs mode (text_for mode (S.left source.old)) (K.written sink.old) (K.written sink.new) result }
     ensures unread { IsFalse (reads mode) → source.new ≡ source.old }
-    ensures read_whole { IsTrue (reads mode) → IsTrue (judges_text result.due) → (text : List ℕ) × ReadsWhole (S.left source.old) (S.left source.new) text }
+    ensures read_whole { IsTrue (reads mode) → IsTrue (judges_text result.due)
+        → HasReadWhole (S.left source.old) (S.left source.new) }
     ensures at_most { ConsumesAtMost (S.left source.old) (S.left source.new) read_limit }
     ensures read_fault { S.faults source.new ≡ faults_after (S.faults source.old) (result.due == READ_FAULT) }
     ensures write_fault { K.faults sink.new ≡ faults_after (K.faults sink.old) (result.status == WRITE_FAULT) }
@@ -177,17 +177,17 @@ pub fn media_top<R: Threads + Sync, S: Source, K: Sink, G: Gate + Sync>(
 
     // USAGE comes exactly where the words are no command.
     ensures usage { result.due ≡ USAGE → (mode : Mode) → ¬ IsCommand words.items mode }
-    ensures usage_output { result.due ≡ USAGE → Delivers result.status USAGE (K.written sink.old) (K.written sink.new) usage_text }
+    ensures usage_output { result.due ≡ USAGE → PrintsUsage (K.written sink.old) (K.written sink.new) result }
 
     // Else they are a mode's, and this was printed and kept for its text.
     ensures ends { result.due ≢ USAGE → (mode : Mode) × IsCommand words.items mode
-        × Ends mode (text_for mode (S.left source.old)) (K.written sink.old) (K.written sink.new) result.status result.due result.journal.items }
+        × EndsAs mode (text_for mode (S.left source.old)) (K.written sink.old) (K.written sink.new) result }
     ensures no_journal { IsFalse (keeps_journal result.due) → result.journal.items ≡ [] }
 
     // Without words that ask to read, nothing is read. With them a text is judged only where it was read whole.
     ensures unread { ¬ AsksToRead words.items → source.new ≡ source.old }
     ensures read_whole { AsksToRead words.items → IsTrue (judges_text result.due)
-        → (text : List ℕ) × ReadsWhole (S.left source.old) (S.left source.new) text }
+        → HasReadWhole (S.left source.old) (S.left source.new) }
     ensures at_most { ConsumesAtMost (S.left source.old) (S.left source.new) read_limit }
 
     // The causes of faults: a call of the source or the sink failed exactly where this is answered.
@@ -195,7 +195,8 @@ pub fn media_top<R: Threads + Sync, S: Source, K: Sink, G: Gate + Sync>(
     ensures write_fault { K.faults sink.new ≡ faults_after (K.faults sink.old) (result.status == WRITE_FAULT) }
 
     // Where the work can be done and no fault was counted, it is done, but for want of memory.
-    ensures complete { (mode : Mode) (text : List ℕ) → IsCommand words.items mode → text_for mode (S.left source.old) ≡ Some text → IsWorkable mode text
+    ensures complete { (mode : Mode) (text : List ℕ) → IsCommand words.items mode
+        → text_for mode (S.left source.old) ≡ Some text → IsWorkable mode text
         → ¬ Rose (S.faults source.old) (S.faults source.new) → ¬ Rose (K.faults sink.old) (K.faults sink.new)
         → (result.status ≡ WORKED) ⊎ (result.status ≡ NO_MEMORY) }
 {
