@@ -11,7 +11,7 @@ use Rattle.mc_box.specs.declared.event.Change.TheVariants.{End as NewEnd, Link a
 use Rattle.mc_box.specs.declared.event.Event.{Event}
 use Rattle.mc_box.specs.declared.event.Event.TheVariants.{Set, Take, Media, Tell, Retry, Shift}
 use Rattle.mc_script.specs.Meaning.{at_slot, command_by}
-use Rattle.mc_script.specs.Places.{box_named, meant, slot_named}
+use Rattle.mc_script.specs.Places.{box_named, spelt_value, slot_named}
 use Rattle.mc_script.specs.Printed.{IsSlot}
 use Rattle.mc_script.specs.Rules.{spelt_goal}
 use Rattle.mc_script.specs.declared.command.Command.{Command}
@@ -117,7 +117,7 @@ record IsAt (names : NameLists) (words : List (List ℕ)) (means : ℕ → Optio
   event : Event
   box : box_named names (slice_get words 0) ≡ Some who
   slot : slot_named names (Some who) (slice_get words 1) ≡ Some local
-  meant : means local ≡ Some event
+  spelt_value : means local ≡ Some event
   is : it ≡ Stimulus (record { who = who; event = event })
 
 at_slot_is : (names : NameLists) (words : List (List ℕ)) (means : ℕ → Option Event) (it : Command) → at_slot names words means ≡ Some it → IsAt names words means it
@@ -127,7 +127,7 @@ at_slot_is names words means it found = by (box_named names (slice_get words 0))
     by_event who a local b None c = absurd (let none : None ≡ Some it = rw (a, b, c) at found in cc)
     by_event who a local b (Some event) c =
         let some : Some (Stimulus (record { who = who; event = event })) ≡ Some it = rw (a, b, c) at found in
-        record { who = who; local = local; event = event; box = a; slot = b; meant = c; is = cc }
+        record { who = who; local = local; event = event; box = a; slot = b; spelt_value = c; is = cc }
 
     by_slot : (who : ℕ) → box_named names (slice_get words 0) ≡ Some who → (local : Option ℕ) → slot_named names (Some who) (slice_get words 1) ≡ local → IsAt names words means it
     by_slot who a None b = absurd (let none : None ≡ Some it = rw (a, b) at found in cc)
@@ -140,6 +140,6 @@ at_slot_is names words means it found = by (box_named names (slice_get words 0))
 -- a `set` line sets the goal of a slot that has a name
 pub set_is_named : (names : NameLists) (words : List (List ℕ)) (it : Command) → command_by names (Some command.Set) words ≡ Some it → SetsOrSettles names it
 set_is_named names words it found =
-    let at = at_slot_is names words (λ local. option_map (λ (goal : Goal). Set (NewEnd local goal)) (meant spelt_goal (slice_get words 2))) it found in
-    let made = mapped (λ (goal : Goal). Set (NewEnd at.local goal)) (meant spelt_goal (slice_get words 2)) at.event at.meant in
+    let at = at_slot_is names words (λ local. option_map (λ (goal : Goal). Set (NewEnd local goal)) (spelt_value spelt_goal (slice_get words 2))) it found in
+    let made = mapped (λ (goal : Goal). Set (NewEnd at.local goal)) (spelt_value spelt_goal (slice_get words 2)) at.event at.meant in
     rw (at.is, made.2) (named_within names.boxes (slice_get words 0) at.who at.box, named_within (slot_names names at.who) (slice_get words 1) at.local at.slot)

@@ -8,7 +8,7 @@ use Rattle.mc_text.specs.Lines.{lines, words}
 use Rattle.mc_text.specs.NameLists.{NameLists, with_box_name, with_codec_name, with_slot_name}
 use Rattle.mc_program.specs.Programs.{BlockState}
 use Rattle.mc_script.specs.Meaning.{command_by}
-use Rattle.mc_script.specs.Places.{box_named, meant}
+use Rattle.mc_script.specs.Places.{box_named, spelt_value}
 use Rattle.mc_script.specs.Rules.{byte_rules, is_plain, least_broken}
 use Rattle.mc_script.specs.declared.command.Command.{Command}
 use Rattle.mc_script.specs.declared.command.Command.TheVariants.{Settle}
@@ -75,9 +75,9 @@ record Joins (d after : Declared) (words : List (List ℕ)) : Type 0 where
   is : after ≡ with_joined d medium from slot to far_slot
 
 channel_joins : (d after : Declared) (words : List (List ℕ)) → channel_after d words ≡ Some after → Joins d after words
-channel_joins d after words means = by (meant spelt_medium (slice_get words 0)) refl (box_named d.names (slice_get words 1)) refl (slice_get words 2) refl (box_named d.names (slice_get words 3)) refl (slice_get words 4) refl
+channel_joins d after words means = by (spelt_value spelt_medium (slice_get words 0)) refl (box_named d.names (slice_get words 1)) refl (slice_get words 2) refl (box_named d.names (slice_get words 3)) refl (slice_get words 4) refl
   where
-    by : (medium : Option Medium) → meant spelt_medium (slice_get words 0) ≡ medium → (from : Option ℕ) → box_named d.names (slice_get words 1) ≡ from → (slot : Option (List ℕ)) → slice_get words 2 ≡ slot
+    by : (medium : Option Medium) → spelt_value spelt_medium (slice_get words 0) ≡ medium → (from : Option ℕ) → box_named d.names (slice_get words 1) ≡ from → (slot : Option (List ℕ)) → slice_get words 2 ≡ slot
         → (to : Option ℕ) → box_named d.names (slice_get words 3) ≡ to → (far_slot : Option (List ℕ)) → slice_get words 4 ≡ far_slot → Joins d after words
     by None a from b slot c to e far_slot f = absurd (let none : None ≡ Some after = rw a at means in cc)
     by (Some medium) a None b slot c to e far_slot f = absurd (let none : None ≡ Some after = rw (a, b) at means in cc)

@@ -11,7 +11,7 @@ use Rattle.mc_box.specs.declared.event.Kind.{Kind}
 use Rattle.mc_box.specs.declared.event.Kind.TheVariants.{Device, Feature}
 use Rattle.mc_plan.specs.Plans.{channel_between}
 use Rattle.mc_script.specs.Meaning.{command_by}
-use Rattle.mc_script.specs.Places.{box_named, meant}
+use Rattle.mc_script.specs.Places.{box_named, spelt_value}
 use Rattle.mc_script.specs.declared.keyword.CommandWord.{CommandWord}
 use Rattle.mc_script.specs.declared.keyword.CommandWord.TheVariants as command
 use Rattle.mc_net.specs.Rules.{begins_digit, codec_words, is_skipped, kind_of, spelt_medium, open_block}
@@ -90,7 +90,7 @@ with_joined d medium from slot to far_slot = record (with_new_slot (with_new_slo
 
 abbrev pub channel_after : Declared → List (List ℕ) → Option Declared
 channel_after d words = do
-  medium ← meant spelt_medium (slice_get words 0)
+  medium ← spelt_value spelt_medium (slice_get words 0)
   from ← box_named d.names (slice_get words 1)
   slot ← slice_get words 2
   to ← box_named d.names (slice_get words 3)

@@ -12,7 +12,7 @@ use Rattle.mc_text.specs.NameLists.{NameLists, place_of, slot_names, with_told_w
 use Rattle.mc_text.specs.Spelling.{is_name, is_spelt}
 use Rattle.mc_text.specs.declared.limit.TheConstants.{TOLD_LIMIT}
 use Rattle.mc_box.specs.BoxShapes.{BoxShapeState, shape_of}
-use Rattle.mc_script.specs.Places.{are_same, box_named, is_misspelt, is_no, is_overlong, lacks, meant, slot_named}
+use Rattle.mc_script.specs.Places.{are_same, box_named, is_misspelt, is_no, is_overlong, lacks, spelt_value, slot_named}
 use Rattle.mc_script.specs.Rules.{differ_in_medium, spelt_goal, is_no_feature, least_broken}
 use Rattle.mc_script.specs.declared.rule.TheConstants.{EXTRA_WORD, GIVEN_TWICE, LIMIT_PASSED, MISSING_WORD, NAME_TOO_LONG, NO_SUCH_SLOT, SAME_SLOT, TWO_MEDIA, UNDECLARED, UNFINISHED, WRONG_WORD}
 use Rattle.mc_program.specs.WordLists.{has_repeat}
@@ -165,7 +165,7 @@ part_with_goal part local goal = record part { goals = slice_set part.goals loca
 -- the part after a `goal` line
 abbrev pub part_goal_after : NameLists → ℕ → PartState → List (List ℕ) → Option PartState
 part_goal_after names who part words =
-    option_and_then (λ local. option_map (λ goal. part_with_goal part local (End goal)) (meant spelt_goal (slice_get words 1))) (slot_named names (Some who) (slice_get words 0))
+    option_and_then (λ local. option_map (λ goal. part_with_goal part local (End goal)) (spelt_value spelt_goal (slice_get words 1))) (slot_named names (Some who) (slice_get words 0))
 
 -- the part after a `link` line, which gives both slots their goal
 abbrev pub part_link_after : NameLists → ℕ → PartState → List (List ℕ) → Option PartState
@@ -228,8 +228,8 @@ with_transition part transition = record part { transitions = part.transitions +
 abbrev pub is_transition : NameLists → ℕ → List (List ℕ) → List (List ℕ) → Option Transition
 is_transition names who states words = do
   local ← slot_named names (Some who) (slice_get words 0)
-  state ← meant spelt_state (slice_get words 1)
-  target ← meant (place_of states) (slice_get words 2)
+  state ← spelt_value spelt_state (slice_get words 1)
+  target ← spelt_value (place_of states) (slice_get words 2)
   Some (record { guard = SlotIs local state; target = target })
 
 -- the number that a told word has, or gets
@@ -240,7 +240,7 @@ told_place names word = unwrap_or (place_of names.told word) (length names.told)
 pub record IsToldLine (names : NameLists) (states : List (List ℕ)) (part : PartState) (words : List (List ℕ)) (word : List ℕ) (target : ℕ) : Type 0 where
   pub sound : least_broken (when_told_rules names states part words) ≡ None
   pub word_is : slice_get words 0 ≡ Some word
-  pub target_is : meant (place_of states) (slice_get words 1) ≡ Some target
+  pub target_is : spelt_value (place_of states) (slice_get words 1) ≡ Some target
   pub name : IsTrue (is_name word)
   pub room : has_no_room names (Some word) ≡ false
 
@@ -248,7 +248,7 @@ pub record IsToldLine (names : NameLists) (states : List (List ℕ)) (part : Par
 abbrev pub told_after : NameLists → List (List ℕ) → PartState → List (List ℕ) → Option (NameLists × PartState)
 told_after names states part words = do
   word ← slice_get words 0
-  target ← meant (place_of states) (slice_get words 1)
+  target ← spelt_value (place_of states) (slice_get words 1)
   Some (with_told_word names word, with_transition part (record { guard = Told (told_place names word); target = target }))
 
 abbrev pub when_kind_after : NameLists → ℕ → List (List ℕ) → PartState → Option WaitWord → List (List ℕ) → Option (NameLists × PartState)

@@ -6,7 +6,7 @@ ghost use Rattle.std.specs.Option.{option_copied, option_map};
 ghost use Rattle.mc_text.specs.NameLists.{place_of, slot_names};
 ghost use Rattle.mc_box.specs.BoxShapes.{medium_at, shape_of};
 ghost use Rattle.mc_slot.specs.Moves.{is_same_medium};
-ghost use Rattle.mc_script.specs.Places.{Fits, is_no, lacks, meant, unless};
+ghost use Rattle.mc_script.specs.Places.{Fits, is_no, lacks, spelt_value, unless};
 ghost use Rattle.mc_script.specs.Rules.{least_broken};
 ghost use Rattle.mc_script.specs.Meaning.{ReadsAs};
 ghost use Rattle.mc_program.specs.Readings.{Declares, Makes};
@@ -357,7 +357,7 @@ fn has_no_room(names: &Names, word: &[u8]) -> bool
 // The state that a word names. Fault 4 where no state has the name.
 fn known_target(states: &[Vec<u8>], word: Option<&[u8]>) -> Result<Option<u32>, LineFault>
     requires { length states.now ≤ STATE_LIMIT }
-    ensures { result ≡ unless (lacks (words_of states.now) (option_copied word.entry)) UNDECLARED (meant (place_of (words_of states.now)) (option_copied word.entry)) }
+    ensures { result ≡ unless (lacks (words_of states.now) (option_copied word.entry)) UNDECLARED (spelt_value (place_of (words_of states.now)) (option_copied word.entry)) }
 {
     let Some(word) = word else { return Ok(None) };
     match find_state(states, word) {
@@ -382,7 +382,7 @@ fn place_in(states: &[Vec<u8>], word: &[u8]) -> Option<usize>
 
 // The state of a slot that a word spells. Fault 5 where it spells none.
 fn fixed_state(word: Option<&[u8]>) -> Result<Option<State>, LineFault>
-    ensures { result ≡ unless (is_no spelt_state (option_copied word.entry)) WRONG_WORD (meant spelt_state (option_copied word.entry)) }
+    ensures { result ≡ unless (is_no spelt_state (option_copied word.entry)) WRONG_WORD (spelt_value spelt_state (option_copied word.entry)) }
 {
     let Some(word) = word else { return Ok(None) };
     match spelt_state(word) {

@@ -11,7 +11,7 @@ use Rattle.mc_box.specs.declared.event.Change.TheVariants.{End as NewEnd, Link a
 use Rattle.mc_box.specs.declared.event.Event.{Event}
 use Rattle.mc_box.specs.declared.event.Event.TheVariants.{Set, Media, Tell}
 use Rattle.mc_box.specs.declared.event.MediaChange.TheVariants.{Hear, Talk}
-use Rattle.mc_script.specs.Places.{box_named, meant, slot_named}
+use Rattle.mc_script.specs.Places.{box_named, spelt_value, slot_named}
 use Rattle.mc_script.specs.Rules.{byte_rules, command_rules, command_word, spelt_goal, least_broken, spelt_switch}
 use Rattle.mc_script.specs.declared.command.Command.{Command}
 use Rattle.mc_script.specs.declared.command.Command.TheVariants.{Stimulus, Settle}
@@ -27,13 +27,13 @@ at_slot names words event =
 
 -- the command that the words behind the first spell
 abbrev pub command_by : NameLists → Option CommandWord → List (List ℕ) → Option Command
-command_by names (Some word.Set) words = at_slot names words (λ local. option_map (λ goal. Set (NewEnd local goal)) (meant spelt_goal (slice_get words 2)))
+command_by names (Some word.Set) words = at_slot names words (λ local. option_map (λ goal. Set (NewEnd local goal)) (spelt_value spelt_goal (slice_get words 2)))
 command_by names (Some word.Link) words =
     at_slot names words (λ local. option_map (λ other. Set (NewLink local other)) (slot_named names (box_named names (slice_get words 0)) (slice_get words 2)))
-command_by names (Some word.Hear) words = at_slot names words (λ local. option_map (λ on. Media (Hear local on)) (meant spelt_switch (slice_get words 2)))
-command_by names (Some word.Talk) words = at_slot names words (λ local. option_map (λ on. Media (Talk local on)) (meant spelt_switch (slice_get words 2)))
+command_by names (Some word.Hear) words = at_slot names words (λ local. option_map (λ on. Media (Hear local on)) (spelt_value spelt_switch (slice_get words 2)))
+command_by names (Some word.Talk) words = at_slot names words (λ local. option_map (λ on. Media (Talk local on)) (spelt_value spelt_switch (slice_get words 2)))
 command_by names (Some word.Tell) words =
-    option_and_then (λ who. option_map (λ told. Stimulus (record { who = who; event = Tell told })) (meant (place_of names.told) (slice_get words 1))) (box_named names (slice_get words 0))
+    option_and_then (λ who. option_map (λ told. Stimulus (record { who = who; event = Tell told })) (spelt_value (place_of names.told) (slice_get words 1))) (box_named names (slice_get words 0))
 command_by names (Some word.Settle) words = Some Settle
 command_by names None words = None
 

@@ -47,16 +47,16 @@ is_no meaning None = false
 is_no meaning (Some word) = is_none (meaning word)
 
 -- the value that a word spells
-abbrev pub meant : {X : Type 0} → (List ℕ → Option X) → Option (List ℕ) → Option X
-meant meaning word = option_and_then meaning word
+abbrev pub spelt_value : {X : Type 0} → (List ℕ → Option X) → Option (List ℕ) → Option X
+spelt_value meaning word = option_and_then meaning word
 
 -- the value that a word in a place spells; rule 5 where it spells none
 abbrev pub fixed_word : {X : Type 0} → (List ℕ → Option X) → Option (List ℕ) → Result (Option X) LineFault
-fixed_word meaning word = unless (is_no meaning word) WRONG_WORD (meant meaning word)
+fixed_word meaning word = unless (is_no meaning word) WRONG_WORD (spelt_value meaning word)
 
 -- the number of the name that a word in a place is; rule 4 where the list hasn't the name
 abbrev pub known_name : List (List ℕ) → Option (List ℕ) → Result (Option ℕ) LineFault
-known_name names word = unless (lacks names word) UNDECLARED (meant (place_of names) word)
+known_name names word = unless (lacks names word) UNDECLARED (spelt_value (place_of names) word)
 
 -- a word stands there, and isn't spelt as a name, whatever its length
 abbrev pub is_misspelt : Option (List ℕ) → Bool

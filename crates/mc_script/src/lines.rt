@@ -4,7 +4,7 @@ ghost use Rattle.std.specs.Prelude.{◌≡◌, ◌<◌, MatchResult, length};
 ghost use Rattle.std.specs.List.{slice_get};
 ghost use Rattle.mc_slot.specs.Moves.{is_same_medium};
 ghost use Rattle.mc_box.specs.BoxShapes.{slot_medium};
-ghost use Rattle.mc_script.specs.Places.{box_named, slot_named, meant, Fits};
+ghost use Rattle.mc_script.specs.Places.{box_named, slot_named, spelt_value, Fits};
 ghost use Rattle.mc_script.specs.Rules.{least_broken, set_rules, link_rules, media_rules, tell_rules, settle_rules, spelt_switch};
 ghost use Rattle.mc_script.specs.Meaning.{ReadsAs, ReadsCommand};
 
@@ -133,7 +133,7 @@ fn switch_line<'a>(names: &Names, shape: &Shape, words: Words<'a>) -> Result<Swi
         (λ switch. (least_broken (media_rules names.now shape.now words.entry) ≡ None)
         × (box_named names.now (slice_get words.entry 0) ≡ Some switch.who)
         × (slot_named names.now (Some switch.who) (slice_get words.entry 1) ≡ Some switch.local)
-        × (meant spelt_switch (slice_get words.entry 2) ≡ Some switch.on))
+        × (spelt_value spelt_switch (slice_get words.entry 2) ≡ Some switch.on))
         (λ e. least_broken (media_rules names.now shape.now words.entry) ≡ Some e.number) }
 {
     let parts = FirstWords::new(words);

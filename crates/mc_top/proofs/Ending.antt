@@ -7,20 +7,20 @@ use Rattle.mc_top.specs.Modes.{output_of}
 use Rattle.mc_net.specs.Nets.{DeclaresNet, batch_turns}
 use Rattle.mc_net.specs.Texts.{IsFault}
 use Rattle.mc_net.specs.declared.net.Net.{Net}
-use Rattle.mc_top.specs.Printed.{fault_line, printed}
+use Rattle.mc_top.specs.Printed.{fault_line, journal_text}
 use Rattle.mc_top.specs.Top.{Delivers, Ends}
 use Rattle.mc_script.specs.declared.command.JournalLine.{JournalLine}
 use Rattle.mc_top.specs.declared.words.Mode.{Mode}
 use Rattle.mc_top.specs.declared.words.Mode.TheVariants.{Run}
 
 -- what a mode prints is what the settles print
-printed_by : (mode : Mode) (net : Net) (journal : List JournalLine) → printed net.names 1 net.world journal ≡ output_of mode net journal
+printed_by : (mode : Mode) (net : Net) (journal : List JournalLine) → journal_text net.names 1 net.world journal ≡ output_of mode net journal
 printed_by Run net journal = refl
 
 -- the work was done, and what it printed was delivered
 pub ends_worked : (mode : Mode) (text : List ℕ) (net : Net) (old new : Option (List ℕ)) (status due : ℕ) (journal : List JournalLine) (output : List ℕ)
     → DeclaresNet text net → IsJournal net.world (map batch_turns net.batches.items) journal → HoldsAtSettles net.world journal
-    → output ≡ printed net.names 1 net.world journal → due ≡ 0 → Delivers status 0 old new output → Ends mode (Some text) old new status due journal
+    → output ≡ journal_text net.names 1 net.world journal → due ≡ 0 → Delivers status 0 old new output → Ends mode (Some text) old new status due journal
 ends_worked mode text net old new status due journal output declared settled holds is none delivered = record {
   worked = λ zero. record {
     net = net;

@@ -22,8 +22,8 @@ use Rattle.mc_path_laws.proofs.SettledHold.{settled_paths_hold}
 use Rattle.mc_text.specs.NameLists.{NameLists}
 use Rattle.mc_script.specs.declared.command.Batch.{Batch}
 use Rattle.mc_net.specs.Nets.{AreEndSets, NamesAll, is_end_set, batch_turns}
-use Rattle.mc_top.specs.Journals.{HoldsAtSettles, IsJournal, lines_for, replayed}
-use Rattle.mc_top.specs.Printed.{printed, settle_text}
+use Rattle.mc_top.specs.Journals.{HoldsAtSettles, IsJournal, lines_for, next_world}
+use Rattle.mc_top.specs.Printed.{journal_text, settle_text}
 use Rattle.mc_top.specs.Scripts.{ScriptState, Settling, first_state}
 use Rattle.mc_top.proofs.EndSets.{end_sets_kept, end_sets_link_none}
 use Rattle.mc_script.specs.declared.command.JournalLine.{JournalLine}
@@ -71,18 +71,18 @@ holds_after (turn ∷ turns) world last rest goes holds =
     let one = then_some (λ (w : WorldState). run w turns) (step world turn) last goes in
     subst (λ (w : WorldState). HoldsAtSettles w (map Made turns ++ rest)) (sym (replayed_is world one.0 turn one.1)) (holds_after turns one.0 last rest one.2 holds)
   where
-    replayed_is : (world next : WorldState) (turn : Turn) → step world turn ≡ Some next → replayed world turn ≡ next
+    replayed_is : (world next : WorldState) (turn : Turn) → step world turn ≡ Some next → next_world world turn ≡ next
     replayed_is world next turn goes = rw goes refl
 
 -- the turns of a settle print nothing before its mark
 printed_after : (turns : List Turn) (names : NameLists) (number : ℕ) (world last : WorldState) (rest : List JournalLine) → run world turns ≡ Some last
-    → printed names number world (map Made turns ++ rest) ≡ printed names number last rest
-printed_after [] names number world last rest goes = let same : world ≡ last = cc in ap (λ (w : WorldState). printed names number w rest) same
+    → journal_text names number world (map Made turns ++ rest) ≡ journal_text names number last rest
+printed_after [] names number world last rest goes = let same : world ≡ last = cc in ap (λ (w : WorldState). journal_text names number w rest) same
 printed_after (turn ∷ turns) names number world last rest goes =
     let one = then_some (λ (w : WorldState). run w turns) (step world turn) last goes in
-    ap (λ (w : WorldState). printed names number w (map Made turns ++ rest)) (replayed_is world one.0 turn one.1) ∙ printed_after turns names number one.0 last rest one.2
+    ap (λ (w : WorldState). journal_text names number w (map Made turns ++ rest)) (replayed_is world one.0 turn one.1) ∙ printed_after turns names number one.0 last rest one.2
   where
-    replayed_is : (world next : WorldState) (turn : Turn) → step world turn ≡ Some next → replayed world turn ≡ next
+    replayed_is : (world next : WorldState) (turn : Turn) → step world turn ≡ Some next → next_world world turn ≡ next
     replayed_is world next turn goes = rw goes refl
 
 -- at each settle of a journal from a sound world the paths are as the table says
@@ -109,16 +109,16 @@ settle_more start world last all rest batch turns journal so_far settled more la
 
 -- and what is printed of it
 pub print_more : (start world last : WorldState) (names : NameLists) (batch turns : List Turn) (number : ℕ) (journal : List JournalLine) (out : List ℕ)
-    → ((more : List JournalLine) → printed names 1 start (journal ++ more) ≡ out ++ printed names number world more)
+    → ((more : List JournalLine) → journal_text names 1 start (journal ++ more) ≡ out ++ journal_text names number world more)
     → IsSettled world batch turns last
-    → (more : List JournalLine) → printed names 1 start ((journal ++ lines_for turns) ++ more) ≡ (out ++ settle_text names number last) ++ printed names (number + 1) last more
+    → (more : List JournalLine) → journal_text names 1 start ((journal ++ lines_for turns) ++ more) ≡ (out ++ settle_text names number last) ++ journal_text names (number + 1) last more
 print_more start world last names batch turns number journal out so_far settled more =
-    ap (λ (lines : List JournalLine). printed names 1 start lines) (append_assoc journal (lines_for turns) more)
+    ap (λ (lines : List JournalLine). journal_text names 1 start lines) (append_assoc journal (lines_for turns) more)
     ∙ (so_far (lines_for turns ++ more)
     ∙ (ap (λ (text : List ℕ). out ++ text)
-    (ap (λ (lines : List JournalLine). printed names number world lines) (append_assoc (map Made turns) (Settled ∷ []) more)
+    (ap (λ (lines : List JournalLine). journal_text names number world lines) (append_assoc (map Made turns) (Settled ∷ []) more)
     ∙ printed_after turns names number world last (Settled ∷ more) settled.runs)
-    ∙ sym (append_assoc out (settle_text names number last) (printed names (number + 1) last more))))
+    ∙ sym (append_assoc out (settle_text names number last) (journal_text names (number + 1) last more))))
 
 -- ---- what a settle leaves
 
@@ -127,7 +127,7 @@ pub record GoesOn (names : NameLists) (start : WorldState) (all rest : List (Lis
   pub sound : IsLinkFree now.world
   pub shape : HasShape now.world start
   pub journal : (more : List JournalLine) → IsJournal now.world rest more → IsJournal start all (now.journal ++ more)
-  pub output : (more : List JournalLine) → printed names 1 start (now.journal ++ more) ≡ now.output ++ printed names (count + 1) now.world more
+  pub output : (more : List JournalLine) → journal_text names 1 start (now.journal ++ more) ≡ now.output ++ journal_text names (count + 1) now.world more
 
 -- a settle that follows
 goes_settled : (names : NameLists) (start : WorldState) (all rest : List (List Turn)) (count : ℕ) (batch : List Turn) (now next : ScriptState) → LinkNone batch → Settling names (count + 1) batch now next
@@ -139,9 +139,9 @@ goes_settled names start all rest count batch now next none s on = record {
       subst (λ (lines : List JournalLine). IsJournal start all (lines ++ more)) (sym s.journal)
       (settle_more start now.world next.world all rest batch s.turns now.journal on.journal s.settled more later);
   output = λ more.
-      ap (λ (lines : List JournalLine). printed names 1 start (lines ++ more)) s.journal
+      ap (λ (lines : List JournalLine). journal_text names 1 start (lines ++ more)) s.journal
       ∙ (print_more start now.world next.world names batch s.turns (count + 1) now.journal now.output on.output s.settled more
-      ∙ ap (λ (text : List ℕ). text ++ printed names (count + 1 + 1) next.world more) (sym s.output));
+      ∙ ap (λ (text : List ℕ). text ++ journal_text names (count + 1 + 1) next.world more) (sym s.output));
 }
 
 -- the next batch, and those behind it
@@ -202,6 +202,6 @@ pub all_settled : (names : NameLists) (start : WorldState) (all : List (List Tur
 all_settled names start all count now on = subst (λ (lines : List JournalLine). IsJournal start all lines) (append-nil now.journal) (on.journal [] refl)
 
 -- when all settles are done all is printed
-pub all_printed : (names : NameLists) (start : WorldState) (all : List (List Turn)) (count : ℕ) (now : ScriptState) → GoesOn names start all [] count now → now.output ≡ printed names 1 start now.journal
+pub all_printed : (names : NameLists) (start : WorldState) (all : List (List Turn)) (count : ℕ) (now : ScriptState) → GoesOn names start all [] count now → now.output ≡ journal_text names 1 start now.journal
 all_printed names start all count now on =
-    sym (ap (λ (lines : List JournalLine). printed names 1 start lines) (sym (append-nil now.journal)) ∙ (on.output [] ∙ append-nil now.output))
+    sym (ap (λ (lines : List JournalLine). journal_text names 1 start lines) (sym (append-nil now.journal)) ∙ (on.output [] ∙ append-nil now.output))

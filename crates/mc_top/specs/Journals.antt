@@ -23,11 +23,11 @@ IsJournal world (batch ∷ batches) journal =
     × (journal ≡ lines_for turns ++ rest) × IsSettled world batch turns last × IsJournal last batches rest
 
 -- the world after a turn of a journal
-abbrev pub replayed : WorldState → Turn → WorldState
-replayed world turn = unwrap_or (step world turn) world
+abbrev pub next_world : WorldState → Turn → WorldState
+next_world world turn = unwrap_or (step world turn) world
 
 -- at each settle the two end slots of every path are in the path's state, and where it flows they have each other's newest descriptor and the choice for it
 abbrev pub HoldsAtSettles : WorldState → List JournalLine → Type 0
 HoldsAtSettles world [] = Unit {0}
-HoldsAtSettles world (Made turn ∷ journal) = HoldsAtSettles (replayed world turn) journal
+HoldsAtSettles world (Made turn ∷ journal) = HoldsAtSettles (next_world world turn) journal
 HoldsAtSettles world (Settled ∷ journal) = All (PathHolds world) (paths world) × HoldsAtSettles world journal

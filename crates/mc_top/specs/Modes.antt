@@ -2,7 +2,7 @@
 use Rattle.std.specs.Prelude.{◌≡◌, ◌⊎◌, ℕ, Bool, true, IsTrue, List, [], ◌∷◌, Some, codes, drop, map, slice_get, string_bytes, String}
 use Rattle.std.specs.declared.alloc.Global.{Global}
 use Rattle.std.specs.declared.option.Option.{Option}
-use Rattle.mc_top.specs.Printed.{printed}
+use Rattle.mc_top.specs.Printed.{journal_text}
 use Rattle.mc_net.specs.SoFar.{Declared}
 use Rattle.mc_net.specs.Texts.{Says}
 use Rattle.mc_net.specs.declared.net.Net.{Net}
@@ -36,4 +36,4 @@ IsWorkable Run text = (d : Declared) × Says text d
 
 -- what a mode prints for a journal of the network
 abbrev pub output_of : Mode → Net → List JournalLine → List ℕ
-output_of Run net journal = printed net.names 1 net.world journal
+output_of Run net journal = journal_text net.names 1 net.world journal

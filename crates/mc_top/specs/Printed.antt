@@ -11,7 +11,7 @@ use Rattle.mc_model.specs.Paths.{PathEnds, paths, end_goal}
 use Rattle.mc_model.specs.Worlds.{WorldState, tunnel_of, place}
 use Rattle.mc_text.specs.NameLists.{NameLists, slot_word}
 use Rattle.mc_script.specs.Meaning.{goal_word}
-use Rattle.mc_top.specs.Journals.{replayed}
+use Rattle.mc_top.specs.Journals.{next_world}
 use Rattle.mc_script.specs.declared.command.JournalLine.{JournalLine}
 use Rattle.mc_script.specs.declared.command.JournalLine.TheVariants.{Turn as Made, Settled}
 
@@ -72,10 +72,10 @@ abbrev pub settle_text : NameLists → ℕ → WorldState → List ℕ
 settle_text names number world = line_of (codes "settle" ∷ decimal number ∷ []) ++ flat_map (path_text names world) (paths world)
 
 -- the settles that replaying a journal from a world gives, numbered from a number on
-abbrev pub printed : NameLists → ℕ → WorldState → List JournalLine → List ℕ
-printed names number world [] = []
-printed names number world (Made turn ∷ journal) = printed names number (replayed world turn) journal
-printed names number world (Settled ∷ journal) = settle_text names number world ++ printed names (number + 1) world journal
+abbrev pub journal_text : NameLists → ℕ → WorldState → List JournalLine → List ℕ
+journal_text names number world [] = []
+journal_text names number world (Made turn ∷ journal) = journal_text names number (next_world world turn) journal
+journal_text names number world (Settled ∷ journal) = settle_text names number world ++ journal_text names (number + 1) world journal
 
 -- ---- a faulty text
 

@@ -3,7 +3,7 @@ ghost use Rattle.std.specs.Prelude.{◌≡◌, ◌++◌, ◌+◌, map, All, IfOk
 ghost use Rattle.mc_model.specs.LinkFree.{HasNoLinks};
 ghost use Rattle.mc_net.specs.Nets.{AreEndSets, NamesAll, is_end_set, batch_turns};
 ghost use Rattle.mc_top.specs.Journals.{IsJournal, HoldsAtSettles, lines_for};
-ghost use Rattle.mc_top.specs.Printed.{printed};
+ghost use Rattle.mc_top.specs.Printed.{journal_text};
 ghost use Rattle.mc_top.specs.Scripts.{first_state, Settling};
 
 use crate::print::print_settle;
@@ -105,7 +105,7 @@ pub fn run_script(
     requires end_sets { AreEndSets world (map batch_turns batches.now) }
     ensures settled { IfOk result (λ run. IsJournal world (map batch_turns batches.now) run.journal.items) }
     ensures holds { IfOk result (λ run. HoldsAtSettles world run.journal.items) }
-    ensures output { IfOk result (λ run. run.output.items ≡ printed names.now 1 world run.journal.items) }
+    ensures output { IfOk result (λ run. run.output.items ≡ journal_text names.now 1 world run.journal.items) }
 {
     world.keeps();
     let mut progress = Progress::new(alloc, world);
