@@ -3,8 +3,7 @@
 ghost use Rattle.std.specs.Prelude.{◌≡◌, ◌+◌, ◌<◌, ◌≤◌, ◌*◌, ◌^◌, ◌++◌, if◌then◌else◌, [], map, length, replicate, slice_index_or, ◌==◌, IfOk, OnOk};
 ghost use Rattle.std.specs.List.{list_all};
 ghost use Rattle.mc_model.specs.Settles.{is_quiet, rests};
-ghost use Rattle.mc_model.specs.Sound.{IsNumbered, IsSound};
-ghost use Rattle.mc_model.specs.Setups.{AreNew};
+ghost use Rattle.mc_model.specs.Sound.{AreNew, IsNumbered, IsSound};
 ghost use Rattle.mc_world.specs.Lanes.{lane_number};
 ghost use Rattle.mc_world.specs.Tables.{channel_of, tunnels_by};
 ghost use Rattle.mc_model.specs.Worlds.{AreChannels, tunnel_limit, first_world, slot_count, place, number, far, tunnel_of, lane_of, front, front_for, slot_of, goal_of, places_among, places_within, tunnels_from, tunnels_within};
