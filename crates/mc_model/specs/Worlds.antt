@@ -10,6 +10,7 @@ use Rattle.mc_signal.specs.declared.Tagged.{Tagged}
 use Rattle.mc_slot.specs.declared.Slot.{Slot}
 use Rattle.mc_slot.specs.declared.SlotGoal.{SlotGoal}
 use Rattle.mc_box.specs.Boxes.{BoxState, no_box, slot_at, goal_at, own, sender}
+use Rattle.mc_model.specs.declared.channel.TheConstants.{TUNNEL_LIMIT}
 use Rattle.mc_model.specs.declared.channel.Tunnel.{Tunnel}
 
 -- a channel: the numbers of its two boxes, the initiator's first, and its tunnels
@@ -22,14 +23,10 @@ pub record ChannelState : Type 0 where
 abbrev pub channel_number_limit : ℕ
 channel_number_limit = 2 ^ 28
 
--- the most tunnels of a channel
-abbrev pub tunnel_limit : ℕ
-tunnel_limit = 8
-
 -- a channel has one to eight tunnels
 pub record HasTunnels (channel : ChannelState) : Type 0 where
   pub some : 0 < length channel.tunnels
-  pub few : length channel.tunnels ≤ tunnel_limit
+  pub few : length channel.tunnels ≤ TUNNEL_LIMIT
 
 -- channels within the limits: not too many, and each has one to eight tunnels
 pub record AreChannels (channels : List ChannelState) : Type 0 where

@@ -3,6 +3,9 @@
 use mc_signal::Medium;
 use std::marker::Model;
 
+/// The most tunnels of a channel.
+pub const TUNNEL_LIMIT: usize = 8;
+
 /// A tunnel of a channel: its medium, and the local numbers of its two slots, the initiator's first.
 #[derive(Clone, Copy, PartialEq, Eq, Debug)]
 pub struct Tunnel {

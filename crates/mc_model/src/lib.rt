@@ -3,4 +3,4 @@
 
 mod channel;
 
-pub use channel::{Channel, Tunnel};
+pub use channel::{Channel, TUNNEL_LIMIT, Tunnel};

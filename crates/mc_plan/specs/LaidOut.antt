@@ -2,7 +2,8 @@
 use Rattle.std.specs.Prelude.{◌≡◌, ◌≢◌, ℕ, ◌<◌, ◌≤◌, List, All, count_by, length, slice_index_or, take}
 use Rattle.mc_model.specs.Worlds.{HasTunnels, places_among}
 use Rattle.mc_plan.specs.Plans.{PlanState, is_of, slots_of}
-use Rattle.mc_plan.specs.declared.limit.TheConstants.{BOX_LIMIT, CHANNEL_LIMIT, SLOT_LIMIT}
+use Rattle.mc_box.specs.declared.limit.TheConstants.{SLOT_LIMIT}
+use Rattle.mc_plan.specs.declared.limit.TheConstants.{BOX_LIMIT, CHANNEL_LIMIT}
 
 -- the box and local number of a slot, by its number among these
 abbrev pub place_at : List (ℕ × ℕ) → ℕ → ℕ × ℕ

@@ -3,7 +3,9 @@ use Rattle.std.specs.Prelude.{◌≡◌, ℕ, ◌+◌, ◌==◌, ◌||◌, Bool,
 use Rattle.mc_signal.specs.declared.Medium.{Medium}
 use Rattle.mc_plan.specs.Plans.{PlanState, slots_of}
 use Rattle.mc_plan.specs.declared.fault.PlanFault.{PlanFault}
-use Rattle.mc_plan.specs.declared.limit.TheConstants.{BOX_LIMIT, CHANNEL_LIMIT, SLOT_LIMIT, TUNNEL_LIMIT}
+use Rattle.mc_box.specs.declared.limit.TheConstants.{SLOT_LIMIT}
+use Rattle.mc_model.specs.declared.channel.TheConstants.{TUNNEL_LIMIT}
+use Rattle.mc_plan.specs.declared.limit.TheConstants.{BOX_LIMIT, CHANNEL_LIMIT}
 use Rattle.mc_plan.specs.declared.fault.PlanFault.TheVariants.{NoBox, SameBox, NoTunnels, TooManyTunnels, BoxesFull, ChannelsFull, SlotsFull, NoMemory}
 
 -- this fault where a rule is broken, and else the first of the others

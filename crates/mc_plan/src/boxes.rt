@@ -5,7 +5,8 @@ ghost use Rattle.mc_plan.specs.Setups.{setup_if, setups_at, setups_of};
 ghost use Rattle.mc_model.specs.Worlds.{HasTunnels};
 ghost use Rattle.mc_plan.specs.LaidOut.{IsLaidOut};
 ghost use Rattle.mc_plan.specs.Plans.{box_from, boxes_from, slots_of};
-ghost use Rattle.mc_plan.specs.declared.limit.TheConstants.{BOX_LIMIT, CHANNEL_LIMIT, SLOT_LIMIT};
+ghost use Rattle.mc_box.specs.declared.limit.TheConstants.{SLOT_LIMIT};
+ghost use Rattle.mc_plan.specs.declared.limit.TheConstants.{BOX_LIMIT, CHANNEL_LIMIT};
 
 use crate::plan::BoxPlan;
 use mc_box::{MediaBox, Setup, SlotSetup};

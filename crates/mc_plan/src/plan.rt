@@ -4,15 +4,17 @@ ghost use Rattle.std.specs.Prelude.{◌≡◌, ◌≤◌, length, IfOk, OnOk, On
 ghost use Rattle.mc_plan.specs.LaidOut.{IsLaidOut};
 ghost use Rattle.mc_plan.specs.Plans.{empty_plan, with_channel, slots_of, with_plan, world_of};
 ghost use Rattle.mc_plan.specs.Refusals.{add_fault, join_fault, may_join, overfills, Gives};
-ghost use Rattle.mc_plan.specs.declared.limit.TheConstants.{SLOT_LIMIT, TUNNEL_LIMIT};
+ghost use Rattle.mc_box.specs.declared.limit.TheConstants.{SLOT_LIMIT};
+ghost use Rattle.mc_model.specs.declared.channel.TheConstants.{TUNNEL_LIMIT};
 
 use crate::boxes::boxes_from;
 use crate::fault::PlanFault;
-use crate::limit::{BOX_LIMIT, CHANNEL_LIMIT, SLOT_LIMIT, TUNNEL_LIMIT};
+use crate::limit::{BOX_LIMIT, CHANNEL_LIMIT};
 use crate::tunnels::{slots_of, tunnels_between};
 use mc_box::Kind;
+use mc_box::limit::SLOT_LIMIT;
 use mc_signal::{CodecList, Medium};
-use mc_world::{Channel, World};
+use mc_world::{Channel, TUNNEL_LIMIT, World};
 use std::alloc::{AllocError, Global};
 use std::marker::Model;
 

@@ -2,7 +2,7 @@
 
 ghost use Rattle.std.specs.Prelude.{◌≡◌, ◌+◌, ◌≤◌, ◌∷◌, [], length, IfOk};
 ghost use Rattle.mc_plan.specs.Plans.{slots_of, tunnels_between};
-ghost use Rattle.mc_plan.specs.declared.limit.TheConstants.{SLOT_LIMIT};
+ghost use Rattle.mc_box.specs.declared.limit.TheConstants.{SLOT_LIMIT};
 
 use mc_signal::Medium;
 use mc_world::{Channel, Tunnel};

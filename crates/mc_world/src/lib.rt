@@ -7,6 +7,6 @@ mod settled;
 mod topology;
 
 pub use mc_laws::laws;
-pub use mc_model::{Channel, Tunnel};
+pub use mc_model::{Channel, TUNNEL_LIMIT, Tunnel};
 pub use network::{StepFault, World};
 pub use settled::Settled;

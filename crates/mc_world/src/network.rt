@@ -6,7 +6,8 @@ ghost use Rattle.mc_model.specs.Settles.{is_quiet, rests};
 ghost use Rattle.mc_model.specs.Sound.{AreNew, IsNumbered, IsSound};
 ghost use Rattle.mc_world.specs.Lanes.{lane_number};
 ghost use Rattle.mc_world.specs.Tables.{channel_of, tunnels_by};
-ghost use Rattle.mc_model.specs.Worlds.{AreChannels, tunnel_limit, first_world, slot_count, place, number, far, tunnel_of, lane_of, front, front_for, slot_of, goal_of, places_among, places_within, tunnels_from, tunnels_within};
+ghost use Rattle.mc_model.specs.declared.channel.TheConstants.{TUNNEL_LIMIT};
+ghost use Rattle.mc_model.specs.Worlds.{AreChannels, first_world, slot_count, place, number, far, tunnel_of, lane_of, front, front_for, slot_of, goal_of, places_among, places_within, tunnels_from, tunnels_within};
 
 mod rings;
 mod step;
@@ -269,7 +270,7 @@ fn add_tunnels(
     tunnels: &[Tunnel],
     places: &mut Vec<(u32, u8)>,
 ) -> Result<(), AllocError>
-    requires { length tunnels.now ≤ tunnel_limit }
+    requires { length tunnels.now ≤ TUNNEL_LIMIT }
     ensures { OnOk result (places.new.items ≡ places.old.items ++ tunnels_by channel tunnels.now) }
 {
     for within in 0..tunnels.len() {
