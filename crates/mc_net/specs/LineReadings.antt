@@ -10,12 +10,14 @@ use Rattle.mc_script.specs.Rules.{least_broken}
 use Rattle.mc_script.specs.declared.rule.TheConstants.{GIVEN_TWICE, LIMIT_PASSED, NAME_TOO_LONG}
 use Rattle.mc_script.specs.declared.command.LineFault.{LineFault}
 use Rattle.mc_script.specs.declared.keyword.CommandWord.{CommandWord}
+use Rattle.mc_net.specs.BoxLines.{device_seen}
 use Rattle.mc_net.specs.Meaning.{after_by, command_after, with_new_box, with_new_codec, words_after}
 use Rattle.mc_net.specs.Rules.{command_line_rules, entry_fault, line_fault, rules_by, words_rules}
 use Rattle.mc_net.specs.SoFar.{Declared, DeclaredBox}
 use Rattle.mc_net.specs.Texts.{after_entry, after_line, after_words}
 use Rattle.mc_net.specs.declared.reader.boxes.DeviceLine.{DeviceLine}
 use Rattle.mc_net.specs.declared.section.Keyword.{Keyword}
+use Rattle.mc_net.specs.declared.section.Keyword.TheVariants.{Dev}
 
 -- a line is refused by its fault, and else these rules are left to ask of what it spells, seen by a view
 abbrev pub LeavesRules : {X Y : Type 0} → (X → Y) → (X → List (ℕ × Bool)) → Result X LineFault → Option ℕ → Option Y → Type 0
@@ -45,6 +47,10 @@ box_name_rules d name = name_rules d.names.boxes BOX_LIMIT name
 -- the name on the line of a device may be the last
 abbrev pub device_name_rules : Declared → DeviceLine → List (ℕ × Bool)
 device_name_rules d line = box_name_rules d line.name.now
+
+-- the line of a device does, behind `dev`
+abbrev pub SpellsDevice : Declared → List (List ℕ) → Result DeviceLine LineFault → Type 0
+SpellsDevice d words result = SpellsKind (device_seen d) (device_name_rules d) d Dev words result
 
 -- a line of this kind is read
 abbrev pub ReadsKind : Declared → Keyword → List (List ℕ) → Result (Unit {0}) ReadFault → Declared → Type 0

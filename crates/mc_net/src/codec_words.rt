@@ -88,7 +88,8 @@ pub fn listed<'a>(names: &Names, mut words: Words<'a>) -> CodecList
 #[tactic(auto, using(crate::proofs::CodecLists::has_codec_contains))]
 fn add_word(names: &Names, list: &mut CodecList, word: &[u8]) -> bool
     ensures could { result ≡ can_add names.now (codecs_of list.old) word.now }
-    ensures added { IsTrue result → codecs_of list.new ≡ codecs_of list.old ++ codec_number names.now word.now ∷ [] }
+    ensures added { IsTrue result
+        → codecs_of list.new ≡ codecs_of list.old ++ codec_number names.now word.now ∷ [] }
 {
     // there are at most 64 codecs
     let _ = names.codec_count();

@@ -1,3 +1,4 @@
+pub mod LineReadings
 pub mod Programs
 pub mod Readings
 pub mod WordLists

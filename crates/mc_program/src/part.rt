@@ -2,15 +2,13 @@
 
 ghost use Rattle.std.specs.Prelude.{◌≡◌, ◌<◌, ◌≤◌, length, position, IfOk, IfSome, MatchResult, OnErr, OnOk};
 ghost use Rattle.std.specs.Str.{bytes_eq};
-ghost use Rattle.std.specs.Option.{option_copied, option_map};
+ghost use Rattle.std.specs.Option.{option_copied};
 ghost use Rattle.mc_text.specs.NameLists.{place_of, slot_names};
 ghost use Rattle.mc_box.specs.BoxShapes.{medium_at, shape_of};
 ghost use Rattle.mc_slot.specs.Moves.{is_same_medium};
-ghost use Rattle.mc_script.specs.Places.{Fits, is_no, lacks, spelt_value, unless};
-ghost use Rattle.mc_script.specs.Rules.{least_broken};
-ghost use Rattle.mc_script.specs.Meaning.{ReadsAs};
-ghost use Rattle.mc_program.specs.Readings.{Declares, Makes};
-ghost use Rattle.mc_program.specs.Programs.{new_part, has_goal, lacks_goal, goal_rules, part_goal_after, part_link_rules, part_link_after, spelt_state, has_no_room, when_is_rules, when_told_rules, is_transition, with_transition, words_of, when_rules, part_when_after, told_after, waits_for, IsToldLine};
+ghost use Rattle.mc_script.specs.Places.{Fits, fixed_word, known_name};
+ghost use Rattle.mc_program.specs.Programs.{new_part, has_goal, lacks_goal, spelt_state, has_no_room, with_transition, words_of, waits_for, IsToldLine};
+ghost use Rattle.mc_program.specs.LineReadings.{BreaksWhenTold, PartReadsGoal, PartReadsLink, PartReadsWhen, PartReadsWhenIs, PartReadsWhenTold, SpellsTransition};
 
 use crate::fault::ReadFault;
 use crate::limit::{STATE_LIMIT, TRANSITION_LIMIT};
@@ -101,7 +99,7 @@ impl StatePart {
     ) -> Result<(), LineFault>
         requires who { who < length names.now.boxes }
         requires slots { length self.old.goals ≡ length (slot_names names.now who) }
-        ensures goal { Makes result self.new (least_broken (goal_rules names.now who self.old words.entry)) (part_goal_after names.now who self.old words.entry) }
+        ensures goal { PartReadsGoal names.now who self.old words.entry result self.new }
         ensures slots { length self.new.goals ≡ length self.old.goals }
     {
         let parts = FirstWords::new(words);
@@ -139,7 +137,7 @@ impl StatePart {
         requires fits { Fits names.now shape.now }
         requires who { who < length names.now.boxes }
         requires slots { length self.old.goals ≡ length (slot_names names.now who) }
-        ensures link { Makes result self.new (least_broken (part_link_rules names.now shape.now who self.old words.entry)) (part_link_after names.now who self.old words.entry) }
+        ensures link { PartReadsLink names.now shape.now who self.old words.entry result self.new }
         ensures slots { length self.new.goals ≡ length self.old.goals }
     {
         let parts = FirstWords::new(words);
@@ -194,7 +192,7 @@ impl StatePart {
     ) -> Result<(), ReadFault>
         requires who { who < length names.old.boxes }
         requires states { length states.now ≤ STATE_LIMIT }
-        ensures when { Declares result (names.new, self.new) (least_broken (when_rules names.old who (words_of states.now) self.old words.entry)) (part_when_after names.old who (words_of states.now) self.old words.entry) }
+        ensures when { PartReadsWhen names.old who (words_of states.now) self.old words.entry result (names.new, self.new) }
         ensures goals { self.new.goals ≡ self.old.goals }
         ensures boxes { OnOk result (names.new.boxes ≡ names.old.boxes) }
         ensures slots { OnOk result (names.new.slots ≡ names.old.slots) }
@@ -220,7 +218,7 @@ impl StatePart {
     ) -> Result<(), ReadFault>
         requires who { who < length names.now.boxes }
         requires states { length states.now ≤ STATE_LIMIT }
-        ensures is { Declares result self.new (least_broken (when_is_rules names.now who (words_of states.now) self.old words.entry)) (option_map (with_transition self.old) (is_transition names.now who (words_of states.now) words.entry)) }
+        ensures is { PartReadsWhenIs names.now who (words_of states.now) self.old words.entry result self.new }
         ensures goals { self.new.goals ≡ self.old.goals }
     {
         let transition = self.when_is_line(names, who, states, words)?;
@@ -235,7 +233,7 @@ impl StatePart {
         words: Words<'a>,
     ) -> Result<(), ReadFault>
         requires { length states.now ≤ STATE_LIMIT }
-        ensures told { Declares result (names.new, self.new) (least_broken (when_told_rules names.old (words_of states.now) self.old words.entry)) (told_after names.old (words_of states.now) self.old words.entry) }
+        ensures told { PartReadsWhenTold names.old (words_of states.now) self.old words.entry result (names.new, self.new) }
         ensures goals { self.new.goals ≡ self.old.goals }
         ensures boxes { OnOk result (names.new.boxes ≡ names.old.boxes) }
         ensures slots { OnOk result (names.new.slots ≡ names.old.slots) }
@@ -261,7 +259,7 @@ impl StatePart {
     ) -> Result<Transition, LineFault>
         requires who { who < length names.now.boxes }
         requires states { length states.now ≤ STATE_LIMIT }
-        ensures { ReadsAs result (least_broken (when_is_rules names.now who (words_of states.now) self.now words.entry)) (is_transition names.now who (words_of states.now) words.entry) }
+        ensures { SpellsTransition names.now who (words_of states.now) self.now words.entry result }
     {
         let parts = FirstWords::new(words);
         let target = known_target(states, parts.third)?;
@@ -296,7 +294,7 @@ impl StatePart {
         requires { length states.now ≤ STATE_LIMIT }
         ensures { MatchResult result
             (λ line. IsToldLine names.now (words_of states.now) self.now words.entry line.word.now line.target)
-            (λ e. least_broken (when_told_rules names.now (words_of states.now) self.now words.entry) ≡ Some e.number) }
+            (BreaksWhenTold names.now (words_of states.now) self.now words.entry) }
     {
         let parts = FirstWords::new(words);
         let target = known_target(states, parts.second)?;
@@ -357,7 +355,7 @@ fn has_no_room(names: &Names, word: &[u8]) -> bool
 // The state that a word names. Fault 4 where no state has the name.
 fn known_target(states: &[Vec<u8>], word: Option<&[u8]>) -> Result<Option<u32>, LineFault>
     requires { length states.now ≤ STATE_LIMIT }
-    ensures { result ≡ unless (lacks (words_of states.now) (option_copied word.entry)) UNDECLARED (spelt_value (place_of (words_of states.now)) (option_copied word.entry)) }
+    ensures { result ≡ known_name (words_of states.now) (option_copied word.entry) }
 {
     let Some(word) = word else { return Ok(None) };
     match find_state(states, word) {
@@ -382,7 +380,7 @@ fn place_in(states: &[Vec<u8>], word: &[u8]) -> Option<usize>
 
 // The state of a slot that a word spells. Fault 5 where it spells none.
 fn fixed_state(word: Option<&[u8]>) -> Result<Option<State>, LineFault>
-    ensures { result ≡ unless (is_no spelt_state (option_copied word.entry)) WRONG_WORD (spelt_value spelt_state (option_copied word.entry)) }
+    ensures { result ≡ fixed_word spelt_state (option_copied word.entry) }
 {
     let Some(word) = word else { return Ok(None) };
     match spelt_state(word) {

@@ -3,11 +3,9 @@
 ghost use Rattle.std.specs.Prelude.{◌≡◌, ◌<◌, ◌≤◌, IfOk, IsSome, Some, drop, length, OnErr, OnOk};
 ghost use Rattle.std.specs.Option.{option_and_then, option_copied};
 ghost use Rattle.std.specs.List.{slice_get};
-ghost use Rattle.mc_script.specs.Places.{box_named, Fits};
-ghost use Rattle.mc_script.specs.Meaning.{ReadsAs};
-ghost use Rattle.mc_script.specs.Rules.{least_broken};
-ghost use Rattle.mc_program.specs.Readings.{Declares, Makes};
-ghost use Rattle.mc_program.specs.Programs.{block_goal_after, block_goal_rules, block_link_after, block_link_rules, block_when_after, block_when_rules, has_program, is_not_next, is_other, is_unfinished_block, new_block, open_part_of, new_part_rules, part_lacks_goal, new_program_rules, with_new_part, words_of, FitsBox};
+ghost use Rattle.mc_script.specs.Places.{Fits};
+ghost use Rattle.mc_program.specs.Programs.{has_program, is_not_next, is_other, is_unfinished_block, new_block, open_part_of, part_lacks_goal, with_new_part, words_of, FitsBox};
+ghost use Rattle.mc_program.specs.LineReadings.{BlockReadsGoal, BlockReadsLink, BlockReadsWhen, SpellsProgram, SpellsState};
 
 use crate::fault::ReadFault;
 use crate::limit::STATE_LIMIT;
@@ -99,7 +97,7 @@ impl Block {
     /// Reads `goal SLOT GOAL` from the slot on. Fault 5 where no part is open.
     pub fn read_goal<'a>(&mut self, names: &Names, words: Words<'a>) -> Result<(), LineFault>
         requires { FitsBox names.now self.old }
-        ensures goal { Makes result self.new (least_broken (block_goal_rules names.now self.old words.entry)) (block_goal_after names.now self.old words.entry) }
+        ensures goal { BlockReadsGoal names.now self.old words.entry result self.new }
         ensures fits { OnOk result (FitsBox names.now self.new) }
     {
         match self.parts.last_mut() {
@@ -117,7 +115,7 @@ impl Block {
     ) -> Result<(), LineFault>
         requires names { Fits names.now shape.now }
         requires block { FitsBox names.now self.old }
-        ensures link { Makes result self.new (least_broken (block_link_rules names.now shape.now self.old words.entry)) (block_link_after names.now self.old words.entry) }
+        ensures link { BlockReadsLink names.now shape.now self.old words.entry result self.new }
         ensures fits { OnOk result (FitsBox names.now self.new) }
     {
         match self.parts.last_mut() {
@@ -130,7 +128,7 @@ impl Block {
     /// open. A told word that is new gets a number. Memory runs out only where the line breaks no rule.
     pub fn read_when<'a>(&mut self, names: &mut Names, words: Words<'a>) -> Result<(), ReadFault>
         requires { FitsBox names.old self.old }
-        ensures when { Declares result (names.new, self.new) (least_broken (block_when_rules names.old self.old words.entry)) (block_when_after names.old self.old words.entry) }
+        ensures when { BlockReadsWhen names.old self.old words.entry result (names.new, self.new) }
         ensures fits { OnOk result (FitsBox names.new self.new) }
         ensures boxes { OnOk result (names.new.boxes ≡ names.old.boxes) }
         ensures slots { OnOk result (names.new.slots ≡ names.old.slots) }
@@ -161,7 +159,7 @@ pub fn program_line<'a>(
     words: Words<'a>,
 ) -> Result<u32, LineFault>
     requires { Fits names.now shape.now }
-    ensures line { ReadsAs result (least_broken (new_program_rules names.now shape.now late (is_unfinished_block (option_copied block.entry)) words.entry)) (box_named names.now (slice_get words.entry 0)) }
+    ensures line { SpellsProgram names.now shape.now late (option_copied block.entry) words.entry result }
     ensures fits { IfOk result (λ who. FitsBox names.now (new_block who (drop 1 words.entry))) }
     ensures few { OnOk result (length (drop 1 words.entry) ≤ STATE_LIMIT) }
 {
@@ -222,7 +220,7 @@ pub fn state_line<'a>(
     block: Option<&Block>,
     mut words: Words<'a>,
 ) -> Result<(), LineFault>
-    ensures line { ReadsAs result (least_broken (new_part_rules late (option_copied block.entry) words.entry)) (Some tt) }
+    ensures line { SpellsState late (option_copied block.entry) words.entry result }
     ensures begun { OnOk result (IsSome block.entry) }
 {
     let name = words.next_word();

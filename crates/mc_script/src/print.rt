@@ -89,7 +89,8 @@ fn put_four(
     fourth: &[u8],
     out: &mut Vec<u8>,
 ) -> Result<(), AllocError>
-    ensures printed { Puts result out.old.items out.new.items (first.now ∷ second.now ∷ third.now ∷ fourth.now ∷ []) }
+    ensures printed { Puts result out.old.items out.new.items
+        (first.now ∷ second.now ∷ third.now ∷ fourth.now ∷ []) }
     ensures before { take (length out.old.items) out.new.items ≡ out.old.items }
 {
     put_three(first, second, third, out)?;

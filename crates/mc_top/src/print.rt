@@ -12,7 +12,8 @@ use std::alloc::{AllocError, Global};
 
 // Appends words with single spaces between them, and a line end.
 fn put_line(first: &[u8], others: &[&[u8]], out: &mut Vec<u8>) -> Result<(), AllocError>
-    ensures { OnOk result (out.new.items ≡ out.old.items ++ line_of (first.now ∷ map (λ word. word.now) others.now)) }
+    ensures { OnOk result (out.new.items
+        ≡ out.old.items ++ line_of (first.now ∷ map (λ word. word.now) others.now)) }
 {
     out.extend_from_slice(first)?;
     for word in others {

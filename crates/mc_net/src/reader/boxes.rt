@@ -2,10 +2,10 @@
 
 ghost use Rattle.std.specs.Prelude.{◌≡◌, IfOk, IsTrue, OnOk};
 ghost use Rattle.mc_text.specs.Spelling.{is_spelt};
-ghost use Rattle.mc_net.specs.BoxLines.{box_seen, device_seen};
+ghost use Rattle.mc_net.specs.BoxLines.{box_seen};
 ghost use Rattle.mc_net.specs.Forms.{IsInForm};
 ghost use Rattle.mc_net.specs.Meaning.{with_planned};
-ghost use Rattle.mc_net.specs.LineReadings.{ReadsBox, ReadsKind, SpellsKind, device_name_rules};
+ghost use Rattle.mc_net.specs.LineReadings.{ReadsBox, ReadsKind, SpellsDevice};
 
 use crate::codec_words::{
     codec_words, has_bad_version, is_overfull, listed, lists_undeclared, version_of,
@@ -37,7 +37,7 @@ pub struct DeviceLine<'a> {
 impl Reader {
     // What a `dev` line declares.
     fn device_line<'a>(&self, mut words: Words<'a>) -> Result<DeviceLine<'a>, LineFault>
-        ensures read { SpellsKind (device_seen self.now) (device_name_rules self.now) self.now Keyword.Dev words.entry result }
+        ensures read { SpellsDevice self.now words.entry result }
         ensures spelt { IfOk result (λ line. IsTrue (is_spelt line.name.now)) }
     {
         let name = words.next_word();
