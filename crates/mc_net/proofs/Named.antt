@@ -117,7 +117,7 @@ record IsAt (names : NameLists) (words : List (List ℕ)) (means : ℕ → Optio
   event : Event
   box : box_named names (slice_get words 0) ≡ Some who
   slot : slot_named names (Some who) (slice_get words 1) ≡ Some local
-  spelt_value : means local ≡ Some event
+  meant : means local ≡ Some event
   is : it ≡ Stimulus (record { who = who; event = event })
 
 at_slot_is : (names : NameLists) (words : List (List ℕ)) (means : ℕ → Option Event) (it : Command) → at_slot names words means ≡ Some it → IsAt names words means it
@@ -127,7 +127,7 @@ at_slot_is names words means it found = by (box_named names (slice_get words 0))
     by_event who a local b None c = absurd (let none : None ≡ Some it = rw (a, b, c) at found in cc)
     by_event who a local b (Some event) c =
         let some : Some (Stimulus (record { who = who; event = event })) ≡ Some it = rw (a, b, c) at found in
-        record { who = who; local = local; event = event; box = a; slot = b; spelt_value = c; is = cc }
+        record { who = who; local = local; event = event; box = a; slot = b; meant = c; is = cc }
 
     by_slot : (who : ℕ) → box_named names (slice_get words 0) ≡ Some who → (local : Option ℕ) → slot_named names (Some who) (slice_get words 1) ≡ local → IsAt names words means it
     by_slot who a None b = absurd (let none : None ≡ Some it = rw (a, b) at found in cc)
