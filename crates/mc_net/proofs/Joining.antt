@@ -15,7 +15,7 @@ use Rattle.mc_plan.proofs.Slots.{part, slots_append, slots_one}
 use Rattle.mc_script.specs.Places.{unless}
 use Rattle.mc_script.specs.declared.command.LineFault.{LineFault}
 use Rattle.mc_script.specs.declared.rule.TheConstants.{LIMIT_PASSED, SAME_BOX}
-use Rattle.mc_net.specs.BoxLines.{is_full, may_join}
+use Rattle.mc_net.specs.BoxLines.{is_full, check_join}
 use Rattle.mc_net.specs.Forms.{IsInForm}
 use Rattle.mc_net.specs.Meaning.{with_joined, with_medium}
 use Rattle.mc_net.specs.SoFar.{Declared}
@@ -46,7 +46,7 @@ one_too_many count = grind (arith, common_steps)
 
 -- the plan refuses as the rules on the line do
 pub joins_by_plan : (names : NameLists) (planned : PlanState) (from to : ℕ) (medium : Medium) → length planned.boxes ≡ length names.boxes → ((who : ℕ) → slots_of planned.channels who ≡ length (slot_names names who))
-    → from < length names.boxes → to < length names.boxes → refusal (plan.may_join planned from to (medium ∷ [])) ≡ may_join names planned.channels from to
+    → from < length names.boxes → to < length names.boxes → refusal (plan.may_join planned from to (medium ∷ [])) ≡ check_join names planned.channels from to
 joins_by_plan names planned from to medium boxes slots near far =
     let first : nat_le (length planned.boxes) from ≡ false = grind (arith, common_steps) in
     let second : nat_le (length planned.boxes) to ≡ false = grind (arith, common_steps) in

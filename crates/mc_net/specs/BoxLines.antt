@@ -32,14 +32,14 @@ abbrev pub is_full : NameLists → ℕ → Bool
 is_full names who = nat_le SLOT_LIMIT (length (slot_names names who))
 
 -- whether two boxes may be joined by one more channel of one tunnel
-abbrev pub may_join : NameLists → List ChannelState → (from to : ℕ) → Result (Unit {0}) LineFault
-may_join names channels from to = if from == to then Err (record { number = SAME_BOX })
+abbrev pub check_join : NameLists → List ChannelState → (from to : ℕ) → Result (Unit {0}) LineFault
+check_join names channels from to = if from == to then Err (record { number = SAME_BOX })
     else unless (is_full names from || is_full names to || nat_le CHANNEL_LIMIT (length channels)) LIMIT_PASSED tt
 
 -- both boxes are declared, they may be joined, and both slots are named
 pub record CanJoin (d : Declared) (line : ChannelLine) : Type 0 where
   pub near : line.from < length d.names.boxes
   pub far : line.to < length d.names.boxes
-  pub joins : may_join d.names d.channels line.from line.to ≡ Ok tt
+  pub joins : check_join d.names d.channels line.from line.to ≡ Ok tt
   pub slot : IsTrue (is_name line.slot.now)
   pub far_slot : IsTrue (is_name line.far_slot.now)

@@ -4,7 +4,7 @@ ghost use Rattle.std.specs.Prelude.{◌≡◌, ◌<◌, [], IfOk, IsTrue, OnOk, 
 ghost use Rattle.std.specs.Option.{is_some};
 ghost use Rattle.mc_text.specs.NameLists.{place_of, slot_names};
 ghost use Rattle.mc_text.specs.Spelling.{is_name};
-ghost use Rattle.mc_net.specs.BoxLines.{CanJoin, channel_seen, may_join};
+ghost use Rattle.mc_net.specs.BoxLines.{CanJoin, channel_seen, check_join};
 ghost use Rattle.mc_net.specs.Forms.{IsInForm};
 ghost use Rattle.mc_net.specs.Meaning.{with_new_channel, with_medium, with_new_slot};
 ghost use Rattle.mc_net.specs.LineReadings.{ReadsKind, SpellsKind};
@@ -69,7 +69,7 @@ impl Reader {
             });
         }
         // asked before the length of the names, which comes behind it
-        self.may_join(from, to, medium)?;
+        self.check_join(from, to, medium)?;
         if is_overlong(parts.third) || is_overlong(parts.fifth) {
             return Err(LineFault {
                 number: NAME_TOO_LONG,
@@ -95,11 +95,11 @@ impl Reader {
     // Whether two boxes may be joined by one more channel of one tunnel: else fault 10 where they are the same box, and
     // 14 where there would be too many channels, or slots of a box.
     #[tactic(auto, using(crate::proofs::Joining::joins_by_plan))]
-    fn may_join(&self, from: u32, to: u32, medium: Medium) -> Result<(), LineFault>
+    fn check_join(&self, from: u32, to: u32, medium: Medium) -> Result<(), LineFault>
         requires in_form { IsInForm self.now }
         requires near { from < length self.now.names.boxes }
         requires far { to < length self.now.names.boxes }
-        ensures { result ≡ may_join self.now.names self.now.channels from to }
+        ensures { result ≡ check_join self.now.names self.now.channels from to }
     {
         match self.plan.may_join(from, to, &[medium]) {
             Ok(()) => Ok(()),
