@@ -1,5 +1,6 @@
 use super::*;
-use mc_box::{Change, Event, Kind, MediaBox, Turn};
+use mc_box::{Change, Event, Kind, MediaBox, Shape, Turn};
+use mc_script::Batch;
 use mc_signal::{CodecList, Descriptor, Medium, Sender};
 use mc_slot::{Goal, Slot, SlotGoal, State};
 use mc_text::Names;
@@ -153,24 +154,39 @@ fn set(who: u32, goal: Goal) -> Turn {
     }
 }
 
+// The shapes of the two phones: devices with one slot of audio each, without programs.
+fn has_shapes(rt: &impl Abort, shape: &Shape) {
+    assert_eq!(rt; shape.boxes.len(), 2);
+    for shape in &shape.boxes {
+        assert_eq!(rt; shape.kind, Kind::Device);
+        assert_eq!(rt; &shape.media[..], &[Medium::Audio][..]);
+        assert!(rt; !shape.programmed);
+    }
+}
+
+// One batch of two commands.
+fn has_batch(rt: &impl Abort, batches: &[Batch]) {
+    assert_eq!(rt; batches.len(), 1);
+    let batch = [set(0, Goal::Open), set(1, Goal::Hold)];
+    assert_eq!(rt; &batches[0].turns[..], &batch[..]);
+}
+
+// The network that a text declares, of which nothing is said beforehand.
+fn net_of(alloc: Global, text: &[u8]) -> Result<Net, NetFault> {
+    read_net(alloc, text, Tail::Nothing)
+}
+
 #[test]
 fn two_phones_make_a_net(rt: HostRuntime) -> Result<(), NetFault> {
     let alloc = rt.alloc();
     let mut text = Vec::from_slice(alloc, PHONES)?;
     text.extend_from_slice(b"set alice a open\nset bob a hold\nsettle\nset alice a close")?;
-    let net = read_net(alloc, &text, Tail::Nothing)?;
+    let net = net_of(alloc, &text)?;
     names_phones(&rt, &net.names);
     has_phones(&rt, &net.world);
     has_channel(&rt, &net.world);
-    assert_eq!(rt; net.shape.boxes.len(), 2);
-    for shape in &net.shape.boxes {
-        assert_eq!(rt; shape.kind, Kind::Device);
-        assert_eq!(rt; &shape.media[..], &[Medium::Audio][..]);
-        assert!(rt; !shape.programmed);
-    }
-    assert_eq!(rt; net.batches.len(), 1);
-    let batch = [set(0, Goal::Open), set(1, Goal::Hold)];
-    assert_eq!(rt; &net.batches[0].turns[..], &batch[..]);
+    has_shapes(&rt, &net.shape);
+    has_batch(&rt, &net.batches);
     assert_eq!(rt; net.rest, text.len());
     Ok(())
 }
