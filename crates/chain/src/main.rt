@@ -1,7 +1,7 @@
-//! `chain TUNNELS calls TIMES`: a caller and a callee, with a chain of features between them that are linked through, call
-//! and hang up so many times. It prints what their path is each time, and on standard error how many turns the boxes
-//! had. `rings` or `paths` in place of `calls` asks that many times for the rings or the paths of the chain. It shows
-//! how a network is laid out and run by hand; `bench/steps` times it.
+//! `chain TUNNELS calls TIMES`: a caller and a callee, with a chain of features between them that are linked through,
+//! call and hang up so many times. It prints what their path is each time, and on standard error how many turns the
+//! boxes had. `rings` or `paths` in place of `calls` asks that many times for the rings or the paths of the chain. It
+//! shows how a network is laid out and run by hand; `bench/steps` times it.
 #![tactic(auto)]
 
 mod call;

@@ -44,7 +44,8 @@ pub fn take_was_lawful()
     ensures { TakeWasLawful }
 {}
 
-/// Each enabled event of a sound box that takes nothing can happen, unless it is a Hear of a slot that has the last version.
+/// Each enabled event of a sound box that takes nothing can happen, unless it is a Hear of a slot that has the last
+/// version.
 pub fn event_goes()
     ensures { EventGoes }
 {}

@@ -21,14 +21,14 @@ pub fn step_acts()
     ensures { StepActs }
 {}
 
-/// In a turn of a sound world the turn's box makes its step, in a Take with the front of its slot's lane, and is what the step
-/// leaves. The other boxes stay.
+/// In a turn of a sound world the turn's box makes its step, in a Take with the front of its slot's lane, and is what
+/// the step leaves. The other boxes stay.
 pub fn step_is_made()
     ensures { StepIsMade }
 {}
 
-/// After a turn of a sound world each lane is as it was, without its front where the turn takes that, and then exactly what
-/// the box sends to it, in the order of sending.
+/// After a turn of a sound world each lane is as it was, without its front where the turn takes that, and then exactly
+/// what the box sends to it, in the order of sending.
 pub fn step_appends()
     ensures { StepAppends }
 {}
@@ -49,7 +49,8 @@ pub fn run_keeps_sound()
     ensures { RunKeepsSound }
 {}
 
-/// In a sound world, a signal at the front of a lane is one that its slot may take: no answer for unlawful signals is needed.
+/// In a sound world, a signal at the front of a lane is one that its slot may take: no answer for unlawful signals is
+/// needed.
 pub fn front_is_taken()
     ensures { FrontIsTaken }
 {}
@@ -79,8 +80,8 @@ pub fn takes_end()
     ensures { TakesEnd }
 {}
 
-/// The measure of a sound world is at most half of its delivery bound: the fourth power of one more than its tunnels, for
-/// each signal under way and each slot.
+/// The measure of a sound world is at most half of its delivery bound: the fourth power of one more than its tunnels,
+/// for each signal under way and each slot.
 pub fn measure_bound()
     ensures { MeasureBound }
 {}
@@ -116,8 +117,8 @@ pub fn retry_goes()
     ensures { RetryGoes }
 {}
 
-/// In a sound world, a walk over as many tunnels as there are meets no end exactly where its slot stands on a ring: it comes
-/// back to the slot then, since it can't go over a tunnel both ways, and links are mutual.
+/// In a sound world, a walk over as many tunnels as there are meets no end exactly where its slot stands on a ring: it
+/// comes back to the slot then, since it can't go over a tunnel both ways, and links are mutual.
 pub fn rings_meet_no_end()
     ensures { RingsMeetNoEnd }
 {}
@@ -132,8 +133,8 @@ pub fn rest_keeps_rings()
     ensures { RestKeepsRings }
 {}
 
-/// A settled segment has the Sets, the Media events and the Tells of its batch, box by box and in order, each once, and no
-/// others.
+/// A settled segment has the Sets, the Media events and the Tells of its batch, box by box and in order, each once, and
+/// no others.
 pub fn settled_makes_its_batch()
     ensures { SettledMakesItsBatch }
 {}

@@ -1,4 +1,5 @@
-//! Laws of paths, and of what may be at rest on one side of a box, over the definitions alone: each function's contract is the law's sentence.
+//! Laws of paths, and of what may be at rest on one side of a box, over the definitions alone: each function's contract
+//! is the law's sentence.
 
 ghost use Rattle.mc_path.specs.Views.{TwoSlotsATunnel, SilentUnlessFlowing};
 

@@ -22,8 +22,8 @@ use mc_world::World;
 use std::alloc::{AllocError, Global};
 
 /// Each path of the world once, in the order of the lower ends: both ends, whether it flows, its medium, and how
-/// many tunnels it goes over. No end hears anything on a path that doesn't flow. Where nothing is under way, each path is closed at all its slots, or flows at all of
-/// them with ends that hear each other.
+/// many tunnels it goes over. No end hears anything on a path that doesn't flow. Where nothing is under way, each path
+/// is closed at all its slots, or flows at all of them with ends that hear each other.
 pub fn paths(alloc: Global, world: &World) -> Result<Vec<PathView>, AllocError>
     ensures views { IfOk result (λ views. views.items ≡ map (view_of world.now) (paths world.now)) }
     ensures quiet { IsTrue (is_quiet world.now) → All (IsQuietPath world.now) (paths world.now) }

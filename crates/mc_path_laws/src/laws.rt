@@ -3,13 +3,14 @@
 ghost use Rattle.mc_path_laws.specs.PathLaws.{EachEndOnce, EachSlotOnce, PathsPassOnce, PathsOfOneMedium, QuietPaths, CleanPaths, RestedPathsHold, SettledPathsHold};
 ghost use Rattle.mc_path_laws.specs.Rests.{EndsAtRest, LinksAtRest};
 
-/// Each end of a sound world is an end of exactly one of its paths: the walk from there comes to another end, and from that
-/// end back.
+/// Each end of a sound world is an end of exactly one of its paths: the walk from there comes to another end, and from
+/// that end back.
 pub fn each_end_once()
     ensures { EachEndOnce }
 {}
 
-/// Each slot of a sound world stands on a ring, and no path goes over it, or on none, and exactly one path goes over it.
+/// Each slot of a sound world stands on a ring, and no path goes over it, or on none, and exactly one path goes over
+/// it.
 pub fn each_slot_once()
     ensures { EachSlotOnce }
 {}
@@ -31,21 +32,21 @@ pub fn quiet_paths()
     ensures { QuietPaths }
 {}
 
-/// After a moment at which nothing was under way, while only Takes and Retries come, no close is ever under way on a path
-/// without an end that closes, over however many tunnels and links.
+/// After a moment at which nothing was under way, while only Takes and Retries come, no close is ever under way on a
+/// path without an end that closes, over however many tunnels and links.
 pub fn clean_paths()
     ensures { CleanPaths }
 {}
 
-/// Between two moments at which nothing is under way, where only Takes and Retries come, and among them each Retry that is
-/// owed at the first: then each path is as the path table says.
+/// Between two moments at which nothing is under way, where only Takes and Retries come, and among them each Retry that
+/// is owed at the first: then each path is as the path table says.
 pub fn rested_paths_hold()
     ensures { RestedPathsHold }
 {}
 
-/// After each settled segment, whatever its batch and the order of its turns, each path is as the path table says: closed
-/// where an end closes, flowing where one opens and none closes, either of the two for hold against hold; and where it
-/// flows its ends have each other's newest descriptor and the choice for their own.
+/// After each settled segment, whatever its batch and the order of its turns, each path is as the path table says:
+/// closed where an end closes, flowing where one opens and none closes, either of the two for hold against hold; and
+/// where it flows its ends have each other's newest descriptor and the choice for their own.
 pub fn settled_paths_hold()
     ensures { SettledPathsHold }
 {}

@@ -8,8 +8,8 @@ pub fn plans_are_numbered()
     ensures { PlansAreNumbered }
 {}
 
-/// Whatever network is laid out, and whatever its boxes do by turns, each world that they reach is sound: each signal at a
-/// front is lawful for its slot, and as long as one is under way some slot can take one.
+/// Whatever network is laid out, and whatever its boxes do by turns, each world that they reach is sound: each signal
+/// at a front is lawful for its slot, and as long as one is under way some slot can take one.
 pub fn plans_stay_sound()
     ensures { PlansStaySound }
 {}

@@ -16,25 +16,25 @@ use Rattle.mc_program.specs.declared.part.Transition.{Transition}
 -- ---- the lines of a part, in a program of a box
 
 -- `goal SLOT GOAL`
-abbrev pub PartReadsGoal : NameLists → ℕ → PartState → List (List ℕ) → Result (Unit {0}) LineFault → PartState → Type 0
-PartReadsGoal names who old words result new = Makes result new (least_broken (goal_rules names who old words)) (part_goal_after names who old words)
+abbrev pub ReadsGoal : NameLists → ℕ → PartState → List (List ℕ) → Result (Unit {0}) LineFault → PartState → Type 0
+ReadsGoal names who old words result new = Makes result new (least_broken (goal_rules names who old words)) (part_goal_after names who old words)
 
 -- `link SLOT SLOT`
-abbrev pub PartReadsLink : NameLists → List BoxShapeState → ℕ → PartState → List (List ℕ) → Result (Unit {0}) LineFault → PartState → Type 0
-PartReadsLink names shape who old words result new = Makes result new (least_broken (part_link_rules names shape who old words)) (part_link_after names who old words)
+abbrev pub ReadsLink : NameLists → List BoxShapeState → ℕ → PartState → List (List ℕ) → Result (Unit {0}) LineFault → PartState → Type 0
+ReadsLink names shape who old words result new = Makes result new (least_broken (part_link_rules names shape who old words)) (part_link_after names who old words)
 
 -- `when ..`, with the names after it
-abbrev pub PartReadsWhen : NameLists → ℕ → List (List ℕ) → PartState → List (List ℕ) → Result (Unit {0}) ReadFault → NameLists × PartState → Type 0
-PartReadsWhen names who states old words result new = Declares result new (least_broken (when_rules names who states old words)) (part_when_after names who states old words)
+abbrev pub ReadsWhen : NameLists → ℕ → List (List ℕ) → PartState → List (List ℕ) → Result (Unit {0}) ReadFault → NameLists × PartState → Type 0
+ReadsWhen names who states old words result new = Declares result new (least_broken (when_rules names who states old words)) (part_when_after names who states old words)
 
 -- `when is SLOT STATE TARGET`, behind `is`
-abbrev pub PartReadsWhenIs : NameLists → ℕ → List (List ℕ) → PartState → List (List ℕ) → Result (Unit {0}) ReadFault → PartState → Type 0
-PartReadsWhenIs names who states old words result new =
+abbrev pub ReadsWhenIs : NameLists → ℕ → List (List ℕ) → PartState → List (List ℕ) → Result (Unit {0}) ReadFault → PartState → Type 0
+ReadsWhenIs names who states old words result new =
     Declares result new (least_broken (when_is_rules names who states old words)) (option_map (with_transition old) (is_transition names who states words))
 
 -- `when told WORD TARGET`, behind `told`, with the names after it
-abbrev pub PartReadsWhenTold : NameLists → List (List ℕ) → PartState → List (List ℕ) → Result (Unit {0}) ReadFault → NameLists × PartState → Type 0
-PartReadsWhenTold names states old words result new = Declares result new (least_broken (when_told_rules names states old words)) (told_after names states old words)
+abbrev pub ReadsWhenTold : NameLists → List (List ℕ) → PartState → List (List ℕ) → Result (Unit {0}) ReadFault → NameLists × PartState → Type 0
+ReadsWhenTold names states old words result new = Declares result new (least_broken (when_told_rules names states old words)) (told_after names states old words)
 
 -- the transition of `when is ..`, behind `is`
 abbrev pub SpellsTransition : NameLists → ℕ → List (List ℕ) → PartState → List (List ℕ) → Result Transition LineFault → Type 0

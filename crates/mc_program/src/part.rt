@@ -8,7 +8,7 @@ ghost use Rattle.mc_box.specs.BoxShapes.{medium_at, shape_of};
 ghost use Rattle.mc_slot.specs.Moves.{is_same_medium};
 ghost use Rattle.mc_script.specs.Places.{Fits, fixed_word, known_name};
 ghost use Rattle.mc_program.specs.Programs.{new_part, has_goal, lacks_goal, spelt_state, has_no_room, with_transition, words_of, waits_for, IsToldLine};
-ghost use Rattle.mc_program.specs.LineReadings.{BreaksWhenTold, PartReadsGoal, PartReadsLink, PartReadsWhen, PartReadsWhenIs, PartReadsWhenTold, SpellsTransition};
+ghost use Rattle.mc_program.specs.LineReadings.{BreaksWhenTold, ReadsGoal, ReadsLink, ReadsWhen, ReadsWhenIs, ReadsWhenTold, SpellsTransition};
 
 use crate::fault::ReadFault;
 use crate::limit::{STATE_LIMIT, TRANSITION_LIMIT};
@@ -99,7 +99,7 @@ impl StatePart {
     ) -> Result<(), LineFault>
         requires who { who < length names.now.boxes }
         requires slots { length self.old.goals ≡ length (slot_names names.now who) }
-        ensures goal { PartReadsGoal names.now who self.old words.entry result self.new }
+        ensures goal { ReadsGoal names.now who self.old words.entry result self.new }
         ensures slots { length self.new.goals ≡ length self.old.goals }
     {
         let parts = FirstWords::new(words);
@@ -137,7 +137,7 @@ impl StatePart {
         requires fits { Fits names.now shape.now }
         requires who { who < length names.now.boxes }
         requires slots { length self.old.goals ≡ length (slot_names names.now who) }
-        ensures link { PartReadsLink names.now shape.now who self.old words.entry result self.new }
+        ensures link { ReadsLink names.now shape.now who self.old words.entry result self.new }
         ensures slots { length self.new.goals ≡ length self.old.goals }
     {
         let parts = FirstWords::new(words);
@@ -192,7 +192,7 @@ impl StatePart {
     ) -> Result<(), ReadFault>
         requires who { who < length names.old.boxes }
         requires states { length states.now ≤ STATE_LIMIT }
-        ensures when { PartReadsWhen names.old who (words_of states.now) self.old words.entry result (names.new, self.new) }
+        ensures when { ReadsWhen names.old who (words_of states.now) self.old words.entry result (names.new, self.new) }
         ensures goals { self.new.goals ≡ self.old.goals }
         ensures boxes { OnOk result (names.new.boxes ≡ names.old.boxes) }
         ensures slots { OnOk result (names.new.slots ≡ names.old.slots) }
@@ -218,7 +218,7 @@ impl StatePart {
     ) -> Result<(), ReadFault>
         requires who { who < length names.now.boxes }
         requires states { length states.now ≤ STATE_LIMIT }
-        ensures is { PartReadsWhenIs names.now who (words_of states.now) self.old words.entry result self.new }
+        ensures is { ReadsWhenIs names.now who (words_of states.now) self.old words.entry result self.new }
         ensures goals { self.new.goals ≡ self.old.goals }
     {
         let transition = self.when_is_line(names, who, states, words)?;
@@ -233,7 +233,7 @@ impl StatePart {
         words: Words<'a>,
     ) -> Result<(), ReadFault>
         requires { length states.now ≤ STATE_LIMIT }
-        ensures told { PartReadsWhenTold names.old (words_of states.now) self.old words.entry result (names.new, self.new) }
+        ensures told { ReadsWhenTold names.old (words_of states.now) self.old words.entry result (names.new, self.new) }
         ensures goals { self.new.goals ≡ self.old.goals }
         ensures boxes { OnOk result (names.new.boxes ≡ names.old.boxes) }
         ensures slots { OnOk result (names.new.slots ≡ names.old.slots) }

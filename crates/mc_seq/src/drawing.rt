@@ -41,8 +41,10 @@ enum Draw {
 }
 
 /// Settles a batch by draws. Each turn is drawn among those that can come: the next command of each box, and a Take of
-/// each slot for which a signal waits. After 63 turns that were no commands only commands are drawn, while any are left.
-/// Where the batch is used up and nothing can come, each retry that is owed is made, once in a settle, and turns are drawn again.
+/// each slot for which a signal waits. After 63 turns that were no commands only commands are drawn, while any are
+/// left.
+/// Where the batch is used up and nothing can come, each retry that is owed is made, once in a settle, and turns are
+/// drawn again.
 ///
 /// The world allows each command. It always ends: at rest, at a ring of links that the batch left,
 /// or at a Hear of a descriptor that has the last version; or for want of memory.

@@ -31,8 +31,8 @@ pub fn settle_in_order(alloc: Global, world: World, batch: &[Turn]) -> Result<Se
     }
 }
 
-/// The same for any batch that can happen, one event after another, whether it sets links or not: where it leaves a ring,
-/// the settle stops when the batch is used up, and answers the least slot on a ring.
+/// The same for any batch that can happen, one event after another, whether it sets links or not: where it leaves a
+/// ring, the settle stops when the batch is used up, and answers the least slot on a ring.
 pub fn settle_or_ring(alloc: Global, world: World, batch: &[Turn]) -> Result<Settled, SettleFault>
     requires goes { IsSome (run world batch.now) }
     ensures plain { IfOk result (λ done. IsPlain world batch.now done.turns.items done.world) }
@@ -68,7 +68,8 @@ fn lowest_front(world: &World) -> Option<u32>
     None
 }
 
-// Makes Takes, each of the lowest slot that can take its front, until nothing is under way. Where there is no ring, that ends.
+// Makes Takes, each of the lowest slot that can take its front, until nothing is under way. Where there is no ring,
+// that ends.
 fn take_all(settled: &mut Settled) -> Result<(), AllocError>
     requires free { has_ring settled.old.world ≡ false }
     ensures free { OnOk result (has_ring settled.new.world ≡ false) }

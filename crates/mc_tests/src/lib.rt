@@ -1,5 +1,5 @@
-//! Tests over several crates: networks that are laid out by hand, stepped by lists of turns or settled by draws, and what
-//! their paths are then.
+//! Tests over several crates: networks that are laid out by hand, stepped by lists of turns or settled by draws, and
+//! what their paths are then.
 #![tactic(auto)]
 
 #[cfg(test)]

@@ -47,8 +47,8 @@ pub fn two_features(alloc: Global) -> Result<World, TestFault> {
     Ok(plan.world()?)
 }
 
-/// A row of boxes with so many audio channels between them, a device at each end and features between these, whose slots
-/// aren't linked yet. Tunnel `t` leads from box `t` to box `t + 1`.
+/// A row of boxes with so many audio channels between them, a device at each end and features between these, whose
+/// slots aren't linked yet. Tunnel `t` leads from box `t` to box `t + 1`.
 pub fn row(alloc: Global, tunnels: u32) -> Result<World, TestFault> {
     let mut plan = Plan::new(alloc);
     plan.add(device())?;

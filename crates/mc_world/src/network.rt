@@ -50,8 +50,8 @@ impl Model for World {
 
 impl World {
     /// A world as new: nothing is under way. The boxes are new, and the channels join each of their slots once,
-    /// with the numbers of the rules. There are at most 2^28 channels, each of one to eight tunnels, so that their slots
-    /// have numbers.
+    /// with the numbers of the rules. There are at most 2^28 channels, each of one to eight tunnels, so that their
+    /// slots have numbers.
     pub fn new(
         alloc: Global,
         boxes: Vec<MediaBox>,
