@@ -4,12 +4,14 @@ pub mod Acting
 pub mod BatchMade
 pub mod BothWays
 pub mod BoxSound
+pub mod BoxVersions
 pub mod CommandsGo
 pub mod Exchanges
 pub mod GoalsKept
-pub mod TunnelPlaces
+pub mod HearCounts
 pub mod LaneSums
 pub mod LanesKept
+pub mod LastMet
 pub mod LinkFree
 pub mod Lowers
 pub mod NewWorlds
@@ -22,6 +24,7 @@ pub mod Repeats
 pub mod RingChains
 pub mod RingWalks
 pub mod Rings
+pub mod RunVersions
 pub mod SentOut
 pub mod ShapesKept
 pub mod StepActs
@@ -32,4 +35,5 @@ pub mod StepSendings
 pub mod SteppedKeeps
 pub mod Sums
 pub mod TakeParts
+pub mod TunnelPlaces
 pub mod Walks

@@ -6,7 +6,7 @@ use Rattle.mc_signal.specs.declared.Signal.{Signal}
 use Rattle.mc_signal.specs.declared.Signal.TheVariants.{Open, Oack, Close, Closeack, Describe, Select}
 use Rattle.mc_turn.specs.Weights.{weight, weights}
 use Rattle.mc_turn.specs.Sums.{total}
-use Rattle.mc_turn.proofs.Sums.{total_one, total_same}
+use Rattle.mc_turn.proofs.Sums.{total_one}
 
 -- ---- sums
 

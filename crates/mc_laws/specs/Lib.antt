@@ -3,3 +3,4 @@ pub mod Measures
 pub mod Sendings
 pub mod StepLaws
 pub mod Stepped
+pub mod Versions

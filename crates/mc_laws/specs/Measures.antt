@@ -1,5 +1,5 @@
 -- A number that each Take of a world without a ring lowers, so that Takes alone come to an end.
-use Rattle.std.specs.Prelude.{◌≡◌, ◌≤◌, ◌<◌, ◌+◌, ◌*◌, ◌^◌, ℕ, zero, suc, false, List, length, IsTrue, Some}
+use Rattle.std.specs.Prelude.{◌≡◌, ◌≤◌, ◌<◌, ◌+◌, ◌*◌, ◌^◌, ℕ, false, List, length, IsTrue, Some}
 use Rattle.std.specs.List.{list_all, sum_by}
 use Rattle.mc_link.specs.LinkWeights.{stored_link}
 use Rattle.mc_slot.specs.declared.SlotGoal.{SlotGoal}

@@ -1,5 +1,5 @@
 -- Laws of steps and runs: a sound world stays sound, its slots may take what is under way to them, and something can be taken as long as anything is under way.
-use Rattle.std.specs.Prelude.{◌≡◌, ◌<◌, ℕ, false, List, length, Some, IsSome}
+use Rattle.std.specs.Prelude.{◌≡◌, ◌<◌, ℕ, false, List, Some, IsSome}
 use Rattle.mc_signal.specs.declared.Signal.{Signal}
 use Rattle.mc_slot.specs.Moves.{slot_take}
 use Rattle.mc_box.specs.Boxes.{BoxState}

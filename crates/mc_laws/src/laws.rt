@@ -1,5 +1,6 @@
 //! Laws of steps and runs, over the definitions alone: each function's contract is the law's sentence.
 
+ghost use Rattle.mc_laws.specs.Versions.{LastIsPassed, SettlesCountHears, VersionsCountHears};
 ghost use Rattle.mc_laws.specs.Exchanges.{WorkedExchanges};
 ghost use Rattle.mc_laws.specs.Measures.{TakeLowers, TakesEnd, MeasureBound, TakesBound};
 ghost use Rattle.mc_laws.specs.Sendings.{StepIsMade, StepAppends};
@@ -137,4 +138,21 @@ pub fn rest_keeps_rings()
 /// no others.
 pub fn settled_makes_its_batch()
     ensures { SettledMakesItsBatch }
+{}
+
+/// After a run of a sound world, the version of each slot's descriptor is greater by the number of the run's Hears of
+/// that slot.
+pub fn versions_count_hears()
+    ensures { VersionsCountHears }
+{}
+
+/// A settled segment has as many Hears of each slot as its batch.
+pub fn settles_count_hears()
+    ensures { SettlesCountHears }
+{}
+
+/// Where turns have stopped because the next command of a box is a Hear of a slot that has the last version, the version
+/// of a slot before them and its Hears in the batch are more than the last version together.
+pub fn last_is_passed()
+    ensures { LastIsPassed }
 {}

@@ -1,6 +1,6 @@
 -- Worlds in which no slot is linked: each tunnel is a path of its own there.
 use Rattle.std.specs.Prelude.{◌≡◌, ℕ, List, IsFalse, Some}
-use Rattle.std.specs.List.{list_any}
+use Rattle.std.specs.List.{All, list_any}
 use Rattle.mc_box.specs.LinkFree.{is_linking}
 use Rattle.mc_box.specs.LinkFree.{IsUnlinked}
 use Rattle.mc_box.specs.declared.event.Turn.{Turn}
@@ -20,6 +20,10 @@ pub record IsLinkFree (world : WorldState) : Type 0 where
 -- none of these turns sets a link
 abbrev pub LinkNone : List Turn → Type 0
 LinkNone turns = IsFalse (list_any (λ turn. is_linking turn.event) turns)
+
+-- nor of several batches
+abbrev pub AllLinkNone : List (List Turn) → Type 0
+AllLinkNone batches = All LinkNone batches
 
 -- a run of turns that set no link leaves a world without links so
 abbrev pub RunKeepsLinkFree : Type 0

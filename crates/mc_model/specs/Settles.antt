@@ -1,15 +1,16 @@
 -- What a settle is: a run that uses up a batch of commands and comes to rest.
-use Rattle.std.specs.Prelude.{◌≡◌, ℕ, ◌≤◌, ◌==◌, ◌&&◌, not, Bool, true, false, if◌then◌else◌, List, [], ◌∷◌, filter, length, take, drop, count_by, nat_lt, IsTrue, Some, None}
-use Rattle.std.specs.List.{list_all, list_any}
+use Rattle.std.specs.Prelude.{◌≡◌, ℕ, ◌≤◌, ◌==◌, ◌&&◌, not, Bool, true, false, if◌then◌else◌, List, [], ◌∷◌, filter, length, take, drop, count_by, nat_lt, slice_get, IsTrue, Option, Some, None}
+use Rattle.std.specs.List.{list_all, list_any, sum_by}
 use Rattle.std.specs.Option.{is_some}
 use Rattle.mc_signal.specs.declared.Tagged.{Tagged}
 use Rattle.mc_box.specs.BoxEvents.{box_event, is_command}
 use Rattle.mc_box.specs.Boxes.{is_slot, box_owes}
 use Rattle.mc_model.specs.Paths.{has_ring}
-use Rattle.mc_model.specs.Steps.{run, after}
+use Rattle.mc_model.specs.Steps.{after, ends_version, heard_slot, run}
 use Rattle.mc_model.specs.Worlds.{WorldState, box_at}
 use Rattle.mc_box.specs.declared.event.Event.{Event}
 use Rattle.mc_box.specs.declared.event.Event.TheVariants.{Take, Set, Media, Tell, Retry, Shift}
+use Rattle.mc_box.specs.declared.event.MediaChange.TheVariants.{Hear}
 use Rattle.mc_box.specs.declared.event.Turn.{Turn}
 
 abbrev pub is_empty : List Tagged → Bool
@@ -39,6 +40,22 @@ is_retry_at local event = false
 -- the turn is the retry of this slot of this box
 abbrev pub is_retry_of : ℕ → ℕ → Turn → Bool
 is_retry_of who local turn = is_retry_at local turn.event && turn.who == who
+
+abbrev pub is_hear_at : ℕ → Event → Bool
+is_hear_at local (Media (Hear slot on)) = slot == local
+is_hear_at local event = false
+
+-- the turn is a Hear of this slot of this box
+abbrev pub is_hear_of : ℕ → ℕ → Turn → Bool
+is_hear_of who local turn = is_hear_at local turn.event && turn.who == who
+
+-- how many of the turns are
+abbrev pub hears_of : ℕ → ℕ → List Turn → ℕ
+hears_of who local turns = count_by (is_hear_of who local) turns
+
+-- and how many in all batches
+abbrev pub hears_in : ℕ → ℕ → List (List Turn) → ℕ
+hears_in who local batches = sum_by (hears_of who local) batches
 
 abbrev pub takes_or_retries : Event → Bool
 takes_or_retries (Take local) = true
@@ -70,6 +87,17 @@ pub record IsSettled (world : WorldState) (batch turns : List Turn) (last : Worl
 pub record IsStopped (world : WorldState) (batch turns : List Turn) (last : WorldState) : Type 0 where
   pub runs : run world turns ≡ Some last
   pub commands : (who : ℕ) → commands_of who turns ≡ take (length (commands_of who turns)) (commands_of who batch)
+
+-- the command of a box that comes next, behind turns that have made the first ones of a batch
+abbrev pub next_command : (batch turns : List Turn) → ℕ → Option Turn
+next_command batch turns who = slice_get (commands_of who batch) (length (commands_of who turns))
+
+-- the next command of some box is the Hear of this slot, whose descriptor has the last version
+pub record MeetsLast (batch turns : List Turn) (last : WorldState) (at : ℕ) : Type 0 where
+  pub turn : Turn
+  pub next : next_command batch turns turn.who ≡ Some turn
+  pub version : IsTrue (ends_version last turn)
+  pub slot : heard_slot last turn ≡ Some at
 
 -- the events of three kinds
 abbrev pub is_set : Event → Bool

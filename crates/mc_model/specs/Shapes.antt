@@ -1,5 +1,6 @@
 -- What no step changes: the channels of a world, and the shapes of its boxes. Which commands these allow.
 use Rattle.std.specs.Prelude.{◌≡◌, ◌<◌, ◌⊎◌, ℕ, ◌&&◌, Bool, List, length, nat_lt, Some, IsSome, IsTrue}
+use Rattle.std.specs.List.{All, list_all}
 use Rattle.mc_box.specs.Acting.{IsAlike}
 use Rattle.mc_box.specs.BoxShapes.{box_shape, is_enabled_by}
 use Rattle.mc_box.specs.Boxes.{slot_owes}
@@ -26,6 +27,14 @@ RunKeepsShape = (world next : WorldState) (turns : List Turn) → IsSound world 
 -- a command for a box that is there, which the shape of the box enables
 abbrev pub is_allowed : WorldState → Turn → Bool
 is_allowed world turn = nat_lt turn.who (length world.boxes) && is_enabled_by (box_shape (box_at world turn.who)) turn.event
+
+-- a world allows each command of a batch
+abbrev pub AreAllowed : WorldState → List Turn → Type 0
+AreAllowed world batch = IsTrue (list_all (is_allowed world) batch)
+
+-- and of each of several batches
+abbrev pub AreAllAllowed : WorldState → List (List Turn) → Type 0
+AreAllAllowed world batches = All (AreAllowed world) batches
 
 -- such a command can happen at any time, unless it is a Hear of a slot that has the last version
 abbrev pub CommandGoes : Type 0

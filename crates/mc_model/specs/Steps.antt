@@ -7,7 +7,8 @@ use Rattle.mc_box.specs.BoxEvents.{BoxStep, box_event, is_enabled, is_version_en
 use Rattle.mc_box.specs.Boxes.{BoxState}
 use Rattle.mc_model.specs.Worlds.{WorldState, box_at, number, far, tunnel_of, lane_of, lane_to, front, place}
 use Rattle.mc_box.specs.declared.event.Event.{Event}
-use Rattle.mc_box.specs.declared.event.Event.TheVariants.{Take}
+use Rattle.mc_box.specs.declared.event.Event.TheVariants.{Take, Media}
+use Rattle.mc_box.specs.declared.event.MediaChange.TheVariants.{Hear}
 use Rattle.mc_box.specs.declared.event.Turn.{Turn}
 
 abbrev pub with_box : WorldState → ℕ → BoxState → WorldState
@@ -67,3 +68,12 @@ ends_version_at world who event = is_version_end (box_at world who) event && is_
 -- the same for a turn, of a box that is there
 abbrev pub ends_version : WorldState → Turn → Bool
 ends_version world turn = nat_lt turn.who (length world.boxes) && ends_version_at world turn.who turn.event
+
+-- the local slot of a Hear
+abbrev pub heard_local : Event → Option ℕ
+heard_local (Media (Hear local on)) = Some local
+heard_local event = None
+
+-- its slot
+abbrev pub heard_slot : WorldState → Turn → Option ℕ
+heard_slot world turn = option_and_then (number world turn.who) (heard_local turn.event)

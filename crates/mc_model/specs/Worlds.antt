@@ -9,7 +9,7 @@ use Rattle.mc_signal.specs.declared.Signal.{Signal}
 use Rattle.mc_signal.specs.declared.Tagged.{Tagged}
 use Rattle.mc_slot.specs.declared.Slot.{Slot}
 use Rattle.mc_slot.specs.declared.SlotGoal.{SlotGoal}
-use Rattle.mc_box.specs.Boxes.{BoxState, no_box, slot_at, goal_at, own, sender}
+use Rattle.mc_box.specs.Boxes.{BoxState, goal_at, media_at, no_box, own, sender, slot_at}
 use Rattle.mc_model.specs.declared.channel.TheConstants.{TUNNEL_LIMIT}
 use Rattle.mc_model.specs.declared.channel.Tunnel.{Tunnel}
 
@@ -112,6 +112,10 @@ goal_of world s = goal_at (box_at world (place world s).0) (place world s).1
 
 abbrev pub own_descriptor : WorldState → ℕ → Descriptor
 own_descriptor world s = own (box_at world (place world s).0) (place world s).1
+
+-- the version of the newest descriptor of a box's slot
+abbrev pub version_at : WorldState → ℕ → ℕ → ℕ
+version_at world who local = (media_at (box_at world who) local).version
 
 abbrev pub own_sender : WorldState → ℕ → Sender
 own_sender world s = sender (box_at world (place world s).0) (place world s).1
