@@ -1,7 +1,10 @@
 -- A plan as clauses see it, what boxes and channels add to it, and its first world.
-use Rattle.std.specs.Prelude.{ℕ, ◌+◌, ◌==◌, Bool, List, [], ◌∷◌, ◌++◌, count_by}
+use Rattle.std.specs.Prelude.{ℕ, ◌+◌, ◌==◌, Bool, List, [], ◌∷◌, ◌++◌, count_by, slice_index_or, slice_set}
+use Rattle.mc_signal.specs.Empty.{no_codecs}
 use Rattle.mc_signal.specs.declared.Medium.{Medium}
+use Rattle.mc_signal.specs.declared.codec_list.CodecList.{CodecList}
 use Rattle.mc_box.specs.Boxes.{BoxState, first_box}
+use Rattle.mc_box.specs.declared.event.Kind.TheVariants.{Feature}
 use Rattle.mc_plan.specs.Setups.{setups_of}
 use Rattle.mc_model.specs.Worlds.{ChannelState, WorldState, first_world, places_among}
 use Rattle.mc_model.specs.declared.channel.Tunnel.{Tunnel}
@@ -21,6 +24,18 @@ empty_plan = record { boxes = []; channels = [] }
 -- a box comes last
 abbrev pub with_plan : PlanState → BoxPlan → PlanState
 with_plan plan planned = record plan { boxes = plan.boxes ++ planned ∷ [] }
+
+-- what stands where no box is planned
+abbrev pub no_plan : BoxPlan
+no_plan = record { kind = Feature; codecs = no_codecs; sends = no_codecs; first_version = 1 }
+
+-- a box that is planned
+abbrev pub planned_at : PlanState → ℕ → BoxPlan
+planned_at plan who = slice_index_or plan.boxes who no_plan
+
+-- a box sends these codecs
+abbrev pub with_sends : PlanState → ℕ → CodecList → PlanState
+with_sends plan who sends = record plan { boxes = slice_set plan.boxes who (record (planned_at plan who) { sends = sends }) }
 
 -- whether a slot is of a box
 abbrev pub is_of : ℕ → ℕ × ℕ → Bool

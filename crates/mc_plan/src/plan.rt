@@ -1,8 +1,8 @@
 // The plan of a network.
 
-ghost use Rattle.std.specs.Prelude.{◌≡◌, ◌≤◌, length, IfOk, OnOk, OnErr};
+ghost use Rattle.std.specs.Prelude.{◌≡◌, ◌<◌, ◌≤◌, length, IfOk, OnOk, OnErr};
 ghost use Rattle.mc_plan.specs.LaidOut.{IsLaidOut};
-ghost use Rattle.mc_plan.specs.Plans.{empty_plan, with_channel, slots_of, with_plan, world_of};
+ghost use Rattle.mc_plan.specs.Plans.{empty_plan, with_channel, slots_of, with_plan, with_sends, world_of};
 ghost use Rattle.mc_plan.specs.Refusals.{add_fault, join_fault, may_join, overfills, Gives};
 ghost use Rattle.mc_box.specs.declared.limit.TheConstants.{SLOT_LIMIT};
 ghost use Rattle.mc_model.specs.declared.channel.TheConstants.{TUNNEL_LIMIT};
@@ -104,6 +104,14 @@ impl Plan {
         }
         self.boxes.push(planned)?;
         Ok(number as u32)
+    }
+
+    /// Replaces the codecs that a box sends. All else of the plan stays.
+    pub fn set_sends(&mut self, who: u32, sends: CodecList)
+        requires { who < length self.old.boxes }
+        ensures { self.new ≡ with_sends self.old who sends }
+    {
+        self.boxes[who as usize].sends = sends;
     }
 
     /// Joins two boxes by a channel with a tunnel for each of these media, and answers the channel's number. The box
