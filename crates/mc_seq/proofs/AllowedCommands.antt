@@ -12,12 +12,11 @@ use Rattle.mc_box.specs.Boxes.{slot_at}
 use Rattle.mc_box.specs.declared.event.Kind.{Kind}
 use Rattle.mc_box.specs.declared.event.Turn.{Turn}
 use Rattle.mc_box.proofs.ShapeEnables.{medium_of}
-use Rattle.mc_model.specs.Shapes.{HasShape, is_allowed}
+use Rattle.mc_model.specs.Shapes.{HasShape, is_allowed, AreAllowed}
 use Rattle.mc_model.specs.Sound.{IsSound}
 use Rattle.mc_model.specs.Worlds.{ChannelState, WorldState, box_at, tunnel_of, place, slot_count}
 use Rattle.mc_laws.proofs.CommandsGo.{allowed_parts, command_goes}
 use Rattle.mc_laws.proofs.Numbers.{box_inside}
-use Rattle.mc_seq.specs.Draws.{AreAllowed}
 use Rattle.mc_seq.specs.Drawing.{MayCome}
 use Rattle.mc_seq.specs.Schedule.{left_by, next_of, without_next}
 use Rattle.mc_seq.proofs.Candidates.{IsListed, take_goes}

@@ -10,7 +10,7 @@ use Rattle.mc_signal.specs.declared.Signal.{Signal}
 use Rattle.mc_box.specs.declared.event.Event.TheVariants.{Take}
 use Rattle.mc_box.specs.declared.event.Turn.{Turn}
 use Rattle.mc_laws.proofs.CommandsGo.{allowed_parts}
-use Rattle.mc_model.specs.Shapes.{is_allowed}
+use Rattle.mc_model.specs.Shapes.{is_allowed, AreAllowed}
 use Rattle.mc_model.specs.Settles.{is_quiet}
 use Rattle.mc_model.specs.Sound.{IsSound}
 use Rattle.mc_model.specs.Steps.{step}
@@ -18,7 +18,6 @@ use Rattle.mc_model.specs.Worlds.{WorldState, box_at, front, number, place, slot
 use Rattle.mc_laws.proofs.Numbers.{box_inside, number_is}
 use Rattle.mc_box.proofs.Options.{then_some}
 use Rattle.mc_laws.proofs.StepGoes.{front_step_goes, some_of}
-use Rattle.mc_seq.specs.Draws.{AreAllowed}
 use Rattle.mc_seq.specs.Schedule.{Standing, candidates, drawn_turn, drawn_place, is_urgent, all_candidates, next_of, candidates_of, take_turn, waiting_take, takes_of, take_waits}
 use Rattle.mc_seq.proofs.ForEach.{append_none, each_all, each_none, none_all, one_all}
 use Rattle.mc_seq.proofs.Fronts.{none_quiet}

@@ -2,14 +2,14 @@
 use Rattle.std.proofs.Common.{◌≡◌, ◌≢◌, ◌<◌, ◌≤◌, ◌+◌, List, [], ◌∷◌, length, Some, ap, sym, ◌∙◌, arith}
 use Rattle.mc_box.specs.declared.event.Event.TheVariants.{Take}
 use Rattle.mc_box.specs.declared.event.Turn.{Turn}
-use Rattle.mc_model.specs.Shapes.{is_allowed}
+use Rattle.mc_model.specs.Shapes.{is_allowed, AreAllowed}
 use Rattle.mc_laws.specs.Measures.{IsRingFree, measure}
 use Rattle.mc_model.specs.Sound.{IsSound}
 use Rattle.mc_model.specs.Steps.{step}
 use Rattle.mc_laws.proofs.Lowers.{take_lowers, take_stays_free}
 use Rattle.mc_laws.proofs.ShapesKept.{step_keeps_shape}
 use Rattle.mc_laws.proofs.StepKeeps.{step_keeps_sound}
-use Rattle.mc_seq.specs.Draws.{AreAllowed, DrawsEnd, TakesEndDraws}
+use Rattle.mc_seq.specs.Draws.{DrawsEnd, TakesEndDraws}
 use Rattle.mc_seq.specs.Schedule.{AreDrawn, Standing, left_by, standing_after, since_by}
 use Rattle.mc_seq.proofs.Candidates.{drawn_listed, take_same}
 use Rattle.mc_seq.proofs.AllowedCommands.{all_kept, left_pass}

@@ -9,11 +9,10 @@ use Rattle.mc_box.specs.declared.event.Event.TheVariants.{Take, Set, Media, Tell
 use Rattle.mc_box.specs.declared.event.MediaChange.TheVariants.{Hear, Talk}
 use Rattle.mc_box.specs.declared.event.Turn.{Turn}
 use Rattle.mc_model.specs.Sound.{IsSound}
-use Rattle.mc_model.specs.Steps.{ends_version, ends_version_at, step}
+use Rattle.mc_model.specs.Steps.{ends_version, ends_version_at, step, heard_local}
 use Rattle.mc_model.specs.Worlds.{WorldState, box_at, number}
 use Rattle.mc_laws.proofs.Numbers.{box_inside, slot_inside}
 use Rattle.mc_seq.specs.Drawing.{MayCome}
-use Rattle.mc_seq.specs.Schedule.{heard_local}
 
 -- an event that ends a version is the Hear of a slot that is there
 local_by : (event : Event) (world : WorldState) (who : ℕ) → ends_version_at world who event ≡ true → (local : ℕ) × (heard_local event ≡ Some local) × (is_slot (box_at world who) local ≡ true)

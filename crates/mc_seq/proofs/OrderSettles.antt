@@ -1,12 +1,15 @@
 -- Turns in the plain order settle their batch.
-use Rattle.std.proofs.Common.{◌≡◌, ◌+◌, ◌&&◌, ◌++◌, cond, if◌then◌else◌, ℕ, true, false, List, [], ◌∷◌, Some, count_by, append_assoc, refl, ap, sym, ◌∙◌, subst, arith}
+use Rattle.std.proofs.Common.{◌≡◌, ◌+◌, ◌&&◌, ◌++◌, cond, if◌then◌else◌, ℕ, true, false, Option, List, [], ◌∷◌, Some, count_by, length, append_assoc, refl, ap, sym, ◌∙◌, subst, arith}
+use Rattle.std.specs.Option.{unwrap_or}
+use Rattle.std.proofs.lemmas.List.{take_all}
 use Rattle.std.proofs.lemmas.List.Sums.{sum_by-append}
 use Rattle.mc_box.specs.declared.event.Turn.{Turn}
 use Rattle.mc_model.specs.Paths.{has_ring}
-use Rattle.mc_model.specs.Settles.{IsSettled, is_retry_of, world_owes, takes_or_retries}
+use Rattle.mc_model.specs.Settles.{IsSettled, IsStopped, commands_of, is_retry_of, world_owes, takes_or_retries}
+use Rattle.mc_model.specs.Rings.{IsFirstOnRing}
 use Rattle.mc_model.specs.Sound.{IsSound}
-use Rattle.mc_model.specs.Steps.{run}
-use Rattle.mc_model.specs.Worlds.{WorldState, slot_count}
+use Rattle.mc_model.specs.Steps.{after, run}
+use Rattle.mc_model.specs.Worlds.{WorldState, place, slot_count}
 use Rattle.mc_world.specs.declared.settled.Settled.{Settled}
 use Rattle.mc_laws.proofs.StepKeeps.{run_keeps_sound}
 use Rattle.mc_seq.specs.PlainOrder.{IsPlain, PlainOrderSettles, TakesUp, TookAll}
@@ -14,6 +17,7 @@ use Rattle.mc_seq.specs.Retries.{retries_by_number}
 use Rattle.mc_seq.specs.Turns.{MadeAll}
 use Rattle.mc_seq.proofs.Retries.{numbers_besides, once_by_number}
 use Rattle.mc_seq.proofs.Runs.{run-append, takes_quiet, takes_run}
+use Rattle.mc_seq.proofs.Scheduled.{placed_same}
 use Rattle.mc_seq.proofs.Segments.{all_besides, besides_both, commands_before, settled_at}
 
 -- ---- Takes
@@ -81,3 +85,14 @@ plain_is start commanded rested retried last batch nothing commands takes retrie
       retries = retries.ran;
       ends = ends.takes;
     }
+
+-- a settle that stops behind its batch
+pub stops_is : (world next : WorldState) (batch turns : List Turn) (at : ℕ) (there : ℕ × ℕ) → IsSound world → run world batch ≡ Some next → turns ≡ batch → IsFirstOnRing next at → there ≡ place next at
+    → (turns ≡ batch) × IsStopped world batch batch (after world batch) × IsFirstOnRing (after world batch) at × (there ≡ place world at)
+stops_is world next batch turns at there sound ran same first placed =
+    let is : after world batch ≡ next = ap (λ (o : Option WorldState). unwrap_or o world) ran in (
+      same,
+      record { runs = ran ∙ ap (λ (w : WorldState). Some w) (sym is); commands = λ who. sym (take_all (length (commands_of who batch)) (commands_of who batch) (omega arith)) },
+      subst (λ (w : WorldState). IsFirstOnRing w at) (sym is) first,
+      placed ∙ placed_same world next batch at sound ran,
+    )

@@ -1,29 +1,32 @@
 -- Turns by the schedule are a settled segment, and those of a settle that stops are a stopped one.
-use Rattle.std.proofs.Common.{◌≡◌, ◌+◌, ◌++◌, ◌==◌, ◌&&◌, inl, inr, cond, if◌then◌else◌, ℕ, Bool, true, false, List, [], ◌∷◌, length, take, count_by, Some, IsTrue, append_assoc, append-nil, refl, ap, sym, ◌∙◌, subst, arith}
+use Rattle.std.proofs.Common.{◌≡◌, ◌<◌, ◌+◌, ◌++◌, ◌==◌, ◌&&◌, inl, inr, cond, if◌then◌else◌, nat_lt, slice_get, ℕ, Bool, true, false, List, [], ◌∷◌, length, slice_index_or, take, count_by, Some, IsTrue, append_assoc, append-nil, refl, ap, sym, ◌∙◌, subst, arith}
 use Rattle.std.specs.List.{list_all}
 use Rattle.std.specs.Option.{option_and_then}
 use Rattle.std.proofs.Math.Seq.{take-append_seam}
-use Rattle.std.proofs.lemmas.Bool.{and_parts}
+use Rattle.std.proofs.lemmas.Bool.{and_parts, eq-eqb}
 use Rattle.std.proofs.lemmas.List.Elements.{filter-append}
 use Rattle.std.proofs.lemmas.List.Sums.{sum_by-append}
 use Rattle.mc_box.specs.declared.event.Event.{Event}
+use Rattle.mc_box.specs.declared.event.Event.TheVariants.{Take}
 use Rattle.mc_box.specs.declared.event.Turn.{Turn}
 use Rattle.mc_box.specs.BoxEvents.{is_command}
 use Rattle.mc_laws.proofs.CommandsGo.{allowed_parts}
-use Rattle.mc_model.specs.Shapes.{is_allowed}
+use Rattle.mc_model.specs.Shapes.{is_allowed, AreAllowed}
 use Rattle.mc_model.specs.Paths.{has_ring}
 use Rattle.mc_model.specs.Rings.{IsFirstOnRing}
-use Rattle.mc_model.specs.Settles.{IsSettled, IsStopped, commands_of, is_quiet, is_retry_of, world_owes, takes_or_retries}
+use Rattle.mc_model.specs.Settles.{IsSettled, IsStopped, commands_of, is_quiet, is_retry_of, world_owes, takes_or_retries, next_command}
 use Rattle.mc_model.specs.Sound.{IsSound}
-use Rattle.mc_model.specs.Steps.{run}
-use Rattle.mc_model.specs.Worlds.{WorldState}
+use Rattle.mc_model.specs.Steps.{ends_version, ends_version_at, run, heard_local, heard_slot}
+use Rattle.mc_model.specs.Worlds.{ChannelState, WorldState, number, place, places_among, slot_count}
+use Rattle.mc_box.proofs.Options.{then_some}
 use Rattle.mc_laws.proofs.GoalsKept.{rest_keeps_rings}
+use Rattle.mc_laws.proofs.Numbers.{number_is}
 use Rattle.mc_laws.proofs.ShapesKept.{run_keeps_shape}
 use Rattle.mc_laws.proofs.StepKeeps.{run_keeps_sound}
-use Rattle.mc_seq.specs.Draws.{AreAllowed, IsScheduled, ScheduleSettles, StopsAtRing, StopsAtVersion}
+use Rattle.mc_seq.specs.Draws.{IsScheduled, ScheduleSettles, StopsAtRing, StopsAtVersion}
 use Rattle.mc_seq.specs.Drawing.{CameToRest, DrewAll, RanOut, Sight}
 use Rattle.mc_seq.specs.Retries.{retries_by_box}
-use Rattle.mc_seq.specs.Schedule.{AreDrawn, Standing, first_standing, candidates, is_urgent, left_by, all_candidates, standing_after, without_next}
+use Rattle.mc_seq.specs.Schedule.{AreDrawn, Standing, first_standing, candidates, is_urgent, left_by, all_candidates, next_of, standing_after, without_next}
 use Rattle.mc_seq.proofs.Candidates.{IsListed, drawn_listed, listed_quiet, none_left, take_same}
 use Rattle.mc_seq.proofs.AllowedCommands.{all_kept, left_pass, next_pass}
 use Rattle.mc_seq.proofs.Nexts.{next_first}
@@ -218,19 +221,83 @@ ring_is world batch state at start used begins nothing allowed first left least 
     let draws = first_drawn world batch state start used begins nothing first in
     record { last = used.standing; draws = draws; used_up = left; least = least; to_end = refl; stopped = drawn_stopped world batch used.turns state used.standing allowed draws }
 
+-- what stands behind a list is first behind its length
+first_behind : (xs ys : List Turn) (y : Turn) → slice_get (xs ++ y ∷ ys) (length xs) ≡ Some y
+first_behind [] ys y = refl
+first_behind (x ∷ xs) ys y = first_behind xs ys y
+
+-- the command that comes next of a box is the next one of its batch
+next_is : (batch turns : List Turn) (last : Standing) (turn : Turn) → list_all is_ordered last.left ≡ true → commands_of turn.who turns ++ commands_of turn.who last.left ≡ commands_of turn.who batch
+    → next_of turn.who last.left ≡ Some turn → next_command batch turns turn.who ≡ Some turn
+next_is batch turns last turn all commands next =
+    let test : (is_command turn.event && turn.who == turn.who) ≡ true = both_there (is_command turn.event) (turn.who == turn.who) (next_pass is_ordered turn.who last.left turn all next) (eq-eqb turn.who turn.who refl) in
+    let rest : List Turn = commands_of turn.who (without_next turn.who last.left) in
+    let left : turn ∷ rest ≡ commands_of turn.who last.left = ap (λ (b : Bool). cond b (turn ∷ []) [] ++ rest) (sym test) ∙ next_first last.left turn turn.who next in
+    ap (λ (l : List Turn). slice_get l (length (commands_of turn.who turns))) (sym commands ∙ ap (λ (l : List Turn). commands_of turn.who turns ++ l) (sym left))
+    ∙ first_behind (commands_of turn.who turns) rest turn
+
+-- a drawn turn that ends a version is a command
+ends_next : (last : Standing) (turn : Turn) → IsTrue (ends_version last.world turn) → IsListed last.world last.left (is_urgent last.left last.since) turn → next_of turn.who last.left ≡ Some turn
+ends_next last turn ends is = elim is [
+  | inl next ↦ next
+  | inr take ↦ absurd (takes_end_none last.world turn take.1.local take.1.event ends)
+]
+  where
+    never : (b : Bool) → (b && false) ≡ true → ⊥
+    never true is = cc
+    never false is = cc
+
+    takes_end_none : (world : WorldState) (turn : Turn) (local : ℕ) → turn.event ≡ Take local → IsTrue (ends_version world turn) → ⊥
+    takes_end_none world turn local is ends = never (nat_lt turn.who (length world.boxes)) (subst (λ (e : Event). (nat_lt turn.who (length world.boxes) && ends_version_at world turn.who e) ≡ true) is ends)
+
 -- and one that stops at the last version
 pub version_is : (world : WorldState) (batch : List Turn) (state at : ℕ) (start used : Sight) → start.standing ≡ first_standing world batch state → start.turns ≡ [] → AreAllowed world batch
     → RanOut start used at → StopsAtVersion world batch state used.turns used.standing.draws at
 version_is world batch state at start used begins nothing allowed out =
     let draws = first_drawn world batch state start out.last begins nothing out.drew in
     let same : AreDrawn (first_standing world batch state) used.turns out.last.standing = subst (λ (t : List Turn). AreDrawn (first_standing world batch state) t out.last.standing) (sym out.ends.logged) draws in
+    let ordered = allowed_commands batch world allowed in
+    let next = ends_next out.last.standing out.ends.turn out.ends.version (drawn_listed out.last.standing out.ends.turn out.ends.is_drawn) in
     record {
       last = out.last.standing;
-      turn = out.ends.turn;
       draws = same;
+      meets = record {
+        turn = out.ends.turn;
+        next = next_is batch used.turns out.last.standing out.ends.turn (drawn_pass is_ordered used.turns (first_standing world batch state) out.last.standing ordered same)
+            (drawn_commands used.turns (first_standing world batch state) out.last.standing out.ends.turn.who ordered same) next;
+        version = out.ends.version;
+        slot = out.ends.slot;
+      };
       is_drawn = out.ends.is_drawn;
-      version = out.ends.version;
-      slot = out.ends.slot;
       to_end = sym (ap (λ (s : Standing). s.draws) out.ends.stays);
       stopped = drawn_stopped world batch used.turns state out.last.standing allowed same;
     }
+
+-- ---- where a settle stops
+
+-- the places of slots stay
+pub placed_same : (world last : WorldState) (turns : List Turn) (s : ℕ) → IsSound world → run world turns ≡ Some last → place last s ≡ place world s
+placed_same world last turns s sound goes = ap (λ (channels : List ChannelState). slice_index_or (places_among channels) s (0, 0)) (run_keeps_shape world last turns sound goes).channels
+
+heard_inside : (world : WorldState) (turn : Turn) (at : ℕ) → heard_slot world turn ≡ Some at → at < slot_count world
+heard_inside world turn at heard =
+    let one = then_some (number world turn.who) (heard_local turn.event) at heard in
+    (number_is world turn.who one.0 at one.2).0
+
+-- the slot at which a version ended is one of the world's
+pub out_inside : (start used : Sight) (at : ℕ) → RanOut start used at → at < slot_count used.standing.world
+out_inside start used at out =
+    subst (λ (w : WorldState). at < slot_count w) (sym (ap (λ (s : Standing). s.world) out.ends.stays)) (heard_inside out.last.standing.world out.ends.turn at out.ends.slot)
+
+-- and its place is what it was
+pub version_placed : (world : WorldState) (batch : List Turn) (state at : ℕ) (start used : Sight) → start.standing ≡ first_standing world batch state → start.turns ≡ [] → IsSound world
+    → RanOut start used at → place used.standing.world at ≡ place world at
+version_placed world batch state at start used begins nothing sound out =
+    let ran : run world out.last.turns ≡ Some out.last.standing.world = drawn_run out.last.turns (first_standing world batch state) out.last.standing (first_drawn world batch state start out.last begins nothing out.drew) in
+    ap (λ (s : Standing). place s.world at) out.ends.stays ∙ placed_same world out.last.standing.world out.last.turns at sound ran
+
+-- so is that of the least slot on a ring
+pub ring_placed : (world : WorldState) (batch : List Turn) (state at : ℕ) (start used : Sight) → start.standing ≡ first_standing world batch state → start.turns ≡ [] → IsSound world
+    → DrewAll start used → place used.standing.world at ≡ place world at
+ring_placed world batch state at start used begins nothing sound drew =
+    placed_same world used.standing.world used.turns at sound (drawn_run used.turns (first_standing world batch state) used.standing (first_drawn world batch state start used begins nothing drew))

@@ -7,7 +7,7 @@ use Rattle.mc_box.specs.declared.event.Event.TheVariants.{Take}
 use Rattle.mc_box.specs.declared.event.Turn.{Turn}
 use Rattle.mc_box.specs.BoxEvents.{is_command}
 use Rattle.mc_laws.proofs.CommandsGo.{allowed_parts}
-use Rattle.mc_model.specs.Shapes.{is_allowed}
+use Rattle.mc_model.specs.Shapes.{is_allowed, AreAllowed}
 use Rattle.mc_laws.specs.Measures.{IsRingFree, measure}
 use Rattle.mc_model.specs.Paths.{has_ring}
 use Rattle.mc_model.specs.Sound.{IsSound}
@@ -16,7 +16,6 @@ use Rattle.mc_model.specs.Worlds.{WorldState}
 use Rattle.mc_laws.proofs.Lowers.{take_lowers, take_stays_free}
 use Rattle.mc_laws.proofs.ShapesKept.{step_keeps_shape}
 use Rattle.mc_laws.proofs.StepKeeps.{step_keeps_sound}
-use Rattle.mc_seq.specs.Draws.{AreAllowed}
 use Rattle.mc_seq.specs.Drawing.{CameToRest, DrewAll, DrewOnce, DrewTurn, DrewVersionEnd, RanOut, Sight, TurnMade, sight_of}
 use Rattle.mc_seq.specs.Schedule.{AreDrawn, MayGo, Standing, candidates, drawn_turn, drawn_place, is_urgent, left_by, all_candidates, standing_after, next_of, since_by, without_next}
 use Rattle.mc_seq.specs.declared.drawing.Draw.TheVariants.{Nothing}

@@ -3,9 +3,9 @@ use Rattle.std.specs.Prelude.{◌≡◌, ℕ, false, List, [], ◌∷◌, ◌++�
 use Rattle.mc_text.specs.Draws.{next_state}
 use Rattle.mc_box.specs.declared.event.Turn.{Turn}
 use Rattle.mc_model.specs.Paths.{has_ring}
-use Rattle.mc_model.specs.Steps.{ends_version, step}
+use Rattle.mc_model.specs.Steps.{ends_version, step, heard_slot}
 use Rattle.mc_model.specs.Worlds.{WorldState}
-use Rattle.mc_seq.specs.Schedule.{AreDrawn, Standing, candidates, drawn_turn, heard_slot, left_by, standing_after, since_by}
+use Rattle.mc_seq.specs.Schedule.{AreDrawn, Standing, candidates, drawn_turn, left_by, standing_after, since_by}
 use Rattle.mc_seq.specs.declared.drawing.Draw.{Draw}
 use Rattle.mc_seq.specs.declared.drawing.Draw.TheVariants.{Drawn, Nothing, VersionEnd}
 use Rattle.mc_seq.specs.declared.drawing.Sitting.{Sitting}

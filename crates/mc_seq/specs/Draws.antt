@@ -1,19 +1,19 @@
 -- A settle by draws: its turns are those of the schedule, and so is how it stops.
-use Rattle.std.specs.Prelude.{◌≡◌, ◌≢◌, ◌≤◌, ◌+◌, ◌*◌, ℕ, length, false, List, [], ◌++◌, Some, IsTrue}
-use Rattle.std.specs.List.{list_all}
+use Rattle.std.specs.Prelude.{◌≡◌, ◌≢◌, ◌≤◌, ◌+◌, ◌*◌, ℕ, length, false, List, [], ◌++◌, Some}
 use Rattle.mc_text.specs.Draws.{next_state}
 use Rattle.mc_box.specs.declared.event.Turn.{Turn}
-use Rattle.mc_model.specs.Shapes.{is_allowed}
+use Rattle.mc_model.specs.Shapes.{AreAllowed}
 use Rattle.mc_laws.specs.Measures.{IsRingFree, measure}
 use Rattle.mc_model.specs.Paths.{has_ring}
 use Rattle.mc_model.specs.Rings.{IsFirstOnRing}
-use Rattle.mc_model.specs.Settles.{IsSettled, IsStopped}
+use Rattle.mc_model.specs.Settles.{IsSettled, IsStopped, MeetsLast}
 use Rattle.mc_model.specs.Sound.{IsSound}
-use Rattle.mc_model.specs.Steps.{ends_version, run}
+use Rattle.mc_model.specs.Steps.{run}
 use Rattle.mc_model.specs.Worlds.{WorldState}
 use Rattle.mc_world.specs.declared.settled.Settled.{Settled}
+use Rattle.mc_seq.specs.Places.{IsPlaced}
 use Rattle.mc_seq.specs.Retries.{retries_by_box}
-use Rattle.mc_seq.specs.Schedule.{AreDrawn, Standing, first_standing, candidates, drawn_turn, heard_slot}
+use Rattle.mc_seq.specs.Schedule.{AreDrawn, Standing, first_standing, candidates, drawn_turn}
 use Rattle.mc_seq.specs.declared.fault.SettleFault.{SettleFault}
 use Rattle.mc_seq.specs.declared.fault.SettleFault.TheVariants.{NoMemory, Ring, VersionEnd}
 
@@ -47,26 +47,20 @@ pub record StopsAtRing (world : WorldState) (batch : List Turn) (state : ℕ) (t
   pub to_end : last.draws ≡ end
   pub stopped : IsStopped world batch turns last.world
 
--- behind drawn turns the Hear of this slot is drawn, whose descriptor has the last version
+-- behind drawn turns the next command of a box is drawn, which is the Hear of this slot, whose descriptor has the last version
 pub record StopsAtVersion (world : WorldState) (batch : List Turn) (state : ℕ) (turns : List Turn) (end at : ℕ) : Type 0 where
   pub last : Standing
-  pub turn : Turn
   pub draws : AreDrawn (first_standing world batch state) turns last
-  pub is_drawn : drawn_turn last ≡ Some turn
-  pub version : IsTrue (ends_version last.world turn)
-  pub slot : heard_slot last.world turn ≡ Some at
+  pub meets : MeetsLast batch turns last.world at
+  pub is_drawn : drawn_turn last ≡ Some meets.turn
   pub to_end : next_state last.draws ≡ end
   pub stopped : IsStopped world batch turns last.world
 
 -- how a settle by draws stops
 abbrev pub StopsByDraws : WorldState → List Turn → (state end : ℕ) → SettleFault → Type 0
-StopsByDraws world batch state end (Ring stop) = StopsAtRing world batch state stop.turns.items end stop.at
-StopsByDraws world batch state end (VersionEnd stop) = StopsAtVersion world batch state stop.turns.items end stop.at
+StopsByDraws world batch state end (Ring stop) = StopsAtRing world batch state stop.turns.items end stop.at × IsPlaced world stop
+StopsByDraws world batch state end (VersionEnd stop) = StopsAtVersion world batch state stop.turns.items end stop.at × IsPlaced world stop
 StopsByDraws world batch state end (NoMemory e) = Unit {0}
-
--- the world allows each command of a batch
-abbrev pub AreAllowed : WorldState → List Turn → Type 0
-AreAllowed world batch = IsTrue (list_all (is_allowed world) batch)
 
 -- turns by the schedule are a settled segment
 abbrev pub ScheduleSettles : Type 0

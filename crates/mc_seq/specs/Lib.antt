@@ -1,6 +1,7 @@
 pub mod Drawing
 pub mod Draws
 pub mod ForEach
+pub mod Places
 pub mod PlainOrder
 pub mod Ready
 pub mod Retries

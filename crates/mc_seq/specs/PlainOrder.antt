@@ -8,6 +8,7 @@ use Rattle.mc_model.specs.Steps.{after, run, step, take_of}
 use Rattle.mc_model.specs.Worlds.{WorldState, front, slot_count}
 use Rattle.mc_box.specs.declared.event.Turn.{Turn}
 use Rattle.mc_world.specs.declared.settled.Settled.{Settled}
+use Rattle.mc_seq.specs.Places.{IsPlaced}
 use Rattle.mc_seq.specs.Retries.{retries_by_number}
 use Rattle.mc_seq.specs.declared.fault.SettleFault.{SettleFault}
 use Rattle.mc_seq.specs.declared.fault.SettleFault.TheVariants.{Ring, NoMemory, VersionEnd}
@@ -49,6 +50,6 @@ PlainOrderSettles = (world last : WorldState) (batch turns : List Turn) → IsSo
 
 -- a settle that stopped at a ring has used up its batch, which left it
 abbrev pub StopsInOrder : WorldState → List Turn → SettleFault → Type 0
-StopsInOrder world batch (Ring stop) = (stop.turns.items ≡ batch) × IsStopped world batch batch (after world batch) × IsFirstOnRing (after world batch) stop.at
+StopsInOrder world batch (Ring stop) = (stop.turns.items ≡ batch) × IsStopped world batch batch (after world batch) × IsFirstOnRing (after world batch) stop.at × IsPlaced world stop
 StopsInOrder world batch (VersionEnd stop) = ⊥
 StopsInOrder world batch (NoMemory e) = Unit {0}

@@ -1,12 +1,10 @@
 -- The schedule of a settle by draws: what can come next, and which of that is drawn.
-use Rattle.std.specs.Prelude.{◌≡◌, ℕ, ◌+◌, ◌/◌, ◌%◌, ◌==◌, ◌&&◌, not, if◌then◌else◌, Bool, false, List, [], ◌∷◌, ◌++◌, length, nat_lt, slice_get, Option, Some, None}
+use Rattle.std.specs.Prelude.{◌≡◌, ℕ, ◌+◌, ◌/◌, ◌%◌, ◌==◌, ◌&&◌, not, if◌then◌else◌, Bool, false, List, [], ◌∷◌, ◌++◌, length, nat_lt, slice_get, Option, Some}
 use Rattle.std.specs.List.{find}
 use Rattle.std.specs.Option.{is_some, option_and_then, option_to_list}
 use Rattle.mc_text.specs.Draws.{next_state}
 use Rattle.mc_box.specs.BoxEvents.{is_command}
-use Rattle.mc_box.specs.declared.event.Event.{Event}
-use Rattle.mc_box.specs.declared.event.Event.TheVariants.{Take, Media}
-use Rattle.mc_box.specs.declared.event.MediaChange.TheVariants.{Hear}
+use Rattle.mc_box.specs.declared.event.Event.TheVariants.{Take}
 use Rattle.mc_box.specs.declared.event.Turn.{Turn}
 use Rattle.mc_model.specs.Paths.{has_ring}
 use Rattle.mc_model.specs.Steps.{step}
@@ -93,14 +91,3 @@ MayGo now = now.left ≡ [] → has_ring now.world ≡ false
 abbrev pub AreDrawn : Standing → List Turn → Standing → Type 0
 AreDrawn now [] last = now ≡ last
 AreDrawn now (turn ∷ turns) last = (next : WorldState) × MayGo now × (drawn_turn now ≡ Some turn) × (step now.world turn ≡ Some next) × AreDrawn (standing_after now turn next) turns last
-
--- ---- the last version
-
--- the local slot of a Hear
-abbrev pub heard_local : Event → Option ℕ
-heard_local (Media (Hear local on)) = Some local
-heard_local event = None
-
--- its slot
-abbrev pub heard_slot : WorldState → Turn → Option ℕ
-heard_slot world turn = option_and_then (number world turn.who) (heard_local turn.event)

@@ -4,13 +4,14 @@ ghost use Rattle.std.specs.Prelude.{◌≡◌, ◌==◌, ◌<◌, [], false, len
 ghost use Rattle.std.specs.List.{list_all};
 ghost use Rattle.mc_text.specs.Draws.{next_state};
 ghost use Rattle.mc_box.specs.BoxEvents.{is_command};
-ghost use Rattle.mc_model.specs.Shapes.{is_allowed};
+ghost use Rattle.mc_model.specs.Shapes.{is_allowed, AreAllowed};
 ghost use Rattle.mc_model.specs.Paths.{has_ring};
 ghost use Rattle.mc_model.specs.Settles.{IsSettled};
-ghost use Rattle.mc_model.specs.Steps.{ends_version};
-ghost use Rattle.mc_seq.specs.Draws.{AreAllowed, SettlesByDraws, StopsByDraws};
+ghost use Rattle.mc_model.specs.Steps.{ends_version, heard_local, heard_slot};
+ghost use Rattle.mc_model.specs.Worlds.{place, slot_count};
+ghost use Rattle.mc_seq.specs.Draws.{SettlesByDraws, StopsByDraws};
 ghost use Rattle.mc_seq.specs.Drawing.{CameToRest, DrewOnce, MayCome, TriedTurn, UsedUp, sight_of};
-ghost use Rattle.mc_seq.specs.Schedule.{drawn_place, heard_local, heard_slot, left_by, since_by, without_next};
+ghost use Rattle.mc_seq.specs.Schedule.{drawn_place, left_by, since_by, without_next};
 
 use crate::fault::{SettleFault, Stopped};
 use crate::listing::{all_candidates, is_urgent};
@@ -117,13 +118,16 @@ fn settled_by(sitting: Sitting) -> Settled
     settled
 }
 
-// The turns of a settle that stops.
+// The turns of a settle that stops at a slot.
 fn stopped(sitting: Sitting, at: u32) -> Stopped
+    requires { at < slot_count sitting.settled.world }
     ensures at { result.at ≡ at }
+    ensures place { result.place ≡ place sitting.settled.world at }
     ensures turns { result.turns.items ≡ sitting.settled.turns.items }
 {
-    let Settled { world: _, turns } = settled_by(sitting);
-    Stopped { at, turns }
+    let Settled { world, turns } = settled_by(sitting);
+    let place = world.place(at);
+    Stopped { at, place, turns }
 }
 
 // Draws until the batch is used up, or to the last version of a slot.

@@ -6,10 +6,11 @@ ghost use Rattle.mc_seq.specs.declared.fault.SettleFault.TheVariants.{NoMemory};
 use mc_box::Turn;
 use std::alloc::AllocError;
 
-/// The slot at which a settle stopped, and the turns until then.
+/// The slot at which a settle stopped, with its box and its local number there, and the turns until then.
 #[derive(Debug, Drop)]
 pub struct Stopped {
     pub at: u32,
+    pub place: (u32, u8),
     pub turns: Vec<Turn>,
 }
 

@@ -44,8 +44,9 @@ pub fn settle_or_ring(alloc: Global, world: World, batch: &[Turn]) -> Result<Set
     let mut settled = Settled { world, turns };
     make_all(&mut settled, batch)?;
     if let Some(at) = settled.world.ring() {
+        let place = settled.world.place(at);
         let Settled { world: _, turns } = settled;
-        return Err(SettleFault::Ring(Stopped { at, turns }));
+        return Err(SettleFault::Ring(Stopped { at, place, turns }));
     }
     take_all(&mut settled)?;
     retry_by_number(&mut settled)?;

@@ -1,5 +1,5 @@
 use Rattle.mc_model.specs.Sound.{IsSound}
-use Rattle.mc_seq.specs.Draws.{AreAllowed}
+use Rattle.mc_model.specs.Shapes.{AreAllowed}
 use Rattle.mc_seq.specs.Drawing.{sight_of}
 use Rattle.mc_seq.proofs.Sittings.{GoesOn, to_come}
 use Rattle.mc_seq.proofs.drawing.use_up.Given as goal
