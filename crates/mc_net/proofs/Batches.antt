@@ -1,7 +1,9 @@
--- Batches of the commands that are left.
-use Rattle.std.proofs.Common.{◌≡◌, List, [], ◌∷◌, ◌++◌, refl, append_assoc}
+-- Batches of the commands that are left, and how many there are.
+use Rattle.std.proofs.Common.{◌≡◌, ◌≤◌, List, [], ◌∷◌, ◌++◌, length, refl, append_assoc, arith}
 use Rattle.mc_box.specs.declared.event.Turn.{Turn}
-use Rattle.mc_net.specs.Nets.{before_next}
+use Rattle.mc_script.specs.declared.command.Command.{Command}
+use Rattle.mc_script.specs.declared.command.Command.TheVariants.{Stimulus, Settle}
+use Rattle.mc_net.specs.Nets.{batches_of, before_next}
 
 -- turns before those of the next batch, where there is one
 abbrev pub all_before_next : List Turn → List (List Turn) → List (List Turn)
@@ -15,3 +17,15 @@ one_more_before turns turn (batch ∷ batches) = rw (append_assoc turns (turn �
 pub none_before : (batches : List (List Turn)) → all_before_next [] batches ≡ batches
 none_before [] = refl
 none_before (batch ∷ batches) = refl
+
+-- ---- how many
+
+as_many_before : (turn : Turn) (batches : List (List Turn)) → length (before_next turn batches) ≡ length batches
+as_many_before turn [] = refl
+as_many_before turn (batch ∷ batches) = refl
+
+-- no more than commands
+pub few_batches : (commands : List Command) → length (batches_of commands) ≤ length commands
+few_batches [] = omega arith
+few_batches (Stimulus turn ∷ commands) = omega (arith, as_many_before turn (batches_of commands), few_batches commands)
+few_batches (Settle ∷ commands) = omega (arith, few_batches commands)

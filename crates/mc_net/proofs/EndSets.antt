@@ -1,5 +1,5 @@
--- All of a network's world has names, and each command sets the goal of an end.
-use Rattle.std.proofs.Common.{◌≡◌, ℕ, zero, suc, ◌+◌, ◌<◌, List, [], ◌∷◌, length, map, slice_index_or, sym, ◌∙◌, subst, arith}
+-- All of a network's world has names, each command sets the goal of an end, and there are no more batches than commands may be.
+use Rattle.std.proofs.Common.{◌≡◌, ℕ, zero, suc, ◌+◌, ◌<◌, ◌≤◌, List, [], ◌∷◌, length, map, slice_index_or, sym, ◌∙◌, subst, arith}
 use Rattle.std.specs.Prelude.{IsTrue}
 use Rattle.std.proofs.lemmas.Grind.{common_steps}
 use Rattle.std.proofs.lemmas.List.{length-map}
@@ -23,8 +23,10 @@ use Rattle.mc_net.specs.Forms.{IsInForm, NamesEach}
 use Rattle.mc_net.specs.Nets.{AreEndSets, IsMadeOf, NamesAll, batches_of, before_next, is_end_set, batch_turns}
 use Rattle.mc_net.specs.SoFar.{Declared}
 use Rattle.mc_net.specs.Texts.{Says}
+use Rattle.mc_net.specs.declared.limit.TheConstants.{COMMAND_LIMIT}
 use Rattle.mc_net.specs.declared.net.Net.{Net}
 use Rattle.mc_net.specs.declared.reader.Parts.{Parts}
+use Rattle.mc_net.proofs.Batches.{few_batches}
 use Rattle.mc_net.proofs.Declaring.{AreOf}
 use Rattle.mc_net.proofs.Named.{HasCodecs, SetsOrSettles, SetsSlot}
 use Rattle.mc_net.proofs.Runnable.{IsRunnable, says_runnable}
@@ -103,3 +105,12 @@ net_sets_ends text d parts net place says form are made =
     let named : NamesAll net.names net.world = net_named text d parts net place says form are made in
     let runs : IsRunnable d = says_runnable text d says in
     rw made.batches (commands_set_ends net.names net.world parts.commands.items named (rw (made.names, are.names, are.commands) runs.set))
+
+-- so a network has no more than commands may be
+pub net_has_few : (text : List ℕ) (d : Declared) (parts : Parts) (net : Net) (place : ℕ) → Says text d → AreOf d parts → IsMadeOf parts place net → length net.batches.items ≤ COMMAND_LIMIT
+net_has_few text d parts net place says are made =
+    let runs : IsRunnable d = says_runnable text d says in
+    let listed : length (batches_of parts.commands.items) ≤ length parts.commands.items = few_batches parts.commands.items in
+    let few : length parts.commands.items ≤ COMMAND_LIMIT = rw are.commands runs.few in
+    let made_of : length (map batch_turns net.batches.items) ≤ length parts.commands.items = rw made.batches listed in
+    omega (arith, length-map net.batches.items batch_turns)

@@ -4,6 +4,7 @@ use Rattle.std.specs.List.{slice_get}
 use Rattle.mc_text.specs.Lines.{words}
 use Rattle.mc_script.specs.Rules.{byte_rules, kind_rules, least_broken}
 use Rattle.mc_script.specs.declared.keyword.CommandWord.{CommandWord}
+use Rattle.mc_script.specs.declared.rule.TheConstants.{LIMIT_PASSED, UNFINISHED}
 use Rattle.mc_net.specs.Rules.{command_line_rules, entry_fault, is_skipped, is_unfinished, line_fault, line_words_rules, passes_limit}
 use Rattle.mc_net.specs.SoFar.{Declared}
 use Rattle.mc_net.proofs.Reading.{first_kept}
@@ -51,6 +52,17 @@ unfinished_before d kind words kept room unfinished =
 pub others_kept : (number : ℕ) (broken : Bool) (others : List (ℕ × Bool)) → least_broken ((number, broken) ∷ others) ≡ None → least_broken others ≡ None
 others_kept number true others kept = absurd (let clash : Some number ≡ None = kept in cc)
 others_kept number false others kept = kept
+
+-- of two lists, none of the second is
+all_behind : (rules others : List (ℕ × Bool)) → least_broken (rules ++ others) ≡ None → least_broken others ≡ None
+all_behind [] others kept = kept
+all_behind (rule ∷ rules) others kept = all_behind rules others (others_kept rule.0 rule.1 (rules ++ others) kept)
+
+-- where a command's line breaks no rule, there is room for the command
+pub has_room : (d : Declared) (kind : CommandWord) (words : List (List ℕ)) → least_broken (command_line_rules d kind words) ≡ None → nat_le COMMAND_LIMIT (length d.commands) ≡ false
+has_room d kind words kept =
+    let behind = (LIMIT_PASSED, nat_le COMMAND_LIMIT (length d.commands)) ∷ (UNFINISHED, is_unfinished d) ∷ [] in
+    first_kept LIMIT_PASSED (nat_le COMMAND_LIMIT (length d.commands)) ((UNFINISHED, is_unfinished d) ∷ []) (all_behind (kind_rules d.names d.shape (Some kind) words) behind kept)
 
 -- where no rule is broken, the one at a place is kept
 pub kept_at : (rules : List (ℕ × Bool)) (k : ℕ) (rule : ℕ × Bool) → least_broken rules ≡ None → slice_get rules k ≡ Some rule → rule.1 ≡ false

@@ -1,5 +1,5 @@
--- Until the first line that can't be run yet no program is declared, each box receives declared codecs, and each command sets the goal of an end or settles.
-use Rattle.std.proofs.Common.{◌≡◌, ℕ, zero, suc, ◌<◌, Bool, true, false, ◌&&◌, not, nat_lt, if◌then◌else◌, List, [], ◌∷◌, ◌++◌, length, drop, slice_index_or, Option, Some, None, refl, sym, subst, arith, length-append}
+-- Until the first line that can't be run yet no program is declared, each box receives declared codecs, and each command sets the goal of an end or settles. There are no more commands than may be.
+use Rattle.std.proofs.Common.{◌≡◌, ℕ, zero, suc, ◌<◌, ◌≤◌, Bool, true, false, ◌&&◌, not, nat_le, nat_lt, if◌then◌else◌, List, [], ◌∷◌, ◌++◌, length, drop, slice_index_or, Option, Some, None, refl, sym, subst, arith, length-append}
 use Rattle.std.proofs.lemmas.List.Elements.{All-nil, All-push, All-weaker}
 use Rattle.std.specs.List.{All, list_any, slice_get}
 use Rattle.std.specs.Option.{is_some, unwrap_or}
@@ -15,29 +15,31 @@ use Rattle.mc_script.specs.declared.command.Command.TheVariants.{Settle}
 use Rattle.mc_script.specs.declared.keyword.CommandWord.{CommandWord}
 use Rattle.mc_script.specs.declared.keyword.CommandWord.TheVariants as command
 use Rattle.mc_net.specs.Meaning.{after_by, begin_after, channel_after, codec_after, command_after, device_after, device_in, with_joined, line_after, unless_skipped, with_new_box, with_new_codec, words_after}
-use Rattle.mc_net.specs.Rules.{codec_words, device_rules, is_skipped, kind_of, line_fault, line_words_rules, lists_undeclared, spelt_medium, open_block, passes_limit, rules_by, words_rules}
+use Rattle.mc_net.specs.Rules.{codec_words, command_line_rules, device_rules, is_skipped, kind_of, line_fault, line_words_rules, lists_undeclared, spelt_medium, open_block, passes_limit, rules_by, words_rules}
 use Rattle.mc_net.specs.SoFar.{Declared, DeclaredBox, nothing}
 use Rattle.mc_net.specs.Texts.{AreSound, Says, bytes_before, declared_by, first_unbuilt, is_unbuilt, unbuilt_by, with_unbuilt}
+use Rattle.mc_net.specs.declared.limit.TheConstants.{COMMAND_LIMIT}
 use Rattle.mc_net.specs.declared.section.Keyword.{Keyword}
 use Rattle.mc_net.specs.declared.section.Keyword.TheVariants as keyword
 use Rattle.mc_net.specs.declared.section.Section.TheVariants as section
-use Rattle.mc_net.proofs.FirstBroken.{kept_at, others_kept}
+use Rattle.mc_net.proofs.FirstBroken.{has_room, kept_at, others_kept}
 use Rattle.mc_net.proofs.Named.{HasCodecs, SetsOrSettles, kept_with_box, kept_with_slot, mapped, numbers_known, set_is_named, still_set}
 use Rattle.mc_net.proofs.Unfinished.{none_open}
 
 -- ---- what is kept
 
--- no program is declared, the codecs of each box are, and each command sets a goal of a slot with a name, or settles
+-- no program is declared, the codecs of each box are, each command sets a goal of a slot with a name, or settles, and there are no more commands than may be
 pub record RunsAll (names : NameLists) (boxes : List DeclaredBox) (blocks : List BlockState) (commands : List Command) : Type 0 where
   pub plain : blocks ≡ []
   pub known : All (HasCodecs names) boxes
   pub set : All (SetsOrSettles names) commands
+  pub few : length commands ≤ COMMAND_LIMIT
 
 abbrev pub IsRunnable : Declared → Type 0
 IsRunnable d = RunsAll d.names d.boxes d.blocks d.commands
 
 nothing_runs : IsRunnable nothing
-nothing_runs = record { plain = refl; known = All-nil (HasCodecs nothing.names); set = All-nil (SetsOrSettles nothing.names) }
+nothing_runs = record { plain = refl; known = All-nil (HasCodecs nothing.names); set = All-nil (SetsOrSettles nothing.names); few = omega arith }
 
 -- ---- each kind of line
 
@@ -48,6 +50,7 @@ codec_runs d after words runs means =
       plain = runs.plain;
       known = All-weaker (HasCodecs d.names) (HasCodecs (with_codec_name d.names m.0)) (λ declared has. All-weaker (λ codec. codec < length d.names.codecs) (λ codec. codec < length (d.names.codecs ++ m.0 ∷ [])) (λ codec below. one_more m.0 codec below) declared.receives has) d.boxes runs.known;
       set = still_set d.names (with_codec_name d.names m.0) (λ who local is. is) d.commands runs.set;
+      few = runs.few;
     })
   where
     one_more : (name : List ℕ) (codec : ℕ) → codec < length d.names.codecs → codec < length (d.names.codecs ++ name ∷ [])
@@ -61,6 +64,7 @@ device_runs d after words runs kept means =
       plain = runs.plain;
       known = All-push (HasCodecs d.names) d.boxes (device_in d.names (drop 1 words)) runs.known (numbers_known d.names (codec_words (drop 1 words)) declared);
       set = still_set d.names (with_box_name d.names m.0) (kept_with_box d.names m.0) d.commands runs.set;
+      few = runs.few;
     })
 
 -- what a `chan` line joins
@@ -97,15 +101,24 @@ channel_runs d after words runs means =
       known = runs.known;
       set = still_set one (with_slot_name one j.to j.far_slot) (kept_with_slot one j.to j.far_slot) d.commands
           (still_set d.names one (kept_with_slot d.names j.from j.slot) d.commands runs.set);
+      few = runs.few;
     })
 
-command_runs : (d after : Declared) (kind : CommandWord) (words : List (List ℕ)) → IsRunnable d → ((it : Command) → command_by d.names (Some kind) words ≡ Some it → SetsOrSettles d.names it) → command_after d kind words ≡ Some after → IsRunnable after
-command_runs d after kind words runs named means =
+-- one command more, where there is room
+one_within : (commands : List Command) (it : Command) → nat_le COMMAND_LIMIT (length commands) ≡ false → length (commands ++ it ∷ []) ≤ COMMAND_LIMIT
+one_within commands it room =
+    let below : length commands < COMMAND_LIMIT = grind arith in
+    omega (arith, length-append commands (it ∷ []))
+
+command_runs : (d after : Declared) (kind : CommandWord) (words : List (List ℕ)) → IsRunnable d → least_broken (command_line_rules d kind words) ≡ None → ((it : Command) → command_by d.names (Some kind) words ≡ Some it → SetsOrSettles d.names it) → command_after d kind words ≡ Some after → IsRunnable after
+command_runs d after kind words runs kept named means =
+    let room : nat_le COMMAND_LIMIT (length d.commands) ≡ false = has_room d kind words kept in
     let m = mapped (λ it. record d { section = section.Commands; commands = d.commands ++ it ∷ [] }) (command_by d.names (Some kind) words) after means in
     subst (λ (x : Declared). IsRunnable x) (sym m.2) (record {
       plain = runs.plain;
       known = runs.known;
       set = All-push (SetsOrSettles d.names) d.commands m.0 runs.set (named m.0 m.1);
+      few = one_within d.commands m.0 room;
     })
 
 -- no program is open
@@ -123,12 +136,12 @@ kind_runs d after keyword.State words runs kept built means = absurd (let none :
 kind_runs d after keyword.Goal words runs kept built means = absurd (let none : None ≡ Some after = rw (no_open d runs) at means in cc)
 kind_runs d after keyword.When words runs kept built means = absurd (let none : None ≡ Some after = rw (no_open d runs) at means in cc)
 kind_runs d after keyword.Begin words runs kept built means = let same : after ≡ begin_after d = cc in subst (λ (x : Declared). IsRunnable x) (sym same) runs
-kind_runs d after keyword.Set words runs kept built means = command_runs d after command.Set words runs (λ it found. set_is_named d.names words it found) means
+kind_runs d after keyword.Set words runs kept built means = command_runs d after command.Set words runs kept (λ it found. set_is_named d.names words it found) means
 kind_runs d after keyword.Link words runs kept built means = absurd cc
 kind_runs d after keyword.Hear words runs kept built means = absurd cc
 kind_runs d after keyword.Talk words runs kept built means = absurd cc
 kind_runs d after keyword.Tell words runs kept built means = absurd cc
-kind_runs d after keyword.Settle words runs kept built means = command_runs d after command.Settle words runs (λ it found. let is : it ≡ Settle = cc in rw is tt) means
+kind_runs d after keyword.Settle words runs kept built means = command_runs d after command.Settle words runs kept (λ it found. let is : it ≡ Settle = cc in rw is tt) means
 
 -- ---- whole lines and texts
 

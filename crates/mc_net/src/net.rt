@@ -1,11 +1,12 @@
 //! The network that a text declares.
 
-ghost use Rattle.std.specs.Prelude.{◌≡◌, IfErr, IfOk, map};
+ghost use Rattle.std.specs.Prelude.{◌≡◌, ◌≤◌, IfErr, IfOk, length, map};
 ghost use Rattle.mc_model.specs.LinkFree.{HasNoLinks};
 ghost use Rattle.mc_net.specs.Nets.{AreEndSets, DeclaresNet, IsMadeOf, NamesAll, batches_of, batch_turns};
 ghost use Rattle.mc_net.specs.Texts.{RefusesText};
 
 use crate::fault::NetFault;
+use crate::limit::COMMAND_LIMIT;
 use crate::reader::Parts;
 use crate::text::read_text;
 use mc_box::Shape;
@@ -37,6 +38,7 @@ pub fn read_net(alloc: Global, text: &[u8], tail: Tail) -> Result<Net, NetFault>
     ensures declares { IfOk result (DeclaresNet text.now) }
     ensures named { IfOk result (λ net. NamesAll net.names net.world) }
     ensures end_sets { IfOk result (λ net. AreEndSets net.world (map batch_turns net.batches.items)) }
+    ensures few { IfOk result (λ net. length net.batches.items ≤ COMMAND_LIMIT) }
     ensures free { IfOk result (λ net. HasNoLinks net.world) }
     ensures refused { IfErr result (RefusesText text.now) }
 {
