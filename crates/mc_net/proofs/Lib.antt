@@ -2,13 +2,13 @@ pub mod Batches
 pub mod Blocks
 pub mod CodecLists
 pub mod Declaring
-pub mod EndSets
 pub mod Faults
 pub mod FirstBroken
 pub mod FirstBytes
 pub mod Fitting
 pub mod Joining
 pub mod LinkFree
+pub mod MadeNets
 pub mod Missing
 pub mod Named
 pub mod Reading

@@ -1,5 +1,5 @@
--- What has a name: the codecs of the boxes, and the slots whose goals the commands set.
-use Rattle.std.proofs.Common.{◌≡◌, ◌≤◌, ℕ, ◌<◌, false, List, [], ◌∷◌, ◌++◌, length, map, slice_index_or, slice_set, Option, Some, None, refl, sym, subst, arith, length-append}
+-- What has a name: the codecs of the boxes, and the slots that the commands change.
+use Rattle.std.proofs.Common.{◌≡◌, ◌≤◌, ℕ, ◌<◌, Bool, false, List, [], ◌∷◌, ◌++◌, length, map, slice_index_or, slice_set, Option, Some, None, refl, sym, subst, arith, length-append}
 use Rattle.std.proofs.lemmas.Grind.{common_steps}
 use Rattle.std.proofs.lemmas.List.Elements.{All-cons, All-nil, All-weaker}
 use Rattle.std.specs.List.{All, position_or_len, slice_get}
@@ -10,10 +10,11 @@ use Rattle.mc_text.specs.NameLists.{NameLists, place_of, slot_names, with_box_na
 use Rattle.mc_box.specs.declared.event.Change.TheVariants.{End as NewEnd, Link as NewLink}
 use Rattle.mc_box.specs.declared.event.Event.{Event}
 use Rattle.mc_box.specs.declared.event.Event.TheVariants.{Set, Take, Media, Tell, Retry, Shift}
+use Rattle.mc_box.specs.declared.event.MediaChange.TheVariants.{Hear, Talk}
 use Rattle.mc_script.specs.Meaning.{at_slot, command_by}
 use Rattle.mc_script.specs.Places.{box_named, spelt_value, slot_named}
 use Rattle.mc_script.specs.Printed.{IsSlot}
-use Rattle.mc_script.specs.Rules.{spelt_goal}
+use Rattle.mc_script.specs.Rules.{spelt_goal, spelt_switch}
 use Rattle.mc_script.specs.declared.command.Command.{Command}
 use Rattle.mc_script.specs.declared.command.Command.TheVariants.{Stimulus, Settle}
 use Rattle.mc_script.specs.declared.keyword.CommandWord.TheVariants as command
@@ -28,14 +29,16 @@ use Rattle.mc_net.proofs.Fitting.{same_before}
 abbrev pub HasCodecs : NameLists → DeclaredBox → Type 0
 HasCodecs names declared = All (λ codec. codec < length names.codecs) declared.receives
 
--- the event sets the goal of a slot that has a name, as that of an end
-abbrev pub SetsSlot : NameLists → ℕ → Event → Type 0
-SetsSlot names who (Set (NewEnd local goal)) = IsSlot names who local
-SetsSlot names who event = ⊥
+-- the event changes a slot that has a name: its goal, as that of an end, or whether it hears or talks
+abbrev pub ChangesSlot : NameLists → ℕ → Event → Type 0
+ChangesSlot names who (Set (NewEnd local goal)) = IsSlot names who local
+ChangesSlot names who (Media (Hear local on)) = IsSlot names who local
+ChangesSlot names who (Media (Talk local on)) = IsSlot names who local
+ChangesSlot names who event = ⊥
 
-abbrev pub SetsOrSettles : NameLists → Command → Type 0
-SetsOrSettles names (Stimulus turn) = SetsSlot names turn.who turn.event
-SetsOrSettles names Settle = Unit {0}
+abbrev pub ChangesOrSettles : NameLists → Command → Type 0
+ChangesOrSettles names (Stimulus turn) = ChangesSlot names turn.who turn.event
+ChangesOrSettles names Settle = Unit {0}
 
 -- ---- more names
 
@@ -43,23 +46,24 @@ SetsOrSettles names Settle = Unit {0}
 abbrev pub KeepsSlots : NameLists → NameLists → Type 0
 KeepsSlots names next = (who local : ℕ) → IsSlot names who local → IsSlot next who local
 
--- so what was set is set
+-- so what changed a slot that had a name does so still
 module _ (names next : NameLists) (kept : KeepsSlots names next) where
-  event_still : (who : ℕ) (event : Event) → SetsSlot names who event → SetsSlot next who event
-  event_still who (Set (NewEnd local goal)) sets = kept who local sets
-  event_still who (Set (NewLink local other)) sets = absurd sets
-  event_still who (Take local) sets = absurd sets
-  event_still who (Media change) sets = absurd sets
-  event_still who (Tell told) sets = absurd sets
-  event_still who (Retry local) sets = absurd sets
-  event_still who Shift sets = absurd sets
+  event_still : (who : ℕ) (event : Event) → ChangesSlot names who event → ChangesSlot next who event
+  event_still who (Set (NewEnd local goal)) changes = kept who local changes
+  event_still who (Set (NewLink local other)) changes = absurd changes
+  event_still who (Take local) changes = absurd changes
+  event_still who (Media (Hear local on)) changes = kept who local changes
+  event_still who (Media (Talk local on)) changes = kept who local changes
+  event_still who (Tell told) changes = absurd changes
+  event_still who (Retry local) changes = absurd changes
+  event_still who Shift changes = absurd changes
 
-  command_still : (it : Command) → SetsOrSettles names it → SetsOrSettles next it
-  command_still (Stimulus turn) sets = event_still turn.who turn.event sets
-  command_still Settle sets = tt
+  command_still : (it : Command) → ChangesOrSettles names it → ChangesOrSettles next it
+  command_still (Stimulus turn) changes = event_still turn.who turn.event changes
+  command_still Settle changes = tt
 
-  pub still_set : (commands : List Command) → All (SetsOrSettles names) commands → All (SetsOrSettles next) commands
-  still_set commands set = All-weaker (SetsOrSettles names) (SetsOrSettles next) (λ it sets. command_still it sets) commands set
+  pub still_change : (commands : List Command) → All (ChangesOrSettles names) commands → All (ChangesOrSettles next) commands
+  still_change commands change = All-weaker (ChangesOrSettles names) (ChangesOrSettles next) (λ it changes. command_still it changes) commands change
 
 -- where a box comes last
 pub kept_with_box : (names : NameLists) (name : List ℕ) → KeepsSlots names (with_box_name names name)
@@ -137,9 +141,24 @@ at_slot_is names words means it found = by (box_named names (slice_get words 0))
     by None a = absurd (let none : None ≡ Some it = rw a at found in cc)
     by (Some who) a = by_slot who a (slot_named names (Some who) (slice_get words 1)) refl
 
--- a `set` line sets the goal of a slot that has a name
-pub set_is_named : (names : NameLists) (words : List (List ℕ)) (it : Command) → command_by names (Some command.Set) words ≡ Some it → SetsOrSettles names it
-set_is_named names words it found =
-    let at = at_slot_is names words (λ local. option_map (λ (goal : Goal). Set (NewEnd local goal)) (spelt_value spelt_goal (slice_get words 2))) it found in
-    let made = mapped (λ (goal : Goal). Set (NewEnd at.local goal)) (spelt_value spelt_goal (slice_get words 2)) at.event at.meant in
-    rw (at.is, made.2) (named_within names.boxes (slice_get words 0) at.who at.box, named_within (slot_names names at.who) (slice_get words 1) at.local at.slot)
+-- the slot has a name
+at_is_slot : (names : NameLists) (words : List (List ℕ)) (means : ℕ → Option Event) (it : Command) → (at : IsAt names words means it) → IsSlot names at.who at.local
+at_is_slot names words means it at = (named_within names.boxes (slice_get words 0) at.who at.box, named_within (slot_names names at.who) (slice_get words 1) at.local at.slot)
+
+-- a line of `BOX SLOT` and the word of a value changes a slot that has a name, where such events do
+changes_named : {X : Type 0} (names : NameLists) (words : List (List ℕ)) (value : Option X) (event : ℕ → X → Event) (it : Command) → ((who local : ℕ) (x : X) → IsSlot names who local → ChangesSlot names who (event local x))
+    → at_slot names words (λ local. option_map (event local) value) ≡ Some it → ChangesOrSettles names it
+changes_named names words value event it changes found =
+    let at = at_slot_is names words (λ local. option_map (event local) value) it found in
+    let made = mapped (event at.local) value at.event at.meant in
+    rw (at.is, made.2) (changes at.who at.local made.0 (at_is_slot names words (λ local. option_map (event local) value) it at))
+
+-- the lines of `set`, `hear` and `talk` do
+pub set_is_named : (names : NameLists) (words : List (List ℕ)) (it : Command) → command_by names (Some command.Set) words ≡ Some it → ChangesOrSettles names it
+set_is_named names words it found = changes_named names words (spelt_value spelt_goal (slice_get words 2)) (λ local (goal : Goal). Set (NewEnd local goal)) it (λ who local goal is. is) found
+
+pub hear_is_named : (names : NameLists) (words : List (List ℕ)) (it : Command) → command_by names (Some command.Hear) words ≡ Some it → ChangesOrSettles names it
+hear_is_named names words it found = changes_named names words (spelt_value spelt_switch (slice_get words 2)) (λ local (on : Bool). Media (Hear local on)) it (λ who local on is. is) found
+
+pub talk_is_named : (names : NameLists) (words : List (List ℕ)) (it : Command) → command_by names (Some command.Talk) words ≡ Some it → ChangesOrSettles names it
+talk_is_named names words it found = changes_named names words (spelt_value spelt_switch (slice_get words 2)) (λ local (on : Bool). Media (Talk local on)) it (λ who local on is. is) found

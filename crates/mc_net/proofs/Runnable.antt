@@ -1,4 +1,4 @@
--- Until the first line that can't be run yet no program is declared, each box receives declared codecs, and each command sets the goal of an end or settles. There are no more commands than may be.
+-- Until the first line that can't be run yet each box is a device and receives declared codecs, no program is declared, and each command changes a slot or settles. There are no more commands than may be.
 use Rattle.std.proofs.Common.{◌≡◌, ℕ, zero, suc, ◌<◌, ◌≤◌, Bool, true, false, ◌&&◌, not, nat_le, nat_lt, if◌then◌else◌, List, [], ◌∷◌, ◌++◌, length, drop, slice_index_or, Option, Some, None, refl, sym, subst, arith, length-append}
 use Rattle.std.proofs.lemmas.List.Elements.{All-nil, All-push, All-weaker}
 use Rattle.std.specs.List.{All, list_any, slice_get}
@@ -6,6 +6,7 @@ use Rattle.std.specs.Option.{is_some, unwrap_or}
 use Rattle.mc_signal.specs.declared.Medium.{Medium}
 use Rattle.mc_text.specs.Lines.{lines, words}
 use Rattle.mc_text.specs.NameLists.{NameLists, with_box_name, with_codec_name, with_slot_name}
+use Rattle.mc_box.specs.declared.event.Kind.TheVariants.{Device}
 use Rattle.mc_program.specs.Programs.{BlockState}
 use Rattle.mc_script.specs.Meaning.{command_by}
 use Rattle.mc_script.specs.Places.{box_named, spelt_value}
@@ -23,23 +24,34 @@ use Rattle.mc_net.specs.declared.section.Keyword.{Keyword}
 use Rattle.mc_net.specs.declared.section.Keyword.TheVariants as keyword
 use Rattle.mc_net.specs.declared.section.Section.TheVariants as section
 use Rattle.mc_net.proofs.FirstBroken.{has_room, kept_at, others_kept}
-use Rattle.mc_net.proofs.Named.{HasCodecs, SetsOrSettles, kept_with_box, kept_with_slot, mapped, numbers_known, set_is_named, still_set}
+use Rattle.mc_net.proofs.Named.{ChangesOrSettles, HasCodecs, hear_is_named, kept_with_box, kept_with_slot, mapped, numbers_known, set_is_named, still_change, talk_is_named}
 use Rattle.mc_net.proofs.Unfinished.{none_open}
 
 -- ---- what is kept
 
--- no program is declared, the codecs of each box are, each command sets a goal of a slot with a name, or settles, and there are no more commands than may be
+-- the line of the box is that of a device
+abbrev pub IsDevice : DeclaredBox → Type 0
+IsDevice declared = declared.kind ≡ Device
+
+-- each box is a device with declared codecs, no program is declared, each command changes a slot with a name, or settles, and there are no more commands than may be
 pub record RunsAll (names : NameLists) (boxes : List DeclaredBox) (blocks : List BlockState) (commands : List Command) : Type 0 where
   pub plain : blocks ≡ []
+  pub devices : All IsDevice boxes
   pub known : All (HasCodecs names) boxes
-  pub set : All (SetsOrSettles names) commands
+  pub change : All (ChangesOrSettles names) commands
   pub few : length commands ≤ COMMAND_LIMIT
 
 abbrev pub IsRunnable : Declared → Type 0
 IsRunnable d = RunsAll d.names d.boxes d.blocks d.commands
 
 nothing_runs : IsRunnable nothing
-nothing_runs = record { plain = refl; known = All-nil (HasCodecs nothing.names); set = All-nil (SetsOrSettles nothing.names); few = omega arith }
+nothing_runs = record {
+  plain = refl;
+  devices = All-nil IsDevice;
+  known = All-nil (HasCodecs nothing.names);
+  change = All-nil (ChangesOrSettles nothing.names);
+  few = omega arith;
+}
 
 -- ---- each kind of line
 
@@ -48,8 +60,9 @@ codec_runs d after words runs means =
     let m = mapped (with_new_codec d) (slice_get words 0) after means in
     subst (λ (x : Declared). IsRunnable x) (sym m.2) (record {
       plain = runs.plain;
+      devices = runs.devices;
       known = All-weaker (HasCodecs d.names) (HasCodecs (with_codec_name d.names m.0)) (λ declared has. All-weaker (λ codec. codec < length d.names.codecs) (λ codec. codec < length (d.names.codecs ++ m.0 ∷ [])) (λ codec below. one_more m.0 codec below) declared.receives has) d.boxes runs.known;
-      set = still_set d.names (with_codec_name d.names m.0) (λ who local is. is) d.commands runs.set;
+      change = still_change d.names (with_codec_name d.names m.0) (λ who local is. is) d.commands runs.change;
       few = runs.few;
     })
   where
@@ -62,8 +75,9 @@ device_runs d after words runs kept means =
     let declared : lists_undeclared d.names (codec_words (drop 1 words)) ≡ false = kept_at (device_rules d words) 0 (4, lists_undeclared d.names (codec_words (drop 1 words))) kept refl in
     subst (λ (x : Declared). IsRunnable x) (sym m.2) (record {
       plain = runs.plain;
+      devices = All-push IsDevice d.boxes (device_in d.names (drop 1 words)) runs.devices refl;
       known = All-push (HasCodecs d.names) d.boxes (device_in d.names (drop 1 words)) runs.known (numbers_known d.names (codec_words (drop 1 words)) declared);
-      set = still_set d.names (with_box_name d.names m.0) (kept_with_box d.names m.0) d.commands runs.set;
+      change = still_change d.names (with_box_name d.names m.0) (kept_with_box d.names m.0) d.commands runs.change;
       few = runs.few;
     })
 
@@ -98,9 +112,10 @@ channel_runs d after words runs means =
     let one : NameLists = with_slot_name d.names j.from j.slot in
     subst (λ (x : Declared). IsRunnable x) (sym j.is) (record {
       plain = runs.plain;
+      devices = runs.devices;
       known = runs.known;
-      set = still_set one (with_slot_name one j.to j.far_slot) (kept_with_slot one j.to j.far_slot) d.commands
-          (still_set d.names one (kept_with_slot d.names j.from j.slot) d.commands runs.set);
+      change = still_change one (with_slot_name one j.to j.far_slot) (kept_with_slot one j.to j.far_slot) d.commands
+          (still_change d.names one (kept_with_slot d.names j.from j.slot) d.commands runs.change);
       few = runs.few;
     })
 
@@ -110,14 +125,15 @@ one_within commands it room =
     let below : length commands < COMMAND_LIMIT = grind arith in
     omega (arith, length-append commands (it ∷ []))
 
-command_runs : (d after : Declared) (kind : CommandWord) (words : List (List ℕ)) → IsRunnable d → least_broken (command_line_rules d kind words) ≡ None → ((it : Command) → command_by d.names (Some kind) words ≡ Some it → SetsOrSettles d.names it) → command_after d kind words ≡ Some after → IsRunnable after
+command_runs : (d after : Declared) (kind : CommandWord) (words : List (List ℕ)) → IsRunnable d → least_broken (command_line_rules d kind words) ≡ None → ((it : Command) → command_by d.names (Some kind) words ≡ Some it → ChangesOrSettles d.names it) → command_after d kind words ≡ Some after → IsRunnable after
 command_runs d after kind words runs kept named means =
     let room : nat_le COMMAND_LIMIT (length d.commands) ≡ false = has_room d kind words kept in
     let m = mapped (λ it. record d { section = section.Commands; commands = d.commands ++ it ∷ [] }) (command_by d.names (Some kind) words) after means in
     subst (λ (x : Declared). IsRunnable x) (sym m.2) (record {
       plain = runs.plain;
+      devices = runs.devices;
       known = runs.known;
-      set = All-push (SetsOrSettles d.names) d.commands m.0 runs.set (named m.0 m.1);
+      change = All-push (ChangesOrSettles d.names) d.commands m.0 runs.change (named m.0 m.1);
       few = one_within d.commands m.0 room;
     })
 
@@ -125,7 +141,7 @@ command_runs d after kind words runs kept named means =
 no_open : (d : Declared) → IsRunnable d → open_block d ≡ None
 no_open d runs = rw runs.plain (none_open d.section)
 
-kind_runs : (d after : Declared) (kind : Keyword) (words : List (List ℕ)) → IsRunnable d → least_broken (rules_by d (Some kind) words) ≡ None → unbuilt_by d (Some kind) words ≡ false → after_by d (Some kind) words ≡ Some after → IsRunnable after
+kind_runs : (d after : Declared) (kind : Keyword) (words : List (List ℕ)) → IsRunnable d → least_broken (rules_by d (Some kind) words) ≡ None → unbuilt_by d (Some kind) ≡ false → after_by d (Some kind) words ≡ Some after → IsRunnable after
 kind_runs d after keyword.Media words runs kept built means = absurd cc
 kind_runs d after keyword.Codec words runs kept built means = codec_runs d after words runs means
 kind_runs d after keyword.Dev words runs kept built means = device_runs d after words runs kept means
@@ -138,24 +154,24 @@ kind_runs d after keyword.When words runs kept built means = absurd (let none : 
 kind_runs d after keyword.Begin words runs kept built means = let same : after ≡ begin_after d = cc in subst (λ (x : Declared). IsRunnable x) (sym same) runs
 kind_runs d after keyword.Set words runs kept built means = command_runs d after command.Set words runs kept (λ it found. set_is_named d.names words it found) means
 kind_runs d after keyword.Link words runs kept built means = absurd cc
-kind_runs d after keyword.Hear words runs kept built means = absurd cc
-kind_runs d after keyword.Talk words runs kept built means = absurd cc
+kind_runs d after keyword.Hear words runs kept built means = command_runs d after command.Hear words runs kept (λ it found. hear_is_named d.names words it found) means
+kind_runs d after keyword.Talk words runs kept built means = command_runs d after command.Talk words runs kept (λ it found. talk_is_named d.names words it found) means
 kind_runs d after keyword.Tell words runs kept built means = absurd cc
 kind_runs d after keyword.Settle words runs kept built means = command_runs d after command.Settle words runs kept (λ it found. let is : it ≡ Settle = cc in rw is tt) means
 
 -- ---- whole lines and texts
 
-by_kind : (d after : Declared) (kind : Option Keyword) (words : List (List ℕ)) → IsRunnable d → least_broken (rules_by d kind words) ≡ None → unbuilt_by d kind words ≡ false → after_by d kind words ≡ Some after → IsRunnable after
+by_kind : (d after : Declared) (kind : Option Keyword) (words : List (List ℕ)) → IsRunnable d → least_broken (rules_by d kind words) ≡ None → unbuilt_by d kind ≡ false → after_by d kind words ≡ Some after → IsRunnable after
 by_kind d after None words runs kept built means = absurd cc
 by_kind d after (Some kind) words runs kept built means = kind_runs d after kind words runs kept built means
 
 by_words : (d after : Declared) (ws : List (List ℕ)) (versioned : Bool) → IsRunnable d → least_broken (words_rules versioned d ws) ≡ None
-    → (versioned && true && unbuilt_by d (kind_of ws) (drop 1 ws)) ≡ false → words_after versioned d ws ≡ Some after → IsRunnable after
+    → (versioned && true && unbuilt_by d (kind_of ws)) ≡ false → words_after versioned d ws ≡ Some after → IsRunnable after
 by_words d after ws false runs kept built means = let same : after ≡ record d { versioned = true } = cc in subst (λ (x : Declared). IsRunnable x) (sym same) runs
 by_words d after ws true runs kept built means = by_kind d after (kind_of ws) (drop 1 ws) runs kept built means
 
 by_skipped : (d after : Declared) (ws : List (List ℕ)) (skipped : Bool) → IsRunnable d → least_broken (line_words_rules skipped d ws) ≡ None
-    → (d.versioned && not skipped && unbuilt_by d (kind_of ws) (drop 1 ws)) ≡ false → unless_skipped skipped d (words_after d.versioned d ws) ≡ Some after → IsRunnable after
+    → (d.versioned && not skipped && unbuilt_by d (kind_of ws)) ≡ false → unless_skipped skipped d (words_after d.versioned d ws) ≡ Some after → IsRunnable after
 by_skipped d after ws true runs kept built means = let same : after ≡ d = cc in subst (λ (x : Declared). IsRunnable x) (sym same) runs
 by_skipped d after ws false runs kept built means = by_words d after ws d.versioned runs kept built means
 

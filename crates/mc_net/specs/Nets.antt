@@ -1,14 +1,10 @@
 -- The network that a text declares.
-use Rattle.std.specs.Prelude.{◌≡◌, ◌<◌, ℕ, ◌&&◌, Bool, false, List, [], ◌∷◌, length, map, nat_lt, IsTrue}
+use Rattle.std.specs.Prelude.{◌≡◌, ◌<◌, ℕ, List, [], ◌∷◌, length, map}
 use Rattle.std.specs.List.{All}
 use Rattle.mc_signal.specs.Choice.{codecs_of}
 use Rattle.mc_text.specs.NameLists.{NameLists, slot_names}
-use Rattle.mc_box.specs.Boxes.{BoxState, is_slot}
 use Rattle.mc_model.specs.Worlds.{WorldState, box_at}
 use Rattle.mc_plan.specs.Plans.{PlanState, world_of}
-use Rattle.mc_box.specs.declared.event.Change.TheVariants.{End as NewEnd}
-use Rattle.mc_box.specs.declared.event.Event.{Event}
-use Rattle.mc_box.specs.declared.event.Event.TheVariants.{Set}
 use Rattle.mc_box.specs.declared.event.Turn.{Turn}
 use Rattle.mc_script.specs.declared.command.Batch.{Batch}
 use Rattle.mc_script.specs.declared.command.Command.{Command}
@@ -70,16 +66,3 @@ pub record NamesAll (names : NameLists) (world : WorldState) : Type 0 where
   pub boxes : length names.boxes ≡ length world.boxes
   pub slots : (who : ℕ) → who < length world.boxes → length (slot_names names who) ≡ length (box_at world who).slots
   pub codecs : (who : ℕ) → All (λ codec. codec < length names.codecs) (codecs_of (box_at world who).receives)
-
--- the event makes a slot of the box an end with some goal
-abbrev pub sets_end : BoxState → Event → Bool
-sets_end box (Set (NewEnd local goal)) = is_slot box local
-sets_end box event = false
-
--- the turn does so, for a box that is there
-abbrev pub is_end_set : WorldState → Turn → Bool
-is_end_set world turn = nat_lt turn.who (length world.boxes) && sets_end (box_at world turn.who) turn.event
-
--- each command of each batch sets the goal of an end, of a slot that is there
-abbrev pub AreEndSets : WorldState → List (List Turn) → Type 0
-AreEndSets world batches = All (λ batch. All (λ turn. IsTrue (is_end_set world turn)) batch) batches

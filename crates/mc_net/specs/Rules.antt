@@ -86,11 +86,6 @@ abbrev pub codec_words : List (List ℕ) → List (List ℕ)
 codec_words [] = []
 codec_words (first ∷ others) = if begins_digit first then others else first ∷ others
 
--- the words of a `dev` line behind the name begin with a version, right or not
-abbrev pub gives_version : List (List ℕ) → Bool
-gives_version [] = false
-gives_version (first ∷ others) = begins_digit first
-
 -- the version that a `dev` line gives isn't a number from 1 on
 abbrev pub has_bad_version : List (List ℕ) → Bool
 has_bad_version [] = false

@@ -1,10 +1,10 @@
 -- A whole text: its first fault, and what it declares.
-use Rattle.std.specs.Prelude.{ℕ, zero, suc, ◌≡◌, ◌+◌, ◌<◌, ◌==◌, ◌&&◌, ◌||◌, not, Bool, true, false, List, [], Option, Some, None, count_by, drop, if◌then◌else◌, length, nat_le, slice_index_or}
+use Rattle.std.specs.Prelude.{ℕ, zero, suc, ◌≡◌, ◌+◌, ◌<◌, ◌==◌, ◌&&◌, not, Bool, true, false, List, [], Option, Some, None, count_by, if◌then◌else◌, length, nat_le, slice_index_or}
 use Rattle.std.specs.Option.{is_some, option_map, unwrap_or}
 use Rattle.mc_text.specs.Lines.{lines, words}
 use Rattle.mc_box.specs.BoxShapes.{is_device}
 use Rattle.mc_net.specs.Meaning.{entry_after, line_after, words_after}
-use Rattle.mc_net.specs.Rules.{end_fault, gives_version, is_skipped, kind_of, line_fault}
+use Rattle.mc_net.specs.Rules.{end_fault, is_skipped, kind_of, line_fault}
 use Rattle.mc_net.specs.SoFar.{Declared, nothing}
 use Rattle.mc_net.specs.declared.fault.NetFault.{NetFault}
 use Rattle.mc_net.specs.declared.fault.NetFault.TheVariants.{Line, NoMemory}
@@ -18,21 +18,19 @@ abbrev pub device_count : Declared → ℕ
 device_count d = count_by (λ box. is_device box.kind) d.shape
 
 -- a line of this kind is one that the program can't run yet
-abbrev pub unbuilt_by : Declared → Option Keyword → List (List ℕ) → Bool
-unbuilt_by d (Some keyword.Feat) words = true
-unbuilt_by d (Some keyword.Dev) words = gives_version (drop 1 words) || nat_le 2 (device_count d)
-unbuilt_by d (Some keyword.Chan) words = nat_le 1 (length d.channels)
-unbuilt_by d (Some keyword.Prog) words = true
-unbuilt_by d (Some keyword.Begin) words = not (device_count d == 2 && length d.channels == 1)
-unbuilt_by d (Some keyword.Link) words = true
-unbuilt_by d (Some keyword.Hear) words = true
-unbuilt_by d (Some keyword.Talk) words = true
-unbuilt_by d (Some keyword.Tell) words = true
-unbuilt_by d other words = false
+abbrev pub unbuilt_by : Declared → Option Keyword → Bool
+unbuilt_by d (Some keyword.Feat) = true
+unbuilt_by d (Some keyword.Dev) = nat_le 2 (device_count d)
+unbuilt_by d (Some keyword.Chan) = nat_le 1 (length d.channels)
+unbuilt_by d (Some keyword.Prog) = true
+unbuilt_by d (Some keyword.Begin) = not (device_count d == 2 && length d.channels == 1)
+unbuilt_by d (Some keyword.Link) = true
+unbuilt_by d (Some keyword.Tell) = true
+unbuilt_by d other = false
 
 -- a line of these words, behind the version line
 abbrev pub are_unbuilt : Declared → List (List ℕ) → Bool
-are_unbuilt d words = unbuilt_by d (kind_of words) (drop 1 words)
+are_unbuilt d words = unbuilt_by d (kind_of words)
 
 -- a line of these words, wherever it stands
 abbrev pub is_unbuilt : Declared → List (List ℕ) → Bool

@@ -7,23 +7,13 @@ ghost use Rattle.mc_signal.specs.Choice.{codecs_of};
 ghost use Rattle.mc_net.specs.Listing.{can_add};
 ghost use Rattle.mc_net.specs.Meaning.{codec_number, version_of};
 ghost use Rattle.mc_program.specs.WordLists.{has_repeat};
-ghost use Rattle.mc_net.specs.Rules.{codec_words, gives_version, has_bad_version, lists_undeclared};
+ghost use Rattle.mc_net.specs.Rules.{codec_words, has_bad_version, lists_undeclared};
 
 use crate::limit::LIST_LIMIT;
 use crate::places::begins_digit;
 use mc_program::word_list::are_more_than;
 use mc_signal::CodecList;
 use mc_text::{Names, Words, read_number};
-
-/// Whether the first word is a version, right or not.
-pub fn gives_version<'a>(mut words: Words<'a>) -> bool
-    ensures { result ≡ gives_version words.entry }
-{
-    match words.next_word() {
-        Some(first) => begins_digit(first),
-        None => false,
-    }
-}
 
 /// Whether the first word is a version, and isn't a number from 1 on.
 pub fn has_bad_version<'a>(mut words: Words<'a>) -> bool

@@ -16,7 +16,6 @@ mod codecs;
 mod commands;
 mod programs;
 
-use crate::codec_words::gives_version;
 use crate::keyword::keyword_of;
 use crate::limit::TEXT_LIMIT;
 use crate::places::{is_skipped, is_version};
@@ -119,21 +118,13 @@ impl Reader {
         boxes.iter().filter(|shape| is_device(shape)).count()
     }
 
-    // Whether a line of this kind is one that the program can't run yet. The words are those behind the first.
-    fn is_unbuilt<'a>(&self, kind: Keyword, mut words: Words<'a>) -> bool
-        ensures { result ≡ unbuilt_by self.now (Some kind) words.entry }
+    // Whether a line of this kind is one that the program can't run yet.
+    fn is_unbuilt(&self, kind: Keyword) -> bool
+        ensures { result ≡ unbuilt_by self.now (Some kind) }
     {
         match kind {
-            Keyword::Feat
-            | Keyword::Prog
-            | Keyword::Link
-            | Keyword::Hear
-            | Keyword::Talk
-            | Keyword::Tell => true,
-            Keyword::Dev => {
-                words.next_word();
-                gives_version(words) || 2 <= self.device_count()
-            }
+            Keyword::Feat | Keyword::Prog | Keyword::Link | Keyword::Tell => true,
+            Keyword::Dev => 2 <= self.device_count(),
             Keyword::Chan => 1 <= self.plan.channels().len(),
             Keyword::Begin => !(self.device_count() == 2 && self.plan.channels().len() == 1),
             _ => false,
@@ -141,13 +132,13 @@ impl Reader {
     }
 
     // The first line that the program can't run yet: one before, or this one of this kind.
-    fn first_unbuilt<'a>(&self, number: u32, kind: Keyword, words: Words<'a>) -> Option<u32>
-        ensures { result ≡ first_unbuilt self.now number (unbuilt_by self.now (Some kind) words.entry) }
+    fn first_unbuilt(&self, number: u32, kind: Keyword) -> Option<u32>
+        ensures { result ≡ first_unbuilt self.now number (unbuilt_by self.now (Some kind)) }
     {
         if self.unbuilt.is_some() {
             return self.unbuilt;
         }
-        if self.is_unbuilt(kind, words) {
+        if self.is_unbuilt(kind) {
             return Some(number);
         }
         None
@@ -192,7 +183,7 @@ impl Reader {
         let Some(kind) = keyword_of(first) else {
             return unknown;
         };
-        let unbuilt = self.first_unbuilt(number, kind, words.again());
+        let unbuilt = self.first_unbuilt(number, kind);
         self.read_kind(kind, words)?;
         self.unbuilt = unbuilt;
         Ok(())

@@ -50,16 +50,34 @@ fn declarations_break_these_rules(rt: HostRuntime) {
 #[test]
 fn commands_break_these_rules(rt: HostRuntime) {
     let alloc = rt.alloc();
-    let rows: [(&[u8], (u8, u32)); 6] = [
+    let rows: [(&[u8], (u8, u32)); 5] = [
         (b"set alice a\n", (6, 8)),
         (b"set bob a hold\nsettle now\n", (7, 9)),
         (b"set alice z open\n", (11, 8)),
         (b"settle\nsettle\nlink alice a a\n", (5, 10)),
-        (b"hear alice a off\nsettle\n", (19, 8)),
         (b"begin\n", (5, 8)),
     ];
     for (lines, want) in rows {
         assert_eq!(rt; fault_of(alloc, PHONES, lines), Some(want));
+    }
+}
+
+#[test]
+fn these_have_no_fault(rt: HostRuntime) {
+    let alloc = rt.alloc();
+    let rows: [(&[u8], &[u8]); 3] = [
+        (
+            PHONES,
+            b"hear alice a off\ntalk bob a on\nsettle\nset bob a hold\n",
+        ),
+        (
+            CODECS,
+            b"dev alice 7 g711\ndev bob 4294967295\nchan audio alice a bob a\nbegin\n",
+        ),
+        (PHONES, b""),
+    ];
+    for (first, second) in rows {
+        assert_eq!(rt; fault_of(alloc, first, second), None);
     }
 }
 
