@@ -15,3 +15,4 @@ pub mod Reading
 pub mod Runnable
 pub mod Unbuilt
 pub mod Unfinished
+pub mod Versions

@@ -8,3 +8,4 @@ pub mod Rules
 pub mod SoFar
 pub mod TextLaws
 pub mod Texts
+pub mod Versions

@@ -1,6 +1,7 @@
-//! Laws of texts, over the definitions alone: each function's contract is the law's sentence.
+//! Laws of texts and of their first worlds, over the definitions alone: each function's contract is the law's sentence.
 
 ghost use Rattle.mc_net.specs.TextLaws.{DeclaresOrFaults, FaultsOfTheFirstBytes, OneFault, OneOrTheOther, SaysTheWhole};
+ghost use Rattle.mc_net.specs.Versions.{FirstVersions};
 
 /// A text that says something has no fault.
 pub fn declares_or_faults()
@@ -22,4 +23,9 @@ pub fn one_or_the_other()
 pub fn faults_of_the_first_bytes()
     ensures faults { FaultsOfTheFirstBytes }
     ensures whole { SaysTheWhole }
+{}
+
+/// Each slot of a text's first world has the version that the line of its box says.
+pub fn first_versions()
+    ensures { FirstVersions }
 {}
