@@ -13,6 +13,7 @@ pub mod Missing
 pub mod Named
 pub mod Reading
 pub mod Runnable
+pub mod Sends
 pub mod Unbuilt
 pub mod Unfinished
 pub mod Versions

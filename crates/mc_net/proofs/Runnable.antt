@@ -1,5 +1,5 @@
 -- Until the first line that can't be run yet each box is a device and receives declared codecs, no program is declared, and each command changes a slot or settles. There are no more commands than may be.
-use Rattle.std.proofs.Common.{◌≡◌, ℕ, zero, suc, ◌<◌, ◌≤◌, Bool, true, false, ◌&&◌, not, nat_le, nat_lt, if◌then◌else◌, List, [], ◌∷◌, ◌++◌, length, drop, slice_index_or, Option, Some, None, refl, sym, subst, arith, length-append}
+use Rattle.std.proofs.Common.{◌≡◌, ℕ, zero, suc, ◌<◌, ◌≤◌, Bool, true, false, ◌&&◌, not, nat_le, nat_lt, if◌then◌else◌, List, [], ◌∷◌, ◌++◌, length, drop, slice_index_or, Option, Some, None, refl, sym, subst, arith, length-append, map}
 use Rattle.std.proofs.lemmas.List.Elements.{All-nil, All-push, All-weaker}
 use Rattle.std.specs.List.{All, list_any, slice_get}
 use Rattle.std.specs.Option.{is_some, unwrap_or}
@@ -15,8 +15,8 @@ use Rattle.mc_script.specs.declared.command.Command.{Command}
 use Rattle.mc_script.specs.declared.command.Command.TheVariants.{Settle}
 use Rattle.mc_script.specs.declared.keyword.CommandWord.{CommandWord}
 use Rattle.mc_script.specs.declared.keyword.CommandWord.TheVariants as command
-use Rattle.mc_net.specs.Meaning.{after_by, begin_after, channel_after, codec_after, command_after, device_after, device_in, with_joined, line_after, unless_skipped, with_new_box, with_new_codec, words_after}
-use Rattle.mc_net.specs.Rules.{codec_words, command_line_rules, device_rules, is_skipped, kind_of, line_fault, line_words_rules, lists_undeclared, spelt_medium, open_block, passes_limit, rules_by, words_rules}
+use Rattle.mc_net.specs.Meaning.{after_by, begin_after, channel_after, codec_after, command_after, device_after, device_in, with_joined, line_after, unless_skipped, with_new_box, with_new_codec, words_after, codec_number, send_after, with_send_line}
+use Rattle.mc_net.specs.Rules.{codec_words, command_line_rules, device_rules, is_skipped, kind_of, line_fault, line_words_rules, lists_undeclared, spelt_medium, open_block, passes_limit, rules_by, words_rules, is_second}
 use Rattle.mc_net.specs.SoFar.{Declared, DeclaredBox, nothing}
 use Rattle.mc_net.specs.Texts.{AreSound, Says, bytes_before, declared_by, first_unbuilt, is_unbuilt, unbuilt_by, with_unbuilt}
 use Rattle.mc_net.specs.declared.limit.TheConstants.{COMMAND_LIMIT}
@@ -25,6 +25,7 @@ use Rattle.mc_net.specs.declared.section.Keyword.TheVariants as keyword
 use Rattle.mc_net.specs.declared.section.Section.TheVariants as section
 use Rattle.mc_net.proofs.FirstBroken.{has_room, kept_at, others_kept}
 use Rattle.mc_net.proofs.Named.{ChangesOrSettles, HasCodecs, hear_is_named, kept_with_box, kept_with_slot, mapped, numbers_known, set_is_named, still_change, talk_is_named}
+use Rattle.mc_net.proofs.Sends.{still_all}
 use Rattle.mc_net.proofs.Unfinished.{none_open}
 
 -- ---- what is kept
@@ -78,6 +79,18 @@ device_runs d after words runs kept means =
       devices = All-push IsDevice d.boxes (device_in d.names (drop 1 words)) runs.devices refl;
       known = All-push (HasCodecs d.names) d.boxes (device_in d.names (drop 1 words)) runs.known (numbers_known d.names (codec_words (drop 1 words)) declared);
       change = still_change d.names (with_box_name d.names m.0) (kept_with_box d.names m.0) d.commands runs.change;
+      few = runs.few;
+    })
+
+send_runs : (d after : Declared) (words : List (List ℕ)) → IsRunnable d → send_after d words ≡ Some after → IsRunnable after
+send_runs d after words runs means =
+    let sends : List ℕ = map (codec_number d.names) (drop 1 words) in
+    let m = mapped (λ who. with_send_line d who (map (codec_number d.names) (drop 1 words))) (box_named d.names (slice_get words 0)) after means in
+    subst (λ (x : Declared). IsRunnable x) (sym m.2) (record {
+      plain = runs.plain;
+      devices = still_all IsDevice (λ declared sends is. is) d.boxes m.0 sends runs.devices;
+      known = still_all (HasCodecs d.names) (λ declared sends has. has) d.boxes m.0 sends runs.known;
+      change = runs.change;
       few = runs.few;
     })
 
@@ -146,6 +159,7 @@ kind_runs d after keyword.Media words runs kept built means = absurd cc
 kind_runs d after keyword.Codec words runs kept built means = codec_runs d after words runs means
 kind_runs d after keyword.Dev words runs kept built means = device_runs d after words runs kept means
 kind_runs d after keyword.Feat words runs kept built means = absurd cc
+kind_runs d after keyword.Send words runs kept built means = send_runs d after words runs means
 kind_runs d after keyword.Chan words runs kept built means = channel_runs d after words runs means
 kind_runs d after keyword.Prog words runs kept built means = absurd cc
 kind_runs d after keyword.State words runs kept built means = absurd (let none : None ≡ Some after = rw (no_open d runs) at means in cc)
@@ -167,7 +181,7 @@ by_kind d after (Some kind) words runs kept built means = kind_runs d after kind
 
 by_words : (d after : Declared) (ws : List (List ℕ)) (versioned : Bool) → IsRunnable d → least_broken (words_rules versioned d ws) ≡ None
     → (versioned && true && unbuilt_by d (kind_of ws)) ≡ false → words_after versioned d ws ≡ Some after → IsRunnable after
-by_words d after ws false runs kept built means = let same : after ≡ record d { versioned = true } = cc in subst (λ (x : Declared). IsRunnable x) (sym same) runs
+by_words d after ws false runs kept built means = let same : after ≡ record d { versioned = true; sends_apart = is_second ws } = cc in subst (λ (x : Declared). IsRunnable x) (sym same) runs
 by_words d after ws true runs kept built means = by_kind d after (kind_of ws) (drop 1 ws) runs kept built means
 
 by_skipped : (d after : Declared) (ws : List (List ℕ)) (skipped : Bool) → IsRunnable d → least_broken (line_words_rules skipped d ws) ≡ None

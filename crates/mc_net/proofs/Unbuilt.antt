@@ -3,7 +3,7 @@ use Rattle.std.proofs.Common.{◌≡◌, ℕ, Bool, true, false, ◌&&◌, if◌
 use Rattle.std.specs.Option.{is_some}
 use Rattle.mc_net.specs.Meaning.{words_after}
 use Rattle.mc_script.specs.Rules.{least_broken}
-use Rattle.mc_net.specs.Rules.{entry_fault, is_skipped, words_rules}
+use Rattle.mc_net.specs.Rules.{entry_fault, is_second, is_skipped, words_rules}
 use Rattle.mc_net.specs.SoFar.{Declared}
 use Rattle.mc_net.specs.Texts.{after_entry, after_words, are_unbuilt, with_unbuilt}
 
@@ -21,7 +21,7 @@ pub after_skipped : (d : Declared) (number : ℕ) (words : List (List ℕ)) → 
 after_skipped d number words skipped = rw skipped (ap (λ (line : Option ℕ). Some (with_unbuilt line d)) (none_there d.unbuilt number d.versioned (are_unbuilt d words)))
 
 pub after_version : (d : Declared) (number : ℕ) (words : List (List ℕ)) → is_skipped words ≡ false → d.versioned ≡ false → after_entry d number words ≡ words_after false d words
-after_version d number words kept first = rw (kept, first) (ap (λ (line : Option ℕ). Some (with_unbuilt line (record d { versioned = true }))) (none_new d.unbuilt))
+after_version d number words kept first = rw (kept, first) (ap (λ (line : Option ℕ). Some (with_unbuilt line (record d { versioned = true; sends_apart = is_second words }))) (none_new d.unbuilt))
 
 pub after_any : (d : Declared) (number : ℕ) (words : List (List ℕ)) → is_skipped words ≡ false → d.versioned ≡ true → after_entry d number words ≡ after_words d number words
 after_any d number words kept versioned = rw (kept, versioned) refl

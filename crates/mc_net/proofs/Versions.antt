@@ -12,7 +12,8 @@ use Rattle.mc_plan.specs.declared.plan.BoxPlan.{BoxPlan}
 use Rattle.mc_plan.proofs.Numbered.{length_boxes}
 use Rattle.mc_net.specs.BoxLines.{box_seen}
 use Rattle.mc_net.specs.SoFar.{DeclaredBox}
-use Rattle.mc_net.specs.Versions.{FirstVersions, declared_at}
+use Rattle.mc_net.specs.Meaning.{declared_at}
+use Rattle.mc_net.specs.Versions.{FirstVersions}
 
 -- what stands where no setup is
 no_setup : SlotSetup

@@ -9,11 +9,12 @@ use Rattle.mc_plan.specs.declared.plan.BoxPlan.{BoxPlan}
 use Rattle.mc_script.specs.Places.{unless}
 use Rattle.mc_script.specs.declared.command.LineFault.{LineFault}
 use Rattle.mc_script.specs.declared.rule.TheConstants.{LIMIT_PASSED, SAME_BOX}
-use Rattle.mc_net.specs.Meaning.{with_joined, with_new_box}
+use Rattle.mc_net.specs.Meaning.{with_joined, with_new_box, with_send_line}
 use Rattle.mc_net.specs.SoFar.{Declared, DeclaredBox}
 use Rattle.mc_plan.specs.declared.limit.TheConstants.{CHANNEL_LIMIT}
 use Rattle.mc_net.specs.declared.reader.boxes.DeviceLine.{DeviceLine}
 use Rattle.mc_net.specs.declared.reader.channels.ChannelLine.{ChannelLine}
+use Rattle.mc_net.specs.declared.reader.sends.SendLine.{SendLine}
 
 -- what is declared of a planned box
 abbrev pub box_seen : BoxPlan → DeclaredBox
@@ -22,6 +23,10 @@ box_seen planned = record { kind = planned.kind; version = planned.first_version
 -- what is declared after a `dev` line
 abbrev pub device_seen : Declared → DeviceLine → Declared
 device_seen d line = with_new_box d line.name.now (box_seen line.planned)
+
+-- what is declared after a `send` line
+abbrev pub send_seen : Declared → SendLine → Declared
+send_seen d line = with_send_line d line.who (codecs_of line.sends)
 
 -- what is declared after a `chan` line
 abbrev pub channel_seen : Declared → ChannelLine → Declared

@@ -10,12 +10,13 @@ use Rattle.mc_script.specs.Rules.{least_broken}
 use Rattle.mc_script.specs.declared.rule.TheConstants.{GIVEN_TWICE, LIMIT_PASSED, NAME_TOO_LONG}
 use Rattle.mc_script.specs.declared.command.LineFault.{LineFault}
 use Rattle.mc_script.specs.declared.keyword.CommandWord.{CommandWord}
-use Rattle.mc_net.specs.BoxLines.{device_seen}
-use Rattle.mc_net.specs.Meaning.{after_by, command_after, with_new_box, with_new_codec, words_after}
-use Rattle.mc_net.specs.Rules.{command_line_rules, entry_fault, line_fault, rules_by, words_rules}
+use Rattle.mc_net.specs.BoxLines.{device_seen, send_seen}
+use Rattle.mc_net.specs.Meaning.{after_by, command_after, send_after, with_new_box, with_new_codec, words_after}
+use Rattle.mc_net.specs.Rules.{command_line_rules, entry_fault, line_fault, rules_by, send_rules, words_rules}
 use Rattle.mc_net.specs.SoFar.{Declared, DeclaredBox}
 use Rattle.mc_net.specs.Texts.{after_entry, after_line, after_words}
 use Rattle.mc_net.specs.declared.reader.boxes.DeviceLine.{DeviceLine}
+use Rattle.mc_net.specs.declared.reader.sends.SendLine.{SendLine}
 use Rattle.mc_net.specs.declared.section.Keyword.{Keyword}
 use Rattle.mc_net.specs.declared.section.Keyword.TheVariants.{Dev}
 
@@ -51,6 +52,10 @@ device_name_rules d line = box_name_rules d line.name.now
 -- the line of a device does, behind `dev`
 abbrev pub SpellsDevice : Declared → List (List ℕ) → Result DeviceLine LineFault → Type 0
 SpellsDevice d words result = SpellsKind (device_seen d) (device_name_rules d) d Dev words result
+
+-- the line of a send list does, behind `send`, where send lists stand apart
+abbrev pub SpellsSends : Declared → List (List ℕ) → Result SendLine LineFault → Type 0
+SpellsSends d words result = LeavesRules (send_seen d) (λ line. []) result (least_broken (send_rules d words)) (send_after d words)
 
 -- a line of this kind is read
 abbrev pub ReadsKind : Declared → Keyword → List (List ℕ) → Result (Unit {0}) ReadFault → Declared → Type 0

@@ -1,5 +1,5 @@
 -- What a line that breaks no rule declares. The words are those behind the first.
-use Rattle.std.specs.Prelude.{ℕ, ◌-◌, Bool, true, false, List, [], ◌∷◌, ◌++◌, Option, Some, None, drop, if◌then◌else◌, length, map, slice_set}
+use Rattle.std.specs.Prelude.{ℕ, ◌-◌, Bool, true, false, List, [], ◌∷◌, ◌++◌, Option, Some, None, drop, if◌then◌else◌, length, map, slice_index_or, slice_set}
 use Rattle.std.specs.List.{slice_get}
 use Rattle.std.specs.Option.{option_and_then, option_map, unwrap_or}
 use Rattle.mc_signal.specs.declared.Medium.{Medium}
@@ -14,7 +14,7 @@ use Rattle.mc_script.specs.Meaning.{command_by}
 use Rattle.mc_script.specs.Places.{box_named, spelt_value}
 use Rattle.mc_script.specs.declared.keyword.CommandWord.{CommandWord}
 use Rattle.mc_script.specs.declared.keyword.CommandWord.TheVariants as command
-use Rattle.mc_net.specs.Rules.{begins_digit, codec_words, is_skipped, kind_of, spelt_medium, open_block}
+use Rattle.mc_net.specs.Rules.{begins_digit, codec_words, is_second, is_skipped, kind_of, spelt_medium, open_block}
 use Rattle.mc_program.specs.Programs.{◌>>=◌, BlockState, block_goal_after, block_link_after, block_when_after, new_block, with_new_part}
 use Rattle.mc_net.specs.SoFar.{Declared, DeclaredBox}
 use Rattle.mc_net.specs.declared.section.Keyword.{Keyword}
@@ -55,7 +55,7 @@ codec_number names word = unwrap_or (place_of names.codecs word) 0
 abbrev pub codecs_in : NameLists → List (List ℕ) → List ℕ
 codecs_in names words = map (codec_number names) (codec_words words)
 
--- the device that such a line declares: it sends the codecs that it receives
+-- the device that such a line declares: without a line of its own for that, it sends the codecs that it receives
 abbrev pub device_in : NameLists → List (List ℕ) → DeclaredBox
 device_in names words = record { kind = Device; version = version_of words; receives = codecs_in names words; sends = codecs_in names words }
 
@@ -71,6 +71,22 @@ with_new_feature d name = with_new_box d name new_feature
 
 abbrev pub feature_after : Declared → List (List ℕ) → Option Declared
 feature_after d words = option_map (with_new_feature d) (slice_get words 0)
+
+-- a declared box, and one without codecs where none is
+abbrev pub declared_at : List DeclaredBox → ℕ → DeclaredBox
+declared_at boxes who = slice_index_or boxes who new_feature
+
+-- a box sends these codecs
+abbrev pub with_send_list : List DeclaredBox → ℕ → List ℕ → List DeclaredBox
+with_send_list boxes who sends = slice_set boxes who (record (declared_at boxes who) { sends = sends })
+
+-- a `send` line gives a box these codecs
+abbrev pub with_send_line : Declared → ℕ → List ℕ → Declared
+with_send_line d who sends = record d { section = section.Boxes; boxes = with_send_list d.boxes who sends; senders = d.senders ++ who ∷ [] }
+
+-- all words behind the box are codecs
+abbrev pub send_after : Declared → List (List ℕ) → Option Declared
+send_after d words = option_map (λ who. with_send_line d who (map (codec_number d.names) (drop 1 words))) (box_named d.names (slice_get words 0))
 
 -- a box has one more slot, of this medium
 abbrev pub with_medium : List BoxShapeState → ℕ → Medium → List BoxShapeState
@@ -139,6 +155,7 @@ abbrev pub after_by : Declared → Option Keyword → List (List ℕ) → Option
 after_by d (Some keyword.Codec) words = codec_after d words
 after_by d (Some keyword.Dev) words = device_after d words
 after_by d (Some keyword.Feat) words = feature_after d words
+after_by d (Some keyword.Send) words = send_after d words
 after_by d (Some keyword.Chan) words = channel_after d words
 after_by d (Some keyword.Prog) words = program_after d words
 after_by d (Some keyword.State) words = state_after d words
@@ -154,7 +171,7 @@ after_by d (Some keyword.Settle) words = command_after d command.Settle words
 after_by d other words = None
 
 abbrev pub words_after : Bool → Declared → List (List ℕ) → Option Declared
-words_after false d words = Some (record d { versioned = true })
+words_after false d words = Some (record d { versioned = true; sends_apart = is_second words })
 words_after true d words = after_by d (kind_of words) (drop 1 words)
 
 abbrev pub unless_skipped : Bool → Declared → Option Declared → Option Declared

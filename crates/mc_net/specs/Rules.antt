@@ -11,7 +11,7 @@ use Rattle.mc_text.specs.Spelling.{is_digit, number_of}
 use Rattle.mc_text.specs.declared.limit.TheConstants.{BOX_LIMIT, CODEC_LIMIT, SLOT_LIMIT}
 use Rattle.mc_box.specs.BoxShapes.{BoxShapeState}
 use Rattle.mc_script.specs.Places.{are_same, box_named, has, is_misspelt, is_no, is_overlong, lacks}
-use Rattle.mc_script.specs.Rules.{byte_rules, kind_rules, least_broken}
+use Rattle.mc_script.specs.Rules.{byte_rules, is_no_device, kind_rules, least_broken}
 use Rattle.mc_script.specs.declared.keyword.CommandWord.{CommandWord}
 use Rattle.mc_script.specs.declared.keyword.CommandWord.TheVariants as command
 use Rattle.mc_script.specs.declared.rule.TheConstants.{EXTRA_WORD, GIVEN_TWICE, LIMIT_PASSED, MISSING_WORD, NAME_TOO_LONG, NO_BEGIN, NO_VERSION_LINE, SAME_BOX, TEXT_TOO_LONG, UNDECLARED, UNFINISHED, WRONG_VERSION, WRONG_WORD}
@@ -47,13 +47,14 @@ rank section.Commands = 6
 abbrev pub is_late : Declared → Section → Bool
 is_late d s = nat_lt (rank s) (rank d.section)
 
--- the word that opens a line
+-- the word that opens a line; `send` does so only where send lists stand apart, as the rules of its line say
 abbrev pub keyword_of : List ℕ → Option Keyword
 keyword_of word =
     if bytes_eq word (codes "media") then Some keyword.Media
     else (if bytes_eq word (codes "codec") then Some keyword.Codec
     else (if bytes_eq word (codes "dev") then Some keyword.Dev
     else (if bytes_eq word (codes "feat") then Some keyword.Feat
+    else (if bytes_eq word (codes "send") then Some keyword.Send
     else (if bytes_eq word (codes "chan") then Some keyword.Chan
     else (if bytes_eq word (codes "prog") then Some keyword.Prog
     else (if bytes_eq word (codes "state") then Some keyword.State
@@ -66,7 +67,7 @@ keyword_of word =
     else (if bytes_eq word (codes "talk") then Some keyword.Talk
     else (if bytes_eq word (codes "tell") then Some keyword.Tell
     else (if bytes_eq word (codes "settle") then Some keyword.Settle
-    else None)))))))))))))))
+    else None))))))))))))))))
 
 -- the kind of line that these words open
 abbrev pub kind_of : List (List ℕ) → Option Keyword
@@ -131,6 +132,27 @@ feature_rules d words =
     ∷ (LIMIT_PASSED, nat_le BOX_LIMIT (length d.names.boxes))
     ∷ (NAME_TOO_LONG, is_overlong (slice_get words 0))
     ∷ []
+
+-- the box is known, and had a `send` line
+abbrev pub has_sent : List ℕ → Option ℕ → Bool
+has_sent senders None = false
+has_sent senders (Some who) = list_any (λ sender. sender == who) senders
+
+-- `send BOX CODEC CODEC ..`, of a device
+abbrev pub send_rules : Declared → List (List ℕ) → List (ℕ × Bool)
+send_rules d words =
+    let who = box_named d.names (slice_get words 0) in
+    (UNDECLARED, lacks d.names.boxes (slice_get words 0) || lists_undeclared d.names (drop 1 words))
+    ∷ (WRONG_WORD, is_late d section.Boxes || is_no_device d.shape who)
+    ∷ (MISSING_WORD, is_none (slice_get words 0))
+    ∷ (GIVEN_TWICE, has_sent d.senders who || has_repeat (drop 1 words))
+    ∷ (LIMIT_PASSED, nat_lt LIST_LIMIT (length (drop 1 words)))
+    ∷ []
+
+-- where send lists don't stand apart, `send` opens no line
+abbrev pub send_line_rules : Declared → Bool → List (List ℕ) → List (ℕ × Bool)
+send_line_rules d false words = (WRONG_WORD, true) ∷ []
+send_line_rules d true words = send_rules d words
 
 -- where a box is known, a test of its slots
 abbrev pub of_slots : NameLists → Option ℕ → (List (List ℕ) → Bool) → Bool
@@ -202,6 +224,7 @@ abbrev pub rules_by : Declared → Option Keyword → List (List ℕ) → List (
 rules_by d (Some keyword.Codec) words = codec_rules d words
 rules_by d (Some keyword.Dev) words = device_rules d words
 rules_by d (Some keyword.Feat) words = feature_rules d words
+rules_by d (Some keyword.Send) words = send_line_rules d d.sends_apart words
 rules_by d (Some keyword.Chan) words = channel_rules d words
 rules_by d (Some keyword.Prog) words = program_rules d words
 rules_by d (Some keyword.State) words = state_rules d words
@@ -216,10 +239,15 @@ rules_by d (Some keyword.Tell) words = command_line_rules d command.Tell words
 rules_by d (Some keyword.Settle) words = command_line_rules d command.Settle words
 rules_by d other words = (WRONG_WORD, true) ∷ []
 
--- `media 1`, the two words
+-- `media 1` or `media 2`, the two words
 abbrev pub is_version : List (List ℕ) → Bool
-is_version (first ∷ second ∷ []) = bytes_eq first (codes "media") && bytes_eq second (codes "1")
+is_version (first ∷ second ∷ []) = bytes_eq first (codes "media") && (bytes_eq second (codes "1") || bytes_eq second (codes "2"))
 is_version words = false
+
+-- the number of such a line is 2
+abbrev pub is_second : List (List ℕ) → Bool
+is_second (first ∷ second ∷ others) = bytes_eq second (codes "2")
+is_second words = false
 
 -- the rules on the words of a line that isn't skipped; the first such line is the version line, of which nothing else is asked
 abbrev pub words_rules : Bool → Declared → List (List ℕ) → List (ℕ × Bool)

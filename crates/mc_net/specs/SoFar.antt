@@ -9,21 +9,23 @@ use Rattle.mc_program.specs.Programs.{BlockState}
 use Rattle.mc_net.specs.declared.section.Section.{Section}
 use Rattle.mc_net.specs.declared.section.Section.TheVariants as section
 
--- what the line of a box says of it: its kind, the version that its descriptors begin at, the codecs that it receives and those that it sends
+-- what the lines of a box say of it: its kind, the version that its descriptors begin at, the codecs that it receives and those that it sends
 pub record DeclaredBox : Type 0 where
   pub kind : Kind
   pub version : ℕ
   pub receives : List ℕ
   pub sends : List ℕ
 
--- The section of the last line, whether the version line and `begin` came, the names, for each box its shape and what its line says, the channels, the programs with the last one still open, and the commands. `unbuilt` is the first line that the program can't run yet.
+-- The section of the last line, whether the version line and `begin` came, the names, for each box its shape and what its lines say, the channels, the programs with the last one still open, and the commands. Where send lists stand apart, which is so in version 2, they may have lines of their own, and `senders` are the boxes that had one. `unbuilt` is the first line that the program can't run yet.
 pub record Declared : Type 0 where
   pub section : Section
   pub versioned : Bool
+  pub sends_apart : Bool
   pub begun : Bool
   pub names : NameLists
   pub shape : List BoxShapeState
   pub boxes : List DeclaredBox
+  pub senders : List ℕ
   pub channels : List ChannelState
   pub blocks : List BlockState
   pub commands : List Command
@@ -33,10 +35,12 @@ abbrev pub nothing : Declared
 nothing = record {
   section = section.Version;
   versioned = false;
+  sends_apart = false;
   begun = false;
   names = no_names;
   shape = [];
   boxes = [];
+  senders = [];
   channels = [];
   blocks = [];
   commands = [];

@@ -1,15 +1,11 @@
 -- The versions that the descriptors of a text's slots begin at, and how often its commands make them newer.
-use Rattle.std.specs.Prelude.{◌≡◌, ◌+◌, ◌≤◌, ◌<◌, ℕ, List, length, slice_index_or}
+use Rattle.std.specs.Prelude.{◌≡◌, ◌+◌, ◌≤◌, ◌<◌, ℕ, length}
 use Rattle.mc_box.specs.declared.limit.TheConstants.{LAST_VERSION}
 use Rattle.mc_model.specs.Settles.{hears_in}
 use Rattle.mc_model.specs.Worlds.{WorldState, box_at, version_at}
-use Rattle.mc_net.specs.Meaning.{new_feature}
+use Rattle.mc_net.specs.Meaning.{declared_at}
 use Rattle.mc_net.specs.Nets.{IsFirstWorld, batches_of}
-use Rattle.mc_net.specs.SoFar.{Declared, DeclaredBox}
-
--- what the line of a box says of it, by the box's number
-abbrev pub declared_at : List DeclaredBox → ℕ → DeclaredBox
-declared_at boxes who = slice_index_or boxes who new_feature
+use Rattle.mc_net.specs.SoFar.{Declared}
 
 -- the first version of each slot and its Hears up to the last settle don't pass the last version together
 abbrev pub MeetsNoLast : Declared → Type 0

@@ -5,7 +5,8 @@ ghost use Rattle.mc_net.specs.Rules.{keyword_of};
 
 use crate::section::Keyword;
 
-/// The kind of line that a word opens. None where it opens none.
+/// The kind of line that a word opens. None where it opens none. That `send` opens one in version 2 alone is for the
+/// rules of its line to say.
 pub fn keyword_of(word: &[u8]) -> Option<Keyword>
     ensures { result ≡ keyword_of word.now }
 {
@@ -17,6 +18,8 @@ pub fn keyword_of(word: &[u8]) -> Option<Keyword>
         Some(Keyword::Dev)
     } else if word == b"feat".as_slice() {
         Some(Keyword::Feat)
+    } else if word == b"send".as_slice() {
+        Some(Keyword::Send)
     } else if word == b"chan".as_slice() {
         Some(Keyword::Chan)
     } else if word == b"prog".as_slice() {

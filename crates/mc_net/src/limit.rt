@@ -3,7 +3,7 @@
 /// The most bytes of a text.
 pub const TEXT_LIMIT: usize = 1_048_576;
 
-/// The most codecs of a `dev` line.
+/// The most codecs of a `dev` or `send` line.
 pub const LIST_LIMIT: u8 = 8;
 
 /// The most commands, settles included.

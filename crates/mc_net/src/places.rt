@@ -4,7 +4,7 @@ ghost use Rattle.std.specs.Prelude.{◌≡◌};
 ghost use Rattle.std.specs.Option.{option_copied};
 ghost use Rattle.mc_script.specs.Places.{fixed_word};
 ghost use Rattle.mc_net.specs.LineReadings.{overlong};
-ghost use Rattle.mc_net.specs.Rules.{begins_digit, begins_hash, is_skipped, is_version, spelt_medium};
+ghost use Rattle.mc_net.specs.Rules.{begins_digit, begins_hash, is_second, is_skipped, is_version, spelt_medium};
 
 use mc_program::ReadFault;
 use mc_script::LineFault;
@@ -64,7 +64,7 @@ fn begins_hash(word: &[u8]) -> bool
     }
 }
 
-/// Whether the words of a line are `media` and `1`.
+/// Whether the words of a line are `media` and `1`, or `media` and `2`.
 pub fn is_version<'a>(mut words: Words<'a>) -> bool
     ensures { result ≡ is_version words.entry }
 {
@@ -75,7 +75,18 @@ pub fn is_version<'a>(mut words: Words<'a>) -> bool
     ) else {
         return false;
     };
-    first == b"media".as_slice() && second == b"1".as_slice()
+    first == b"media".as_slice() && (second == b"1".as_slice() || second == b"2".as_slice())
+}
+
+/// Whether the number of a version line is 2.
+pub fn is_second<'a>(mut words: Words<'a>) -> bool
+    ensures { result ≡ is_second words.entry }
+{
+    words.next_word();
+    match words.next_word() {
+        Some(second) => second == b"2".as_slice(),
+        None => false,
+    }
 }
 
 /// The fault of a name that is too long to be added to a list: what is asked of a name before its length comes first.

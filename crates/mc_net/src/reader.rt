@@ -15,10 +15,11 @@ mod channels;
 mod codecs;
 mod commands;
 mod programs;
+mod sends;
 
 use crate::keyword::keyword_of;
 use crate::limit::TEXT_LIMIT;
-use crate::places::{is_skipped, is_version};
+use crate::places::{is_second, is_skipped, is_version};
 use crate::section::{Keyword, Section};
 use mc_box::{BoxShape, Kind, Shape};
 use mc_plan::Plan;
@@ -45,10 +46,12 @@ pub struct Reader {
     alloc: Global,
     section: Section,
     versioned: bool,
+    sends_apart: bool,
     begun: bool,
     names: Names,
     shape: Shape,
     plan: Plan,
+    senders: Vec<u32>,
     blocks: Vec<Block>,
     commands: Vec<Command>,
     unbuilt: Option<u32>,
@@ -61,7 +64,7 @@ impl Model for Reader {
 
     ghost Value = { Declared };
 
-    ghost view = { λ r. record { section = r.section; versioned = r.versioned; begun = r.begun; names = r.names; shape = r.shape; boxes = map box_seen r.plan.boxes; channels = r.plan.channels; blocks = r.blocks.items; commands = r.commands.items; unbuilt = r.unbuilt } };
+    ghost view = { λ r. record { section = r.section; versioned = r.versioned; sends_apart = r.sends_apart; begun = r.begun; names = r.names; shape = r.shape; boxes = map box_seen r.plan.boxes; senders = r.senders.items; channels = r.plan.channels; blocks = r.blocks.items; commands = r.commands.items; unbuilt = r.unbuilt } };
 }
 
 impl Reader {
@@ -74,12 +77,14 @@ impl Reader {
             alloc,
             section: Section::Version,
             versioned: false,
+            sends_apart: false,
             begun: false,
             names: Names::new(alloc),
             shape: Shape {
                 boxes: Vec::new(alloc),
             },
             plan: Plan::new(alloc),
+            senders: Vec::new(alloc),
             blocks: Vec::new(alloc),
             commands: Vec::new(alloc),
             unbuilt: None,
@@ -155,6 +160,7 @@ impl Reader {
             Keyword::Codec => self.read_codec(words),
             Keyword::Dev => self.read_device(words),
             Keyword::Feat => self.read_feature(words),
+            Keyword::Send => self.read_send(words),
             Keyword::Chan => self.read_channel(words),
             Keyword::Prog => self.read_program(words),
             Keyword::State => self.read_state(words),
@@ -195,12 +201,13 @@ impl Reader {
         ensures declared { ReadsVersion self.old words.entry result self.new }
         ensures in_form { OnOk result (IsInForm self.new) }
     {
-        if !is_version(words) {
+        if !is_version(words.again()) {
             return Err(ReadFault::Line(LineFault {
                 number: NO_VERSION_LINE,
             }));
         }
         self.versioned = true;
+        self.sends_apart = is_second(words);
         Ok(())
     }
 

@@ -39,6 +39,7 @@ pub enum Keyword {
     Codec,
     Dev,
     Feat,
+    Send,
     Chan,
     Prog,
     State,

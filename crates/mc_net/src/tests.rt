@@ -13,6 +13,15 @@ const CODECS: &[u8] = b"media 1\ncodec g711\ncodec g722\n";
 const PHONES: &[u8] =
     b"media 1\ncodec g711\ncodec g729\ndev alice g711 g729\ndev bob g729\nchan audio alice a bob a\nbegin\n";
 
+const SENDERS: &[u8] = b"media 2\ncodec g711\ncodec g729\ndev alice g711 g729\n";
+
+// Two phones of which the first sends less than it receives, behind the version line.
+const SENDS: &[u8] =
+    b"codec g711\ncodec g729\ndev alice g711 g729\nsend alice g729\ndev bob g729\nchan audio alice a bob a\nbegin\n";
+
+const NINE: &[u8] =
+    b"media 2\ncodec a\ncodec b\ncodec c\ncodec d\ncodec e\ncodec f\ncodec g\ncodec h\ncodec i\ndev d\n";
+
 // The number and the line of the fault of a text that is put together of two.
 fn fault_of(alloc: Global, first: &[u8], second: &[u8]) -> Option<(u8, u32)> {
     let mut text = Vec::from_slice(alloc, first).ok()?;
@@ -78,6 +87,58 @@ fn these_have_no_fault(rt: HostRuntime) {
     ];
     for (first, second) in rows {
         assert_eq!(rt; fault_of(alloc, first, second), None);
+    }
+}
+
+#[test]
+fn send_lines_break_these_rules(rt: HostRuntime) {
+    let alloc = rt.alloc();
+    let rows: [(&[u8], (u8, u32)); 9] = [
+        (b"send alice g723\n", (4, 5)),
+        (b"send carol g711\n", (4, 5)),
+        (b"feat pbx\nsend pbx g711\n", (5, 6)),
+        (
+            b"dev bob\nchan audio alice a bob a\nsend bob g711\n",
+            (5, 7),
+        ),
+        (b"send\n", (6, 5)),
+        (b"send alice g711 g711\n", (9, 5)),
+        (b"send alice\nsend alice g711\n", (9, 6)),
+        (
+            b"send alice g711 g729\ndev bob\nsend bob g729\nbegin\nend\n",
+            (5, 9),
+        ),
+        (b"send alice 2 g711\n", (4, 5)),
+    ];
+    for (lines, want) in rows {
+        assert_eq!(rt; fault_of(alloc, SENDERS, lines), Some(want));
+    }
+}
+
+#[test]
+fn version_lines_say_whether_there_are_send_lines(rt: HostRuntime) {
+    let alloc = rt.alloc();
+    let rows: [(&[u8], Option<(u8, u32)>); 4] = [
+        (b"media 1\n", Some((5, 5))),
+        (b"media 2\n", None),
+        (b"media 3\n", Some((17, 1))),
+        (b"media 2 2\n", Some((17, 1))),
+    ];
+    for (first, want) in rows {
+        assert_eq!(rt; fault_of(alloc, first, SENDS), want);
+    }
+}
+
+#[test]
+fn at_most_eight_codecs_are_sent(rt: HostRuntime) {
+    let alloc = rt.alloc();
+    let rows: [(&[u8], (u8, u32)); 3] = [
+        (b"send d a b c d e f g h\n", (16, 13)),
+        (b"send d a b c d e f g h i\n", (14, 12)),
+        (b"send d a b c d e f g h h\n", (9, 12)),
+    ];
+    for (lines, want) in rows {
+        assert_eq!(rt; fault_of(alloc, NINE, lines), Some(want));
     }
 }
 

@@ -49,7 +49,7 @@ const PHONE_ROWS: [Row; 39] = [
         11,
     ),
     // The first line that isn't skipped is the version line.
-    ("media 1", "media 2", 17, 1),
+    ("media 1", "media 3", 17, 1),
     ("media 1", "media", 17, 1),
     ("media 1", "media 1 1", 17, 1),
     ("media 1", "# one\n\ncodec g722", 17, 3),
