@@ -1,6 +1,5 @@
 mod EndSets
 mod Ending
 pub mod Running
-mod Spaced
 mod Told
 mod Viewing

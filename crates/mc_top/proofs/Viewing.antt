@@ -29,8 +29,9 @@ use Rattle.mc_path_laws.proofs.Returns.{walk_back}
 use Rattle.mc_text.specs.NameLists.{NameLists}
 use Rattle.mc_script.specs.Meaning.{goal_word}
 use Rattle.mc_net.specs.Nets.{NamesAll}
-use Rattle.mc_top.specs.Printed.{IsNamedCodec, hears_line, hears_lines, line_of, medium_word, path_line, path_text, place_word, settle_text, state_word}
-use Rattle.mc_top.specs.Shown.{IsNamedEnd, IsNamedView, flow_word, hearing_line, hearing_lines, view_line, view_text, views_text}
+use Rattle.mc_table.specs.Shown.{IsNamedEnd, IsNamedView, hearing_line, hearing_lines, print_settle, view_line, view_text}
+use Rattle.mc_table.specs.Words.{IsNamedCodec, flow_word, line_of, medium_word}
+use Rattle.mc_top.specs.Printed.{hears_line, hears_lines, path_line, path_text, place_word, settle_text, state_word}
 
 -- ---- text
 
@@ -114,7 +115,7 @@ texts_are names world (path ∷ ends) all =
 
 -- and so are all of them
 pub settle_is : (names : NameLists) (number : ℕ) (world : WorldState) → All (PathHolds world) (paths world)
-    → views_text names number (map (view_of world) (paths world)) ≡ settle_text names number world
+    → print_settle names number (map (view_of world) (paths world)) ≡ settle_text names number world
 settle_is names number world all =
     ap (λ (text : List ℕ). line_of (codes "settle" ∷ decimal number ∷ []) ++ text) (texts_are names world (paths world) (recursion_from_All (PathHolds world) (paths world) all))
 

@@ -1,9 +1,7 @@
 -- What is printed at the settles of a journal, and for a faulty text.
-use Rattle.std.specs.Prelude.{ℕ, ◌+◌, ◌<◌, length, List, [], ◌∷◌, ◌++◌, codes, slice_index_or, Option, Some, None}
+use Rattle.std.specs.Prelude.{ℕ, ◌+◌, List, [], ◌∷◌, ◌++◌, codes, Option}
 use Rattle.std.specs.Fmt.{decimal}
-use Rattle.std.specs.List.{flat_map, join_with_byte}
-use Rattle.mc_signal.specs.declared.Medium.{Medium}
-use Rattle.mc_signal.specs.declared.Medium.TheVariants.{Audio, Video}
+use Rattle.std.specs.List.{flat_map}
 use Rattle.mc_slot.specs.declared.State.{State}
 use Rattle.mc_slot.specs.declared.State.TheVariants.{Flowing}
 use Rattle.mc_model.specs.PathTable.{path_state, low_hears, high_hears}
@@ -11,6 +9,7 @@ use Rattle.mc_model.specs.Paths.{PathEnds, paths, end_goal}
 use Rattle.mc_model.specs.Worlds.{WorldState, tunnel_of, place}
 use Rattle.mc_text.specs.NameLists.{NameLists, slot_word}
 use Rattle.mc_script.specs.Meaning.{goal_word}
+use Rattle.mc_table.specs.Words.{codec_word, line_of, medium_word}
 use Rattle.mc_top.specs.Journals.{next_world}
 use Rattle.mc_script.specs.declared.command.JournalLine.{JournalLine}
 use Rattle.mc_script.specs.declared.command.JournalLine.TheVariants.{Turn as Made, Settled}
@@ -21,28 +20,11 @@ abbrev pub state_word : State → List ℕ
 state_word Flowing = codes "flowing"
 state_word state = codes "closed"
 
-abbrev pub medium_word : Medium → List ℕ
-medium_word Audio = codes "audio"
-medium_word Video = codes "video"
-
--- the codec, if there is one, has a name
-abbrev pub IsNamedCodec : NameLists → Option ℕ → Type 0
-IsNamedCodec names None = Unit {0}
-IsNamedCodec names (Some codec) = codec < length names.codecs
-
-abbrev pub codec_word : NameLists → Option ℕ → List ℕ
-codec_word names None = codes "none"
-codec_word names (Some codec) = slice_index_or names.codecs codec []
-
 -- a slot by its number, as `box/slot`
 abbrev pub place_word : NameLists → WorldState → ℕ → List ℕ
 place_word names world s = slot_word names (place world s).0 (place world s).1
 
 -- ---- lines
-
--- words with single spaces between them, and a line end
-abbrev pub line_of : List (List ℕ) → List ℕ
-line_of words = join_with_byte 32 words ++ 10 ∷ []
 
 abbrev pub path_line : NameLists → WorldState → PathEnds → List ℕ
 path_line names world path = line_of (

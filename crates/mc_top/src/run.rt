@@ -1,16 +1,17 @@
 // A script, settle by settle.
-ghost use Rattle.std.specs.Prelude.{◌≡◌, ◌++◌, ◌+◌, map, All, IfOk, OnOk, IsTrue};
+ghost use Rattle.std.specs.Prelude.{◌≡◌, ◌++◌, ◌+◌, ◌≤◌, length, map, All, IfOk, OnOk, IsTrue};
 ghost use Rattle.mc_model.specs.LinkFree.{HasNoLinks};
 ghost use Rattle.mc_net.specs.Nets.{AreEndSets, NamesAll, is_end_set, batch_turns};
+ghost use Rattle.mc_net.specs.declared.limit.TheConstants.{COMMAND_LIMIT};
 ghost use Rattle.mc_top.specs.Journals.{IsJournal, HoldsAtSettles, lines_for};
 ghost use Rattle.mc_top.specs.Printed.{journal_text};
 ghost use Rattle.mc_top.specs.Scripts.{first_state, Settling};
 
-use crate::print::print_settle;
 use mc_box::Turn;
 use mc_path::paths;
 use mc_script::{Batch, JournalLine};
 use mc_seq::settle_in_order;
+use mc_table::print_settle;
 use mc_text::Names;
 use mc_world::World;
 use std::alloc::{AllocError, Global};
@@ -55,7 +56,7 @@ impl Progress {
         self,
         alloc: Global,
         names: &Names,
-        number: usize,
+        number: u32,
         batch: &[Turn],
     ) -> Result<Progress, AllocError>
         requires free { HasNoLinks self.world }
@@ -72,7 +73,8 @@ impl Progress {
         let settled = settle_in_order(alloc, world, batch)?;
         log(&settled.turns, &mut journal)?;
         let views = paths(alloc, &settled.world)?;
-        print_settle(alloc, names, number, &views, &mut output)?;
+        let text = print_settle(alloc, names, number, &views)?;
+        output.extend_from_slice(&text)?;
         Ok(Progress {
             world: settled.world,
             journal,
@@ -93,7 +95,8 @@ fn log(turns: &[Turn], journal: &mut Vec<JournalLine>) -> Result<(), AllocError>
 }
 
 /// Runs a script: settles its batches one after the other, each in the plain order, and prints the paths after each.
-/// All that the world has is named, no slot is linked, and each command sets the goal of an end.
+/// All that the world has is named, no slot is linked, each command sets the goal of an end, and there are no more
+/// batches than a text may have commands.
 pub fn run_script(
     alloc: Global,
     names: &Names,
@@ -103,6 +106,7 @@ pub fn run_script(
     requires named { NamesAll names.now world }
     requires free { HasNoLinks world }
     requires end_sets { AreEndSets world (map batch_turns batches.now) }
+    requires few { length batches.now ≤ COMMAND_LIMIT }
     ensures settled { IfOk result (λ run. IsJournal world (map batch_turns batches.now) run.journal.items) }
     ensures holds { IfOk result (λ run. HoldsAtSettles world run.journal.items) }
     ensures output { IfOk result (λ run. run.output.items ≡ journal_text names.now 1 world run.journal.items) }
@@ -111,7 +115,8 @@ pub fn run_script(
     let mut progress = Progress::new(alloc, world);
     for index in 0..batches.len() {
         let batch = &batches[index];
-        progress = progress.settle(alloc, names, index + 1, &batch.turns)?;
+        let number = (index + 1) as u32;
+        progress = progress.settle(alloc, names, number, &batch.turns)?;
     }
     Ok(Run {
         output: progress.output,

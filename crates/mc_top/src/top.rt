@@ -1,11 +1,12 @@
 // The top call.
-ghost use Rattle.std.specs.Prelude.{◌≡◌, ◌≢◌, ◌⊎◌, ◌==◌, ℕ, List, [], map, IfOk, IsFalse, IsTrue, Some};
+ghost use Rattle.std.specs.Prelude.{◌≡◌, ◌≢◌, ◌⊎◌, ◌==◌, ◌≤◌, ℕ, List, [], length, map, IfOk, IsFalse, IsTrue, Some};
 ghost use Rattle.mc_io.specs.Bytes.{ConsumesAtMost};
 ghost use Rattle.mc_io.specs.Faults.{Rose, faults_after, is_failed_read};
 ghost use Rattle.mc_model.specs.LinkFree.{HasNoLinks};
 ghost use Rattle.mc_net.specs.Nets.{AreEndSets, DeclaresNet, NamesAll, batch_turns};
 ghost use Rattle.mc_net.specs.Rules.{read_limit};
 ghost use Rattle.mc_net.specs.Texts.{IsFault};
+ghost use Rattle.mc_net.specs.declared.limit.TheConstants.{COMMAND_LIMIT};
 ghost use Rattle.mc_top.specs.Modes.{AsksToRead, IsCommand, IsWorkable, reads, text_for};
 ghost use Rattle.mc_top.specs.Statuses.{IsDue, IsDueForMode, judges_text, keeps_journal};
 ghost use Rattle.mc_top.specs.Top.{Delivers, EndsAs, HasReadWhole, IsTextOf, PrintsUsage, ReadsFor};
@@ -110,6 +111,7 @@ fn run_net<K: Sink>(alloc: Global, mode: Mode, text: &[u8], net: Net, sink: &mut
     requires named { NamesAll net.names net.world }
     requires free { HasNoLinks net.world }
     requires end_sets { AreEndSets net.world (map batch_turns net.batches.items) }
+    requires few { length net.batches.items ≤ COMMAND_LIMIT }
     ensures statuses { (result.due ≡ WORKED) ⊎ (result.due ≡ NO_MEMORY) }
     ensures status { (result.status ≡ result.due) ⊎ (result.status ≡ WRITE_FAULT) }
     ensures ends { EndsAs mode (Some text.now) (K.written sink.old) (K.written sink.new) result }

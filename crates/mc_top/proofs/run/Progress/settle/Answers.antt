@@ -2,8 +2,8 @@ use Rattle.std.proofs.Common.{ℕ, List, All, IsTrue, ◌++◌, ◌∙◌, ap, s
 use Rattle.mc_model.specs.LinkFree.{HasNoLinks}
 use Rattle.mc_path_laws.proofs.SettledHold.{settled_paths_hold}
 use Rattle.mc_net.specs.Nets.{is_end_set}
+use Rattle.mc_table.specs.Shown.{print_settle}
 use Rattle.mc_top.specs.Scripts.{ScriptState, Settling}
-use Rattle.mc_top.specs.Shown.{views_text}
 use Rattle.mc_top.proofs.EndSets.{end_sets_go, end_sets_link_none}
 use Rattle.mc_top.proofs.Running.{after_settle, batch_leaves_none}
 use Rattle.mc_top.proofs.Viewing.{settle_is, views_named}
@@ -25,13 +25,13 @@ returns c =
     subst (λ (s : ScriptState). Settling names number c.args.batch.now s (record {
       world = last;
       journal = c.log.new.journal.items;
-      output = c.print_settle.new.out.items;
+      output = c.extend_from_slice.new.self.items;
     })) c.self.view_is (record {
       turns = c.in_ok-settled.settled.turns.items;
       settled = settled;
       journal = rw c.deref.ensures.value at c.in_ok-log.ensures;
-      output = c.in_ok-print_settle.ensures.ok
-          ∙ ap (λ (text : List ℕ). c.self.inside.output.items ++ text) (ap (views_text names number) (c.deref-2.ensures.value ∙ c.in_ok-views.ensures.views) ∙ settle_is names number last holds);
+      output = c.in_ok-extend_from_slice.ensures.items
+          ∙ ap (λ (text : List ℕ). c.self.inside.output.items ++ text) (c.deref-3.ensures.value ∙ (c.in_ok-text.ensures ∙ (ap (print_settle names number) (c.deref-2.ensures.value ∙ c.in_ok-views.ensures.views) ∙ settle_is names number last holds)));
     })
 
 pub settle_in_order-requires-clause-free : goal.settle_in_order-requires-clause-free

@@ -1,7 +1,7 @@
 -- Words with a space before each but the first.
 use Rattle.std.proofs.Common.{◌≡◌, ◌≤◌, ℕ, List, [], ◌∷◌, ◌++◌, length, take, map, flat_map, refl, sym, ap, ◌∙◌, append-nil, append_assoc, take_all, Bor}
 use Rattle.std.specs.List.{join_with_byte}
-use Rattle.mc_top.specs.Printed.{line_of}
+use Rattle.mc_table.specs.Words.{line_of}
 
 abbrev pub bytes_of : Bor (List ℕ) → List ℕ
 bytes_of word = word.now

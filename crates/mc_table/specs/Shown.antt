@@ -1,4 +1,4 @@
--- What is printed of the paths that are shown.
+-- What is printed for a settle, of the paths that are shown.
 use Rattle.std.specs.Prelude.{ℕ, ◌<◌, Bool, true, false, length, List, [], ◌∷◌, ◌++◌, codes}
 use Rattle.std.specs.Fmt.{decimal}
 use Rattle.std.specs.List.{flat_map}
@@ -6,14 +6,10 @@ use Rattle.mc_view.specs.declared.EndView.{EndView}
 use Rattle.mc_view.specs.declared.PathView.{PathView}
 use Rattle.mc_text.specs.NameLists.{NameLists, slot_word, slot_names}
 use Rattle.mc_script.specs.Meaning.{goal_word}
-use Rattle.mc_top.specs.Printed.{IsNamedCodec, codec_word, line_of, medium_word}
+use Rattle.mc_table.specs.Words.{IsNamedCodec, codec_word, flow_word, line_of, medium_word}
 
 abbrev pub end_word : NameLists → EndView → List ℕ
 end_word names end = slot_word names end.who end.local
-
-abbrev pub flow_word : Bool → List ℕ
-flow_word true = codes "flowing"
-flow_word false = codes "closed"
 
 abbrev pub view_line : NameLists → PathView → List ℕ
 view_line names view = line_of (
@@ -37,9 +33,9 @@ hearing_lines false names view = []
 abbrev pub view_text : NameLists → PathView → List ℕ
 view_text names view = view_line names view ++ hearing_lines view.flowing names view
 
--- a settle by its number, and the paths that are shown
-abbrev pub views_text : NameLists → ℕ → List PathView → List ℕ
-views_text names number views = line_of (codes "settle" ∷ decimal number ∷ []) ++ flat_map (view_text names) views
+-- a settle by its number, and then each path that is shown, in their order
+abbrev pub print_settle : NameLists → ℕ → List PathView → List ℕ
+print_settle names number views = line_of (codes "settle" ∷ decimal number ∷ []) ++ flat_map (view_text names) views
 
 -- the box, the slot and the heard codec of an end have names
 pub record IsNamedEnd (names : NameLists) (end : EndView) : Type 0 where

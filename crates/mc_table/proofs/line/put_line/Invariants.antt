@@ -1,5 +1,5 @@
 use Rattle.std.proofs.Common.{◌≡◌, ◌∷◌, ◌++◌, take, flat_map}
-use Rattle.mc_top.proofs.print.put_line.Given as goal
+use Rattle.mc_table.proofs.line.put_line.Given as goal
 
 -- the words so far, each behind a space, stand behind the first
 abbrev pub invariant-loop-word : goal.invariant-loop-word

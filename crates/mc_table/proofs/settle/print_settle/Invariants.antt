@@ -1,6 +1,6 @@
 use Rattle.std.proofs.Common.{◌≡◌, ◌++◌, flat_map, take}
-use Rattle.mc_top.specs.Shown.{view_text}
-use Rattle.mc_top.proofs.print.views_text.Given as goal
+use Rattle.mc_table.specs.Shown.{view_text}
+use Rattle.mc_table.proofs.settle.print_settle.Given as goal
 
 -- the lines of the paths so far stand behind that of the settle
 abbrev pub invariant-loop-view : goal.invariant-loop-view

@@ -1,0 +1,11 @@
+//! The printed lines of settles: each path that is shown, and who hears what on it.
+#![tactic(auto)]
+
+mod line;
+mod settle;
+#[cfg(test)]
+mod tests;
+mod words;
+
+pub use line::put_line;
+pub use settle::print_settle;

@@ -1,0 +1,96 @@
+// The lines of a settle.
+ghost use Rattle.std.specs.Prelude.{◌≡◌, ◌++◌, All, IfOk, OnOk};
+ghost use Rattle.mc_table.specs.Shown.{end_word, hearing_line, print_settle, view_line, view_text};
+ghost use Rattle.mc_table.specs.Shown.{IsNamedEnd, IsNamedView};
+
+use crate::line::put_line;
+use crate::words::{codec_word, flow_word, medium_word};
+use mc_script::goal_word;
+use mc_text::Names;
+use mc_view::{EndView, PathView};
+use std::alloc::{AllocError, Global};
+
+// The word `box/slot` for an end.
+fn end_word(alloc: Global, names: &Names, end: &EndView) -> Result<Vec<u8>, AllocError>
+    requires { IsNamedEnd names.now end.now }
+    ensures { IfOk result (λ word. word.items ≡ end_word names.now end.now) }
+{
+    let mut word = Vec::new(alloc);
+    names.print_slot(end.who, end.local, &mut word)?;
+    Ok(word)
+}
+
+// Appends the line of a path: its two ends, their goals, its state and its medium.
+fn put_path(
+    alloc: Global,
+    names: &Names,
+    view: &PathView,
+    out: &mut Vec<u8>,
+) -> Result<(), AllocError>
+    requires { IsNamedView names.now view.now }
+    ensures { OnOk result (out.new.items ≡ out.old.items ++ view_line names.now view.now) }
+{
+    let low = end_word(alloc, names, &view.low)?;
+    let high = end_word(alloc, names, &view.high)?;
+    let words = [
+        low.as_slice(),
+        high.as_slice(),
+        goal_word(view.low.goal),
+        goal_word(view.high.goal),
+        flow_word(view.flowing),
+        medium_word(view.medium),
+    ];
+    put_line(b"path", &words, out)
+}
+
+// Appends what an end hears.
+fn put_hears(
+    alloc: Global,
+    names: &Names,
+    end: &EndView,
+    out: &mut Vec<u8>,
+) -> Result<(), AllocError>
+    requires { IsNamedEnd names.now end.now }
+    ensures { OnOk result (out.new.items ≡ out.old.items ++ hearing_line names.now end.now) }
+{
+    let word = end_word(alloc, names, end)?;
+    put_line(b"hears", &[&word, codec_word(names, end.hears)], out)
+}
+
+// Appends the lines of a path: its own, and where it flows who hears what.
+fn put_view(
+    alloc: Global,
+    names: &Names,
+    view: &PathView,
+    out: &mut Vec<u8>,
+) -> Result<(), AllocError>
+    requires { IsNamedView names.now view.now }
+    ensures { OnOk result (out.new.items ≡ out.old.items ++ view_text names.now view.now) }
+{
+    put_path(alloc, names, view, out)?;
+    if !view.flowing {
+        return Ok(());
+    }
+    put_hears(alloc, names, &view.low, out)?;
+    put_hears(alloc, names, &view.high, out)
+}
+
+/// The lines of a settle: its number, and then each path that is shown, in their order. Boxes, slots and heard
+/// codecs have names.
+pub fn print_settle(
+    alloc: Global,
+    names: &Names,
+    number: u32,
+    views: &[PathView],
+) -> Result<Vec<u8>, AllocError>
+    requires { All (IsNamedView names.now) views.now }
+    ensures { IfOk result (λ text. text.items ≡ print_settle names.now number views.now) }
+{
+    let word = format!(in alloc; "{number}")?;
+    let mut text = Vec::new(alloc);
+    put_line(b"settle", &[word.as_bytes()], &mut text)?;
+    for view in views {
+        put_view(alloc, names, view, &mut text)?;
+    }
+    Ok(text)
+}
