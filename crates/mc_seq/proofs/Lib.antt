@@ -1,5 +1,6 @@
-mod AllowedCommands
+pub mod AllowedCommands
 mod Candidates
+pub mod DrawnLinks
 mod DrawsEnd
 mod Finds
 mod ForEach

@@ -1,5 +1,5 @@
-mod EndSets
 mod Ending
+mod LastVersions
 pub mod Running
 mod Told
 mod Viewing

@@ -1,33 +1,42 @@
 -- A script that is run: what its journal and its output have so far, and what follows.
-use Rattle.std.proofs.Common.{◌≡◌, ◌<◌, ◌≤◌, ◌++◌, ◌∷◌, [], ℕ, ◌+◌, not, false, Option, Some, None, List, All, IsTrue, drop, length, map, slice_index_or, refl, ap, sym, ◌∙◌, add-one, subst, append-nil, append_assoc, arith, suc}
+use Rattle.std.proofs.Common.{◌≡◌, ◌<◌, ◌≤◌, ◌++◌, ◌∷◌, [], ℕ, ◌+◌, not, false, Option, Some, None, List, All, IsTrue, drop, length, map, refl, ap, sym, ◌∙◌, add-one, subst, append-nil, append_assoc, arith, codes, inl, inr, slice_index_or}
 use Rattle.std.specs.List.{AllByRecursion}
 use Rattle.std.specs.Option.{unwrap_or}
 use Rattle.std.proofs.Math.Seq.{drop-cons}
 use Rattle.std.proofs.lemmas.List.{drop_all, get_or-map, length-map}
+use Rattle.std.proofs.lemmas.List.Elements.{recursion_from_All}
 use Rattle.mc_signal.specs.Choice.{codecs_of}
 use Rattle.mc_signal.specs.declared.codec_list.CodecList.{CodecList}
 use Rattle.mc_model.specs.Settles.{IsSettled, can_shift, is_quiet}
-use Rattle.mc_model.specs.Shapes.{HasShape}
-use Rattle.mc_model.specs.LinkFree.{IsLinkFree, LinkNone}
-use Rattle.mc_model.specs.Paths.{has_ring}
-use Rattle.mc_model.specs.Steps.{after, run, step}
-use Rattle.mc_model.specs.Worlds.{WorldState}
+use Rattle.mc_model.specs.Shapes.{AreAllAllowed, AreAllowed, HasShape}
+use Rattle.mc_model.specs.Sound.{IsSound}
+use Rattle.mc_model.specs.LinkFree.{AllLinkNone, IsLinkFree, LinkNone}
+use Rattle.mc_model.specs.Steps.{heard_local, run, step}
+use Rattle.mc_model.specs.Worlds.{ChannelState, WorldState, number, place, places_among, slot_count}
 use Rattle.mc_box.specs.declared.event.Turn.{Turn}
 use Rattle.mc_laws.proofs.CommandsGo.{both_true}
-use Rattle.mc_laws.proofs.Rings.{no_ring}
+use Rattle.mc_laws.proofs.Numbers.{number_is}
 use Rattle.mc_laws.proofs.ShapesKept.{run_keeps_shape, same_shape, shape_both}
 use Rattle.mc_box.proofs.Options.{then_some}
 use Rattle.mc_laws.proofs.LinkFree.{run_keeps_link_free, settled_link_none}
 use Rattle.mc_path_laws.proofs.SettledHold.{settled_paths_hold}
-use Rattle.mc_text.specs.NameLists.{NameLists}
+use Rattle.mc_seq.proofs.AllowedCommands.{all_kept}
+use Rattle.mc_seq.specs.Draws.{StopsByDraws}
+use Rattle.mc_seq.specs.declared.fault.SettleFault.TheVariants.{VersionEnd as EndsVersion}
+use Rattle.mc_seq.specs.declared.fault.Stopped.{Stopped}
+use Rattle.mc_table.specs.Words.{line_of}
+use Rattle.mc_text.specs.NameLists.{NameLists, slot_names, slot_word}
 use Rattle.mc_script.specs.declared.command.Batch.{Batch}
-use Rattle.mc_net.specs.Nets.{AreEndSets, NamesAll, is_end_set, batch_turns}
-use Rattle.mc_top.specs.Journals.{HoldsAtSettles, IsJournal, lines_for, next_world}
-use Rattle.mc_top.specs.Printed.{journal_text, settle_text}
+use Rattle.mc_net.specs.Nets.{NamesAll, batch_turns}
+use Rattle.mc_top.specs.Journals.{HoldsAtSettles, IsJournal, IsJournalTo, IsStoppedJournal, lines_for, next_world}
+use Rattle.mc_top.specs.Outcomes.{Stopping}
+use Rattle.mc_top.specs.Printed.{journal_text, run_text, settle_text, stop_line}
 use Rattle.mc_top.specs.Scripts.{ScriptState, Settling, first_state}
-use Rattle.mc_top.proofs.EndSets.{end_sets_kept, end_sets_link_none}
 use Rattle.mc_script.specs.declared.command.JournalLine.{JournalLine}
 use Rattle.mc_script.specs.declared.command.JournalLine.TheVariants.{Turn as Made, Settled}
+use Rattle.mc_top.specs.declared.run.Run.{Run}
+use Rattle.mc_top.specs.declared.stop.Stop.{Stop}
+use Rattle.mc_top.specs.declared.stop.Stop.TheVariants.{VersionEnd}
 
 -- ---- shapes
 
@@ -53,15 +62,6 @@ after_settle names world last batch turns sound none all settled = record {
   quiet = (both_true (is_quiet last) (not (can_shift last)) settled.at_rest).0;
 }
 
--- a batch that sets no link leaves no ring
-free_by : (o : Option WorldState) (world : WorldState) (batch : List Turn) → IsLinkFree world → LinkNone batch → run world batch ≡ o → has_ring (unwrap_or o world) ≡ false
-free_by None world batch sound none goes = no_ring world sound
-free_by (Some next) world batch sound none goes = no_ring next (run_keeps_link_free world next batch sound none goes)
-
--- and so the world after it has none
-pub batch_leaves_none : (world : WorldState) (batch : List Turn) → IsLinkFree world → LinkNone batch → has_ring (after world batch) ≡ false
-batch_leaves_none world batch sound none = free_by (run world batch) world batch sound none refl
-
 -- ---- journals
 
 -- replaying the turns of a run leads where the run does
@@ -85,16 +85,34 @@ printed_after (turn ∷ turns) names number world last rest goes =
     replayed_is : (world next : WorldState) (turn : Turn) → step world turn ≡ Some next → next_world world turn ≡ next
     replayed_is world next turn goes = rw goes refl
 
--- at each settle of a journal from a sound world the paths are as the table says
-pub journal_holds : (waiting : List (List Turn)) (world : WorldState) (journal : List JournalLine) → IsLinkFree world → AllByRecursion LinkNone waiting → IsJournal world waiting journal → HoldsAtSettles world journal
-journal_holds [] world journal sound none is = subst (λ (lines : List JournalLine). HoldsAtSettles world lines) (sym is) tt
-journal_holds (batch ∷ waiting) world journal sound none (turns, last, rest, is, settled, later) =
+-- so do they after a settled segment and what follows it
+segment_holds : (world last : WorldState) (batch turns : List Turn) (journal rest : List JournalLine) → IsLinkFree world → IsSettled world batch turns last → journal ≡ lines_for turns ++ rest
+    → HoldsAtSettles last rest → HoldsAtSettles world journal
+segment_holds world last batch turns journal rest sound settled is holds =
     let whole : journal ≡ map Made turns ++ (Settled ∷ rest) = is ∙ append_assoc (map Made turns) (Settled ∷ []) rest in
     subst (λ (lines : List JournalLine). HoldsAtSettles world lines) (sym whole)
-    (holds_after turns world last (Settled ∷ rest) settled.runs (
-      settled_paths_hold world last batch turns sound.sound settled,
-      journal_holds waiting last rest (run_keeps_link_free world last turns sound (settled_link_none world last batch turns none.0 settled) settled.runs) none.1 later,
-    ))
+    (holds_after turns world last (Settled ∷ rest) settled.runs (settled_paths_hold world last batch turns sound.sound settled, holds))
+
+-- at each settle of a journal from a sound world the paths are as the table says
+journal_holds : (waiting : List (List Turn)) (world : WorldState) (journal : List JournalLine) → IsLinkFree world → AllByRecursion LinkNone waiting → IsJournal world waiting journal → HoldsAtSettles world journal
+journal_holds [] world journal sound none is = subst (λ (lines : List JournalLine). HoldsAtSettles world lines) (sym is) tt
+journal_holds (batch ∷ waiting) world journal sound none (turns, last, rest, is, settled, later) =
+    segment_holds world last batch turns journal rest sound settled is
+    (journal_holds waiting last rest (run_keeps_link_free world last turns sound (settled_link_none world last batch turns none.0 settled) settled.runs) none.1 later)
+
+-- up to a stop as well
+stopped_holds : (stop : Stop) (waiting : List (List Turn)) (world : WorldState) (journal : List JournalLine) → IsLinkFree world → AllByRecursion LinkNone waiting → IsStoppedJournal stop world waiting journal → HoldsAtSettles world journal
+stopped_holds stop [] world journal sound none stopped = absurd stopped
+stopped_holds stop (batch ∷ waiting) world journal sound none (inl here) =
+    subst (λ (lines : List JournalLine). HoldsAtSettles world lines) (append-nil (map Made here.turns) ∙ sym here.lines) (holds_after here.turns world here.last [] here.stopped.runs tt)
+stopped_holds stop (batch ∷ waiting) world journal sound none (inr (turns, last, rest, is, settled, later)) =
+    segment_holds world last batch turns journal rest sound settled is
+    (stopped_holds stop waiting last rest (run_keeps_link_free world last turns sound (settled_link_none world last batch turns none.0 settled) settled.runs) none.1 later)
+
+-- whichever it is
+pub ran_holds : (stop : Option Stop) (batches : List (List Turn)) (world : WorldState) (journal : List JournalLine) → IsLinkFree world → AllLinkNone batches → IsJournalTo stop world batches journal → HoldsAtSettles world journal
+ran_holds None batches world journal sound none ran = journal_holds batches world journal sound (recursion_from_All LinkNone batches none) ran
+ran_holds (Some stop) batches world journal sound none ran = stopped_holds stop batches world journal sound (recursion_from_All LinkNone batches none) ran
 
 -- ---- one settle more
 
@@ -106,6 +124,15 @@ pub settle_more : (start world last : WorldState) (all rest : List (List Turn)) 
 settle_more start world last all rest batch turns journal so_far settled more later =
     subst (λ (lines : List JournalLine). IsJournal start all lines) (sym (append_assoc journal (lines_for turns) more))
     (so_far (lines_for turns ++ more) (turns, last, more, refl, settled, later))
+
+-- or one that is settled before a stop
+stop_more : (stop : Stop) (start world last : WorldState) (all rest : List (List Turn)) (batch turns : List Turn) (journal : List JournalLine)
+    → ((more : List JournalLine) → IsStoppedJournal stop world (batch ∷ rest) more → IsStoppedJournal stop start all (journal ++ more))
+    → IsSettled world batch turns last
+    → (more : List JournalLine) → IsStoppedJournal stop last rest more → IsStoppedJournal stop start all ((journal ++ lines_for turns) ++ more)
+stop_more stop start world last all rest batch turns journal so_far settled more later =
+    subst (λ (lines : List JournalLine). IsStoppedJournal stop start all lines) (sym (append_assoc journal (lines_for turns) more))
+    (so_far (lines_for turns ++ more) (inr (turns, last, more, refl, settled, later)))
 
 -- and what is printed of it
 pub print_more : (start world last : WorldState) (names : NameLists) (batch turns : List Turn) (number : ℕ) (journal : List JournalLine) (out : List ℕ)
@@ -127,6 +154,7 @@ pub record GoesOn (names : NameLists) (start : WorldState) (all rest : List (Lis
   pub sound : IsLinkFree now.world
   pub shape : HasShape now.world start
   pub journal : (more : List JournalLine) → IsJournal now.world rest more → IsJournal start all (now.journal ++ more)
+  pub stops : (stop : Stop) (more : List JournalLine) → IsStoppedJournal stop now.world rest more → IsStoppedJournal stop start all (now.journal ++ more)
   pub output : (more : List JournalLine) → journal_text names 1 start (now.journal ++ more) ≡ now.output ++ journal_text names (count + 1) now.world more
 
 -- a settle that follows
@@ -138,6 +166,9 @@ goes_settled names start all rest count batch now next none s on = record {
   journal = λ more later.
       subst (λ (lines : List JournalLine). IsJournal start all (lines ++ more)) (sym s.journal)
       (settle_more start now.world next.world all rest batch s.turns now.journal on.journal s.settled more later);
+  stops = λ stop more later.
+      subst (λ (lines : List JournalLine). IsStoppedJournal stop start all (lines ++ more)) (sym s.journal)
+      (stop_more stop start now.world next.world all rest batch s.turns now.journal (on.stops stop) s.settled more later);
   output = λ more.
       ap (λ (lines : List JournalLine). journal_text names 1 start (lines ++ more)) s.journal
       ∙ (print_more start now.world next.world names batch s.turns (count + 1) now.journal now.output on.output s.settled more
@@ -156,26 +187,16 @@ goes_next names start all i none now next within free s on =
     goes_settled names start (map batch_turns all) (map batch_turns (drop (i + 1) all)) i (batch_turns (slice_index_or all i none)) now next free s
     (subst (λ (left : List (List Turn)). GoesOn names start (map batch_turns all) left i now) (next_left i all none within) on)
 
--- the batch at a place
-batch_at : (start : WorldState) (all : List Batch) (i : ℕ) (none : Batch) → i < length all → AreEndSets start (map batch_turns all) → All (λ turn. IsTrue (is_end_set start turn)) (batch_turns (slice_index_or all i none))
-batch_at start all i none within sets =
-    subst (λ (batch : List Turn). All (λ turn. IsTrue (is_end_set start turn)) batch) (get_or-map batch_turns all i none (batch_turns none) within)
-    (sets i (batch_turns none) (subst (λ (n : ℕ). i < n) (sym (length-map all batch_turns)) within))
+-- what holds of all batches holds of the one at a place
+pub batch_at : (P : List Turn → Type 0) (all : List Batch) (i : ℕ) (none : Batch) → i < length all → All P (map batch_turns all) → P (batch_turns (slice_index_or all i none))
+batch_at P all i none within holds =
+    subst P (get_or-map batch_turns all i none (batch_turns none) within) (holds i (batch_turns none) (subst (λ (n : ℕ). i < n) (sym (length-map all batch_turns)) within))
 
--- sets the goals of ends now
-pub batch_sets_ends : (names : NameLists) (start : WorldState) (all : List Batch) (i : ℕ) (none : Batch) (rest : List (List Turn)) (now : ScriptState) → i < length all
-    → AreEndSets start (map batch_turns all) → GoesOn names start (map batch_turns all) rest i now → All (λ turn. IsTrue (is_end_set now.world turn)) (batch_turns (slice_index_or all i none))
-batch_sets_ends names start all i none rest now within sets on =
-    end_sets_kept now.world start (batch_turns (slice_index_or all i none)) on.shape (batch_at start all i none within sets)
-
--- and links no slots
-pub batch_links_none : (start : WorldState) (all : List Batch) (i : ℕ) (none : Batch) → i < length all → AreEndSets start (map batch_turns all) → LinkNone (batch_turns (slice_index_or all i none))
-batch_links_none start all i none within sets = end_sets_link_none start (batch_turns (slice_index_or all i none)) (batch_at start all i none within sets)
-
--- nor does any batch
-pub batches_link_none : (start : WorldState) (batches : List (List Turn)) → AreEndSets start batches → AllByRecursion LinkNone batches
-batches_link_none start [] sets = tt
-batches_link_none start (batch ∷ batches) sets = (end_sets_link_none start batch (sets 0 batch (omega arith)), batches_link_none start batches (λ k none within. sets (suc k) none (omega arith)))
+-- its commands are allowed now
+pub batch_allowed : (names : NameLists) (start : WorldState) (all : List Batch) (i : ℕ) (none : Batch) (rest : List (List Turn)) (now : ScriptState) → i < length all → IsSound start
+    → AreAllAllowed start (map batch_turns all) → GoesOn names start (map batch_turns all) rest i now → AreAllowed now.world (batch_turns (slice_index_or all i none))
+batch_allowed names start all i none rest now within sound allowed on =
+    all_kept (batch_turns (slice_index_or all i none)) start now.world sound on.sound.sound on.shape (batch_at (AreAllowed start) all i none within allowed)
 
 -- all has its names now
 pub names_now : (names : NameLists) (start : WorldState) (all rest : List (List Turn)) (count : ℕ) (now : ScriptState) → NamesAll names start → GoesOn names start all rest count now → NamesAll names now.world
@@ -187,6 +208,7 @@ goes_first names start all sound = record {
   sound = sound;
   shape = same_shape start;
   journal = λ more later. later;
+  stops = λ stop more later. later;
   output = λ more. refl;
 }
 
@@ -205,3 +227,47 @@ all_settled names start all count now on = subst (λ (lines : List JournalLine).
 pub all_printed : (names : NameLists) (start : WorldState) (all : List (List Turn)) (count : ℕ) (now : ScriptState) → GoesOn names start all [] count now → now.output ≡ journal_text names 1 start now.journal
 all_printed names start all count now on =
     sym (ap (λ (lines : List JournalLine). journal_text names 1 start lines) (sym (append-nil now.journal)) ∙ (on.output [] ∙ append-nil now.output))
+
+-- ---- a stop
+
+-- the slot at which a settle stops has a name
+pub stop_named : (names : NameLists) (world : WorldState) (batch : List Turn) (state end : ℕ) (stop : Stopped) → IsSound world → NamesAll names world → StopsByDraws world batch state end (EndsVersion stop)
+    → (stop.place.0 < length names.boxes) × (stop.place.1 < length (slot_names names stop.place.0))
+stop_named names world batch state end stop sound all (stops, there) =
+    let one = then_some (number stops.last.world stops.meets.turn.who) (heard_local stops.meets.turn.event) stop.at stops.meets.slot in
+    let shape = run_keeps_shape world stops.last.world stop.turns.items sound stops.stopped.runs in
+    let inside : stop.at < slot_count world = subst (λ (channels : List ChannelState). stop.at < length (places_among channels)) shape.channels (number_is stops.last.world stops.meets.turn.who one.0 stop.at one.2).0 in
+    let who : (place world stop.at).0 < length world.boxes = sound.numbered.placed stop.at inside in
+    subst (λ (p : ℕ × ℕ). (p.0 < length names.boxes) × (p.1 < length (slot_names names p.0))) (sym there)
+    (
+      subst (λ (n : ℕ). (place world stop.at).0 < n) (sym all.boxes) who,
+      subst (λ (n : ℕ). (place world stop.at).1 < n) (sym (all.slots (place world stop.at).0 who)) (sound.numbered.slots stop.at inside),
+    )
+
+-- the places of slots are those of the beginning
+stop_line_same : (names : NameLists) (now start : WorldState) (stop : Stop) → HasShape now start → stop_line names now stop ≡ stop_line names start stop
+stop_line_same names now start (VersionEnd at) shape =
+    ap (λ (channels : List ChannelState). line_of (codes "version" ∷ slot_word names (slice_index_or (places_among channels) at (0, 0)).0 (slice_index_or (places_among channels) at (0, 0)).1 ∷ [])) shape.channels
+
+-- what a script ran to that stopped
+pub record EndsAtStop (names : NameLists) (start : WorldState) (all : List (List Turn)) (run : Run) : Type 0 where
+  pub ran : IsJournalTo run.stop start all run.journal.items
+  pub output : run.output.items ≡ run_text names start run.stop run.journal.items
+
+stops_here : (names : NameLists) (start : WorldState) (all rest : List (List Turn)) (count : ℕ) (batch : List Turn) (now : ScriptState) (run : Run) → Stopping names batch now run
+    → GoesOn names start all (batch ∷ rest) count now → EndsAtStop names start all run
+stops_here names start all rest count batch now run s on =
+    let here : IsStoppedJournal s.stop start all run.journal.items =
+    subst (λ (lines : List JournalLine). IsStoppedJournal s.stop start all lines) (sym s.journal)
+    (on.stops s.stop (map Made s.turns) (inl (record { turns = s.turns; last = s.last; lines = refl; stopped = s.stopped; cause = s.cause }))) in
+    record {
+      ran = subst (λ (o : Option Stop). IsJournalTo o start all run.journal.items) (sym s.is) here;
+      output = s.output ∙ (stop_line_same names now.world start s.stop on.shape ∙ ap (λ (o : Option Stop). run_text names start o run.journal.items) (sym s.is));
+    }
+
+-- by the batch's place
+pub stops_at : (names : NameLists) (start : WorldState) (all : List Batch) (i : ℕ) (none : Batch) (now : ScriptState) (run : Run) → i < length all
+    → Stopping names (batch_turns (slice_index_or all i none)) now run → GoesOn names start (map batch_turns all) (map batch_turns (drop i all)) i now → EndsAtStop names start (map batch_turns all) run
+stops_at names start all i none now run within s on =
+    stops_here names start (map batch_turns all) (map batch_turns (drop (i + 1) all)) i (batch_turns (slice_index_or all i none)) now run s
+    (subst (λ (left : List (List Turn)). GoesOn names start (map batch_turns all) left i now) (next_left i all none within) on)

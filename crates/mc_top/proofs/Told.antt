@@ -1,17 +1,22 @@
 -- What was read of what a source has left.
-use Rattle.std.proofs.Common.{◌≡◌, ◌⊎◌, ◌==◌, ℕ, List, ◌≤◌, Bool, true, None, Some, IfSome, arith, refl, subst, ap, ◌∙◌}
+use Rattle.std.proofs.Common.{◌≡◌, ◌⊎◌, ◌==◌, inl, inr, ℕ, List, ◌≤◌, Bool, true, None, Some, IfSome, map, arith, refl, subst, ap, ◌∙◌}
 use Rattle.std.specs.declared.option.Option.{Option}
 use Rattle.mc_io.specs.Faults.{Rose, faults_after, next_count}
 use Rattle.mc_script.specs.declared.command.JournalLine.{JournalLine}
-use Rattle.mc_net.specs.Nets.{DeclaresNet}
+use Rattle.mc_net.specs.Nets.{DeclaresNet, batch_turns}
 use Rattle.mc_net.specs.SoFar.{Declared}
 use Rattle.mc_net.specs.TextLaws.{first_bytes}
 use Rattle.mc_net.specs.Texts.{IsFault, Says}
+use Rattle.mc_net.specs.Versions.{MeetsNoLast}
 use Rattle.mc_net.specs.declared.net.Net.{Net}
 use Rattle.mc_net.proofs.Faults.{declares_or_faults}
 use Rattle.mc_net.proofs.FirstBytes.{faults_of_the_first_bytes, says_the_whole}
+use Rattle.mc_top.specs.Journals.{ShowsCause}
 use Rattle.mc_top.specs.Top.{Ends, ToldDeclares, ToldFault}
 use Rattle.mc_top.specs.Modes.{IsWorkable}
+use Rattle.mc_top.specs.declared.stop.Stop.{Stop}
+use Rattle.mc_top.specs.declared.stop.Stop.TheVariants.{VersionEnd}
+use Rattle.mc_top.proofs.LastVersions.{none_passes}
 use Rattle.mc_top.specs.declared.words.Mode.{Mode}
 use Rattle.mc_top.specs.declared.words.Mode.TheVariants.{Run}
 
@@ -34,10 +39,11 @@ ends_told mode told old new text status due journal read ends = record {
   worked = λ zero.
       let worked = ends.worked zero in
       record { net = worked.net; declared = told_declares told text worked.net read worked.declared; settles = worked.settles; delivered = worked.delivered };
-  refused = λ one.
-      let refused = ends.refused one in
-      record { number = refused.number; line = refused.line; fault = told_fault told text refused.number refused.line read refused.fault; delivered = refused.delivered };
-  stopped = ends.stopped;
+  refused = λ one. elim (ends.refused one) [
+    | inl refused ↦ inl (record { number = refused.number; line = refused.line; fault = told_fault told text refused.number refused.line read refused.fault; delivered = refused.delivered; no_journal = refused.no_journal })
+    | inr stops ↦ inr (record { net = stops.net; stop = stops.stop; declared = told_declares told text stops.net read stops.declared; due_is = stops.due_is; settled = stops.settled; shows = stops.shows; delivered = stops.delivered })
+  ];
+  gave_up = ends.gave_up;
   no_journal = ends.no_journal;
 }
 
@@ -48,7 +54,19 @@ fault_says (Some all) text d number line fault is says =
 
 -- a text on which a mode's work can be done has no fault
 fault_works : (mode : Mode) (told : Option (List ℕ)) (text : List ℕ) (number line : ℕ) → ToldFault told number line → told ≡ Some text → IsWorkable mode text → ⊥
-fault_works Run told text number line fault is (d, says) = fault_says told text d number line fault is says
+fault_works Run told text number line fault is (d, says, none) = fault_says told text d number line fault is says
+
+stop_says : (told : Option (List ℕ)) (text : List ℕ) (d : Declared) (net : Net) (stop : Stop) → ToldDeclares told net → told ≡ Some text → Says text d → MeetsNoLast d
+    → ShowsCause (Some stop) net.world (map batch_turns net.batches.items) → ⊥
+stop_says None text d net stop declares is says none shows = cc
+stop_says (Some all) text d net (VersionEnd at) declares is says none shows =
+    let same : all ≡ text = cc in
+    none_passes text d net says none (subst (λ (t : List ℕ). DeclaresNet t net) same declares) shows
+
+-- nor does its script stop
+stop_works : (mode : Mode) (told : Option (List ℕ)) (text : List ℕ) (net : Net) (stop : Stop) → ToldDeclares told net → told ≡ Some text → IsWorkable mode text
+    → ShowsCause (Some stop) net.world (map batch_turns net.batches.items) → ⊥
+stop_works Run told text net stop declares is (d, says, none) shows = stop_says told text d net stop declares is says none shows
 
 le_self : (n : ℕ) → n ≤ n
 le_self n = omega arith
@@ -70,7 +88,10 @@ pub completes : (mode : Mode) (told old new : Option (List ℕ)) (text : List �
     → (due ≡ 0) ⊎ (due ≡ 1) ⊎ (due ≡ 3) ⊎ (due ≡ 4) → (status ≡ due) ⊎ (status ≡ 5) → Ends mode told old new status due journal
     → told ≡ Some text → IsWorkable mode text → (due ≡ 4 → ⊥) → (status ≡ 5 → ⊥) → (status ≡ 0) ⊎ (status ≡ 3)
 completes mode told old new text status due journal dues either ends is works not_four not_five =
-    let not_one : due ≡ 1 → ⊥ = λ one. fault_works mode told text (ends.refused one).number (ends.refused one).line (ends.refused one).fault is works in
+    let not_one : due ≡ 1 → ⊥ = λ one. elim (ends.refused one) [
+    | inl refused ↦ fault_works mode told text refused.number refused.line refused.fault is works
+    | inr stops ↦ stop_works mode told text stops.net stops.stop stops.declared is works stops.shows
+    ] in
     grind (arith, not_one, not_four, not_five)
 
 -- there is one mode

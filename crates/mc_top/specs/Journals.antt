@@ -1,15 +1,18 @@
--- A journal: the turns of every settle, in order, each settle with its mark behind it.
-use Rattle.std.specs.Prelude.{◌≡◌, List, [], ◌∷◌, ◌++◌, map}
+-- A journal: the turns of every settle, in order, each settle with its mark behind it. Where a script stops, the turns up to the stop come last, without a mark.
+use Rattle.std.specs.Prelude.{◌≡◌, ◌⊎◌, List, [], ◌∷◌, ◌++◌, map, Option, Some, None}
 use Rattle.std.specs.List.{All}
 use Rattle.std.specs.Option.{unwrap_or}
 use Rattle.mc_model.specs.PathTable.{PathHolds}
 use Rattle.mc_model.specs.Paths.{paths}
-use Rattle.mc_model.specs.Settles.{IsSettled}
+use Rattle.mc_laws.specs.Versions.{PassesLast}
+use Rattle.mc_model.specs.Settles.{IsSettled, IsStopped, MeetsLast, hears_in}
 use Rattle.mc_model.specs.Steps.{step}
 use Rattle.mc_model.specs.Worlds.{WorldState}
 use Rattle.mc_box.specs.declared.event.Turn.{Turn}
 use Rattle.mc_script.specs.declared.command.JournalLine.{JournalLine}
 use Rattle.mc_script.specs.declared.command.JournalLine.TheVariants.{Turn as Made, Settled}
+use Rattle.mc_top.specs.declared.stop.Stop.{Stop}
+use Rattle.mc_top.specs.declared.stop.Stop.TheVariants.{VersionEnd}
 
 -- the turns of a settle, as lines
 abbrev pub lines_for : List Turn → List JournalLine
@@ -21,6 +24,35 @@ IsJournal world [] journal = journal ≡ []
 IsJournal world (batch ∷ batches) journal =
     (turns : List Turn) × (last : WorldState) × (rest : List JournalLine)
     × (journal ≡ lines_for turns ++ rest) × IsSettled world batch turns last × IsJournal last batches rest
+
+-- why a script stops, behind turns of a batch that leave a world
+abbrev pub IsCause : Stop → (batch turns : List Turn) → WorldState → Type 0
+IsCause (VersionEnd at) batch turns last = MeetsLast batch turns last at
+
+-- turns that stopped within a batch, with their cause; they have no mark
+pub record StopsBatch (world : WorldState) (batch : List Turn) (stop : Stop) (journal : List JournalLine) : Type 0 where
+  pub turns : List Turn
+  pub last : WorldState
+  pub lines : journal ≡ map Made turns
+  pub stopped : IsStopped world batch turns last
+  pub cause : IsCause stop batch turns last
+
+-- the journal is one settled segment for each of the first batches, and then turns that stopped within the next one
+abbrev pub IsStoppedJournal : Stop → WorldState → List (List Turn) → List JournalLine → Type 0
+IsStoppedJournal stop world [] journal = ⊥
+IsStoppedJournal stop world (batch ∷ batches) journal = StopsBatch world batch stop journal
+    ⊎ ((turns : List Turn) × (last : WorldState) × (rest : List JournalLine)
+    × (journal ≡ lines_for turns ++ rest) × IsSettled world batch turns last × IsStoppedJournal stop last batches rest)
+
+-- the journal of a script that was run to its end, or to a stop
+abbrev pub IsJournalTo : Option Stop → WorldState → List (List Turn) → List JournalLine → Type 0
+IsJournalTo None world batches journal = IsJournal world batches journal
+IsJournalTo (Some stop) world batches journal = IsStoppedJournal stop world batches journal
+
+-- what a stop shows of the batches: at the last version, that the version of some slot in the first world and its Hears are more than that together
+abbrev pub ShowsCause : Option Stop → WorldState → List (List Turn) → Type 0
+ShowsCause None world batches = Unit {0}
+ShowsCause (Some (VersionEnd at)) world batches = PassesLast world (λ who local. hears_in who local batches)
 
 -- the world after a turn of a journal
 abbrev pub next_world : WorldState → Turn → WorldState

@@ -5,6 +5,7 @@ use Rattle.std.specs.declared.option.Option.{Option}
 use Rattle.mc_top.specs.Printed.{journal_text}
 use Rattle.mc_net.specs.SoFar.{Declared}
 use Rattle.mc_net.specs.Texts.{Says}
+use Rattle.mc_net.specs.Versions.{MeetsNoLast}
 use Rattle.mc_net.specs.declared.net.Net.{Net}
 use Rattle.mc_script.specs.declared.command.JournalLine.{JournalLine}
 use Rattle.mc_top.specs.declared.words.Mode.{Mode}
@@ -30,9 +31,9 @@ AsksToRead words = (mode : Mode) × IsCommand words mode × IsTrue (reads mode)
 abbrev pub text_for : Mode → Option (List ℕ) → Option (List ℕ)
 text_for Run left = left
 
--- a mode's work can be done on the text
+-- a mode's work can be done on the text: it declares a network, in whose script no Hear meets the last version
 abbrev pub IsWorkable : Mode → List ℕ → Type 0
-IsWorkable Run text = (d : Declared) × Says text d
+IsWorkable Run text = (d : Declared) × Says text d × MeetsNoLast d
 
 -- what a mode prints for a journal of the network
 abbrev pub output_of : Mode → Net → List JournalLine → List ℕ

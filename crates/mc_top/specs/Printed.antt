@@ -1,5 +1,5 @@
 -- What is printed at the settles of a journal, and for a faulty text.
-use Rattle.std.specs.Prelude.{ℕ, ◌+◌, List, [], ◌∷◌, ◌++◌, codes, Option}
+use Rattle.std.specs.Prelude.{ℕ, ◌+◌, List, [], ◌∷◌, ◌++◌, codes, Option, Some, None}
 use Rattle.std.specs.Fmt.{decimal}
 use Rattle.std.specs.List.{flat_map}
 use Rattle.mc_slot.specs.declared.State.{State}
@@ -13,6 +13,8 @@ use Rattle.mc_table.specs.Words.{codec_word, line_of, medium_word}
 use Rattle.mc_top.specs.Journals.{next_world}
 use Rattle.mc_script.specs.declared.command.JournalLine.{JournalLine}
 use Rattle.mc_script.specs.declared.command.JournalLine.TheVariants.{Turn as Made, Settled}
+use Rattle.mc_top.specs.declared.stop.Stop.{Stop}
+use Rattle.mc_top.specs.declared.stop.Stop.TheVariants.{VersionEnd}
 
 -- ---- words
 
@@ -58,6 +60,17 @@ abbrev pub journal_text : NameLists → ℕ → WorldState → List JournalLine 
 journal_text names number world [] = []
 journal_text names number world (Made turn ∷ journal) = journal_text names number (next_world world turn) journal
 journal_text names number world (Settled ∷ journal) = settle_text names number world ++ journal_text names (number + 1) world journal
+
+-- ---- a stop
+
+-- the one line for a script that stopped, whose slot has its place in the first world
+abbrev pub stop_line : NameLists → WorldState → Stop → List ℕ
+stop_line names world (VersionEnd at) = line_of (codes "version" ∷ place_word names world at ∷ [])
+
+-- what is printed for a journal from a world: its settles, or for a stop that line alone
+abbrev pub run_text : NameLists → WorldState → Option Stop → List JournalLine → List ℕ
+run_text names world None journal = journal_text names 1 world journal
+run_text names world (Some stop) journal = stop_line names world stop
 
 -- ---- a faulty text
 

@@ -1,5 +1,5 @@
 -- What the top call promises.
-use Rattle.std.specs.Prelude.{◌≡◌, ◌≢◌, ◌⊎◌, ◌≤◌, ℕ, List, [], ◌∷◌, ◌++◌, codes, length, map, IfSome, IsFalse, IsTrue}
+use Rattle.std.specs.Prelude.{◌≡◌, ◌≢◌, ◌⊎◌, ◌≤◌, ℕ, List, [], ◌∷◌, ◌++◌, codes, length, map, IfSome, IsFalse, IsTrue, Some}
 use Rattle.std.specs.declared.option.Option.{Option}
 use Rattle.std.specs.Io.KnownBytes.{Appends, Consumes, IsAtEnd, Keeps}
 use Rattle.mc_io.specs.Bytes.{AppendsPart}
@@ -9,12 +9,13 @@ use Rattle.mc_net.specs.TextLaws.{first_bytes}
 use Rattle.mc_net.specs.Texts.{IsFault}
 use Rattle.mc_net.specs.declared.net.Net.{Net}
 use Rattle.mc_net.specs.declared.limit.TheConstants.{TEXT_LIMIT}
-use Rattle.mc_top.specs.Journals.{IsJournal, HoldsAtSettles}
+use Rattle.mc_top.specs.Journals.{IsJournal, IsStoppedJournal, HoldsAtSettles, ShowsCause}
 use Rattle.mc_top.specs.Modes.{output_of, reads}
-use Rattle.mc_top.specs.Printed.{fault_line}
-use Rattle.mc_top.specs.Statuses.{keeps_journal}
+use Rattle.mc_top.specs.Printed.{fault_line, stop_line}
+use Rattle.mc_top.specs.Statuses.{keeps_journal, stop_status}
 use Rattle.mc_script.specs.declared.command.JournalLine.{JournalLine}
 use Rattle.mc_top.specs.declared.status.TheConstants.{WORKED, FAULTY_TEXT, USAGE, NO_MEMORY, READ_FAULT, WRITE_FAULT}
+use Rattle.mc_top.specs.declared.stop.Stop.{Stop}
 use Rattle.mc_top.specs.declared.top.Done.{Done}
 use Rattle.mc_top.specs.declared.words.Mode.{Mode}
 
@@ -68,17 +69,28 @@ pub record Worked (mode : Mode) (told old new : Option (List ℕ)) (status : ℕ
   pub delivered : Delivers status WORKED old new (output_of mode net journal)
 
 -- a mode refused the text, and delivered the one line that names its first fault
-pub record Refused (told old new : Option (List ℕ)) (status : ℕ) : Type 0 where
+pub record Refused (told old new : Option (List ℕ)) (status : ℕ) (journal : List JournalLine) : Type 0 where
   pub number : ℕ
   pub line : ℕ
   pub fault : ToldFault told number line
   pub delivered : Delivers status FAULTY_TEXT old new (fault_line number line)
+  pub no_journal : journal ≡ []
+
+-- The script of the network that the text declares stopped, and the one line that says where was delivered. The journal is the settled segments before, and the turns up to the stop: replayed, they lead to a world that shows the cause
+pub record StopsScript (told old new : Option (List ℕ)) (status due : ℕ) (journal : List JournalLine) : Type 0 where
+  pub net : Net
+  pub stop : Stop
+  pub declared : ToldDeclares told net
+  pub due_is : due ≡ stop_status stop
+  pub settled : IsStoppedJournal stop net.world (map batch_turns net.batches.items) journal
+  pub shows : ShowsCause (Some stop) net.world (map batch_turns net.batches.items)
+  pub delivered : Delivers status due old new (stop_line net.names net.world stop)
 
 -- what a mode printed and kept, for the text that it was told
 pub record Ends (mode : Mode) (told old new : Option (List ℕ)) (status due : ℕ) (journal : List JournalLine) : Type 0 where
   pub worked : due ≡ WORKED → Worked mode told old new status journal
-  pub refused : due ≡ FAULTY_TEXT → Refused told old new status
-  pub stopped : (due ≡ NO_MEMORY) ⊎ (due ≡ READ_FAULT) → (status ≡ due) × Keeps old new
+  pub refused : due ≡ FAULTY_TEXT → Refused told old new status journal ⊎ StopsScript told old new status due journal
+  pub gave_up : (due ≡ NO_MEMORY) ⊎ (due ≡ READ_FAULT) → (status ≡ due) × Keeps old new
   pub no_journal : IsFalse (keeps_journal due) → journal ≡ []
 
 -- it is what the call ended with

@@ -4,11 +4,13 @@
 mod print;
 mod run;
 pub mod status;
+mod stop;
 #[cfg(test)]
 mod tests;
 mod top;
 mod words;
 
 pub use run::{Run, run_script};
+pub use stop::Stop;
 pub use top::{Done, media_top};
 pub use words::{Mode, read_mode};

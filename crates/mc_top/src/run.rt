@@ -1,35 +1,66 @@
 // A script, settle by settle.
-ghost use Rattle.std.specs.Prelude.{◌≡◌, ◌++◌, ◌+◌, ◌≤◌, length, map, All, IfOk, OnOk, IsTrue};
-ghost use Rattle.mc_model.specs.LinkFree.{HasNoLinks};
-ghost use Rattle.mc_net.specs.Nets.{AreEndSets, NamesAll, is_end_set, batch_turns};
+ghost use Rattle.std.specs.Prelude.{◌≡◌, ◌++◌, ◌∷◌, ◌<◌, ◌≤◌, [], codes, length, map, Some, IfOk, OnOk};
+ghost use Rattle.mc_model.specs.LinkFree.{AllLinkNone, HasNoLinks, LinkNone};
+ghost use Rattle.mc_model.specs.Shapes.{AreAllAllowed, AreAllowed};
+ghost use Rattle.mc_net.specs.Nets.{NamesAll, batch_turns};
 ghost use Rattle.mc_net.specs.declared.limit.TheConstants.{COMMAND_LIMIT};
-ghost use Rattle.mc_top.specs.Journals.{IsJournal, HoldsAtSettles, lines_for};
-ghost use Rattle.mc_top.specs.Printed.{journal_text};
-ghost use Rattle.mc_top.specs.Scripts.{first_state, Settling};
+ghost use Rattle.mc_script.specs.declared.command.JournalLine.TheVariants.{Turn as Made};
+ghost use Rattle.mc_table.specs.Words.{line_of};
+ghost use Rattle.mc_text.specs.NameLists.{slot_names, slot_word};
+ghost use Rattle.mc_top.specs.Journals.{HoldsAtSettles, IsJournalTo, ShowsCause, lines_for};
+ghost use Rattle.mc_top.specs.Outcomes.{CameOf};
+ghost use Rattle.mc_top.specs.Printed.{run_text};
+ghost use Rattle.mc_top.specs.Scripts.{first_state};
+ghost use Rattle.mc_top.specs.Statuses.{due_by};
+ghost use Rattle.mc_top.specs.declared.stop.Stop.TheVariants.{VersionEnd};
 
+use crate::print::print_stop;
+use crate::status::WORKED;
+use crate::stop::Stop;
 use mc_box::Turn;
 use mc_path::paths;
 use mc_script::{Batch, JournalLine};
-use mc_seq::settle_in_order;
+use mc_seq::{SettleFault, Stopped, settle_one};
 use mc_table::print_settle;
-use mc_text::Names;
+use mc_text::{Draws, Names};
 use mc_world::World;
 use std::alloc::{AllocError, Global};
 use std::marker::Model;
 
-/// What a script printed, and its journal.
+/// What a script printed, its journal, and why it stopped before its end, if it did.
 #[derive(Debug, Drop)]
 pub struct Run {
     pub output: Vec<u8>,
     pub journal: Vec<JournalLine>,
+    pub stop: Option<Stop>,
 }
 
-// A script while it runs: its world, and what was kept and printed so far.
+impl Run {
+    /// The status that is due for it.
+    pub fn due(&self) -> u8
+        ensures { result ≡ due_by self.now.stop }
+    {
+        match self.stop {
+            None => WORKED,
+            Some(stop) => stop.status(),
+        }
+    }
+}
+
+// A script while it runs: its world, where its draws are, and what was kept and printed so far.
 #[derive(Drop)]
 struct Progress {
     world: World,
+    draws: Draws,
     journal: Vec<JournalLine>,
     output: Vec<u8>,
+}
+
+// What came of a batch: it was settled, or the script stopped.
+#[derive(Drop)]
+enum Outcome {
+    Settled(Progress),
+    Stopped(Run),
 }
 
 impl Model for Progress {
@@ -46,57 +77,106 @@ impl Progress {
     {
         Progress {
             world,
+            draws: Draws { state: 0 },
             journal: Vec::new(alloc),
             output: Vec::new(alloc),
         }
     }
 
-    // A batch is settled, and the paths are printed under the settle's number.
+    // A batch is settled by draws, and the paths are printed under the settle's number; or it stops.
     fn settle(
         self,
         alloc: Global,
         names: &Names,
         number: u32,
         batch: &[Turn],
-    ) -> Result<Progress, AllocError>
+    ) -> Result<Outcome, AllocError>
         requires free { HasNoLinks self.world }
-        requires end_sets { All (λ turn. IsTrue (is_end_set self.world turn)) batch.now }
+        requires allowed { AreAllowed self.world batch.now }
+        requires link_none { LinkNone batch.now }
         requires named { NamesAll names.now self.world }
-        ensures { IfOk result (λ next. Settling names.now number batch.now self next) }
+        ensures { IfOk result (λ outcome. CameOf names.now number batch.now self outcome) }
     {
         let Progress {
             world,
+            mut draws,
             mut journal,
             mut output,
         } = self;
         world.keeps();
-        let settled = settle_in_order(alloc, world, batch)?;
-        log(&settled.turns, &mut journal)?;
-        let views = paths(alloc, &settled.world)?;
-        let text = print_settle(alloc, names, number, &views)?;
-        output.extend_from_slice(&text)?;
-        Ok(Progress {
-            world: settled.world,
-            journal,
-            output,
-        })
+        match settle_one(alloc, world, batch, &mut draws) {
+            Ok(settled) => {
+                log(&settled.turns, &mut journal)?;
+                let views = paths(alloc, &settled.world)?;
+                let text = print_settle(alloc, names, number, &views)?;
+                output.extend_from_slice(&text)?;
+                let world = settled.world;
+                Ok(Outcome::Settled(Progress {
+                    world,
+                    draws,
+                    journal,
+                    output,
+                }))
+            }
+            Err(SettleFault::VersionEnd(stopped)) => {
+                let run = stop_at_version(alloc, names, journal, stopped)?;
+                Ok(Outcome::Stopped(run))
+            }
+            // without links there is no ring
+            Err(SettleFault::Ring(_)) => unreachable!(),
+            Err(SettleFault::NoMemory(e)) => Err(e),
+        }
     }
+}
+
+// A script that stopped at the last version of a slot: the turns up to there are kept, and one line is printed.
+fn stop_at_version(
+    alloc: Global,
+    names: &Names,
+    mut journal: Vec<JournalLine>,
+    stopped: Stopped,
+) -> Result<Run, AllocError>
+    requires who { stopped.place.0 < length names.now.boxes }
+    requires local { stopped.place.1 < length (slot_names names.now stopped.place.0) }
+    ensures journal { IfOk result (λ run. run.journal.items ≡ journal.items ++ map Made stopped.turns.items) }
+    ensures output { IfOk result (λ run. run.output.items
+        ≡ line_of (codes "version" ∷ slot_word names.now stopped.place.0 stopped.place.1 ∷ [])) }
+    ensures stop { IfOk result (λ run. run.stop ≡ Some (VersionEnd stopped.at)) }
+{
+    log_turns(&stopped.turns, &mut journal)?;
+    let output = print_stop(alloc, names, stopped.place)?;
+    let stop = Some(Stop::VersionEnd(stopped.at));
+    Ok(Run {
+        output,
+        journal,
+        stop,
+    })
+}
+
+// Keeps turns.
+fn log_turns(turns: &[Turn], journal: &mut Vec<JournalLine>) -> Result<(), AllocError>
+    ensures { OnOk result (journal.new.items ≡ journal.old.items ++ map Made turns.now) }
+{
+    for turn in turns {
+        journal.push(JournalLine::Turn(*turn))?;
+    }
+    Ok(())
 }
 
 // Keeps the turns of a settle, and its mark.
 fn log(turns: &[Turn], journal: &mut Vec<JournalLine>) -> Result<(), AllocError>
     ensures { OnOk result (journal.new.items ≡ journal.old.items ++ lines_for turns.now) }
 {
-    for turn in turns {
-        journal.push(JournalLine::Turn(*turn))?;
-    }
+    log_turns(turns, journal)?;
     journal.push(JournalLine::Settled)?;
     Ok(())
 }
 
-/// Runs a script: settles its batches one after the other, each in the plain order, and prints the paths after each.
-/// All that the world has is named, no slot is linked, each command sets the goal of an end, and there are no more
-/// batches than a text may have commands.
+/// Runs a script: settles its batches one after the other by draws from 0, and prints the paths after each. It ends
+/// before that where a batch stops, and then the line of the stop is all that it prints.
+///
+/// All that the world has is named, no slot is linked, the world allows each command, none of which links slots, and there
+/// are no more batches than a text may have commands.
 pub fn run_script(
     alloc: Global,
     names: &Names,
@@ -105,21 +185,27 @@ pub fn run_script(
 ) -> Result<Run, AllocError>
     requires named { NamesAll names.now world }
     requires free { HasNoLinks world }
-    requires end_sets { AreEndSets world (map batch_turns batches.now) }
+    requires allowed { AreAllAllowed world (map batch_turns batches.now) }
+    requires link_none { AllLinkNone (map batch_turns batches.now) }
     requires few { length batches.now ≤ COMMAND_LIMIT }
-    ensures settled { IfOk result (λ run. IsJournal world (map batch_turns batches.now) run.journal.items) }
+    ensures ran { IfOk result (λ run. IsJournalTo run.stop world (map batch_turns batches.now) run.journal.items) }
     ensures holds { IfOk result (λ run. HoldsAtSettles world run.journal.items) }
-    ensures output { IfOk result (λ run. run.output.items ≡ journal_text names.now 1 world run.journal.items) }
+    ensures shows { IfOk result (λ run. ShowsCause run.stop world (map batch_turns batches.now)) }
+    ensures output { IfOk result (λ run. run.output.items ≡ run_text names.now world run.stop run.journal.items) }
 {
     world.keeps();
     let mut progress = Progress::new(alloc, world);
     for index in 0..batches.len() {
         let batch = &batches[index];
         let number = (index + 1) as u32;
-        progress = progress.settle(alloc, names, number, &batch.turns)?;
+        match progress.settle(alloc, names, number, &batch.turns)? {
+            Outcome::Settled(next) => progress = next,
+            Outcome::Stopped(run) => return Ok(run),
+        }
     }
     Ok(Run {
         output: progress.output,
         journal: progress.journal,
+        stop: None,
     })
 }

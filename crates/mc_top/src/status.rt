@@ -6,6 +6,9 @@ pub const WORKED: u8 = 0;
 /// The text has a fault.
 pub const FAULTY_TEXT: u8 = 1;
 
+/// A script stopped at the last version of a slot: the same status.
+pub const VERSION_END: u8 = 1;
+
 /// The words are no command.
 pub const USAGE: u8 = 2;
 

@@ -2,6 +2,7 @@
 ghost use Rattle.std.specs.Prelude.{◌<◌};
 
 mod limits;
+mod media;
 mod refusals;
 
 use crate::{Done, media_top};

@@ -2,19 +2,20 @@
 ghost use Rattle.std.specs.Prelude.{◌≡◌, ◌≢◌, ◌⊎◌, ◌==◌, ◌≤◌, ℕ, List, [], length, map, IfOk, IsFalse, IsTrue, Some};
 ghost use Rattle.mc_io.specs.Bytes.{ConsumesAtMost};
 ghost use Rattle.mc_io.specs.Faults.{Rose, faults_after, is_failed_read};
-ghost use Rattle.mc_model.specs.LinkFree.{HasNoLinks};
-ghost use Rattle.mc_net.specs.Nets.{AreEndSets, DeclaresNet, NamesAll, batch_turns};
+ghost use Rattle.mc_model.specs.LinkFree.{AllLinkNone, HasNoLinks};
+ghost use Rattle.mc_model.specs.Shapes.{AreAllAllowed};
+ghost use Rattle.mc_net.specs.Nets.{DeclaresNet, NamesAll, batch_turns};
 ghost use Rattle.mc_net.specs.Rules.{read_limit};
 ghost use Rattle.mc_net.specs.Texts.{IsFault};
 ghost use Rattle.mc_net.specs.declared.limit.TheConstants.{COMMAND_LIMIT};
 ghost use Rattle.mc_top.specs.Modes.{AsksToRead, IsCommand, IsWorkable, reads, text_for};
-ghost use Rattle.mc_top.specs.Statuses.{IsDue, IsDueForMode, judges_text, keeps_journal};
+ghost use Rattle.mc_top.specs.Statuses.{IsDue, IsDueForMode, due_by, judges_text, keeps_journal};
 ghost use Rattle.mc_top.specs.Top.{Delivers, EndsAs, HasReadWhole, IsTextOf, PrintsUsage, ReadsFor};
 ghost use Rattle.mc_top.specs.declared.words.Mode.{Mode};
 
 use crate::print::print_fault;
 use crate::run::{Run, run_script};
-use crate::status::{FAULTY_TEXT, NO_MEMORY, READ_FAULT, USAGE, WORKED, WRITE_FAULT};
+use crate::status::{FAULTY_TEXT, NO_MEMORY, READ_FAULT, USAGE, VERSION_END, WORKED, WRITE_FAULT};
 use crate::words::{Mode, read_mode};
 use mc_io::{Gate, ReadFault, Sink, Source, read_up_to, write_whole};
 use mc_net::{Net, NetFault, TEXT_LIMIT, Tail, TextFault, read_net};
@@ -25,7 +26,7 @@ use std::thread::Threads;
 /// How a call of the program ended.
 ///
 /// `status` is one of `mc_top::status`, and `due` the status that would stand had no write failed. The journal
-/// holds what was settled where the due status keeps a journal, and else nothing.
+/// holds what was settled, and the turns up to a stop, where the due status keeps a journal, and else nothing.
 #[derive(Debug, Drop)]
 pub struct Done {
     pub status: u8,
@@ -68,18 +69,21 @@ fn deliver<K: Sink>(sink: &mut K, due: u8, output: &[u8], journal: Vec<JournalLi
 
 // Writes what a script printed.
 fn deliver_run<K: Sink>(sink: &mut K, run: Run) -> Done
-    ensures delivers { Delivers result.status WORKED (K.written sink.old) (K.written sink.new) run.output.items }
-    ensures due { result.due ≡ WORKED }
-    ensures status { (result.status ≡ WORKED) ⊎ (result.status ≡ WRITE_FAULT) }
+    ensures delivers { Delivers result.status (due_by run.stop) (K.written sink.old) (K.written sink.new) run.output.items }
+    ensures due { result.due ≡ due_by run.stop }
+    ensures status { (result.status ≡ due_by run.stop) ⊎ (result.status ≡ WRITE_FAULT) }
     ensures journal { result.journal ≡ run.journal }
     ensures fault { K.faults sink.new ≡ faults_after (K.faults sink.old) (result.status == WRITE_FAULT) }
 {
-    let Run { output, journal } = run;
-    deliver(sink, WORKED, &output, journal)
+    let due = run.due();
+    let Run {
+        output, journal, ..
+    } = run;
+    deliver(sink, due, &output, journal)
 }
 
 // A call that ended before there was anything to write.
-fn stopped(alloc: Global, status: u8) -> Done
+fn give_up(alloc: Global, status: u8) -> Done
     ensures status { result.status ≡ status }
     ensures due { result.due ≡ status }
     ensures journal { result.journal.items ≡ [] }
@@ -101,7 +105,7 @@ fn refuse<K: Sink>(alloc: Global, text: &[u8], fault: TextFault, sink: &mut K) -
 {
     match print_fault(alloc, fault) {
         Ok(line) => deliver(sink, FAULTY_TEXT, &line, Vec::new(alloc)),
-        Err(_) => stopped(alloc, NO_MEMORY),
+        Err(_) => give_up(alloc, NO_MEMORY),
     }
 }
 
@@ -110,9 +114,10 @@ fn run_net<K: Sink>(alloc: Global, mode: Mode, text: &[u8], net: Net, sink: &mut
     requires declares { DeclaresNet text.now net }
     requires named { NamesAll net.names net.world }
     requires free { HasNoLinks net.world }
-    requires end_sets { AreEndSets net.world (map batch_turns net.batches.items) }
+    requires allowed { AreAllAllowed net.world (map batch_turns net.batches.items) }
+    requires link_none { AllLinkNone (map batch_turns net.batches.items) }
     requires few { length net.batches.items ≤ COMMAND_LIMIT }
-    ensures statuses { (result.due ≡ WORKED) ⊎ (result.due ≡ NO_MEMORY) }
+    ensures statuses { (result.due ≡ WORKED) ⊎ (result.due ≡ VERSION_END) ⊎ (result.due ≡ NO_MEMORY) }
     ensures status { (result.status ≡ result.due) ⊎ (result.status ≡ WRITE_FAULT) }
     ensures ends { EndsAs mode (Some text.now) (K.written sink.old) (K.written sink.new) result }
     ensures fault { K.faults sink.new ≡ faults_after (K.faults sink.old) (result.status == WRITE_FAULT) }
@@ -125,7 +130,7 @@ fn run_net<K: Sink>(alloc: Global, mode: Mode, text: &[u8], net: Net, sink: &mut
     } = net;
     match run_script(alloc, &names, world, &batches) {
         Ok(run) => deliver_run(sink, run),
-        Err(_) => stopped(alloc, NO_MEMORY),
+        Err(_) => give_up(alloc, NO_MEMORY),
     }
 }
 
@@ -139,7 +144,7 @@ fn run_text<K: Sink>(alloc: Global, mode: Mode, text: &[u8], sink: &mut K) -> Do
     match read_net(alloc, text, Tail::Nothing) {
         Ok(net) => run_net(alloc, mode, text, net, sink),
         Err(NetFault::Line(fault)) => refuse(alloc, text, fault, sink),
-        Err(NetFault::NoMemory(_)) => stopped(alloc, NO_MEMORY),
+        Err(NetFault::NoMemory(_)) => give_up(alloc, NO_MEMORY),
     }
 }
 
@@ -157,8 +162,8 @@ fn run_mode<S: Source, K: Sink>(alloc: Global, mode: Mode, source: &mut S, sink:
 {
     match text_of(alloc, mode, source) {
         Ok(text) => run_text(alloc, mode, &text, sink),
-        Err(ReadFault::Failed) => stopped(alloc, READ_FAULT),
-        Err(ReadFault::NoMemory(_)) => stopped(alloc, NO_MEMORY),
+        Err(ReadFault::Failed) => give_up(alloc, READ_FAULT),
+        Err(ReadFault::NoMemory(_)) => give_up(alloc, NO_MEMORY),
     }
 }
 

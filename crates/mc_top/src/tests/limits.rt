@@ -191,7 +191,7 @@ const ROWS: [Row; 33] = [
         1,
         "begin\n",
         "",
-        "fault 19 line 2\n",
+        "fault 19 line 3\n",
     ),
     (
         "media 1\ndev a 4294967296\n",

@@ -1,5 +1,5 @@
 use Rattle.std.proofs.Common.{◌∙◌}
-use Rattle.mc_top.proofs.Ending.{ends_refused, ends_stopped}
+use Rattle.mc_top.proofs.Ending.{ends_refused, ends_gave_up}
 use Rattle.mc_top.proofs.top.refuse.Goals as goal
 
 pub returns-in-Ok-clause-ends : goal.returns-in-Ok-clause-ends
@@ -10,5 +10,5 @@ returns-in-Ok-clause-ends g c = λ mode.
 
 pub returns-in-Err-clause-ends : goal.returns-in-Err-clause-ends
 returns-in-Err-clause-ends g c = λ mode.
-    ends_stopped mode c.args.text.now (g.K.Sink.written c.args.sink.now) c.stopped.result.status c.stopped.result.due c.stopped.result.journal.items
-    c.stopped.ensures.status c.stopped.ensures.due c.stopped.ensures.journal
+    ends_gave_up mode c.args.text.now (g.K.Sink.written c.args.sink.now) c.give_up.result.status c.give_up.result.due c.give_up.result.journal.items
+    c.give_up.ensures.status c.give_up.ensures.due c.give_up.ensures.journal

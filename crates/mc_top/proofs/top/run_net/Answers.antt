@@ -1,11 +1,11 @@
-use Rattle.mc_top.proofs.Ending.{ends_worked}
+use Rattle.mc_top.proofs.Ending.{ends_ran}
 use Rattle.mc_top.proofs.top.run_net.Goals as goal
 
 pub returns-in-Ok-clause-ends : goal.returns-in-Ok-clause-ends
 returns-in-Ok-clause-ends g c =
     let run = c.in-Ok.run' in
     rw c.deliver_run.ensures.journal
-    (ends_worked c.args.mode c.args.text.now c.args.net (g.K.Sink.written c.args.sink.now) (g.K.Sink.written c.deliver_run.new.sink)
+    (ends_ran run.stop c.args.mode c.args.text.now c.args.net (g.K.Sink.written c.args.sink.now) (g.K.Sink.written c.deliver_run.new.sink)
     c.deliver_run.result.status c.deliver_run.result.due run.journal.items run.output.items
-    c.requires.declares (rw c.deref.ensures.value at c.in-Ok.ensures.settled) c.in-Ok.ensures.holds
+    c.requires.declares (rw c.deref.ensures.value at c.in-Ok.ensures.ran) c.in-Ok.ensures.holds (rw c.deref.ensures.value at c.in-Ok.ensures.shows)
     c.in-Ok.ensures.output c.deliver_run.ensures.due c.deliver_run.ensures.delivers)

@@ -1,0 +1,30 @@
+-- What comes of a batch of a script.
+use Rattle.std.specs.Prelude.{◌≡◌, ℕ, List, ◌++◌, map, Some}
+use Rattle.mc_model.specs.Settles.{IsStopped}
+use Rattle.mc_model.specs.Worlds.{WorldState}
+use Rattle.mc_box.specs.declared.event.Turn.{Turn}
+use Rattle.mc_text.specs.NameLists.{NameLists}
+use Rattle.mc_script.specs.declared.command.JournalLine.TheVariants.{Turn as Made}
+use Rattle.mc_top.specs.Journals.{IsCause}
+use Rattle.mc_top.specs.Printed.{stop_line}
+use Rattle.mc_top.specs.Scripts.{ScriptState, Settling}
+use Rattle.mc_top.specs.declared.run.Outcome.{Outcome}
+use Rattle.mc_top.specs.declared.run.Outcome.TheVariants.{Settled, Stopped}
+use Rattle.mc_top.specs.declared.run.Run.{Run}
+use Rattle.mc_top.specs.declared.stop.Stop.{Stop}
+
+-- turns were made and kept; then the batch stopped, and the one line of the stop was printed
+pub record Stopping (names : NameLists) (batch : List Turn) (old : ScriptState) (run : Run) : Type 0 where
+  pub turns : List Turn
+  pub last : WorldState
+  pub stop : Stop
+  pub stopped : IsStopped old.world batch turns last
+  pub cause : IsCause stop batch turns last
+  pub journal : run.journal.items ≡ old.journal ++ map Made turns
+  pub output : run.output.items ≡ stop_line names old.world stop
+  pub is : run.stop ≡ Some stop
+
+-- the batch was settled under this number, or it stopped
+abbrev pub CameOf : NameLists → (number : ℕ) → (batch : List Turn) → ScriptState → Outcome → Type 0
+CameOf names number batch old (Settled next) = Settling names number batch old next
+CameOf names number batch old (Stopped run) = Stopping names batch old run
