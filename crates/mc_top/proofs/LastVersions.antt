@@ -1,5 +1,5 @@
 -- A script that stopped at the last version: the version of some slot and its Hears pass it. So no text whose versions and Hears stay below stops so.
-use Rattle.std.proofs.Common.{◌≡◌, ◌+◌, ◌<◌, ◌≤◌, inl, inr, ℕ, List, [], ◌∷◌, length, map, Option, Some, None, refl, ap, sym, ◌∙◌, subst, arith}
+use Rattle.std.proofs.Common.{◌≡◌, ◌+◌, ◌<◌, ◌≤◌, inl, inr, ℕ, List, [], ◌∷◌, map, Option, Some, None, ap, sym, ◌∙◌, subst, arith}
 use Rattle.std.proofs.lemmas.List.Sums.{sum_by-cons}
 use Rattle.mc_box.specs.declared.event.Turn.{Turn}
 use Rattle.mc_box.specs.declared.limit.TheConstants.{LAST_VERSION}
@@ -11,7 +11,7 @@ use Rattle.mc_laws.proofs.StepKeeps.{run_keeps_sound}
 use Rattle.mc_laws.specs.Versions.{PassesLast}
 use Rattle.mc_model.specs.Settles.{hears_in, hears_of}
 use Rattle.mc_model.specs.Sound.{IsSound}
-use Rattle.mc_model.specs.Worlds.{WorldState, box_at, version_at}
+use Rattle.mc_model.specs.Worlds.{WorldState, version_at}
 use Rattle.mc_net.specs.Meaning.{declared_at}
 use Rattle.mc_net.specs.Nets.{DeclaresNet, batch_turns, batches_of}
 use Rattle.mc_net.specs.SoFar.{Declared}

@@ -1,7 +1,6 @@
 -- A script that is run: what its journal and its output have so far, and what follows.
-use Rattle.std.proofs.Common.{◌≡◌, ◌<◌, ◌≤◌, ◌++◌, ◌∷◌, [], ℕ, ◌+◌, not, false, Option, Some, None, List, All, IsTrue, drop, length, map, refl, ap, sym, ◌∙◌, add-one, subst, append-nil, append_assoc, arith, codes, inl, inr, slice_index_or}
+use Rattle.std.proofs.Common.{◌≡◌, ◌<◌, ◌≤◌, ◌++◌, ◌∷◌, [], ℕ, ◌+◌, not, Option, Some, None, List, All, IsTrue, drop, length, map, refl, ap, sym, ◌∙◌, add-one, subst, append-nil, append_assoc, codes, inl, inr, slice_index_or}
 use Rattle.std.specs.List.{AllByRecursion}
-use Rattle.std.specs.Option.{unwrap_or}
 use Rattle.std.proofs.Math.Seq.{drop-cons}
 use Rattle.std.proofs.lemmas.List.{drop_all, get_or-map, length-map}
 use Rattle.std.proofs.lemmas.List.Elements.{recursion_from_All}
@@ -238,8 +237,7 @@ stop_named names world batch state end stop sound all (stops, there) =
     let shape = run_keeps_shape world stops.last.world stop.turns.items sound stops.stopped.runs in
     let inside : stop.at < slot_count world = subst (λ (channels : List ChannelState). stop.at < length (places_among channels)) shape.channels (number_is stops.last.world stops.meets.turn.who one.0 stop.at one.2).0 in
     let who : (place world stop.at).0 < length world.boxes = sound.numbered.placed stop.at inside in
-    subst (λ (p : ℕ × ℕ). (p.0 < length names.boxes) × (p.1 < length (slot_names names p.0))) (sym there)
-    (
+    subst (λ (p : ℕ × ℕ). (p.0 < length names.boxes) × (p.1 < length (slot_names names p.0))) (sym there) (
       subst (λ (n : ℕ). (place world stop.at).0 < n) (sym all.boxes) who,
       subst (λ (n : ℕ). (place world stop.at).1 < n) (sym (all.slots (place world stop.at).0 who)) (sound.numbered.slots stop.at inside),
     )

@@ -89,8 +89,8 @@ pub completes : (mode : Mode) (told old new : Option (List ℕ)) (text : List �
     → told ≡ Some text → IsWorkable mode text → (due ≡ 4 → ⊥) → (status ≡ 5 → ⊥) → (status ≡ 0) ⊎ (status ≡ 3)
 completes mode told old new text status due journal dues either ends is works not_four not_five =
     let not_one : due ≡ 1 → ⊥ = λ one. elim (ends.refused one) [
-    | inl refused ↦ fault_works mode told text refused.number refused.line refused.fault is works
-    | inr stops ↦ stop_works mode told text stops.net stops.stop stops.declared is works stops.shows
+      | inl refused ↦ fault_works mode told text refused.number refused.line refused.fault is works
+      | inr stops ↦ stop_works mode told text stops.net stops.stop stops.declared is works stops.shows
     ] in
     grind (arith, not_one, not_four, not_five)
 

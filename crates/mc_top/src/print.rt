@@ -10,11 +10,7 @@ use mc_text::Names;
 use std::alloc::{AllocError, Global};
 
 /// The line that is printed for a script that stopped at the last version of a slot, by its place.
-pub fn print_stop(
-    alloc: Global,
-    names: &Names,
-    place: (u32, u8),
-) -> Result<Vec<u8>, AllocError>
+pub fn print_stop(alloc: Global, names: &Names, place: (u32, u8)) -> Result<Vec<u8>, AllocError>
     requires who { place.0 < length names.now.boxes }
     requires local { place.1 < length (slot_names names.now place.0) }
     ensures { IfOk result (λ line. line.items

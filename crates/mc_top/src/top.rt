@@ -77,7 +77,9 @@ fn deliver_run<K: Sink>(sink: &mut K, run: Run) -> Done
 {
     let due = run.due();
     let Run {
-        output, journal, ..
+        output,
+        journal,
+        ..
     } = run;
     deliver(sink, due, &output, journal)
 }

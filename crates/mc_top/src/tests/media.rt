@@ -92,7 +92,9 @@ fn send_lists_stand_apart(rt: HostRuntime) -> Result<(), Fail> {
         ),
     ];
     for (lines, printed) in table {
-        let text = format!(in alloc; "{SENDERS}{lines}chan audio alice a bob a\nbegin\n{CALL}settle\n")?;
+        let text = format!(in alloc;
+            "{SENDERS}{lines}chan audio alice a bob a\nbegin\n{CALL}settle\n"
+        )?;
         is_written(&rt, alloc, text.as_str(), 0, printed, lines)?;
         let first = text.replacen(alloc, "media 2", "media 1", 1)?;
         let apart = first.contains("send");
@@ -110,8 +112,20 @@ fn send_lists_stand_apart(rt: HostRuntime) -> Result<(), Fail> {
 fn a_hear_at_the_last_version_stops_the_script(rt: HostRuntime) -> Result<(), Fail> {
     let alloc = rt.alloc();
     let table = [
-        ("4294967295", "1", "hear alice a off\nsettle\n", 1, "version alice/a\n"),
-        ("1", "4294967295", "hear bob a on\nsettle\n", 1, "version bob/a\n"),
+        (
+            "4294967295",
+            "1",
+            "hear alice a off\nsettle\n",
+            1,
+            "version alice/a\n",
+        ),
+        (
+            "1",
+            "4294967295",
+            "hear bob a on\nsettle\n",
+            1,
+            "version bob/a\n",
+        ),
         (
             "4294967294",
             "1",
@@ -135,7 +149,9 @@ fn a_hear_at_the_last_version_stops_the_script(rt: HostRuntime) -> Result<(), Fa
         ),
     ];
     for (first, second, script, status, printed) in table {
-        let text = format!(in alloc; "media 1\ndev alice {first}\ndev bob {second}\nchan audio alice a bob a\nbegin\n{script}")?;
+        let text = format!(in alloc;
+            "media 1\ndev alice {first}\ndev bob {second}\nchan audio alice a bob a\nbegin\n{script}"
+        )?;
         is_written(&rt, alloc, text.as_str(), status, printed, script)?;
     }
     Ok(())
@@ -144,7 +160,8 @@ fn a_hear_at_the_last_version_stops_the_script(rt: HostRuntime) -> Result<(), Fa
 #[test]
 fn a_stopped_script_keeps_its_turns(rt: HostRuntime) -> Result<(), Fail> {
     let alloc = rt.alloc();
-    let text = "media 1\ndev alice 4294967295\ndev bob\nchan audio alice a bob a\nbegin\nsettle\nset alice a open\nhear alice a off\nsettle\n";
+    let text =
+        "media 1\ndev alice 4294967295\ndev bob\nchan audio alice a bob a\nbegin\nsettle\nset alice a open\nhear alice a off\nsettle\n";
     let bytes = Vec::from_slice(alloc, text.as_bytes())?;
     let mut source = MemSource::new(bytes, 64, Vec::new(alloc));
     let (done, written) = run(&rt, alloc, &mut source, ROOM, Vec::new(alloc))?;
@@ -153,7 +170,10 @@ fn a_stopped_script_keeps_its_turns(rt: HostRuntime) -> Result<(), Fail> {
         event: Event::Set(Change::End(0, Goal::Open)),
     };
     assert_eq!(rt; done.due, 1);
-    assert_eq!(rt; &done.journal[..], &[JournalLine::Settled, JournalLine::Turn(set)][..]);
+    assert_eq!(rt;
+        &done.journal[..],
+        &[JournalLine::Settled, JournalLine::Turn(set)][..]
+    );
     assert_eq!(rt; written.as_slice(), b"version alice/a\n".as_slice());
     Ok(())
 }

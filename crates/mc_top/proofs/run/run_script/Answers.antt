@@ -1,11 +1,10 @@
 use Rattle.std.proofs.Common.{◌+◌, ◌∙◌, ap, arith, map, slice_index_or, subst, sym, List, None}
 use Rattle.mc_box.specs.declared.event.Turn.{Turn}
-use Rattle.mc_model.specs.LinkFree.{IsLinkFree, LinkNone}
+use Rattle.mc_model.specs.LinkFree.{LinkNone}
 use Rattle.mc_model.specs.Shapes.{AreAllowed}
 use Rattle.mc_net.specs.Nets.{batch_turns}
 use Rattle.mc_top.specs.Outcomes.{CameOf, Stopping}
 use Rattle.mc_top.specs.Scripts.{Settling}
-use Rattle.mc_top.specs.declared.run.Outcome.{Outcome}
 use Rattle.mc_top.proofs.LastVersions.{ran_shows}
 use Rattle.mc_top.proofs.Running.{EndsAtStop, all_printed, all_settled, batch_allowed, batch_at, goes_first, goes_next, goes_to_end, ran_holds, stops_at}
 use Rattle.mc_top.proofs.run.run_script.Goals as goal
