@@ -151,8 +151,8 @@ pub fn settles_count_hears()
     ensures { SettlesCountHears }
 {}
 
-/// Where turns have stopped because the next command of a box is a Hear of a slot that has the last version, the version
-/// of a slot before them and its Hears in the batch are more than the last version together.
+/// Where turns have stopped because the next command of a box is a Hear of a slot that has the last version, the
+/// version of a slot before them and its Hears in the batch are more than the last version together.
 pub fn last_is_passed()
     ensures { LastIsPassed }
 {}

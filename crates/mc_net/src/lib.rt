@@ -10,8 +10,6 @@ mod net;
 mod places;
 mod reader;
 mod section;
-#[cfg(test)]
-mod tests;
 mod text;
 
 pub use fault::{NetFault, TextFault};

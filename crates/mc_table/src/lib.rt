@@ -3,8 +3,6 @@
 
 mod line;
 mod settle;
-#[cfg(test)]
-mod tests;
 mod words;
 
 pub use line::put_line;

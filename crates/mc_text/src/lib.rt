@@ -8,8 +8,6 @@ mod name_fault;
 mod name_list;
 mod names;
 mod spelling;
-#[cfg(test)]
-mod tests;
 mod words;
 
 pub use draws::Draws;

@@ -5,8 +5,6 @@ mod print;
 mod run;
 pub mod status;
 mod stop;
-#[cfg(test)]
-mod tests;
 mod top;
 mod words;
 

@@ -11,11 +11,9 @@ ghost use Rattle.mc_top.specs.Journals.{HoldsAtSettles, IsJournalTo, ShowsCause,
 ghost use Rattle.mc_top.specs.Outcomes.{CameOf};
 ghost use Rattle.mc_top.specs.Printed.{run_text};
 ghost use Rattle.mc_top.specs.Scripts.{first_state};
-ghost use Rattle.mc_top.specs.Statuses.{due_by};
 ghost use Rattle.mc_top.specs.declared.stop.Stop.TheVariants.{VersionEnd};
 
 use crate::print::print_stop;
-use crate::status::WORKED;
 use crate::stop::Stop;
 use mc_box::Turn;
 use mc_path::paths;
@@ -33,18 +31,6 @@ pub struct Run {
     pub output: Vec<u8>,
     pub journal: Vec<JournalLine>,
     pub stop: Option<Stop>,
-}
-
-impl Run {
-    /// The status that is due for it.
-    pub fn due(&self) -> u8
-        ensures { result ≡ due_by self.now.stop }
-    {
-        match self.stop {
-            None => WORKED,
-            Some(stop) => stop.status(),
-        }
-    }
 }
 
 // A script while it runs: its world, where its draws are, and what was kept and printed so far.
@@ -175,8 +161,8 @@ fn log(turns: &[Turn], journal: &mut Vec<JournalLine>) -> Result<(), AllocError>
 /// Runs a script: settles its batches one after the other by draws from 0, and prints the paths after each. It ends
 /// before that where a batch stops, and then the line of the stop is all that it prints.
 ///
-/// All that the world has is named, no slot is linked, the world allows each command, none of which links slots, and there
-/// are no more batches than a text may have commands.
+/// All that the world has is named, no slot is linked, the world allows each command, none of which links slots, and
+/// there are no more batches than a text may have commands.
 pub fn run_script(
     alloc: Global,
     names: &Names,

@@ -1,9 +1,9 @@
 //! Where a script stops before its end.
 
 ghost use Rattle.std.specs.Prelude.{◌≡◌};
-ghost use Rattle.mc_top.specs.Statuses.{stop_status};
+ghost use Rattle.mc_top.specs.Statuses.{due_by};
 
-use crate::status::VERSION_END;
+use crate::status::{VERSION_END, WORKED};
 
 /// Why a script stopped before its end.
 #[derive(Clone, Copy, Debug, PartialEq, Eq)]
@@ -12,13 +12,12 @@ pub enum Stop {
     VersionEnd(u32),
 }
 
-impl Stop {
-    /// The status with which a call ends that stopped so.
-    pub fn status(self) -> u8
-        ensures { result ≡ stop_status self }
-    {
-        match self {
-            Stop::VersionEnd(_) => VERSION_END,
-        }
+/// The status that is due for a script that stopped so, or came to its end.
+pub fn due_by(stop: Option<Stop>) -> u8
+    ensures { result ≡ due_by stop }
+{
+    match stop {
+        None => WORKED,
+        Some(Stop::VersionEnd(_)) => VERSION_END,
     }
 }

@@ -5,8 +5,8 @@ mod limits;
 mod media;
 mod refusals;
 
-use crate::{Done, media_top};
 use mc_io::{MemSink, MemSource, OpenGate};
+use mc_top::{Done, media_top};
 use std::alloc::{AllocError, Global};
 use std::test::Fail;
 use std::thread::Threads;

@@ -1,5 +1,5 @@
-use super::*;
 use mc_box::{Change, Event, Kind, MediaBox, Shape, Turn};
+use mc_net::{Net, NetFault, Tail, read_net};
 use mc_script::Batch;
 use mc_signal::{CodecList, Descriptor, Medium, Sender};
 use mc_slot::{Goal, Slot, SlotGoal, State};

@@ -1,4 +1,4 @@
-use super::*;
+use mc_text::{Draws, NameFault, Names};
 
 #[test]
 fn draws_are_the_published_ones(rt: HostRuntime) {
