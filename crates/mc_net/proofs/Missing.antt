@@ -4,6 +4,10 @@ use Rattle.std.specs.List.{slice_get}
 use Rattle.mc_text.specs.NameLists.{NameLists}
 use Rattle.mc_script.specs.Places.{box_named, lacks}
 
+pub no_fifth_without_first : (words : List (List ℕ)) → slice_get words 0 ≡ None → slice_get words 4 ≡ None
+no_fifth_without_first [] missing = refl
+no_fifth_without_first (a ∷ others) missing = absurd cc
+
 pub no_fifth_without_second : (words : List (List ℕ)) → slice_get words 1 ≡ None → slice_get words 4 ≡ None
 no_fifth_without_second [] missing = refl
 no_fifth_without_second (a ∷ []) missing = refl

@@ -1,14 +1,15 @@
 -- What the lines of boxes and channels say, as clauses see it.
-use Rattle.std.specs.Prelude.{ℕ, ◌≡◌, ◌<◌, ◌==◌, ◌||◌, Bool, if◌then◌else◌, List, Result, Ok, Err, IsTrue, length, nat_le}
+use Rattle.std.specs.Prelude.{ℕ, ◌≡◌, ◌<◌, ◌==◌, ◌||◌, ◌×◌, Bool, if◌then◌else◌, List, [], ◌∷◌, Some, Result, Ok, Err, IsTrue, length, nat_le}
 use Rattle.mc_signal.specs.Choice.{codecs_of}
-use Rattle.mc_text.specs.NameLists.{NameLists, slot_names}
-use Rattle.mc_text.specs.Spelling.{is_name}
+use Rattle.std.specs.Option.{is_some}
+use Rattle.mc_text.specs.NameLists.{NameLists, place_of, slot_names}
+use Rattle.mc_text.specs.Spelling.{is_name, is_spelt}
 use Rattle.mc_text.specs.declared.limit.TheConstants.{SLOT_LIMIT}
 use Rattle.mc_model.specs.Worlds.{ChannelState}
 use Rattle.mc_plan.specs.declared.plan.BoxPlan.{BoxPlan}
-use Rattle.mc_script.specs.Places.{unless}
+use Rattle.mc_script.specs.Places.{is_overlong, unless}
 use Rattle.mc_script.specs.declared.command.LineFault.{LineFault}
-use Rattle.mc_script.specs.declared.rule.TheConstants.{LIMIT_PASSED, SAME_BOX}
+use Rattle.mc_script.specs.declared.rule.TheConstants.{GIVEN_TWICE, LIMIT_PASSED, NAME_TOO_LONG, SAME_BOX}
 use Rattle.mc_net.specs.Meaning.{with_joined, with_new_box, with_send_line}
 use Rattle.mc_net.specs.SoFar.{Declared, DeclaredBox}
 use Rattle.mc_plan.specs.declared.limit.TheConstants.{CHANNEL_LIMIT}
@@ -40,6 +41,22 @@ is_full names who = nat_le SLOT_LIMIT (length (slot_names names who))
 abbrev pub check_join : NameLists → List ChannelState → (from to : ℕ) → Result (Unit {0}) LineFault
 check_join names channels from to = if from == to then Err (record { number = SAME_BOX })
     else unless (is_full names from || is_full names to || nat_le CHANNEL_LIMIT (length channels)) LIMIT_PASSED tt
+
+-- what is left to ask of a `chan` line whose words are known where they must be
+abbrev pub joining_rules : Declared → ChannelLine → List (ℕ × Bool)
+joining_rules d line =
+    (GIVEN_TWICE, is_some (place_of (slot_names d.names line.from) line.slot.now) || is_some (place_of (slot_names d.names line.to) line.far_slot.now))
+    ∷ (SAME_BOX, line.from == line.to)
+    ∷ (LIMIT_PASSED, is_full d.names line.from || is_full d.names line.to || nat_le CHANNEL_LIMIT (length d.channels))
+    ∷ (NAME_TOO_LONG, is_overlong (Some line.slot.now) || is_overlong (Some line.far_slot.now))
+    ∷ []
+
+-- both boxes of a `chan` line are declared, and both slots are spelt as names are
+pub record KnowsEnds (d : Declared) (line : ChannelLine) : Type 0 where
+  pub near : line.from < length d.names.boxes
+  pub far : line.to < length d.names.boxes
+  pub slot : IsTrue (is_spelt line.slot.now)
+  pub far_slot : IsTrue (is_spelt line.far_slot.now)
 
 -- both boxes are declared, they may be joined, and both slots are named
 pub record CanJoin (d : Declared) (line : ChannelLine) : Type 0 where

@@ -10,15 +10,16 @@ use Rattle.mc_script.specs.Rules.{least_broken}
 use Rattle.mc_script.specs.declared.rule.TheConstants.{GIVEN_TWICE, LIMIT_PASSED, NAME_TOO_LONG}
 use Rattle.mc_script.specs.declared.command.LineFault.{LineFault}
 use Rattle.mc_script.specs.declared.keyword.CommandWord.{CommandWord}
-use Rattle.mc_net.specs.BoxLines.{device_seen, send_seen}
+use Rattle.mc_net.specs.BoxLines.{channel_seen, device_seen, joining_rules, send_seen}
 use Rattle.mc_net.specs.Meaning.{after_by, command_after, send_after, with_new_box, with_new_codec, words_after}
 use Rattle.mc_net.specs.Rules.{command_line_rules, entry_fault, line_fault, rules_by, send_rules, words_rules}
 use Rattle.mc_net.specs.SoFar.{Declared, DeclaredBox}
 use Rattle.mc_net.specs.Texts.{after_entry, after_line, after_words}
 use Rattle.mc_net.specs.declared.reader.boxes.DeviceLine.{DeviceLine}
+use Rattle.mc_net.specs.declared.reader.channels.ChannelLine.{ChannelLine}
 use Rattle.mc_net.specs.declared.reader.sends.SendLine.{SendLine}
 use Rattle.mc_net.specs.declared.section.Keyword.{Keyword}
-use Rattle.mc_net.specs.declared.section.Keyword.TheVariants.{Dev}
+use Rattle.mc_net.specs.declared.section.Keyword.TheVariants.{Chan, Dev}
 
 -- a line is refused by its fault, and else these rules are left to ask of what it spells, seen by a view
 abbrev pub LeavesRules : {X Y : Type 0} → (X → Y) → (X → List (ℕ × Bool)) → Result X LineFault → Option ℕ → Option Y → Type 0
@@ -56,6 +57,10 @@ SpellsDevice d words result = SpellsKind (device_seen d) (device_name_rules d) d
 -- the line of a send list does, behind `send`, where send lists stand apart
 abbrev pub SpellsSends : Declared → List (List ℕ) → Result SendLine LineFault → Type 0
 SpellsSends d words result = LeavesRules (send_seen d) (λ line. []) result (least_broken (send_rules d words)) (send_after d words)
+
+-- the line of a channel does, behind `chan`
+abbrev pub SpellsChannel : Declared → List (List ℕ) → Result ChannelLine LineFault → Type 0
+SpellsChannel d words result = SpellsKind (channel_seen d) (joining_rules d) d Chan words result
 
 -- a line of this kind is read
 abbrev pub ReadsKind : Declared → Keyword → List (List ℕ) → Result (Unit {0}) ReadFault → Declared → Type 0

@@ -4,10 +4,10 @@ ghost use Rattle.std.specs.Prelude.{◌≡◌, ◌<◌, [], IfOk, IsTrue, OnOk, 
 ghost use Rattle.std.specs.Option.{is_some};
 ghost use Rattle.mc_text.specs.NameLists.{place_of, slot_names};
 ghost use Rattle.mc_text.specs.Spelling.{is_name};
-ghost use Rattle.mc_net.specs.BoxLines.{CanJoin, channel_seen, check_join};
+ghost use Rattle.mc_net.specs.BoxLines.{CanJoin, KnowsEnds, channel_seen, check_join};
 ghost use Rattle.mc_net.specs.Forms.{IsInForm};
 ghost use Rattle.mc_net.specs.Meaning.{with_new_channel, with_medium, with_new_slot};
-ghost use Rattle.mc_net.specs.LineReadings.{ReadsKind, SpellsKind};
+ghost use Rattle.mc_net.specs.LineReadings.{ReadsKind, SpellsChannel, SpellsKind};
 
 use crate::places::fixed_medium;
 use crate::reader::Reader;
@@ -35,12 +35,11 @@ pub struct ChannelLine<'a> {
 }
 
 impl Reader {
-    // What a `chan` line declares.
-    #[tactic(auto, using(crate::proofs::Missing::no_word_without_box, crate::proofs::Missing::no_fifth_without_second, crate::proofs::Missing::no_fifth_without_third, crate::proofs::Missing::no_fifth_without_fourth))]
-    fn channel_line<'a>(&self, words: Words<'a>) -> Result<ChannelLine<'a>, LineFault>
-        requires { IsInForm self.now }
-        ensures read { SpellsKind (channel_seen self.now) (λ line. []) self.now Keyword.Chan words.entry result }
-        ensures can_join { IfOk result (CanJoin self.now) }
+    // What a `chan` line spells, in words that are known where they must be.
+    #[tactic(auto, using(crate::proofs::Missing::no_word_without_box, crate::proofs::Missing::no_fifth_without_first, crate::proofs::Missing::no_fifth_without_second, crate::proofs::Missing::no_fifth_without_third, crate::proofs::Missing::no_fifth_without_fourth))]
+    fn channel_words<'a>(&self, words: Words<'a>) -> Result<ChannelLine<'a>, LineFault>
+        ensures read { SpellsChannel self.now words.entry result }
+        ensures known { IfOk result (KnowsEnds self.now) }
     {
         let parts = FirstWords::new(words);
         let from = known_box(&self.names, parts.second)?;
@@ -52,29 +51,19 @@ impl Reader {
         {
             return Err(LineFault { number: WRONG_WORD });
         }
-        let missing = LineFault {
-            number: MISSING_WORD,
+        let Some(far_slot) = parts.fifth else {
+            return Err(LineFault {
+                number: MISSING_WORD,
+            });
         };
-        let medium = medium.ok_or(missing)?;
-        let from = from.ok_or(missing)?;
-        let slot = parts.third.ok_or(missing)?;
-        let to = to.ok_or(missing)?;
-        let far_slot = parts.fifth.ok_or(missing)?;
         if parts.sixth.is_some() {
             return Err(LineFault { number: EXTRA_WORD });
         }
-        if self.has_slot(from, slot) || self.has_slot(to, far_slot) {
-            return Err(LineFault {
-                number: GIVEN_TWICE,
-            });
-        }
-        // asked before the length of the names, which comes behind it
-        self.check_join(from, to, medium)?;
-        if is_overlong(parts.third) || is_overlong(parts.fifth) {
-            return Err(LineFault {
-                number: NAME_TOO_LONG,
-            });
-        }
+        // where the fifth word is there, so are those before it
+        let (Some(medium), Some(from), Some(slot), Some(to)) = (medium, from, parts.third, to)
+        else {
+            unreachable!()
+        };
         Ok(ChannelLine {
             medium,
             from,
@@ -82,6 +71,28 @@ impl Reader {
             to,
             far_slot,
         })
+    }
+
+    // What a `chan` line declares.
+    fn channel_line<'a>(&self, words: Words<'a>) -> Result<ChannelLine<'a>, LineFault>
+        requires { IsInForm self.now }
+        ensures read { SpellsKind (channel_seen self.now) (λ line. []) self.now Keyword.Chan words.entry result }
+        ensures can_join { IfOk result (CanJoin self.now) }
+    {
+        let line = self.channel_words(words)?;
+        if self.has_slot(line.from, line.slot) || self.has_slot(line.to, line.far_slot) {
+            return Err(LineFault {
+                number: GIVEN_TWICE,
+            });
+        }
+        // asked before the length of the names, which comes behind it
+        self.check_join(line.from, line.to, line.medium)?;
+        if is_overlong(Some(line.slot)) || is_overlong(Some(line.far_slot)) {
+            return Err(LineFault {
+                number: NAME_TOO_LONG,
+            });
+        }
+        Ok(line)
     }
 
     // Whether a box has a slot of this name.
