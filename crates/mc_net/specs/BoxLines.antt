@@ -1,5 +1,5 @@
 -- What the lines of boxes and channels say, as clauses see it.
-use Rattle.std.specs.Prelude.{ℕ, ◌≡◌, ◌<◌, ◌==◌, ◌||◌, ◌×◌, Bool, if◌then◌else◌, List, [], ◌∷◌, Some, Result, Ok, Err, IsTrue, length, nat_le}
+use Rattle.std.specs.Prelude.{ℕ, ◌≡◌, ◌<◌, ◌==◌, ◌||◌, Bool, if◌then◌else◌, List, [], ◌∷◌, Some, Result, Ok, Err, IsTrue, length, nat_le}
 use Rattle.mc_signal.specs.Choice.{codecs_of}
 use Rattle.std.specs.Option.{is_some}
 use Rattle.mc_text.specs.NameLists.{NameLists, place_of, slot_names}

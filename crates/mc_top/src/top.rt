@@ -15,8 +15,8 @@ ghost use Rattle.mc_top.specs.declared.words.Mode.{Mode};
 
 use crate::print::print_fault;
 use crate::run::{Run, run_script};
-use crate::stop::due_by;
 use crate::status::{FAULTY_TEXT, NO_MEMORY, READ_FAULT, USAGE, VERSION_END, WORKED, WRITE_FAULT};
+use crate::stop::due_by;
 use crate::words::{Mode, read_mode};
 use mc_io::{Gate, ReadFault, Sink, Source, read_up_to, write_whole};
 use mc_net::{Net, NetFault, TEXT_LIMIT, Tail, TextFault, read_net};
@@ -70,8 +70,7 @@ fn deliver<K: Sink>(sink: &mut K, due: u8, output: &[u8], journal: Vec<JournalLi
 
 // Writes what a script printed.
 fn deliver_run<K: Sink>(sink: &mut K, run: Run) -> Done
-    ensures delivers
-        { Delivers result.status (due_by run.stop) (K.written sink.old) (K.written sink.new) run.output.items }
+    ensures delivers { Delivers result.status (due_by run.stop) (K.written sink.old) (K.written sink.new) run.output.items }
     ensures due { result.due ≡ due_by run.stop }
     ensures status { (result.status ≡ due_by run.stop) ⊎ (result.status ≡ WRITE_FAULT) }
     ensures journal { result.journal ≡ run.journal }
