@@ -58,6 +58,15 @@ all_behind : (rules others : List (ℕ × Bool)) → least_broken (rules ++ othe
 all_behind [] others kept = kept
 all_behind (rule ∷ rules) others kept = all_behind rules others (others_kept rule.0 rule.1 (rules ++ others) kept)
 
+-- nor is any of the first
+pub all_before : (rules others : List (ℕ × Bool)) → least_broken (rules ++ others) ≡ None → least_broken rules ≡ None
+all_before [] others kept = refl
+all_before (rule ∷ rules) others kept = by rule.1 refl (all_before rules others (others_kept rule.0 rule.1 (rules ++ others) kept))
+  where
+    by : (b : Bool) → rule.1 ≡ b → least_broken rules ≡ None → least_broken (rule ∷ rules) ≡ None
+    by true e more = absurd (let clash : Some rule.0 ≡ None = rw e at kept in cc)
+    by false e more = rw e more
+
 -- where a command's line breaks no rule, there is room for the command
 pub has_room : (d : Declared) (kind : CommandWord) (words : List (List ℕ)) → least_broken (command_line_rules d kind words) ≡ None → nat_le COMMAND_LIMIT (length d.commands) ≡ false
 has_room d kind words kept =

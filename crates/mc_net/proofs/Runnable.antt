@@ -1,96 +1,150 @@
--- Until the first line that can't be run yet each box is a device and receives declared codecs, no program is declared, and each command changes a slot or settles. There are no more commands than may be.
-use Rattle.std.proofs.Common.{◌≡◌, ℕ, zero, suc, ◌<◌, ◌≤◌, Bool, true, false, ◌&&◌, not, nat_le, nat_lt, if◌then◌else◌, List, [], ◌∷◌, ◌++◌, length, drop, slice_index_or, Option, Some, None, refl, sym, subst, arith, length-append, map}
+-- Until the first line that can't be run yet each box receives declared codecs, the shapes are those of the boxes and channels, and no program is declared. Commands come last, and each is that of a line that breaks no rule. There are no more of them than may be.
+use Rattle.std.proofs.Common.{◌≡◌, ◌⊎◌, inl, inr, ℕ, zero, suc, ◌<◌, ◌≤◌, Bool, true, false, ◌&&◌, ◌||◌, not, nat_le, nat_lt, if◌then◌else◌, List, [], ◌∷◌, ◌++◌, length, drop, slice_index_or, Option, Some, None, refl, sym, ◌∙◌, subst, arith, length-append, map}
+use Rattle.std.proofs.lemmas.Bool.{or_parts}
+use Rattle.std.proofs.lemmas.List.{length-set}
 use Rattle.std.proofs.lemmas.List.Elements.{All-nil, All-push, All-weaker}
 use Rattle.std.specs.List.{All, list_any, slice_get}
 use Rattle.std.specs.Option.{is_some, unwrap_or}
 use Rattle.mc_signal.specs.declared.Medium.{Medium}
 use Rattle.mc_text.specs.Lines.{lines, words}
-use Rattle.mc_text.specs.NameLists.{NameLists, with_box_name, with_codec_name, with_slot_name}
-use Rattle.mc_box.specs.declared.event.Kind.TheVariants.{Device}
+use Rattle.mc_text.specs.NameLists.{NameLists, with_codec_name}
+use Rattle.mc_box.specs.BoxShapes.{BoxShapeState}
+use Rattle.mc_model.specs.Worlds.{ChannelState}
 use Rattle.mc_program.specs.Programs.{BlockState}
 use Rattle.mc_script.specs.Meaning.{command_by}
-use Rattle.mc_script.specs.Places.{box_named, spelt_value}
-use Rattle.mc_script.specs.Rules.{byte_rules, is_plain, least_broken}
+use Rattle.mc_script.specs.Places.{box_named, is_misspelt, is_no, spelt_value}
+use Rattle.mc_script.specs.Rules.{byte_rules, is_no_device, is_plain, kind_rules, least_broken}
 use Rattle.mc_script.specs.declared.command.Command.{Command}
-use Rattle.mc_script.specs.declared.command.Command.TheVariants.{Settle}
 use Rattle.mc_script.specs.declared.keyword.CommandWord.{CommandWord}
 use Rattle.mc_script.specs.declared.keyword.CommandWord.TheVariants as command
-use Rattle.mc_net.specs.Meaning.{after_by, begin_after, channel_after, codec_after, command_after, device_after, device_in, with_joined, line_after, unless_skipped, with_new_box, with_new_codec, words_after, codec_number, send_after, with_send_line}
-use Rattle.mc_net.specs.Rules.{codec_words, command_line_rules, device_rules, is_skipped, kind_of, line_fault, line_words_rules, lists_undeclared, spelt_medium, open_block, passes_limit, rules_by, words_rules, is_second}
+use Rattle.mc_script.specs.declared.rule.TheConstants.{LIMIT_PASSED, UNDECLARED, UNFINISHED, WRONG_WORD}
+use Rattle.mc_net.specs.Meaning.{after_by, begin_after, channel_after, codec_after, codec_number, command_after, device_after, device_in, feature_after, declared_at, line_after, link_after, new_feature, send_after, unless_skipped, with_joined, with_new_box, with_new_codec, with_new_feature, with_send_line, words_after}
+use Rattle.mc_net.specs.Rules.{channel_rules, codec_rules, codec_words, command_line_rules, device_rules, feature_rules, is_late, is_second, is_skipped, is_unfinished, kind_of, line_fault, line_words_rules, link_line_rules, lists_undeclared, open_block, passes_limit, rank, rules_by, send_line_rules, send_rules, spelt_medium, words_rules}
 use Rattle.mc_net.specs.SoFar.{Declared, DeclaredBox, nothing}
 use Rattle.mc_net.specs.Texts.{AreSound, Says, bytes_before, declared_by, first_unbuilt, is_unbuilt, unbuilt_by, with_unbuilt}
 use Rattle.mc_net.specs.declared.limit.TheConstants.{COMMAND_LIMIT}
 use Rattle.mc_net.specs.declared.section.Keyword.{Keyword}
 use Rattle.mc_net.specs.declared.section.Keyword.TheVariants as keyword
+use Rattle.mc_net.specs.declared.section.Section.{Section}
 use Rattle.mc_net.specs.declared.section.Section.TheVariants as section
-use Rattle.mc_net.proofs.FirstBroken.{has_room, kept_at, others_kept}
-use Rattle.mc_net.proofs.Named.{ChangesOrSettles, HasCodecs, hear_is_named, kept_with_box, kept_with_slot, mapped, numbers_known, set_is_named, still_change, talk_is_named}
+use Rattle.mc_net.proofs.Enabled.{IsOfLine}
+use Rattle.mc_net.proofs.FirstBroken.{all_before, has_room, kept_at, others_kept}
+use Rattle.mc_net.proofs.Named.{HasCodecs, mapped, named_within, numbers_known}
 use Rattle.mc_net.proofs.Sends.{still_all}
+use Rattle.mc_net.proofs.Shaped.{AreShapes, box_shaped, channel_shaped, none_shaped, send_shaped}
 use Rattle.mc_net.proofs.Unfinished.{none_open}
 
 -- ---- what is kept
 
--- the line of the box is that of a device
-abbrev pub IsDevice : DeclaredBox → Type 0
-IsDevice declared = declared.kind ≡ Device
-
--- each box is a device with declared codecs, no program is declared, each command changes a slot with a name, or settles, and there are no more commands than may be
-pub record RunsAll (names : NameLists) (boxes : List DeclaredBox) (blocks : List BlockState) (commands : List Command) : Type 0 where
+-- no program is declared, each box has declared codecs, the shapes are those of boxes and channels, and commands come last, each that of a line with these names and shapes, and no more of them than may be
+pub record RunsAll (place : Section) (names : NameLists) (shape : List BoxShapeState) (boxes : List DeclaredBox) (channels : List ChannelState) (blocks : List BlockState) (commands : List Command) : Type 0 where
   pub plain : blocks ≡ []
-  pub devices : All IsDevice boxes
   pub known : All (HasCodecs names) boxes
-  pub change : All (ChangesOrSettles names) commands
+  pub counted : length boxes ≡ length names.boxes
+  pub shaped : AreShapes shape boxes channels
+  pub last : (commands ≡ []) ⊎ (place ≡ section.Commands)
+  pub of_lines : All (IsOfLine names shape) commands
   pub few : length commands ≤ COMMAND_LIMIT
 
 abbrev pub IsRunnable : Declared → Type 0
-IsRunnable d = RunsAll d.names d.boxes d.blocks d.commands
+IsRunnable d = RunsAll d.section d.names d.shape d.boxes d.channels d.blocks d.commands
 
 nothing_runs : IsRunnable nothing
 nothing_runs = record {
   plain = refl;
-  devices = All-nil IsDevice;
   known = All-nil (HasCodecs nothing.names);
-  change = All-nil (ChangesOrSettles nothing.names);
+  counted = refl;
+  shaped = none_shaped;
+  last = inl refl;
+  of_lines = All-nil (IsOfLine nothing.names nothing.shape);
   few = omega arith;
 }
 
--- ---- each kind of line
+-- ---- lines before the commands
 
-codec_runs : (d after : Declared) (words : List (List ℕ)) → IsRunnable d → codec_after d words ≡ Some after → IsRunnable after
-codec_runs d after words runs means =
+-- a line that isn't too late comes before all commands
+none_yet : (d : Declared) (place : Section) → IsRunnable d → nat_lt (rank place) 6 ≡ true → is_late d place ≡ false → d.commands ≡ []
+none_yet d place runs before kept = by runs.last
+  where
+    by : (d.commands ≡ []) ⊎ (d.section ≡ section.Commands) → d.commands ≡ []
+    by (inl none) = none
+    by (inr here) = absurd (let late : nat_lt (rank place) 6 ≡ false = rw here at kept in let clash : true ≡ false = sym before ∙ late in cc)
+
+-- none is of any names and shapes
+of_none : (names : NameLists) (shape : List BoxShapeState) (commands : List Command) → commands ≡ [] → All (IsOfLine names shape) commands
+of_none names shape commands none = subst (λ (l : List Command). All (IsOfLine names shape) l) (sym none) (All-nil (IsOfLine names shape))
+
+codec_runs : (d after : Declared) (words : List (List ℕ)) → IsRunnable d → least_broken (codec_rules d words) ≡ None → codec_after d words ≡ Some after → IsRunnable after
+codec_runs d after words runs kept means =
     let m = mapped (with_new_codec d) (slice_get words 0) after means in
+    let late = is_late d section.Codecs in
+    let misspelt = is_misspelt (slice_get words 0) in
+    let none = none_yet d section.Codecs runs refl (or_parts late misspelt (kept_at (codec_rules d words) 0 (WRONG_WORD, late || misspelt) kept refl)).0 in
     subst (λ (x : Declared). IsRunnable x) (sym m.2) (record {
       plain = runs.plain;
-      devices = runs.devices;
       known = All-weaker (HasCodecs d.names) (HasCodecs (with_codec_name d.names m.0)) (λ declared has. All-weaker (λ codec. codec < length d.names.codecs) (λ codec. codec < length (d.names.codecs ++ m.0 ∷ [])) (λ codec below. one_more m.0 codec below) declared.receives has) d.boxes runs.known;
-      change = still_change d.names (with_codec_name d.names m.0) (λ who local is. is) d.commands runs.change;
+      counted = runs.counted;
+      shaped = runs.shaped;
+      last = inl none;
+      of_lines = of_none (with_codec_name d.names m.0) d.shape d.commands none;
       few = runs.few;
     })
   where
     one_more : (name : List ℕ) (codec : ℕ) → codec < length d.names.codecs → codec < length (d.names.codecs ++ name ∷ [])
     one_more name codec below = omega (arith, length-append d.names.codecs (name ∷ []))
 
+-- a box more
+box_runs : (d : Declared) (name : List ℕ) (declared : DeclaredBox) → IsRunnable d → d.commands ≡ [] → HasCodecs d.names declared → IsRunnable (with_new_box d name declared)
+box_runs d name declared runs none has =
+    let boxed = with_new_box d name declared in
+    record {
+      plain = runs.plain;
+      known = All-push (HasCodecs d.names) d.boxes declared runs.known has;
+      counted = let same = runs.counted in omega (arith, length-append d.boxes (declared ∷ []), length-append d.names.boxes (name ∷ []));
+      shaped = box_shaped d.shape d.boxes d.channels declared runs.shaped;
+      last = inl none;
+      of_lines = of_none boxed.names boxed.shape d.commands none;
+      few = runs.few;
+    }
+
 device_runs : (d after : Declared) (words : List (List ℕ)) → IsRunnable d → least_broken (device_rules d words) ≡ None → device_after d words ≡ Some after → IsRunnable after
 device_runs d after words runs kept means =
     let m = mapped (λ name. with_new_box d name (device_in d.names (drop 1 words))) (slice_get words 0) after means in
-    let declared : lists_undeclared d.names (codec_words (drop 1 words)) ≡ false = kept_at (device_rules d words) 0 (4, lists_undeclared d.names (codec_words (drop 1 words))) kept refl in
-    subst (λ (x : Declared). IsRunnable x) (sym m.2) (record {
-      plain = runs.plain;
-      devices = All-push IsDevice d.boxes (device_in d.names (drop 1 words)) runs.devices refl;
-      known = All-push (HasCodecs d.names) d.boxes (device_in d.names (drop 1 words)) runs.known (numbers_known d.names (codec_words (drop 1 words)) declared);
-      change = still_change d.names (with_box_name d.names m.0) (kept_with_box d.names m.0) d.commands runs.change;
-      few = runs.few;
-    })
+    let undeclared = lists_undeclared d.names (codec_words (drop 1 words)) in
+    let late = is_late d section.Boxes in
+    let misspelt = is_misspelt (slice_get words 0) in
+    let none = none_yet d section.Boxes runs refl (or_parts late misspelt (kept_at (device_rules d words) 1 (WRONG_WORD, late || misspelt) kept refl)).0 in
+    subst (λ (x : Declared). IsRunnable x) (sym m.2)
+    (box_runs d m.0 (device_in d.names (drop 1 words)) runs none (numbers_known d.names (codec_words (drop 1 words)) (kept_at (device_rules d words) 0 (UNDECLARED, undeclared) kept refl)))
 
-send_runs : (d after : Declared) (words : List (List ℕ)) → IsRunnable d → send_after d words ≡ Some after → IsRunnable after
-send_runs d after words runs means =
+feature_runs : (d after : Declared) (words : List (List ℕ)) → IsRunnable d → least_broken (feature_rules d words) ≡ None → feature_after d words ≡ Some after → IsRunnable after
+feature_runs d after words runs kept means =
+    let m = mapped (with_new_feature d) (slice_get words 0) after means in
+    let late = is_late d section.Boxes in
+    let misspelt = is_misspelt (slice_get words 0) in
+    let none = none_yet d section.Boxes runs refl (or_parts late misspelt (kept_at (feature_rules d words) 0 (WRONG_WORD, late || misspelt) kept refl)).0 in
+    subst (λ (x : Declared). IsRunnable x) (sym m.2) (box_runs d m.0 new_feature runs none (All-nil (λ codec. codec < length d.names.codecs)))
+
+-- a `send` line isn't late
+send_in_time : (d : Declared) (apart : Bool) (words : List (List ℕ)) → least_broken (send_line_rules d apart words) ≡ None → is_late d section.Boxes ≡ false
+send_in_time d false words kept = absurd (let clash : Some WRONG_WORD ≡ None = kept in cc)
+send_in_time d true words kept =
+    let late = is_late d section.Boxes in
+    let no_device = is_no_device d.shape (box_named d.names (slice_get words 0)) in
+    (or_parts late no_device (kept_at (send_rules d words) 1 (WRONG_WORD, late || no_device) kept refl)).0
+
+send_runs : (d after : Declared) (words : List (List ℕ)) → IsRunnable d → least_broken (send_line_rules d d.sends_apart words) ≡ None → send_after d words ≡ Some after → IsRunnable after
+send_runs d after words runs kept means =
     let sends : List ℕ = map (codec_number d.names) (drop 1 words) in
     let m = mapped (λ who. with_send_line d who (map (codec_number d.names) (drop 1 words))) (box_named d.names (slice_get words 0)) after means in
+    let none = none_yet d section.Boxes runs refl (send_in_time d d.sends_apart words kept) in
     subst (λ (x : Declared). IsRunnable x) (sym m.2) (record {
       plain = runs.plain;
-      devices = still_all IsDevice (λ declared sends is. is) d.boxes m.0 sends runs.devices;
       known = still_all (HasCodecs d.names) (λ declared sends has. has) d.boxes m.0 sends runs.known;
-      change = runs.change;
+      counted = length-set d.boxes m.0 (record (declared_at d.boxes m.0) { sends = sends }) ∙ runs.counted;
+      shaped = send_shaped d.shape d.boxes d.channels m.0 sends runs.shaped;
+      last = inl none;
+      of_lines = runs.of_lines;
       few = runs.few;
     })
 
@@ -119,18 +173,42 @@ channel_joins d after words means = by (spelt_value spelt_medium (slice_get word
         let some : Some (with_joined d medium from slot to far_slot) ≡ Some after = rw (a, b, c, e, f) at means in
         record { medium = medium; from = from; slot = slot; to = to; far_slot = far_slot; near = b; far = e; is = cc }
 
-channel_runs : (d after : Declared) (words : List (List ℕ)) → IsRunnable d → channel_after d words ≡ Some after → IsRunnable after
-channel_runs d after words runs means =
-    let j = channel_joins d after words means in
-    let one : NameLists = with_slot_name d.names j.from j.slot in
-    subst (λ (x : Declared). IsRunnable x) (sym j.is) (record {
+-- a channel more, and a slot of each of its boxes
+joined_runs : (d : Declared) (medium : Medium) (from : ℕ) (slot : List ℕ) (to : ℕ) (far_slot : List ℕ) → IsRunnable d → d.commands ≡ [] → from < length d.names.boxes → to < length d.names.boxes → IsRunnable (with_joined d medium from slot to far_slot)
+joined_runs d medium from slot to far_slot runs none near far =
+    let joined = with_joined d medium from slot to far_slot in
+    let named = runs.counted in
+    let shaped = runs.shaped.count in
+    record {
       plain = runs.plain;
-      devices = runs.devices;
       known = runs.known;
-      change = still_change one (with_slot_name one j.to j.far_slot) (kept_with_slot one j.to j.far_slot) d.commands
-          (still_change d.names one (kept_with_slot d.names j.from j.slot) d.commands runs.change);
+      counted = runs.counted;
+      shaped = channel_shaped d.shape d.boxes d.channels from to medium (omega arith) (omega arith) runs.shaped;
+      last = inl none;
+      of_lines = of_none joined.names joined.shape d.commands none;
       few = runs.few;
-    })
+    }
+
+first_of_four : (a b c e : Bool) → (a || b || c || e) ≡ false → a ≡ false
+first_of_four a b c e none = grind arith
+
+-- a `chan` line isn't late
+channel_in_time : (d : Declared) (words : List (List ℕ)) → least_broken (channel_rules d words) ≡ None → is_late d section.Channels ≡ false
+channel_in_time d words kept =
+    let late = is_late d section.Channels in
+    let unknown = is_no spelt_medium (slice_get words 0) in
+    let near = is_some (box_named d.names (slice_get words 1)) && is_misspelt (slice_get words 2) in
+    let far = is_some (box_named d.names (slice_get words 3)) && is_misspelt (slice_get words 4) in
+    first_of_four late unknown near far (kept_at (channel_rules d words) 1 (WRONG_WORD, late || unknown || near || far) kept refl)
+
+channel_runs : (d after : Declared) (words : List (List ℕ)) → IsRunnable d → least_broken (channel_rules d words) ≡ None → channel_after d words ≡ Some after → IsRunnable after
+channel_runs d after words runs kept means =
+    let j = channel_joins d after words means in
+    let none = none_yet d section.Channels runs refl (channel_in_time d words kept) in
+    subst (λ (x : Declared). IsRunnable x) (sym j.is)
+    (joined_runs d j.medium j.from j.slot j.to j.far_slot runs none (named_within d.names.boxes (slice_get words 1) j.from j.near) (named_within d.names.boxes (slice_get words 3) j.to j.far))
+
+-- ---- commands
 
 -- one command more, where there is room
 one_within : (commands : List Command) (it : Command) → nat_le COMMAND_LIMIT (length commands) ≡ false → length (commands ++ it ∷ []) ≤ COMMAND_LIMIT
@@ -138,54 +216,80 @@ one_within commands it room =
     let below : length commands < COMMAND_LIMIT = grind arith in
     omega (arith, length-append commands (it ∷ []))
 
-command_runs : (d after : Declared) (kind : CommandWord) (words : List (List ℕ)) → IsRunnable d → least_broken (command_line_rules d kind words) ≡ None → ((it : Command) → command_by d.names (Some kind) words ≡ Some it → ChangesOrSettles d.names it) → command_after d kind words ≡ Some after → IsRunnable after
-command_runs d after kind words runs kept named means =
-    let room : nat_le COMMAND_LIMIT (length d.commands) ≡ false = has_room d kind words kept in
+command_runs : (d after : Declared) (kind : CommandWord) (words : List (List ℕ)) → IsRunnable d → least_broken (command_line_rules d kind words) ≡ None → command_after d kind words ≡ Some after → IsRunnable after
+command_runs d after kind words runs kept means =
+    let behind = (LIMIT_PASSED, nat_le COMMAND_LIMIT (length d.commands)) ∷ (UNFINISHED, is_unfinished d) ∷ [] in
     let m = mapped (λ it. record d { section = section.Commands; commands = d.commands ++ it ∷ [] }) (command_by d.names (Some kind) words) after means in
     subst (λ (x : Declared). IsRunnable x) (sym m.2) (record {
       plain = runs.plain;
-      devices = runs.devices;
       known = runs.known;
-      change = All-push (ChangesOrSettles d.names) d.commands m.0 runs.change (named m.0 m.1);
-      few = one_within d.commands m.0 room;
+      counted = runs.counted;
+      shaped = runs.shaped;
+      last = inr refl;
+      of_lines = All-push (IsOfLine d.names d.shape) d.commands m.0 runs.of_lines
+          (record { kind = kind; words = words; kept = all_before (kind_rules d.names d.shape (Some kind) words) behind kept; means = m.1 });
+      few = one_within d.commands m.0 (has_room d kind words kept);
     })
 
 -- no program is open
 no_open : (d : Declared) → IsRunnable d → open_block d ≡ None
 no_open d runs = rw runs.plain (none_open d.section)
 
-kind_runs : (d after : Declared) (kind : Keyword) (words : List (List ℕ)) → IsRunnable d → least_broken (rules_by d (Some kind) words) ≡ None → unbuilt_by d (Some kind) ≡ false → after_by d (Some kind) words ≡ Some after → IsRunnable after
+link_runs : (d after : Declared) (place : Section) (words : List (List ℕ)) → IsRunnable d → least_broken (link_line_rules d place words) ≡ None → link_after d place words ≡ Some after → IsRunnable after
+link_runs d after section.Programs words runs kept means = absurd (let none : None ≡ Some after = rw (no_open d runs) at means in cc)
+link_runs d after section.Version words runs kept means = command_runs d after command.Link words runs kept means
+link_runs d after section.Codecs words runs kept means = command_runs d after command.Link words runs kept means
+link_runs d after section.Boxes words runs kept means = command_runs d after command.Link words runs kept means
+link_runs d after section.Channels words runs kept means = command_runs d after command.Link words runs kept means
+link_runs d after section.Begin words runs kept means = command_runs d after command.Link words runs kept means
+link_runs d after section.Commands words runs kept means = command_runs d after command.Link words runs kept means
+
+-- `begin`
+begin_runs : (d : Declared) → IsRunnable d → IsRunnable (begin_after d)
+begin_runs d runs = record {
+  plain = runs.plain;
+  known = runs.known;
+  counted = runs.counted;
+  shaped = runs.shaped;
+  last = inr refl;
+  of_lines = runs.of_lines;
+  few = runs.few;
+}
+
+-- ---- each kind of line
+
+kind_runs : (d after : Declared) (kind : Keyword) (words : List (List ℕ)) → IsRunnable d → least_broken (rules_by d (Some kind) words) ≡ None → unbuilt_by (Some kind) ≡ false → after_by d (Some kind) words ≡ Some after → IsRunnable after
 kind_runs d after keyword.Media words runs kept built means = absurd cc
-kind_runs d after keyword.Codec words runs kept built means = codec_runs d after words runs means
+kind_runs d after keyword.Codec words runs kept built means = codec_runs d after words runs kept means
 kind_runs d after keyword.Dev words runs kept built means = device_runs d after words runs kept means
-kind_runs d after keyword.Feat words runs kept built means = absurd cc
-kind_runs d after keyword.Send words runs kept built means = send_runs d after words runs means
-kind_runs d after keyword.Chan words runs kept built means = channel_runs d after words runs means
+kind_runs d after keyword.Feat words runs kept built means = feature_runs d after words runs kept means
+kind_runs d after keyword.Send words runs kept built means = send_runs d after words runs kept means
+kind_runs d after keyword.Chan words runs kept built means = channel_runs d after words runs kept means
 kind_runs d after keyword.Prog words runs kept built means = absurd cc
 kind_runs d after keyword.State words runs kept built means = absurd (let none : None ≡ Some after = rw (no_open d runs) at means in cc)
 kind_runs d after keyword.Goal words runs kept built means = absurd (let none : None ≡ Some after = rw (no_open d runs) at means in cc)
 kind_runs d after keyword.When words runs kept built means = absurd (let none : None ≡ Some after = rw (no_open d runs) at means in cc)
-kind_runs d after keyword.Begin words runs kept built means = let same : after ≡ begin_after d = cc in subst (λ (x : Declared). IsRunnable x) (sym same) runs
-kind_runs d after keyword.Set words runs kept built means = command_runs d after command.Set words runs kept (λ it found. set_is_named d.names words it found) means
-kind_runs d after keyword.Link words runs kept built means = absurd cc
-kind_runs d after keyword.Hear words runs kept built means = command_runs d after command.Hear words runs kept (λ it found. hear_is_named d.names words it found) means
-kind_runs d after keyword.Talk words runs kept built means = command_runs d after command.Talk words runs kept (λ it found. talk_is_named d.names words it found) means
-kind_runs d after keyword.Tell words runs kept built means = absurd cc
-kind_runs d after keyword.Settle words runs kept built means = command_runs d after command.Settle words runs kept (λ it found. let is : it ≡ Settle = cc in rw is tt) means
+kind_runs d after keyword.Begin words runs kept built means = let same : after ≡ begin_after d = cc in subst (λ (x : Declared). IsRunnable x) (sym same) (begin_runs d runs)
+kind_runs d after keyword.Set words runs kept built means = command_runs d after command.Set words runs kept means
+kind_runs d after keyword.Link words runs kept built means = link_runs d after d.section words runs kept means
+kind_runs d after keyword.Hear words runs kept built means = command_runs d after command.Hear words runs kept means
+kind_runs d after keyword.Talk words runs kept built means = command_runs d after command.Talk words runs kept means
+kind_runs d after keyword.Tell words runs kept built means = command_runs d after command.Tell words runs kept means
+kind_runs d after keyword.Settle words runs kept built means = command_runs d after command.Settle words runs kept means
 
 -- ---- whole lines and texts
 
-by_kind : (d after : Declared) (kind : Option Keyword) (words : List (List ℕ)) → IsRunnable d → least_broken (rules_by d kind words) ≡ None → unbuilt_by d kind ≡ false → after_by d kind words ≡ Some after → IsRunnable after
+by_kind : (d after : Declared) (kind : Option Keyword) (words : List (List ℕ)) → IsRunnable d → least_broken (rules_by d kind words) ≡ None → unbuilt_by kind ≡ false → after_by d kind words ≡ Some after → IsRunnable after
 by_kind d after None words runs kept built means = absurd cc
 by_kind d after (Some kind) words runs kept built means = kind_runs d after kind words runs kept built means
 
 by_words : (d after : Declared) (ws : List (List ℕ)) (versioned : Bool) → IsRunnable d → least_broken (words_rules versioned d ws) ≡ None
-    → (versioned && true && unbuilt_by d (kind_of ws)) ≡ false → words_after versioned d ws ≡ Some after → IsRunnable after
+    → (versioned && true && unbuilt_by (kind_of ws)) ≡ false → words_after versioned d ws ≡ Some after → IsRunnable after
 by_words d after ws false runs kept built means = let same : after ≡ record d { versioned = true; sends_apart = is_second ws } = cc in subst (λ (x : Declared). IsRunnable x) (sym same) runs
 by_words d after ws true runs kept built means = by_kind d after (kind_of ws) (drop 1 ws) runs kept built means
 
 by_skipped : (d after : Declared) (ws : List (List ℕ)) (skipped : Bool) → IsRunnable d → least_broken (line_words_rules skipped d ws) ≡ None
-    → (d.versioned && not skipped && unbuilt_by d (kind_of ws)) ≡ false → unless_skipped skipped d (words_after d.versioned d ws) ≡ Some after → IsRunnable after
+    → (d.versioned && not skipped && unbuilt_by (kind_of ws)) ≡ false → unless_skipped skipped d (words_after d.versioned d ws) ≡ Some after → IsRunnable after
 by_skipped d after ws true runs kept built means = let same : after ≡ d = cc in subst (λ (x : Declared). IsRunnable x) (sym same) runs
 by_skipped d after ws false runs kept built means = by_words d after ws d.versioned runs kept built means
 

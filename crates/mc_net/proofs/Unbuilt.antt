@@ -18,7 +18,7 @@ none_there o number true b = none_new o
 none_there o number false b = none_new o
 
 pub after_skipped : (d : Declared) (number : ℕ) (words : List (List ℕ)) → is_skipped words ≡ true → after_entry d number words ≡ Some d
-after_skipped d number words skipped = rw skipped (ap (λ (line : Option ℕ). Some (with_unbuilt line d)) (none_there d.unbuilt number d.versioned (are_unbuilt d words)))
+after_skipped d number words skipped = rw skipped (ap (λ (line : Option ℕ). Some (with_unbuilt line d)) (none_there d.unbuilt number d.versioned (are_unbuilt words)))
 
 pub after_version : (d : Declared) (number : ℕ) (words : List (List ℕ)) → is_skipped words ≡ false → d.versioned ≡ false → after_entry d number words ≡ words_after false d words
 after_version d number words kept first = rw (kept, first) (ap (λ (line : Option ℕ). Some (with_unbuilt line (record d { versioned = true; sends_apart = is_second words }))) (none_new d.unbuilt))

@@ -1,8 +1,7 @@
 -- A whole text: its first fault, and what it declares.
-use Rattle.std.specs.Prelude.{ℕ, zero, suc, ◌≡◌, ◌+◌, ◌<◌, ◌==◌, ◌&&◌, not, Bool, true, false, List, [], Option, Some, None, count_by, if◌then◌else◌, length, nat_le, slice_index_or}
+use Rattle.std.specs.Prelude.{ℕ, zero, suc, ◌≡◌, ◌+◌, ◌<◌, ◌&&◌, not, Bool, true, false, List, [], Option, Some, None, if◌then◌else◌, length, slice_index_or}
 use Rattle.std.specs.Option.{is_some, option_map, unwrap_or}
 use Rattle.mc_text.specs.Lines.{lines, words}
-use Rattle.mc_box.specs.BoxShapes.{is_device}
 use Rattle.mc_net.specs.Meaning.{entry_after, line_after, words_after}
 use Rattle.mc_net.specs.Rules.{end_fault, is_skipped, kind_of, line_fault}
 use Rattle.mc_net.specs.SoFar.{Declared, nothing}
@@ -14,27 +13,18 @@ use Rattle.mc_script.specs.declared.rule.TheConstants.{UNBUILT}
 
 -- ---- what can't be run yet
 
-abbrev pub device_count : Declared → ℕ
-device_count d = count_by (λ box. is_device box.kind) d.shape
-
--- a line of this kind is one that the program can't run yet
-abbrev pub unbuilt_by : Declared → Option Keyword → Bool
-unbuilt_by d (Some keyword.Feat) = true
-unbuilt_by d (Some keyword.Dev) = nat_le 2 (device_count d)
-unbuilt_by d (Some keyword.Chan) = nat_le 1 (length d.channels)
-unbuilt_by d (Some keyword.Prog) = true
-unbuilt_by d (Some keyword.Begin) = not (device_count d == 2 && length d.channels == 1)
-unbuilt_by d (Some keyword.Link) = true
-unbuilt_by d (Some keyword.Tell) = true
-unbuilt_by d other = false
+-- a line of this kind is one that the program can't run yet: that of a program
+abbrev pub unbuilt_by : Option Keyword → Bool
+unbuilt_by (Some keyword.Prog) = true
+unbuilt_by other = false
 
 -- a line of these words, behind the version line
-abbrev pub are_unbuilt : Declared → List (List ℕ) → Bool
-are_unbuilt d words = unbuilt_by d (kind_of words)
+abbrev pub are_unbuilt : List (List ℕ) → Bool
+are_unbuilt words = unbuilt_by (kind_of words)
 
 -- a line of these words, wherever it stands
 abbrev pub is_unbuilt : Declared → List (List ℕ) → Bool
-is_unbuilt d words = d.versioned && not (is_skipped words) && are_unbuilt d words
+is_unbuilt d words = d.versioned && not (is_skipped words) && are_unbuilt words
 
 -- ---- one line after another
 
@@ -47,7 +37,7 @@ with_unbuilt line d = record d { unbuilt = line }
 
 -- what is declared after a line of these words, by its number, behind the version line
 abbrev pub after_words : Declared → ℕ → List (List ℕ) → Option Declared
-after_words d number words = option_map (with_unbuilt (first_unbuilt d number (are_unbuilt d words))) (words_after true d words)
+after_words d number words = option_map (with_unbuilt (first_unbuilt d number (are_unbuilt words))) (words_after true d words)
 
 -- what is declared after a line of these words, wherever it stands
 abbrev pub after_entry : Declared → ℕ → List (List ℕ) → Option Declared

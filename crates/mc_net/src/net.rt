@@ -1,7 +1,6 @@
 //! The network that a text declares.
 
 ghost use Rattle.std.specs.Prelude.{◌≡◌, ◌≤◌, IfErr, IfOk, length, map};
-ghost use Rattle.mc_model.specs.LinkFree.{AllLinkNone, HasNoLinks};
 ghost use Rattle.mc_model.specs.Shapes.{AreAllAllowed};
 ghost use Rattle.mc_net.specs.Nets.{DeclaresNet, IsMadeOf, NamesAll, batches_of, batch_turns};
 ghost use Rattle.mc_net.specs.Texts.{RefusesText};
@@ -39,9 +38,7 @@ pub fn read_net(alloc: Global, text: &[u8], tail: Tail) -> Result<Net, NetFault>
     ensures declares { IfOk result (DeclaresNet text.now) }
     ensures named { IfOk result (λ net. NamesAll net.names net.world) }
     ensures allowed { IfOk result (λ net. AreAllAllowed net.world (map batch_turns net.batches.items)) }
-    ensures link_none { IfOk result (λ net. AllLinkNone (map batch_turns net.batches.items)) }
     ensures few { IfOk result (λ net. length net.batches.items ≤ COMMAND_LIMIT) }
-    ensures free { IfOk result (λ net. HasNoLinks net.world) }
     ensures refused { IfErr result (RefusesText text.now) }
 {
     let rest = match tail {

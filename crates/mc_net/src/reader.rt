@@ -2,13 +2,12 @@
 
 ghost use Rattle.std.specs.Prelude.{◌≡◌, ◌+◌, ◌<◌, ◌^◌, length, OnOk, Some, map};
 ghost use Rattle.std.specs.Option.{option_copied};
-ghost use Rattle.mc_box.specs.BoxShapes.{is_device};
 ghost use Rattle.mc_net.specs.BoxLines.{box_seen};
 ghost use Rattle.mc_net.specs.Forms.{IsInForm};
 ghost use Rattle.mc_net.specs.LineReadings.{ReadsEntry, ReadsKind, ReadsLine, ReadsVersion, ReadsWords};
 ghost use Rattle.mc_net.specs.Rules.{end_fault, is_late, is_unfinished, open_block};
 ghost use Rattle.mc_net.specs.SoFar.{nothing};
-ghost use Rattle.mc_net.specs.Texts.{device_count, first_unbuilt, unbuilt_by};
+ghost use Rattle.mc_net.specs.Texts.{first_unbuilt, unbuilt_by};
 
 mod boxes;
 mod channels;
@@ -21,7 +20,7 @@ use crate::keyword::keyword_of;
 use crate::limit::TEXT_LIMIT;
 use crate::places::{is_second, is_skipped, is_version};
 use crate::section::{Keyword, Section};
-use mc_box::{BoxShape, Kind, Shape};
+use mc_box::Shape;
 use mc_plan::Plan;
 use mc_program::{Block, ReadFault, is_unfinished};
 use mc_script::keyword::CommandWord;
@@ -115,35 +114,14 @@ impl Reader {
         is_unfinished(self.open_block())
     }
 
-    // How many devices were declared.
-    fn device_count(&self) -> usize
-        ensures { result ≡ device_count self.now }
-    {
-        let boxes = self.shape.boxes.as_slice();
-        boxes.iter().filter(|shape| is_device(shape)).count()
-    }
-
-    // Whether a line of this kind is one that the program can't run yet.
-    fn is_unbuilt(&self, kind: Keyword) -> bool
-        ensures { result ≡ unbuilt_by self.now (Some kind) }
-    {
-        match kind {
-            Keyword::Feat | Keyword::Prog | Keyword::Link | Keyword::Tell => true,
-            Keyword::Dev => 2 <= self.device_count(),
-            Keyword::Chan => 1 <= self.plan.channels().len(),
-            Keyword::Begin => !(self.device_count() == 2 && self.plan.channels().len() == 1),
-            _ => false,
-        }
-    }
-
     // The first line that the program can't run yet: one before, or this one of this kind.
     fn first_unbuilt(&self, number: u32, kind: Keyword) -> Option<u32>
-        ensures { result ≡ first_unbuilt self.now number (unbuilt_by self.now (Some kind)) }
+        ensures { result ≡ first_unbuilt self.now number (unbuilt_by (Some kind)) }
     {
         if self.unbuilt.is_some() {
             return self.unbuilt;
         }
-        if self.is_unbuilt(kind) {
+        if is_unbuilt(kind) {
             return Some(number);
         }
         None
@@ -289,11 +267,9 @@ impl Reader {
     }
 }
 
-fn is_device(shape: &BoxShape) -> bool
-    ensures { result ≡ is_device shape.now.kind }
+// Whether a line of this kind is one that the program can't run yet: that of a program.
+fn is_unbuilt(kind: Keyword) -> bool
+    ensures { result ≡ unbuilt_by (Some kind) }
 {
-    match shape.kind {
-        Kind::Device => true,
-        Kind::Feature => false,
-    }
+    matches!(kind, Keyword::Prog)
 }
