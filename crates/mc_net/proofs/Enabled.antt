@@ -1,6 +1,5 @@
 -- A command whose line breaks no rule is enabled by the shape of its box.
-use Rattle.std.proofs.Common.{◌≡◌, ℕ, ◌<◌, ◌==◌, ◌&&◌, ◌||◌, not, Bool, true, false, List, length, Option, Some, None, refl, arith}
-use Rattle.std.specs.Prelude.{IsTrue}
+use Rattle.std.proofs.Common.{◌≡◌, ℕ, ◌<◌, ◌==◌, ◌||◌, not, Bool, true, false, List, length, Option, Some, None, refl, arith}
 use Rattle.std.proofs.lemmas.Bool.{or_parts}
 use Rattle.std.specs.List.{slice_get}
 use Rattle.std.specs.Option.{option_map}
@@ -13,7 +12,7 @@ use Rattle.mc_box.specs.declared.event.Event.{Event}
 use Rattle.mc_box.specs.declared.event.Event.TheVariants.{Set, Media, Tell}
 use Rattle.mc_box.specs.declared.event.MediaChange.TheVariants.{Hear, Talk}
 use Rattle.mc_script.specs.Meaning.{at_slot, command_by}
-use Rattle.mc_script.specs.Places.{Fits, are_same, box_named, is_no, lacks, lacks_slot, slot_named, spelt_value}
+use Rattle.mc_script.specs.Places.{Fits, are_same, box_named, is_no, slot_named, spelt_value}
 use Rattle.mc_script.specs.Printed.{IsSlot}
 use Rattle.mc_script.specs.Rules.{differ_in_medium, has_no_program, is_no_device, is_no_feature, kind_rules, least_broken, link_rules, media_rules, spelt_goal, spelt_switch, tell_rules}
 use Rattle.mc_script.specs.declared.command.Command.{Command}

@@ -1,5 +1,5 @@
 -- What has a name: the codecs of the boxes, and what a word names.
-use Rattle.std.proofs.Common.{◌≡◌, ℕ, ◌<◌, Bool, false, List, [], ◌∷◌, length, map, Option, Some, None, refl, arith}
+use Rattle.std.proofs.Common.{◌≡◌, ℕ, ◌<◌, false, List, [], ◌∷◌, length, map, Option, Some, None, refl, arith}
 use Rattle.std.proofs.lemmas.List.Elements.{All-cons, All-nil}
 use Rattle.std.specs.List.{All, position_or_len}
 use Rattle.std.specs.Option.{is_none, option_and_then, option_map, unwrap_or}

@@ -1,5 +1,5 @@
 -- As long as no box has a program, the shapes that lines leave are those of the boxes of the first world.
-use Rattle.std.proofs.Common.{◌≡◌, ℕ, zero, suc, ◌+◌, ◌*◌, ◌<◌, ◌==◌, Bool, true, false, cond, if◌then◌else◌, List, [], ◌∷◌, ◌++◌, length, map, slice_index_or, slice_set, refl, sym, ap, ◌∙◌, subst, arith, append_assoc, length-append, zero-add}
+use Rattle.std.proofs.Common.{◌≡◌, ℕ, zero, suc, ◌+◌, ◌*◌, ◌<◌, ◌==◌, Bool, true, false, if◌then◌else◌, List, [], ◌∷◌, ◌++◌, length, map, slice_index_or, refl, sym, ap, ◌∙◌, subst, arith, append_assoc, length-append, zero-add}
 use Rattle.std.proofs.lemmas.Grind.{common_steps}
 use Rattle.std.proofs.lemmas.List.{append-nil, length-set, map-append}
 use Rattle.mc_signal.specs.declared.Medium.{Medium}
@@ -13,7 +13,7 @@ use Rattle.mc_plan.specs.Plans.{PlanState, boxes_from, channel_between, slots_of
 use Rattle.mc_plan.specs.Setups.{setup_if, setups_at, setups_from, setups_of}
 use Rattle.mc_plan.specs.declared.plan.BoxPlan.{BoxPlan}
 use Rattle.mc_net.specs.BoxLines.{box_seen}
-use Rattle.mc_net.specs.Meaning.{declared_at, new_feature, new_shape, with_medium, with_send_list}
+use Rattle.mc_net.specs.Meaning.{declared_at, new_shape, with_medium, with_send_list}
 use Rattle.mc_net.specs.SoFar.{DeclaredBox}
 
 -- the media of the slots that channels give a box
