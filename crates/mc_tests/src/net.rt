@@ -59,12 +59,14 @@ fn declarations_break_these_rules(rt: HostRuntime) {
 #[test]
 fn commands_break_these_rules(rt: HostRuntime) {
     let alloc = rt.alloc();
-    let rows: [(&[u8], (u8, u32)); 5] = [
+    let rows: [(&[u8], (u8, u32)); 6] = [
         (b"set alice a\n", (6, 8)),
         (b"set bob a hold\nsettle now\n", (7, 9)),
         (b"set alice z open\n", (11, 8)),
         (b"settle\nsettle\nlink alice a a\n", (5, 10)),
         (b"begin\n", (5, 8)),
+        // a word may be told only where a program has it
+        (b"tell alice swap\n", (4, 8)),
     ];
     for (lines, want) in rows {
         assert_eq!(rt; fault_of(alloc, PHONES, lines), Some(want));
@@ -74,7 +76,7 @@ fn commands_break_these_rules(rt: HostRuntime) {
 #[test]
 fn these_have_no_fault(rt: HostRuntime) {
     let alloc = rt.alloc();
-    let rows: [(&[u8], &[u8]); 3] = [
+    let rows: [(&[u8], &[u8]); 6] = [
         (
             PHONES,
             b"hear alice a off\ntalk bob a on\nsettle\nset bob a hold\n",
@@ -84,6 +86,15 @@ fn these_have_no_fault(rt: HostRuntime) {
             b"dev alice 7 g711\ndev bob 4294967295\nchan audio alice a bob a\nbegin\n",
         ),
         (PHONES, b""),
+        (CODECS, b"begin\nsettle\n"),
+        (
+            CODECS,
+            b"dev alice g711\ndev bob\ndev carol\nchan audio alice a bob a\nchan audio alice b carol a\nbegin\n",
+        ),
+        (
+            CODECS,
+            b"dev alice\nfeat f\ndev bob\nchan audio alice a f w\nchan audio f e bob a\nbegin\nlink f w e\nsettle\nlink f e w\n",
+        ),
     ];
     for (first, second) in rows {
         assert_eq!(rt; fault_of(alloc, first, second), None);

@@ -21,7 +21,7 @@ const PHONES: &str = "media 1\n\
     set bob a hold\n\
     settle\n";
 
-const PHONE_ROWS: [Row; 35] = [
+const PHONE_ROWS: [Row; 32] = [
     (
         "chan audio alice a bob a",
         "chan audio alice a carol a",
@@ -67,20 +67,17 @@ const PHONE_ROWS: [Row; 35] = [
     ("settle", "settle now\u{7f}", 3, 10),
     ("settle", "settle\n\0", 3, 11),
     // The first line that can't be run yet.
-    ("dev bob g729", "dev bob g729\nfeat f", 19, 6),
-    ("dev bob g729", "dev bob g729\ndev carol", 19, 6),
-    ("begin", "chan video alice v bob v\nbegin", 19, 7),
-    (
-        "chan audio alice a bob a\nbegin\nset alice a open\nset bob a hold",
-        "begin",
-        19,
-        6,
-    ),
     (
         "chan audio alice a bob a\nbegin",
         "feat f\nchan audio alice a bob a\nprog f s\nstate s\nbegin",
         19,
-        6,
+        8,
+    ),
+    (
+        "chan audio alice a bob a\nbegin",
+        "feat f\nfeat g\nchan audio alice a bob a\nprog g s\nstate s\nprog f s\nstate s\nbegin",
+        19,
+        9,
     ),
     // Each other fault comes before that, on a later line too.
     ("dev bob g729", "dev bob 1 g729\nfeat f\nfeat f", 9, 7),
@@ -278,14 +275,14 @@ const COMMAND_ROWS: [Row; 42] = [
     ("link g p q", "link g p w", 11, 27),
     ("link g p q", "link f w w", 12, 27),
     ("link g p q", "link f w v", 13, 27),
-    ("settle", "settle", 19, 6),
+    ("settle", "settle", 19, 12),
     (
         "begin\nset alice a open\ntell f swap",
         "prog g on\nstate on\nlink p q\nbegin\ntell g swap",
         19,
-        6,
+        12,
     ),
-    ("begin", "\n   # begin\n begin  ", 19, 6),
+    ("begin", "\n   # begin\n begin  ", 19, 12),
 ];
 
 // Lines that break several rules, and several such lines.
@@ -334,7 +331,7 @@ const LEAST_ROWS: [Row; 21] = [
 ];
 
 // Short texts, and the number and the line of the fault. The end of a text is one more line.
-const SHORT: [(&str, u8, u32); 17] = [
+const SHORT: [(&str, u8, u32); 14] = [
     ("", 17, 1),
     ("\n", 17, 2),
     ("   \n# none", 17, 3),
@@ -353,9 +350,6 @@ const SHORT: [(&str, u8, u32); 17] = [
         15,
         7,
     ),
-    ("media 1\nbegin\n", 19, 2),
-    ("media 1\ndev a\nbegin\nsettle", 19, 3),
-    ("media 1\ndev a\ndev b\nbegin\n", 19, 4),
 ];
 
 // What is written for the two phones.
@@ -365,7 +359,7 @@ const FLOWING: &str = "settle 1\n\
     hears bob/a g729\n";
 
 // Texts that can be run, and what is written for each.
-const RUN: [(&str, &str); 4] = [
+const RUN: [(&str, &str); 7] = [
     (PHONES, FLOWING),
     // blank lines, comments and spare spaces
     (
@@ -421,6 +415,26 @@ const RUN: [(&str, &str); 4] = [
         path room-2_/cam desk/cam open open flowing video\n\
         hears room-2_/cam h264\n\
         hears desk/cam vp8\n",
+    ),
+    // boxes without channels, and none at all
+    ("media 1\nbegin\n", ""),
+    ("media 1\ndev a\nbegin\nsettle", "settle 1\n"),
+    // two devices of three
+    (
+        "media 1\n\
+        codec g711\n\
+        dev a g711\n\
+        dev b g711\n\
+        dev c g711\n\
+        chan audio a x c y\n\
+        begin\n\
+        set c y open\n\
+        set a x hold\n\
+        settle\n",
+        "settle 1\n\
+        path a/x c/y hold open flowing audio\n\
+        hears a/x g711\n\
+        hears c/y g711\n",
     ),
 ];
 
