@@ -63,12 +63,12 @@ nothing_runs = record {
 -- ---- lines before the commands
 
 -- a line that isn't too late comes before all commands
-none_yet : (d : Declared) (place : Section) → IsRunnable d → nat_lt (rank place) 6 ≡ true → is_late d place ≡ false → d.commands ≡ []
+none_yet : (d : Declared) (place : Section) → IsRunnable d → nat_lt (rank place) (rank section.Commands) ≡ true → is_late d place ≡ false → d.commands ≡ []
 none_yet d place runs before kept = by runs.last
   where
     by : (d.commands ≡ []) ⊎ (d.section ≡ section.Commands) → d.commands ≡ []
     by (inl none) = none
-    by (inr here) = absurd (let late : nat_lt (rank place) 6 ≡ false = rw here at kept in let clash : true ≡ false = sym before ∙ late in cc)
+    by (inr here) = absurd (let late : nat_lt (rank place) (rank section.Commands) ≡ false = rw here at kept in let clash : true ≡ false = sym before ∙ late in cc)
 
 -- none is of any names and shapes
 of_none : (names : NameLists) (shape : List BoxShapeState) (commands : List Command) → commands ≡ [] → All (IsOfLine names shape) commands
