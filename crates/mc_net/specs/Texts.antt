@@ -13,7 +13,7 @@ use Rattle.mc_script.specs.declared.rule.TheConstants.{UNBUILT}
 
 -- ---- what can't be run yet
 
--- a line of this kind is one that the program can't run yet: that of a program
+-- a line of this kind can't be run yet: it begins a box's program
 abbrev pub unbuilt_by : Option Keyword → Bool
 unbuilt_by (Some keyword.Prog) = true
 unbuilt_by other = false

@@ -267,7 +267,7 @@ impl Reader {
     }
 }
 
-// Whether a line of this kind is one that the program can't run yet: that of a program.
+// Whether a line of this kind can't be run yet: it begins a box's program.
 fn is_unbuilt(kind: Keyword) -> bool
     ensures { result ≡ unbuilt_by (Some kind) }
 {

@@ -49,7 +49,7 @@ fn declarations_break_these_rules(rt: HostRuntime) {
         (b"# none\n\nfly\n", (5, 6)),
         (b"codec g723\t\n", (3, 4)),
         (b"feat f\nprog f s\nbegin\n", (15, 6)),
-        (b"feat f\nprog f s\nstate s\nbegin\n", (19, 4)),
+        (b"feat f\nprog f s\nstate s\nbegin\n", (19, 5)),
     ];
     for (lines, want) in rows {
         assert_eq!(rt; fault_of(alloc, CODECS, lines), Some(want));
