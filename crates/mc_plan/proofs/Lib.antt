@@ -5,3 +5,4 @@ pub mod Orders
 pub mod Picks
 pub mod Places
 pub mod Slots
+pub mod Widened

@@ -1,5 +1,5 @@
 -- A plan as clauses see it, what boxes and channels add to it, and its first world.
-use Rattle.std.specs.Prelude.{ℕ, ◌+◌, ◌==◌, Bool, List, [], ◌∷◌, ◌++◌, count_by, slice_index_or, slice_set}
+use Rattle.std.specs.Prelude.{ℕ, ◌+◌, ◌-◌, ◌==◌, Bool, List, [], ◌∷◌, ◌++◌, count_by, length, slice_index_or, slice_set}
 use Rattle.mc_signal.specs.Empty.{no_codecs}
 use Rattle.mc_signal.specs.declared.Medium.{Medium}
 use Rattle.mc_signal.specs.declared.codec_list.CodecList.{CodecList}
@@ -57,6 +57,33 @@ channel_between channels from to media = record { from = from; to = to; tunnels 
 -- that channel comes last
 abbrev pub with_channel : PlanState → (from to : ℕ) → List Medium → PlanState
 with_channel plan from to media = record plan { channels = plan.channels ++ channel_between plan.channels from to media ∷ [] }
+
+-- what stands where there is no channel
+abbrev pub no_channel : ChannelState
+no_channel = record { from = 0; to = 0; tunnels = [] }
+
+-- the channel that comes last
+abbrev pub last_channel : List ChannelState → ChannelState
+last_channel channels = slice_index_or channels (length channels - 1) no_channel
+
+-- a channel with one tunnel more
+abbrev pub with_one_more : Tunnel → ChannelState → ChannelState
+with_one_more tunnel ends = record ends { tunnels = ends.tunnels ++ tunnel ∷ [] }
+
+-- the channel of this number gets one tunnel more
+abbrev pub with_tunnel_at : List ChannelState → ℕ → Tunnel → List ChannelState
+with_tunnel_at channels k tunnel = slice_set channels k (with_one_more tunnel (slice_index_or channels k no_channel))
+
+-- a tunnel of a channel that takes the next slot of both boxes
+abbrev pub next_tunnel : List ChannelState → ChannelState → Medium → Tunnel
+next_tunnel channels ends medium = record { medium = medium; from = slots_of channels ends.from; to = slots_of channels ends.to }
+
+-- the last of these channels gets one more
+abbrev pub widened : List ChannelState → Medium → List ChannelState
+widened channels medium = with_tunnel_at channels (length channels - 1) (next_tunnel channels (last_channel channels) medium)
+
+abbrev pub with_tunnel : PlanState → Medium → PlanState
+with_tunnel plan medium = record plan { channels = widened plan.channels medium }
 
 -- ---- the first world
 

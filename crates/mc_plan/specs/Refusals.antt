@@ -1,12 +1,13 @@
 -- When a box or a channel isn't added to a plan.
 use Rattle.std.specs.Prelude.{◌≡◌, ℕ, ◌+◌, ◌==◌, ◌||◌, Bool, if◌then◌else◌, List, length, nat_le, nat_lt, Option, Some, None, Result, Ok, Err}
 use Rattle.mc_signal.specs.declared.Medium.{Medium}
-use Rattle.mc_plan.specs.Plans.{PlanState, slots_of}
+use Rattle.mc_model.specs.Worlds.{ChannelState}
+use Rattle.mc_plan.specs.Plans.{PlanState, last_channel, slots_of}
 use Rattle.mc_plan.specs.declared.fault.PlanFault.{PlanFault}
 use Rattle.mc_box.specs.declared.limit.TheConstants.{SLOT_LIMIT}
 use Rattle.mc_model.specs.declared.channel.TheConstants.{TUNNEL_LIMIT}
 use Rattle.mc_plan.specs.declared.limit.TheConstants.{BOX_LIMIT, CHANNEL_LIMIT}
-use Rattle.mc_plan.specs.declared.fault.PlanFault.TheVariants.{NoBox, SameBox, NoTunnels, TooManyTunnels, BoxesFull, ChannelsFull, SlotsFull, NoMemory}
+use Rattle.mc_plan.specs.declared.fault.PlanFault.TheVariants.{NoBox, NoChannel, SameBox, NoTunnels, TooManyTunnels, BoxesFull, ChannelsFull, SlotsFull, NoMemory}
 
 -- this fault where a rule is broken, and else the first of the others
 abbrev pub fault_if : Bool → PlanFault → Option PlanFault → Option PlanFault
@@ -30,6 +31,16 @@ join_fault plan from to media =
     (fault_if (nat_le CHANNEL_LIMIT (length plan.channels)) ChannelsFull
     (fault_if (overfills plan from (length media) || overfills plan to (length media)) SlotsFull None)))))
 
+-- why a channel gets no tunnel more: the first rule that this breaks
+abbrev pub widen_fault_at : PlanState → ChannelState → Option PlanFault
+widen_fault_at plan ends =
+    fault_if (nat_le TUNNEL_LIMIT (length ends.tunnels)) TooManyTunnels
+    (fault_if (overfills plan ends.from 1 || overfills plan ends.to 1) SlotsFull None)
+
+-- and why the last one gets none
+abbrev pub widen_fault : PlanState → Option PlanFault
+widen_fault plan = fault_if (length plan.channels == 0) NoChannel (widen_fault_at plan (last_channel plan.channels))
+
 -- a fault, or nothing to say
 abbrev pub unless_fault : Option PlanFault → Result (Unit {0}) PlanFault
 unless_fault None = Ok tt
@@ -39,10 +50,15 @@ unless_fault (Some fault) = Err fault
 abbrev pub may_join : PlanState → (from to : ℕ) → List Medium → Result (Unit {0}) PlanFault
 may_join plan from to media = unless_fault (join_fault plan from to media)
 
+-- whether the last channel may get one tunnel more: the first rule that this breaks, if it breaks one
+abbrev pub may_widen : PlanState → Result (Unit {0}) PlanFault
+may_widen plan = unless_fault (widen_fault plan)
+
 -- a refusal is the fault that there is; memory is asked for only where there is none
 abbrev pub IsRefusal : PlanFault → Option PlanFault → Type 0
 IsRefusal (NoMemory e) fault = fault ≡ None
 IsRefusal NoBox fault = fault ≡ Some NoBox
+IsRefusal NoChannel fault = fault ≡ Some NoChannel
 IsRefusal SameBox fault = fault ≡ Some SameBox
 IsRefusal NoTunnels fault = fault ≡ Some NoTunnels
 IsRefusal TooManyTunnels fault = fault ≡ Some TooManyTunnels

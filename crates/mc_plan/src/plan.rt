@@ -1,16 +1,16 @@
 // The plan of a network.
 
-ghost use Rattle.std.specs.Prelude.{◌≡◌, ◌<◌, ◌≤◌, length, IfOk, OnOk, OnErr};
+ghost use Rattle.std.specs.Prelude.{◌≡◌, ◌-◌, ◌<◌, ◌≤◌, length, IfOk, OnOk, OnErr};
 ghost use Rattle.mc_plan.specs.LaidOut.{IsLaidOut};
-ghost use Rattle.mc_plan.specs.Plans.{empty_plan, with_channel, slots_of, with_plan, with_sends, world_of};
-ghost use Rattle.mc_plan.specs.Refusals.{add_fault, join_fault, may_join, overfills, Gives};
+ghost use Rattle.mc_plan.specs.Plans.{empty_plan, slots_of, with_channel, with_plan, with_sends, with_tunnel, world_of};
+ghost use Rattle.mc_plan.specs.Refusals.{add_fault, join_fault, may_join, may_widen, overfills, unless_fault, widen_fault, widen_fault_at, Gives};
 ghost use Rattle.mc_box.specs.declared.limit.TheConstants.{SLOT_LIMIT};
 ghost use Rattle.mc_model.specs.declared.channel.TheConstants.{TUNNEL_LIMIT};
 
 use crate::boxes::boxes_from;
 use crate::fault::PlanFault;
 use crate::limit::{BOX_LIMIT, CHANNEL_LIMIT};
-use crate::tunnels::{slots_of, tunnels_between};
+use crate::tunnels::{add_tunnel, last_channel, next_tunnel, slots_of, tunnels_between};
 use mc_box::Kind;
 use mc_box::limit::SLOT_LIMIT;
 use mc_signal::{CodecList, Medium};
@@ -131,6 +131,21 @@ impl Plan {
         Ok(number)
     }
 
+    /// Gives the channel that was joined last one tunnel more, of this medium, and answers the channel's number. The
+    /// tunnel takes the next slot of both boxes. It is refused by the first rule that this breaks, in the order of
+    /// `PlanFault`.
+    pub fn widen(&mut self, medium: Medium) -> Result<u32, PlanFault>
+        ensures answer { Gives result (widen_fault self.old) (length self.old.channels - 1) }
+        ensures widened { OnOk result (self.new ≡ with_tunnel self.old medium) }
+        ensures unchanged { OnErr result (self.new ≡ self.old) }
+    {
+        self.may_widen()?;
+        let number = self.channels.len() - 1;
+        let tunnel = next_tunnel(&self.channels, last_channel(&self.channels), medium);
+        add_tunnel(&mut self.channels, number, tunnel)?;
+        Ok(number as u32)
+    }
+
     /// The first world of the plan: its boxes are new, and nothing is under way.
     pub fn world(self) -> Result<World, AllocError>
         ensures { IfOk result (λ world. world ≡ world_of self) }
@@ -161,6 +176,30 @@ impl Plan {
             return Err(PlanFault::ChannelsFull);
         }
         if self.overfills(from, media.len()) || self.overfills(to, media.len()) {
+            return Err(PlanFault::SlotsFull);
+        }
+        Ok(())
+    }
+
+    /// Whether the channel that was joined last may get one tunnel more: else the first rule that this would break, in
+    /// the order of `PlanFault`.
+    pub fn may_widen(&self) -> Result<(), PlanFault>
+        ensures { result ≡ may_widen self.now }
+    {
+        if self.channels.is_empty() {
+            return Err(PlanFault::NoChannel);
+        }
+        self.may_widen_at(last_channel(&self.channels))
+    }
+
+    // Whether a channel may get one tunnel more.
+    fn may_widen_at(&self, channel: &Channel) -> Result<(), PlanFault>
+        ensures { result ≡ unless_fault (widen_fault_at self.now channel.now) }
+    {
+        if TUNNEL_LIMIT <= channel.tunnels.len() {
+            return Err(PlanFault::TooManyTunnels);
+        }
+        if self.overfills(channel.from, 1) || self.overfills(channel.to, 1) {
             return Err(PlanFault::SlotsFull);
         }
         Ok(())

@@ -17,9 +17,9 @@ fn a_feature_stands_between_two_devices(rt: HostRuntime) -> Result<(), PlanFault
     let caller = plan.add(planned(Kind::Device))?;
     let callee = plan.add(planned(Kind::Device))?;
     let feature = plan.add(planned(Kind::Feature))?;
-    let media = [Medium::Audio, Medium::Video];
-    plan.join(caller, feature, &media)?;
-    plan.join(feature, callee, &media)?;
+    plan.join(caller, feature, &[Medium::Audio])?;
+    plan.widen(Medium::Video)?;
+    plan.join(feature, callee, &[Medium::Audio, Medium::Video])?;
     assert_eq!(rt; plan.slots(feature), 4);
 
     // the feature has slots 0 and 1 to the caller, and 2 and 3 to the callee

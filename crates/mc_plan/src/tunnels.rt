@@ -1,7 +1,7 @@
 // The tunnels of channels: how many slots they give a box, and those of a new channel.
 
-ghost use Rattle.std.specs.Prelude.{◌≡◌, ◌+◌, ◌≤◌, ◌∷◌, [], length, IfOk};
-ghost use Rattle.mc_plan.specs.Plans.{slots_of, tunnels_between};
+ghost use Rattle.std.specs.Prelude.{◌≡◌, ℕ, ◌+◌, ◌<◌, ◌≤◌, ◌∷◌, [], length, IfOk, OnErr, OnOk};
+ghost use Rattle.mc_plan.specs.Plans.{last_channel, next_tunnel, slots_of, tunnels_between, with_tunnel_at};
 ghost use Rattle.mc_box.specs.declared.limit.TheConstants.{SLOT_LIMIT};
 
 use mc_signal::Medium;
@@ -52,4 +52,39 @@ pub fn tunnels_between(
         })?;
     }
     Ok(tunnels)
+}
+
+// The channel that comes last.
+pub fn last_channel(channels: &[Channel]) -> &Channel
+    requires { 0 < length channels.now }
+    ensures { result.now ≡ last_channel channels.now }
+{
+    &channels[channels.len() - 1]
+}
+
+// A tunnel of a channel that takes the next slot of both boxes.
+pub fn next_tunnel(channels: &[Channel], channel: &Channel, medium: Medium) -> Tunnel
+    requires { (who : ℕ) → slots_of channels.now who ≤ SLOT_LIMIT }
+    ensures { result ≡ next_tunnel channels.now channel.now medium }
+{
+    Tunnel {
+        medium,
+        from: slots_of(channels, channel.from) as u8,
+        to: slots_of(channels, channel.to) as u8,
+    }
+}
+
+// A channel gets a tunnel, as its last.
+pub fn add_tunnel(
+    channels: &mut Vec<Channel>,
+    number: usize,
+    tunnel: Tunnel,
+) -> Result<(), AllocError>
+    requires { number < length channels.old.items }
+    ensures added { OnOk result (channels.new.items ≡ with_tunnel_at channels.old.items number tunnel) }
+    ensures unchanged { OnErr result (channels.new.items ≡ channels.old.items) }
+{
+    let channel = &mut channels[number];
+    channel.tunnels.push(tunnel)?;
+    Ok(())
 }
