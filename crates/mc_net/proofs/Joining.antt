@@ -6,19 +6,22 @@ use Rattle.mc_signal.specs.declared.Medium.{Medium}
 use Rattle.mc_text.specs.NameLists.{NameLists, slot_names, with_slot_name}
 use Rattle.mc_box.specs.BoxShapes.{BoxShapeState, shape_of}
 use Rattle.mc_model.specs.Worlds.{ChannelState}
-use Rattle.mc_plan.specs.Plans.{PlanState, channel_between, slots_of}
+use Rattle.mc_plan.specs.Plans.{PlanState, channel_between, last_channel, slots_of, widened}
 use Rattle.mc_plan.specs.Refusals.{fault_if, unless_fault}
 use Rattle.mc_plan.specs.Refusals as plan
 use Rattle.mc_plan.specs.declared.fault.PlanFault.{PlanFault}
 use Rattle.mc_plan.specs.declared.fault.PlanFault.TheVariants.{SameBox, NoTunnels, TooManyTunnels, ChannelsFull, SlotsFull}
 use Rattle.mc_plan.proofs.Slots.{part, slots_append, slots_one}
+use Rattle.mc_plan.proofs.Widened.{slots_widened}
 use Rattle.mc_script.specs.Places.{unless}
 use Rattle.mc_script.specs.declared.command.LineFault.{LineFault}
 use Rattle.mc_script.specs.declared.rule.TheConstants.{LIMIT_PASSED, SAME_BOX}
-use Rattle.mc_net.specs.BoxLines.{is_full, check_join}
+use Rattle.mc_net.specs.BoxLines.{check_join, check_widen}
+use Rattle.mc_net.specs.Rules.{is_full}
 use Rattle.mc_net.specs.Forms.{IsInForm}
-use Rattle.mc_net.specs.Meaning.{with_joined, with_medium}
+use Rattle.mc_net.specs.Meaning.{with_joined, with_medium, with_new_slot, with_widened}
 use Rattle.mc_net.specs.SoFar.{Declared}
+use Rattle.mc_net.specs.declared.section.Section.TheVariants as section
 
 -- ---- whether they may be
 
@@ -54,6 +57,28 @@ joins_by_plan names planned from to medium boxes slots near far =
     let far_full : nat_lt 64 (slots_of planned.channels to + 1) ≡ is_full names to = ap (λ (n : ℕ). nat_lt 64 (n + 1)) (slots to) ∙ one_too_many (length (slot_names names to)) in
     rw (first, second, near_full, far_full) (same_refusal (from == to) (is_full names from) (is_full names to) (nat_le 1024 (length planned.channels)))
 
+-- the fault of the line for the plan's refusal of one tunnel more
+abbrev pub widening_refusal : Result (Unit {0}) PlanFault → Result (Unit {0}) LineFault
+widening_refusal (Ok done) = Ok tt
+widening_refusal (Err fault) = Err (record { number = LIMIT_PASSED })
+
+same_widening : (tunnels near far : Bool) → widening_refusal (unless_fault (fault_if tunnels TooManyTunnels (fault_if (near || far) SlotsFull None))) ≡ unless (near || far || tunnels) LIMIT_PASSED tt
+same_widening true true far = refl
+same_widening true false true = refl
+same_widening true false false = refl
+same_widening false true far = refl
+same_widening false false true = refl
+same_widening false false false = refl
+
+pub widens_by_plan : (names : NameLists) (planned : PlanState) → ((who : ℕ) → slots_of planned.channels who ≡ length (slot_names names who)) → 0 < length planned.channels
+    → widening_refusal (plan.may_widen planned) ≡ check_widen names (last_channel planned.channels)
+widens_by_plan names planned slots some =
+    let last = last_channel planned.channels in
+    let first : (length planned.channels == 0) ≡ false = grind (arith, common_steps) in
+    let near_full : nat_lt 64 (slots_of planned.channels (last_channel planned.channels).from + 1) ≡ is_full names (last_channel planned.channels).from = ap (λ (n : ℕ). nat_lt 64 (n + 1)) (slots last.from) ∙ one_too_many (length (slot_names names last.from)) in
+    let far_full : nat_lt 64 (slots_of planned.channels (last_channel planned.channels).to + 1) ≡ is_full names (last_channel planned.channels).to = ap (λ (n : ℕ). nat_lt 64 (n + 1)) (slots last.to) ∙ one_too_many (length (slot_names names last.to)) in
+    rw (first, near_full, far_full) (same_widening (nat_le 8 (length last.tunnels)) (is_full names last.from) (is_full names last.to))
+
 -- ---- names, shapes and channels
 
 -- a list of lists, one of which gets one more
@@ -75,10 +100,11 @@ channels_grow : (channels : List ChannelState) (from to : ℕ) (medium : Medium)
 channels_grow channels from to medium who = slots_append channels (channel_between channels from to (medium ∷ []) ∷ []) who
     ∙ ap (λ (n : ℕ). slots_of channels who + n) (slots_one (channel_between channels from to (medium ∷ [])) who)
 
--- a channel more, and a slot of each of its boxes
-pub in_form_with_channel : (d : Declared) (medium : Medium) (from : ℕ) (slot : List ℕ) (to : ℕ) (far_slot : List ℕ)
-    → from < length d.names.boxes → to < length d.names.boxes → IsInForm d → IsInForm (with_joined d medium from slot to far_slot)
-in_form_with_channel d medium from slot to far_slot near far form =
+-- channels that give two boxes one slot more each, with its name and medium
+in_form_with_slots : (d : Declared) (channels : List ChannelState) (medium : Medium) (from : ℕ) (slot : List ℕ) (to : ℕ) (far_slot : List ℕ)
+    → ((who : ℕ) → slots_of channels who ≡ slots_of d.channels who + (part (from == who) 1 + part (to == who) 1)) → from < length d.names.boxes → to < length d.names.boxes → IsInForm d
+    → IsInForm (record (with_new_slot (with_new_slot (record d { channels = channels }) from slot medium) to far_slot medium) { section = section.Channels })
+in_form_with_slots d channels medium from slot to far_slot grow near far form =
     let listed = form.named.listed in
     let fits = form.fits.boxes in
     let one_named = with_slot_name d.names from slot in
@@ -97,7 +123,19 @@ in_form_with_channel d medium from slot to far_slot near far form =
       named = record {
         listed = omega arith;
         boxes = form.named.boxes;
-        slots = λ who. omega (arith, channels_grow d.channels from to medium who, form.named.slots who, names_grow who);
+        slots = λ who. omega (arith, grow who, form.named.slots who, names_grow who);
       };
       block = tt;
     }
+
+-- a channel more, and a slot of each of its boxes
+pub in_form_with_channel : (d : Declared) (medium : Medium) (from : ℕ) (slot : List ℕ) (to : ℕ) (far_slot : List ℕ)
+    → from < length d.names.boxes → to < length d.names.boxes → IsInForm d → IsInForm (with_joined d medium from slot to far_slot)
+in_form_with_channel d medium from slot to far_slot near far form =
+    in_form_with_slots d (d.channels ++ channel_between d.channels from to (medium ∷ []) ∷ []) medium from slot to far_slot (λ who. channels_grow d.channels from to medium who) near far form
+
+-- and a tunnel more of the last channel
+pub in_form_with_tunnel : (d : Declared) (medium : Medium) (slot far_slot : List ℕ) (from to : ℕ) → 0 < length d.channels → from ≡ (last_channel d.channels).from → to ≡ (last_channel d.channels).to
+    → from < length d.names.boxes → to < length d.names.boxes → IsInForm d → IsInForm (with_widened d medium from slot to far_slot)
+in_form_with_tunnel d medium slot far_slot from to some first second near far form =
+    in_form_with_slots d (widened d.channels medium) medium from slot to far_slot (λ who. rw (first, second) (slots_widened d.channels medium who some)) near far form

@@ -26,6 +26,15 @@ no_fifth_without_fourth (a ∷ b ∷ []) missing = refl
 no_fifth_without_fourth (a ∷ b ∷ c ∷ []) missing = refl
 no_fifth_without_fourth (a ∷ b ∷ c ∷ d ∷ others) missing = absurd cc
 
+pub no_third_without_first : (words : List (List ℕ)) → slice_get words 0 ≡ None → slice_get words 2 ≡ None
+no_third_without_first [] missing = refl
+no_third_without_first (a ∷ others) missing = absurd cc
+
+pub no_third_without_second : (words : List (List ℕ)) → slice_get words 1 ≡ None → slice_get words 2 ≡ None
+no_third_without_second [] missing = refl
+no_third_without_second (a ∷ []) missing = refl
+no_third_without_second (a ∷ b ∷ others) missing = absurd cc
+
 -- a place in which no box is known and none is lacking has no word
 pub no_word_without_box : (names : NameLists) (word : Option (List ℕ)) → lacks names.boxes word ≡ false → box_named names word ≡ None → word ≡ None
 no_word_without_box names None lacking none = refl

@@ -4,13 +4,15 @@ use Rattle.mc_signal.specs.Choice.{codecs_of}
 use Rattle.std.specs.Option.{is_some}
 use Rattle.mc_text.specs.NameLists.{NameLists, place_of, slot_names}
 use Rattle.mc_text.specs.Spelling.{is_name, is_spelt}
-use Rattle.mc_text.specs.declared.limit.TheConstants.{SLOT_LIMIT}
 use Rattle.mc_model.specs.Worlds.{ChannelState}
+use Rattle.mc_model.specs.declared.channel.TheConstants.{TUNNEL_LIMIT}
+use Rattle.mc_plan.specs.Plans.{last_channel}
 use Rattle.mc_plan.specs.declared.plan.BoxPlan.{BoxPlan}
 use Rattle.mc_script.specs.Places.{is_overlong, unless}
 use Rattle.mc_script.specs.declared.command.LineFault.{LineFault}
 use Rattle.mc_script.specs.declared.rule.TheConstants.{GIVEN_TWICE, LIMIT_PASSED, NAME_TOO_LONG, SAME_BOX}
-use Rattle.mc_net.specs.Meaning.{with_joined, with_new_box, with_send_line}
+use Rattle.mc_net.specs.Meaning.{with_joined, with_new_box, with_send_line, with_widened}
+use Rattle.mc_net.specs.Rules.{is_full}
 use Rattle.mc_net.specs.SoFar.{Declared, DeclaredBox}
 use Rattle.mc_plan.specs.declared.limit.TheConstants.{CHANNEL_LIMIT}
 use Rattle.mc_net.specs.declared.reader.boxes.DeviceLine.{DeviceLine}
@@ -33,14 +35,33 @@ send_seen d line = with_send_line d line.who (codecs_of line.sends)
 abbrev pub channel_seen : Declared → ChannelLine → Declared
 channel_seen d line = with_joined d line.medium line.from line.slot.now line.to line.far_slot.now
 
--- whether a box has as many slots as it may have
-abbrev pub is_full : NameLists → ℕ → Bool
-is_full names who = nat_le SLOT_LIMIT (length (slot_names names who))
-
 -- whether two boxes may be joined by one more channel of one tunnel
 abbrev pub check_join : NameLists → List ChannelState → (from to : ℕ) → Result (Unit {0}) LineFault
 check_join names channels from to = if from == to then Err (record { number = SAME_BOX })
     else unless (is_full names from || is_full names to || nat_le CHANNEL_LIMIT (length channels)) LIMIT_PASSED tt
+
+-- what is declared after an `also` line
+abbrev pub also_seen : Declared → ChannelLine → Declared
+also_seen d line = with_widened d line.medium line.from line.slot.now line.to line.far_slot.now
+
+-- whether the channel between two boxes, which has so many tunnels, may have one more
+abbrev pub check_widen : NameLists → ChannelState → Result (Unit {0}) LineFault
+check_widen names ends = unless (is_full names ends.from || is_full names ends.to || nat_le TUNNEL_LIMIT (length ends.tunnels)) LIMIT_PASSED tt
+
+-- what is left to ask of an `also` line whose words are known where they must be
+abbrev pub widening_rules : Declared → ChannelLine → List (ℕ × Bool)
+widening_rules d line =
+    let ends = last_channel d.channels in
+    (GIVEN_TWICE, is_some (place_of (slot_names d.names line.from) line.slot.now) || is_some (place_of (slot_names d.names line.to) line.far_slot.now))
+    ∷ (LIMIT_PASSED, is_full d.names ends.from || is_full d.names ends.to || nat_le TUNNEL_LIMIT (length ends.tunnels))
+    ∷ (NAME_TOO_LONG, is_overlong (Some line.slot.now) || is_overlong (Some line.far_slot.now))
+    ∷ []
+
+-- an `also` line's boxes are those of the last channel
+pub record IsOfLast (d : Declared) (line : ChannelLine) : Type 0 where
+  pub some : 0 < length d.channels
+  pub near : line.from ≡ (last_channel d.channels).from
+  pub far : line.to ≡ (last_channel d.channels).to
 
 -- what is left to ask of a `chan` line whose words are known where they must be
 abbrev pub joining_rules : Declared → ChannelLine → List (ℕ × Bool)
@@ -57,6 +78,14 @@ pub record KnowsEnds (d : Declared) (line : ChannelLine) : Type 0 where
   pub far : line.to < length d.names.boxes
   pub slot : IsTrue (is_spelt line.slot.now)
   pub far_slot : IsTrue (is_spelt line.far_slot.now)
+
+-- the last channel, whose boxes these are, may have one more tunnel, and both slots are named
+pub record CanWiden (d : Declared) (line : ChannelLine) : Type 0 where
+  pub last : IsOfLast d line
+  pub ends : KnowsEnds d line
+  pub widens : check_widen d.names (last_channel d.channels) ≡ Ok tt
+  pub slot : IsTrue (is_name line.slot.now)
+  pub far_slot : IsTrue (is_name line.far_slot.now)
 
 -- both boxes are declared, they may be joined, and both slots are named
 pub record CanJoin (d : Declared) (line : ChannelLine) : Type 0 where

@@ -10,7 +10,7 @@ use Rattle.mc_script.specs.Rules.{least_broken}
 use Rattle.mc_script.specs.declared.rule.TheConstants.{GIVEN_TWICE, LIMIT_PASSED, NAME_TOO_LONG}
 use Rattle.mc_script.specs.declared.command.LineFault.{LineFault}
 use Rattle.mc_script.specs.declared.keyword.CommandWord.{CommandWord}
-use Rattle.mc_net.specs.BoxLines.{channel_seen, device_seen, joining_rules, send_seen}
+use Rattle.mc_net.specs.BoxLines.{also_seen, channel_seen, device_seen, joining_rules, send_seen, widening_rules}
 use Rattle.mc_net.specs.Meaning.{after_by, command_after, send_after, with_new_box, with_new_codec, words_after}
 use Rattle.mc_net.specs.Rules.{command_line_rules, entry_fault, line_fault, rules_by, send_rules, words_rules}
 use Rattle.mc_net.specs.SoFar.{Declared, DeclaredBox}
@@ -19,7 +19,7 @@ use Rattle.mc_net.specs.declared.reader.boxes.DeviceLine.{DeviceLine}
 use Rattle.mc_net.specs.declared.reader.channels.ChannelLine.{ChannelLine}
 use Rattle.mc_net.specs.declared.reader.sends.SendLine.{SendLine}
 use Rattle.mc_net.specs.declared.section.Keyword.{Keyword}
-use Rattle.mc_net.specs.declared.section.Keyword.TheVariants.{Chan, Dev}
+use Rattle.mc_net.specs.declared.section.Keyword.TheVariants.{Also, Chan, Dev}
 
 -- a line is refused by its fault, and else these rules are left to ask of what it spells, seen by a view
 abbrev pub LeavesRules : {X Y : Type 0} → (X → Y) → (X → List (ℕ × Bool)) → Result X LineFault → Option ℕ → Option Y → Type 0
@@ -61,6 +61,10 @@ SpellsSends d words result = LeavesRules (send_seen d) (λ line. []) result (lea
 -- the line of a channel does, behind `chan`
 abbrev pub SpellsChannel : Declared → List (List ℕ) → Result ChannelLine LineFault → Type 0
 SpellsChannel d words result = SpellsKind (channel_seen d) (joining_rules d) d Chan words result
+
+-- the line of a tunnel more does, behind `also`
+abbrev pub SpellsAlso : Declared → List (List ℕ) → Result ChannelLine LineFault → Type 0
+SpellsAlso d words result = SpellsKind (also_seen d) (widening_rules d) d Also words result
 
 -- a line of this kind is read
 abbrev pub ReadsKind : Declared → Keyword → List (List ℕ) → Result (Unit {0}) ReadFault → Declared → Type 0

@@ -9,7 +9,7 @@ use Rattle.mc_text.specs.Spelling.{number_of}
 use Rattle.mc_box.specs.BoxShapes.{BoxShapeState, shape_of}
 use Rattle.mc_box.specs.declared.event.Kind.{Kind}
 use Rattle.mc_box.specs.declared.event.Kind.TheVariants.{Device, Feature}
-use Rattle.mc_plan.specs.Plans.{channel_between}
+use Rattle.mc_plan.specs.Plans.{channel_between, last_channel, widened}
 use Rattle.mc_script.specs.Meaning.{command_by}
 use Rattle.mc_script.specs.Places.{box_named, spelt_value}
 use Rattle.mc_script.specs.declared.keyword.CommandWord.{CommandWord}
@@ -113,6 +113,21 @@ channel_after d words = do
   far_slot ← slice_get words 4
   Some (with_joined d medium from slot to far_slot)
 
+-- the last channel has one tunnel more
+abbrev pub with_new_tunnel : Declared → Medium → Declared
+with_new_tunnel d medium = record d { channels = widened d.channels medium }
+
+-- one tunnel more between a new slot of each of its two boxes
+abbrev pub with_widened : Declared → Medium → ℕ → List ℕ → ℕ → List ℕ → Declared
+with_widened d medium from slot to far_slot = record (with_new_slot (with_new_slot (with_new_tunnel d medium) from slot medium) to far_slot medium) { section = section.Channels }
+
+abbrev pub also_after : Declared → List (List ℕ) → Option Declared
+also_after d words = do
+  medium ← spelt_value spelt_medium (slice_get words 0)
+  slot ← slice_get words 1
+  far_slot ← slice_get words 2
+  Some (with_widened d medium (last_channel d.channels).from slot (last_channel d.channels).to far_slot)
+
 -- ---- programs
 
 -- a box has a program
@@ -157,6 +172,7 @@ after_by d (Some keyword.Dev) words = device_after d words
 after_by d (Some keyword.Feat) words = feature_after d words
 after_by d (Some keyword.Send) words = send_after d words
 after_by d (Some keyword.Chan) words = channel_after d words
+after_by d (Some keyword.Also) words = also_after d words
 after_by d (Some keyword.Prog) words = program_after d words
 after_by d (Some keyword.State) words = state_after d words
 after_by d (Some keyword.Goal) words = option_and_then (λ block. option_map (with_block d) (block_goal_after d.names block words)) (open_block d)

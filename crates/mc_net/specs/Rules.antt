@@ -22,7 +22,9 @@ use Rattle.mc_net.specs.declared.section.Keyword.{Keyword}
 use Rattle.mc_net.specs.declared.section.Keyword.TheVariants as keyword
 use Rattle.mc_net.specs.declared.section.Section.{Section}
 use Rattle.mc_net.specs.declared.section.Section.TheVariants as section
+use Rattle.mc_plan.specs.Plans.{last_channel}
 use Rattle.mc_plan.specs.declared.limit.TheConstants.{CHANNEL_LIMIT}
+use Rattle.mc_model.specs.declared.channel.TheConstants.{TUNNEL_LIMIT}
 use Rattle.mc_net.specs.declared.limit.TheConstants.{COMMAND_LIMIT, LIST_LIMIT, TEXT_LIMIT}
 
 -- ---- limits
@@ -56,6 +58,7 @@ keyword_of word =
     else (if bytes_eq word (codes "feat") then Some keyword.Feat
     else (if bytes_eq word (codes "send") then Some keyword.Send
     else (if bytes_eq word (codes "chan") then Some keyword.Chan
+    else (if bytes_eq word (codes "also") then Some keyword.Also
     else (if bytes_eq word (codes "prog") then Some keyword.Prog
     else (if bytes_eq word (codes "state") then Some keyword.State
     else (if bytes_eq word (codes "goal") then Some keyword.Goal
@@ -67,7 +70,7 @@ keyword_of word =
     else (if bytes_eq word (codes "talk") then Some keyword.Talk
     else (if bytes_eq word (codes "tell") then Some keyword.Tell
     else (if bytes_eq word (codes "settle") then Some keyword.Settle
-    else None))))))))))))))))
+    else None)))))))))))))))))
 
 -- the kind of line that these words open
 abbrev pub kind_of : List (List ℕ) → Option Keyword
@@ -174,6 +177,22 @@ channel_rules d words =
     ∷ (NAME_TOO_LONG, (is_some from && is_overlong (slice_get words 2)) || (is_some to && is_overlong (slice_get words 4)))
     ∷ []
 
+-- a box has as many slots as it may have
+abbrev pub is_full : NameLists → ℕ → Bool
+is_full names who = nat_le SLOT_LIMIT (length (slot_names names who))
+
+-- `also MEDIUM SLOT SLOT`, of the two boxes of the last `chan` line
+abbrev pub also_rules : Declared → List (List ℕ) → List (ℕ × Bool)
+also_rules d words =
+    let ends = last_channel d.channels in
+    (WRONG_WORD, is_late d section.Channels || length d.channels == 0 || is_no spelt_medium (slice_get words 0) || is_misspelt (slice_get words 1) || is_misspelt (slice_get words 2))
+    ∷ (MISSING_WORD, is_none (slice_get words 2))
+    ∷ (EXTRA_WORD, is_some (slice_get words 3))
+    ∷ (GIVEN_TWICE, has (slot_names d.names ends.from) (slice_get words 1) || has (slot_names d.names ends.to) (slice_get words 2))
+    ∷ (LIMIT_PASSED, is_full d.names ends.from || is_full d.names ends.to || nat_le TUNNEL_LIMIT (length ends.tunnels))
+    ∷ (NAME_TOO_LONG, is_overlong (slice_get words 1) || is_overlong (slice_get words 2))
+    ∷ []
+
 -- ---- programs
 
 -- the shapes of the boxes, for commands
@@ -226,6 +245,7 @@ rules_by d (Some keyword.Dev) words = device_rules d words
 rules_by d (Some keyword.Feat) words = feature_rules d words
 rules_by d (Some keyword.Send) words = send_line_rules d d.sends_apart words
 rules_by d (Some keyword.Chan) words = channel_rules d words
+rules_by d (Some keyword.Also) words = also_rules d words
 rules_by d (Some keyword.Prog) words = program_rules d words
 rules_by d (Some keyword.State) words = state_rules d words
 rules_by d (Some keyword.Goal) words = in_block (λ block. block_goal_rules d.names block words) (open_block d)

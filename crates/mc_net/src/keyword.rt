@@ -22,6 +22,8 @@ pub fn keyword_of(word: &[u8]) -> Option<Keyword>
         Some(Keyword::Send)
     } else if word == b"chan".as_slice() {
         Some(Keyword::Chan)
+    } else if word == b"also".as_slice() {
+        Some(Keyword::Also)
     } else if word == b"prog".as_slice() {
         Some(Keyword::Prog)
     } else if word == b"state".as_slice() {

@@ -140,6 +140,7 @@ impl Reader {
             Keyword::Feat => self.read_feature(words),
             Keyword::Send => self.read_send(words),
             Keyword::Chan => self.read_channel(words),
+            Keyword::Also => self.read_also(words),
             Keyword::Prog => self.read_program(words),
             Keyword::State => self.read_state(words),
             Keyword::Goal => self.read_goal(words),

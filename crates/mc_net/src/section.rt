@@ -41,6 +41,7 @@ pub enum Keyword {
     Feat,
     Send,
     Chan,
+    Also,
     Prog,
     State,
     Goal,

@@ -4,10 +4,11 @@ ghost use Rattle.std.specs.Prelude.{◌≡◌, ◌<◌, [], IfOk, IsTrue, OnOk, 
 ghost use Rattle.std.specs.Option.{is_some};
 ghost use Rattle.mc_text.specs.NameLists.{place_of, slot_names};
 ghost use Rattle.mc_text.specs.Spelling.{is_name};
-ghost use Rattle.mc_net.specs.BoxLines.{CanJoin, KnowsEnds, channel_seen, check_join};
+ghost use Rattle.mc_net.specs.BoxLines.{CanJoin, CanWiden, IsOfLast, KnowsEnds, also_seen, channel_seen, check_join, check_widen};
+ghost use Rattle.mc_plan.specs.Plans.{last_channel};
 ghost use Rattle.mc_net.specs.Forms.{IsInForm};
-ghost use Rattle.mc_net.specs.Meaning.{with_new_channel, with_medium, with_new_slot};
-ghost use Rattle.mc_net.specs.LineReadings.{ReadsKind, SpellsChannel, SpellsKind};
+ghost use Rattle.mc_net.specs.Meaning.{with_new_channel, with_medium, with_new_slot, with_new_tunnel};
+ghost use Rattle.mc_net.specs.LineReadings.{ReadsKind, SpellsAlso, SpellsChannel, SpellsKind};
 
 use crate::places::fixed_medium;
 use crate::reader::Reader;
@@ -132,6 +133,107 @@ impl Reader {
         self.add_slot(line.from, line.slot, line.medium)?;
         self.add_slot(line.to, line.far_slot, line.medium)?;
         self.section = Section::Channels;
+        Ok(())
+    }
+
+    // What an `also` line spells, in words that are known where they must be.
+    #[tactic(auto, using(crate::proofs::Missing::no_third_without_first, crate::proofs::Missing::no_third_without_second))]
+    fn also_words<'a>(&self, words: Words<'a>) -> Result<ChannelLine<'a>, LineFault>
+        requires { IsInForm self.now }
+        ensures read { SpellsAlso self.now words.entry result }
+        ensures last { IfOk result (IsOfLast self.now) }
+        ensures known { IfOk result (KnowsEnds self.now) }
+    {
+        self.plan.keeps();
+        let parts = FirstWords::new(words);
+        let medium = fixed_medium(parts.first)?;
+        let Some(last) = self.plan.channels().last() else {
+            return Err(LineFault { number: WRONG_WORD });
+        };
+        if self.is_late(Section::Channels) || is_misspelt(parts.second) || is_misspelt(parts.third)
+        {
+            return Err(LineFault { number: WRONG_WORD });
+        }
+        let Some(far_slot) = parts.third else {
+            return Err(LineFault {
+                number: MISSING_WORD,
+            });
+        };
+        if parts.fourth.is_some() {
+            return Err(LineFault { number: EXTRA_WORD });
+        }
+        // where the third word is there, so are those before it
+        let (Some(medium), Some(slot)) = (medium, parts.second) else {
+            unreachable!()
+        };
+        Ok(ChannelLine {
+            medium,
+            from: last.from,
+            slot,
+            to: last.to,
+            far_slot,
+        })
+    }
+
+    // What an `also` line declares.
+    fn also_line<'a>(&self, words: Words<'a>) -> Result<ChannelLine<'a>, LineFault>
+        requires { IsInForm self.now }
+        ensures read { SpellsKind (also_seen self.now) (λ line. []) self.now Keyword.Also words.entry result }
+        ensures can_widen { IfOk result (CanWiden self.now) }
+    {
+        let line = self.also_words(words)?;
+        if self.has_slot(line.from, line.slot) || self.has_slot(line.to, line.far_slot) {
+            return Err(LineFault {
+                number: GIVEN_TWICE,
+            });
+        }
+        // asked before the length of the names, which comes behind it
+        self.check_widen()?;
+        if is_overlong(Some(line.slot)) || is_overlong(Some(line.far_slot)) {
+            return Err(LineFault {
+                number: NAME_TOO_LONG,
+            });
+        }
+        Ok(line)
+    }
+
+    // Whether the last channel may have one more tunnel: else fault 14, as it would have too many, or one of its boxes
+    // too many slots.
+    #[tactic(auto, using(crate::proofs::Joining::widens_by_plan))]
+    fn check_widen(&self) -> Result<(), LineFault>
+        requires in_form { IsInForm self.now }
+        requires some { 0 < length self.now.channels }
+        ensures { result ≡ check_widen self.now.names (last_channel self.now.channels) }
+    {
+        match self.plan.may_widen() {
+            Ok(()) => Ok(()),
+            Err(_) => Err(LineFault {
+                number: LIMIT_PASSED,
+            }),
+        }
+    }
+
+    /// Reads `also MEDIUM SLOT SLOT` from the medium on.
+    pub fn read_also<'a>(&mut self, words: Words<'a>) -> Result<(), ReadFault>
+        requires { IsInForm self.old }
+        ensures declared { ReadsKind self.old Keyword.Also words.entry result self.new }
+        ensures in_form { OnOk result (IsInForm self.new) }
+    {
+        let line = self.also_line(words)?;
+        self.widen(line.medium)?;
+        self.add_slot(line.from, line.slot, line.medium)?;
+        self.add_slot(line.to, line.far_slot, line.medium)?;
+        self.section = Section::Channels;
+        Ok(())
+    }
+
+    // Gives the last channel one more tunnel.
+    fn widen(&mut self, medium: Medium) -> Result<(), AllocError>
+        ensures { OnOk result (self.new ≡ with_new_tunnel self.old medium) }
+    {
+        if self.plan.widen(medium).is_err() {
+            return Err(AllocError);
+        }
         Ok(())
     }
 

@@ -30,6 +30,12 @@ returns-in-Chan-clause-declared c = rw c.in-Chan.is c.read_channel.ensures.decla
 pub returns-in-Chan-clause-in_form : goal.returns-in-Chan-clause-in_form
 returns-in-Chan-clause-in_form c = c.read_channel.ensures.in_form
 
+pub returns-in-Also-clause-declared : goal.returns-in-Also-clause-declared
+returns-in-Also-clause-declared c = rw c.in-Also.is c.read_also.ensures.declared
+
+pub returns-in-Also-clause-in_form : goal.returns-in-Also-clause-in_form
+returns-in-Also-clause-in_form c = c.read_also.ensures.in_form
+
 pub returns-in-Prog-clause-declared : goal.returns-in-Prog-clause-declared
 returns-in-Prog-clause-declared c = rw c.in-Prog.is c.read_program.ensures.declared
 
