@@ -1,7 +1,7 @@
 -- Two boxes are joined: whether they may be is the plan's to say, and names, shapes and channels go on to fit.
-use Rattle.std.proofs.Common.{◌≡◌, ℕ, ◌+◌, ◌<◌, ◌==◌, ◌||◌, Bool, true, false, if◌then◌else◌, nat_le, nat_lt, Result, Ok, Err, None, List, [], ◌∷◌, ◌++◌, length, slice_index_or, slice_set, refl, ap, ◌∙◌, arith}
+use Rattle.std.proofs.Common.{◌≡◌, ℕ, ◌+◌, ◌<◌, ◌==◌, ◌||◌, Bool, true, false, if◌then◌else◌, nat_le, nat_lt, Result, Ok, Err, None, List, [], ◌∷◌, ◌++◌, length, slice_index_or, slice_set, refl, ap, sym, ◌∙◌, subst, arith, map}
 use Rattle.std.proofs.lemmas.Grind.{common_steps}
-use Rattle.std.proofs.lemmas.List.{length-set}
+use Rattle.std.proofs.lemmas.List.{length-map, length-set}
 use Rattle.mc_signal.specs.declared.Medium.{Medium}
 use Rattle.mc_text.specs.NameLists.{NameLists, slot_names, with_slot_name}
 use Rattle.mc_box.specs.BoxShapes.{BoxShapeState, shape_of}
@@ -12,11 +12,12 @@ use Rattle.mc_plan.specs.Refusals as plan
 use Rattle.mc_plan.specs.declared.fault.PlanFault.{PlanFault}
 use Rattle.mc_plan.specs.declared.fault.PlanFault.TheVariants.{SameBox, NoTunnels, TooManyTunnels, ChannelsFull, SlotsFull}
 use Rattle.mc_plan.proofs.Slots.{part, slots_append, slots_one}
-use Rattle.mc_plan.proofs.Widened.{slots_widened}
+use Rattle.mc_plan.specs.LaidOut.{IsLaidOut}
+use Rattle.mc_plan.proofs.Widened.{last_there, slots_widened}
 use Rattle.mc_script.specs.Places.{unless}
 use Rattle.mc_script.specs.declared.command.LineFault.{LineFault}
 use Rattle.mc_script.specs.declared.rule.TheConstants.{LIMIT_PASSED, SAME_BOX}
-use Rattle.mc_net.specs.BoxLines.{check_join, check_widen}
+use Rattle.mc_net.specs.BoxLines.{box_seen, check_join, check_widen}
 use Rattle.mc_net.specs.Rules.{is_full}
 use Rattle.mc_net.specs.Forms.{IsInForm}
 use Rattle.mc_net.specs.Meaning.{with_joined, with_medium, with_new_slot, with_widened}
@@ -139,3 +140,13 @@ pub in_form_with_tunnel : (d : Declared) (medium : Medium) (slot far_slot : List
     → from < length d.names.boxes → to < length d.names.boxes → IsInForm d → IsInForm (with_widened d medium from slot to far_slot)
 in_form_with_tunnel d medium slot far_slot from to some first second near far form =
     in_form_with_slots d (widened d.channels medium) medium from slot to far_slot (λ who. rw (first, second) (slots_widened d.channels medium who some)) near far form
+
+-- the last channel's boxes are declared
+pub last_declared : (planned : PlanState) (d : Declared) → IsLaidOut planned → IsInForm d → map box_seen planned.boxes ≡ d.boxes → planned.channels ≡ d.channels → 0 < length d.channels
+    → ((last_channel d.channels).from < length d.names.boxes) × ((last_channel d.channels).to < length d.names.boxes)
+last_declared planned d laid form boxes channels some =
+    let there : ((last_channel d.channels).from < length planned.boxes) × ((last_channel d.channels).to < length planned.boxes) =
+    subst (λ (l : List ChannelState). ((last_channel l).from < length planned.boxes) × ((last_channel l).to < length planned.boxes)) channels (last_there planned laid (subst (λ (l : List ChannelState). 0 < length l) (sym channels) some)) in
+    let as_many : length d.boxes ≡ length d.names.boxes = form.named.boxes in
+    let seen : length d.boxes ≡ length (map box_seen planned.boxes) = ap length (sym boxes) in
+    (omega (arith, there.0, as_many, seen, length-map planned.boxes box_seen), omega (arith, there.1, as_many, seen, length-map planned.boxes box_seen))

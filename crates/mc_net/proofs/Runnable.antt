@@ -1,8 +1,8 @@
 -- Until the first line that can't be run yet each box receives declared codecs, the shapes are those of the boxes and channels, and no program is declared. Commands come last, and each is that of a line that breaks no rule. There are no more of them than may be.
-use Rattle.std.proofs.Common.{◌≡◌, ◌⊎◌, inl, inr, ℕ, zero, suc, ◌<◌, ◌≤◌, Bool, true, false, ◌&&◌, ◌||◌, not, nat_le, nat_lt, if◌then◌else◌, List, [], ◌∷◌, ◌++◌, length, drop, slice_index_or, Option, Some, None, refl, sym, ◌∙◌, subst, arith, length-append, map}
+use Rattle.std.proofs.Common.{◌≡◌, ◌⊎◌, inl, inr, ℕ, zero, suc, ◌-◌, ◌<◌, ◌≤◌, ◌==◌, Bool, true, false, ◌&&◌, ◌||◌, not, nat_le, nat_lt, if◌then◌else◌, List, [], ◌∷◌, ◌++◌, length, drop, slice_index_or, Option, Some, None, refl, sym, ◌∙◌, subst, arith, length-append, map}
 use Rattle.std.proofs.lemmas.Bool.{or_parts}
 use Rattle.std.proofs.lemmas.List.{length-set}
-use Rattle.std.proofs.lemmas.List.Elements.{All-nil, All-push, All-weaker}
+use Rattle.std.proofs.lemmas.List.Elements.{All-get_or, All-nil, All-push, All-set, All-weaker}
 use Rattle.std.specs.List.{All, list_any, slice_get}
 use Rattle.std.specs.Option.{is_some, unwrap_or}
 use Rattle.mc_signal.specs.declared.Medium.{Medium}
@@ -10,6 +10,7 @@ use Rattle.mc_text.specs.Lines.{lines, words}
 use Rattle.mc_text.specs.NameLists.{NameLists, with_codec_name}
 use Rattle.mc_box.specs.BoxShapes.{BoxShapeState}
 use Rattle.mc_model.specs.Worlds.{ChannelState}
+use Rattle.mc_plan.specs.Plans.{channel_between, last_channel, next_tunnel, no_channel, with_one_more}
 use Rattle.mc_program.specs.Programs.{BlockState}
 use Rattle.mc_script.specs.Meaning.{command_by}
 use Rattle.mc_script.specs.Places.{box_named, is_misspelt, is_no, spelt_value}
@@ -18,8 +19,8 @@ use Rattle.mc_script.specs.declared.command.Command.{Command}
 use Rattle.mc_script.specs.declared.keyword.CommandWord.{CommandWord}
 use Rattle.mc_script.specs.declared.keyword.CommandWord.TheVariants as command
 use Rattle.mc_script.specs.declared.rule.TheConstants.{LIMIT_PASSED, UNDECLARED, UNFINISHED, WRONG_WORD}
-use Rattle.mc_net.specs.Meaning.{after_by, begin_after, channel_after, codec_after, codec_number, command_after, device_after, device_in, feature_after, declared_at, line_after, link_after, new_feature, send_after, unless_skipped, with_joined, with_new_box, with_new_codec, with_new_feature, with_send_line, words_after}
-use Rattle.mc_net.specs.Rules.{channel_rules, codec_rules, codec_words, command_line_rules, device_rules, feature_rules, is_late, is_second, is_skipped, is_unfinished, kind_of, line_fault, line_words_rules, link_line_rules, lists_undeclared, open_block, passes_limit, rank, rules_by, send_line_rules, send_rules, spelt_medium, words_rules}
+use Rattle.mc_net.specs.Meaning.{after_by, also_after, begin_after, channel_after, codec_after, codec_number, command_after, device_after, device_in, feature_after, declared_at, line_after, link_after, new_feature, send_after, unless_skipped, with_joined, with_new_box, with_new_codec, with_new_feature, with_send_line, with_widened, words_after}
+use Rattle.mc_net.specs.Rules.{also_rules, channel_rules, codec_rules, codec_words, command_line_rules, device_rules, feature_rules, is_late, is_second, is_skipped, is_unfinished, kind_of, line_fault, line_words_rules, link_line_rules, lists_undeclared, open_block, passes_limit, rank, rules_by, send_line_rules, send_rules, spelt_medium, words_rules}
 use Rattle.mc_net.specs.SoFar.{Declared, DeclaredBox, nothing}
 use Rattle.mc_net.specs.Texts.{AreSound, Says, bytes_before, declared_by, first_unbuilt, is_unbuilt, unbuilt_by, with_unbuilt}
 use Rattle.mc_net.specs.declared.limit.TheConstants.{COMMAND_LIMIT}
@@ -31,10 +32,15 @@ use Rattle.mc_net.proofs.Enabled.{IsOfLine}
 use Rattle.mc_net.proofs.FirstBroken.{all_before, has_room, kept_at, others_kept}
 use Rattle.mc_net.proofs.Named.{HasCodecs, mapped, named_within, numbers_known}
 use Rattle.mc_net.proofs.Sends.{still_all}
-use Rattle.mc_net.proofs.Shaped.{AreShapes, box_shaped, channel_shaped, none_shaped, send_shaped}
+use Rattle.mc_net.proofs.Shaped.{AreShapes, box_shaped, channel_shaped, none_shaped, send_shaped, tunnel_shaped}
 use Rattle.mc_net.proofs.Unfinished.{none_open}
 
 -- ---- what is kept
+
+-- both boxes of a channel are among so many
+pub record HasEnds (boxes : ℕ) (ends : ChannelState) : Type 0 where
+  pub near : ends.from < boxes
+  pub far : ends.to < boxes
 
 -- no program is declared, each box has declared codecs, the shapes are those of boxes and channels, and commands come last, each that of a line with these names and shapes, and no more of them than may be
 pub record RunsAll (place : Section) (names : NameLists) (shape : List BoxShapeState) (boxes : List DeclaredBox) (channels : List ChannelState) (blocks : List BlockState) (commands : List Command) : Type 0 where
@@ -42,6 +48,7 @@ pub record RunsAll (place : Section) (names : NameLists) (shape : List BoxShapeS
   pub known : All (HasCodecs names) boxes
   pub counted : length boxes ≡ length names.boxes
   pub shaped : AreShapes shape boxes channels
+  pub joined : All (HasEnds (length boxes)) channels
   pub last : (commands ≡ []) ⊎ (place ≡ section.Commands)
   pub of_lines : All (IsOfLine names shape) commands
   pub few : length commands ≤ COMMAND_LIMIT
@@ -55,6 +62,7 @@ nothing_runs = record {
   known = All-nil (HasCodecs nothing.names);
   counted = refl;
   shaped = none_shaped;
+  joined = All-nil (HasEnds 0);
   last = inl refl;
   of_lines = All-nil (IsOfLine nothing.names nothing.shape);
   few = omega arith;
@@ -85,6 +93,7 @@ codec_runs d after words runs kept means =
       known = All-weaker (HasCodecs d.names) (HasCodecs (with_codec_name d.names m.0)) (λ declared has. All-weaker (λ codec. codec < length d.names.codecs) (λ codec. codec < length (d.names.codecs ++ m.0 ∷ [])) (λ codec below. one_more m.0 codec below) declared.receives has) d.boxes runs.known;
       counted = runs.counted;
       shaped = runs.shaped;
+      joined = runs.joined;
       last = inl none;
       of_lines = of_none (with_codec_name d.names m.0) d.shape d.commands none;
       few = runs.few;
@@ -92,6 +101,13 @@ codec_runs d after words runs kept means =
   where
     one_more : (name : List ℕ) (codec : ℕ) → codec < length d.names.codecs → codec < length (d.names.codecs ++ name ∷ [])
     one_more name codec below = omega (arith, length-append d.names.codecs (name ∷ []))
+
+-- both boxes are among more
+further : (boxes : List DeclaredBox) (declared : DeclaredBox) (ends : ChannelState) → HasEnds (length boxes) ends → HasEnds (length (boxes ++ declared ∷ [])) ends
+further boxes declared ends has = record {
+  near = omega (arith, has.near, length-append boxes (declared ∷ []));
+  far = omega (arith, has.far, length-append boxes (declared ∷ []));
+}
 
 -- a box more
 box_runs : (d : Declared) (name : List ℕ) (declared : DeclaredBox) → IsRunnable d → d.commands ≡ [] → HasCodecs d.names declared → IsRunnable (with_new_box d name declared)
@@ -102,6 +118,7 @@ box_runs d name declared runs none has =
       known = All-push (HasCodecs d.names) d.boxes declared runs.known has;
       counted = let same = runs.counted in omega (arith, length-append d.boxes (declared ∷ []), length-append d.names.boxes (name ∷ []));
       shaped = box_shaped d.shape d.boxes d.channels declared runs.shaped;
+      joined = All-weaker (HasEnds (length d.boxes)) (HasEnds (length (d.boxes ++ declared ∷ []))) (λ ends has. further d.boxes declared ends has) d.channels runs.joined;
       last = inl none;
       of_lines = of_none boxed.names boxed.shape d.commands none;
       few = runs.few;
@@ -143,6 +160,7 @@ send_runs d after words runs kept means =
       known = still_all (HasCodecs d.names) (λ declared sends has. has) d.boxes m.0 sends runs.known;
       counted = length-set d.boxes m.0 (record (declared_at d.boxes m.0) { sends = sends }) ∙ runs.counted;
       shaped = send_shaped d.shape d.boxes d.channels m.0 sends runs.shaped;
+      joined = subst (λ (n : ℕ). All (HasEnds n) d.channels) (sym (length-set d.boxes m.0 (record (declared_at d.boxes m.0) { sends = sends }))) runs.joined;
       last = inl none;
       of_lines = runs.of_lines;
       few = runs.few;
@@ -184,6 +202,7 @@ joined_runs d medium from slot to far_slot runs none near far =
       known = runs.known;
       counted = runs.counted;
       shaped = channel_shaped d.shape d.boxes d.channels from to medium (omega arith) (omega arith) runs.shaped;
+      joined = All-push (HasEnds (length d.boxes)) d.channels (channel_between d.channels from to (medium ∷ [])) runs.joined (record { near = omega arith; far = omega arith });
       last = inl none;
       of_lines = of_none joined.names joined.shape d.commands none;
       few = runs.few;
@@ -208,6 +227,65 @@ channel_runs d after words runs kept means =
     subst (λ (x : Declared). IsRunnable x) (sym j.is)
     (joined_runs d j.medium j.from j.slot j.to j.far_slot runs none (named_within d.names.boxes (slice_get words 1) j.from j.near) (named_within d.names.boxes (slice_get words 3) j.to j.far))
 
+-- what an `also` line adds to the last channel
+record Widens (d after : Declared) (words : List (List ℕ)) : Type 0 where
+  medium : Medium
+  slot : List ℕ
+  far_slot : List ℕ
+  is : after ≡ with_widened d medium (last_channel d.channels).from slot (last_channel d.channels).to far_slot
+
+also_widens : (d after : Declared) (words : List (List ℕ)) → also_after d words ≡ Some after → Widens d after words
+also_widens d after words means = by (spelt_value spelt_medium (slice_get words 0)) refl (slice_get words 1) refl (slice_get words 2) refl
+  where
+    by : (medium : Option Medium) → spelt_value spelt_medium (slice_get words 0) ≡ medium → (slot : Option (List ℕ)) → slice_get words 1 ≡ slot → (far_slot : Option (List ℕ)) → slice_get words 2 ≡ far_slot → Widens d after words
+    by None a slot b far_slot c = absurd (let none : None ≡ Some after = rw a at means in cc)
+    by (Some medium) a None b far_slot c = absurd (let none : None ≡ Some after = rw (a, b) at means in cc)
+    by (Some medium) a (Some slot) b None c = absurd (let none : None ≡ Some after = rw (a, b, c) at means in cc)
+    by (Some medium) a (Some slot) b (Some far_slot) c =
+        let some : Some (with_widened d medium (last_channel d.channels).from slot (last_channel d.channels).to far_slot) ≡ Some after = rw (a, b, c) at means in
+        record { medium = medium; slot = slot; far_slot = far_slot; is = cc }
+
+first_two_of_five : (a b c e f : Bool) → (a || b || c || e || f) ≡ false → (a ≡ false) × (b ≡ false)
+first_two_of_five a b c e f none = (grind arith, grind arith)
+
+-- an `also` line isn't late, and there is a channel
+also_in_time : (d : Declared) (words : List (List ℕ)) → least_broken (also_rules d words) ≡ None → (is_late d section.Channels ≡ false) × (0 < length d.channels)
+also_in_time d words kept =
+    let late = is_late d section.Channels in
+    let none = length d.channels == 0 in
+    let unknown = is_no spelt_medium (slice_get words 0) in
+    let near = is_misspelt (slice_get words 1) in
+    let far = is_misspelt (slice_get words 2) in
+    let both = first_two_of_five late none unknown near far (kept_at (also_rules d words) 0 (WRONG_WORD, late || none || unknown || near || far) kept refl) in
+    (both.0, let some : (length d.channels == 0) ≡ false = both.1 in grind arith)
+
+-- a tunnel more, and a slot of each of its boxes
+widened_runs : (d : Declared) (medium : Medium) (slot far_slot : List ℕ) → IsRunnable d → d.commands ≡ [] → 0 < length d.channels
+    → IsRunnable (with_widened d medium (last_channel d.channels).from slot (last_channel d.channels).to far_slot)
+widened_runs d medium slot far_slot runs none some =
+    let last = last_channel d.channels in
+    let has : HasEnds (length d.boxes) (last_channel d.channels) = All-get_or (HasEnds (length d.boxes)) d.channels (length d.channels - 1) no_channel (omega arith) runs.joined in
+    let near = has.near in
+    let far = has.far in
+    let shaped = runs.shaped.count in
+    let wider = with_widened d medium (last_channel d.channels).from slot (last_channel d.channels).to far_slot in
+    record {
+      plain = runs.plain;
+      known = runs.known;
+      counted = runs.counted;
+      shaped = tunnel_shaped d.shape d.boxes d.channels medium some (omega arith) (omega arith) runs.shaped;
+      joined = All-set (HasEnds (length d.boxes)) d.channels (length d.channels - 1) (with_one_more (next_tunnel d.channels last medium) last) (record { near = near; far = far }) runs.joined;
+      last = inl none;
+      of_lines = of_none wider.names wider.shape d.commands none;
+      few = runs.few;
+    }
+
+also_runs : (d after : Declared) (words : List (List ℕ)) → IsRunnable d → least_broken (also_rules d words) ≡ None → also_after d words ≡ Some after → IsRunnable after
+also_runs d after words runs kept means =
+    let w = also_widens d after words means in
+    let time = also_in_time d words kept in
+    subst (λ (x : Declared). IsRunnable x) (sym w.is) (widened_runs d w.medium w.slot w.far_slot runs (none_yet d section.Channels runs refl time.0) time.1)
+
 -- ---- commands
 
 -- one command more, where there is room
@@ -225,6 +303,7 @@ command_runs d after kind words runs kept means =
       known = runs.known;
       counted = runs.counted;
       shaped = runs.shaped;
+      joined = runs.joined;
       last = inr refl;
       of_lines = All-push (IsOfLine d.names d.shape) d.commands m.0 runs.of_lines
           (record { kind = kind; words = words; kept = all_before (kind_rules d.names d.shape (Some kind) words) behind kept; means = m.1 });
@@ -251,6 +330,7 @@ begin_runs d runs = record {
   known = runs.known;
   counted = runs.counted;
   shaped = runs.shaped;
+  joined = runs.joined;
   last = inr refl;
   of_lines = runs.of_lines;
   few = runs.few;
@@ -265,6 +345,7 @@ kind_runs d after keyword.Dev words runs kept built means = device_runs d after 
 kind_runs d after keyword.Feat words runs kept built means = feature_runs d after words runs kept means
 kind_runs d after keyword.Send words runs kept built means = send_runs d after words runs kept means
 kind_runs d after keyword.Chan words runs kept built means = channel_runs d after words runs kept means
+kind_runs d after keyword.Also words runs kept built means = also_runs d after words runs kept means
 kind_runs d after keyword.Prog words runs kept built means = absurd cc
 kind_runs d after keyword.State words runs kept built means = absurd (let none : None ≡ Some after = rw (no_open d runs) at means in cc)
 kind_runs d after keyword.Goal words runs kept built means = absurd (let none : None ≡ Some after = rw (no_open d runs) at means in cc)

@@ -9,7 +9,8 @@ use Rattle.mc_box.specs.Boxes.{first_slot, no_box}
 use Rattle.mc_box.specs.declared.event.Kind.{Kind}
 use Rattle.mc_box.specs.declared.setup.SlotSetup.{SlotSetup}
 use Rattle.mc_model.specs.Worlds.{ChannelState, box_at}
-use Rattle.mc_plan.specs.Plans.{PlanState, boxes_from, channel_between, slots_of, world_of}
+use Rattle.mc_plan.specs.Plans.{PlanState, boxes_from, channel_between, last_channel, slots_of, widened, world_of}
+use Rattle.mc_plan.proofs.Widened.{setups_widened}
 use Rattle.mc_plan.specs.Setups.{setup_if, setups_at, setups_from, setups_of}
 use Rattle.mc_plan.specs.declared.plan.BoxPlan.{BoxPlan}
 use Rattle.mc_net.specs.BoxLines.{box_seen}
@@ -138,6 +139,17 @@ channel_shaped shape boxes channels from to medium near far are = record {
   where
     as_many : (who : ℕ) (shape : List BoxShapeState) → length (with_medium shape who medium) ≡ length shape
     as_many who shape = length-set shape who (grown (shape_of shape who) (medium ∷ []))
+
+-- a tunnel more of the last channel
+pub tunnel_shaped : (shape : List BoxShapeState) (boxes : List DeclaredBox) (channels : List ChannelState) (medium : Medium) → 0 < length channels
+    → (last_channel channels).from < length shape → (last_channel channels).to < length shape → AreShapes shape boxes channels
+    → AreShapes (with_medium (with_medium shape (last_channel channels).from medium) (last_channel channels).to medium) boxes (widened channels medium)
+tunnel_shaped shape boxes channels medium some near far are =
+    let joined = channel_shaped shape boxes channels (last_channel channels).from (last_channel channels).to medium near far are in
+    record {
+      count = joined.count;
+      each = λ who. joined.each who ∙ ap (λ (setups : List SlotSetup). plain_shape (declared_at boxes who).kind (map (λ (setup : SlotSetup). setup.medium) setups)) (sym (setups_widened channels medium who some));
+    }
 
 -- ---- the first world
 

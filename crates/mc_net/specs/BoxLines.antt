@@ -1,5 +1,5 @@
 -- What the lines of boxes and channels say, as clauses see it.
-use Rattle.std.specs.Prelude.{ℕ, ◌≡◌, ◌<◌, ◌==◌, ◌||◌, Bool, if◌then◌else◌, List, [], ◌∷◌, Some, Result, Ok, Err, IsTrue, length, nat_le}
+use Rattle.std.specs.Prelude.{ℕ, ◌≡◌, ◌<◌, ◌==◌, ◌||◌, Bool, if◌then◌else◌, List, [], ◌∷◌, Option, Some, None, Result, Ok, Err, IsTrue, length, nat_le}
 use Rattle.mc_signal.specs.Choice.{codecs_of}
 use Rattle.std.specs.Option.{is_some}
 use Rattle.mc_text.specs.NameLists.{NameLists, place_of, slot_names}
@@ -43,6 +43,10 @@ check_join names channels from to = if from == to then Err (record { number = SA
 -- what is declared after an `also` line
 abbrev pub also_seen : Declared → ChannelLine → Declared
 also_seen d line = with_widened d line.medium line.from line.slot.now line.to line.far_slot.now
+
+-- the two boxes of the last channel, the initiator first
+abbrev pub last_ends : List ChannelState → Option (ℕ × ℕ)
+last_ends channels = if length channels == 0 then None else Some ((last_channel channels).from, (last_channel channels).to)
 
 -- whether the channel between two boxes, which has so many tunnels, may have one more
 abbrev pub check_widen : NameLists → ChannelState → Result (Unit {0}) LineFault

@@ -1,14 +1,16 @@
 -- A plan stays laid out where its last channel gets one tunnel more.
-use Rattle.std.proofs.Common.{◌≡◌, ◌≢◌, ◌+◌, ◌-◌, ◌<◌, ◌≤◌, ◌==◌, ℕ, suc, Option, Some, None, Ok, All, List, [], ◌∷◌, ◌++◌, length, length-append, slice_set, refl, ap, sym, ◌∙◌, subst, arith, flat_map, count_by}
+use Rattle.std.proofs.Common.{◌≡◌, ◌≢◌, ◌+◌, ◌*◌, ◌-◌, ◌<◌, ◌≤◌, ◌==◌, ℕ, true, false, suc, Option, Some, None, Ok, All, List, [], ◌∷◌, ◌++◌, length, length-append, slice_set, refl, ap, sym, ◌∙◌, subst, arith, flat_map, count_by}
 use Rattle.std.proofs.Math.Seq.{set-append_seam}
 use Rattle.std.proofs.lemmas.Grind.{common_steps}
-use Rattle.std.proofs.lemmas.List.{append_assoc, get_or-append-add}
+use Rattle.std.proofs.lemmas.List.{append-nil, append_assoc, get_or-append-add}
 use Rattle.std.proofs.lemmas.List.Concat.{flat_map-append}
 use Rattle.std.proofs.lemmas.List.Elements.{All-head, All-set, All-tail}
 use Rattle.std.proofs.Math.ListN.{get_or}
 use Rattle.mc_signal.specs.declared.Medium.{Medium}
 use Rattle.mc_model.specs.Worlds.{ChannelState, HasTunnels, places_among, places_of, places_within}
 use Rattle.mc_model.specs.declared.channel.Tunnel.{Tunnel}
+use Rattle.mc_box.specs.declared.setup.SlotSetup.{SlotSetup}
+use Rattle.mc_plan.specs.Setups.{setup_if, setups_at, setups_from, setups_of, setups_within}
 use Rattle.mc_plan.specs.LaidOut.{AreInOrder, AreThere, IsLaidOut}
 use Rattle.mc_plan.specs.Plans.{PlanState, channel_between, is_of, last_channel, next_tunnel, no_channel, slots_of, widened, with_one_more, with_tunnel, with_tunnel_at}
 use Rattle.mc_plan.specs.declared.fault.PlanFault.{PlanFault}
@@ -158,6 +160,46 @@ slots_widened channels medium who some =
         ∙ ap (λ (l : List (ℕ × ℕ)). count_by (is_of who) l) (places_widened before ends medium)
         ∙ slots_append all (new ∷ []) who
         ∙ ap (λ (n : ℕ). slots_of all who + n) (slots_one new who))
+
+-- ---- the slots that it gives
+
+-- a tunnel behind those of a channel gives what it would in a channel of its own
+setups_behind : (who count : ℕ) (ends : ChannelState) (tunnel : Tunnel) (tunnels : List Tunnel)
+    → setups_within who count (with_one_more tunnel ends) (tunnels ++ tunnel ∷ []) ≡ setups_within who count ends tunnels ++ setups_within who (count + length tunnels) ends (tunnel ∷ [])
+setups_behind who count ends tunnel [] = let same : count + 0 ≡ count = omega arith in rw same refl
+setups_behind who count ends tunnel (other ∷ tunnels) =
+    let near = setup_if (ends.from == who) (record { origin = 2 * count; medium = other.medium; initiator = true }) in
+    let far = setup_if (ends.to == who) (record { origin = 2 * count + 1; medium = other.medium; initiator = false }) in
+    let next : count + 1 + length tunnels ≡ count + suc (length tunnels) = omega arith in
+    ap (λ (l : List SlotSetup). near ++ far ++ l) (setups_behind who (count + 1) ends tunnel tunnels)
+    ∙ sym (append_assoc (near ++ far) (setups_within who (count + 1) ends tunnels) (setups_within who (count + 1 + length tunnels) ends (tunnel ∷ [])))
+    ∙ ap (λ (n : ℕ). near ++ far ++ setups_within who (count + 1) ends tunnels ++ setups_within who n ends (tunnel ∷ [])) next
+
+-- the channel of its own
+abbrev alone : ChannelState → Tunnel → ChannelState
+alone ends tunnel = record { from = ends.from; to = ends.to; tunnels = tunnel ∷ [] }
+
+setups_last : (who count : ℕ) (before : List ChannelState) (ends : ChannelState) (tunnel : Tunnel)
+    → setups_from who count (before ++ with_one_more tunnel ends ∷ []) ≡ setups_from who count ((before ++ ends ∷ []) ++ alone ends tunnel ∷ [])
+setups_last who count [] ends tunnel =
+    append-nil (setups_within who count (with_one_more tunnel ends) (ends.tunnels ++ tunnel ∷ []))
+    ∙ setups_behind who count ends tunnel ends.tunnels
+    ∙ ap (λ (l : List SlotSetup). setups_within who count ends ends.tunnels ++ l) (sym (append-nil (setups_within who (count + length ends.tunnels) ends (tunnel ∷ []))))
+setups_last who count (other ∷ before) ends tunnel = ap (λ (l : List SlotSetup). setups_at who count other ++ l) (setups_last who (count + length other.tunnels) before ends tunnel)
+
+-- one tunnel more of the last channel gives each box the slots that one more channel with that tunnel alone would
+pub setups_widened : (channels : List ChannelState) (medium : Medium) (who : ℕ) → 0 < length channels
+    → setups_of (widened channels medium) who ≡ setups_of (channels ++ channel_between channels (last_channel channels).from (last_channel channels).to (medium ∷ []) ∷ []) who
+setups_widened channels medium who some =
+    let split = last_of channels no_channel some in
+    by channels (last_channel channels) split.0 split.1
+  where
+    by : (channels : List ChannelState) (ends : ChannelState) (before : List ChannelState) → channels ≡ before ++ ends ∷ []
+        → setups_of (widened channels medium) who ≡ setups_of (channels ++ channel_between channels ends.from ends.to (medium ∷ []) ∷ []) who
+    by channels ends before is =
+        let all : List ChannelState = before ++ ends ∷ [] in
+        subst (λ (l : List ChannelState). setups_of (widened l medium) who ≡ setups_of (l ++ channel_between l ends.from ends.to (medium ∷ []) ∷ []) who) (sym is)
+        (ap (λ (l : List ChannelState). setups_of l who) (widened_last before ends medium) ∙ setups_last who 0 before ends (next_tunnel all ends medium))
 
 -- no fault, where that is said
 pub no_fault : (fault : Option PlanFault) → unless_fault fault ≡ Ok tt → fault ≡ None

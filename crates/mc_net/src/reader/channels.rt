@@ -1,10 +1,10 @@
 //! Lines that declare channels.
 
-ghost use Rattle.std.specs.Prelude.{◌≡◌, ◌<◌, [], IfOk, IsTrue, OnOk, length};
+ghost use Rattle.std.specs.Prelude.{◌≡◌, ◌<◌, [], IfOk, IfSome, IsTrue, OnOk, length};
 ghost use Rattle.std.specs.Option.{is_some};
 ghost use Rattle.mc_text.specs.NameLists.{place_of, slot_names};
 ghost use Rattle.mc_text.specs.Spelling.{is_name};
-ghost use Rattle.mc_net.specs.BoxLines.{CanJoin, CanWiden, IsOfLast, KnowsEnds, also_seen, channel_seen, check_join, check_widen};
+ghost use Rattle.mc_net.specs.BoxLines.{CanJoin, CanWiden, IsOfLast, KnowsEnds, also_seen, channel_seen, check_join, check_widen, last_ends};
 ghost use Rattle.mc_plan.specs.Plans.{last_channel};
 ghost use Rattle.mc_net.specs.Forms.{IsInForm};
 ghost use Rattle.mc_net.specs.Meaning.{with_new_channel, with_medium, with_new_slot, with_new_tunnel};
@@ -144,10 +144,9 @@ impl Reader {
         ensures last { IfOk result (IsOfLast self.now) }
         ensures known { IfOk result (KnowsEnds self.now) }
     {
-        self.plan.keeps();
         let parts = FirstWords::new(words);
         let medium = fixed_medium(parts.first)?;
-        let Some(last) = self.plan.channels().last() else {
+        let Some((from, to)) = self.last_ends() else {
             return Err(LineFault { number: WRONG_WORD });
         };
         if self.is_late(Section::Channels) || is_misspelt(parts.second) || is_misspelt(parts.third)
@@ -168,11 +167,26 @@ impl Reader {
         };
         Ok(ChannelLine {
             medium,
-            from: last.from,
+            from,
             slot,
-            to: last.to,
+            to,
             far_slot,
         })
+    }
+
+    // The two boxes of the last channel, the initiator first. None where there is no channel.
+    fn last_ends(&self) -> Option<(u32, u32)>
+        requires { IsInForm self.now }
+        ensures is { result ≡ last_ends self.now.channels }
+        ensures there { IfSome result (λ ends. (ends.0 < length self.now.names.boxes) × (ends.1 < length self.now.names.boxes)) }
+    {
+        self.plan.keeps();
+        let channels = self.plan.channels();
+        if channels.is_empty() {
+            return None;
+        }
+        let last = &channels[channels.len() - 1];
+        Some((last.from, last.to))
     }
 
     // What an `also` line declares.
