@@ -11,7 +11,7 @@ use Rattle.mc_plan.specs.declared.plan.BoxPlan.{BoxPlan}
 use Rattle.mc_script.specs.Places.{is_overlong, unless}
 use Rattle.mc_script.specs.declared.command.LineFault.{LineFault}
 use Rattle.mc_script.specs.declared.rule.TheConstants.{GIVEN_TWICE, LIMIT_PASSED, NAME_TOO_LONG, SAME_BOX}
-use Rattle.mc_net.specs.Meaning.{with_joined, with_new_box, with_send_line, with_widened}
+use Rattle.mc_net.specs.Meaning.{with_joined, with_new_box, with_send_line, with_slots, with_widened}
 use Rattle.mc_net.specs.Rules.{is_full}
 use Rattle.mc_net.specs.SoFar.{Declared, DeclaredBox}
 use Rattle.mc_plan.specs.declared.limit.TheConstants.{CHANNEL_LIMIT}
@@ -39,6 +39,10 @@ channel_seen d line = with_joined d line.medium line.from line.slot.now line.to 
 abbrev pub check_join : NameLists → List ChannelState → (from to : ℕ) → Result (Unit {0}) LineFault
 check_join names channels from to = if from == to then Err (record { number = SAME_BOX })
     else unless (is_full names from || is_full names to || nat_le CHANNEL_LIMIT (length channels)) LIMIT_PASSED tt
+
+-- what is declared where the two slots of a line are added
+abbrev pub slots_seen : Declared → ChannelLine → Declared
+slots_seen d line = with_slots d line.medium line.from line.slot.now line.to line.far_slot.now
 
 -- what is declared after an `also` line
 abbrev pub also_seen : Declared → ChannelLine → Declared
@@ -93,8 +97,7 @@ pub record CanWiden (d : Declared) (line : ChannelLine) : Type 0 where
 
 -- both boxes are declared, they may be joined, and both slots are named
 pub record CanJoin (d : Declared) (line : ChannelLine) : Type 0 where
-  pub near : line.from < length d.names.boxes
-  pub far : line.to < length d.names.boxes
+  pub ends : KnowsEnds d line
   pub joins : check_join d.names d.channels line.from line.to ≡ Ok tt
   pub slot : IsTrue (is_name line.slot.now)
   pub far_slot : IsTrue (is_name line.far_slot.now)

@@ -96,13 +96,17 @@ with_medium shape who medium = slice_set shape who (record (shape_of shape who) 
 abbrev pub with_new_slot : Declared → ℕ → List ℕ → Medium → Declared
 with_new_slot d who name medium = record d { names = with_slot_name d.names who name; shape = with_medium d.shape who medium }
 
+-- two boxes have one slot more each, of one medium, by a line of the channels
+abbrev pub with_slots : Declared → Medium → ℕ → List ℕ → ℕ → List ℕ → Declared
+with_slots d medium from slot to far_slot = record (with_new_slot (with_new_slot d from slot medium) to far_slot medium) { section = section.Channels }
+
 -- a channel of one tunnel more between two boxes
 abbrev pub with_new_channel : Declared → (from to : ℕ) → Medium → Declared
 with_new_channel d from to medium = record d { channels = d.channels ++ channel_between d.channels from to (medium ∷ []) ∷ [] }
 
 -- a channel of one tunnel between a new slot of each of two boxes
 abbrev pub with_joined : Declared → Medium → ℕ → List ℕ → ℕ → List ℕ → Declared
-with_joined d medium from slot to far_slot = record (with_new_slot (with_new_slot (with_new_channel d from to medium) from slot medium) to far_slot medium) { section = section.Channels }
+with_joined d medium from slot to far_slot = with_slots (with_new_channel d from to medium) medium from slot to far_slot
 
 abbrev pub channel_after : Declared → List (List ℕ) → Option Declared
 channel_after d words = do
@@ -119,7 +123,7 @@ with_new_tunnel d medium = record d { channels = widened d.channels medium }
 
 -- one tunnel more between a new slot of each of its two boxes
 abbrev pub with_widened : Declared → Medium → ℕ → List ℕ → ℕ → List ℕ → Declared
-with_widened d medium from slot to far_slot = record (with_new_slot (with_new_slot (with_new_tunnel d medium) from slot medium) to far_slot medium) { section = section.Channels }
+with_widened d medium from slot to far_slot = with_slots (with_new_tunnel d medium) medium from slot to far_slot
 
 abbrev pub also_after : Declared → List (List ℕ) → Option Declared
 also_after d words = do

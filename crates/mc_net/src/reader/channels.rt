@@ -4,7 +4,7 @@ ghost use Rattle.std.specs.Prelude.{◌≡◌, ◌<◌, [], IfOk, IfSome, IsTrue
 ghost use Rattle.std.specs.Option.{is_some};
 ghost use Rattle.mc_text.specs.NameLists.{place_of, slot_names};
 ghost use Rattle.mc_text.specs.Spelling.{is_name};
-ghost use Rattle.mc_net.specs.BoxLines.{CanJoin, CanWiden, IsOfLast, KnowsEnds, also_seen, channel_seen, check_join, check_widen, last_ends};
+ghost use Rattle.mc_net.specs.BoxLines.{CanJoin, CanWiden, IsOfLast, KnowsEnds, also_seen, channel_seen, check_join, check_widen, last_ends, slots_seen};
 ghost use Rattle.mc_plan.specs.Plans.{last_channel};
 ghost use Rattle.mc_net.specs.Forms.{IsInForm};
 ghost use Rattle.mc_net.specs.Meaning.{with_new_channel, with_medium, with_new_slot, with_new_tunnel};
@@ -130,9 +130,7 @@ impl Reader {
     {
         let line = self.channel_line(words)?;
         self.join(line.from, line.to, line.medium)?;
-        self.add_slot(line.from, line.slot, line.medium)?;
-        self.add_slot(line.to, line.far_slot, line.medium)?;
-        self.section = Section::Channels;
+        self.add_slots(&line)?;
         Ok(())
     }
 
@@ -149,7 +147,9 @@ impl Reader {
         let Some((from, to)) = self.last_ends() else {
             return Err(LineFault { number: WRONG_WORD });
         };
-        if self.is_late(Section::Channels) || is_misspelt(parts.second) || is_misspelt(parts.third)
+        if self.is_late(Section::Channels)
+            || is_misspelt(parts.second)
+            || is_misspelt(parts.third)
         {
             return Err(LineFault { number: WRONG_WORD });
         }
@@ -178,7 +178,8 @@ impl Reader {
     fn last_ends(&self) -> Option<(u32, u32)>
         requires { IsInForm self.now }
         ensures is { result ≡ last_ends self.now.channels }
-        ensures there { IfSome result (λ ends. (ends.0 < length self.now.names.boxes) × (ends.1 < length self.now.names.boxes)) }
+        ensures there { IfSome result (λ ends.
+            (ends.0 < length self.now.names.boxes) × (ends.1 < length self.now.names.boxes)) }
     {
         self.plan.keeps();
         let channels = self.plan.channels();
@@ -235,9 +236,7 @@ impl Reader {
     {
         let line = self.also_line(words)?;
         self.widen(line.medium)?;
-        self.add_slot(line.from, line.slot, line.medium)?;
-        self.add_slot(line.to, line.far_slot, line.medium)?;
-        self.section = Section::Channels;
+        self.add_slots(&line)?;
         Ok(())
     }
 
@@ -258,6 +257,20 @@ impl Reader {
         if self.plan.join(from, to, &[medium]).is_err() {
             return Err(AllocError);
         }
+        Ok(())
+    }
+
+    // Adds the two slots of a line to their boxes, each as its last.
+    fn add_slots<'a>(&mut self, line: &ChannelLine<'a>) -> Result<(), AllocError>
+        requires known { KnowsEnds self.old line.now }
+        requires near { IsTrue (is_name line.now.slot.now) }
+        requires far { IsTrue (is_name line.now.far_slot.now) }
+        requires boxes { length self.old.shape ≡ length self.old.names.boxes }
+        ensures { OnOk result (self.new ≡ slots_seen self.old line.now) }
+    {
+        self.add_slot(line.from, line.slot, line.medium)?;
+        self.add_slot(line.to, line.far_slot, line.medium)?;
+        self.section = Section::Channels;
         Ok(())
     }
 

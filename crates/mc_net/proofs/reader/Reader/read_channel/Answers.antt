@@ -1,18 +1,15 @@
 use Rattle.std.proofs.Common.{◌≡◌, ap, sym, ◌∙◌, subst}
+use Rattle.mc_net.specs.BoxLines.{channel_seen, slots_seen}
 use Rattle.mc_net.specs.Forms.{IsInForm}
-use Rattle.mc_net.specs.Meaning.{with_new_channel, with_new_slot}
 use Rattle.mc_net.specs.SoFar.{Declared}
-use Rattle.mc_net.specs.declared.section.Section.TheVariants as section
 use Rattle.mc_net.proofs.Joining.{in_form_with_channel}
 use Rattle.mc_net.proofs.reader.Reader.read_channel.Goals as goal
 
 pub returns-clause-in_form : goal.returns-clause-in_form
 returns-clause-in_form c =
     let line = c.in_ok-line.line in
-    let joined : c.join.new.self ≡ with_new_channel c.args.self.now line.from line.to line.medium = c.in_ok-join.ensures in
-    let near : c.add_slot.new.self ≡ with_new_slot (with_new_channel c.args.self.now line.from line.to line.medium) line.from line.slot.now line.medium =
-    c.in_ok-add_slot.ensures.added ∙ ap (λ (d : Declared). with_new_slot d line.from line.slot.now line.medium) joined in
-    let far : c.add_slot-2.new.self ≡ with_new_slot (with_new_slot (with_new_channel c.args.self.now line.from line.to line.medium) line.from line.slot.now line.medium) line.to line.far_slot.now line.medium =
-    c.in_ok-add_slot-2.ensures.added ∙ ap (λ (d : Declared). with_new_slot d line.to line.far_slot.now line.medium) near in
-    subst (λ (d : Declared). IsInForm (record d { section = section.Channels })) (sym (c.self.view_is ∙ far))
-    (in_form_with_channel c.args.self.now line.medium line.from line.slot.now line.to line.far_slot.now c.in_ok-line.ensures.can_join.near c.in_ok-line.ensures.can_join.far c.requires)
+    let can = c.in_ok-line.ensures.can_join in
+    let all : c.add_slots.new.self ≡ channel_seen c.args.self.now line =
+    c.in_ok-add_slots.ensures ∙ ap (λ (d : Declared). slots_seen d line) c.in_ok-join.ensures in
+    subst (λ (d : Declared). IsInForm d) (sym all)
+    (in_form_with_channel c.args.self.now line.medium line.from line.slot.now line.to line.far_slot.now can.ends.near can.ends.far c.requires)
