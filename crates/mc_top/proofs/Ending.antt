@@ -1,37 +1,40 @@
 -- How a run ends.
-use Rattle.std.proofs.Common.{◌≡◌, ℕ, List, [], map, inl, inr, refl, false, sym, subst, arith, None, Some}
+use Rattle.std.proofs.Common.{◌≡◌, ◌⊎◌, ℕ, List, [], map, inl, inr, refl, false, sym, subst, arith, None, Some}
 use Rattle.std.specs.declared.option.Option.{Option}
 use Rattle.std.specs.Io.KnownBytes.{Keeps}
 use Rattle.mc_top.specs.Journals.{HoldsAtSettles, IsJournal, IsJournalTo, IsStoppedJournal, ShowsCause}
-use Rattle.mc_top.specs.Modes.{output_of}
+use Rattle.mc_top.specs.Drawn.{IsDrawnJournal}
+use Rattle.mc_top.specs.Modes.{draws_from, output_of}
 use Rattle.mc_net.specs.Nets.{DeclaresNet, batch_turns}
 use Rattle.mc_net.specs.Texts.{IsFault}
 use Rattle.mc_net.specs.declared.net.Net.{Net}
 use Rattle.mc_top.specs.Printed.{fault_line, journal_text, run_text, stop_line}
 use Rattle.mc_top.specs.Statuses.{due_by, keeps_journal, stop_status}
-use Rattle.mc_top.specs.Top.{Delivers, Ends}
+use Rattle.mc_top.specs.Top.{Delivers, Ends, StopsScript}
 use Rattle.mc_script.specs.declared.command.JournalLine.{JournalLine}
 use Rattle.mc_top.specs.declared.stop.Stop.{Stop}
-use Rattle.mc_top.specs.declared.stop.Stop.TheVariants.{VersionEnd}
+use Rattle.mc_top.specs.declared.stop.Stop.TheVariants.{Ring, VersionEnd}
 use Rattle.mc_top.specs.declared.words.Mode.{Mode}
-use Rattle.mc_top.specs.declared.words.Mode.TheVariants.{Run}
+use Rattle.mc_top.specs.declared.words.Mode.TheVariants.{One, Run}
 
 -- what a mode prints is what the settles print
 printed_by : (mode : Mode) (net : Net) (journal : List JournalLine) → journal_text net.names 1 net.world journal ≡ output_of mode net journal
 printed_by Run net journal = refl
+printed_by (One state) net journal = refl
 
 -- the work was done, and what it printed was delivered
 ends_worked : (mode : Mode) (text : List ℕ) (net : Net) (old new : Option (List ℕ)) (status due : ℕ) (journal : List JournalLine) (output : List ℕ)
-    → DeclaresNet text net → IsJournal net.world (map batch_turns net.batches.items) journal → HoldsAtSettles net.world journal
-    → output ≡ journal_text net.names 1 net.world journal → due ≡ 0 → Delivers status 0 old new output → Ends mode (Some text) old new status due journal
-ends_worked mode text net old new status due journal output declared settled holds is none delivered = record {
+    → DeclaresNet text net → IsJournal net.world (map batch_turns net.batches.items) journal → IsDrawnJournal None (draws_from mode) net.world (map batch_turns net.batches.items) journal
+    → HoldsAtSettles net.world journal → output ≡ journal_text net.names 1 net.world journal → due ≡ 0 → Delivers status 0 old new output → Ends mode (Some text) old new status due journal
+ends_worked mode text net old new status due journal output declared settled drawn holds is none delivered = record {
   worked = λ zero. record {
     net = net;
     declared = declared;
-    settles = record { settled = settled; holds = holds };
+    settles = record { settled = settled; holds = holds; drawn = drawn };
     delivered = rw (is, printed_by mode net journal) at delivered;
   };
   refused = λ one. absurd (omega arith);
+  at_ring = λ seven. absurd (omega arith);
   gave_up = λ ended. elim ended [ inl three ↦ absurd (omega arith) | inr four ↦ absurd (omega arith) ];
   no_journal = λ some. absurd (kept_zero due none some);
 }
@@ -40,33 +43,52 @@ ends_worked mode text net old new status due journal output declared settled hol
     kept_zero due none some = let here : keeps_journal 0 ≡ false = subst (λ (n : ℕ). keeps_journal n ≡ false) none some in cc
 
 -- or the script stopped, and the line of the stop was
-ends_at_stop : (mode : Mode) (text : List ℕ) (net : Net) (stop : Stop) (old new : Option (List ℕ)) (status due : ℕ) (journal : List JournalLine) (output : List ℕ)
-    → DeclaresNet text net → IsStoppedJournal stop net.world (map batch_turns net.batches.items) journal → ShowsCause (Some stop) net.world (map batch_turns net.batches.items)
-    → output ≡ stop_line net.names net.world stop → due ≡ stop_status stop → Delivers status (stop_status stop) old new output → Ends mode (Some text) old new status due journal
-ends_at_stop mode text net (VersionEnd at) old new status due journal output declared settled shows is one delivered = record {
-  worked = λ zero. absurd (omega arith);
-  refused = λ due_one. inr (record {
-    net = net;
-    stop = VersionEnd at;
-    declared = declared;
-    due_is = one;
-    settled = settled;
-    shows = shows;
-    delivered = subst (λ (n : ℕ). Delivers status n old new (stop_line net.names net.world (VersionEnd at))) (sym one) (rw is at delivered);
-  });
-  gave_up = λ ended. elim ended [ inl three ↦ absurd (omega arith) | inr four ↦ absurd (omega arith) ];
-  no_journal = λ some. absurd (kept_one due one some);
+stops_script : (mode : Mode) (text : List ℕ) (net : Net) (stop : Stop) (old new : Option (List ℕ)) (status due : ℕ) (journal : List JournalLine) (output : List ℕ)
+    → DeclaresNet text net → IsStoppedJournal stop net.world (map batch_turns net.batches.items) journal → IsDrawnJournal (Some stop) (draws_from mode) net.world (map batch_turns net.batches.items) journal
+    → ShowsCause (Some stop) net.world (map batch_turns net.batches.items) → output ≡ stop_line net.names net.world stop → due ≡ stop_status stop → Delivers status (stop_status stop) old new output
+    → StopsScript mode (Some text) old new status due journal
+stops_script mode text net stop old new status due journal output declared settled drawn shows is due_is delivered = record {
+  net = net;
+  stop = stop;
+  declared = declared;
+  due_is = due_is;
+  settled = settled;
+  drawn = drawn;
+  shows = shows;
+  delivered = subst (λ (n : ℕ). Delivers status n old new (stop_line net.names net.world stop)) (sym due_is) (rw is at delivered);
 }
-  where
-    kept_one : (due : ℕ) → due ≡ 1 → keeps_journal due ≡ false → ⊥
-    kept_one due is some = let here : keeps_journal 1 ≡ false = subst (λ (n : ℕ). keeps_journal n ≡ false) is some in cc
+
+-- the status of a stop is that of a fault or of a ring, and both keep the journal
+stop_by : (stop : Stop) (due : ℕ) → due ≡ stop_status stop → (due ≡ 1) ⊎ (due ≡ 7)
+stop_by (VersionEnd at) due is = inl is
+stop_by (Ring at) due is = inr is
+
+stop_keeps : (stop : Stop) (due : ℕ) → due ≡ stop_status stop → keeps_journal due ≡ false → ⊥
+stop_keeps (VersionEnd at) due is some = let here : keeps_journal 1 ≡ false = subst (λ (n : ℕ). keeps_journal n ≡ false) is some in cc
+stop_keeps (Ring at) due is some = let here : keeps_journal 7 ≡ false = subst (λ (n : ℕ). keeps_journal n ≡ false) is some in cc
+
+ends_at_stop : (mode : Mode) (text : List ℕ) (stop : Stop) (old new : Option (List ℕ)) (status due : ℕ) (journal : List JournalLine) → due ≡ stop_status stop
+    → StopsScript mode (Some text) old new status due journal → Ends mode (Some text) old new status due journal
+ends_at_stop mode text stop old new status due journal is stops =
+    let either : (due ≡ 1) ⊎ (due ≡ 7) = stop_by stop due is in
+    record {
+      worked = λ zero. absurd (grind (arith, either));
+      refused = λ one. inr stops;
+      at_ring = λ seven. stops;
+      gave_up = λ ended. absurd (grind (arith, either, ended));
+      no_journal = λ some. absurd (stop_keeps stop due is some);
+    }
 
 -- a script was run to its end, or to a stop
 pub ends_ran : (stop : Option Stop) (mode : Mode) (text : List ℕ) (net : Net) (old new : Option (List ℕ)) (status due : ℕ) (journal : List JournalLine) (output : List ℕ)
-    → DeclaresNet text net → IsJournalTo stop net.world (map batch_turns net.batches.items) journal → HoldsAtSettles net.world journal → ShowsCause stop net.world (map batch_turns net.batches.items)
+    → DeclaresNet text net → IsJournalTo stop net.world (map batch_turns net.batches.items) journal → IsDrawnJournal stop (draws_from mode) net.world (map batch_turns net.batches.items) journal
+    → HoldsAtSettles net.world journal → ShowsCause stop net.world (map batch_turns net.batches.items)
     → output ≡ run_text net.names net.world stop journal → due ≡ due_by stop → Delivers status (due_by stop) old new output → Ends mode (Some text) old new status due journal
-ends_ran None mode text net old new status due journal output declared ran holds shows is none delivered = ends_worked mode text net old new status due journal output declared ran holds is none delivered
-ends_ran (Some stop) mode text net old new status due journal output declared ran holds shows is one delivered = ends_at_stop mode text net stop old new status due journal output declared ran shows is one delivered
+ends_ran None mode text net old new status due journal output declared ran drawn holds shows is due_is delivered =
+    ends_worked mode text net old new status due journal output declared ran drawn holds is due_is delivered
+ends_ran (Some stop) mode text net old new status due journal output declared ran drawn holds shows is due_is delivered =
+    ends_at_stop mode text stop old new status due journal due_is
+    (stops_script mode text net stop old new status due journal output declared ran drawn shows is due_is delivered)
 
 keeps_same : (old : Option (List ℕ)) → Keeps old old
 keeps_same None = tt
@@ -78,6 +100,7 @@ pub ends_gave_up : (mode : Mode) (text : List ℕ) (old : Option (List ℕ)) (st
 ends_gave_up mode text old status due journal three due_three none = record {
   worked = λ zero. absurd (omega arith);
   refused = λ one. absurd (omega arith);
+  at_ring = λ seven. absurd (omega arith);
   gave_up = λ ended. (omega arith, keeps_same old);
   no_journal = λ some. none;
 }
@@ -88,6 +111,7 @@ pub ends_refused : (mode : Mode) (text : List ℕ) (number line : ℕ) (old new 
 ends_refused mode text number line old new status due journal output fault is one delivered none = record {
   worked = λ zero. absurd (omega arith);
   refused = λ due_one. inl (record { number = number; line = line; fault = fault; delivered = rw is at delivered; no_journal = none });
+  at_ring = λ seven. absurd (omega arith);
   gave_up = λ ended. elim ended [ inl three ↦ absurd (omega arith) | inr four ↦ absurd (omega arith) ];
   no_journal = λ some. none;
 }

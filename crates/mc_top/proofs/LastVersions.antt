@@ -1,5 +1,5 @@
 -- A script that stopped at the last version: the version of some slot and its Hears pass it. So no text whose versions and Hears stay below stops so.
-use Rattle.std.proofs.Common.{◌≡◌, ◌+◌, ◌<◌, ◌≤◌, inl, inr, ℕ, List, [], ◌∷◌, map, Option, Some, None, ap, sym, ◌∙◌, subst, arith}
+use Rattle.std.proofs.Common.{◌≡◌, ◌+◌, ◌<◌, ◌≤◌, inl, inr, ℕ, List, [], ◌∷◌, map, ap, sym, ◌∙◌, subst, arith}
 use Rattle.std.proofs.lemmas.List.Sums.{sum_by-cons}
 use Rattle.mc_box.specs.declared.event.Turn.{Turn}
 use Rattle.mc_box.specs.declared.limit.TheConstants.{LAST_VERSION}
@@ -20,8 +20,7 @@ use Rattle.mc_net.specs.Versions.{MeetsNoLast}
 use Rattle.mc_net.specs.declared.net.Net.{Net}
 use Rattle.mc_net.proofs.Versions.{first_versions}
 use Rattle.mc_script.specs.declared.command.JournalLine.{JournalLine}
-use Rattle.mc_top.specs.Journals.{IsJournalTo, IsStoppedJournal, ShowsCause}
-use Rattle.mc_top.specs.declared.stop.Stop.{Stop}
+use Rattle.mc_top.specs.Journals.{IsStoppedJournal}
 use Rattle.mc_top.specs.declared.stop.Stop.TheVariants.{VersionEnd}
 
 -- one batch before the others
@@ -29,7 +28,7 @@ hears_more : (who local : ℕ) (batch : List Turn) (batches : List (List Turn)) 
 hears_more who local batch batches = sum_by-cons (hears_of who local) batch batches
 
 -- in the first of the batches, or in a later one
-stopped_passes : (batches : List (List Turn)) (world : WorldState) (at : ℕ) (journal : List JournalLine) → IsSound world → IsStoppedJournal (VersionEnd at) world batches journal → PassesLast world (λ who local. hears_in who local batches)
+pub stopped_passes : (batches : List (List Turn)) (world : WorldState) (at : ℕ) (journal : List JournalLine) → IsSound world → IsStoppedJournal (VersionEnd at) world batches journal → PassesLast world (λ who local. hears_in who local batches)
 stopped_passes [] world at journal sound stopped = absurd stopped
 stopped_passes (batch ∷ batches) world at journal sound (inl here) =
     let one = last_is_passed world here.last batch here.turns at sound here.stopped here.cause in
@@ -56,13 +55,8 @@ stopped_passes (batch ∷ batches) world at journal sound (inr (turns, last, res
           omega arith;
     }
 
--- whatever the stop is
-pub ran_shows : (stop : Option Stop) (batches : List (List Turn)) (world : WorldState) (journal : List JournalLine) → IsSound world → IsJournalTo stop world batches journal → ShowsCause stop world batches
-ran_shows None batches world journal sound ran = tt
-ran_shows (Some (VersionEnd at)) batches world journal sound ran = stopped_passes batches world at journal sound ran
-
 -- a text says one thing
-same_says : (text : List ℕ) (d other : Declared) → Says text d → Says text other → d ≡ other
+pub same_says : (text : List ℕ) (d other : Declared) → Says text d → Says text other → d ≡ other
 same_says text d other one two = one.declared ∙ sym two.declared
 
 -- the network of such a text doesn't stop so

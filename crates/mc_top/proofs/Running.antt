@@ -1,41 +1,32 @@
 -- A script that is run: what its journal and its output have so far, and what follows.
 use Rattle.std.proofs.Common.{◌≡◌, ◌<◌, ◌≤◌, ◌++◌, ◌∷◌, [], ℕ, ◌+◌, not, Option, Some, None, List, All, IsTrue, drop, length, map, refl, ap, sym, ◌∙◌, add-one, subst, append-nil, append_assoc, codes, inl, inr, slice_index_or}
-use Rattle.std.specs.List.{AllByRecursion}
 use Rattle.std.proofs.Math.Seq.{drop-cons}
 use Rattle.std.proofs.lemmas.List.{drop_all, get_or-map, length-map}
-use Rattle.std.proofs.lemmas.List.Elements.{recursion_from_All}
 use Rattle.mc_signal.specs.Choice.{codecs_of}
 use Rattle.mc_signal.specs.declared.codec_list.CodecList.{CodecList}
 use Rattle.mc_model.specs.Settles.{IsSettled, can_shift, is_quiet}
 use Rattle.mc_model.specs.Shapes.{AreAllAllowed, AreAllowed, HasShape}
 use Rattle.mc_model.specs.Sound.{IsSound}
-use Rattle.mc_model.specs.LinkFree.{AllLinkNone, IsLinkFree, LinkNone}
-use Rattle.mc_model.specs.Steps.{heard_local, run, step}
-use Rattle.mc_model.specs.Worlds.{ChannelState, WorldState, number, place, places_among, slot_count}
+use Rattle.mc_model.specs.Steps.{run, step}
+use Rattle.mc_model.specs.Worlds.{WorldState}
 use Rattle.mc_box.specs.declared.event.Turn.{Turn}
 use Rattle.mc_laws.proofs.CommandsGo.{both_true}
-use Rattle.mc_laws.proofs.Numbers.{number_is}
 use Rattle.mc_laws.proofs.ShapesKept.{run_keeps_shape, same_shape, shape_both}
 use Rattle.mc_box.proofs.Options.{then_some}
-use Rattle.mc_laws.proofs.LinkFree.{run_keeps_link_free, settled_link_none}
+use Rattle.mc_laws.proofs.StepKeeps.{run_keeps_sound}
 use Rattle.mc_path_laws.proofs.SettledHold.{settled_paths_hold}
 use Rattle.mc_seq.proofs.AllowedCommands.{all_kept}
-use Rattle.mc_seq.specs.Draws.{StopsByDraws}
-use Rattle.mc_seq.specs.declared.fault.SettleFault.TheVariants.{VersionEnd as EndsVersion}
-use Rattle.mc_seq.specs.declared.fault.Stopped.{Stopped}
-use Rattle.mc_table.specs.Words.{line_of}
-use Rattle.mc_text.specs.NameLists.{NameLists, slot_names, slot_word}
+use Rattle.mc_seq.specs.Draws.{IsScheduled}
+use Rattle.mc_text.specs.NameLists.{NameLists}
 use Rattle.mc_script.specs.declared.command.Batch.{Batch}
 use Rattle.mc_net.specs.Nets.{NamesAll, batch_turns}
+use Rattle.mc_top.specs.Drawn.{IsDrawnJournal}
 use Rattle.mc_top.specs.Journals.{HoldsAtSettles, IsJournal, IsJournalTo, IsStoppedJournal, lines_for, next_world}
-use Rattle.mc_top.specs.Outcomes.{Stopping}
-use Rattle.mc_top.specs.Printed.{journal_text, run_text, settle_text, stop_line}
+use Rattle.mc_top.specs.Printed.{journal_text, settle_text}
 use Rattle.mc_top.specs.Scripts.{ScriptState, Settling, first_state}
 use Rattle.mc_script.specs.declared.command.JournalLine.{JournalLine}
 use Rattle.mc_script.specs.declared.command.JournalLine.TheVariants.{Turn as Made, Settled}
-use Rattle.mc_top.specs.declared.run.Run.{Run}
 use Rattle.mc_top.specs.declared.stop.Stop.{Stop}
-use Rattle.mc_top.specs.declared.stop.Stop.TheVariants.{VersionEnd}
 
 -- ---- shapes
 
@@ -50,14 +41,14 @@ names_kept names new old shape all = record {
 -- after a settle all has its names, the world is sound, and nothing is under way
 pub record IsAfterSettle (names : NameLists) (last : WorldState) : Type 0 where
   pub named : NamesAll names last
-  pub sound : IsLinkFree last
+  pub sound : IsSound last
   pub quiet : IsTrue (is_quiet last)
 
--- after a settle the world has no links still, and its names
-pub after_settle : (names : NameLists) (world last : WorldState) (batch turns : List Turn) → IsLinkFree world → LinkNone batch → NamesAll names world → IsSettled world batch turns last → IsAfterSettle names last
-after_settle names world last batch turns sound none all settled = record {
-  named = names_kept names last world (run_keeps_shape world last turns sound.sound settled.runs) all;
-  sound = run_keeps_link_free world last turns sound (settled_link_none world last batch turns none settled) settled.runs;
+-- after a settle the world is sound still, and has its names
+pub after_settle : (names : NameLists) (world last : WorldState) (batch turns : List Turn) → IsSound world → NamesAll names world → IsSettled world batch turns last → IsAfterSettle names last
+after_settle names world last batch turns sound all settled = record {
+  named = names_kept names last world (run_keeps_shape world last turns sound settled.runs) all;
+  sound = run_keeps_sound world last turns sound settled.runs;
   quiet = (both_true (is_quiet last) (not (can_shift last)) settled.at_rest).0;
 }
 
@@ -85,33 +76,33 @@ printed_after (turn ∷ turns) names number world last rest goes =
     replayed_is world next turn goes = rw goes refl
 
 -- so do they after a settled segment and what follows it
-segment_holds : (world last : WorldState) (batch turns : List Turn) (journal rest : List JournalLine) → IsLinkFree world → IsSettled world batch turns last → journal ≡ lines_for turns ++ rest
+segment_holds : (world last : WorldState) (batch turns : List Turn) (journal rest : List JournalLine) → IsSound world → IsSettled world batch turns last → journal ≡ lines_for turns ++ rest
     → HoldsAtSettles last rest → HoldsAtSettles world journal
 segment_holds world last batch turns journal rest sound settled is holds =
     let whole : journal ≡ map Made turns ++ (Settled ∷ rest) = is ∙ append_assoc (map Made turns) (Settled ∷ []) rest in
     subst (λ (lines : List JournalLine). HoldsAtSettles world lines) (sym whole)
-    (holds_after turns world last (Settled ∷ rest) settled.runs (settled_paths_hold world last batch turns sound.sound settled, holds))
+    (holds_after turns world last (Settled ∷ rest) settled.runs (settled_paths_hold world last batch turns sound settled, holds))
 
 -- at each settle of a journal from a sound world the paths are as the table says
-journal_holds : (waiting : List (List Turn)) (world : WorldState) (journal : List JournalLine) → IsLinkFree world → AllByRecursion LinkNone waiting → IsJournal world waiting journal → HoldsAtSettles world journal
-journal_holds [] world journal sound none is = subst (λ (lines : List JournalLine). HoldsAtSettles world lines) (sym is) tt
-journal_holds (batch ∷ waiting) world journal sound none (turns, last, rest, is, settled, later) =
+journal_holds : (waiting : List (List Turn)) (world : WorldState) (journal : List JournalLine) → IsSound world → IsJournal world waiting journal → HoldsAtSettles world journal
+journal_holds [] world journal sound is = subst (λ (lines : List JournalLine). HoldsAtSettles world lines) (sym is) tt
+journal_holds (batch ∷ waiting) world journal sound (turns, last, rest, is, settled, later) =
     segment_holds world last batch turns journal rest sound settled is
-    (journal_holds waiting last rest (run_keeps_link_free world last turns sound (settled_link_none world last batch turns none.0 settled) settled.runs) none.1 later)
+    (journal_holds waiting last rest (run_keeps_sound world last turns sound settled.runs) later)
 
 -- up to a stop as well
-stopped_holds : (stop : Stop) (waiting : List (List Turn)) (world : WorldState) (journal : List JournalLine) → IsLinkFree world → AllByRecursion LinkNone waiting → IsStoppedJournal stop world waiting journal → HoldsAtSettles world journal
-stopped_holds stop [] world journal sound none stopped = absurd stopped
-stopped_holds stop (batch ∷ waiting) world journal sound none (inl here) =
+stopped_holds : (stop : Stop) (waiting : List (List Turn)) (world : WorldState) (journal : List JournalLine) → IsSound world → IsStoppedJournal stop world waiting journal → HoldsAtSettles world journal
+stopped_holds stop [] world journal sound stopped = absurd stopped
+stopped_holds stop (batch ∷ waiting) world journal sound (inl here) =
     subst (λ (lines : List JournalLine). HoldsAtSettles world lines) (append-nil (map Made here.turns) ∙ sym here.lines) (holds_after here.turns world here.last [] here.stopped.runs tt)
-stopped_holds stop (batch ∷ waiting) world journal sound none (inr (turns, last, rest, is, settled, later)) =
+stopped_holds stop (batch ∷ waiting) world journal sound (inr (turns, last, rest, is, settled, later)) =
     segment_holds world last batch turns journal rest sound settled is
-    (stopped_holds stop waiting last rest (run_keeps_link_free world last turns sound (settled_link_none world last batch turns none.0 settled) settled.runs) none.1 later)
+    (stopped_holds stop waiting last rest (run_keeps_sound world last turns sound settled.runs) later)
 
 -- whichever it is
-pub ran_holds : (stop : Option Stop) (batches : List (List Turn)) (world : WorldState) (journal : List JournalLine) → IsLinkFree world → AllLinkNone batches → IsJournalTo stop world batches journal → HoldsAtSettles world journal
-ran_holds None batches world journal sound none ran = journal_holds batches world journal sound (recursion_from_All LinkNone batches none) ran
-ran_holds (Some stop) batches world journal sound none ran = stopped_holds stop batches world journal sound (recursion_from_All LinkNone batches none) ran
+pub ran_holds : (stop : Option Stop) (batches : List (List Turn)) (world : WorldState) (journal : List JournalLine) → IsSound world → IsJournalTo stop world batches journal → HoldsAtSettles world journal
+ran_holds None batches world journal sound ran = journal_holds batches world journal sound ran
+ran_holds (Some stop) batches world journal sound ran = stopped_holds stop batches world journal sound ran
 
 -- ---- one settle more
 
@@ -133,6 +124,15 @@ stop_more stop start world last all rest batch turns journal so_far settled more
     subst (λ (lines : List JournalLine). IsStoppedJournal stop start all lines) (sym (append_assoc journal (lines_for turns) more))
     (so_far (lines_for turns ++ more) (inr (turns, last, more, refl, settled, later)))
 
+-- or by draws, to whichever end
+pub drawn_more : (stop : Option Stop) (start world last : WorldState) (first state end : ℕ) (all rest : List (List Turn)) (batch turns : List Turn) (journal : List JournalLine)
+    → ((more : List JournalLine) → IsDrawnJournal stop state world (batch ∷ rest) more → IsDrawnJournal stop first start all (journal ++ more))
+    → IsScheduled world batch state turns last end
+    → (more : List JournalLine) → IsDrawnJournal stop end last rest more → IsDrawnJournal stop first start all ((journal ++ lines_for turns) ++ more)
+drawn_more stop start world last first state end all rest batch turns journal so_far scheduled more later =
+    subst (λ (lines : List JournalLine). IsDrawnJournal stop first start all lines) (sym (append_assoc journal (lines_for turns) more))
+    (so_far (lines_for turns ++ more) (inr (turns, last, end, more, refl, scheduled, later)))
+
 -- and what is printed of it
 pub print_more : (start world last : WorldState) (names : NameLists) (batch turns : List Turn) (number : ℕ) (journal : List JournalLine) (out : List ℕ)
     → ((more : List JournalLine) → journal_text names 1 start (journal ++ more) ≡ out ++ journal_text names number world more)
@@ -149,25 +149,29 @@ print_more start world last names batch turns number journal out so_far settled 
 -- ---- what a settle leaves
 
 -- what is kept over all settles so far, so many of them: the shapes are those of the beginning, and whatever journal follows goes on from here
-pub record GoesOn (names : NameLists) (start : WorldState) (all rest : List (List Turn)) (count : ℕ) (now : ScriptState) : Type 0 where
-  pub sound : IsLinkFree now.world
+pub record GoesOn (names : NameLists) (start : WorldState) (first : ℕ) (all rest : List (List Turn)) (count : ℕ) (now : ScriptState) : Type 0 where
+  pub sound : IsSound now.world
   pub shape : HasShape now.world start
   pub journal : (more : List JournalLine) → IsJournal now.world rest more → IsJournal start all (now.journal ++ more)
   pub stops : (stop : Stop) (more : List JournalLine) → IsStoppedJournal stop now.world rest more → IsStoppedJournal stop start all (now.journal ++ more)
+  pub drawn : (stop : Option Stop) (more : List JournalLine) → IsDrawnJournal stop now.draws now.world rest more → IsDrawnJournal stop first start all (now.journal ++ more)
   pub output : (more : List JournalLine) → journal_text names 1 start (now.journal ++ more) ≡ now.output ++ journal_text names (count + 1) now.world more
 
 -- a settle that follows
-goes_settled : (names : NameLists) (start : WorldState) (all rest : List (List Turn)) (count : ℕ) (batch : List Turn) (now next : ScriptState) → LinkNone batch → Settling names (count + 1) batch now next
-    → GoesOn names start all (batch ∷ rest) count now → GoesOn names start all rest (count + 1) next
-goes_settled names start all rest count batch now next none s on = record {
-  sound = run_keeps_link_free now.world next.world s.turns on.sound (settled_link_none now.world next.world batch s.turns none s.settled) s.settled.runs;
-  shape = shape_both next.world now.world start (run_keeps_shape now.world next.world s.turns on.sound.sound s.settled.runs) on.shape;
+goes_settled : (names : NameLists) (start : WorldState) (first : ℕ) (all rest : List (List Turn)) (count : ℕ) (batch : List Turn) (now next : ScriptState) → Settling names (count + 1) batch now next
+    → GoesOn names start first all (batch ∷ rest) count now → GoesOn names start first all rest (count + 1) next
+goes_settled names start first all rest count batch now next s on = record {
+  sound = run_keeps_sound now.world next.world s.turns on.sound s.settled.runs;
+  shape = shape_both next.world now.world start (run_keeps_shape now.world next.world s.turns on.sound s.settled.runs) on.shape;
   journal = λ more later.
       subst (λ (lines : List JournalLine). IsJournal start all (lines ++ more)) (sym s.journal)
       (settle_more start now.world next.world all rest batch s.turns now.journal on.journal s.settled more later);
   stops = λ stop more later.
       subst (λ (lines : List JournalLine). IsStoppedJournal stop start all (lines ++ more)) (sym s.journal)
       (stop_more stop start now.world next.world all rest batch s.turns now.journal (on.stops stop) s.settled more later);
+  drawn = λ stop more later.
+      subst (λ (lines : List JournalLine). IsDrawnJournal stop first start all (lines ++ more)) (sym s.journal)
+      (drawn_more stop start now.world next.world first now.draws next.draws all rest batch s.turns now.journal (on.drawn stop) s.scheduled more later);
   output = λ more.
       ap (λ (lines : List JournalLine). journal_text names 1 start (lines ++ more)) s.journal
       ∙ (print_more start now.world next.world names batch s.turns (count + 1) now.journal now.output on.output s.settled more
@@ -175,16 +179,16 @@ goes_settled names start all rest count batch now next none s on = record {
 }
 
 -- the next batch, and those behind it
-next_left : (i : ℕ) (all : List Batch) (none : Batch) → i < length all → map batch_turns (drop i all) ≡ batch_turns (slice_index_or all i none) ∷ map batch_turns (drop (i + 1) all)
+pub next_left : (i : ℕ) (all : List Batch) (none : Batch) → i < length all → map batch_turns (drop i all) ≡ batch_turns (slice_index_or all i none) ∷ map batch_turns (drop (i + 1) all)
 next_left i all none within = ap (λ (left : List Batch). map batch_turns left) (drop-cons all i none within ∙ ap (λ (n : ℕ). slice_index_or all i none ∷ drop n all) (sym (add-one i)))
 
 -- by the batch's place
-pub goes_next : (names : NameLists) (start : WorldState) (all : List Batch) (i : ℕ) (none : Batch) (now next : ScriptState) → i < length all → LinkNone (batch_turns (slice_index_or all i none))
-    → Settling names (i + 1) (batch_turns (slice_index_or all i none)) now next → GoesOn names start (map batch_turns all) (map batch_turns (drop i all)) i now
-    → GoesOn names start (map batch_turns all) (map batch_turns (drop (i + 1) all)) (i + 1) next
-goes_next names start all i none now next within free s on =
-    goes_settled names start (map batch_turns all) (map batch_turns (drop (i + 1) all)) i (batch_turns (slice_index_or all i none)) now next free s
-    (subst (λ (left : List (List Turn)). GoesOn names start (map batch_turns all) left i now) (next_left i all none within) on)
+pub goes_next : (names : NameLists) (start : WorldState) (first : ℕ) (all : List Batch) (i : ℕ) (none : Batch) (now next : ScriptState) → i < length all
+    → Settling names (i + 1) (batch_turns (slice_index_or all i none)) now next → GoesOn names start first (map batch_turns all) (map batch_turns (drop i all)) i now
+    → GoesOn names start first (map batch_turns all) (map batch_turns (drop (i + 1) all)) (i + 1) next
+goes_next names start first all i none now next within s on =
+    goes_settled names start first (map batch_turns all) (map batch_turns (drop (i + 1) all)) i (batch_turns (slice_index_or all i none)) now next s
+    (subst (λ (left : List (List Turn)). GoesOn names start first (map batch_turns all) left i now) (next_left i all none within) on)
 
 -- what holds of all batches holds of the one at a place
 pub batch_at : (P : List Turn → Type 0) (all : List Batch) (i : ℕ) (none : Batch) → i < length all → All P (map batch_turns all) → P (batch_turns (slice_index_or all i none))
@@ -192,80 +196,42 @@ batch_at P all i none within holds =
     subst P (get_or-map batch_turns all i none (batch_turns none) within) (holds i (batch_turns none) (subst (λ (n : ℕ). i < n) (sym (length-map all batch_turns)) within))
 
 -- its commands are allowed now
-pub batch_allowed : (names : NameLists) (start : WorldState) (all : List Batch) (i : ℕ) (none : Batch) (rest : List (List Turn)) (now : ScriptState) → i < length all → IsSound start
-    → AreAllAllowed start (map batch_turns all) → GoesOn names start (map batch_turns all) rest i now → AreAllowed now.world (batch_turns (slice_index_or all i none))
-batch_allowed names start all i none rest now within sound allowed on =
-    all_kept (batch_turns (slice_index_or all i none)) start now.world sound on.sound.sound on.shape (batch_at (AreAllowed start) all i none within allowed)
+pub batch_allowed : (names : NameLists) (start : WorldState) (first : ℕ) (all : List Batch) (i : ℕ) (none : Batch) (rest : List (List Turn)) (now : ScriptState) → i < length all → IsSound start
+    → AreAllAllowed start (map batch_turns all) → GoesOn names start first (map batch_turns all) rest i now → AreAllowed now.world (batch_turns (slice_index_or all i none))
+batch_allowed names start first all i none rest now within sound allowed on =
+    all_kept (batch_turns (slice_index_or all i none)) start now.world sound on.sound on.shape (batch_at (AreAllowed start) all i none within allowed)
 
 -- all has its names now
-pub names_now : (names : NameLists) (start : WorldState) (all rest : List (List Turn)) (count : ℕ) (now : ScriptState) → NamesAll names start → GoesOn names start all rest count now → NamesAll names now.world
-names_now names start all rest count now named on = names_kept names now.world start on.shape named
+pub names_now : (names : NameLists) (start : WorldState) (first : ℕ) (all rest : List (List Turn)) (count : ℕ) (now : ScriptState) → NamesAll names start → GoesOn names start first all rest count now → NamesAll names now.world
+names_now names start first all rest count now named on = names_kept names now.world start on.shape named
 
 -- nothing was run yet
-pub goes_first : (names : NameLists) (start : WorldState) (all : List (List Turn)) → IsLinkFree start → GoesOn names start all all 0 (first_state start)
-goes_first names start all sound = record {
+pub goes_first : (names : NameLists) (start : WorldState) (first : ℕ) (all : List (List Turn)) → IsSound start → GoesOn names start first all all 0 (first_state start first)
+goes_first names start first all sound = record {
   sound = sound;
   shape = same_shape start;
   journal = λ more later. later;
   stops = λ stop more later. later;
+  drawn = λ stop more later. later;
   output = λ more. refl;
 }
 
 -- no batch is left
-pub goes_to_end : (names : NameLists) (start : WorldState) (all : List Batch) (i : ℕ) (now last : ScriptState) → length all ≤ i → last ≡ now
-    → GoesOn names start (map batch_turns all) (map batch_turns (drop i all)) i now → GoesOn names start (map batch_turns all) [] i last
-goes_to_end names start all i now last past same on =
-    subst (λ (s : ScriptState). GoesOn names start (map batch_turns all) [] i s) (sym same)
-    (subst (λ (left : List Batch). GoesOn names start (map batch_turns all) (map batch_turns left) i now) (drop_all i all past) on)
+pub goes_to_end : (names : NameLists) (start : WorldState) (first : ℕ) (all : List Batch) (i : ℕ) (now last : ScriptState) → length all ≤ i → last ≡ now
+    → GoesOn names start first (map batch_turns all) (map batch_turns (drop i all)) i now → GoesOn names start first (map batch_turns all) [] i last
+goes_to_end names start first all i now last past same on =
+    subst (λ (s : ScriptState). GoesOn names start first (map batch_turns all) [] i s) (sym same)
+    (subst (λ (left : List Batch). GoesOn names start first (map batch_turns all) (map batch_turns left) i now) (drop_all i all past) on)
 
 -- all was run
-pub all_settled : (names : NameLists) (start : WorldState) (all : List (List Turn)) (count : ℕ) (now : ScriptState) → GoesOn names start all [] count now → IsJournal start all now.journal
-all_settled names start all count now on = subst (λ (lines : List JournalLine). IsJournal start all lines) (append-nil now.journal) (on.journal [] refl)
+pub all_settled : (names : NameLists) (start : WorldState) (first : ℕ) (all : List (List Turn)) (count : ℕ) (now : ScriptState) → GoesOn names start first all [] count now → IsJournal start all now.journal
+all_settled names start first all count now on = subst (λ (lines : List JournalLine). IsJournal start all lines) (append-nil now.journal) (on.journal [] refl)
+
+-- by the schedule
+pub all_drawn : (names : NameLists) (start : WorldState) (first : ℕ) (all : List (List Turn)) (count : ℕ) (now : ScriptState) → GoesOn names start first all [] count now → IsDrawnJournal None first start all now.journal
+all_drawn names start first all count now on = subst (λ (lines : List JournalLine). IsDrawnJournal None first start all lines) (append-nil now.journal) (on.drawn None [] (refl, refl))
 
 -- when all settles are done all is printed
-pub all_printed : (names : NameLists) (start : WorldState) (all : List (List Turn)) (count : ℕ) (now : ScriptState) → GoesOn names start all [] count now → now.output ≡ journal_text names 1 start now.journal
-all_printed names start all count now on =
+pub all_printed : (names : NameLists) (start : WorldState) (first : ℕ) (all : List (List Turn)) (count : ℕ) (now : ScriptState) → GoesOn names start first all [] count now → now.output ≡ journal_text names 1 start now.journal
+all_printed names start first all count now on =
     sym (ap (λ (lines : List JournalLine). journal_text names 1 start lines) (sym (append-nil now.journal)) ∙ (on.output [] ∙ append-nil now.output))
-
--- ---- a stop
-
--- the slot at which a settle stops has a name
-pub stop_named : (names : NameLists) (world : WorldState) (batch : List Turn) (state end : ℕ) (stop : Stopped) → IsSound world → NamesAll names world → StopsByDraws world batch state end (EndsVersion stop)
-    → (stop.place.0 < length names.boxes) × (stop.place.1 < length (slot_names names stop.place.0))
-stop_named names world batch state end stop sound all (stops, there) =
-    let one = then_some (number stops.last.world stops.meets.turn.who) (heard_local stops.meets.turn.event) stop.at stops.meets.slot in
-    let shape = run_keeps_shape world stops.last.world stop.turns.items sound stops.stopped.runs in
-    let inside : stop.at < slot_count world = subst (λ (channels : List ChannelState). stop.at < length (places_among channels)) shape.channels (number_is stops.last.world stops.meets.turn.who one.0 stop.at one.2).0 in
-    let who : (place world stop.at).0 < length world.boxes = sound.numbered.placed stop.at inside in
-    subst (λ (p : ℕ × ℕ). (p.0 < length names.boxes) × (p.1 < length (slot_names names p.0))) (sym there) (
-      subst (λ (n : ℕ). (place world stop.at).0 < n) (sym all.boxes) who,
-      subst (λ (n : ℕ). (place world stop.at).1 < n) (sym (all.slots (place world stop.at).0 who)) (sound.numbered.slots stop.at inside),
-    )
-
--- the places of slots are those of the beginning
-stop_line_same : (names : NameLists) (now start : WorldState) (stop : Stop) → HasShape now start → stop_line names now stop ≡ stop_line names start stop
-stop_line_same names now start (VersionEnd at) shape =
-    ap (λ (channels : List ChannelState). line_of (codes "version" ∷ slot_word names (slice_index_or (places_among channels) at (0, 0)).0 (slice_index_or (places_among channels) at (0, 0)).1 ∷ [])) shape.channels
-
--- what a script ran to that stopped
-pub record EndsAtStop (names : NameLists) (start : WorldState) (all : List (List Turn)) (run : Run) : Type 0 where
-  pub ran : IsJournalTo run.stop start all run.journal.items
-  pub output : run.output.items ≡ run_text names start run.stop run.journal.items
-
-stops_here : (names : NameLists) (start : WorldState) (all rest : List (List Turn)) (count : ℕ) (batch : List Turn) (now : ScriptState) (run : Run) → Stopping names batch now run
-    → GoesOn names start all (batch ∷ rest) count now → EndsAtStop names start all run
-stops_here names start all rest count batch now run s on =
-    let here : IsStoppedJournal s.stop start all run.journal.items =
-    subst (λ (lines : List JournalLine). IsStoppedJournal s.stop start all lines) (sym s.journal)
-    (on.stops s.stop (map Made s.turns) (inl (record { turns = s.turns; last = s.last; lines = refl; stopped = s.stopped; cause = s.cause }))) in
-    record {
-      ran = subst (λ (o : Option Stop). IsJournalTo o start all run.journal.items) (sym s.is) here;
-      output = s.output ∙ (stop_line_same names now.world start s.stop on.shape ∙ ap (λ (o : Option Stop). run_text names start o run.journal.items) (sym s.is));
-    }
-
--- by the batch's place
-pub stops_at : (names : NameLists) (start : WorldState) (all : List Batch) (i : ℕ) (none : Batch) (now : ScriptState) (run : Run) → i < length all
-    → Stopping names (batch_turns (slice_index_or all i none)) now run → GoesOn names start (map batch_turns all) (map batch_turns (drop i all)) i now → EndsAtStop names start (map batch_turns all) run
-stops_at names start all i none now run within s on =
-    stops_here names start (map batch_turns all) (map batch_turns (drop (i + 1) all)) i (batch_turns (slice_index_or all i none)) now run s
-    (subst (λ (left : List (List Turn)). GoesOn names start (map batch_turns all) left i now) (next_left i all none within) on)

@@ -12,13 +12,13 @@ use Rattle.mc_net.specs.declared.net.Net.{Net}
 use Rattle.mc_net.proofs.Faults.{declares_or_faults}
 use Rattle.mc_net.proofs.FirstBytes.{faults_of_the_first_bytes, says_the_whole}
 use Rattle.mc_top.specs.Journals.{ShowsCause}
-use Rattle.mc_top.specs.Top.{Ends, ToldDeclares, ToldFault}
-use Rattle.mc_top.specs.Modes.{IsWorkable}
+use Rattle.mc_top.specs.Top.{Ends, StopsScript, ToldDeclares, ToldFault}
+use Rattle.mc_top.specs.Modes.{CanRun, IsWorkable}
 use Rattle.mc_top.specs.declared.stop.Stop.{Stop}
-use Rattle.mc_top.specs.declared.stop.Stop.TheVariants.{VersionEnd}
-use Rattle.mc_top.proofs.LastVersions.{none_passes}
+use Rattle.mc_top.specs.Rings.{LeavesNoRing}
+use Rattle.mc_top.proofs.Causes.{never_stops}
 use Rattle.mc_top.specs.declared.words.Mode.{Mode}
-use Rattle.mc_top.specs.declared.words.Mode.TheVariants.{Run}
+use Rattle.mc_top.specs.declared.words.Mode.TheVariants.{One, Run}
 
 -- the fault of the text that was read is that of what was left
 pub told_fault : (told : Option (List ℕ)) (text : List ℕ) (number line : ℕ) → IfSome told (λ all. text ≡ first_bytes all) → IsFault text number line → ToldFault told number line
@@ -32,6 +32,20 @@ told_declares (Some all) text net read declares =
     let says : Says (first_bytes all) declares.declared = subst (λ (t : List ℕ). Says t declares.declared) read declares.says in
     subst (λ (t : List ℕ). DeclaresNet t net) (read ∙ says_the_whole all declares.declared says) declares
 
+-- a script that stopped is that of what was left
+stops_told : (mode : Mode) (told old new : Option (List ℕ)) (text : List ℕ) (status due : ℕ) (journal : List JournalLine)
+    → IfSome told (λ all. text ≡ first_bytes all) → StopsScript mode (Some text) old new status due journal → StopsScript mode told old new status due journal
+stops_told mode told old new text status due journal read stops = record {
+  net = stops.net;
+  stop = stops.stop;
+  declared = told_declares told text stops.net read stops.declared;
+  due_is = stops.due_is;
+  settled = stops.settled;
+  drawn = stops.drawn;
+  shows = stops.shows;
+  delivered = stops.delivered;
+}
+
 -- what was said of the text that was read holds of what was left
 pub ends_told : (mode : Mode) (told old new : Option (List ℕ)) (text : List ℕ) (status due : ℕ) (journal : List JournalLine)
     → IfSome told (λ all. text ≡ first_bytes all) → Ends mode (Some text) old new status due journal → Ends mode told old new status due journal
@@ -41,11 +55,16 @@ ends_told mode told old new text status due journal read ends = record {
       record { net = worked.net; declared = told_declares told text worked.net read worked.declared; settles = worked.settles; delivered = worked.delivered };
   refused = λ one. elim (ends.refused one) [
     | inl refused ↦ inl (record { number = refused.number; line = refused.line; fault = told_fault told text refused.number refused.line read refused.fault; delivered = refused.delivered; no_journal = refused.no_journal })
-    | inr stops ↦ inr (record { net = stops.net; stop = stops.stop; declared = told_declares told text stops.net read stops.declared; due_is = stops.due_is; settled = stops.settled; shows = stops.shows; delivered = stops.delivered })
+    | inr stops ↦ inr (stops_told mode told old new text status due journal read stops)
   ];
+  at_ring = λ seven. stops_told mode told old new text status due journal read (ends.at_ring seven);
   gave_up = ends.gave_up;
   no_journal = ends.no_journal;
 }
+
+can_run : (mode : Mode) (text : List ℕ) → IsWorkable mode text → CanRun text
+can_run Run text works = works
+can_run (One state) text works = works
 
 fault_says : (told : Option (List ℕ)) (text : List ℕ) (d : Declared) (number line : ℕ) → ToldFault told number line → told ≡ Some text → Says text d → ⊥
 fault_says None text d number line fault is says = cc
@@ -54,19 +73,19 @@ fault_says (Some all) text d number line fault is says =
 
 -- a text on which a mode's work can be done has no fault
 fault_works : (mode : Mode) (told : Option (List ℕ)) (text : List ℕ) (number line : ℕ) → ToldFault told number line → told ≡ Some text → IsWorkable mode text → ⊥
-fault_works Run told text number line fault is (d, says, none) = fault_says told text d number line fault is says
+fault_works mode told text number line fault is works = let can = can_run mode text works in fault_says told text can.0 number line fault is can.1
 
-stop_says : (told : Option (List ℕ)) (text : List ℕ) (d : Declared) (net : Net) (stop : Stop) → ToldDeclares told net → told ≡ Some text → Says text d → MeetsNoLast d
+stop_says : (told : Option (List ℕ)) (text : List ℕ) (d : Declared) (net : Net) (stop : Stop) → ToldDeclares told net → told ≡ Some text → Says text d → MeetsNoLast d → LeavesNoRing d
     → ShowsCause (Some stop) net.world (map batch_turns net.batches.items) → ⊥
-stop_says None text d net stop declares is says none shows = cc
-stop_says (Some all) text d net (VersionEnd at) declares is says none shows =
+stop_says None text d net stop declares is says none rings shows = cc
+stop_says (Some all) text d net stop declares is says none rings shows =
     let same : all ≡ text = cc in
-    none_passes text d net says none (subst (λ (t : List ℕ). DeclaresNet t net) same declares) shows
+    never_stops stop text d net says none rings (subst (λ (t : List ℕ). DeclaresNet t net) same declares) shows
 
 -- nor does its script stop
 stop_works : (mode : Mode) (told : Option (List ℕ)) (text : List ℕ) (net : Net) (stop : Stop) → ToldDeclares told net → told ≡ Some text → IsWorkable mode text
     → ShowsCause (Some stop) net.world (map batch_turns net.batches.items) → ⊥
-stop_works Run told text net stop declares is (d, says, none) shows = stop_says told text d net stop declares is says none shows
+stop_works mode told text net stop declares is works shows = let can = can_run mode text works in stop_says told text can.0 net stop declares is can.1 can.2 can.3 shows
 
 le_self : (n : ℕ) → n ≤ n
 le_self n = omega arith
@@ -85,15 +104,12 @@ not_failed before now status fault counted unrisen is =
 
 -- a text on which the work can be done and no counted fault leave only two ends
 pub completes : (mode : Mode) (told old new : Option (List ℕ)) (text : List ℕ) (status due : ℕ) (journal : List JournalLine)
-    → (due ≡ 0) ⊎ (due ≡ 1) ⊎ (due ≡ 3) ⊎ (due ≡ 4) → (status ≡ due) ⊎ (status ≡ 5) → Ends mode told old new status due journal
+    → (due ≡ 0) ⊎ (due ≡ 1) ⊎ (due ≡ 3) ⊎ (due ≡ 4) ⊎ (due ≡ 7) → (status ≡ due) ⊎ (status ≡ 5) → Ends mode told old new status due journal
     → told ≡ Some text → IsWorkable mode text → (due ≡ 4 → ⊥) → (status ≡ 5 → ⊥) → (status ≡ 0) ⊎ (status ≡ 3)
 completes mode told old new text status due journal dues either ends is works not_four not_five =
     let not_one : due ≡ 1 → ⊥ = λ one. elim (ends.refused one) [
       | inl refused ↦ fault_works mode told text refused.number refused.line refused.fault is works
       | inr stops ↦ stop_works mode told text stops.net stops.stop stops.declared is works stops.shows
     ] in
-    grind (arith, not_one, not_four, not_five)
-
--- there is one mode
-pub same_mode : (mode other : Mode) → mode ≡ other
-same_mode Run Run = refl
+    let not_seven : due ≡ 7 → ⊥ = λ seven. let stops = ends.at_ring seven in stop_works mode told text stops.net stops.stop stops.declared is works stops.shows in
+    grind (arith, not_one, not_four, not_five, not_seven)

@@ -1,18 +1,20 @@
 -- A journal: the turns of every settle, in order, each settle with its mark behind it. Where a script stops, the turns up to the stop come last, without a mark.
-use Rattle.std.specs.Prelude.{◌≡◌, ◌⊎◌, List, [], ◌∷◌, ◌++◌, map, Option, Some, None}
+use Rattle.std.specs.Prelude.{◌≡◌, ◌⊎◌, ℕ, List, [], ◌∷◌, ◌++◌, map, Option, Some, None}
 use Rattle.std.specs.List.{All}
 use Rattle.std.specs.Option.{unwrap_or}
 use Rattle.mc_model.specs.PathTable.{PathHolds}
 use Rattle.mc_model.specs.Paths.{paths}
 use Rattle.mc_laws.specs.Versions.{PassesLast}
-use Rattle.mc_model.specs.Settles.{IsSettled, IsStopped, MeetsLast, hears_in}
+use Rattle.mc_model.specs.Rings.{IsFirstOnRing}
+use Rattle.mc_model.specs.Settles.{IsSettled, IsStopped, MeetsLast, commands_of, hears_in}
 use Rattle.mc_model.specs.Steps.{step}
 use Rattle.mc_model.specs.Worlds.{WorldState}
 use Rattle.mc_box.specs.declared.event.Turn.{Turn}
 use Rattle.mc_script.specs.declared.command.JournalLine.{JournalLine}
 use Rattle.mc_script.specs.declared.command.JournalLine.TheVariants.{Turn as Made, Settled}
 use Rattle.mc_top.specs.declared.stop.Stop.{Stop}
-use Rattle.mc_top.specs.declared.stop.Stop.TheVariants.{VersionEnd}
+use Rattle.mc_top.specs.Rings.{NoRingIsLeft}
+use Rattle.mc_top.specs.declared.stop.Stop.TheVariants.{Ring, VersionEnd}
 
 -- the turns of a settle, as lines
 abbrev pub lines_for : List Turn → List JournalLine
@@ -25,9 +27,14 @@ IsJournal world (batch ∷ batches) journal =
     (turns : List Turn) × (last : WorldState) × (rest : List JournalLine)
     × (journal ≡ lines_for turns ++ rest) × IsSettled world batch turns last × IsJournal last batches rest
 
--- why a script stops, behind turns of a batch that leave a world
+-- turns make all commands of a batch, box by box
+abbrev pub UseUp : (batch turns : List Turn) → Type 0
+UseUp batch turns = (who : ℕ) → commands_of who turns ≡ commands_of who batch
+
+-- why a script stops, behind turns of a batch that leave a world: at the last version, or at the least slot on a ring, where the batch is used up
 abbrev pub IsCause : Stop → (batch turns : List Turn) → WorldState → Type 0
 IsCause (VersionEnd at) batch turns last = MeetsLast batch turns last at
+IsCause (Ring at) batch turns last = UseUp batch turns × IsFirstOnRing last at
 
 -- turns that stopped within a batch, with their cause; they have no mark
 pub record StopsBatch (world : WorldState) (batch : List Turn) (stop : Stop) (journal : List JournalLine) : Type 0 where
@@ -49,10 +56,11 @@ abbrev pub IsJournalTo : Option Stop → WorldState → List (List Turn) → Lis
 IsJournalTo None world batches journal = IsJournal world batches journal
 IsJournalTo (Some stop) world batches journal = IsStoppedJournal stop world batches journal
 
--- what a stop shows of the batches: at the last version, that the version of some slot in the first world and its Hears are more than that together
+-- what a stop shows of the batches: at the last version, that the version of some slot in the first world and its Hears are more than that together; at a ring, that they leave one
 abbrev pub ShowsCause : Option Stop → WorldState → List (List Turn) → Type 0
 ShowsCause None world batches = Unit {0}
 ShowsCause (Some (VersionEnd at)) world batches = PassesLast world (λ who local. hears_in who local batches)
+ShowsCause (Some (Ring at)) world batches = NoRingIsLeft world batches → ⊥
 
 -- the world after a turn of a journal
 abbrev pub next_world : WorldState → Turn → WorldState

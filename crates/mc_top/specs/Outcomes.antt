@@ -5,6 +5,7 @@ use Rattle.mc_model.specs.Worlds.{WorldState}
 use Rattle.mc_box.specs.declared.event.Turn.{Turn}
 use Rattle.mc_text.specs.NameLists.{NameLists}
 use Rattle.mc_script.specs.declared.command.JournalLine.TheVariants.{Turn as Made}
+use Rattle.mc_top.specs.Drawn.{StopsBy}
 use Rattle.mc_top.specs.Journals.{IsCause}
 use Rattle.mc_top.specs.Printed.{stop_line}
 use Rattle.mc_top.specs.Scripts.{ScriptState, Settling}
@@ -17,9 +18,11 @@ use Rattle.mc_top.specs.declared.stop.Stop.{Stop}
 pub record Stopping (names : NameLists) (batch : List Turn) (old : ScriptState) (run : Run) : Type 0 where
   pub turns : List Turn
   pub last : WorldState
+  pub end : ℕ
   pub stop : Stop
   pub stopped : IsStopped old.world batch turns last
   pub cause : IsCause stop batch turns last
+  pub scheduled : StopsBy stop old.world batch old.draws turns end
   pub journal : run.journal.items ≡ old.journal ++ map Made turns
   pub output : run.output.items ≡ stop_line names old.world stop
   pub is : run.stop ≡ Some stop

@@ -14,7 +14,7 @@ use Rattle.mc_top.specs.Journals.{next_world}
 use Rattle.mc_script.specs.declared.command.JournalLine.{JournalLine}
 use Rattle.mc_script.specs.declared.command.JournalLine.TheVariants.{Turn as Made, Settled}
 use Rattle.mc_top.specs.declared.stop.Stop.{Stop}
-use Rattle.mc_top.specs.declared.stop.Stop.TheVariants.{VersionEnd}
+use Rattle.mc_top.specs.declared.stop.Stop.TheVariants.{Ring, VersionEnd}
 
 -- ---- words
 
@@ -63,9 +63,19 @@ journal_text names number world (Settled ∷ journal) = settle_text names number
 
 -- ---- a stop
 
+-- the word for why a script stopped
+abbrev pub stop_word : Stop → List ℕ
+stop_word (VersionEnd at) = codes "version"
+stop_word (Ring at) = codes "ring"
+
+-- the slot at which it stopped
+abbrev pub stop_slot : Stop → ℕ
+stop_slot (VersionEnd at) = at
+stop_slot (Ring at) = at
+
 -- the one line for a script that stopped, whose slot has its place in the first world
 abbrev pub stop_line : NameLists → WorldState → Stop → List ℕ
-stop_line names world (VersionEnd at) = line_of (codes "version" ∷ place_word names world at ∷ [])
+stop_line names world stop = line_of (stop_word stop ∷ place_word names world (stop_slot stop) ∷ [])
 
 -- what is printed for a journal from a world: its settles, or for a stop that line alone
 abbrev pub run_text : NameLists → WorldState → Option Stop → List JournalLine → List ℕ

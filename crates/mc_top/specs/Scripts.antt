@@ -5,21 +5,24 @@ use Rattle.mc_model.specs.Worlds.{WorldState}
 use Rattle.mc_box.specs.declared.event.Turn.{Turn}
 use Rattle.mc_text.specs.NameLists.{NameLists}
 use Rattle.mc_script.specs.declared.command.JournalLine.{JournalLine}
+use Rattle.mc_seq.specs.Draws.{IsScheduled}
 use Rattle.mc_top.specs.Journals.{lines_for}
 use Rattle.mc_top.specs.Printed.{settle_text}
 
--- where its world stands, and what was kept and printed so far
+-- where its world and its draws stand, and what was kept and printed so far
 pub record ScriptState : Type 0 where
   pub world : WorldState
+  pub draws : ℕ
   pub journal : List JournalLine
   pub output : List ℕ
 
-abbrev pub first_state : WorldState → ScriptState
-first_state world = record { world = world; journal = []; output = [] }
+abbrev pub first_state : WorldState → (draws : ℕ) → ScriptState
+first_state world draws = record { world = world; draws = draws; journal = []; output = [] }
 
--- a batch was settled, and that was kept, and printed under the settle's number
+-- a batch was settled by draws, and that was kept, and printed under the settle's number
 pub record Settling (names : NameLists) (number : ℕ) (batch : List Turn) (old new : ScriptState) : Type 0 where
   pub turns : List Turn
   pub settled : IsSettled old.world batch turns new.world
+  pub scheduled : IsScheduled old.world batch old.draws turns new.world new.draws
   pub journal : new.journal ≡ old.journal ++ lines_for turns
   pub output : new.output ≡ old.output ++ settle_text names number new.world

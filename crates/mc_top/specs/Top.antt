@@ -1,5 +1,5 @@
 -- What the top call promises.
-use Rattle.std.specs.Prelude.{◌≡◌, ◌≢◌, ◌⊎◌, ◌≤◌, ℕ, List, [], ◌∷◌, ◌++◌, codes, length, map, IfSome, IsFalse, IsTrue, Some}
+use Rattle.std.specs.Prelude.{◌≡◌, ◌≢◌, ◌⊎◌, ◌≤◌, ℕ, List, [], ◌∷◌, ◌++◌, codes, length, map, IfSome, IsFalse, IsTrue, None, Some}
 use Rattle.std.specs.declared.option.Option.{Option}
 use Rattle.std.specs.Io.KnownBytes.{Appends, Consumes, IsAtEnd, Keeps}
 use Rattle.mc_io.specs.Bytes.{AppendsPart}
@@ -9,12 +9,13 @@ use Rattle.mc_net.specs.TextLaws.{first_bytes}
 use Rattle.mc_net.specs.Texts.{IsFault}
 use Rattle.mc_net.specs.declared.net.Net.{Net}
 use Rattle.mc_net.specs.declared.limit.TheConstants.{TEXT_LIMIT}
+use Rattle.mc_top.specs.Drawn.{IsDrawnJournal}
 use Rattle.mc_top.specs.Journals.{IsJournal, IsStoppedJournal, HoldsAtSettles, ShowsCause}
-use Rattle.mc_top.specs.Modes.{output_of, reads}
+use Rattle.mc_top.specs.Modes.{draws_from, output_of, reads}
 use Rattle.mc_top.specs.Printed.{fault_line, stop_line}
 use Rattle.mc_top.specs.Statuses.{keeps_journal, stop_status}
 use Rattle.mc_script.specs.declared.command.JournalLine.{JournalLine}
-use Rattle.mc_top.specs.declared.status.TheConstants.{WORKED, FAULTY_TEXT, USAGE, NO_MEMORY, READ_FAULT, WRITE_FAULT}
+use Rattle.mc_top.specs.declared.status.TheConstants.{WORKED, FAULTY_TEXT, USAGE, NO_MEMORY, READ_FAULT, RING, WRITE_FAULT}
 use Rattle.mc_top.specs.declared.stop.Stop.{Stop}
 use Rattle.mc_top.specs.declared.top.Done.{Done}
 use Rattle.mc_top.specs.declared.words.Mode.{Mode}
@@ -46,10 +47,11 @@ ReadsFor mode old new text = IsTrue (reads mode) → ReadsWhole old new text
 abbrev pub IsTextOf : Option (List ℕ) → List ℕ → Type 0
 IsTextOf told text = IfSome told (λ all. text ≡ first_bytes all)
 
--- The journal is one settled segment for each settle, in order, all of them one run from the network's first world: the interleaving of the boxes. At each settle the two end slots of every path are in the state that the path table gives, and where it flows each has the other's newest descriptor and the choice for its own
-pub record Settles (net : Net) (journal : List JournalLine) : Type 0 where
+-- The journal is one settled segment for each settle, in order, all of them one run from the network's first world: the interleaving of the boxes. At each settle the two end slots of every path are in the state that the path table gives, and where it flows each has the other's newest descriptor and the choice for its own. Which interleaving it is the draws decide, from their first state on
+pub record Settles (net : Net) (state : ℕ) (journal : List JournalLine) : Type 0 where
   pub settled : IsJournal net.world (map batch_turns net.batches.items) journal
   pub holds : HoldsAtSettles net.world journal
+  pub drawn : IsDrawnJournal None state net.world (map batch_turns net.batches.items) journal
 
 -- what is told of a text declares this network
 abbrev pub ToldDeclares : Option (List ℕ) → Net → Type 0
@@ -65,7 +67,7 @@ ToldFault told number line = IfSome told (λ text. IsFault text number line)
 pub record Worked (mode : Mode) (told old new : Option (List ℕ)) (status : ℕ) (journal : List JournalLine) : Type 0 where
   pub net : Net
   pub declared : ToldDeclares told net
-  pub settles : Settles net journal
+  pub settles : Settles net (draws_from mode) journal
   pub delivered : Delivers status WORKED old new (output_of mode net journal)
 
 -- a mode refused the text, and delivered the one line that names its first fault
@@ -77,19 +79,21 @@ pub record Refused (told old new : Option (List ℕ)) (status : ℕ) (journal : 
   pub no_journal : journal ≡ []
 
 -- The script of the network that the text declares stopped, and the one line that says where was delivered. The journal is the settled segments before, and the turns up to the stop: replayed, they lead to a world that shows the cause
-pub record StopsScript (told old new : Option (List ℕ)) (status due : ℕ) (journal : List JournalLine) : Type 0 where
+pub record StopsScript (mode : Mode) (told old new : Option (List ℕ)) (status due : ℕ) (journal : List JournalLine) : Type 0 where
   pub net : Net
   pub stop : Stop
   pub declared : ToldDeclares told net
   pub due_is : due ≡ stop_status stop
   pub settled : IsStoppedJournal stop net.world (map batch_turns net.batches.items) journal
+  pub drawn : IsDrawnJournal (Some stop) (draws_from mode) net.world (map batch_turns net.batches.items) journal
   pub shows : ShowsCause (Some stop) net.world (map batch_turns net.batches.items)
   pub delivered : Delivers status due old new (stop_line net.names net.world stop)
 
 -- what a mode printed and kept, for the text that it was told
 pub record Ends (mode : Mode) (told old new : Option (List ℕ)) (status due : ℕ) (journal : List JournalLine) : Type 0 where
   pub worked : due ≡ WORKED → Worked mode told old new status journal
-  pub refused : due ≡ FAULTY_TEXT → Refused told old new status journal ⊎ StopsScript told old new status due journal
+  pub refused : due ≡ FAULTY_TEXT → Refused told old new status journal ⊎ StopsScript mode told old new status due journal
+  pub at_ring : due ≡ RING → StopsScript mode told old new status due journal
   pub gave_up : (due ≡ NO_MEMORY) ⊎ (due ≡ READ_FAULT) → (status ≡ due) × Keeps old new
   pub no_journal : IsFalse (keeps_journal due) → journal ≡ []
 

@@ -1,27 +1,43 @@
 // What is printed for a script that stopped, and for a faulty text.
-ghost use Rattle.std.specs.Prelude.{◌≡◌, ◌<◌, ◌∷◌, [], IfOk, codes, length};
+ghost use Rattle.std.specs.Prelude.{◌≡◌, ◌<◌, ◌∷◌, [], IfOk, length};
 ghost use Rattle.mc_table.specs.Words.{line_of};
 ghost use Rattle.mc_text.specs.NameLists.{slot_names, slot_word};
-ghost use Rattle.mc_top.specs.Printed.{fault_line};
+ghost use Rattle.mc_top.specs.Printed.{fault_line, stop_word};
 
+use crate::stop::Stop;
 use mc_net::TextFault;
 use mc_table::put_line;
 use mc_text::Names;
 use std::alloc::{AllocError, Global};
 
-/// The line that is printed for a script that stopped at the last version of a slot, by its place.
-pub fn print_stop(alloc: Global, names: &Names, place: (u32, u8)) -> Result<Vec<u8>, AllocError>
+/// The line that is printed for a script that stopped at a slot, by the slot's place.
+pub fn print_stop(
+    alloc: Global,
+    names: &Names,
+    stop: Stop,
+    place: (u32, u8),
+) -> Result<Vec<u8>, AllocError>
     requires who { place.0 < length names.now.boxes }
     requires local { place.1 < length (slot_names names.now place.0) }
     ensures { IfOk result (λ line. line.items
-        ≡ line_of (codes "version" ∷ slot_word names.now place.0 place.1 ∷ [])) }
+        ≡ line_of (stop_word stop ∷ slot_word names.now place.0 place.1 ∷ [])) }
 {
     let (who, local) = place;
     let mut word = Vec::new(alloc);
     names.print_slot(who, local, &mut word)?;
     let mut out = Vec::new(alloc);
-    put_line(b"version", &[&word], &mut out)?;
+    put_line(stop_word(stop), &[&word], &mut out)?;
     Ok(out)
+}
+
+// The word for why a script stopped.
+fn stop_word(stop: Stop) -> &'static [u8]
+    ensures { result.now ≡ stop_word stop }
+{
+    match stop {
+        Stop::VersionEnd(_) => b"version",
+        Stop::Ring(_) => b"ring",
+    }
 }
 
 /// The line that is printed for a text's first fault.

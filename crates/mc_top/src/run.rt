@@ -1,17 +1,16 @@
 // A script, settle by settle.
-ghost use Rattle.std.specs.Prelude.{◌≡◌, ◌++◌, ◌∷◌, ◌<◌, ◌≤◌, [], codes, length, map, Some, IfOk, OnOk};
-ghost use Rattle.mc_model.specs.LinkFree.{AllLinkNone, HasNoLinks, LinkNone};
+ghost use Rattle.std.specs.Prelude.{◌≡◌, ◌++◌, ◌∷◌, ◌<◌, ◌≤◌, [], length, map, Some, IfOk, OnOk};
 ghost use Rattle.mc_model.specs.Shapes.{AreAllAllowed, AreAllowed};
 ghost use Rattle.mc_net.specs.Nets.{NamesAll, batch_turns};
 ghost use Rattle.mc_net.specs.declared.limit.TheConstants.{COMMAND_LIMIT};
 ghost use Rattle.mc_script.specs.declared.command.JournalLine.TheVariants.{Turn as Made};
 ghost use Rattle.mc_table.specs.Words.{line_of};
 ghost use Rattle.mc_text.specs.NameLists.{slot_names, slot_word};
+ghost use Rattle.mc_top.specs.Drawn.{IsDrawnJournal};
 ghost use Rattle.mc_top.specs.Journals.{HoldsAtSettles, IsJournalTo, ShowsCause, lines_for};
 ghost use Rattle.mc_top.specs.Outcomes.{CameOf};
-ghost use Rattle.mc_top.specs.Printed.{run_text};
+ghost use Rattle.mc_top.specs.Printed.{run_text, stop_word};
 ghost use Rattle.mc_top.specs.Scripts.{first_state};
-ghost use Rattle.mc_top.specs.declared.stop.Stop.TheVariants.{VersionEnd};
 
 use crate::print::print_stop;
 use crate::stop::Stop;
@@ -54,16 +53,21 @@ impl Model for Progress {
 
     ghost Value = { ScriptState };
 
-    ghost view = { λ p. record { world = p.world; journal = p.journal.items; output = p.output.items } };
+    ghost view = { λ p. record {
+      world = p.world;
+      draws = p.draws.state;
+      journal = p.journal.items;
+      output = p.output.items;
+    } };
 }
 
 impl Progress {
-    fn new(alloc: Global, world: World) -> Progress
-        ensures { result ≡ first_state world }
+    fn new(alloc: Global, world: World, draws: Draws) -> Progress
+        ensures { result ≡ first_state world draws.state }
     {
         Progress {
             world,
-            draws: Draws { state: 0 },
+            draws,
             journal: Vec::new(alloc),
             output: Vec::new(alloc),
         }
@@ -77,9 +81,7 @@ impl Progress {
         number: u32,
         batch: &[Turn],
     ) -> Result<Outcome, AllocError>
-        requires free { HasNoLinks self.world }
         requires allowed { AreAllowed self.world batch.now }
-        requires link_none { LinkNone batch.now }
         requires named { NamesAll names.now self.world }
         ensures { IfOk result (λ outcome. CameOf names.now number batch.now self outcome) }
     {
@@ -105,37 +107,41 @@ impl Progress {
                 }))
             }
             Err(SettleFault::VersionEnd(stopped)) => {
-                let run = stop_at_version(alloc, names, journal, stopped)?;
+                let stop = Stop::VersionEnd(stopped.at);
+                let run = stop_at(alloc, names, journal, stop, stopped)?;
                 Ok(Outcome::Stopped(run))
             }
-            // without links there is no ring
-            Err(SettleFault::Ring(_)) => unreachable!(),
+            Err(SettleFault::Ring(stopped)) => {
+                let stop = Stop::Ring(stopped.at);
+                let run = stop_at(alloc, names, journal, stop, stopped)?;
+                Ok(Outcome::Stopped(run))
+            }
             Err(SettleFault::NoMemory(e)) => Err(e),
         }
     }
 }
 
-// A script that stopped at the last version of a slot: the turns up to there are kept, and one line is printed.
-fn stop_at_version(
+// A script that stopped at a slot: the turns up to there are kept, and one line is printed.
+fn stop_at(
     alloc: Global,
     names: &Names,
     mut journal: Vec<JournalLine>,
+    stop: Stop,
     stopped: Stopped,
 ) -> Result<Run, AllocError>
     requires who { stopped.place.0 < length names.now.boxes }
     requires local { stopped.place.1 < length (slot_names names.now stopped.place.0) }
     ensures journal { IfOk result (λ run. run.journal.items ≡ journal.items ++ map Made stopped.turns.items) }
     ensures output { IfOk result (λ run. run.output.items
-        ≡ line_of (codes "version" ∷ slot_word names.now stopped.place.0 stopped.place.1 ∷ [])) }
-    ensures stop { IfOk result (λ run. run.stop ≡ Some (VersionEnd stopped.at)) }
+        ≡ line_of (stop_word stop ∷ slot_word names.now stopped.place.0 stopped.place.1 ∷ [])) }
+    ensures stop { IfOk result (λ run. run.stop ≡ Some stop) }
 {
     log_turns(&stopped.turns, &mut journal)?;
-    let output = print_stop(alloc, names, stopped.place)?;
-    let stop = Some(Stop::VersionEnd(stopped.at));
+    let output = print_stop(alloc, names, stop, stopped.place)?;
     Ok(Run {
         output,
         journal,
-        stop,
+        stop: Some(stop),
     })
 }
 
@@ -158,29 +164,30 @@ fn log(turns: &[Turn], journal: &mut Vec<JournalLine>) -> Result<(), AllocError>
     Ok(())
 }
 
-/// Runs a script: settles its batches one after the other by draws from 0, and prints the paths after each. It ends
-/// before that where a batch stops, and then the line of the stop is all that it prints.
+/// Runs a script: settles its batches one after the other by draws, which go on from settle to settle, and prints the
+/// paths after each. It ends before that where a batch stops, and then the line of the stop is all that it prints.
 ///
-/// All that the world has is named, no slot is linked, the world allows each command, none of which links slots, and
-/// there are no more batches than a text may have commands.
+/// All that the world has is named, the world allows each command, and there are no more batches than a text may have
+/// commands.
 pub fn run_script(
     alloc: Global,
     names: &Names,
     world: World,
+    draws: Draws,
     batches: &[Batch],
 ) -> Result<Run, AllocError>
     requires named { NamesAll names.now world }
-    requires free { HasNoLinks world }
     requires allowed { AreAllAllowed world (map batch_turns batches.now) }
-    requires link_none { AllLinkNone (map batch_turns batches.now) }
     requires few { length batches.now ≤ COMMAND_LIMIT }
     ensures ran { IfOk result (λ run. IsJournalTo run.stop world (map batch_turns batches.now) run.journal.items) }
+    ensures drawn { IfOk result (λ run.
+        IsDrawnJournal run.stop draws.state world (map batch_turns batches.now) run.journal.items) }
     ensures holds { IfOk result (λ run. HoldsAtSettles world run.journal.items) }
     ensures shows { IfOk result (λ run. ShowsCause run.stop world (map batch_turns batches.now)) }
     ensures output { IfOk result (λ run. run.output.items ≡ run_text names.now world run.stop run.journal.items) }
 {
     world.keeps();
-    let mut progress = Progress::new(alloc, world);
+    let mut progress = Progress::new(alloc, world, draws);
     for index in 0..batches.len() {
         let batch = &batches[index];
         let number = (index + 1) as u32;

@@ -20,3 +20,6 @@ pub const READ_FAULT: u8 = 4;
 
 /// The sink failed.
 pub const WRITE_FAULT: u8 = 5;
+
+/// A script stopped at a ring of links.
+pub const RING: u8 = 7;

@@ -3,13 +3,15 @@
 ghost use Rattle.std.specs.Prelude.{◌≡◌};
 ghost use Rattle.mc_top.specs.Statuses.{due_by};
 
-use crate::status::{VERSION_END, WORKED};
+use crate::status::{RING, VERSION_END, WORKED};
 
 /// Why a script stopped before its end.
 #[derive(Clone, Copy, Debug, PartialEq, Eq)]
 pub enum Stop {
     /// The next command of a box was a Hear of this slot, by its number, whose descriptor has the last version.
     VersionEnd(u32),
+    /// The commands of a batch left a ring of links; of the slots on one this is the least, by its number.
+    Ring(u32),
 }
 
 /// The status that is due for a script that stopped so, or came to its end.
@@ -19,5 +21,6 @@ pub fn due_by(stop: Option<Stop>) -> u8
     match stop {
         None => WORKED,
         Some(Stop::VersionEnd(_)) => VERSION_END,
+        Some(Stop::Ring(_)) => RING,
     }
 }

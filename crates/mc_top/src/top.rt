@@ -2,25 +2,27 @@
 ghost use Rattle.std.specs.Prelude.{◌≡◌, ◌≢◌, ◌⊎◌, ◌==◌, ◌≤◌, ℕ, List, [], length, map, IfOk, IsFalse, IsTrue, Some};
 ghost use Rattle.mc_io.specs.Bytes.{ConsumesAtMost};
 ghost use Rattle.mc_io.specs.Faults.{Rose, faults_after, is_failed_read};
-ghost use Rattle.mc_model.specs.LinkFree.{AllLinkNone, HasNoLinks};
 ghost use Rattle.mc_model.specs.Shapes.{AreAllAllowed};
 ghost use Rattle.mc_net.specs.Nets.{DeclaresNet, NamesAll, batch_turns};
 ghost use Rattle.mc_net.specs.Rules.{read_limit};
 ghost use Rattle.mc_net.specs.Texts.{IsFault};
 ghost use Rattle.mc_net.specs.declared.limit.TheConstants.{COMMAND_LIMIT};
-ghost use Rattle.mc_top.specs.Modes.{AsksToRead, IsCommand, IsWorkable, reads, text_for};
+ghost use Rattle.mc_top.specs.Modes.{AsksToRead, IsCommand, IsWorkable, draws_from, reads, text_for};
 ghost use Rattle.mc_top.specs.Statuses.{IsDue, IsDueForMode, due_by, judges_text, keeps_journal};
 ghost use Rattle.mc_top.specs.Top.{Delivers, EndsAs, HasReadWhole, IsTextOf, PrintsUsage, ReadsFor};
 ghost use Rattle.mc_top.specs.declared.words.Mode.{Mode};
 
 use crate::print::print_fault;
 use crate::run::{Run, run_script};
-use crate::status::{FAULTY_TEXT, NO_MEMORY, READ_FAULT, USAGE, VERSION_END, WORKED, WRITE_FAULT};
+use crate::status::{
+    FAULTY_TEXT, NO_MEMORY, READ_FAULT, RING, USAGE, VERSION_END, WORKED, WRITE_FAULT,
+};
 use crate::stop::due_by;
 use crate::words::{Mode, read_mode};
 use mc_io::{Gate, ReadFault, Sink, Source, read_up_to, write_whole};
 use mc_net::{Net, NetFault, TEXT_LIMIT, Tail, TextFault, read_net};
 use mc_script::JournalLine;
+use mc_text::Draws;
 use std::alloc::{AllocError, Global};
 use std::thread::Threads;
 
@@ -44,7 +46,7 @@ fn text_of<S: Source>(alloc: Global, mode: Mode, source: &mut S) -> Result<Vec<u
     ensures faults { S.faults source.new ≡ faults_after (S.faults source.old) (is_failed_read result) }
 {
     match mode {
-        Mode::Run => read_up_to(alloc, source, TEXT_LIMIT),
+        Mode::Run | Mode::One(_) => read_up_to(alloc, source, TEXT_LIMIT),
     }
 }
 
@@ -112,15 +114,23 @@ fn refuse<K: Sink>(alloc: Global, text: &[u8], fault: TextFault, sink: &mut K) -
     }
 }
 
+// The draws that a mode settles by.
+fn draws_of(mode: Mode) -> Draws
+    ensures { result.state ≡ draws_from mode }
+{
+    match mode {
+        Mode::Run => Draws { state: 0 },
+        Mode::One(state) => Draws { state },
+    }
+}
+
 // Runs the script of a network.
 fn run_net<K: Sink>(alloc: Global, mode: Mode, text: &[u8], net: Net, sink: &mut K) -> Done
     requires declares { DeclaresNet text.now net }
     requires named { NamesAll net.names net.world }
-    requires free { HasNoLinks net.world }
     requires allowed { AreAllAllowed net.world (map batch_turns net.batches.items) }
-    requires link_none { AllLinkNone (map batch_turns net.batches.items) }
     requires few { length net.batches.items ≤ COMMAND_LIMIT }
-    ensures statuses { (result.due ≡ WORKED) ⊎ (result.due ≡ VERSION_END) ⊎ (result.due ≡ NO_MEMORY) }
+    ensures statuses { (result.due ≡ WORKED) ⊎ (result.due ≡ VERSION_END) ⊎ (result.due ≡ NO_MEMORY) ⊎ (result.due ≡ RING) }
     ensures status { (result.status ≡ result.due) ⊎ (result.status ≡ WRITE_FAULT) }
     ensures ends { EndsAs mode (Some text.now) (K.written sink.old) (K.written sink.new) result }
     ensures fault { K.faults sink.new ≡ faults_after (K.faults sink.old) (result.status == WRITE_FAULT) }
@@ -131,7 +141,8 @@ fn run_net<K: Sink>(alloc: Global, mode: Mode, text: &[u8], net: Net, sink: &mut
         batches,
         ..
     } = net;
-    match run_script(alloc, &names, world, &batches) {
+    let draws = draws_of(mode);
+    match run_script(alloc, &names, world, draws, &batches) {
         Ok(run) => deliver_run(sink, run),
         Err(_) => give_up(alloc, NO_MEMORY),
     }
@@ -139,7 +150,7 @@ fn run_net<K: Sink>(alloc: Global, mode: Mode, text: &[u8], net: Net, sink: &mut
 
 // Does a mode's work on a text.
 fn run_text<K: Sink>(alloc: Global, mode: Mode, text: &[u8], sink: &mut K) -> Done
-    ensures statuses { (result.due ≡ WORKED) ⊎ (result.due ≡ FAULTY_TEXT) ⊎ (result.due ≡ NO_MEMORY) }
+    ensures statuses { (result.due ≡ WORKED) ⊎ (result.due ≡ FAULTY_TEXT) ⊎ (result.due ≡ NO_MEMORY) ⊎ (result.due ≡ RING) }
     ensures status { (result.status ≡ result.due) ⊎ (result.status ≡ WRITE_FAULT) }
     ensures ends { EndsAs mode (Some text.now) (K.written sink.old) (K.written sink.new) result }
     ensures fault { K.faults sink.new ≡ faults_after (K.faults sink.old) (result.status == WRITE_FAULT) }

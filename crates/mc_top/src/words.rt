@@ -1,19 +1,50 @@
 // What the words of the command line ask for.
 ghost use Rattle.std.specs.Prelude.{◌≡◌, ◌↔◌, map, string_bytes, IsTrue, IfSome, IfNone};
+ghost use Rattle.std.specs.Option.{option_map};
 ghost use Rattle.mc_top.specs.declared.words.Mode.{Mode};
-ghost use Rattle.mc_top.specs.Modes.{IsCommand, Spells};
+ghost use Rattle.mc_top.specs.declared.words.Mode.TheVariants.{One};
+ghost use Rattle.mc_top.specs.Modes.{IsCommand, Spells, spelt_state};
+
+use mc_text::read_number;
+
+/// The last state at which draws may be told to begin.
+pub const STATE_LIMIT: u32 = 2_147_483_647;
 
 /// What the program is to do.
 #[derive(Clone, Copy, Debug, PartialEq, Eq)]
 pub enum Mode {
     /// Reads a text, settles its calls, and prints them.
     Run,
+    /// The same, by draws that begin at this state.
+    One(u32),
 }
 
 fn is_word(word: &String, text: &str) -> bool
     ensures { IsTrue result ↔ (string_bytes word.now ≡ text.now) }
 {
     word.as_str() == text
+}
+
+// The state that a word spells.
+fn state_of(word: &String) -> Option<u32>
+    ensures { result ≡ spelt_state (string_bytes word.now) }
+{
+    let number = read_number(word.as_bytes())?;
+    if number <= STATE_LIMIT {
+        Some(number)
+    } else {
+        None
+    }
+}
+
+// The mode with draws from the state that a word spells.
+fn one_of(word: &String) -> Option<Mode>
+    ensures { result ≡ option_map One (spelt_state (string_bytes word.now)) }
+{
+    match state_of(word) {
+        Some(state) => Some(Mode::One(state)),
+        None => None,
+    }
 }
 
 // The mode that the words ask for without a `--` before them, if they do.
@@ -25,6 +56,13 @@ fn mode_of(words: &[String]) -> Option<Mode>
         [word] => {
             if is_word(word, "run") {
                 Some(Mode::Run)
+            } else {
+                None
+            }
+        }
+        [first, second] => {
+            if is_word(first, "one") {
+                one_of(second)
             } else {
                 None
             }

@@ -1,26 +1,21 @@
 use Rattle.std.proofs.Common.{◌+◌, ◌∙◌, ap, arith, map, slice_index_or, subst, sym, List, None}
 use Rattle.mc_box.specs.declared.event.Turn.{Turn}
-use Rattle.mc_model.specs.LinkFree.{LinkNone}
 use Rattle.mc_model.specs.Shapes.{AreAllowed}
 use Rattle.mc_net.specs.Nets.{batch_turns}
 use Rattle.mc_top.specs.Outcomes.{CameOf, Stopping}
 use Rattle.mc_top.specs.Scripts.{Settling}
-use Rattle.mc_top.proofs.LastVersions.{ran_shows}
-use Rattle.mc_top.proofs.Running.{EndsAtStop, all_printed, all_settled, batch_allowed, batch_at, goes_first, goes_next, goes_to_end, ran_holds, stops_at}
+use Rattle.mc_top.proofs.Causes.{ran_shows}
+use Rattle.mc_top.proofs.Running.{all_drawn, all_printed, all_settled, batch_allowed, goes_first, goes_next, goes_to_end, ran_holds}
+use Rattle.mc_top.proofs.Stopping.{EndsAtStop, stops_at}
 use Rattle.mc_top.proofs.run.run_script.Goals as goal
 
 pub loop-index-init : goal.loop-index-init
-loop-index-init c = rw c.new-progress.ensures (goes_first c.args.names.now c.args.world (map batch_turns c.args.batches.now) (record { sound = c.keeps.ensures.sound; free = c.requires.free }))
+loop-index-init c = rw c.new-progress.ensures (goes_first c.args.names.now c.args.world c.args.draws.state (map batch_turns c.args.batches.now) c.keeps.ensures.sound)
 
 pub settle-requires-clause-allowed : goal.settle-requires-clause-allowed
 settle-requires-clause-allowed c =
     subst (AreAllowed c.loop-index.progress.world) (sym (c.deref.ensures.value ∙ ap batch_turns c.index-batches-index.is))
-    (batch_allowed c.args.names.now c.args.world c.args.batches.now c.loop-index.index c.index-batches-index.result _ c.loop-index.progress (omega (arith, c.loop-index-test.true)) c.keeps.ensures.sound c.requires.allowed c.loop-index.invariant)
-
-pub settle-requires-clause-link_none : goal.settle-requires-clause-link_none
-settle-requires-clause-link_none c =
-    subst LinkNone (sym (c.deref.ensures.value ∙ ap batch_turns c.index-batches-index.is))
-    (batch_at LinkNone c.args.batches.now c.loop-index.index c.index-batches-index.result (omega (arith, c.loop-index-test.true)) c.requires.link_none)
+    (batch_allowed c.args.names.now c.args.world c.args.draws.state c.args.batches.now c.loop-index.index c.index-batches-index.result _ c.loop-index.progress (omega (arith, c.loop-index-test.true)) c.keeps.ensures.sound c.requires.allowed c.loop-index.invariant)
 
 pub loop-index-preserved : goal.loop-index-preserved
 loop-index-preserved c =
@@ -28,37 +23,47 @@ loop-index-preserved c =
     let came : CameOf c.args.names.now (c.loop-index.index + 1) batch c.loop-index.progress c.in_ok-next.field-0 =
     subst (λ (turns : List Turn). CameOf c.args.names.now (c.loop-index.index + 1) turns c.loop-index.progress c.in_ok-next.field-0) (c.deref.ensures.value ∙ ap batch_turns c.index-batches-index.is) c.in_ok-next.ensures in
     let settled : Settling c.args.names.now (c.loop-index.index + 1) batch c.loop-index.progress c.in-Settled.next = subst (CameOf c.args.names.now (c.loop-index.index + 1) batch c.loop-index.progress) c.in-Settled.is came in
-    goes_next c.args.names.now c.args.world c.args.batches.now c.loop-index.index c.index-batches-index.result c.loop-index.progress c.in-Settled.next (omega (arith, c.loop-index-test.true))
-    (batch_at LinkNone c.args.batches.now c.loop-index.index c.index-batches-index.result (omega (arith, c.loop-index-test.true)) c.requires.link_none)
-    settled c.loop-index.invariant
+    goes_next c.args.names.now c.args.world c.args.draws.state c.args.batches.now c.loop-index.index c.index-batches-index.result c.loop-index.progress c.in-Settled.next (omega (arith, c.loop-index-test.true)) settled c.loop-index.invariant
 
 -- what the script came to where a batch stopped
-stops : (c : goal.In-Stopped) → EndsAtStop c.args.names.now c.args.world (map batch_turns c.args.batches.now) c.in-Stopped.run'
+stops : (c : goal.In-Stopped) → EndsAtStop c.args.names.now c.args.world c.args.draws.state (map batch_turns c.args.batches.now) c.in-Stopped.run'
 stops c =
     let batch : List Turn = batch_turns (slice_index_or c.args.batches.now c.loop-index.index c.index-batches-index.result) in
     let came : CameOf c.args.names.now (c.loop-index.index + 1) batch c.loop-index.progress c.in_ok-next.field-0 =
     subst (λ (turns : List Turn). CameOf c.args.names.now (c.loop-index.index + 1) turns c.loop-index.progress c.in_ok-next.field-0) (c.deref.ensures.value ∙ ap batch_turns c.index-batches-index.is) c.in_ok-next.ensures in
     let stopping : Stopping c.args.names.now batch c.loop-index.progress c.in-Stopped.run' = subst (CameOf c.args.names.now (c.loop-index.index + 1) batch c.loop-index.progress) c.in-Stopped.is came in
-    stops_at c.args.names.now c.args.world c.args.batches.now c.loop-index.index c.index-batches-index.result c.loop-index.progress c.in-Stopped.run' (omega (arith, c.loop-index-test.true)) stopping c.loop-index.invariant
+    stops_at c.args.names.now c.args.world c.args.draws.state c.args.batches.now c.loop-index.index c.index-batches-index.result c.loop-index.progress c.in-Stopped.run' (omega (arith, c.loop-index-test.true)) stopping c.loop-index.invariant
 
 pub returns-in-Stopped-clause-ran : goal.returns-in-Stopped-clause-ran
 returns-in-Stopped-clause-ran c = (stops c).ran
 
+pub returns-in-Stopped-clause-drawn : goal.returns-in-Stopped-clause-drawn
+returns-in-Stopped-clause-drawn c = (stops c).drawn
+
 pub returns-in-Stopped-clause-holds : goal.returns-in-Stopped-clause-holds
-returns-in-Stopped-clause-holds c =
-    ran_holds c.in-Stopped.run'.stop (map batch_turns c.args.batches.now) c.args.world c.in-Stopped.run'.journal.items (record { sound = c.keeps.ensures.sound; free = c.requires.free }) c.requires.link_none (stops c).ran
+returns-in-Stopped-clause-holds c = ran_holds c.in-Stopped.run'.stop (map batch_turns c.args.batches.now) c.args.world c.in-Stopped.run'.journal.items c.keeps.ensures.sound (stops c).ran
 
 pub returns-in-Stopped-clause-shows : goal.returns-in-Stopped-clause-shows
 returns-in-Stopped-clause-shows c =
     ran_shows c.in-Stopped.run'.stop (map batch_turns c.args.batches.now) c.args.world c.in-Stopped.run'.journal.items c.keeps.ensures.sound (stops c).ran
 
 pub returns-clause-ran : goal.returns-clause-ran
-returns-clause-ran c = all_settled c.args.names.now c.args.world (map batch_turns c.args.batches.now) c.loop-index.index _ (goes_to_end _ _ _ c.loop-index.index _ _ (omega (arith, c.loop-index-test.false)) c.progress.view_is c.loop-index.invariant)
+returns-clause-ran c =
+    all_settled c.args.names.now c.args.world c.args.draws.state (map batch_turns c.args.batches.now) c.loop-index.index _
+    (goes_to_end _ _ _ _ c.loop-index.index _ _ (omega (arith, c.loop-index-test.false)) c.progress.view_is c.loop-index.invariant)
+
+pub returns-clause-drawn : goal.returns-clause-drawn
+returns-clause-drawn c =
+    all_drawn c.args.names.now c.args.world c.args.draws.state (map batch_turns c.args.batches.now) c.loop-index.index _
+    (goes_to_end _ _ _ _ c.loop-index.index _ _ (omega (arith, c.loop-index-test.false)) c.progress.view_is c.loop-index.invariant)
 
 pub returns-clause-holds : goal.returns-clause-holds
 returns-clause-holds c =
-    ran_holds None (map batch_turns c.args.batches.now) c.args.world _ (record { sound = c.keeps.ensures.sound; free = c.requires.free }) c.requires.link_none
-    (all_settled c.args.names.now c.args.world (map batch_turns c.args.batches.now) c.loop-index.index _ (goes_to_end _ _ _ c.loop-index.index _ _ (omega (arith, c.loop-index-test.false)) c.progress.view_is c.loop-index.invariant))
+    ran_holds None (map batch_turns c.args.batches.now) c.args.world _ c.keeps.ensures.sound
+    (all_settled c.args.names.now c.args.world c.args.draws.state (map batch_turns c.args.batches.now) c.loop-index.index _
+    (goes_to_end _ _ _ _ c.loop-index.index _ _ (omega (arith, c.loop-index-test.false)) c.progress.view_is c.loop-index.invariant))
 
 pub returns-clause-output : goal.returns-clause-output
-returns-clause-output c = all_printed c.args.names.now c.args.world (map batch_turns c.args.batches.now) c.loop-index.index _ (goes_to_end _ _ _ c.loop-index.index _ _ (omega (arith, c.loop-index-test.false)) c.progress.view_is c.loop-index.invariant)
+returns-clause-output c =
+    all_printed c.args.names.now c.args.world c.args.draws.state (map batch_turns c.args.batches.now) c.loop-index.index _
+    (goes_to_end _ _ _ _ c.loop-index.index _ _ (omega (arith, c.loop-index-test.false)) c.progress.view_is c.loop-index.invariant)

@@ -5,4 +5,4 @@ use Rattle.mc_top.proofs.run.run_script.Given as goal
 
 -- what was run so far goes on with the batches that are left
 abbrev pub invariant-loop-index : goal.invariant-loop-index
-invariant-loop-index l = GoesOn l.names l.fn.world (map batch_turns l.batches) (map batch_turns (drop l.index l.batches)) l.index l.progress
+invariant-loop-index l = GoesOn l.names l.fn.world l.fn.draws.state (map batch_turns l.batches) (map batch_turns (drop l.index l.batches)) l.index l.progress

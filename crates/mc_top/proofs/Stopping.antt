@@ -1,0 +1,135 @@
+-- A script that stops: the slot at which it does has a name, and its journal goes on from what was run.
+use Rattle.std.proofs.Common.{◌≡◌, ◌<◌, ◌++◌, ◌∷◌, [], ℕ, ◌+◌, Option, Some, List, drop, length, map, refl, ap, sym, ◌∙◌, subst, inl, slice_index_or}
+use Rattle.mc_box.specs.declared.event.Turn.{Turn}
+use Rattle.mc_box.proofs.Options.{then_some}
+use Rattle.mc_laws.proofs.Numbers.{number_is}
+use Rattle.mc_laws.proofs.ShapesKept.{run_keeps_shape}
+use Rattle.mc_model.specs.Shapes.{HasShape}
+use Rattle.mc_model.specs.Sound.{IsSound}
+use Rattle.mc_model.specs.Steps.{heard_local}
+use Rattle.mc_model.specs.Worlds.{ChannelState, WorldState, number, place, places_among, slot_count}
+use Rattle.mc_net.specs.Nets.{NamesAll, batch_turns}
+use Rattle.mc_script.specs.declared.command.Batch.{Batch}
+use Rattle.mc_script.specs.declared.command.JournalLine.{JournalLine}
+use Rattle.mc_script.specs.declared.command.JournalLine.TheVariants.{Turn as Made}
+use Rattle.mc_seq.specs.Draws.{StopsByDraws}
+use Rattle.mc_seq.specs.declared.fault.SettleFault.TheVariants.{Ring as AtRing, VersionEnd as EndsVersion}
+use Rattle.mc_seq.specs.declared.fault.Stopped.{Stopped}
+use Rattle.mc_table.specs.Words.{line_of}
+use Rattle.mc_text.specs.NameLists.{NameLists, slot_names, slot_word}
+use Rattle.mc_top.specs.Drawn.{IsDrawnJournal}
+use Rattle.mc_top.specs.Journals.{IsJournalTo, IsStoppedJournal}
+use Rattle.mc_top.specs.Outcomes.{Stopping}
+use Rattle.mc_top.specs.Printed.{run_text, stop_line, stop_slot, stop_word}
+use Rattle.mc_top.specs.Scripts.{ScriptState}
+use Rattle.mc_top.specs.declared.run.Run.{Run}
+use Rattle.mc_top.specs.declared.stop.Stop.{Stop}
+use Rattle.mc_top.specs.declared.stop.Stop.TheVariants.{Ring, VersionEnd}
+use Rattle.mc_top.proofs.Running.{GoesOn, next_left}
+use Rattle.mc_top.proofs.UsedUp.{used_up}
+
+-- ---- names
+
+-- a place has a name
+abbrev pub IsNamedPlace : NameLists → ℕ × ℕ → Type 0
+IsNamedPlace names at = (at.0 < length names.boxes) × (at.1 < length (slot_names names at.0))
+
+-- that of each slot has
+place_named : (names : NameLists) (world : WorldState) (s : ℕ) → IsSound world → NamesAll names world → s < slot_count world → IsNamedPlace names (place world s)
+place_named names world s sound all inside =
+    let who : (place world s).0 < length world.boxes = sound.numbered.placed s inside in (
+      subst (λ (n : ℕ). (place world s).0 < n) (sym all.boxes) who,
+      subst (λ (n : ℕ). (place world s).1 < n) (sym (all.slots (place world s).0 who)) (sound.numbered.slots s inside),
+    )
+
+-- a slot of a later world is one of the first
+slot_stays : (world last : WorldState) (s : ℕ) → HasShape last world → s < slot_count last → s < slot_count world
+slot_stays world last s shape inside = subst (λ (channels : List ChannelState). s < length (places_among channels)) shape.channels inside
+
+-- so has that of a slot at which a settle stops at the last version
+pub version_named : (names : NameLists) (world : WorldState) (batch : List Turn) (state end : ℕ) (stop : Stopped) → IsSound world → NamesAll names world → StopsByDraws world batch state end (EndsVersion stop) → IsNamedPlace names stop.place
+version_named names world batch state end stop sound all (stops, there) =
+    let one = then_some (number stops.last.world stops.meets.turn.who) (heard_local stops.meets.turn.event) stop.at stops.meets.slot in
+    let shape = run_keeps_shape world stops.last.world stop.turns.items sound stops.stopped.runs in
+    subst (IsNamedPlace names) (sym there)
+    (place_named names world stop.at sound all (slot_stays world stops.last.world stop.at shape (number_is stops.last.world stops.meets.turn.who one.0 stop.at one.2).0))
+
+-- or at a ring
+pub ring_named : (names : NameLists) (world : WorldState) (batch : List Turn) (state end : ℕ) (stop : Stopped) → IsSound world → NamesAll names world → StopsByDraws world batch state end (AtRing stop) → IsNamedPlace names stop.place
+ring_named names world batch state end stop sound all (stops, there) =
+    let shape = run_keeps_shape world stops.last.world stop.turns.items sound stops.stopped.runs in
+    subst (IsNamedPlace names) (sym there) (place_named names world stop.at sound all (slot_stays world stops.last.world stop.at shape stops.least.inside))
+
+-- ---- what a settle stops with
+
+-- the line of a stop by the slot's place
+line_at : (names : NameLists) (world : WorldState) (stop : Stop) (at : ℕ × ℕ) → at ≡ place world (stop_slot stop) → line_of (stop_word stop ∷ slot_word names at.0 at.1 ∷ []) ≡ stop_line names world stop
+line_at names world stop at there = ap (λ (p : ℕ × ℕ). line_of (stop_word stop ∷ slot_word names p.0 p.1 ∷ [])) there
+
+-- at the last version
+pub stops_version : (names : NameLists) (batch : List Turn) (old : ScriptState) (end : ℕ) (stop : Stopped) (run : Run) → StopsByDraws old.world batch old.draws end (EndsVersion stop)
+    → run.journal.items ≡ old.journal ++ map Made stop.turns.items → run.output.items ≡ line_of (stop_word (VersionEnd stop.at) ∷ slot_word names stop.place.0 stop.place.1 ∷ []) → run.stop ≡ Some (VersionEnd stop.at)
+    → Stopping names batch old run
+stops_version names batch old end stop run (stops, there) journal output is = record {
+  turns = stop.turns.items;
+  last = stops.last.world;
+  end = end;
+  stop = VersionEnd stop.at;
+  stopped = stops.stopped;
+  cause = stops.meets;
+  scheduled = stops;
+  journal = journal;
+  output = output ∙ line_at names old.world (VersionEnd stop.at) stop.place there;
+  is = is;
+}
+
+-- at a ring
+pub stops_ring : (names : NameLists) (batch : List Turn) (old : ScriptState) (end : ℕ) (stop : Stopped) (run : Run) → StopsByDraws old.world batch old.draws end (AtRing stop)
+    → run.journal.items ≡ old.journal ++ map Made stop.turns.items → run.output.items ≡ line_of (stop_word (Ring stop.at) ∷ slot_word names stop.place.0 stop.place.1 ∷ []) → run.stop ≡ Some (Ring stop.at)
+    → Stopping names batch old run
+stops_ring names batch old end stop run (stops, there) journal output is = record {
+  turns = stop.turns.items;
+  last = stops.last.world;
+  end = end;
+  stop = Ring stop.at;
+  stopped = stops.stopped;
+  cause = (λ who. used_up old.world batch stop.turns.items old.draws stops.last stops.draws stops.used_up stops.stopped who, stops.least);
+  scheduled = stops;
+  journal = journal;
+  output = output ∙ line_at names old.world (Ring stop.at) stop.place there;
+  is = is;
+}
+
+-- ---- what a script ran to that stopped
+
+-- the places of slots are those of the beginning
+stop_line_same : (names : NameLists) (now start : WorldState) (stop : Stop) → HasShape now start → stop_line names now stop ≡ stop_line names start stop
+stop_line_same names now start stop shape =
+    ap (λ (channels : List ChannelState). line_of (stop_word stop ∷ slot_word names (slice_index_or (places_among channels) (stop_slot stop) (0, 0)).0 (slice_index_or (places_among channels) (stop_slot stop) (0, 0)).1 ∷ [])) shape.channels
+
+pub record EndsAtStop (names : NameLists) (start : WorldState) (first : ℕ) (all : List (List Turn)) (run : Run) : Type 0 where
+  pub ran : IsJournalTo run.stop start all run.journal.items
+  pub drawn : IsDrawnJournal run.stop first start all run.journal.items
+  pub output : run.output.items ≡ run_text names start run.stop run.journal.items
+
+stops_here : (names : NameLists) (start : WorldState) (first : ℕ) (all rest : List (List Turn)) (count : ℕ) (batch : List Turn) (now : ScriptState) (run : Run) → Stopping names batch now run
+    → GoesOn names start first all (batch ∷ rest) count now → EndsAtStop names start first all run
+stops_here names start first all rest count batch now run s on =
+    let here : IsStoppedJournal s.stop start all run.journal.items =
+    subst (λ (lines : List JournalLine). IsStoppedJournal s.stop start all lines) (sym s.journal)
+    (on.stops s.stop (map Made s.turns) (inl (record { turns = s.turns; last = s.last; lines = refl; stopped = s.stopped; cause = s.cause }))) in
+    let drawn : IsDrawnJournal (Some s.stop) first start all run.journal.items =
+    subst (λ (lines : List JournalLine). IsDrawnJournal (Some s.stop) first start all lines) (sym s.journal)
+    (on.drawn (Some s.stop) (map Made s.turns) (inl (s.turns, s.end, refl, s.scheduled))) in
+    record {
+      ran = subst (λ (o : Option Stop). IsJournalTo o start all run.journal.items) (sym s.is) here;
+      drawn = subst (λ (o : Option Stop). IsDrawnJournal o first start all run.journal.items) (sym s.is) drawn;
+      output = s.output ∙ (stop_line_same names now.world start s.stop on.shape ∙ ap (λ (o : Option Stop). run_text names start o run.journal.items) (sym s.is));
+    }
+
+-- by the batch's place
+pub stops_at : (names : NameLists) (start : WorldState) (first : ℕ) (all : List Batch) (i : ℕ) (none : Batch) (now : ScriptState) (run : Run) → i < length all
+    → Stopping names (batch_turns (slice_index_or all i none)) now run → GoesOn names start first (map batch_turns all) (map batch_turns (drop i all)) i now → EndsAtStop names start first (map batch_turns all) run
+stops_at names start first all i none now run within s on =
+    stops_here names start first (map batch_turns all) (map batch_turns (drop (i + 1) all)) i (batch_turns (slice_index_or all i none)) now run s
+    (subst (λ (left : List (List Turn)). GoesOn names start first (map batch_turns all) left i now) (next_left i all none within) on)

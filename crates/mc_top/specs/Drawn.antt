@@ -1,0 +1,32 @@
+-- Journals of settles by draws: their turns are those of the schedule, settle by settle, and each settle goes on from the state of the draws that the one before it left.
+use Rattle.std.specs.Prelude.{◌≡◌, ◌⊎◌, ℕ, List, [], ◌∷◌, ◌++◌, map, Option, Some, None}
+use Rattle.mc_box.specs.declared.event.Turn.{Turn}
+use Rattle.mc_model.specs.Worlds.{WorldState}
+use Rattle.mc_script.specs.declared.command.JournalLine.{JournalLine}
+use Rattle.mc_script.specs.declared.command.JournalLine.TheVariants.{Turn as Made}
+use Rattle.mc_seq.specs.Draws.{IsScheduled, StopsAtRing, StopsAtVersion}
+use Rattle.mc_top.specs.Journals.{lines_for}
+use Rattle.mc_top.specs.declared.stop.Stop.{Stop}
+use Rattle.mc_top.specs.declared.stop.Stop.TheVariants.{Ring, VersionEnd}
+
+-- the schedule stops so within a batch, behind these turns
+abbrev pub StopsBy : Stop → WorldState → (batch : List Turn) → (state : ℕ) → (turns : List Turn) → (end : ℕ) → Type 0
+StopsBy (VersionEnd at) world batch state turns end = StopsAtVersion world batch state turns end at
+StopsBy (Ring at) world batch state turns end = StopsAtRing world batch state turns end at
+
+-- a journal ends within a batch, where it has a stop
+abbrev pub EndsWithin : Option Stop → (state : ℕ) → WorldState → (batch : List Turn) → List JournalLine → Type 0
+EndsWithin None state world batch journal = ⊥
+EndsWithin (Some stop) state world batch journal = (turns : List Turn) × (end : ℕ) × (journal ≡ map Made turns) × StopsBy stop world batch state turns end
+
+-- the journal of settles by draws that begin at a state, one for each batch, to their end or to a stop
+abbrev pub IsDrawnJournal : Option Stop → (state : ℕ) → WorldState → List (List Turn) → List JournalLine → Type 0
+IsDrawnJournal stop state world [] journal = (stop ≡ None) × (journal ≡ [])
+IsDrawnJournal stop state world (batch ∷ batches) journal = EndsWithin stop state world batch journal
+    ⊎ ((turns : List Turn) × (last : WorldState) × (end : ℕ) × (rest : List JournalLine)
+    × (journal ≡ lines_for turns ++ rest) × IsScheduled world batch state turns last end × IsDrawnJournal stop end last batches rest)
+
+-- there is one such journal, and one stop, for a world, its batches and a state
+abbrev pub DrawnJournalIsOne : Type 0
+DrawnJournalIsOne = (stop other : Option Stop) (state : ℕ) (world : WorldState) (batches : List (List Turn)) (journal more : List JournalLine)
+    → IsDrawnJournal stop state world batches journal → IsDrawnJournal other state world batches more → (stop ≡ other) × (journal ≡ more)
