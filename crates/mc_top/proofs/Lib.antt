@@ -1,7 +1,9 @@
 mod Causes
 mod Ending
+mod Halts
 mod LastVersions
 mod NeverLinked
+mod OneJournal
 mod OneMode
 pub mod Running
 mod Stopping

@@ -17,7 +17,6 @@ use Rattle.mc_laws.proofs.LinkFree.{run_keeps_link_free, settled_link_none}
 use Rattle.mc_laws.proofs.Rings.{no_ring}
 use Rattle.mc_model.specs.LinkFree.{HasNoLinks, IsLinkFree, LinkNone}
 use Rattle.mc_model.specs.Paths.{has_ring}
-use Rattle.mc_model.specs.Rings.{IsFirstOnRing}
 use Rattle.mc_model.specs.Settles.{commands_of}
 use Rattle.mc_model.specs.Sound.{IsSound}
 use Rattle.mc_model.specs.Worlds.{ChannelState, WorldState}

@@ -1,5 +1,5 @@
 -- A script that is run: what its journal and its output have so far, and what follows.
-use Rattle.std.proofs.Common.{◌≡◌, ◌<◌, ◌≤◌, ◌++◌, ◌∷◌, [], ℕ, ◌+◌, not, Option, Some, None, List, All, IsTrue, drop, length, map, refl, ap, sym, ◌∙◌, add-one, subst, append-nil, append_assoc, codes, inl, inr, slice_index_or}
+use Rattle.std.proofs.Common.{◌≡◌, ◌<◌, ◌≤◌, ◌++◌, ◌∷◌, [], ℕ, ◌+◌, not, Option, Some, None, List, All, IsTrue, drop, length, map, refl, ap, sym, ◌∙◌, add-one, subst, append-nil, append_assoc, inl, inr, slice_index_or}
 use Rattle.std.proofs.Math.Seq.{drop-cons}
 use Rattle.std.proofs.lemmas.List.{drop_all, get_or-map, length-map}
 use Rattle.mc_signal.specs.Choice.{codecs_of}

@@ -6,7 +6,7 @@ use Rattle.mc_box.specs.BoxEvents.{is_command}
 use Rattle.mc_box.specs.declared.event.Turn.{Turn}
 use Rattle.mc_model.specs.Settles.{IsStopped, commands_of}
 use Rattle.mc_model.specs.Worlds.{WorldState}
-use Rattle.mc_seq.specs.Schedule.{AreDrawn, Standing, first_standing, left_by, standing_after, without_next}
+use Rattle.mc_seq.specs.Schedule.{AreDrawn, Standing, first_standing, standing_after, without_next}
 
 -- how many of the turns are commands of a box
 abbrev count_of : ℕ → List Turn → ℕ

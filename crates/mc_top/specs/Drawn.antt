@@ -1,6 +1,7 @@
 -- Journals of settles by draws: their turns are those of the schedule, settle by settle, and each settle goes on from the state of the draws that the one before it left.
 use Rattle.std.specs.Prelude.{◌≡◌, ◌⊎◌, ℕ, List, [], ◌∷◌, ◌++◌, map, Option, Some, None}
 use Rattle.mc_box.specs.declared.event.Turn.{Turn}
+use Rattle.mc_model.specs.Sound.{IsSound}
 use Rattle.mc_model.specs.Worlds.{WorldState}
 use Rattle.mc_script.specs.declared.command.JournalLine.{JournalLine}
 use Rattle.mc_script.specs.declared.command.JournalLine.TheVariants.{Turn as Made}
@@ -26,7 +27,7 @@ IsDrawnJournal stop state world (batch ∷ batches) journal = EndsWithin stop st
     ⊎ ((turns : List Turn) × (last : WorldState) × (end : ℕ) × (rest : List JournalLine)
     × (journal ≡ lines_for turns ++ rest) × IsScheduled world batch state turns last end × IsDrawnJournal stop end last batches rest)
 
--- there is one such journal, and one stop, for a world, its batches and a state
+-- there is one such journal, and one stop or none, for a sound world, its batches and a state
 abbrev pub DrawnJournalIsOne : Type 0
-DrawnJournalIsOne = (stop other : Option Stop) (state : ℕ) (world : WorldState) (batches : List (List Turn)) (journal more : List JournalLine)
+DrawnJournalIsOne = (stop other : Option Stop) (state : ℕ) (world : WorldState) (batches : List (List Turn)) (journal more : List JournalLine) → IsSound world
     → IsDrawnJournal stop state world batches journal → IsDrawnJournal other state world batches more → (stop ≡ other) × (journal ≡ more)

@@ -1,6 +1,7 @@
 //! The top call of the program: it reads a text, settles its calls, and prints their paths.
 #![tactic(auto)]
 
+pub mod laws;
 mod print;
 mod run;
 pub mod status;
