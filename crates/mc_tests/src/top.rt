@@ -1,8 +1,10 @@
 // Whole calls over sources and sinks in memory: what is written, and the status.
 ghost use Rattle.std.specs.Prelude.{◌<◌};
 
+mod draws;
 mod limits;
 mod media;
+mod networks;
 mod refusals;
 
 use mc_io::{MemSink, MemSource, OpenGate};
@@ -33,6 +35,24 @@ fn words_of(alloc: Global, words: &[&str]) -> Result<Vec<String>, AllocError> {
     Ok(made)
 }
 
+// A call with these words, and what it wrote.
+fn call<R: Threads + Sync>(
+    rt: &R,
+    alloc: Global,
+    words: &[&str],
+    source: &mut MemSource,
+    write_per_call: usize,
+    failing: Vec<u64>,
+) -> Result<(Done, Vec<u8>), AllocError>
+    requires { 0 < write_per_call }
+{
+    let mut sink = MemSink::new(alloc, ROOM, write_per_call, failing)?;
+    let words = words_of(alloc, words)?;
+    let done = media_top(rt, alloc, words, source, &mut sink, &OpenGate);
+    let written = Vec::from_slice(alloc, &sink.bytes)?;
+    Ok((done, written))
+}
+
 // A call with the word `run`, and what it wrote.
 fn run<R: Threads + Sync>(
     rt: &R,
@@ -43,11 +63,7 @@ fn run<R: Threads + Sync>(
 ) -> Result<(Done, Vec<u8>), AllocError>
     requires { 0 < write_per_call }
 {
-    let mut sink = MemSink::new(alloc, ROOM, write_per_call, failing)?;
-    let words = words_of(alloc, &["run"])?;
-    let done = media_top(rt, alloc, words, source, &mut sink, &OpenGate);
-    let written = Vec::from_slice(alloc, &sink.bytes)?;
-    Ok((done, written))
+    call(rt, alloc, &["run"], source, write_per_call, failing)
 }
 
 /// A call with the word `run` on a text, read and written in small pieces: its status, and what it wrote.
@@ -120,9 +136,18 @@ fn calls_and_what_they_print(rt: HostRuntime) -> Result<(), Fail> {
 #[test]
 fn other_words_are_no_command(rt: HostRuntime) -> Result<(), Fail> {
     let alloc = rt.alloc();
-    let table: [&[&str]; 11] = [
+    let table: [&[&str]; 20] = [
         &["fly"],
         &[],
+        &["run", "x"],
+        &["one"],
+        &["one", "2147483648"],
+        &["one", "01"],
+        &["one", "-1"],
+        &["one", ""],
+        &["one", "1", "2"],
+        &["one", "--", "1"],
+        &["1", "one"],
         &["run", "run"],
         &["Run"],
         &["--"],

@@ -1,4 +1,5 @@
 //! `mediactl run` reads a text from standard input, settles its calls, and prints their paths to standard output.
+//! `mediactl one N` does so by draws that begin at the state N.
 #![tactic(auto)]
 
 use mc_io::{OpenGate, StdSink, StdSource};
