@@ -12,7 +12,11 @@ IsDue due = (due ≡ WORKED) ⊎ (due ≡ FAULTY_TEXT) ⊎ (due ≡ USAGE) ⊎ (
 abbrev pub IsDueForMode : ℕ → Type 0
 IsDueForMode due = (due ≡ WORKED) ⊎ (due ≡ FAULTY_TEXT) ⊎ (due ≡ NO_MEMORY) ⊎ (due ≡ READ_FAULT) ⊎ (due ≡ RING)
 
--- the text was read, and it was found to have a fault or none; the status of a stop at the last version is that of a fault
+-- the status may be due for a text that was read whole; that of a stop at the last version is that of a fault
+abbrev pub IsDueForText : ℕ → Type 0
+IsDueForText due = (due ≡ WORKED) ⊎ (due ≡ FAULTY_TEXT) ⊎ (due ≡ NO_MEMORY) ⊎ (due ≡ RING)
+
+-- the text was read, and it was found to have a fault or none
 abbrev pub judges_text : ℕ → Bool
 judges_text due = due == WORKED || due == FAULTY_TEXT || due == RING
 

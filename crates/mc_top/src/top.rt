@@ -8,15 +8,13 @@ ghost use Rattle.mc_net.specs.Rules.{read_limit};
 ghost use Rattle.mc_net.specs.Texts.{IsFault};
 ghost use Rattle.mc_net.specs.declared.limit.TheConstants.{COMMAND_LIMIT};
 ghost use Rattle.mc_top.specs.Modes.{AsksToRead, IsCommand, IsWorkable, draws_from, reads, text_for};
-ghost use Rattle.mc_top.specs.Statuses.{IsDue, IsDueForMode, due_by, judges_text, keeps_journal};
+ghost use Rattle.mc_top.specs.Statuses.{IsDue, IsDueForMode, IsDueForText, due_by, judges_text, keeps_journal};
 ghost use Rattle.mc_top.specs.Top.{Delivers, EndsAs, HasReadWhole, IsTextOf, PrintsUsage, ReadsFor};
 ghost use Rattle.mc_top.specs.declared.words.Mode.{Mode};
 
 use crate::print::print_fault;
 use crate::run::{Run, run_script};
-use crate::status::{
-    FAULTY_TEXT, NO_MEMORY, READ_FAULT, RING, USAGE, VERSION_END, WORKED, WRITE_FAULT,
-};
+use crate::status::{FAULTY_TEXT, NO_MEMORY, READ_FAULT, USAGE, WORKED, WRITE_FAULT};
 use crate::stop::due_by;
 use crate::words::{Mode, read_mode};
 use mc_io::{Gate, ReadFault, Sink, Source, read_up_to, write_whole};
@@ -72,7 +70,7 @@ fn deliver<K: Sink>(sink: &mut K, due: u8, output: &[u8], journal: Vec<JournalLi
 
 // Writes what a script printed.
 fn deliver_run<K: Sink>(sink: &mut K, run: Run) -> Done
-    ensures delivers { Delivers result.status (due_by run.stop) (K.written sink.old) (K.written sink.new) run.output.items }
+    ensures delivers { Delivers result.status result.due (K.written sink.old) (K.written sink.new) run.output.items }
     ensures due { result.due ≡ due_by run.stop }
     ensures status { (result.status ≡ due_by run.stop) ⊎ (result.status ≡ WRITE_FAULT) }
     ensures journal { result.journal ≡ run.journal }
@@ -130,7 +128,7 @@ fn run_net<K: Sink>(alloc: Global, mode: Mode, text: &[u8], net: Net, sink: &mut
     requires named { NamesAll net.names net.world }
     requires allowed { AreAllAllowed net.world (map batch_turns net.batches.items) }
     requires few { length net.batches.items ≤ COMMAND_LIMIT }
-    ensures statuses { (result.due ≡ WORKED) ⊎ (result.due ≡ VERSION_END) ⊎ (result.due ≡ NO_MEMORY) ⊎ (result.due ≡ RING) }
+    ensures statuses { IsDueForText result.due }
     ensures status { (result.status ≡ result.due) ⊎ (result.status ≡ WRITE_FAULT) }
     ensures ends { EndsAs mode (Some text.now) (K.written sink.old) (K.written sink.new) result }
     ensures fault { K.faults sink.new ≡ faults_after (K.faults sink.old) (result.status == WRITE_FAULT) }
@@ -150,7 +148,7 @@ fn run_net<K: Sink>(alloc: Global, mode: Mode, text: &[u8], net: Net, sink: &mut
 
 // Does a mode's work on a text.
 fn run_text<K: Sink>(alloc: Global, mode: Mode, text: &[u8], sink: &mut K) -> Done
-    ensures statuses { (result.due ≡ WORKED) ⊎ (result.due ≡ FAULTY_TEXT) ⊎ (result.due ≡ NO_MEMORY) ⊎ (result.due ≡ RING) }
+    ensures statuses { IsDueForText result.due }
     ensures status { (result.status ≡ result.due) ⊎ (result.status ≡ WRITE_FAULT) }
     ensures ends { EndsAs mode (Some text.now) (K.written sink.old) (K.written sink.new) result }
     ensures fault { K.faults sink.new ≡ faults_after (K.faults sink.old) (result.status == WRITE_FAULT) }
