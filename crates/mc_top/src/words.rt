@@ -41,10 +41,7 @@ fn state_of(word: &String) -> Option<u32>
 fn one_of(word: &String) -> Option<Mode>
     ensures { result ≡ option_map One (spelt_state (string_bytes word.now)) }
 {
-    match state_of(word) {
-        Some(state) => Some(Mode::One(state)),
-        None => None,
-    }
+    Some(Mode::One(state_of(word)?))
 }
 
 // The mode that the words ask for without a `--` before them, if they do.
