@@ -5,6 +5,7 @@ use Rattle.std.specs.Io.KnownBytes.{Keeps}
 use Rattle.mc_top.specs.Journals.{HoldsAtSettles, IsJournal, IsJournalTo, IsStoppedJournal, ShowsCause}
 use Rattle.mc_top.specs.Drawn.{IsDrawnJournal}
 use Rattle.mc_top.specs.Modes.{draws_from, output_of}
+use Rattle.mc_model.specs.Sound.{IsSound}
 use Rattle.mc_net.specs.Nets.{DeclaresNet, batch_turns}
 use Rattle.mc_net.specs.Texts.{IsFault}
 use Rattle.mc_net.specs.declared.net.Net.{Net}
@@ -24,13 +25,13 @@ printed_by (One state) net journal = refl
 
 -- the work was done, and what it printed was delivered
 ends_worked : (mode : Mode) (text : List ℕ) (net : Net) (old new : Option (List ℕ)) (status due : ℕ) (journal : List JournalLine) (output : List ℕ)
-    → DeclaresNet text net → IsJournal net.world (map batch_turns net.batches.items) journal → IsDrawnJournal None (draws_from mode) net.world (map batch_turns net.batches.items) journal
+    → DeclaresNet text net → IsSound net.world → IsJournal net.world (map batch_turns net.batches.items) journal → IsDrawnJournal None (draws_from mode) net.world (map batch_turns net.batches.items) journal
     → HoldsAtSettles net.world journal → output ≡ journal_text net.names 1 net.world journal → due ≡ 0 → Delivers status 0 old new output → Ends mode (Some text) old new status due journal
-ends_worked mode text net old new status due journal output declared settled drawn holds is none delivered = record {
+ends_worked mode text net old new status due journal output declared sound settled drawn holds is none delivered = record {
   worked = λ zero. record {
     net = net;
     declared = declared;
-    settles = record { settled = settled; holds = holds; drawn = drawn };
+    settles = record { sound = sound; settled = settled; holds = holds; drawn = drawn };
     delivered = rw (is, printed_by mode net journal) at delivered;
   };
   refused = λ one. absurd (omega arith);
@@ -44,14 +45,15 @@ ends_worked mode text net old new status due journal output declared settled dra
 
 -- or the script stopped, and the line of the stop was
 stops_script : (mode : Mode) (text : List ℕ) (net : Net) (stop : Stop) (old new : Option (List ℕ)) (status due : ℕ) (journal : List JournalLine) (output : List ℕ)
-    → DeclaresNet text net → IsStoppedJournal stop net.world (map batch_turns net.batches.items) journal → IsDrawnJournal (Some stop) (draws_from mode) net.world (map batch_turns net.batches.items) journal
+    → DeclaresNet text net → IsSound net.world → IsStoppedJournal stop net.world (map batch_turns net.batches.items) journal → IsDrawnJournal (Some stop) (draws_from mode) net.world (map batch_turns net.batches.items) journal
     → ShowsCause (Some stop) net.world (map batch_turns net.batches.items) → output ≡ stop_line net.names net.world stop → due ≡ stop_status stop → Delivers status (stop_status stop) old new output
     → StopsScript mode (Some text) old new status due journal
-stops_script mode text net stop old new status due journal output declared settled drawn shows is due_is delivered = record {
+stops_script mode text net stop old new status due journal output declared sound settled drawn shows is due_is delivered = record {
   net = net;
   stop = stop;
   declared = declared;
   due_is = due_is;
+  sound = sound;
   settled = settled;
   drawn = drawn;
   shows = shows;
@@ -81,14 +83,14 @@ ends_at_stop mode text stop old new status due journal is stops =
 
 -- a script was run to its end, or to a stop
 pub ends_ran : (stop : Option Stop) (mode : Mode) (text : List ℕ) (net : Net) (old new : Option (List ℕ)) (status due : ℕ) (journal : List JournalLine) (output : List ℕ)
-    → DeclaresNet text net → IsJournalTo stop net.world (map batch_turns net.batches.items) journal → IsDrawnJournal stop (draws_from mode) net.world (map batch_turns net.batches.items) journal
+    → DeclaresNet text net → IsSound net.world → IsJournalTo stop net.world (map batch_turns net.batches.items) journal → IsDrawnJournal stop (draws_from mode) net.world (map batch_turns net.batches.items) journal
     → HoldsAtSettles net.world journal → ShowsCause stop net.world (map batch_turns net.batches.items)
     → output ≡ run_text net.names net.world stop journal → due ≡ due_by stop → Delivers status (due_by stop) old new output → Ends mode (Some text) old new status due journal
-ends_ran None mode text net old new status due journal output declared ran drawn holds shows is due_is delivered =
-    ends_worked mode text net old new status due journal output declared ran drawn holds is due_is delivered
-ends_ran (Some stop) mode text net old new status due journal output declared ran drawn holds shows is due_is delivered =
+ends_ran None mode text net old new status due journal output declared sound ran drawn holds shows is due_is delivered =
+    ends_worked mode text net old new status due journal output declared sound ran drawn holds is due_is delivered
+ends_ran (Some stop) mode text net old new status due journal output declared sound ran drawn holds shows is due_is delivered =
     ends_at_stop mode text stop old new status due journal due_is
-    (stops_script mode text net stop old new status due journal output declared ran drawn shows is due_is delivered)
+    (stops_script mode text net stop old new status due journal output declared sound ran drawn shows is due_is delivered)
 
 keeps_same : (old : Option (List ℕ)) → Keeps old old
 keeps_same None = tt

@@ -40,6 +40,7 @@ stops_told mode told old new text status due journal read stops = record {
   stop = stops.stop;
   declared = told_declares told text stops.net read stops.declared;
   due_is = stops.due_is;
+  sound = stops.sound;
   settled = stops.settled;
   drawn = stops.drawn;
   shows = stops.shows;

@@ -3,6 +3,7 @@ use Rattle.std.specs.Prelude.{◌≡◌, ◌≢◌, ◌⊎◌, ◌≤◌, ℕ, L
 use Rattle.std.specs.declared.option.Option.{Option}
 use Rattle.std.specs.Io.KnownBytes.{Appends, Consumes, IsAtEnd, Keeps}
 use Rattle.mc_io.specs.Bytes.{AppendsPart}
+use Rattle.mc_model.specs.Sound.{IsSound}
 use Rattle.mc_net.specs.Nets.{DeclaresNet, batch_turns}
 use Rattle.mc_net.specs.Rules.{read_limit}
 use Rattle.mc_net.specs.TextLaws.{first_bytes}
@@ -47,8 +48,9 @@ ReadsFor mode old new text = IsTrue (reads mode) → ReadsWhole old new text
 abbrev pub IsTextOf : Option (List ℕ) → List ℕ → Type 0
 IsTextOf told text = IfSome told (λ all. text ≡ first_bytes all)
 
--- The journal is one settled segment for each settle, in order, all of them one run from the network's first world: the interleaving of the boxes. At each settle the two end slots of every path are in the state that the path table gives, and where it flows each has the other's newest descriptor and the choice for its own. Which interleaving it is the draws decide, from their first state on
+-- The journal is one settled segment for each settle, in order, all of them one run from the network's first world: the interleaving of the boxes. At each settle the two end slots of every path are in the state that the path table gives, and where it flows each has the other's newest descriptor and the choice for its own. Which interleaving it is the draws decide, from their first state on: in a sound world there is no other such journal
 pub record Settles (net : Net) (state : ℕ) (journal : List JournalLine) : Type 0 where
+  pub sound : IsSound net.world
   pub settled : IsJournal net.world (map batch_turns net.batches.items) journal
   pub holds : HoldsAtSettles net.world journal
   pub drawn : IsDrawnJournal None state net.world (map batch_turns net.batches.items) journal
@@ -84,6 +86,7 @@ pub record StopsScript (mode : Mode) (told old new : Option (List ℕ)) (status 
   pub stop : Stop
   pub declared : ToldDeclares told net
   pub due_is : due ≡ stop_status stop
+  pub sound : IsSound net.world
   pub settled : IsStoppedJournal stop net.world (map batch_turns net.batches.items) journal
   pub drawn : IsDrawnJournal (Some stop) (draws_from mode) net.world (map batch_turns net.batches.items) journal
   pub shows : ShowsCause (Some stop) net.world (map batch_turns net.batches.items)

@@ -139,6 +139,7 @@ fn run_net<K: Sink>(alloc: Global, mode: Mode, text: &[u8], net: Net, sink: &mut
         batches,
         ..
     } = net;
+    world.keeps();
     let draws = draws_of(mode);
     match run_script(alloc, &names, world, draws, &batches) {
         Ok(run) => deliver_run(sink, run),

@@ -7,5 +7,5 @@ returns-in-Ok-clause-ends g c =
     rw c.deliver_run.ensures.journal
     (ends_ran run.stop c.args.mode c.args.text.now c.args.net (g.K.Sink.written c.args.sink.now) (g.K.Sink.written c.deliver_run.new.sink)
     c.deliver_run.result.status c.deliver_run.result.due run.journal.items run.output.items
-    c.requires.declares (rw c.deref.ensures.value at c.in-Ok.ensures.ran) (rw (c.deref.ensures.value, c.draws_of-draws.ensures) at c.in-Ok.ensures.drawn) c.in-Ok.ensures.holds (rw c.deref.ensures.value at c.in-Ok.ensures.shows)
+    c.requires.declares c.keeps.ensures.sound (rw c.deref.ensures.value at c.in-Ok.ensures.ran) (rw (c.deref.ensures.value, c.draws_of-draws.ensures) at c.in-Ok.ensures.drawn) c.in-Ok.ensures.holds (rw c.deref.ensures.value at c.in-Ok.ensures.shows)
     c.in-Ok.ensures.output c.deliver_run.ensures.due (rw c.deliver_run.ensures.due at c.deliver_run.ensures.delivers))
