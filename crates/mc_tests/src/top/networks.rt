@@ -160,18 +160,20 @@ fn links_make_paths_and_rings(rt: HostRuntime) -> Result<(), Fail> {
     Ok(())
 }
 
+// The turn in which a box links its first two slots.
+fn linked(who: u32) -> JournalLine {
+    JournalLine::Turn(Turn {
+        who,
+        event: Event::Set(Change::Link(0, 1)),
+    })
+}
+
 #[test]
 fn a_ring_keeps_the_turns_before_it(rt: HostRuntime) -> Result<(), Fail> {
     let alloc = rt.alloc();
     let bytes = Vec::from_slice(alloc, RING.as_bytes())?;
     let mut source = MemSource::new(bytes, 64, Vec::new(alloc));
     let (done, written) = run(&rt, alloc, &mut source, ROOM, Vec::new(alloc))?;
-    let linked = |who| {
-        JournalLine::Turn(Turn {
-            who,
-            event: Event::Set(Change::Link(0, 1)),
-        })
-    };
     assert_eq!(rt; done.status, 7);
     assert_eq!(rt; done.due, 7);
     assert_eq!(rt; &done.journal[..], &[linked(0), linked(1)][..]);
