@@ -1,7 +1,7 @@
 // Networks of devices and features: links, paths of several tunnels, and rings.
 
 use super::refusals::is_written;
-use super::{ROOM, run};
+use super::{ROOM, call, run};
 use mc_box::{Change, Event, Turn};
 use mc_io::MemSource;
 use mc_script::JournalLine;
@@ -156,6 +156,27 @@ const TABLE: [(&str, u8, &str); 7] = [
 fn links_make_paths_and_rings(rt: HostRuntime) -> Result<(), Fail> {
     for (text, status, printed) in TABLE {
         is_written(&rt, rt.alloc(), text, status, printed, text)?;
+    }
+    Ok(())
+}
+
+// The commands alone decide what is printed of these texts, wherever the draws begin.
+#[test]
+fn other_draws_print_the_same(rt: HostRuntime) -> Result<(), Fail> {
+    let alloc = rt.alloc();
+    for state in ["1", "2", "3", "1000000007", "2147483647"] {
+        for (text, status, printed) in TABLE {
+            let bytes = Vec::from_slice(alloc, text.as_bytes())?;
+            let mut source = MemSource::new(bytes, 64, Vec::new(alloc));
+            let words = ["one", state];
+            let (done, written) = call(&rt, alloc, &words, &mut source, ROOM, Vec::new(alloc))?;
+            assert_eq!(rt; done.status, status, "at {state} of {text}");
+            assert_eq!(rt;
+                written.as_slice(),
+                printed.as_bytes(),
+                "at {state} of {text}"
+            );
+        }
     }
     Ok(())
 }
