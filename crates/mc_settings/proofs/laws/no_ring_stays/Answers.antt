@@ -1,0 +1,5 @@
+use Rattle.mc_settings.proofs.BatchesLeft.{no_ring_stays}
+use Rattle.mc_settings.proofs.laws.no_ring_stays.Goals as goal
+
+pub returns : goal.returns
+returns c = no_ring_stays

@@ -1,0 +1,4 @@
+pub mod Alike
+pub mod Batches
+pub mod SettingLaws
+pub mod Settings

@@ -1,0 +1,4 @@
+//! Laws of settings, which commands alone decide.
+#![tactic(auto)]
+
+pub mod laws;
