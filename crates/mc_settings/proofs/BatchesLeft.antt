@@ -1,22 +1,47 @@
 -- What batches leave is as their commands make it: rings and paths of hold against hold are there where commands make them.
-use Rattle.std.proofs.Common.{suc, None, List, [], ◌∷◌, take, sym, ◌∙◌, subst, arith}
+use Rattle.std.proofs.Common.{◌≡◌, ℕ, zero, suc, None, List, [], ◌∷◌, length, slice_get, take, refl, ap, sym, ◌∙◌, subst, arith}
 use Rattle.mc_box.specs.declared.event.Turn.{Turn}
 use Rattle.mc_laws.proofs.Reaches.{comes_to_end}
 use Rattle.mc_laws.proofs.RingWalks.{rings_meet_no_end}
 use Rattle.mc_laws.proofs.StepKeeps.{run_keeps_sound}
 use Rattle.mc_model.specs.Rings.{IsLeastOnRing}
-use Rattle.mc_model.specs.Settles.{IsSettled}
+use Rattle.mc_model.specs.Settles.{IsSettled, commands_of, next_command}
 use Rattle.mc_model.specs.Sound.{IsSound}
 use Rattle.mc_model.specs.Worlds.{WorldState}
 use Rattle.mc_settings.specs.Alike.{AreAlike}
-use Rattle.mc_settings.specs.Batches.{AreDecided, HasNoRing, Leave, SettleAll, UsesUp, commanded_by}
-use Rattle.mc_settings.specs.SettingLaws.{BatchIsLeft, BatchesAreLeft, DecidedIsLeft, DecidedStays, NoRingIsMet, NoRingStays, RingsAreLeft, SettlesAreAlike}
+use Rattle.mc_settings.specs.Batches.{AreDecided, HasNoRing, EachLeaves, SettleAll, UsesUp, commanded_by}
+use Rattle.mc_settings.specs.SettingLaws.{BatchIsLeft, BatchesAreLeft, DecidedIsLeft, DecidedStays, NoRingIsMet, NoRingStays, RingsAreLeft, SettlesAreAlike, StoppedUsesUp}
 use Rattle.mc_settings.specs.Settings.{commanded}
 use Rattle.mc_settings.proofs.Agreeing.{decided_passes}
 use Rattle.mc_settings.proofs.AlikeWorlds.{alike_back, alike_both, alike_self, commands_keep_alike}
 use Rattle.mc_settings.proofs.CommandedWorlds.{commands_alone}
 use Rattle.mc_settings.proofs.Following.{runs_follow_commands}
 use Rattle.mc_settings.proofs.SamePaths.{alike_have_same_paths}
+
+-- ---- batches that are used up
+
+-- a list without an entry at a number ends before it
+taken_whole : (turns : List Turn) (n : ℕ) → slice_get turns n ≡ None → take n turns ≡ turns
+taken_whole [] zero is = refl
+taken_whole [] (suc n) is = refl
+taken_whole (turn ∷ turns) zero is = absurd cc
+taken_whole (turn ∷ turns) (suc n) is = ap (λ (l : List Turn). turn ∷ l) (taken_whole turns n is)
+
+past_end : (turns : List Turn) → slice_get turns (length turns) ≡ None
+past_end [] = refl
+past_end (turn ∷ turns) = past_end turns
+
+pub stopped_uses_up : StoppedUsesUp
+stopped_uses_up world last batch turns stopped = (none_next, uses)
+  where
+    none_next : UsesUp world batch turns last → (who : ℕ) → next_command batch turns who ≡ None
+    none_next used who = ap (λ (l : List Turn). slice_get (commands_of who batch) (length l)) (used.commands who) ∙ past_end (commands_of who batch)
+
+    uses : ((who : ℕ) → next_command batch turns who ≡ None) → UsesUp world batch turns last
+    uses none = record {
+      runs = stopped.runs;
+      commands = λ who. stopped.commands who ∙ taken_whole (commands_of who batch) (length (commands_of who turns)) (none who);
+    }
 
 -- ---- one batch
 
@@ -62,14 +87,14 @@ abbrev pub Passes : (WorldState → Type 0) → Type 0
 Passes P = (world other : WorldState) → AreAlike world other → P world → P other
 
 -- the next batch leaves such a world
-pub first_leaves : (P : WorldState → Type 0) (world last : WorldState) (batch turns : List Turn) (batches : List (List Turn)) → Passes P → IsSound world → Leave P world (batch ∷ batches)
+pub first_leaves : (P : WorldState → Type 0) (world last : WorldState) (batch turns : List Turn) (batches : List (List Turn)) → Passes P → IsSound world → EachLeaves P world (batch ∷ batches)
     → UsesUp world batch turns last → P last
 first_leaves P world last batch turns batches passes sound leave used =
     passes (commanded world batch) last (alike_back last (commanded world batch) (batch_is_left world last batch turns sound used)) (leave 0 (omega arith))
 
 -- and so do those behind it
-pub rest_leave : (P : WorldState → Type 0) (world last : WorldState) (batch turns : List Turn) (batches : List (List Turn)) → Passes P → IsSound world → Leave P world (batch ∷ batches)
-    → IsSettled world batch turns last → Leave P last batches
+pub rest_leave : (P : WorldState → Type 0) (world last : WorldState) (batch turns : List Turn) (batches : List (List Turn)) → Passes P → IsSound world → EachLeaves P world (batch ∷ batches)
+    → IsSettled world batch turns last → EachLeaves P last batches
 rest_leave P world last batch turns batches passes sound leave settled k below =
     passes (commanded_by (commanded world batch) (take (suc k) batches)) (commanded_by last (take (suc k) batches))
     (batches_keep_alike (take (suc k) batches) (commanded world batch) last (alike_back last (commanded world batch) (settled_left world last batch turns sound settled)))

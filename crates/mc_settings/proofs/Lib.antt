@@ -5,3 +5,4 @@ pub mod BoxSettings
 pub mod CommandedWorlds
 pub mod Following
 pub mod SamePaths
+pub mod Unlinked

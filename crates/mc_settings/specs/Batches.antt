@@ -24,16 +24,16 @@ abbrev pub commanded_by : WorldState → List (List Turn) → WorldState
 commanded_by world [] = world
 commanded_by world (batch ∷ batches) = commanded_by (commanded world batch) batches
 
--- as its batches come, one after another, each leaves such a world
-abbrev pub Leave : (WorldState → Type 0) → WorldState → List (List Turn) → Type 0
-Leave P world batches = (k : ℕ) → k < length batches → P (commanded_by world (take (suc k) batches))
+-- each batch, as they come one after another, leaves such a world: its commands and those of the batches before it make one
+abbrev pub EachLeaves : (WorldState → Type 0) → WorldState → List (List Turn) → Type 0
+EachLeaves P world batches = (k : ℕ) → k < length batches → P (commanded_by world (take (suc k) batches))
 
 abbrev pub HasNoRing : WorldState → Type 0
 HasNoRing world = has_ring world ≡ false
 
 -- no batch leaves a ring
 abbrev pub LeavesNoRing : WorldState → List (List Turn) → Type 0
-LeavesNoRing world batches = Leave HasNoRing world batches
+LeavesNoRing world batches = EachLeaves HasNoRing world batches
 
 -- the goals at the ends of a path decide its state: they aren't hold against hold
 abbrev pub IsDecided : WorldState → PathEnds → Type 0
@@ -44,4 +44,4 @@ AreDecided world = All (IsDecided world) (paths world)
 
 -- no batch leaves a path of hold against hold
 abbrev pub LeavesDecided : WorldState → List (List Turn) → Type 0
-LeavesDecided world batches = Leave AreDecided world batches
+LeavesDecided world batches = EachLeaves AreDecided world batches

@@ -1,15 +1,16 @@
 -- Laws of settings: commands alone decide them, and with them which paths and rings there are.
-use Rattle.std.specs.Prelude.{◌≡◌, ℕ, false, List, ◌∷◌, Some, None}
+use Rattle.std.specs.Prelude.{◌≡◌, ◌↔◌, ℕ, false, List, ◌∷◌, Some, None}
 use Rattle.std.specs.List.{All}
 use Rattle.mc_box.specs.declared.event.Turn.{Turn}
-use Rattle.mc_model.specs.PathTable.{path_state}
+use Rattle.mc_model.specs.LinkFree.{AllLinkNone, HasNoLinks}
+use Rattle.mc_model.specs.PathTable.{PathHolds, path_state}
 use Rattle.mc_model.specs.Paths.{has_ring, paths}
 use Rattle.mc_model.specs.Rings.{IsLeastOnRing}
-use Rattle.mc_model.specs.Settles.{IsSettled, commands_of}
+use Rattle.mc_model.specs.Settles.{IsSettled, IsStopped, commands_of, next_command}
 use Rattle.mc_model.specs.Sound.{IsSound}
 use Rattle.mc_model.specs.Steps.{run}
 use Rattle.mc_model.specs.Worlds.{WorldState}
-use Rattle.mc_settings.specs.Alike.{AreAlike, HaveSamePaths}
+use Rattle.mc_settings.specs.Alike.{AreAlike, EndsAgree, HaveSamePaths}
 use Rattle.mc_settings.specs.Batches.{AreDecided, LeavesDecided, LeavesNoRing, SettleAll, UsesUp, commanded_by}
 use Rattle.mc_settings.specs.Settings.{commanded}
 
@@ -46,6 +47,11 @@ AlikeHaveSamePaths = (world other : WorldState) → AreAlike world other → Hav
 
 -- ---- batches
 
+-- turns that stopped within a batch use it up exactly where no box has a next command
+abbrev pub StoppedUsesUp : Type 0
+StoppedUsesUp = (world last : WorldState) (batch turns : List Turn) → IsStopped world batch turns last
+    → UsesUp world batch turns last ↔ ((who : ℕ) → next_command batch turns who ≡ None)
+
 -- a batch that is used up leaves a world as its commands make it
 abbrev pub BatchIsLeft : Type 0
 BatchIsLeft = (world last : WorldState) (batch turns : List Turn) → IsSound world → UsesUp world batch turns last → AreAlike last (commanded world batch)
@@ -68,13 +74,22 @@ abbrev pub NoRingStays : Type 0
 NoRingStays = (world last : WorldState) (batch turns : List Turn) (batches : List (List Turn)) → IsSound world → LeavesNoRing world (batch ∷ batches)
     → IsSettled world batch turns last → LeavesNoRing last batches
 
+-- batches that set no link leave none in a world without links
+abbrev pub LinkFreeLeavesNoRing : Type 0
+LinkFreeLeavesNoRing = (world : WorldState) (batches : List (List Turn)) → HasNoLinks world → AllLinkNone batches → LeavesNoRing world batches
+
 -- ---- decided paths
 
 -- of worlds that are alike the paths are in the same states, if none of them is hold against hold
 abbrev pub DecidedPathsAgree : Type 0
 DecidedPathsAgree = (world other : WorldState) → AreAlike world other → AreDecided world → All (λ path. path_state world path ≡ path_state other path) (paths world)
 
--- where no batch leaves such a path, none is there when the next one is used up
+-- and where those paths are as the path table says, as after settles, their ends agree in all that there is to see of them
+abbrev pub HeldPathsAgree : Type 0
+HeldPathsAgree = (world other : WorldState) → AreAlike world other → AreDecided world → All (PathHolds world) (paths world) → All (PathHolds other) (paths other)
+    → All (EndsAgree world other) (paths world)
+
+-- where no batch leaves a path of hold against hold, none is there when the next one is used up
 abbrev pub DecidedIsLeft : Type 0
 DecidedIsLeft = (world last : WorldState) (batch turns : List Turn) (batches : List (List Turn)) → IsSound world → LeavesDecided world (batch ∷ batches)
     → UsesUp world batch turns last → AreDecided last

@@ -1,8 +1,8 @@
 //! Laws of settings, over the definitions alone: each function's contract is the law's sentence.
 
 ghost use Rattle.mc_settings.specs.SettingLaws.{RunsFollowCommands, CommandsAlone, IsEquivalence, CommandsKeepAlike, SettlesAreAlike};
-ghost use Rattle.mc_settings.specs.SettingLaws.{AlikeHaveSamePaths, BatchIsLeft, BatchesAreLeft, RingsAreLeft, NoRingIsMet, NoRingStays};
-ghost use Rattle.mc_settings.specs.SettingLaws.{DecidedPathsAgree, DecidedIsLeft, DecidedStays};
+ghost use Rattle.mc_settings.specs.SettingLaws.{AlikeHaveSamePaths, StoppedUsesUp, BatchIsLeft, BatchesAreLeft, RingsAreLeft, NoRingIsMet, NoRingStays, LinkFreeLeavesNoRing};
+ghost use Rattle.mc_settings.specs.SettingLaws.{DecidedPathsAgree, HeldPathsAgree, DecidedIsLeft, DecidedStays};
 
 /// After any run of a sound world each box has the goals and the media that its own commands, in their order, make of
 /// those before, and is else as it was, but for what signals change: the states and kept values of its slots.
@@ -38,6 +38,11 @@ pub fn alike_have_same_paths()
     ensures { AlikeHaveSamePaths }
 {}
 
+/// Turns that stopped within a batch use it up exactly where no box has a next command.
+pub fn stopped_uses_up()
+    ensures { StoppedUsesUp }
+{}
+
 /// A run of a sound world that uses a batch up leaves a world that is as the commands of the batch make it.
 pub fn batch_is_left()
     ensures { BatchIsLeft }
@@ -64,10 +69,21 @@ pub fn no_ring_stays()
     ensures { NoRingStays }
 {}
 
+/// Batches that set no link leave no ring in a world without links.
+pub fn link_free_leaves_no_ring()
+    ensures { LinkFreeLeavesNoRing }
+{}
+
 /// Where the goals at its ends decide each path, since none is hold against hold, the paths of worlds that are alike are
 /// in the same states.
 pub fn decided_paths_agree()
     ensures { DecidedPathsAgree }
+{}
+
+/// And where those paths are as the path table says, as they are after settles, both end slots of each are in the same
+/// states, and where it flows they last got the same descriptors and selectors.
+pub fn held_paths_agree()
+    ensures { HeldPathsAgree }
 {}
 
 /// Where the commands of no batch leave a path of hold against hold, none is there when the next batch is used up.
