@@ -9,7 +9,7 @@ use Rattle.mc_model.specs.Shapes.{HasShape}
 use Rattle.mc_model.specs.Worlds.{WorldState, box_at}
 use Rattle.mc_laws.proofs.ShapesKept.{same_shape, shape_both}
 use Rattle.mc_settings.specs.Alike.{AreAlike}
-use Rattle.mc_settings.specs.SettingLaws.{CommandsKeepAlike, IsEquivalence}
+use Rattle.mc_settings.specs.SettingLaws.{CommandsKeepAlike, AlikeIsEquivalence}
 use Rattle.mc_settings.specs.Settings.{commanded, set_by_all}
 use Rattle.mc_settings.proofs.CommandedWorlds.{settings_are, shape_stays, slots_stay}
 
@@ -41,8 +41,8 @@ alike_both world other third one two = record {
   sides = λ who local. one.sides who local ∙ two.sides who local;
 }
 
-pub is_equivalence : IsEquivalence
-is_equivalence = record { reflexive = alike_self; symmetric = alike_back; transitive = alike_both }
+pub alike_is_equivalence : AlikeIsEquivalence
+alike_is_equivalence = record { reflexive = alike_self; symmetric = alike_back; transitive = alike_both }
 
 -- ---- commands
 

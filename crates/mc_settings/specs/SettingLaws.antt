@@ -26,8 +26,8 @@ CommandsAlone = (world : WorldState) (turns others : List Turn) → ((who : ℕ)
 
 -- ---- alike
 
--- each world is alike itself, and of two worlds that are alike each is so, and is alike what the other is alike
-pub record IsEquivalence : Type 0 where
+-- to be alike is reflexive, symmetric and transitive
+pub record AlikeIsEquivalence : Type 0 where
   pub reflexive : (world : WorldState) → AreAlike world world
   pub symmetric : (world other : WorldState) → AreAlike world other → AreAlike other world
   pub transitive : (world other third : WorldState) → AreAlike world other → AreAlike other third → AreAlike world third
@@ -84,7 +84,7 @@ LinkFreeLeavesNoRing = (world : WorldState) (batches : List (List Turn)) → Has
 abbrev pub DecidedPathsAgree : Type 0
 DecidedPathsAgree = (world other : WorldState) → AreAlike world other → AreDecided world → All (λ path. path_state world path ≡ path_state other path) (paths world)
 
--- and where those paths are as the path table says, as after settles, their ends agree in all that there is to see of them
+-- and where those paths are as the path table says, as they are after settles, their ends agree
 abbrev pub HeldPathsAgree : Type 0
 HeldPathsAgree = (world other : WorldState) → AreAlike world other → AreDecided world → All (PathHolds world) (paths world) → All (PathHolds other) (paths other)
     → All (EndsAgree world other) (paths world)

@@ -1,8 +1,9 @@
 //! Laws of settings, over the definitions alone: each function's contract is the law's sentence.
 
-ghost use Rattle.mc_settings.specs.SettingLaws.{RunsFollowCommands, CommandsAlone, IsEquivalence, CommandsKeepAlike, SettlesAreAlike};
-ghost use Rattle.mc_settings.specs.SettingLaws.{AlikeHaveSamePaths, StoppedUsesUp, BatchIsLeft, BatchesAreLeft, RingsAreLeft, NoRingIsMet, NoRingStays, LinkFreeLeavesNoRing};
-ghost use Rattle.mc_settings.specs.SettingLaws.{DecidedPathsAgree, HeldPathsAgree, DecidedIsLeft, DecidedStays};
+ghost use Rattle.mc_settings.specs.SettingLaws.{AlikeHaveSamePaths, AlikeIsEquivalence, CommandsAlone, CommandsKeepAlike};
+ghost use Rattle.mc_settings.specs.SettingLaws.{BatchIsLeft, BatchesAreLeft, RunsFollowCommands, SettlesAreAlike, StoppedUsesUp};
+ghost use Rattle.mc_settings.specs.SettingLaws.{LinkFreeLeavesNoRing, NoRingIsMet, NoRingStays, RingsAreLeft};
+ghost use Rattle.mc_settings.specs.SettingLaws.{DecidedIsLeft, DecidedPathsAgree, DecidedStays, HeldPathsAgree};
 
 /// After any run of a sound world each box has the goals and the media that its own commands, in their order, make of
 /// those before, and is else as it was, but for what signals change: the states and kept values of its slots.
@@ -17,8 +18,8 @@ pub fn commands_alone()
 {}
 
 /// To be alike but for what signals change is an equivalence of worlds.
-pub fn is_equivalence()
-    ensures { IsEquivalence }
+pub fn alike_is_equivalence()
+    ensures { AlikeIsEquivalence }
 {}
 
 /// The same commands leave worlds alike that were so.
@@ -74,8 +75,8 @@ pub fn link_free_leaves_no_ring()
     ensures { LinkFreeLeavesNoRing }
 {}
 
-/// Where the goals at its ends decide each path, since none is hold against hold, the paths of worlds that are alike are
-/// in the same states.
+/// Where the goals at its ends decide each path, since none is hold against hold, the paths of worlds that are alike
+/// are in the same states.
 pub fn decided_paths_agree()
     ensures { DecidedPathsAgree }
 {}
