@@ -2,7 +2,7 @@ mod Causes
 mod Ending
 mod Halts
 mod LastVersions
-mod NeverLinked
+mod LeftRings
 mod OneJournal
 mod OneMode
 pub mod Running

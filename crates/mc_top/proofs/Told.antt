@@ -15,7 +15,7 @@ use Rattle.mc_top.specs.Journals.{ShowsCause}
 use Rattle.mc_top.specs.Top.{Ends, StopsScript, ToldDeclares, ToldFault}
 use Rattle.mc_top.specs.Modes.{CanRun, IsWorkable}
 use Rattle.mc_top.specs.declared.stop.Stop.{Stop}
-use Rattle.mc_top.specs.Rings.{LeavesNoRing}
+use Rattle.mc_top.specs.Rings.{MakesNoRing}
 use Rattle.mc_top.proofs.Causes.{never_stops}
 use Rattle.mc_top.specs.declared.words.Mode.{Mode}
 use Rattle.mc_top.specs.declared.words.Mode.TheVariants.{One, Run}
@@ -76,7 +76,7 @@ fault_says (Some all) text d number line fault is says =
 fault_works : (mode : Mode) (told : Option (List ℕ)) (text : List ℕ) (number line : ℕ) → ToldFault told number line → told ≡ Some text → IsWorkable mode text → ⊥
 fault_works mode told text number line fault is works = let can = can_run mode text works in fault_says told text can.0 number line fault is can.1
 
-stop_says : (told : Option (List ℕ)) (text : List ℕ) (d : Declared) (net : Net) (stop : Stop) → ToldDeclares told net → told ≡ Some text → Says text d → MeetsNoLast d → LeavesNoRing d
+stop_says : (told : Option (List ℕ)) (text : List ℕ) (d : Declared) (net : Net) (stop : Stop) → ToldDeclares told net → told ≡ Some text → Says text d → MeetsNoLast d → MakesNoRing d
     → ShowsCause (Some stop) net.world (map batch_turns net.batches.items) → ⊥
 stop_says None text d net stop declares is says none rings shows = cc
 stop_says (Some all) text d net stop declares is says none rings shows =

@@ -10,10 +10,10 @@ use Rattle.mc_model.specs.Settles.{IsSettled, IsStopped, MeetsLast, commands_of,
 use Rattle.mc_model.specs.Steps.{step}
 use Rattle.mc_model.specs.Worlds.{WorldState}
 use Rattle.mc_box.specs.declared.event.Turn.{Turn}
+use Rattle.mc_settings.specs.Batches.{LeavesNoRing}
 use Rattle.mc_script.specs.declared.command.JournalLine.{JournalLine}
 use Rattle.mc_script.specs.declared.command.JournalLine.TheVariants.{Turn as Made, Settled}
 use Rattle.mc_top.specs.declared.stop.Stop.{Stop}
-use Rattle.mc_top.specs.Rings.{NoRingIsLeft}
 use Rattle.mc_top.specs.declared.stop.Stop.TheVariants.{Ring, VersionEnd}
 
 -- the turns of a settle, as lines
@@ -56,11 +56,11 @@ abbrev pub IsJournalTo : Option Stop → WorldState → List (List Turn) → Lis
 IsJournalTo None world batches journal = IsJournal world batches journal
 IsJournalTo (Some stop) world batches journal = IsStoppedJournal stop world batches journal
 
--- what a stop shows of the batches: at the last version, that the version of some slot in the first world and its Hears are more than that together; at a ring, that they leave one
+-- what a stop shows of the batches: at the last version, that the version of some slot in the first world and its Hears are more than that together; at a ring, that the goals of some batch make one
 abbrev pub ShowsCause : Option Stop → WorldState → List (List Turn) → Type 0
 ShowsCause None world batches = Unit {0}
 ShowsCause (Some (VersionEnd at)) world batches = PassesLast world (λ who local. hears_in who local batches)
-ShowsCause (Some (Ring at)) world batches = NoRingIsLeft world batches → ⊥
+ShowsCause (Some (Ring at)) world batches = LeavesNoRing world batches → ⊥
 
 -- the world after a turn of a journal
 abbrev pub next_world : WorldState → Turn → WorldState
