@@ -60,7 +60,7 @@ made_same world who lane turn none =
 
 -- nothing is sent into a lane that is away
 away_none : (world : WorldState) (who lane : ℕ) → IsAway world who lane → NoneTo world who lane
-away_none world who lane away local s is = (away s (number_is world who local s is).1).1
+away_none world who lane away local s is = let at = number_is world who local s is in (away s at.0 at.1).1
 
 -- an event that takes nothing leaves it
 act_same : (world next : WorldState) (who lane : ℕ) (o : Option BoxStep) → option_map (after_making world who) o ≡ Some next → IsAway world who lane → SameLane world next lane
@@ -73,7 +73,8 @@ take_same : (world next : WorldState) (who local s lane : ℕ) → number world 
 take_same world next who local s lane is goes away =
     let first = then_some (λ (signal : Signal). option_map (after_making (after_pop world s) who) (box_event (box_at world who) (Take local) (Some signal))) (front world s) next goes in
     let parts = map_some (after_making (after_pop world s) who) (box_event (box_at world who) (Take local) (Some first.0)) next first.2 in
-    let pop : SameLane world (after_pop world s) lane = record { channels = refl; signals = get_or-set_other world.lanes (lane_of world s) lane _ [] (away s (number_is world who local s is).1).0 } in
+    let at = number_is world who local s is in
+    let pop : SameLane world (after_pop world s) lane = record { channels = refl; signals = get_or-set_other world.lanes (lane_of world s) lane _ [] (away s at.0 at.1).0 } in
     both_same world (after_pop world s) next lane pop
     (subst (λ (w : WorldState). SameLane (after_pop world s) w lane) parts.2 (made_same (after_pop world s) who lane parts.0 (away_none world who lane away)))
 

@@ -1,5 +1,6 @@
 pub mod AllowedCommands
 mod Candidates
+mod CountsStay
 pub mod DrawnLinks
 mod DrawsEnd
 mod Finds
@@ -8,10 +9,13 @@ mod Fronts
 mod FrontsStay
 mod Hears
 mod Kth
+mod LaneBoxes
+mod LeftCommands
 mod Making
 mod Nexts
 mod OneSchedule
 mod OrderSettles
+mod Recounts
 mod Retries
 mod RetriesMade
 mod Runs
@@ -19,5 +23,6 @@ mod Scheduled
 mod Segments
 mod Sittings
 mod Taking
+mod TreeBuilds
 mod TreePuts
 mod TreeSums

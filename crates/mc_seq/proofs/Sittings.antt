@@ -16,10 +16,9 @@ use Rattle.mc_model.specs.Worlds.{WorldState}
 use Rattle.mc_laws.proofs.Lowers.{take_lowers, take_stays_free}
 use Rattle.mc_laws.proofs.ShapesKept.{step_keeps_shape}
 use Rattle.mc_laws.proofs.StepKeeps.{step_keeps_sound}
-use Rattle.mc_seq.specs.Drawing.{CameToRest, DrewAll, DrewOnce, DrewTurn, DrewVersionEnd, RanOut, Sight, TurnMade, sight_of}
-use Rattle.mc_seq.specs.Schedule.{AreDrawn, MayGo, Standing, candidates, drawn_turn, drawn_place, is_urgent, left_by, all_candidates, standing_after, next_of, since_by, without_next}
-use Rattle.mc_seq.specs.declared.drawing.Draw.TheVariants.{Nothing}
-use Rattle.mc_seq.specs.declared.drawing.Sitting.{Sitting}
+use Rattle.mc_seq.specs.Drawing.{CameToRest, DrewAll, DrewOnce, DrewTurn, DrewVersionEnd, RanOut, Sight}
+use Rattle.mc_seq.specs.Schedule.{AreDrawn, MayGo, Standing, candidates, drawn_turn, drawn_place, is_urgent, left_by, all_candidates, next_of, since_by, without_next}
+use Rattle.mc_seq.specs.declared.stopping.Draw.TheVariants.{Nothing}
 use Rattle.mc_seq.proofs.Candidates.{IsListed, IsTake, drawn_listed, none_left, take_same}
 use Rattle.mc_seq.proofs.AllowedCommands.{all_kept, left_pass, next_pass}
 use Rattle.mc_seq.proofs.Nexts.{without_less}
@@ -29,11 +28,6 @@ use Rattle.mc_seq.proofs.Nexts.{without_less}
 -- a list that isn't empty has a length above 0
 some_length : (xs : List Turn) → length xs ≢ 0 → 0 < length xs
 some_length xs some = omega arith
-
--- what was made is what was drawn
-pub made_is : (old new : Sitting) (state next : ℕ) (turn : Turn) → drawn_turn (sight_of old state).standing ≡ Some turn → TurnMade old new turn
-    → (sight_of new next).standing ≡ standing_after (sight_of old state).standing turn new.settled.world → DrewTurn (sight_of old state) (sight_of new next)
-made_is old new state next turn is made moves = record { turn = turn; is_drawn = is; goes = made.goes; moves = moves; logged = made.logged }
 
 -- ---- several draws
 

@@ -6,21 +6,49 @@ use Rattle.mc_model.specs.Paths.{has_ring}
 use Rattle.mc_model.specs.Steps.{ends_version, step, heard_slot}
 use Rattle.mc_model.specs.Worlds.{WorldState}
 use Rattle.mc_seq.specs.Schedule.{AreDrawn, Standing, candidates, drawn_turn, left_by, standing_after, since_by}
-use Rattle.mc_seq.specs.declared.drawing.Draw.{Draw}
-use Rattle.mc_seq.specs.declared.drawing.Draw.TheVariants.{Drawn, Nothing, VersionEnd}
+use Rattle.mc_world.specs.declared.settled.Settled.{Settled}
+use Rattle.mc_seq.specs.Commands.{AreKept, left_of}
+use Rattle.mc_seq.specs.Counts.{IsCounted}
 use Rattle.mc_seq.specs.declared.drawing.Sitting.{Sitting}
+use Rattle.mc_seq.specs.declared.stopping.Draw.{Draw}
+use Rattle.mc_seq.specs.declared.stopping.Draw.TheVariants.{Drawn, Nothing, VersionEnd}
+use Rattle.mc_seq.specs.declared.plain.Sitting.{Sitting as PlainSitting}
 
--- what is seen of a sitting: where it stands, and its turns so far
+-- a moment of a settle: its world and turns so far, the commands that are left, and how many turns came since the last command or the beginning
+pub record Moment : Type 0 where
+  pub settled : Settled
+  pub left : List Turn
+  pub since : ℕ
+
+-- what is seen of it: where it stands, and its turns so far
 pub record Sight : Type 0 where
   pub standing : Standing
   pub turns : List Turn
 
 -- with the state of the draws
-abbrev pub sight_of : Sitting → ℕ → Sight
-sight_of sitting draws = record {
-  standing = record { world = sitting.settled.world; left = sitting.left.items; since = sitting.since; draws = draws };
-  turns = sitting.settled.turns.items;
+abbrev pub sight_at : Moment → ℕ → Sight
+sight_at moment draws = record {
+  standing = record { world = moment.settled.world; left = moment.left; since = moment.since; draws = draws };
+  turns = moment.settled.turns.items;
 }
+
+abbrev pub moment_of : Sitting → Moment
+moment_of sitting = record { settled = sitting.settled; left = left_of sitting.left; since = sitting.since }
+
+abbrev pub sight_of : Sitting → ℕ → Sight
+sight_of sitting draws = sight_at (moment_of sitting) draws
+
+-- the commands of a sitting are kept, and its candidates counted
+pub record IsInStep (sitting : Sitting) : Type 0 where
+  pub kept : AreKept sitting.left
+  pub counted : IsCounted sitting.settled.world (left_of sitting.left) sitting.counts
+
+-- the same for a sitting that lists all candidates
+abbrev pub plain_moment : PlainSitting → Moment
+plain_moment sitting = record { settled = sitting.settled; left = sitting.left.items; since = sitting.since }
+
+abbrev pub plain_sight : PlainSitting → ℕ → Sight
+plain_sight sitting draws = sight_at (plain_moment sitting) draws
 
 -- ---- one turn
 
@@ -29,28 +57,33 @@ abbrev pub MayCome : WorldState → Turn → Type 0
 MayCome world turn = IsSome (step world turn) ⊎ IsTrue (ends_version world turn)
 
 -- a turn was made
-pub record TurnMade (old new : Sitting) (turn : Turn) : Type 0 where
+pub record TurnMade (old new : Moment) (turn : Turn) : Type 0 where
   pub goes : step old.settled.world turn ≡ Some new.settled.world
-  pub left : new.left.items ≡ left_by turn old.left.items
+  pub left : new.left ≡ left_by turn old.left
   pub since : new.since ≡ since_by turn old.since
   pub logged : new.settled.turns.items ≡ old.settled.turns.items ++ turn ∷ []
 
 -- or it ends a version
-pub record TurnEnds (old new : Sitting) (turn : Turn) (at : ℕ) : Type 0 where
+pub record TurnEnds (old new : Moment) (turn : Turn) (at : ℕ) : Type 0 where
   pub version : IsTrue (ends_version old.settled.world turn)
   pub slot : heard_slot old.settled.world turn ≡ Some at
   pub world : new.settled.world ≡ old.settled.world
-  pub left : new.left.items ≡ old.left.items
+  pub left : new.left ≡ old.left
   pub since : new.since ≡ old.since
   pub logged : new.settled.turns.items ≡ old.settled.turns.items
 
 -- what becomes of a turn
-abbrev pub TriedTurn : Sitting → Sitting → Turn → Draw → Type 0
+abbrev pub TriedTurn : Moment → Moment → Turn → Draw → Type 0
 TriedTurn old new turn Drawn = TurnMade old new turn
 TriedTurn old new turn Nothing = ⊥
 TriedTurn old new turn (VersionEnd at) = TurnEnds old new turn at
 
 -- ---- one draw
+
+-- a draw picks the turn that the schedule draws, or nothing where nothing is listed, and then nothing is drawn
+abbrev pub Picks : Standing → ℕ → Option Turn → Type 0
+Picks now draws None = (candidates now ≡ []) × (draws ≡ now.draws)
+Picks now draws (Some turn) = (drawn_turn now ≡ Some turn) × (draws ≡ next_state now.draws)
 
 -- a drawn turn was made
 pub record DrewTurn (old new : Sight) : Type 0 where

@@ -1,3 +1,5 @@
+pub mod Commands
+pub mod Counts
 pub mod Drawing
 pub mod Draws
 pub mod ForEach

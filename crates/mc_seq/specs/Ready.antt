@@ -2,7 +2,7 @@
 use Rattle.std.specs.Prelude.{◌≡◌, ◌≢◌, ◌<◌, ◌+◌, ℕ, Bool, List, length, sum, take, slice_get, slice_index_or, Some}
 use Rattle.mc_box.specs.declared.event.Turn.{Turn}
 use Rattle.mc_model.specs.Steps.{step}
-use Rattle.mc_model.specs.Worlds.{WorldState, far, front, lane_of, place}
+use Rattle.mc_model.specs.Worlds.{WorldState, far, front, lane_of, place, slot_count}
 use Rattle.mc_seq.specs.ForEach.{for_each}
 use Rattle.mc_seq.specs.Schedule.{candidates_of}
 use Rattle.mc_seq.specs.Sums.{CountsEach}
@@ -22,7 +22,7 @@ CountIsSum = (f : ℕ → List Turn) (numbers : List ℕ) (limit : ℕ) → Coun
 
 -- the lane leads to no slot of a box, nor to the other end of a tunnel of one
 abbrev pub IsAway : WorldState → ℕ → ℕ → Type 0
-IsAway world who lane = (s : ℕ) → (place world s).0 ≡ who → (lane ≢ lane_of world s) × (lane ≢ lane_of world (far s))
+IsAway world who lane = (s : ℕ) → s < slot_count world → (place world s).0 ≡ who → (lane ≢ lane_of world s) × (lane ≢ lane_of world (far s))
 
 -- a step changes no front of such a lane
 abbrev pub FrontsStay : Type 0

@@ -1,44 +1,36 @@
-// A settle by draws.
+// A settle by draws, of which a turn takes no longer in a larger network.
 
-ghost use Rattle.std.specs.Prelude.{◌≡◌, ◌==◌, ◌<◌, [], false, length, position, Some, IsTrue, IfOk, IfErr, OnOk, slice_get};
-ghost use Rattle.std.specs.List.{list_all};
-ghost use Rattle.mc_text.specs.Draws.{next_state};
-ghost use Rattle.mc_box.specs.BoxEvents.{is_command};
-ghost use Rattle.mc_model.specs.Shapes.{is_allowed, AreAllowed};
+ghost use Rattle.std.specs.Prelude.{◌≡◌, ◌<◌, [], false, IfOk, IfErr, OnOk};
+ghost use Rattle.mc_model.specs.Shapes.{AreAllowed};
 ghost use Rattle.mc_model.specs.Paths.{has_ring};
 ghost use Rattle.mc_model.specs.Settles.{IsSettled};
-ghost use Rattle.mc_model.specs.Steps.{ends_version, heard_local, heard_slot};
 ghost use Rattle.mc_model.specs.Worlds.{place, slot_count};
+ghost use Rattle.mc_seq.specs.Commands.{AreKept, left_of};
 ghost use Rattle.mc_seq.specs.Draws.{SettlesByDraws, StopsByDraws};
-ghost use Rattle.mc_seq.specs.Drawing.{CameToRest, DrewOnce, MayCome, TriedTurn, UsedUp, sight_of};
-ghost use Rattle.mc_seq.specs.Schedule.{drawn_place, left_by, since_by, without_next};
+ghost use Rattle.mc_seq.specs.Drawing.{CameToRest, DrewOnce, IsInStep, MayCome, Picks, TriedTurn, UsedUp, moment_of, sight_of};
+ghost use Rattle.mc_seq.specs.Schedule.{is_urgent, left_by, since_by};
 
+use crate::batches::is_command;
+use crate::commands::{Commands, all_commands, drop_command};
+use crate::counting::{Counts, count_all, levels_by, recount};
 use crate::fault::{SettleFault, Stopped};
-use crate::listing::{all_candidates, is_urgent};
+use crate::finding::kth;
 use crate::retrying::retry_by_box;
-use mc_box::{Event, MediaChange, Turn};
+use crate::stopping::{Draw, heard_slot, stop_at};
+use crate::sums::total;
+use mc_box::Turn;
 use mc_text::Draws;
 use mc_world::{Settled, StepFault, World};
 use std::alloc::{AllocError, Global};
 
-// Where a settle stands: its world and its turns so far, the commands that are left, and how many turns came since
-// the last command or the beginning, counted to 63.
+// Where a settle stands: its world and its turns so far, the commands that are left, how many turns came since the
+// last command or the beginning, counted to 63, and how many candidates each box has.
 #[derive(Debug, Drop)]
 struct Sitting {
     settled: Settled,
-    left: Vec<Turn>,
+    left: Commands,
     since: u8,
-}
-
-// What a draw comes to.
-#[derive(Clone, Copy, PartialEq, Eq, Debug)]
-enum Draw {
-    // A turn was drawn, and made.
-    Drawn,
-    // Nothing is listed, so nothing was drawn.
-    Nothing,
-    // The Hear of this slot was drawn, which has the last version.
-    VersionEnd(u32),
+    counts: Counts,
 }
 
 /// Settles a batch by draws. Each turn is drawn among those that can come: the next command of each box, and a Take of
@@ -49,6 +41,9 @@ enum Draw {
 ///
 /// The world allows each command. It always ends: at rest, at a ring of links that the batch left,
 /// or at a Hear of a descriptor that has the last version; or for want of memory.
+///
+/// Candidates are counted by box, and counted again only where a turn may have changed them. So the time of a turn
+/// hangs on its box and the neighbours of that, and beside these on the network's size by its logarithm alone.
 pub fn settle_one(
     alloc: Global,
     world: World,
@@ -61,49 +56,27 @@ pub fn settle_one(
     ensures stops { IfErr result (StopsByDraws world batch.now draws.old.state draws.new.state) }
 {
     world.keeps();
-    let left = copied(alloc, batch)?;
+    let left = all_commands(alloc, &world, batch)?;
+    let counts = count_all(alloc, &world, &left)?;
     let turns = Vec::new(alloc);
     let settled = Settled { world, turns };
     let mut sitting = Sitting {
         settled,
         left,
         since: 0,
+        counts,
     };
-    if let Some(at) = use_up(alloc, &mut sitting, draws)? {
+    if let Some(at) = use_up(&mut sitting, draws)? {
         return Err(SettleFault::VersionEnd(stopped(sitting, at)));
     }
     if let Some(at) = sitting.settled.world.ring() {
         return Err(SettleFault::Ring(stopped(sitting, at)));
     }
-    come_to_rest(alloc, &mut sitting, draws)?;
+    come_to_rest(&mut sitting, draws)?;
     retry_by_box(&mut sitting.settled)?;
-    come_to_rest(alloc, &mut sitting, draws)?;
+    sitting.counts = count_all(alloc, &sitting.settled.world, &sitting.left)?;
+    come_to_rest(&mut sitting, draws)?;
     Ok(settled_by(sitting))
-}
-
-/// Whether the world allows each command, so that the batch can be settled.
-pub fn fits(world: &World, batch: &[Turn]) -> bool
-    ensures { result ≡ list_all (is_allowed world.now) batch.now }
-{
-    batch.iter().all(|turn| is_allowed(world, *turn))
-}
-
-// Whether the world allows a command: its box is there, and enables it.
-#[tactic(auto, using(mc_box::proofs::ShapeEnables::shape_enables))]
-fn is_allowed(world: &World, turn: Turn) -> bool
-    ensures { result ≡ is_allowed world.now turn }
-{
-    let boxes = world.boxes();
-    (turn.who as usize) < boxes.len()
-        && is_command(turn.event)
-        && boxes[turn.who as usize].enabled(&turn.event)
-}
-
-// The commands of a batch, to take them from.
-fn copied(alloc: Global, batch: &[Turn]) -> Result<Vec<Turn>, AllocError>
-    ensures { IfOk result (λ left. left.items ≡ batch.now) }
-{
-    batch.iter().copied().collect(alloc)
 }
 
 // The world and the turns of a settle.
@@ -114,6 +87,7 @@ fn settled_by(sitting: Sitting) -> Settled
         settled,
         left: _,
         since: _,
+        counts: _,
     } = sitting;
     settled
 }
@@ -125,23 +99,19 @@ fn stopped(sitting: Sitting, at: u32) -> Stopped
     ensures place { result.place ≡ place sitting.settled.world at }
     ensures turns { result.turns.items ≡ sitting.settled.turns.items }
 {
-    let Settled { world, turns } = settled_by(sitting);
-    let place = world.place(at);
-    Stopped { at, place, turns }
+    stop_at(settled_by(sitting), at)
 }
 
 // Draws until the batch is used up, or to the last version of a slot.
-fn use_up(
-    alloc: Global,
-    sitting: &mut Sitting,
-    draws: &mut Draws,
-) -> Result<Option<u32>, AllocError>
-    requires { AreAllowed sitting.old.settled.world sitting.old.left.items }
-    ensures { IfOk result (UsedUp (sight_of sitting.old draws.old.state) (sight_of sitting.new draws.new.state)) }
+fn use_up(sitting: &mut Sitting, draws: &mut Draws) -> Result<Option<u32>, AllocError>
+    requires allowed { AreAllowed sitting.old.settled.world (left_of sitting.old.left) }
+    requires counted { IsInStep sitting.old }
+    ensures drew { IfOk result (UsedUp (sight_of sitting.old draws.old.state) (sight_of sitting.new draws.new.state)) }
+    ensures counted { OnOk result (IsInStep sitting.new) }
 {
     sitting.settled.world.keeps();
-    'commands: while !is_used_up(&sitting.left) {
-        match draw_once(alloc, sitting, draws)? {
+    'commands: while sitting.left.count > 0 {
+        match draw_once(sitting, draws)? {
             Draw::Drawn => {}
             Draw::Nothing => unreachable!(),
             Draw::VersionEnd(at) => return Ok(Some(at)),
@@ -150,22 +120,17 @@ fn use_up(
     Ok(None)
 }
 
-// Whether no command is left.
-fn is_used_up(left: &[Turn]) -> bool
-    ensures { result ≡ (length left.now == 0) }
-{
-    left.is_empty()
-}
-
 // Draws until nothing is listed, where the batch is used up. Where there is no ring, that ends.
-fn come_to_rest(alloc: Global, sitting: &mut Sitting, draws: &mut Draws) -> Result<(), AllocError>
-    requires used_up { sitting.old.left.items ≡ [] }
+fn come_to_rest(sitting: &mut Sitting, draws: &mut Draws) -> Result<(), AllocError>
+    requires used_up { left_of sitting.old.left ≡ [] }
     requires free { has_ring sitting.old.settled.world ≡ false }
-    ensures { OnOk result (CameToRest (sight_of sitting.old draws.old.state) (sight_of sitting.new draws.new.state)) }
+    requires counted { IsInStep sitting.old }
+    ensures rests { OnOk result (CameToRest (sight_of sitting.old draws.old.state) (sight_of sitting.new draws.new.state)) }
+    ensures counted { OnOk result (IsInStep sitting.new) }
 {
     sitting.settled.world.keeps();
     'takes: loop {
-        match draw_once(alloc, sitting, draws)? {
+        match draw_once(sitting, draws)? {
             Draw::Drawn => {}
             Draw::Nothing => return Ok(()),
             Draw::VersionEnd(_) => unreachable!(),
@@ -174,39 +139,60 @@ fn come_to_rest(alloc: Global, sitting: &mut Sitting, draws: &mut Draws) -> Resu
 }
 
 // Draws once, where anything is listed, and makes the turn that is drawn.
-fn draw_once(alloc: Global, sitting: &mut Sitting, draws: &mut Draws) -> Result<Draw, AllocError>
-    requires { AreAllowed sitting.old.settled.world sitting.old.left.items }
-    ensures { IfOk result (DrewOnce (sight_of sitting.old draws.old.state) (sight_of sitting.new draws.new.state)) }
+fn draw_once(sitting: &mut Sitting, draws: &mut Draws) -> Result<Draw, AllocError>
+    requires allowed { AreAllowed sitting.old.settled.world (left_of sitting.old.left) }
+    requires counted { IsInStep sitting.old }
+    ensures drew { IfOk result (DrewOnce (sight_of sitting.old draws.old.state) (sight_of sitting.new draws.new.state)) }
+    ensures counted { OnOk result (IsInStep sitting.new) }
 {
     sitting.settled.world.keeps();
-    let urgent = is_urgent(&sitting.left, sitting.since);
-    let list = all_candidates(alloc, &sitting.settled.world, &sitting.left, urgent)?;
-    if list.is_empty() {
-        return Ok(Draw::Nothing);
+    match pick(sitting, draws) {
+        Some(turn) => try_turn(sitting, turn),
+        None => Ok(Draw::Nothing),
     }
-    let turn = pick(&list, draws);
-    try_turn(sitting, turn)
 }
 
-// The candidate that is drawn.
-fn pick(list: &[Turn], draws: &mut Draws) -> Turn
-    requires { 0 < length list.now }
-    ensures is { slice_get list.now (drawn_place draws.old.state (length list.now)) ≡ Some result }
-    ensures state { draws.new.state ≡ next_state draws.old.state }
+// The candidate that is drawn; none where there is none, and then nothing is drawn.
+fn pick(sitting: &Sitting, draws: &mut Draws) -> Option<Turn>
+    requires { IsInStep sitting.now }
+    ensures { Picks (sight_of sitting.now draws.old.state).standing draws.new.state result }
 {
-    let draw = draws.draw() as usize;
-    list[draw % list.len()]
+    let urgent = is_urgent(&sitting.left, sitting.since);
+    let levels = levels_by(&sitting.counts, urgent);
+    let count = total(levels);
+    if count == 0 {
+        return None;
+    }
+    let k = u64::from(draws.draw()) % count;
+    Some(kth(levels, &sitting.settled.world, &sitting.left, urgent, k))
+}
+
+// Whether commands alone are listed.
+fn is_urgent(left: &Commands, since: u8) -> bool
+    requires { AreKept left.now }
+    ensures { result ≡ is_urgent (left_of left.now) since }
+{
+    left.count != 0 && !(since < 63)
 }
 
 // Makes a turn, unless it ends a version.
 fn try_turn(sitting: &mut Sitting, turn: Turn) -> Result<Draw, AllocError>
-    requires { MayCome sitting.old.settled.world turn }
-    ensures { IfOk result (TriedTurn sitting.old sitting.new turn) }
+    requires comes { MayCome sitting.old.settled.world turn }
+    requires counted { IsInStep sitting.old }
+    ensures tried { IfOk result (TriedTurn (moment_of sitting.old) (moment_of sitting.new) turn) }
+    ensures counted { OnOk result (IsInStep sitting.new) }
 {
+    sitting.settled.world.keeps();
     match sitting.settled.world.step(turn.who, turn.event) {
         Ok(()) => {
             sitting.settled.turns.push(turn)?;
             count(&mut sitting.left, &mut sitting.since, turn);
+            recount(
+                &mut sitting.counts,
+                &sitting.settled.world,
+                &sitting.left,
+                turn.who,
+            );
             Ok(Draw::Drawn)
         }
         Err(StepFault::VersionEnd) => {
@@ -217,63 +203,17 @@ fn try_turn(sitting: &mut Sitting, turn: Turn) -> Result<Draw, AllocError>
     }
 }
 
-// The slot of a Hear.
-fn heard_slot(world: &World, turn: Turn) -> u32
-    requires { IsTrue (ends_version world.now turn) }
-    ensures { heard_slot world.now turn ≡ Some result }
-{
-    world.keeps();
-    let Some(local) = heard_local(turn.event) else {
-        unreachable!()
-    };
-    let Some(slot) = world.number(turn.who, local) else {
-        unreachable!()
-    };
-    slot
-}
-
-// The local slot of a Hear.
-fn heard_local(event: Event) -> Option<u8>
-    ensures { result ≡ heard_local event }
-{
-    match event {
-        Event::Media(MediaChange::Hear(local, _)) => Some(local),
-        _ => None,
-    }
-}
-
 // Counts a turn that was made; a command isn't left any more.
-fn count(left: &mut Vec<Turn>, since: &mut u8, turn: Turn)
-    ensures left { left.new.items ≡ left_by turn left.old.items }
+fn count(left: &mut Commands, since: &mut u8, turn: Turn)
+    requires { AreKept left.old }
+    ensures kept { AreKept left.new }
+    ensures left { left_of left.new ≡ left_by turn (left_of left.old) }
     ensures since { since.new ≡ since_by turn since.old }
 {
     if is_command(turn.event) {
-        drop_next(left, turn.who);
+        drop_command(left, turn.who);
         *since = 0;
     } else if *since < 63 {
         *since += 1;
     }
-}
-
-// Whether an event comes from a command.
-fn is_command(event: Event) -> bool
-    ensures { result ≡ is_command event }
-{
-    matches!(event, Event::Set(_) | Event::Media(_) | Event::Tell(_))
-}
-
-// Takes the next command of a box from those that are left.
-fn drop_next(left: &mut Vec<Turn>, who: u32)
-    ensures { left.new.items ≡ without_next who left.old.items }
-{
-    if let Some(place) = place_of(who, left) {
-        left.remove(place);
-    }
-}
-
-// Where the next command of a box stands.
-fn place_of(who: u32, left: &[Turn]) -> Option<usize>
-    ensures { result ≡ position (λ turn. turn.who == who) left.now }
-{
-    left.iter().position(|turn| turn.who == who)
 }

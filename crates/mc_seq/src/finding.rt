@@ -2,21 +2,24 @@
 
 ghost use Rattle.std.specs.Prelude.{◌≡◌, ◌<◌, ◌≤◌, Some, length, slice_get};
 ghost use Rattle.mc_model.specs.Worlds.{box_at};
+ghost use Rattle.mc_seq.specs.Commands.{AreKept, left_of};
 ghost use Rattle.mc_seq.specs.Schedule.{all_candidates, candidates_of, takes_of, waiting_take};
 ghost use Rattle.mc_seq.specs.Ready.{CountsCandidates};
 ghost use Rattle.mc_seq.specs.Sums.{AreSums, counts_of, levels_of};
 
-use crate::listing::{next_of, take_waits};
+use crate::commands::{Commands, next_command};
+use crate::listing::take_waits;
 use crate::sums::find;
 use mc_box::{Event, Turn};
 use mc_world::World;
 
 /// The k-th candidate, where a tree of sums has how many candidates each box has.
-pub fn kth(levels: &[Vec<u64>], world: &World, left: &[Turn], urgent: bool, k: u64) -> Turn
+pub fn kth(levels: &[Vec<u64>], world: &World, left: &Commands, urgent: bool, k: u64) -> Turn
+    requires kept { AreKept left.now }
     requires sums { AreSums (levels_of levels.now) }
-    requires counts { CountsCandidates world.now left.now urgent (counts_of levels.now) }
-    requires inside { k < length (all_candidates world.now left.now urgent) }
-    ensures { slice_get (all_candidates world.now left.now urgent) k ≡ Some result }
+    requires counts { CountsCandidates world.now (left_of left.now) urgent (counts_of levels.now) }
+    requires inside { k < length (all_candidates world.now (left_of left.now) urgent) }
+    ensures { slice_get (all_candidates world.now (left_of left.now) urgent) k ≡ Some result }
 {
     world.keeps();
     let (who, rest) = find(levels, k);
@@ -24,12 +27,13 @@ pub fn kth(levels: &[Vec<u64>], world: &World, left: &[Turn], urgent: bool, k: u
 }
 
 // The k-th candidate of a box.
-fn kth_of_box(world: &World, left: &[Turn], urgent: bool, who: u32, k: u64) -> Turn
+fn kth_of_box(world: &World, left: &Commands, urgent: bool, who: u32, k: u64) -> Turn
+    requires kept { AreKept left.now }
     requires here { who < length world.now.boxes }
-    requires inside { k < length (candidates_of world.now left.now urgent who) }
-    ensures { slice_get (candidates_of world.now left.now urgent who) k ≡ Some result }
+    requires inside { k < length (candidates_of world.now (left_of left.now) urgent who) }
+    ensures { slice_get (candidates_of world.now (left_of left.now) urgent who) k ≡ Some result }
 {
-    match next_of(who, left) {
+    match next_command(left, who) {
         Some(turn) => {
             if k == 0 {
                 turn
@@ -61,7 +65,7 @@ fn kth_take(world: &World, who: u32, k: u64) -> Turn
 }
 
 // How many slots a box has.
-fn slots_of(world: &World, who: u32) -> usize
+pub fn slots_of(world: &World, who: u32) -> usize
     requires { who < length world.now.boxes }
     ensures slots { result ≡ length (box_at world.now who).slots }
     ensures few { result ≤ 64 }
@@ -70,7 +74,7 @@ fn slots_of(world: &World, who: u32) -> usize
 }
 
 // How many Takes a slot has: one, or none.
-fn takes_at(world: &World, who: u32, local: u8) -> u64
+pub fn takes_at(world: &World, who: u32, local: u8) -> u64
     ensures { result ≡ length (waiting_take world.now who local) }
 {
     if take_waits(world, who, local) { 1 } else { 0 }

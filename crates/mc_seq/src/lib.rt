@@ -1,16 +1,23 @@
 //! Settling on one thread.
 #![tactic(auto)]
 
+mod batches;
+mod commands;
+mod counting;
 mod drawing;
 mod fault;
-pub mod finding;
+mod finding;
 pub mod laws;
 mod listing;
+mod plain;
 mod retrying;
 mod settling;
-pub mod sums;
+mod stopping;
+mod sums;
 mod turns;
 
-pub use drawing::{fits, settle_one};
+pub use batches::fits;
+pub use drawing::settle_one;
 pub use fault::{SettleFault, Stopped};
+pub use plain::settle_plainly;
 pub use settling::{settle_in_order, settle_or_ring};

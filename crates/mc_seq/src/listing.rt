@@ -41,7 +41,7 @@ fn list_takes(world: &World, who: u32, list: &mut Vec<Turn>) -> Result<(), Alloc
 }
 
 // The next command of a box.
-pub fn next_of(who: u32, left: &[Turn]) -> Option<Turn>
+fn next_of(who: u32, left: &[Turn]) -> Option<Turn>
     ensures { result ≡ next_of who left.now }
 {
     left.iter().copied().find(|turn| turn.who == who)

@@ -1,7 +1,47 @@
 // A tree of sums, in which the place of the k-th of all that is counted is found by as many steps as it has levels.
 
-ghost use Rattle.std.specs.Prelude.{◌≡◌, ◌<◌, ◌≤◌, ◌+◌, ◌^◌, length, slice_index_or, slice_set, sum, take};
-ghost use Rattle.mc_seq.specs.Sums.{AreSums, counts_of, level_after, level_at, levels_after, levels_of};
+ghost use Rattle.std.specs.Prelude.{◌≡◌, ◌<◌, ◌≤◌, ◌+◌, ◌^◌, length, slice_index_or, slice_set, sum, take, IfOk};
+ghost use Rattle.mc_seq.specs.Sums.{AreSums, counts_of, level_after, level_at, levels_after, levels_of, pair_sums};
+
+use std::alloc::{AllocError, Global};
+
+/// The tree of the sums of these counts.
+pub fn tree(alloc: Global, counts: Vec<u64>) -> Result<Vec<Vec<u64>>, AllocError>
+    requires few { length counts.items ≤ 2 ^ 32 }
+    requires fits { sum counts.items < 2 ^ 64 }
+    ensures sums { IfOk result (λ levels. AreSums (levels_of levels.items)) }
+    ensures counts { IfOk result (λ levels. counts_of levels.items ≡ counts.items) }
+{
+    let mut levels = Vec::new(alloc);
+    let mut level = counts;
+    'up: while level.len() > 1 {
+        let above = halved(alloc, &level)?;
+        levels.push(level)?;
+        level = above;
+    }
+    levels.push(level)?;
+    Ok(levels)
+}
+
+// The sums of neighbours, two by two.
+fn halved(alloc: Global, level: &[u64]) -> Result<Vec<u64>, AllocError>
+    requires { sum level.now < 2 ^ 64 }
+    ensures { IfOk result (λ above. above.items ≡ pair_sums level.now) }
+{
+    let mut above = Vec::new(alloc);
+    for place in 0..level.len().div_ceil(2) {
+        above.push(number_at(level, 2 * place) + number_at(level, 2 * place + 1))?;
+    }
+    Ok(above)
+}
+
+/// The sum of all counts.
+pub fn total(levels: &[Vec<u64>]) -> u64
+    requires { AreSums (levels_of levels.now) }
+    ensures { result ≡ sum (counts_of levels.now) }
+{
+    at(levels, levels.len() - 1, 0)
+}
 
 /// Where the k-th of all that is counted stands: at which count, and how many of that count come before it.
 pub fn find(levels: &[Vec<u64>], k: u64) -> (usize, u64)
@@ -69,6 +109,12 @@ fn at(levels: &[Vec<u64>], depth: usize, place: usize) -> u64
     requires { depth < length levels.now }
     ensures { result ≡ slice_index_or (level_at (levels_of levels.now) depth) place 0 }
 {
-    let level = &levels[depth];
+    number_at(&levels[depth], place)
+}
+
+// The same of one level.
+fn number_at(level: &[u64], place: usize) -> u64
+    ensures { result ≡ slice_index_or level.now place 0 }
+{
     if place < level.len() { level[place] } else { 0 }
 }

@@ -7,8 +7,8 @@ use mc_signal::{CodecList, Medium};
 use mc_world::World;
 use std::alloc::Global;
 
-// A device that receives and sends the one codec 0.
-fn device() -> BoxPlan {
+/// A device that receives and sends the one codec 0.
+pub fn device() -> BoxPlan {
     let mut codecs = CodecList::none();
     let _ = codecs.add(0);
     BoxPlan {
@@ -19,7 +19,8 @@ fn device() -> BoxPlan {
     }
 }
 
-fn feature() -> BoxPlan {
+/// A feature.
+pub fn feature() -> BoxPlan {
     BoxPlan {
         kind: Kind::Feature,
         codecs: CodecList::none(),

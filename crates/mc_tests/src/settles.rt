@@ -1,12 +1,15 @@
 // Networks settled by draws.
 
 use crate::fault::TestFault;
-use crate::networks::{two_devices, two_features};
-use mc_box::{Change, Event, Turn};
-use mc_seq::{SettleFault, fits, settle_one};
+use crate::networks::{device, feature, two_devices, two_features};
+use mc_box::{Change, Event, MediaChange, Turn};
+use mc_plan::Plan;
+use mc_seq::{SettleFault, fits, settle_one, settle_plainly};
+use mc_signal::Medium;
 use mc_slot::Goal;
 use mc_text::Draws;
-use mc_world::World;
+use mc_world::{Settled, World};
+use std::alloc::{AllocError, Global};
 use std::process::Abort;
 
 const fn turn(who: u32, event: Event) -> Turn {
@@ -91,6 +94,150 @@ fn draws_stop_at_a_ring(rt: HostRuntime) -> Result<(), TestFault> {
             assert_eq!(rt; draws.state, drawn_from(1, 2));
         }
         _ => assert!(rt; false),
+    }
+    Ok(())
+}
+
+// ---- beside the plain settle
+
+// How a settle ended.
+#[derive(Clone, Copy, PartialEq, Eq, Debug)]
+enum Ending {
+    Rest,
+    Ring(u32),
+    VersionEnd(u32),
+    NoMemory,
+    Refused,
+}
+
+// What a settle came to.
+#[derive(Debug, Drop)]
+struct Outcome {
+    ending: Ending,
+    turns: Vec<Turn>,
+    draws: u32,
+}
+
+fn outcome(alloc: Global, settled: Result<Settled, SettleFault>, draws: u32) -> Outcome {
+    match settled {
+        Ok(done) => Outcome {
+            ending: Ending::Rest,
+            turns: done.turns,
+            draws,
+        },
+        Err(SettleFault::Ring(stop)) => Outcome {
+            ending: Ending::Ring(stop.at),
+            turns: stop.turns,
+            draws,
+        },
+        Err(SettleFault::VersionEnd(stop)) => Outcome {
+            ending: Ending::VersionEnd(stop.at),
+            turns: stop.turns,
+            draws,
+        },
+        Err(SettleFault::NoMemory(_)) => ended(alloc, Ending::NoMemory, draws),
+    }
+}
+
+fn ended(alloc: Global, ending: Ending, draws: u32) -> Outcome {
+    Outcome {
+        ending,
+        turns: Vec::new(alloc),
+        draws,
+    }
+}
+
+fn by_counts(alloc: Global, world: World, batch: &[Turn], state: u32) -> Outcome {
+    let mut draws = Draws { state };
+    if !fits(&world, batch) {
+        return ended(alloc, Ending::Refused, state);
+    }
+    let settled = settle_one(alloc, world, batch, &mut draws);
+    outcome(alloc, settled, draws.state)
+}
+
+fn by_lists(alloc: Global, world: World, batch: &[Turn], state: u32) -> Outcome {
+    let mut draws = Draws { state };
+    if !fits(&world, batch) {
+        return ended(alloc, Ending::Refused, state);
+    }
+    let settled = settle_plainly(alloc, world, batch, &mut draws);
+    outcome(alloc, settled, draws.state)
+}
+
+// A draw below a limit; 0 where that is 0.
+fn below(draws: &mut Draws, limit: u32) -> u32 {
+    if limit == 0 { 0 } else { draws.draw() % limit }
+}
+
+// A network of two to five boxes, with up to six channels between them.
+fn drawn_world(alloc: Global, draws: &mut Draws) -> Result<World, TestFault> {
+    let mut plan = Plan::new(alloc);
+    let boxes = [2, 3, 4, 5][below(draws, 4) as usize];
+    for _planned in 0..boxes {
+        let is_device = below(draws, 2) == 0;
+        plan.add(if is_device { device() } else { feature() })?;
+    }
+    for _channel in 0..=below(draws, 5) {
+        let from = below(draws, boxes);
+        let to = below(draws, boxes);
+        let media: &[Medium] = if below(draws, 2) == 0 {
+            &[Medium::Audio]
+        } else {
+            &[Medium::Audio, Medium::Video]
+        };
+        // a channel from a box to itself is refused
+        let _ = plan.join(from, to, media);
+    }
+    Ok(plan.world()?)
+}
+
+// A command, which the world may refuse.
+fn drawn_command(world: &World, draws: &mut Draws) -> Turn {
+    let boxes = world.boxes();
+    let who = below(draws, boxes.len() as u32);
+    let slots = match boxes.get(who as usize) {
+        Some(actor) => actor.slots().len() as u32,
+        None => 0,
+    };
+    let local = below(draws, slots) as u8;
+    let on = below(draws, 2) == 0;
+    let event = match below(draws, 8) {
+        0 | 1 => Event::Set(Change::End(local, Goal::Open)),
+        2 => Event::Set(Change::End(local, Goal::Hold)),
+        3 => Event::Set(Change::End(local, Goal::Close)),
+        4 | 5 => Event::Set(Change::Link(local, below(draws, slots) as u8)),
+        6 => Event::Media(MediaChange::Hear(local, on)),
+        _ => Event::Media(MediaChange::Talk(local, on)),
+    };
+    Turn { who, event }
+}
+
+// Commands that the world allows, at times far more than there are boxes.
+fn drawn_batch(alloc: Global, world: &World, draws: &mut Draws) -> Result<Vec<Turn>, TestFault> {
+    let mut batch = Vec::new(alloc);
+    let most = if below(draws, 8) == 0 { 120 } else { 12 };
+    for _command in 0..below(draws, most) {
+        let drawn = drawn_command(world, draws);
+        if fits(world, &[drawn]) && batch.push(drawn).is_err() {
+            return Err(TestFault::NoMemory(AllocError));
+        }
+    }
+    Ok(batch)
+}
+
+#[test]
+fn settles_are_the_plain_ones(rt: HostRuntime) -> Result<(), TestFault> {
+    for seed in 0..2_000 {
+        let mut draws = Draws { state: seed };
+        let world = drawn_world(rt.alloc(), &mut draws)?;
+        let batch = drawn_batch(rt.alloc(), &world, &mut draws)?;
+        let again = drawn_world(rt.alloc(), &mut Draws { state: seed })?;
+        let fast = by_counts(rt.alloc(), world, &batch, draws.state);
+        let plain = by_lists(rt.alloc(), again, &batch, draws.state);
+        assert_eq!(rt; fast.ending, plain.ending);
+        assert_eq!(rt; fast.turns.as_slice(), plain.turns.as_slice());
+        assert_eq!(rt; fast.draws, plain.draws);
     }
     Ok(())
 }

@@ -7,8 +7,9 @@ pub takes-preserved : goal.takes-preserved
 takes-preserved c =
     let now : Sight = sight_of c.takes.sitting c.takes.draws.state in
     let next : Sight = sight_of c.draw_once.new.sitting c.draw_once.new.draws.state in
-    let made : DrewTurn now next = subst (DrewOnce now next) c.in-Drawn.is c.in_ok-draw_once.ensures in
+    let made : DrewTurn now next = subst (DrewOnce now next) c.in-Drawn.is c.in_ok-draw_once.ensures.drew in
     record {
+      counted = c.in_ok-draw_once.ensures.counted;
       free = take_free now next made c.takes.invariant.left c.takes.invariant.free;
       left = made_none now next made c.takes.invariant.left;
       drew = goes_more (sight_of c.args.sitting.now c.args.draws.now.state) now next (λ none. c.takes.invariant.free.free) made c.takes.invariant.drew;
@@ -18,17 +19,17 @@ pub takes-smaller : goal.takes-smaller
 takes-smaller c =
     let now : Sight = sight_of c.takes.sitting c.takes.draws.state in
     let next : Sight = sight_of c.draw_once.new.sitting c.draw_once.new.draws.state in
-    take_lower now next (subst (DrewOnce now next) c.in-Drawn.is c.in_ok-draw_once.ensures) c.takes.invariant.left c.takes.invariant.free
+    take_lower now next (subst (DrewOnce now next) c.in-Drawn.is c.in_ok-draw_once.ensures.drew) c.takes.invariant.left c.takes.invariant.free
 
 pub unreachable-requires : goal.unreachable-requires
 unreachable-requires c =
     let now : Sight = sight_of c.takes.sitting c.takes.draws.state in
     let next : Sight = sight_of c.draw_once.new.sitting c.draw_once.new.draws.state in
-    never_ends now next c.in-VersionEnd.field-0 c.takes.invariant.left (subst (DrewOnce now next) c.in-VersionEnd.is c.in_ok-draw_once.ensures)
+    never_ends now next c.in-VersionEnd.field-0 c.takes.invariant.left (subst (DrewOnce now next) c.in-VersionEnd.is c.in_ok-draw_once.ensures.drew)
 
-pub returns-in-Nothing : goal.returns-in-Nothing
-returns-in-Nothing c =
+pub returns-in-Nothing-clause-rests : goal.returns-in-Nothing-clause-rests
+returns-in-Nothing-clause-rests c =
     let now : Sight = sight_of c.takes.sitting c.takes.draws.state in
     let next : Sight = sight_of c.draw_once.new.sitting c.draw_once.new.draws.state in
     rested_is (sight_of c.args.sitting.now c.args.draws.now.state) now next c.takes.invariant.drew c.takes.invariant.left c.takes.invariant.free
-    (subst (DrewOnce now next) c.in-Nothing.is c.in_ok-draw_once.ensures)
+    (subst (DrewOnce now next) c.in-Nothing.is c.in_ok-draw_once.ensures.drew)

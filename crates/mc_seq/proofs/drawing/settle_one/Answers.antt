@@ -3,6 +3,7 @@ use Rattle.mc_box.specs.declared.event.Turn.{Turn}
 use Rattle.mc_world.specs.declared.settled.Settled.{Settled}
 use Rattle.mc_model.specs.Rings.{IsFirstOnRing, IsLeastOnRing}
 use Rattle.mc_model.specs.Worlds.{place}
+use Rattle.mc_seq.specs.Commands.{left_of}
 use Rattle.mc_seq.specs.Drawing.{RanOut, Sight, UsedUp, sight_of}
 use Rattle.mc_seq.specs.Draws.{SettlesByDraws, StopsAtRing, StopsAtVersion}
 use Rattle.mc_seq.specs.Schedule.{first_standing}
@@ -12,15 +13,15 @@ use Rattle.mc_seq.proofs.drawing.settle_one.Goals as goal
 pub stopped-requires : goal.stopped-requires
 stopped-requires c =
     let used : Sight = sight_of c.use_up.new.sitting c.use_up.new.draws.state in
-    let start : Sight = record { standing = first_standing c.args.world c.in_ok-left.left.items c.args.draws.now.state; turns = c.new-turns.result.items } in
-    out_inside start used c.in-Some.at (subst (UsedUp start used) c.in-Some.is c.in_ok-at.ensures)
+    let start : Sight = record { standing = first_standing c.args.world (left_of c.in_ok-left.left) c.args.draws.now.state; turns = c.new-turns.result.items } in
+    out_inside start used c.in-Some.at (subst (UsedUp start used) c.in-Some.is c.in_ok-at.ensures.drew)
 
 pub returns-in-Some-clause-stops : goal.returns-in-Some-clause-stops
 returns-in-Some-clause-stops c =
-    let start : Sight = record { standing = first_standing c.args.world c.in_ok-left.left.items c.args.draws.now.state; turns = c.new-turns.result.items } in
-    let begins : start.standing ≡ first_standing c.args.world c.args.batch.now c.args.draws.now.state = ap (λ (l : List Turn). first_standing c.args.world l c.args.draws.now.state) c.in_ok-left.ensures in
+    let start : Sight = record { standing = first_standing c.args.world (left_of c.in_ok-left.left) c.args.draws.now.state; turns = c.new-turns.result.items } in
+    let begins : start.standing ≡ first_standing c.args.world c.args.batch.now c.args.draws.now.state = ap (λ (l : List Turn). first_standing c.args.world l c.args.draws.now.state) c.in_ok-left.ensures.left in
     let used : Sight = sight_of c.use_up.new.sitting c.use_up.new.draws.state in
-    let out : RanOut start used c.in-Some.at = subst (UsedUp start used) c.in-Some.is c.in_ok-at.ensures in
+    let out : RanOut start used c.in-Some.at = subst (UsedUp start used) c.in-Some.is c.in_ok-at.ensures.drew in
     let stops : StopsAtVersion c.args.world c.args.batch.now c.args.draws.now.state used.turns used.standing.draws c.in-Some.at =
     version_is c.args.world c.args.batch.now c.args.draws.now.state c.in-Some.at start used
     begins c.new-turns.ensures.items c.requires.allowed out in (
@@ -33,10 +34,10 @@ returns-in-Some-clause-stops c =
 
 pub returns-in-Some-ring-clause-stops : goal.returns-in-Some-ring-clause-stops
 returns-in-Some-ring-clause-stops c =
-    let start : Sight = record { standing = first_standing c.args.world c.in_ok-left.left.items c.args.draws.now.state; turns = c.new-turns.result.items } in
-    let begins : start.standing ≡ first_standing c.args.world c.args.batch.now c.args.draws.now.state = ap (λ (l : List Turn). first_standing c.args.world l c.args.draws.now.state) c.in_ok-left.ensures in
+    let start : Sight = record { standing = first_standing c.args.world (left_of c.in_ok-left.left) c.args.draws.now.state; turns = c.new-turns.result.items } in
+    let begins : start.standing ≡ first_standing c.args.world c.args.batch.now c.args.draws.now.state = ap (λ (l : List Turn). first_standing c.args.world l c.args.draws.now.state) c.in_ok-left.ensures.left in
     let used : Sight = sight_of c.use_up.new.sitting c.use_up.new.draws.state in
-    let first = subst (UsedUp start used) c.in_default.is c.in_ok-at.ensures in
+    let first = subst (UsedUp start used) c.in_default.is c.in_ok-at.ensures.drew in
     let least : IsFirstOnRing used.standing.world c.in-Some-ring.at = subst (IsLeastOnRing used.standing.world) c.in-Some-ring.is c.ring.ensures.least in
     let stops : StopsAtRing c.args.world c.args.batch.now c.args.draws.now.state used.turns used.standing.draws c.in-Some-ring.at =
     ring_is c.args.world c.args.batch.now c.args.draws.now.state c.in-Some-ring.at start used
@@ -51,16 +52,16 @@ returns-in-Some-ring-clause-stops c =
 -- what was done is by the schedule
 done_is : (c : goal.After-settled_by) → SettlesByDraws c.args.world c.args.batch.now c.args.draws.now.state c.come_to_rest-2.new.draws.state c.settled_by.result
 done_is c =
-    let start : Sight = record { standing = first_standing c.args.world c.in_ok-left.left.items c.args.draws.now.state; turns = c.new-turns.result.items } in
+    let start : Sight = record { standing = first_standing c.args.world (left_of c.in_ok-left.left) c.args.draws.now.state; turns = c.new-turns.result.items } in
     let used : Sight = sight_of c.use_up.new.sitting c.use_up.new.draws.state in
-    let first = subst (UsedUp start used) c.in_default.is c.in_ok-at.ensures in
+    let first = subst (UsedUp start used) c.in_default.is c.in_ok-at.ensures.drew in
     let rested : Sight = sight_of c.come_to_rest.new.sitting c.come_to_rest.new.draws.state in
     let again : Sight = record { standing = record rested.standing { world = c.retry_by_box.new.settled.world }; turns = c.retry_by_box.new.settled.turns.items } in
     let ended : Sight = sight_of c.come_to_rest-2.new.sitting c.come_to_rest-2.new.draws.state in
     let scheduled : SettlesByDraws c.args.world c.args.batch.now c.args.draws.now.state ended.standing.draws c.come_to_rest-2.new.sitting.settled =
     scheduled_is c.args.world c.retry_by_box.new.settled.world c.args.batch.now c.args.draws.now.state start used rested again ended
-    (ap (λ (l : List Turn). first_standing c.args.world l c.args.draws.now.state) c.in_ok-left.ensures) c.new-turns.ensures.items
-    first.0 c.in_ok-come_to_rest.ensures refl c.in_ok-retry_by_box.ensures.made.ran c.in_ok-retry_by_box.ensures.made.logged c.in_ok-come_to_rest-2.ensures in
+    (ap (λ (l : List Turn). first_standing c.args.world l c.args.draws.now.state) c.in_ok-left.ensures.left) c.new-turns.ensures.items
+    first.0 c.in_ok-come_to_rest.ensures.rests refl c.in_ok-retry_by_box.ensures.made.ran c.in_ok-retry_by_box.ensures.made.logged c.in_ok-come_to_rest-2.ensures.rests in
     subst (λ (done : Settled). SettlesByDraws c.args.world c.args.batch.now c.args.draws.now.state ended.standing.draws done) (sym c.settled_by.ensures) scheduled
 
 pub returns-clause-scheduled : goal.returns-clause-scheduled

@@ -1,8 +1,14 @@
-use Rattle.std.proofs.Common.{◌∙◌, ap, Err}
-use Rattle.mc_seq.proofs.Hears.{never_refused}
+use Rattle.std.proofs.Common.{List, subst, sym}
+use Rattle.mc_box.specs.declared.event.Turn.{Turn}
+use Rattle.mc_seq.specs.Commands.{left_of}
+use Rattle.mc_seq.specs.Counts.{IsCountedAside}
+use Rattle.mc_seq.proofs.CountsStay.{aside_counted, still_here}
 use Rattle.mc_seq.proofs.drawing.try_turn.Goals as goal
 
-pub unreachable-requires : goal.unreachable-requires
-unreachable-requires c =
-    let refused = c.step.ensures.not_enabled.0 (c.in-Err-NotEnabled.is ∙ ap Err c.in-Err-NotEnabled.field-0-is) in
-    never_refused c.args.sitting.now.settled.world c.args.turn c.requires refused.0 refused.1
+pub recount-requires-clause-here : goal.recount-requires-clause-here
+recount-requires-clause-here c = still_here c.args.sitting.now.settled.world c.step.new.self c.args.turn c.keeps.ensures.sound c.in-Ok.ensures.ok
+
+pub recount-requires-clause-aside : goal.recount-requires-clause-aside
+recount-requires-clause-aside c =
+    subst (λ (left : List Turn). IsCountedAside c.step.new.self left c.args.turn.who c.args.sitting.now.counts) (sym c.count.ensures.left)
+    (aside_counted c.args.sitting.now.settled.world c.step.new.self c.args.turn (left_of c.args.sitting.now.left) c.args.sitting.now.counts c.keeps.ensures.sound c.in-Ok.ensures.ok c.requires.counted.counted)

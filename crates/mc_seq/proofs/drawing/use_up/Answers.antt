@@ -1,19 +1,29 @@
-use Rattle.std.proofs.Common.{◌==◌, List, length, subst, ap, ◌∙◌}
+use Rattle.std.proofs.Common.{◌≡◌, ◌≢◌, ◌<◌, ◌≤◌, ℕ, List, length, subst, arith}
 use Rattle.mc_box.specs.declared.event.Turn.{Turn}
+use Rattle.mc_seq.specs.Commands.{left_of}
 use Rattle.mc_seq.specs.Drawing.{DrewOnce, DrewTurn, Sight, sight_of}
-use Rattle.mc_seq.proofs.Sittings.{goes_last, goes_more, left_goes, made_allowed, made_lowers, made_sound, none_by, ran_out, some_by, some_listed}
+use Rattle.mc_seq.proofs.Sittings.{empty_is, goes_last, goes_more, left_goes, made_allowed, made_lowers, made_sound, ran_out, some_listed}
 use Rattle.mc_seq.proofs.drawing.use_up.Goals as goal
+
+-- a count that is above 0 counts something
+some_left : (count : ℕ) (left : List Turn) → count ≡ length left → 0 < count → length left ≢ 0
+some_left count left is some none = omega arith
+
+-- and one that isn't counts nothing
+none_left : (count : ℕ) (left : List Turn) → count ≡ length left → count ≤ 0 → length left ≡ 0
+none_left count left is none = omega arith
 
 pub commands-preserved : goal.commands-preserved
 commands-preserved c =
     let now : Sight = sight_of c.commands.sitting c.commands.draws.state in
     let next : Sight = sight_of c.draw_once.new.sitting c.draw_once.new.draws.state in
-    let made : DrewTurn now next = subst (DrewOnce now next) c.in-Drawn.is c.in_ok-draw_once.ensures in
+    let made : DrewTurn now next = subst (DrewOnce now next) c.in-Drawn.is c.in_ok-draw_once.ensures.drew in
     record {
+      counted = c.in_ok-draw_once.ensures.counted;
       sound = made_sound now next made c.commands.invariant.sound;
       allowed = made_allowed now next made c.commands.invariant.sound c.commands.invariant.allowed;
       drew = goes_more (sight_of c.args.sitting.now c.args.draws.now.state) now next
-          (left_goes now.standing (some_by c.is_used_up.result (length c.commands.sitting.left.items) (c.is_used_up.ensures ∙ ap (λ (turns : List Turn). length turns == 0) c.deref.ensures.value) c.commands-test.true))
+          (left_goes now.standing (some_left c.commands.sitting.left.count now.standing.left c.commands.invariant.counted.kept.counted c.commands-test.true))
           made c.commands.invariant.drew;
     }
 
@@ -21,25 +31,25 @@ pub commands-smaller : goal.commands-smaller
 commands-smaller c =
     let now : Sight = sight_of c.commands.sitting c.commands.draws.state in
     let next : Sight = sight_of c.draw_once.new.sitting c.draw_once.new.draws.state in
-    made_lowers now next (subst (DrewOnce now next) c.in-Drawn.is c.in_ok-draw_once.ensures) c.commands.invariant.allowed
-    (some_by c.is_used_up.result (length c.commands.sitting.left.items) (c.is_used_up.ensures ∙ ap (λ (turns : List Turn). length turns == 0) c.deref.ensures.value) c.commands-test.true)
+    made_lowers now next (subst (DrewOnce now next) c.in-Drawn.is c.in_ok-draw_once.ensures.drew) c.commands.invariant.allowed
+    (some_left c.commands.sitting.left.count now.standing.left c.commands.invariant.counted.kept.counted c.commands-test.true)
 
 pub unreachable-requires : goal.unreachable-requires
 unreachable-requires c =
     let now : Sight = sight_of c.commands.sitting c.commands.draws.state in
     let next : Sight = sight_of c.draw_once.new.sitting c.draw_once.new.draws.state in
-    let nothing = subst (DrewOnce now next) c.in-Nothing.is c.in_ok-draw_once.ensures in
-    some_listed now.standing c.commands.invariant.allowed (some_by c.is_used_up.result (length c.commands.sitting.left.items) (c.is_used_up.ensures ∙ ap (λ (turns : List Turn). length turns == 0) c.deref.ensures.value) c.commands-test.true) nothing.0
+    let nothing = subst (DrewOnce now next) c.in-Nothing.is c.in_ok-draw_once.ensures.drew in
+    some_listed now.standing c.commands.invariant.allowed (some_left c.commands.sitting.left.count now.standing.left c.commands.invariant.counted.kept.counted c.commands-test.true) nothing.0
 
-pub returns : goal.returns
-returns c = (
+pub returns-clause-drew : goal.returns-clause-drew
+returns-clause-drew c = (
   goes_last (sight_of c.args.sitting.now c.args.draws.now.state) (sight_of c.commands.sitting c.commands.draws.state) c.commands.invariant.drew,
-  none_by c.is_used_up.result c.commands.sitting.left.items (c.is_used_up.ensures ∙ ap (λ (turns : List Turn). length turns == 0) c.deref.ensures.value) c.commands-test.false,
+  empty_is (left_of c.commands.sitting.left) (none_left c.commands.sitting.left.count (left_of c.commands.sitting.left) c.commands.invariant.counted.kept.counted c.commands-test.false),
 )
 
-pub returns-in-VersionEnd : goal.returns-in-VersionEnd
-returns-in-VersionEnd c =
+pub returns-in-VersionEnd-clause-drew : goal.returns-in-VersionEnd-clause-drew
+returns-in-VersionEnd-clause-drew c =
     let now : Sight = sight_of c.commands.sitting c.commands.draws.state in
     let next : Sight = sight_of c.draw_once.new.sitting c.draw_once.new.draws.state in
     ran_out (sight_of c.args.sitting.now c.args.draws.now.state) now next c.in-VersionEnd.at c.commands.invariant.drew
-    (subst (DrewOnce now next) c.in-VersionEnd.is c.in_ok-draw_once.ensures)
+    (subst (DrewOnce now next) c.in-VersionEnd.is c.in_ok-draw_once.ensures.drew)

@@ -1,6 +1,6 @@
 use Rattle.std.proofs.Common.{sym, ◌∙◌}
 use Rattle.mc_seq.proofs.Hears.{hears_somewhere}
-use Rattle.mc_seq.proofs.drawing.heard_slot.Goals as goal
+use Rattle.mc_seq.proofs.stopping.heard_slot.Goals as goal
 
 pub unreachable-requires-in_default-number : goal.unreachable-requires-in_default-number
 unreachable-requires-in_default-number c =

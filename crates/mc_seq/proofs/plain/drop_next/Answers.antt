@@ -1,7 +1,7 @@
 use Rattle.std.proofs.Common.{◌==◌, position, ap, sym, ◌∙◌}
 use Rattle.mc_box.specs.declared.event.Turn.{Turn}
 use Rattle.mc_seq.proofs.Nexts.{removed_next, without_none}
-use Rattle.mc_seq.proofs.drawing.drop_next.Goals as goal
+use Rattle.mc_seq.proofs.plain.drop_next.Goals as goal
 
 pub returns-in-Some : goal.returns-in-Some
 returns-in-Some c =

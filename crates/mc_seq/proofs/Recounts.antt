@@ -1,0 +1,229 @@
+-- Counts of boxes that are made again, one after another.
+use Rattle.std.proofs.Common.{◌≡◌, ◌≢◌, ◌<◌, ◌≤◌, ◌+◌, ◌*◌, ◌/◌, ◌%◌, ◌^◌, ◌++◌, inl, inr, if◌then◌else◌, ℕ, zero, suc, Bool, true, false, List, [], ◌∷◌, length, slice_get, sum, Vec, Option, Some, None, refl, ap, sym, ◌∙◌, subst, arith}
+use Rattle.std.specs.Option.{option_to_list}
+use Rattle.std.specs.declared.alloc.Global.{Global}
+use Rattle.std.proofs.lemmas.Grind.{common_steps}
+use Rattle.mc_text.specs.Draws.{next_state}
+use Rattle.std.proofs.Math.ListN.{get_or, set, length-set}
+use Rattle.std.proofs.lemmas.Bool.{cases_eq, cases_lt}
+use Rattle.std.proofs.lemmas.List.{get_or_append_left, get_or_push, get_or-set_same, get_or-set_other, length_push}
+use Rattle.mc_box.specs.declared.event.Turn.{Turn}
+use Rattle.mc_model.specs.Sound.{IsNumbered}
+use Rattle.mc_model.specs.Worlds.{WorldState, box_at, number}
+use Rattle.mc_seq.specs.Counts.{AreCounted, CountsWhere, IsApart, IsAside, IsCounted, IsCountedAside, IsRecounted, IsTree, far_box, levels_by}
+use Rattle.mc_seq.specs.Ready.{CountsCandidates}
+use Rattle.mc_seq.specs.Schedule.{Standing, all_candidates, candidates, candidates_of, drawn_turn, is_urgent}
+use Rattle.mc_seq.specs.Sums.{AreSums, counts_of, level_at, levels_of}
+use Rattle.mc_seq.specs.declared.counting.Counts.{Counts}
+use Rattle.mc_seq.proofs.Kth.{count_is}
+use Rattle.mc_seq.proofs.Sittings.{empty_is}
+use Rattle.mc_seq.proofs.TreeSums.{sum_cons}
+
+-- ---- one box
+
+-- a count that is made again is right, and the others are as they were
+right_by : (Before After : ℕ → Type 0) (f : ℕ → List Turn) (old new : List ℕ) (limit who : ℕ) → ((other : ℕ) → After other → other ≢ who → Before other) → length old ≡ limit → who < limit
+    → new ≡ set old who (length (f who)) → CountsWhere Before f old limit → CountsWhere After f new limit
+right_by Before After f old new limit who passes long inside is right other below after = elim (cases_eq other who) [
+  | inl same ↦
+      subst (λ (w : ℕ). get_or new w 0 ≡ length (f w)) (sym same)
+      (ap (λ (l : List ℕ). get_or l who 0) is ∙ get_or-set_same old who (length (f who)) 0 (subst (λ (n : ℕ). who < n) (sym long) inside))
+  | inr apart ↦
+      ap (λ (l : List ℕ). get_or l other 0) is ∙ (get_or-set_other old who other (length (f who)) 0 apart ∙ right other below (passes other after apart))
+]
+
+pub recounted : (Before After : ℕ → Type 0) (world : WorldState) (left : List Turn) (old new : Counts) (who : ℕ) → ((other : ℕ) → After other → other ≢ who → Before other) → who < length world.boxes
+    → AreCounted Before world left old → IsRecounted world left old new who → AreCounted After world left new
+recounted Before After world left old new who passes inside counted again = record {
+  all = again.all;
+  all_long = ap length again.all_is ∙ (length-set (counts_of old.all.items) who (length (candidates_of world left false who)) ∙ counted.all_long);
+  all_right = right_by Before After (candidates_of world left false) (counts_of old.all.items) (counts_of new.all.items) (length world.boxes) who passes counted.all_long inside again.all_is counted.all_right;
+  commands = again.commands;
+  commands_long = ap length again.commands_is ∙ (length-set (counts_of old.commands.items) who (length (candidates_of world left true who)) ∙ counted.commands_long);
+  commands_right = right_by Before After (candidates_of world left true) (counts_of old.commands.items) (counts_of new.commands.items) (length world.boxes) who passes counted.commands_long inside again.commands_is counted.commands_right;
+}
+
+-- ---- the boxes of a turn
+
+-- a box that is the last one that was counted, or to which no slot from a local number on leads
+abbrev pub IsDone : WorldState → (who last local other : ℕ) → Type 0
+IsDone world who last local other = other ≢ last → IsApart world who local other
+
+-- the turn's own box first
+pub own_counted : (world : WorldState) (left : List Turn) (old new : Counts) (who : ℕ) → who < length world.boxes → IsCountedAside world left who old → IsRecounted world left old new who
+    → AreCounted (IsDone world who who 0) world left new
+own_counted world left old new who inside counted again =
+    recounted (IsAside world who) (IsDone world who who 0) world left old new who (λ other done differs. (differs, done differs)) inside counted again
+
+-- then the far box of each slot
+apart_less : (world : WorldState) (who local far other : ℕ) → far_box world who local ≡ Some far → other ≢ far → IsApart world who (local + 1) other → IsApart world who local other
+apart_less world who local far other is differs apart at from below = elim (cases_eq at local) [
+  | inl same ↦ λ leads. differs (let e : Some far ≡ Some other = sym is ∙ (ap (far_box world who) (sym same) ∙ leads) in let n : other ≡ far = cc in n)
+  | inr later ↦ apart at (omega arith) below
+]
+
+pub far_counted : (world : WorldState) (left : List Turn) (old new : Counts) (who last local far : ℕ) → far_box world who local ≡ Some far → far < length world.boxes
+    → AreCounted (IsDone world who last local) world left old → IsRecounted world left old new far → AreCounted (IsDone world who far (local + 1)) world left new
+far_counted world left old new who last local far is inside counted again =
+    recounted (IsDone world who last local) (IsDone world who far (local + 1)) world left old new far
+    (λ other done differs. λ _. apart_less world who local far other is differs (done differs)) inside counted again
+
+-- less need be said
+weaker : (Before After : ℕ → Type 0) (world : WorldState) (left : List Turn) (counts : Counts) → ((other : ℕ) → After other → Before other) → AreCounted Before world left counts → AreCounted After world left counts
+weaker Before After world left counts passes counted = record {
+  all = counted.all;
+  all_long = counted.all_long;
+  all_right = λ who below after. counted.all_right who below (passes who after);
+  commands = counted.commands;
+  commands_long = counted.commands_long;
+  commands_right = λ who below after. counted.commands_right who below (passes who after);
+}
+
+-- which may be the one that was counted last
+pub same_counted : (world : WorldState) (left : List Turn) (counts : Counts) (who last local far : ℕ) → far_box world who local ≡ Some far → far ≡ last
+    → AreCounted (IsDone world who last local) world left counts → AreCounted (IsDone world who last (local + 1)) world left counts
+same_counted world left counts who last local far is same counted =
+    weaker (IsDone world who last local) (IsDone world who last (local + 1)) world left counts
+    (λ other done. λ differs. apart_less world who local far other is (λ e. differs (e ∙ same)) (done differs)) counted
+
+-- at the end all are counted
+pub all_counted : (world : WorldState) (left : List Turn) (counts : Counts) (who last slots : ℕ) → length (box_at world who).slots ≤ slots → AreCounted (IsDone world who last slots) world left counts → IsCounted world left counts
+all_counted world left counts who last slots end counted =
+    weaker (IsDone world who last slots) (λ other. Unit {0}) world left counts (λ other all. λ differs local from below. absurd (omega arith)) counted
+
+-- each slot of a box has its number
+pub has_number : (world : WorldState) (who local : ℕ) → IsNumbered world → who < length world.boxes → local < length (box_at world who).slots → number world who local ≡ None → ⊥
+has_number world who local numbered here inside none =
+    let slot = numbered.all who local here inside in
+    let is : number world who local ≡ Some slot.0 = subst (λ (p : ℕ × ℕ). number world p.0 p.1 ≡ Some slot.0) slot.2 (numbered.once slot.0 slot.1) in
+    cc (is, none)
+
+-- ---- what a draw searches
+
+pub searched : (urgent : Bool) (world : WorldState) (left : List Turn) (counts : Counts) → IsCounted world left counts
+    → AreSums (levels_of (levels_by counts urgent)) × CountsCandidates world left urgent (counts_of (levels_by counts urgent))
+searched true world left counts counted = (counted.commands.sums, record { long = counted.commands_long; counts = λ who below. counted.commands_right who below tt })
+searched false world left counts counted = (counted.all.sums, record { long = counted.all_long; counts = λ who below. counted.all_right who below tt })
+
+-- which counts all that is listed
+pub listed_count : (urgent : Bool) (world : WorldState) (left : List Turn) (counts : Counts) (levels : List (Vec ℕ Global)) (count : ℕ) → IsCounted world left counts → levels ≡ levels_by counts urgent → count ≡ sum (counts_of levels)
+    → count ≡ length (all_candidates world left urgent)
+listed_count urgent world left counts levels count counted is total =
+    total ∙ (ap (λ (l : List (Vec ℕ Global)). sum (counts_of l)) is
+    ∙ count_is (candidates_of world left urgent) (counts_of (levels_by counts urgent)) (length world.boxes) ((searched urgent world left counts counted).1))
+
+-- where that is 0 nothing is listed
+pub none_listed : (now : Standing) (urgent : Bool) (count : ℕ) → urgent ≡ is_urgent now.left now.since → count ≡ length (all_candidates now.world now.left urgent) → count ≡ 0 → candidates now ≡ []
+none_listed now urgent count is total none = ap (all_candidates now.world now.left) (sym is) ∙ empty_is (all_candidates now.world now.left urgent) (sym total ∙ none)
+
+-- a draw modulo the count is below it
+pub place_low : (draw count all : ℕ) → count ≡ all → count ≢ 0 → draw % count < all
+place_low draw count all is some = subst (λ (n : ℕ). draw % count < n) is (grind (arith, common_steps))
+
+-- and there the schedule draws
+pub picked_is : (now : Standing) (urgent : Bool) (draw count next : ℕ) (turn : Turn) → urgent ≡ is_urgent now.left now.since → count ≡ length (all_candidates now.world now.left urgent) → draw ≡ next / 65536 → next ≡ next_state now.draws
+    → slice_get (all_candidates now.world now.left urgent) (draw % count) ≡ Some turn → drawn_turn now ≡ Some turn
+picked_is now urgent draw count next turn is total drawn state got =
+    let place : draw % count ≡ next_state now.draws / 65536 % length (all_candidates now.world now.left urgent) =
+    ap (λ (n : ℕ). n % count) (drawn ∙ ap (λ (s : ℕ). s / 65536) state) ∙ ap (λ (n : ℕ). next_state now.draws / 65536 % n) total in
+    subst (λ (u : Bool). slice_get (all_candidates now.world now.left u) (next_state now.draws / 65536 % length (all_candidates now.world now.left u)) ≡ Some turn) is
+    (ap (slice_get (all_candidates now.world now.left urgent)) (sym place) ∙ got)
+
+-- ---- small counts
+
+-- the sum of small counts
+pub small_sum : (counts : List ℕ) (most : ℕ) → ((who : ℕ) → get_or counts who 0 ≤ most) → sum counts ≤ most * length counts
+small_sum [] most small = omega arith
+small_sum (x ∷ counts) most small =
+    let one : sum (x ∷ counts) ≡ x + sum counts = sum_cons x counts in
+    let first : x ≤ most = small 0 in
+    let rest : sum counts ≤ most * length counts = small_sum counts most (λ who. small (suc who)) in
+    let both : most * suc (length counts) ≡ most + most * length counts = grind arith in
+    omega arith
+
+-- so it fits
+pub small_fits : (counts : List ℕ) → ((who : ℕ) → get_or counts who 0 ≤ 65) → length counts ≤ 2 ^ 32 → sum counts + 65 < 2 ^ 64
+small_fits counts small few = let all : sum counts ≤ 65 * length counts = small_sum counts 65 small in omega arith
+
+-- one small count more, or in another's place
+past_zero : (counts : List ℕ) (who : ℕ) → length counts ≤ who → get_or counts who 0 ≡ 0
+past_zero [] who past = refl
+past_zero (x ∷ counts) zero past = absurd (omega arith)
+past_zero (x ∷ counts) (suc who) past = past_zero counts who (omega arith)
+
+pub small_more : (counts : List ℕ) (count who : ℕ) → ((other : ℕ) → get_or counts other 0 ≤ 65) → count ≤ 65 → get_or (counts ++ count ∷ []) who 0 ≤ 65
+small_more counts count who small low = elim (cases_lt who (length counts)) [
+  | inl below ↦ subst (λ (n : ℕ). n ≤ 65) (sym (get_or_append_left counts (count ∷ []) 0 who below)) (small who)
+  | inr high ↦ elim (cases_eq who (length counts)) [
+    | inl same ↦ subst (λ (n : ℕ). n ≤ 65) (sym (get_or_push counts count 0 who (sym same))) low
+    | inr apart ↦
+        let long : length (counts ++ count ∷ []) ≡ length counts + 1 = length_push counts count in
+        subst (λ (n : ℕ). n ≤ 65) (sym (past_zero (counts ++ count ∷ []) who (omega arith))) (omega arith)
+  ]
+]
+
+pub small_put : (counts : List ℕ) (place count who : ℕ) → place < length counts → ((other : ℕ) → get_or counts other 0 ≤ 65) → count ≤ 65 → get_or (set counts place count) who 0 ≤ 65
+small_put counts place count who inside small low = elim (cases_eq who place) [
+  | inl same ↦ subst (λ (w : ℕ). get_or (set counts place count) w 0 ≤ 65) (sym same) (subst (λ (n : ℕ). n ≤ 65) (sym (get_or-set_same counts place count 0 inside)) low)
+  | inr apart ↦ subst (λ (n : ℕ). n ≤ 65) (sym (get_or-set_other counts place who count 0 apart)) (small who)
+]
+
+-- a tree of small counts has room for one more, and stays one with a small count in another's place
+pub tree_fits : (levels : List (List ℕ)) (count : ℕ) → IsTree levels → count ≤ 65 → sum (level_at levels 0) + count < 2 ^ 64
+tree_fits levels count tree low = let fits : sum (level_at levels 0) + 65 < 2 ^ 64 = small_fits (level_at levels 0) tree.small (tree.sums.few 0) in omega arith
+
+pub tree_put : (levels new : List (List ℕ)) (place count : ℕ) → IsTree levels → place < length (level_at levels 0) → count ≤ 65 → AreSums new → level_at new 0 ≡ set (level_at levels 0) place count → IsTree new
+tree_put levels new place count tree inside low sums is = record {
+  sums = sums;
+  small = λ who. subst (λ (l : List ℕ). get_or l who 0 ≤ 65) (sym is) (small_put (level_at levels 0) place count who inside tree.small low);
+}
+
+-- a new tree
+tree_new : (levels : List (List ℕ)) (counts : List ℕ) → AreSums levels → level_at levels 0 ≡ counts → ((who : ℕ) → get_or counts who 0 ≤ 65) → IsTree levels
+tree_new levels counts sums is small = record { sums = sums; small = λ who. subst (λ (l : List ℕ). get_or l who 0 ≤ 65) (sym is) (small who) }
+
+-- two of them count all boxes
+pub counted_new : (world : WorldState) (left : List Turn) (counts : Counts) (all commands : List ℕ)
+    → AreSums (levels_of counts.all.items) → counts_of counts.all.items ≡ all → CountsCandidates world left false all → ((who : ℕ) → get_or all who 0 ≤ 65)
+    → AreSums (levels_of counts.commands.items) → counts_of counts.commands.items ≡ commands → CountsCandidates world left true commands → ((who : ℕ) → get_or commands who 0 ≤ 65)
+    → IsCounted world left counts
+counted_new world left counts all commands all_sums all_is all_right all_small sums is right small = record {
+  all = tree_new (levels_of counts.all.items) all all_sums all_is all_small;
+  all_long = ap length all_is ∙ all_right.long;
+  all_right = λ who below _. ap (λ (l : List ℕ). get_or l who 0) all_is ∙ all_right.counts who below;
+  commands = tree_new (levels_of counts.commands.items) commands sums is small;
+  commands_long = ap length is ∙ right.long;
+  commands_right = λ who below _. ap (λ (l : List ℕ). get_or l who 0) is ∙ right.counts who below;
+}
+
+-- the counts of so many boxes
+pub record CountsFirst (f : ℕ → List Turn) (counts : List ℕ) (number : ℕ) : Type 0 where
+  pub long : length counts ≡ number
+  pub right : (who : ℕ) → who < number → get_or counts who 0 ≡ length (f who)
+  pub small : (who : ℕ) → get_or counts who 0 ≤ 65
+
+pub first_none : (f : ℕ → List Turn) → CountsFirst f [] 0
+first_none f = record { long = refl; right = λ who below. absurd (omega arith); small = λ who. omega arith }
+
+pub first_more : (f : ℕ → List Turn) (counts : List ℕ) (number count : ℕ) → CountsFirst f counts number → count ≡ length (f number) → count ≤ 65 → CountsFirst f (counts ++ count ∷ []) (number + 1)
+first_more f counts number count first is low = record {
+  long = length_push counts count ∙ ap (λ (n : ℕ). n + 1) first.long;
+  right = λ who below. elim (cases_eq who number) [
+    | inl same ↦ subst (λ (w : ℕ). get_or (counts ++ count ∷ []) w 0 ≡ length (f w)) (sym same) (get_or_push counts count 0 number first.long ∙ is)
+    | inr apart ↦ get_or_append_left counts (count ∷ []) 0 who (let long = first.long in omega arith) ∙ first.right who (omega arith)
+  ];
+  small = λ who. small_more counts count who first.small low;
+}
+
+-- ---- the candidates of a box
+
+-- its next command, and its Takes where they come
+pub count_some : (o : Option Turn) (urgent : Bool) (takes : List Turn) (turn : Turn) (count : ℕ) → o ≡ Some turn → count ≡ (if urgent then 0 else length takes) → count + 1 ≡ length (option_to_list o ++ (if urgent then [] else takes))
+count_some None urgent takes turn count is counts = absurd (cc)
+count_some (Some x) true takes turn count is counts = let e : count ≡ 0 = counts in omega arith
+count_some (Some x) false takes turn count is counts = let e : count ≡ length takes = counts in omega arith
+
+pub count_none : (o : Option Turn) (urgent : Bool) (takes : List Turn) (count : ℕ) → o ≡ None → count ≡ (if urgent then 0 else length takes) → count ≡ length (option_to_list o ++ (if urgent then [] else takes))
+count_none None true takes count is counts = counts
+count_none None false takes count is counts = counts
+count_none (Some x) urgent takes count is counts = absurd (cc)

@@ -1,0 +1,124 @@
+// The commands of a batch by their boxes, so that the next one of a box is found at once.
+
+ghost use Rattle.std.specs.Prelude.{◌≡◌, ℕ, ◌<◌, ◌++◌, [], ◌∷◌, length, replicate, slice_set, IfOk, OnOk};
+ghost use Rattle.std.specs.List.{slice_get};
+ghost use Rattle.mc_model.specs.Shapes.{AreAllowed};
+ghost use Rattle.mc_seq.specs.Commands.{AreKept, left_of, queue_at, queues_of, turns_of, used_of};
+ghost use Rattle.mc_seq.specs.Schedule.{next_of, without_next};
+
+use mc_box::Turn;
+use mc_world::World;
+use std::alloc::{AllocError, Global};
+
+// A batch, the commands of each box in their order, how many of these have come, and how many are left in all.
+#[derive(Debug, Drop)]
+pub struct Commands {
+    pub batch: Vec<Turn>,
+    pub queues: Vec<Vec<Turn>>,
+    pub used: Vec<usize>,
+    pub count: usize,
+}
+
+// The commands of a batch, of which none has come.
+pub fn all_commands(alloc: Global, world: &World, batch: &[Turn]) -> Result<Commands, AllocError>
+    requires { AreAllowed world.now batch.now }
+    ensures kept { IfOk result AreKept }
+    ensures left { IfOk result (λ commands. left_of commands ≡ batch.now) }
+{
+    let boxes = world.boxes().len();
+    let queues = queues_by_box(alloc, world, batch)?;
+    let used = vec![in alloc; 0; boxes]?;
+    let count = batch.len();
+    let batch = Vec::from_slice(alloc, batch)?;
+    Ok(Commands {
+        batch,
+        queues,
+        used,
+        count,
+    })
+}
+
+// The next command of a box.
+pub fn next_command(commands: &Commands, who: u32) -> Option<Turn>
+    requires { AreKept commands.now }
+    ensures { result ≡ next_of who (left_of commands.now) }
+{
+    command_at(&commands.queues, who, used_at(&commands.used, who))
+}
+
+// Takes the next command of a box from those that are left.
+pub fn drop_command(commands: &mut Commands, who: u32)
+    requires { AreKept commands.old }
+    ensures kept { AreKept commands.new }
+    ensures left { left_of commands.new ≡ without_next who (left_of commands.old) }
+{
+    let used = used_at(&commands.used, who);
+    if used < queue_len(&commands.queues, who) {
+        commands.used[who as usize] = used + 1;
+        commands.count -= 1;
+    }
+}
+
+// How many commands of a box have come; 0 for a box that isn't there.
+fn used_at(used: &[usize], who: u32) -> usize
+    ensures { result ≡ used_of used.now who }
+{
+    if (who as usize) < used.len() {
+        used[who as usize]
+    } else {
+        0
+    }
+}
+
+// How many commands a box has in all.
+fn queue_len(queues: &[Vec<Turn>], who: u32) -> usize
+    ensures { result ≡ length (queue_at (queues_of queues.now) who) }
+{
+    match queues.get(who as usize) {
+        Some(queue) => queue.len(),
+        None => 0,
+    }
+}
+
+// A command of a box, by its place among these.
+fn command_at(queues: &[Vec<Turn>], who: u32, place: usize) -> Option<Turn>
+    ensures { result ≡ slice_get (queue_at (queues_of queues.now) who) place }
+{
+    let queue = queues.get(who as usize)?;
+    queue.get(place).copied()
+}
+
+// The commands of each box.
+fn queues_by_box(alloc: Global, world: &World, batch: &[Turn]) -> Result<Vec<Vec<Turn>>, AllocError>
+    requires { AreAllowed world.now batch.now }
+    ensures long { IfOk result (λ queues. length queues.items ≡ length world.now.boxes) }
+    ensures each { IfOk result (λ queues. (who : ℕ) → queue_at (queues_of queues.items) who ≡ turns_of who batch.now) }
+{
+    let mut queues = empty_queues(alloc, world.boxes().len())?;
+    for turn in batch {
+        put_last(&mut queues, *turn)?;
+    }
+    Ok(queues)
+}
+
+// As many empty lists.
+fn empty_queues(alloc: Global, boxes: usize) -> Result<Vec<Vec<Turn>>, AllocError>
+    ensures { IfOk result (λ queues. queues_of queues.items ≡ replicate boxes []) }
+{
+    let mut queues = Vec::new(alloc);
+    for _done in 0..boxes {
+        queues.push(Vec::new(alloc))?;
+    }
+    Ok(queues)
+}
+
+// Puts a command last in the list of its box.
+fn put_last(queues: &mut Vec<Vec<Turn>>, turn: Turn) -> Result<(), AllocError>
+    requires { turn.who < length queues.old.items }
+    ensures { OnOk result (queues_of queues.new.items
+        ≡ slice_set (queues_of queues.old.items) turn.who (queue_at (queues_of queues.old.items) turn.who ++ turn ∷ [])) }
+{
+    let queue = &mut queues[turn.who as usize];
+    queue.push(turn)?;
+    Ok(())
+}
