@@ -1,8 +1,7 @@
 -- The commands that are left of a batch, when so many of each box have come.
 use Rattle.std.proofs.Common.{◌≡◌, ◌≢◌, ◌<◌, ◌≤◌, ◌+◌, ◌-◌, ◌++◌, ◌==◌, inl, inr, cond, if◌then◌else◌, ℕ, zero, suc, Bool, true, false, List, [], ◌∷◌, length, map, replicate, take, slice_get, Option, Some, None, refl, ap, sym, ◌∙◌, subst, arith}
-use Rattle.std.specs.List.{list_all}
 use Rattle.std.proofs.Math.ListN.{get_or, set}
-use Rattle.std.proofs.lemmas.Bool.{and_parts, cases_eq}
+use Rattle.std.proofs.lemmas.Bool.{cases_eq}
 use Rattle.std.proofs.lemmas.Grind.{common_steps}
 use Rattle.std.proofs.lemmas.List.{append-nil, get_or-set_same, get_or-set_other}
 use Rattle.std.proofs.lemmas.List.Elements.{filter_more}
@@ -176,12 +175,6 @@ zeros zero who = refl
 zeros (suc n) zero = refl
 zeros (suc n) (suc who) = zeros n who
 
--- in empty lists each is empty
-pub empties : (n who : ℕ) → queue_at (replicate n []) who ≡ []
-empties zero who = refl
-empties (suc n) zero = refl
-empties (suc n) (suc who) = empties n who
-
 -- ---- the lists by box
 
 -- one more turn is put last in its list
@@ -278,9 +271,3 @@ dropped_is used batch who have inside is =
 -- one is fewer, as code counts
 pub count_less : (count less all : ℕ) → count ≡ all → less + 1 ≡ all → count - 1 ≡ less
 count_less count less all is one = omega arith
-
--- what all pass each passes
-pub each_passes : (p : Turn → Bool) (xs : List Turn) (i : ℕ) (d : Turn) → list_all p xs ≡ true → i < length xs → p (get_or xs i d) ≡ true
-each_passes p [] i d all inside = absurd (omega arith)
-each_passes p (x ∷ xs) zero d all inside = (and_parts (p x) (list_all p xs) all).0
-each_passes p (x ∷ xs) (suc i) d all inside = each_passes p xs i d (and_parts (p x) (list_all p xs) all).1 (omega arith)

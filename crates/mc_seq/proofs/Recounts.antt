@@ -1,16 +1,15 @@
 -- Counts of boxes that are made again, one after another.
-use Rattle.std.proofs.Common.{◌≡◌, ◌≢◌, ◌<◌, ◌≤◌, ◌+◌, ◌*◌, ◌/◌, ◌%◌, ◌^◌, ◌++◌, inl, inr, if◌then◌else◌, ℕ, zero, suc, Bool, true, false, List, [], ◌∷◌, length, slice_get, sum, Vec, Option, Some, None, refl, ap, sym, ◌∙◌, subst, arith}
-use Rattle.std.specs.Option.{option_to_list}
+use Rattle.std.proofs.Common.{◌≡◌, ◌≢◌, ◌<◌, ◌≤◌, ◌+◌, ◌*◌, ◌/◌, ◌%◌, ◌^◌, inl, inr, ℕ, suc, Bool, true, false, List, [], ◌∷◌, length, slice_get, sum, Vec, Some, None, ap, sym, ◌∙◌, subst, arith}
 use Rattle.std.specs.declared.alloc.Global.{Global}
 use Rattle.std.proofs.lemmas.Grind.{common_steps}
 use Rattle.mc_text.specs.Draws.{next_state}
 use Rattle.std.proofs.Math.ListN.{get_or, set, length-set}
-use Rattle.std.proofs.lemmas.Bool.{cases_eq, cases_lt}
-use Rattle.std.proofs.lemmas.List.{get_or_append_left, get_or_push, get_or-set_same, get_or-set_other, length_push}
+use Rattle.std.proofs.lemmas.Bool.{cases_eq}
+use Rattle.std.proofs.lemmas.List.{get_or-set_same, get_or-set_other}
 use Rattle.mc_box.specs.declared.event.Turn.{Turn}
 use Rattle.mc_model.specs.Sound.{IsNumbered}
 use Rattle.mc_model.specs.Worlds.{WorldState, box_at, number}
-use Rattle.mc_seq.specs.Counts.{AreCounted, CountsWhere, IsApart, IsAside, IsCounted, IsCountedAside, IsRecounted, IsTree, far_box, levels_by}
+use Rattle.mc_seq.specs.Counts.{AreCounted, CountsWhere, IsApart, IsCounted, IsRecounted, IsTree, far_box, levels_by}
 use Rattle.mc_seq.specs.Ready.{CountsCandidates}
 use Rattle.mc_seq.specs.Schedule.{Standing, all_candidates, candidates, candidates_of, drawn_turn, is_urgent}
 use Rattle.mc_seq.specs.Sums.{AreSums, counts_of, level_at, levels_of}
@@ -49,12 +48,6 @@ recounted Before After world left old new who passes inside counted again = reco
 abbrev pub IsDone : WorldState → (who last local other : ℕ) → Type 0
 IsDone world who last local other = other ≢ last → IsApart world who local other
 
--- the turn's own box first
-pub own_counted : (world : WorldState) (left : List Turn) (old new : Counts) (who : ℕ) → who < length world.boxes → IsCountedAside world left who old → IsRecounted world left old new who
-    → AreCounted (IsDone world who who 0) world left new
-own_counted world left old new who inside counted again =
-    recounted (IsAside world who) (IsDone world who who 0) world left old new who (λ other done differs. (differs, done differs)) inside counted again
-
 -- then the far box of each slot
 apart_less : (world : WorldState) (who local far other : ℕ) → far_box world who local ≡ Some far → other ≢ far → IsApart world who (local + 1) other → IsApart world who local other
 apart_less world who local far other is differs apart at from below = elim (cases_eq at local) [
@@ -85,11 +78,6 @@ pub same_counted : (world : WorldState) (left : List Turn) (counts : Counts) (wh
 same_counted world left counts who last local far is same counted =
     weaker (IsDone world who last local) (IsDone world who last (local + 1)) world left counts
     (λ other done. λ differs. apart_less world who local far other is (λ e. differs (e ∙ same)) (done differs)) counted
-
--- at the end all are counted
-pub all_counted : (world : WorldState) (left : List Turn) (counts : Counts) (who last slots : ℕ) → length (box_at world who).slots ≤ slots → AreCounted (IsDone world who last slots) world left counts → IsCounted world left counts
-all_counted world left counts who last slots end counted =
-    weaker (IsDone world who last slots) (λ other. Unit {0}) world left counts (λ other all. λ differs local from below. absurd (omega arith)) counted
 
 -- each slot of a box has its number
 pub has_number : (world : WorldState) (who local : ℕ) → IsNumbered world → who < length world.boxes → local < length (box_at world who).slots → number world who local ≡ None → ⊥
@@ -145,23 +133,6 @@ small_sum (x ∷ counts) most small =
 pub small_fits : (counts : List ℕ) → ((who : ℕ) → get_or counts who 0 ≤ 65) → length counts ≤ 2 ^ 32 → sum counts + 65 < 2 ^ 64
 small_fits counts small few = let all : sum counts ≤ 65 * length counts = small_sum counts 65 small in omega arith
 
--- one small count more, or in another's place
-past_zero : (counts : List ℕ) (who : ℕ) → length counts ≤ who → get_or counts who 0 ≡ 0
-past_zero [] who past = refl
-past_zero (x ∷ counts) zero past = absurd (omega arith)
-past_zero (x ∷ counts) (suc who) past = past_zero counts who (omega arith)
-
-pub small_more : (counts : List ℕ) (count who : ℕ) → ((other : ℕ) → get_or counts other 0 ≤ 65) → count ≤ 65 → get_or (counts ++ count ∷ []) who 0 ≤ 65
-small_more counts count who small low = elim (cases_lt who (length counts)) [
-  | inl below ↦ subst (λ (n : ℕ). n ≤ 65) (sym (get_or_append_left counts (count ∷ []) 0 who below)) (small who)
-  | inr high ↦ elim (cases_eq who (length counts)) [
-    | inl same ↦ subst (λ (n : ℕ). n ≤ 65) (sym (get_or_push counts count 0 who (sym same))) low
-    | inr apart ↦
-        let long : length (counts ++ count ∷ []) ≡ length counts + 1 = length_push counts count in
-        subst (λ (n : ℕ). n ≤ 65) (sym (past_zero (counts ++ count ∷ []) who (omega arith))) (omega arith)
-  ]
-]
-
 pub small_put : (counts : List ℕ) (place count who : ℕ) → place < length counts → ((other : ℕ) → get_or counts other 0 ≤ 65) → count ≤ 65 → get_or (set counts place count) who 0 ≤ 65
 small_put counts place count who inside small low = elim (cases_eq who place) [
   | inl same ↦ subst (λ (w : ℕ). get_or (set counts place count) w 0 ≤ 65) (sym same) (subst (λ (n : ℕ). n ≤ 65) (sym (get_or-set_same counts place count 0 inside)) low)
@@ -178,52 +149,10 @@ tree_put levels new place count tree inside low sums is = record {
   small = λ who. subst (λ (l : List ℕ). get_or l who 0 ≤ 65) (sym is) (small_put (level_at levels 0) place count who inside tree.small low);
 }
 
--- a new tree
-tree_new : (levels : List (List ℕ)) (counts : List ℕ) → AreSums levels → level_at levels 0 ≡ counts → ((who : ℕ) → get_or counts who 0 ≤ 65) → IsTree levels
-tree_new levels counts sums is small = record { sums = sums; small = λ who. subst (λ (l : List ℕ). get_or l who 0 ≤ 65) (sym is) (small who) }
-
--- two of them count all boxes
-pub counted_new : (world : WorldState) (left : List Turn) (counts : Counts) (all commands : List ℕ)
-    → AreSums (levels_of counts.all.items) → counts_of counts.all.items ≡ all → CountsCandidates world left false all → ((who : ℕ) → get_or all who 0 ≤ 65)
-    → AreSums (levels_of counts.commands.items) → counts_of counts.commands.items ≡ commands → CountsCandidates world left true commands → ((who : ℕ) → get_or commands who 0 ≤ 65)
-    → IsCounted world left counts
-counted_new world left counts all commands all_sums all_is all_right all_small sums is right small = record {
-  all = tree_new (levels_of counts.all.items) all all_sums all_is all_small;
-  all_long = ap length all_is ∙ all_right.long;
-  all_right = λ who below _. ap (λ (l : List ℕ). get_or l who 0) all_is ∙ all_right.counts who below;
-  commands = tree_new (levels_of counts.commands.items) commands sums is small;
-  commands_long = ap length is ∙ right.long;
-  commands_right = λ who below _. ap (λ (l : List ℕ). get_or l who 0) is ∙ right.counts who below;
-}
-
 -- the counts of so many boxes
 pub record CountsFirst (f : ℕ → List Turn) (counts : List ℕ) (number : ℕ) : Type 0 where
   pub long : length counts ≡ number
   pub right : (who : ℕ) → who < number → get_or counts who 0 ≡ length (f who)
   pub small : (who : ℕ) → get_or counts who 0 ≤ 65
 
-pub first_none : (f : ℕ → List Turn) → CountsFirst f [] 0
-first_none f = record { long = refl; right = λ who below. absurd (omega arith); small = λ who. omega arith }
-
-pub first_more : (f : ℕ → List Turn) (counts : List ℕ) (number count : ℕ) → CountsFirst f counts number → count ≡ length (f number) → count ≤ 65 → CountsFirst f (counts ++ count ∷ []) (number + 1)
-first_more f counts number count first is low = record {
-  long = length_push counts count ∙ ap (λ (n : ℕ). n + 1) first.long;
-  right = λ who below. elim (cases_eq who number) [
-    | inl same ↦ subst (λ (w : ℕ). get_or (counts ++ count ∷ []) w 0 ≡ length (f w)) (sym same) (get_or_push counts count 0 number first.long ∙ is)
-    | inr apart ↦ get_or_append_left counts (count ∷ []) 0 who (let long = first.long in omega arith) ∙ first.right who (omega arith)
-  ];
-  small = λ who. small_more counts count who first.small low;
-}
-
 -- ---- the candidates of a box
-
--- its next command, and its Takes where they come
-pub count_some : (o : Option Turn) (urgent : Bool) (takes : List Turn) (turn : Turn) (count : ℕ) → o ≡ Some turn → count ≡ (if urgent then 0 else length takes) → count + 1 ≡ length (option_to_list o ++ (if urgent then [] else takes))
-count_some None urgent takes turn count is counts = absurd (cc)
-count_some (Some x) true takes turn count is counts = let e : count ≡ 0 = counts in omega arith
-count_some (Some x) false takes turn count is counts = let e : count ≡ length takes = counts in omega arith
-
-pub count_none : (o : Option Turn) (urgent : Bool) (takes : List Turn) (count : ℕ) → o ≡ None → count ≡ (if urgent then 0 else length takes) → count ≡ length (option_to_list o ++ (if urgent then [] else takes))
-count_none None true takes count is counts = counts
-count_none None false takes count is counts = counts
-count_none (Some x) urgent takes count is counts = absurd (cc)

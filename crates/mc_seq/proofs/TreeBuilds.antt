@@ -3,7 +3,7 @@ use Rattle.std.proofs.Common.{◌≡◌, ◌<◌, ◌≤◌, ◌+◌, ◌-◌, �
 use Rattle.std.proofs.Math.ListN.{get_or}
 use Rattle.std.proofs.lemmas.Bool.{cases_lt, cases_eq}
 use Rattle.std.proofs.lemmas.List.{get_or_append_left, get_or_push, length_push, take_all, take_more}
-use Rattle.mc_seq.specs.Sums.{AreSums, level_at, pair_sums}
+use Rattle.mc_seq.specs.Sums.{level_at, pair_sums}
 use Rattle.mc_seq.proofs.TreePuts.{in_sum}
 use Rattle.mc_seq.proofs.TreeSums.{halved_at, sum_halved}
 
@@ -65,26 +65,6 @@ past_none [] depth past = refl
 past_none (level ∷ all) zero past = absurd (omega arith)
 past_none (level ∷ all) (suc depth) past = past_none all depth (omega arith)
 
--- a list of one level
-first_few : (counts : List ℕ) (depth : ℕ) → length counts ≤ 2 ^ 32 → length (level_at (counts ∷ []) depth) ≤ 2 ^ 32
-first_few counts zero few = few
-first_few counts (suc depth) few = omega arith
-
-first_last : (counts : List ℕ) (depth : ℕ) → depth + 1 ≡ 1 → level_at (counts ∷ []) depth ≡ counts
-first_last counts zero is = refl
-first_last counts (suc depth) is = absurd (omega arith)
-
--- at the beginning the counts are the only level
-pub build_first : (counts : List ℕ) → length counts ≤ 2 ^ 32 → IsBuilt counts (counts ∷ []) counts
-build_first counts few = record {
-  some = omega arith;
-  halves = λ depth low. absurd (omega arith);
-  few = λ depth. first_few counts depth few;
-  last = λ depth is. first_last counts depth is;
-  bottom = refl;
-  same = refl;
-}
-
 -- one level more
 more_few : (counts : List ℕ) (all : List (List ℕ)) (level : List ℕ) (depth : ℕ) → IsBuilt counts all level → length (level_at (all ++ pair_sums level ∷ []) depth) ≤ 2 ^ 32
 more_few counts all level depth built = elim (cases_lt depth (length all)) [
@@ -127,12 +107,3 @@ pub build_pushed : (counts : List ℕ) (all levels : List (List ℕ)) (level abo
 build_pushed counts all levels level above built pushed is =
     subst (λ (l : List ℕ). IsBuilt counts (levels ++ l ∷ []) l) (sym is)
     (subst (λ (l : List (List ℕ)). IsBuilt counts (l ++ pair_sums level ∷ []) (pair_sums level)) (sym pushed) (build_more counts (all ++ level ∷ []) level built))
-
--- with one number at most at the top they are a tree
-pub build_ends : (counts : List ℕ) (all : List (List ℕ)) (level : List ℕ) → IsBuilt counts all level → length level ≤ 1 → AreSums all
-build_ends counts all level built top = record {
-  some = built.some;
-  halves = built.halves;
-  few = built.few;
-  top = subst (λ (l : List ℕ). length l ≤ 1) (sym (built.last (length all - 1) (let some = built.some in omega arith))) top;
-}

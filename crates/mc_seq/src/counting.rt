@@ -10,7 +10,7 @@ ghost use Rattle.mc_seq.specs.Sums.{counts_of, levels_of};
 
 use crate::commands::{Commands, next_command};
 use crate::finding::{slots_of, takes_at};
-use crate::sums::{put, tree};
+use crate::sums::{count_at, put, tree};
 use mc_world::World;
 use std::alloc::{AllocError, Global};
 
@@ -81,7 +81,7 @@ fn recount_box(counts: &mut Counts, world: &World, left: &Commands, who: u32)
     put_small(&mut counts.commands, who, commands);
 }
 
-// Changes a small count of a tree.
+// Changes a small count of a tree, if it isn't that already.
 fn put_small(levels: &mut Vec<Vec<u64>>, who: u32, count: u64)
     requires tree { IsTree (levels_of levels.old.items) }
     requires inside { who < length (counts_of levels.old.items) }
@@ -89,6 +89,9 @@ fn put_small(levels: &mut Vec<Vec<u64>>, who: u32, count: u64)
     ensures tree { IsTree (levels_of levels.new.items) }
     ensures counts { counts_of levels.new.items ≡ slice_set (counts_of levels.old.items) who count }
 {
+    if count_at(levels, who as usize) == count {
+        return;
+    }
     put(levels, who as usize, count);
 }
 

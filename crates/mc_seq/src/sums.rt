@@ -43,6 +43,14 @@ pub fn total(levels: &[Vec<u64>]) -> u64
     at(levels, levels.len() - 1, 0)
 }
 
+/// A count; 0 past the last.
+pub fn count_at(levels: &[Vec<u64>], place: usize) -> u64
+    requires { AreSums (levels_of levels.now) }
+    ensures { result ≡ slice_index_or (counts_of levels.now) place 0 }
+{
+    at(levels, 0, place)
+}
+
 /// Where the k-th of all that is counted stands: at which count, and how many of that count come before it.
 pub fn find(levels: &[Vec<u64>], k: u64) -> (usize, u64)
     requires sums { AreSums (levels_of levels.now) }

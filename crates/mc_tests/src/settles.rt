@@ -2,8 +2,9 @@
 
 use crate::fault::TestFault;
 use crate::networks::{device, feature, two_devices, two_features};
+use mc_box::limit::LAST_VERSION;
 use mc_box::{Change, Event, MediaChange, Turn};
-use mc_plan::Plan;
+use mc_plan::{BoxPlan, Plan};
 use mc_seq::{SettleFault, fits, settle_one, settle_plainly};
 use mc_signal::Medium;
 use mc_slot::Goal;
@@ -118,7 +119,7 @@ struct Outcome {
     draws: u32,
 }
 
-fn outcome(alloc: Global, settled: Result<Settled, SettleFault>, draws: u32) -> Outcome {
+fn outcome_of(alloc: Global, settled: Result<Settled, SettleFault>, draws: u32) -> Outcome {
     match settled {
         Ok(done) => Outcome {
             ending: Ending::Rest,
@@ -153,7 +154,7 @@ fn by_counts(alloc: Global, world: World, batch: &[Turn], state: u32) -> Outcome
         return ended(alloc, Ending::Refused, state);
     }
     let settled = settle_one(alloc, world, batch, &mut draws);
-    outcome(alloc, settled, draws.state)
+    outcome_of(alloc, settled, draws.state)
 }
 
 fn by_lists(alloc: Global, world: World, batch: &[Turn], state: u32) -> Outcome {
@@ -162,7 +163,7 @@ fn by_lists(alloc: Global, world: World, batch: &[Turn], state: u32) -> Outcome 
         return ended(alloc, Ending::Refused, state);
     }
     let settled = settle_plainly(alloc, world, batch, &mut draws);
-    outcome(alloc, settled, draws.state)
+    outcome_of(alloc, settled, draws.state)
 }
 
 // A draw below a limit; 0 where that is 0.
@@ -170,13 +171,25 @@ fn below(draws: &mut Draws, limit: u32) -> u32 {
     if limit == 0 { 0 } else { draws.draw() % limit }
 }
 
+// A device or a feature; some devices have the last version.
+fn drawn_box(draws: &mut Draws) -> BoxPlan {
+    match below(draws, 6) {
+        0 | 1 | 2 => feature(),
+        3 | 4 => device(),
+        _ => {
+            let mut last = device();
+            last.first_version = LAST_VERSION;
+            last
+        }
+    }
+}
+
 // A network of two to five boxes, with up to six channels between them.
 fn drawn_world(alloc: Global, draws: &mut Draws) -> Result<World, TestFault> {
     let mut plan = Plan::new(alloc);
     let boxes = [2, 3, 4, 5][below(draws, 4) as usize];
     for _planned in 0..boxes {
-        let is_device = below(draws, 2) == 0;
-        plan.add(if is_device { device() } else { feature() })?;
+        plan.add(drawn_box(draws))?;
     }
     for _channel in 0..=below(draws, 5) {
         let from = below(draws, boxes);
