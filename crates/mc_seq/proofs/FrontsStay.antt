@@ -14,12 +14,12 @@ use Rattle.mc_box.proofs.Options.{if_some, map_some, then_some}
 use Rattle.mc_seq.specs.Ready.{FrontsStay, IsAway}
 
 -- the same channels, and the same on one lane
-record SameLane (old new : WorldState) (lane : ℕ) : Type 0 where
+pub record SameLane (old new : WorldState) (lane : ℕ) : Type 0 where
   pub channels : new.channels ≡ old.channels
   pub signals : get_or new.lanes lane [] ≡ get_or old.lanes lane []
 
 -- a lane that stays twice stays
-both_same : (old mid new : WorldState) (lane : ℕ) → SameLane old mid lane → SameLane mid new lane → SameLane old new lane
+pub both_same : (old mid new : WorldState) (lane : ℕ) → SameLane old mid lane → SameLane mid new lane → SameLane old new lane
 both_same old mid new lane one two = record { channels = two.channels ∙ one.channels; signals = two.signals ∙ one.signals }
 
 -- no sending of the box comes to this lane
@@ -27,7 +27,7 @@ abbrev NoneTo : WorldState → ℕ → ℕ → Type 0
 NoneTo world who lane = (local s : ℕ) → number world who local ≡ Some s → lane ≢ lane_of world (far s)
 
 -- the world with one signal more
-abbrev sent_one : WorldState → Signal → Option ℕ → WorldState
+abbrev pub sent_one : WorldState → Signal → Option ℕ → WorldState
 sent_one world signal found = unwrap_or (option_map (λ s. after_push world signal (far s)) found) world
 
 -- a signal that goes to another lane leaves this one
@@ -89,10 +89,14 @@ event_same (Tell word) world next who lane goes away = act_same world next who l
 event_same (Retry local) world next who lane goes away = act_same world next who lane (box_event (box_at world who) (Retry local) None) goes away
 event_same Shift world next who lane goes away = act_same world next who lane (box_event (box_at world who) Shift None) goes away
 
+-- then the front of the lane is the same
+pub same_front : (world next : WorldState) (t : ℕ) → SameLane world next (lane_of world t) → front next t ≡ front world t
+same_front world next t same =
+    ap (λ (channels : List ChannelState). front_for (tunnel_of (record next { channels = channels }) t).within (get_or next.lanes (lane_of (record next { channels = channels }) t) [])) same.channels
+    ∙ ap (front_for (tunnel_of world t).within) same.signals
+
 -- so a step changes no front of such a lane
 pub fronts_stay : FrontsStay
 fronts_stay world next turn t goes away =
     let after_making = if_some (nat_lt turn.who (length world.boxes)) (step_by world turn.who turn.event) next goes in
-    let same = event_same turn.event world next turn.who (lane_of world t) after_making.1 away in
-    ap (λ (channels : List ChannelState). front_for (tunnel_of (record next { channels = channels }) t).within (get_or next.lanes (lane_of (record next { channels = channels }) t) [])) same.channels
-    ∙ ap (front_for (tunnel_of world t).within) same.signals
+    same_front world next t (event_same turn.event world next turn.who (lane_of world t) after_making.1 away)

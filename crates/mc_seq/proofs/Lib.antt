@@ -22,6 +22,7 @@ mod Runs
 mod Scheduled
 mod Segments
 mod Sittings
+mod TakeFronts
 mod Taking
 mod TreeBuilds
 mod TreePuts

@@ -6,10 +6,13 @@ use Rattle.mc_text.specs.Draws.{next_state}
 use Rattle.std.proofs.Math.ListN.{get_or, set, length-set}
 use Rattle.std.proofs.lemmas.Bool.{cases_eq}
 use Rattle.std.proofs.lemmas.List.{get_or-set_same, get_or-set_other}
+use Rattle.mc_slot.specs.declared.Goal.{Goal}
+use Rattle.mc_slot.specs.declared.SlotGoal.TheVariants.{End, Link}
+use Rattle.mc_box.specs.Boxes.{goal_at}
 use Rattle.mc_box.specs.declared.event.Turn.{Turn}
 use Rattle.mc_model.specs.Sound.{IsNumbered}
 use Rattle.mc_model.specs.Worlds.{WorldState, box_at, number}
-use Rattle.mc_seq.specs.Counts.{AreCounted, CountsWhere, IsApart, IsCounted, IsRecounted, IsTree, far_box, levels_by}
+use Rattle.mc_seq.specs.Counts.{AreCounted, CountsWhere, IsApart, IsBeside, IsCounted, IsRecounted, IsTree, far_box, levels_by}
 use Rattle.mc_seq.specs.Ready.{CountsCandidates}
 use Rattle.mc_seq.specs.Schedule.{Standing, all_candidates, candidates, candidates_of, drawn_turn, is_urgent}
 use Rattle.mc_seq.specs.Sums.{AreSums, counts_of, level_at, levels_of}
@@ -62,7 +65,7 @@ far_counted world left old new who last local far is inside counted again =
     (λ other done differs. λ _. apart_less world who local far other is differs (done differs)) inside counted again
 
 -- less need be said
-weaker : (Before After : ℕ → Type 0) (world : WorldState) (left : List Turn) (counts : Counts) → ((other : ℕ) → After other → Before other) → AreCounted Before world left counts → AreCounted After world left counts
+pub weaker : (Before After : ℕ → Type 0) (world : WorldState) (left : List Turn) (counts : Counts) → ((other : ℕ) → After other → Before other) → AreCounted Before world left counts → AreCounted After world left counts
 weaker Before After world left counts passes counted = record {
   all = counted.all;
   all_long = counted.all_long;
@@ -78,6 +81,41 @@ pub same_counted : (world : WorldState) (left : List Turn) (counts : Counts) (wh
 same_counted world left counts who last local far is same counted =
     weaker (IsDone world who last local) (IsDone world who last (local + 1)) world left counts
     (λ other done. λ differs. apart_less world who local far other is (λ e. differs (e ∙ same)) (done differs)) counted
+
+-- ---- the boxes of a Take
+
+-- after the turn's own box and the one at the far end of its slot, those at the partner's are left
+abbrev pub IsBeyond : WorldState → (who local other : ℕ) → Type 0
+IsBeyond world who local other = (mate : ℕ) → goal_at (box_at world who) local ≡ Link mate → far_box world who mate ≢ Some other
+
+-- or that one too
+abbrev pub IsFar : WorldState → (who local other : ℕ) → Type 0
+IsFar world who local other = (far_box world who local ≢ Some other) × IsBeyond world who local other
+
+some_apart : (a b : ℕ) → b ≢ a → Some a ≢ Some b
+some_apart a b apart same = apart (let e : b ≡ a = cc in e)
+
+pub take_own : (world : WorldState) (left : List Turn) (old new : Counts) (who local : ℕ) → who < length world.boxes → AreCounted (IsBeside world who local) world left old → IsRecounted world left old new who
+    → AreCounted (IsFar world who local) world left new
+take_own world left old new who local inside counted again =
+    recounted (IsBeside world who local) (IsFar world who local) world left old new who (λ other far differs. record { apart = differs; slot = far.0; partner = far.1 }) inside counted again
+
+pub take_far : (world : WorldState) (left : List Turn) (old new : Counts) (who local far : ℕ) → far_box world who local ≡ Some far → far < length world.boxes → AreCounted (IsFar world who local) world left old → IsRecounted world left old new far
+    → AreCounted (IsBeyond world who local) world left new
+take_far world left old new who local far is inside counted again =
+    recounted (IsFar world who local) (IsBeyond world who local) world left old new far (λ other beyond differs. (λ leads. some_apart far other differs (sym is ∙ leads), beyond)) inside counted again
+
+pub take_mate : (world : WorldState) (left : List Turn) (old new : Counts) (who local mate far : ℕ) → goal_at (box_at world who) local ≡ Link mate → far_box world who mate ≡ Some far → far < length world.boxes
+    → AreCounted (IsBeyond world who local) world left old → IsRecounted world left old new far → IsCounted world left new
+take_mate world left old new who local mate far linked is inside counted again =
+    recounted (IsBeyond world who local) (λ other. Unit {0}) world left old new far
+    (λ other all differs. λ partner aims leads.
+    let same : mate ≡ partner = cc (linked, aims) in
+    some_apart far other differs (sym is ∙ (ap (far_box world who) same ∙ leads))) inside counted again
+
+pub take_end : (world : WorldState) (left : List Turn) (counts : Counts) (who local : ℕ) (goal : Goal) → goal_at (box_at world who) local ≡ End goal → AreCounted (IsBeyond world who local) world left counts → IsCounted world left counts
+take_end world left counts who local goal is counted =
+    weaker (IsBeyond world who local) (λ other. Unit {0}) world left counts (λ other all. λ mate aims leads. cc (is, aims)) counted
 
 -- each slot of a box has its number
 pub has_number : (world : WorldState) (who local : ℕ) → IsNumbered world → who < length world.boxes → local < length (box_at world who).slots → number world who local ≡ None → ⊥

@@ -2,6 +2,10 @@
 use Rattle.std.specs.Prelude.{◌≡◌, ◌≢◌, ◌<◌, ◌≤◌, ℕ, if◌then◌else◌, Bool, true, false, List, [], length, slice_index_or, slice_set, Option, Some, Vec}
 use Rattle.std.specs.Option.{option_map}
 use Rattle.std.specs.declared.alloc.Global.{Global}
+use Rattle.mc_slot.specs.declared.SlotGoal.TheVariants.{Link}
+use Rattle.mc_box.specs.Boxes.{goal_at}
+use Rattle.mc_box.specs.declared.event.Event.{Event}
+use Rattle.mc_box.specs.declared.event.Event.TheVariants.{Take}
 use Rattle.mc_box.specs.declared.event.Turn.{Turn}
 use Rattle.mc_model.specs.Worlds.{WorldState, box_at, far, number, place}
 use Rattle.mc_seq.specs.Schedule.{candidates_of}
@@ -44,9 +48,20 @@ IsApart world who from other = (local : ℕ) → from ≤ local → local < leng
 abbrev pub IsAside : WorldState → ℕ → ℕ → Type 0
 IsAside world who other = (other ≢ who) × IsApart world who 0 other
 
--- those are counted
-abbrev pub IsCountedAside : WorldState → List Turn → ℕ → Counts → Type 0
-IsCountedAside world left who counts = AreCounted (IsAside world who) world left counts
+-- a box that is another one, and to which neither a slot nor its partner leads
+pub record IsBeside (world : WorldState) (who local other : ℕ) : Type 0 where
+  pub apart : other ≢ who
+  pub slot : far_box world who local ≢ Some other
+  pub partner : (mate : ℕ) → goal_at (box_at world who) local ≡ Link mate → far_box world who mate ≢ Some other
+
+-- a box that an event of this one leaves as it is: a Take reaches no further than its slot and the partner
+abbrev pub IsUntouched : WorldState → ℕ → Event → ℕ → Type 0
+IsUntouched world who (Take local) other = IsBeside world who local other
+IsUntouched world who event other = IsAside world who other
+
+-- where an event is a Take, its slot is there
+abbrev pub HasSlot : WorldState → Turn → Type 0
+HasSlot world turn = (local : ℕ) → turn.event ≡ Take local → local < length (box_at world turn.who).slots
 
 -- one box is counted anew
 pub record IsRecounted (world : WorldState) (left : List Turn) (old new : Counts) (who : ℕ) : Type 0 where

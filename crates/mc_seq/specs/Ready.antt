@@ -1,10 +1,13 @@
 -- What a search for the k-th candidate rests on: counts by box, and that a step changes few fronts.
 use Rattle.std.specs.Prelude.{◌≡◌, ◌≢◌, ◌<◌, ◌+◌, ℕ, Bool, List, length, sum, take, slice_get, slice_index_or, Some}
 use Rattle.mc_box.specs.declared.event.Turn.{Turn}
+use Rattle.mc_slot.specs.declared.SlotGoal.TheVariants.{Link}
+use Rattle.mc_box.specs.Boxes.{goal_at}
+use Rattle.mc_model.specs.Sound.{IsSound}
 use Rattle.mc_model.specs.Steps.{step}
-use Rattle.mc_model.specs.Worlds.{WorldState, far, front, lane_of, place, slot_count}
+use Rattle.mc_model.specs.Worlds.{WorldState, box_at, far, front, lane_of, number, place, slot_count}
 use Rattle.mc_seq.specs.ForEach.{for_each}
-use Rattle.mc_seq.specs.Schedule.{candidates_of}
+use Rattle.mc_seq.specs.Schedule.{candidates_of, take_turn}
 use Rattle.mc_seq.specs.Sums.{CountsEach}
 
 -- counts of the candidates of each box
@@ -27,3 +30,12 @@ IsAway world who lane = (s : ℕ) → s < slot_count world → (place world s).0
 -- a step changes no front of such a lane
 abbrev pub FrontsStay : Type 0
 FrontsStay = (world next : WorldState) (turn : Turn) (t : ℕ) → step world turn ≡ Some next → IsAway world turn.who (lane_of world t) → front next t ≡ front world t
+
+-- the lane leads neither to a box's slot nor to the other end of its tunnel
+abbrev pub IsOff : WorldState → (who local lane : ℕ) → Type 0
+IsOff world who local lane = (s : ℕ) → number world who local ≡ Some s → (lane ≢ lane_of world s) × (lane ≢ lane_of world (far s))
+
+-- of the lanes of a box a Take changes those alone of the slot that takes, and over a link those of its partner
+abbrev pub TakeFrontsStay : Type 0
+TakeFrontsStay = (world next : WorldState) (who local t : ℕ) → IsSound world → step world (take_turn who local) ≡ Some next → IsOff world who local (lane_of world t)
+    → ((partner : ℕ) → goal_at (box_at world who) local ≡ Link partner → IsOff world who partner (lane_of world t)) → front next t ≡ front world t

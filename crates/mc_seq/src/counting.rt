@@ -1,9 +1,10 @@
 // How many candidates each box has, in trees of sums, and which of them a turn may have changed.
 
 ghost use Rattle.std.specs.Prelude.{◌≡◌, ℕ, ◌<◌, ◌≤◌, ◌^◌, length, slice_index_or, slice_set, IfOk, Some};
+ghost use Rattle.mc_box.specs.Boxes.{goal_at};
 ghost use Rattle.mc_model.specs.Worlds.{box_at};
 ghost use Rattle.mc_seq.specs.Commands.{AreKept, left_of};
-ghost use Rattle.mc_seq.specs.Counts.{IsCounted, IsCountedAside, IsRecounted, IsTree, far_box, levels_by};
+ghost use Rattle.mc_seq.specs.Counts.{AreCounted, HasSlot, IsAside, IsBeside, IsCounted, IsRecounted, IsTree, IsUntouched, far_box, levels_by};
 ghost use Rattle.mc_seq.specs.Ready.{CountsCandidates};
 ghost use Rattle.mc_seq.specs.Schedule.{candidates_of, takes_of};
 ghost use Rattle.mc_seq.specs.Sums.{counts_of, levels_of};
@@ -11,6 +12,8 @@ ghost use Rattle.mc_seq.specs.Sums.{counts_of, levels_of};
 use crate::commands::{Commands, next_command};
 use crate::finding::{slots_of, takes_at};
 use crate::sums::{count_at, put, tree};
+use mc_box::{Event, Turn};
+use mc_slot::SlotGoal;
 use mc_world::World;
 use std::alloc::{AllocError, Global};
 
@@ -33,17 +36,50 @@ pub fn count_all(alloc: Global, world: &World, left: &Commands) -> Result<Counts
     Ok(Counts { all, commands })
 }
 
-// Counts the candidates of a box again at which a turn was made, and of those at the far ends of its slots. The turn
-// changed no others.
-pub fn recount(counts: &mut Counts, world: &World, left: &Commands, who: u32)
-    requires here { who < length world.now.boxes }
+// Counts the candidates of those boxes again that a turn may have changed.
+pub fn recount(counts: &mut Counts, world: &World, left: &Commands, turn: Turn)
+    requires here { turn.who < length world.now.boxes }
+    requires inside { HasSlot world.now turn }
     requires kept { AreKept left.now }
-    requires aside { IsCountedAside world.now (left_of left.now) who counts.old }
+    requires counted { AreCounted (IsUntouched world.now turn.who turn.event) world.now (left_of left.now) counts.old }
+    ensures { IsCounted world.now (left_of left.now) counts.new }
+{
+    world.keeps();
+    match turn.event {
+        Event::Take(local) => recount_take(counts, world, left, turn.who, local),
+        _ => recount_all(counts, world, left, turn.who),
+    }
+}
+
+// Counts a box again, and the boxes at the far ends of a slot and of its partner.
+fn recount_take(counts: &mut Counts, world: &World, left: &Commands, who: u32, local: u8)
+    requires here { who < length world.now.boxes }
+    requires inside { local < length (box_at world.now who).slots }
+    requires kept { AreKept left.now }
+    requires counted { AreCounted (IsBeside world.now who local) world.now (left_of left.now) counts.old }
     ensures { IsCounted world.now (left_of left.now) counts.new }
 {
     world.keeps();
     recount_box(counts, world, left, who);
+    recount_box(counts, world, left, far_box(world, who, local));
+    match goal_of(world, who, local) {
+        SlotGoal::Link(partner) => {
+            recount_box(counts, world, left, far_box(world, who, partner));
+        }
+        SlotGoal::End(_) => {}
+    }
+}
+
+// Counts a box again, and the boxes at the far ends of its slots.
+fn recount_all(counts: &mut Counts, world: &World, left: &Commands, who: u32)
+    requires here { who < length world.now.boxes }
+    requires kept { AreKept left.now }
+    requires counted { AreCounted (IsAside world.now who) world.now (left_of left.now) counts.old }
+    ensures { IsCounted world.now (left_of left.now) counts.new }
+{
+    world.keeps();
     let mut last = who;
+    recount_box(counts, world, left, last);
     for local in 0..slots_of(world, who) {
         let other = far_box(world, who, local as u8);
         // slots of one channel follow each other
@@ -155,4 +191,13 @@ fn far_box(world: &World, who: u32, local: u8) -> u32
     };
     let (other, _) = world.place(world.far(slot));
     other
+}
+
+// The goal of a box's slot.
+fn goal_of(world: &World, who: u32, local: u8) -> SlotGoal
+    requires here { who < length world.now.boxes }
+    requires inside { local < length (box_at world.now who).slots }
+    ensures { result ≡ goal_at (box_at world.now who) local }
+{
+    world.boxes()[who as usize].goal(local)
 }

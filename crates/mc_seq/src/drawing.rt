@@ -191,7 +191,7 @@ fn try_turn(sitting: &mut Sitting, turn: Turn) -> Result<Draw, AllocError>
                 &mut sitting.counts,
                 &sitting.settled.world,
                 &sitting.left,
-                turn.who,
+                turn,
             );
             Ok(Draw::Drawn)
         }

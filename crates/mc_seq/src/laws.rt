@@ -2,7 +2,7 @@
 
 ghost use Rattle.mc_seq.specs.Draws.{DrawsEnd, ScheduleIsOne, ScheduleSettles, TakesEndDraws};
 ghost use Rattle.mc_seq.specs.PlainOrder.{PlainOrderSettles};
-ghost use Rattle.mc_seq.specs.Ready.{CountIsSum, FrontsStay, KthIsFound};
+ghost use Rattle.mc_seq.specs.Ready.{CountIsSum, FrontsStay, KthIsFound, TakeFrontsStay};
 
 /// Turns in the plain order are a settled segment for their batch, where they leave no ring.
 pub fn plain_order_settles()
@@ -32,6 +32,12 @@ pub fn count_is_sum()
 /// A step changes the fronts of those lanes alone that lead to slots of its box, or to the other ends of their tunnels.
 pub fn fronts_stay()
     ensures { FrontsStay }
+{}
+
+/// Of the lanes of its box a Take changes the fronts of those alone that lead to the slot that takes, or from it, and over
+/// a link of those of its partner.
+pub fn take_fronts_stay()
+    ensures { TakeFrontsStay }
 {}
 
 /// While commands are left, drawn turns are few, whether links make a ring or not.

@@ -1,5 +1,7 @@
 // Networks settled by draws.
 
+ghost use Rattle.std.specs.Prelude.{◌<◌};
+
 use crate::fault::TestFault;
 use crate::networks::{device, feature, two_devices, two_features};
 use mc_box::limit::LAST_VERSION;
@@ -167,31 +169,36 @@ fn by_lists(alloc: Global, world: World, batch: &[Turn], state: u32) -> Outcome 
 }
 
 // A draw below a limit; 0 where that is 0.
-fn below(draws: &mut Draws, limit: u32) -> u32 {
+fn below(draws: &mut Draws, limit: u32) -> u32
+    ensures { 0 < limit → result < limit }
+{
     if limit == 0 { 0 } else { draws.draw() % limit }
 }
 
-// A device or a feature; some devices have the last version.
+// A device, which may have the last version, or a feature.
 fn drawn_box(draws: &mut Draws) -> BoxPlan {
+    let mut planned = device();
     match below(draws, 6) {
-        0 | 1 | 2 => feature(),
-        3 | 4 => device(),
-        _ => {
-            let mut last = device();
-            last.first_version = LAST_VERSION;
-            last
-        }
+        0 | 1 | 2 => return feature(),
+        3 => planned.first_version = LAST_VERSION,
+        _ => {}
     }
+    planned
 }
 
-// A network of two to five boxes, with up to six channels between them.
+// A network of two to five boxes, at times of features alone, with up to six channels between them.
 fn drawn_world(alloc: Global, draws: &mut Draws) -> Result<World, TestFault> {
     let mut plan = Plan::new(alloc);
-    let boxes = [2, 3, 4, 5][below(draws, 4) as usize];
+    let features = below(draws, 3) == 0;
+    let boxes = 2 + below(draws, if features { 2 } else { 4 });
     for _planned in 0..boxes {
-        plan.add(drawn_box(draws))?;
+        plan.add(if features {
+            feature()
+        } else {
+            drawn_box(draws)
+        })?;
     }
-    for _channel in 0..=below(draws, 5) {
+    for _channel in 0..=below(draws, 6) {
         let from = below(draws, boxes);
         let to = below(draws, boxes);
         let media: &[Medium] = if below(draws, 2) == 0 {
@@ -205,33 +212,28 @@ fn drawn_world(alloc: Global, draws: &mut Draws) -> Result<World, TestFault> {
     Ok(plan.world()?)
 }
 
-// A command, which the world may refuse.
-fn drawn_command(world: &World, draws: &mut Draws) -> Turn {
-    let boxes = world.boxes();
-    let who = below(draws, boxes.len() as u32);
-    let slots = match boxes.get(who as usize) {
-        Some(actor) => actor.slots().len() as u32,
-        None => 0,
-    };
-    let local = below(draws, slots) as u8;
+// A command for a network of that size, which may refuse it.
+fn drawn_command(draws: &mut Draws) -> Turn {
+    let who = below(draws, 5);
+    let local = below(draws, 4) as u8;
     let on = below(draws, 2) == 0;
     let event = match below(draws, 8) {
         0 | 1 => Event::Set(Change::End(local, Goal::Open)),
         2 => Event::Set(Change::End(local, Goal::Hold)),
         3 => Event::Set(Change::End(local, Goal::Close)),
-        4 | 5 => Event::Set(Change::Link(local, below(draws, slots) as u8)),
+        4 | 5 => Event::Set(Change::Link(local, below(draws, 4) as u8)),
         6 => Event::Media(MediaChange::Hear(local, on)),
         _ => Event::Media(MediaChange::Talk(local, on)),
     };
-    Turn { who, event }
+    turn(who, event)
 }
 
 // Commands that the world allows, at times far more than there are boxes.
 fn drawn_batch(alloc: Global, world: &World, draws: &mut Draws) -> Result<Vec<Turn>, TestFault> {
     let mut batch = Vec::new(alloc);
-    let most = if below(draws, 8) == 0 { 120 } else { 12 };
+    let most = if below(draws, 8) == 0 { 240 } else { 40 };
     for _command in 0..below(draws, most) {
-        let drawn = drawn_command(world, draws);
+        let drawn = drawn_command(draws);
         if fits(world, &[drawn]) && batch.push(drawn).is_err() {
             return Err(TestFault::NoMemory(AllocError));
         }

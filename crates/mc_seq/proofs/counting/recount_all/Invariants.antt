@@ -1,7 +1,7 @@
 use Rattle.mc_seq.specs.Commands.{left_of}
 use Rattle.mc_seq.specs.Counts.{AreCounted}
 use Rattle.mc_seq.proofs.Recounts.{IsDone}
-use Rattle.mc_seq.proofs.counting.recount.Given as goal
+use Rattle.mc_seq.proofs.counting.recount_all.Given as goal
 
 -- only the boxes at the far ends of the slots from here on may still be counted wrongly
 abbrev pub invariant-loop-local : goal.invariant-loop-local
