@@ -122,7 +122,26 @@ const NO_RING: &str = "media 1\n\
     set y b close\n\
     settle\n";
 
-const TABLE: [(&str, u8, &str); 7] = [
+// One channel carries audio and video.
+const AUDIO_AND_VIDEO: &str = "media 1\n\
+    codec g711\n\
+    dev alice g711\n\
+    dev bob g711\n\
+    chan audio alice a bob a\n\
+    also video v v\n\
+    begin\n\
+    set alice a open\n\
+    set alice v open\n\
+    set bob a hold\n\
+    set bob v hold\n\
+    settle\n";
+
+const TABLE: [(&str, u8, &str); 8] = [
+    (
+        AUDIO_AND_VIDEO,
+        0,
+        "settle 1\npath alice/a bob/a open hold flowing audio\nhears alice/a g711\nhears bob/a g711\npath alice/v bob/v open hold flowing video\nhears alice/v g711\nhears bob/v g711\n",
+    ),
     (
         FOUR_TUNNELS,
         0,

@@ -21,7 +21,14 @@ const PHONES: &str = "media 1\n\
     set bob a hold\n\
     settle\n";
 
-const PHONE_ROWS: [Row; 32] = [
+const PHONE_ROWS: [Row; 38] = [
+    // A tunnel more, of the last channel.
+    ("chan audio alice a bob a", "also video v v", 5, 6),
+    ("set bob a hold", "also video v v", 5, 9),
+    ("begin", "also video v\nbegin", 6, 7),
+    ("begin", "also video v v v\nbegin", 7, 7),
+    ("begin", "also video v a\nbegin", 9, 7),
+    ("begin", "also video v abcdefghijklmnopq\nbegin", 18, 7),
     (
         "chan audio alice a bob a",
         "chan audio alice a carol a",
