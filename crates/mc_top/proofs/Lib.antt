@@ -6,7 +6,9 @@ mod LeftRings
 mod OneJournal
 mod OneMode
 pub mod Running
+mod SeenAlike
 mod Stopping
+mod TextAlone
 mod Told
 mod UsedUp
 mod Viewing

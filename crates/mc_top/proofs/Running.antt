@@ -65,7 +65,7 @@ holds_after (turn ∷ turns) world last rest goes holds =
     replayed_is world next turn goes = rw goes refl
 
 -- the turns of a settle print nothing before its mark
-printed_after : (turns : List Turn) (names : NameLists) (number : ℕ) (world last : WorldState) (rest : List JournalLine) → run world turns ≡ Some last
+pub printed_after : (turns : List Turn) (names : NameLists) (number : ℕ) (world last : WorldState) (rest : List JournalLine) → run world turns ≡ Some last
     → journal_text names number world (map Made turns ++ rest) ≡ journal_text names number last rest
 printed_after [] names number world last rest goes = let same : world ≡ last = cc in ap (λ (w : WorldState). journal_text names number w rest) same
 printed_after (turn ∷ turns) names number world last rest goes =

@@ -1,6 +1,7 @@
 //! Laws of journals, over the definitions alone.
 
 ghost use Rattle.mc_top.specs.Drawn.{DrawnJournalIsOne};
+ghost use Rattle.mc_top.specs.TextAlone.{TextAloneDecides};
 
 use mc_seq::laws::schedule_is_one;
 
@@ -10,3 +11,9 @@ pub fn drawn_journal_is_one()
 {
     schedule_is_one();
 }
+
+/// Two runs of one text that settle all its batches print the same, however their boxes take turns and in whichever
+/// modes, if no batch leaves a path of hold against hold: then the text alone decides what is printed.
+pub fn text_alone_decides()
+    ensures { TextAloneDecides }
+{}

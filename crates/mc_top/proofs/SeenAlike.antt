@@ -1,0 +1,251 @@
+-- Worlds that are seen alike have the same paths, and where goals decide these the same is printed of them.
+use Rattle.std.proofs.Common.{◌≡◌, ◌+◌, ◌++◌, ℕ, Bool, true, false, if◌then◌else◌, List, [], ◌∷◌, All, Option, Some, None, IsSome, codes, length, refl, ap, sym, ◌∙◌, subst}
+use Rattle.std.specs.Fmt.{decimal}
+use Rattle.std.specs.List.{AllByRecursion, cons_option, enumerate_from, filter_map, flat_map}
+use Rattle.std.specs.Option.{option_and_then, unwrap_or}
+use Rattle.std.proofs.lemmas.List.Elements.{recursion_from_All}
+use Rattle.mc_signal.specs.Choice.{codecs_of, shared_codec}
+use Rattle.mc_signal.specs.Empty.{no_codecs}
+use Rattle.mc_signal.specs.declared.Tagged.{Tagged}
+use Rattle.mc_signal.specs.declared.codec_list.CodecList.{CodecList}
+use Rattle.mc_slot.specs.EndTurn.{is_end_goal}
+use Rattle.mc_slot.specs.declared.Goal.{Goal}
+use Rattle.mc_slot.specs.declared.SlotGoal.{SlotGoal}
+use Rattle.mc_slot.specs.declared.State.{State}
+use Rattle.mc_slot.specs.declared.State.TheVariants.{Closed, Opening, Opened, Flowing, Closing}
+use Rattle.mc_box.specs.Acting.{IsAlike}
+use Rattle.mc_box.specs.Boxes.{BoxState, goal_at, media_at, own, own_of, sender, sender_of}
+use Rattle.mc_box.specs.declared.event.Kind.{Kind}
+use Rattle.mc_box.specs.declared.event.Kind.TheVariants.{Device, Feature}
+use Rattle.mc_box.specs.declared.event.Turn.{Turn}
+use Rattle.mc_box.specs.declared.setup.SlotMedia.{SlotMedia}
+use Rattle.mc_laws.proofs.Reaches.{GoalsStay, end_same, with_boxes}
+use Rattle.mc_model.specs.PathTable.{heard_codec, high_hears, low_hears, path_state, table}
+use Rattle.mc_model.specs.Paths.{PathEnds, end_goal, end_goal_of, from_low, other_end, path_from, paths}
+use Rattle.mc_model.specs.Settles.{IsSettled, commands_of}
+use Rattle.mc_model.specs.Sound.{IsSound}
+use Rattle.mc_model.specs.Worlds.{ChannelState, WorldState, all_tunnels, box_at, goal_of, own_descriptor, own_sender, place, places, slot_of, tunnel_of}
+use Rattle.mc_settings.proofs.BatchesLeft.{batch_is_left, settled_used}
+use Rattle.mc_settings.proofs.CommandedWorlds.{settings_are, shape_stays}
+use Rattle.mc_settings.specs.Alike.{AreAlike}
+use Rattle.mc_settings.specs.Batches.{AreDecided, IsDecided}
+use Rattle.mc_settings.specs.Settings.{Settings, commanded, set_by_all, settings_of}
+use Rattle.mc_script.specs.Meaning.{goal_word}
+use Rattle.mc_table.specs.Words.{line_of, medium_word}
+use Rattle.mc_text.specs.NameLists.{NameLists}
+use Rattle.mc_top.specs.Printed.{hears_line, hears_lines, path_line, path_text, place_word, settle_text, state_word}
+
+-- ---- seen alike
+
+-- a box of the same kind, with the same settings, and with lists of the same codecs
+pub record IsSeenAlike (box other : BoxState) : Type 0 where
+  pub kind : box.kind ≡ other.kind
+  pub receives : codecs_of box.receives ≡ codecs_of other.receives
+  pub sends : codecs_of box.sends ≡ codecs_of other.sends
+  pub settings : settings_of box ≡ settings_of other
+
+-- a world of the same channels, in which each box is seen alike
+pub record AreSeenAlike (world other : WorldState) : Type 0 where
+  pub channels : world.channels ≡ other.channels
+  pub boxes : (who : ℕ) → IsSeenAlike (box_at world who) (box_at other who)
+
+pub box_seen_self : (box : BoxState) → IsSeenAlike box box
+box_seen_self box = record { kind = refl; receives = refl; sends = refl; settings = refl }
+
+box_seen_back : (box other : BoxState) → IsSeenAlike box other → IsSeenAlike other box
+box_seen_back box other seen = record { kind = sym seen.kind; receives = sym seen.receives; sends = sym seen.sends; settings = sym seen.settings }
+
+box_seen_both : (box other third : BoxState) → IsSeenAlike box other → IsSeenAlike other third → IsSeenAlike box third
+box_seen_both box other third one two =
+    record { kind = one.kind ∙ two.kind; receives = one.receives ∙ two.receives; sends = one.sends ∙ two.sends; settings = one.settings ∙ two.settings }
+
+seen_back : (world other : WorldState) → AreSeenAlike world other → AreSeenAlike other world
+seen_back world other seen = record { channels = sym seen.channels; boxes = λ who. box_seen_back (box_at world who) (box_at other who) (seen.boxes who) }
+
+seen_both : (world other third : WorldState) → AreSeenAlike world other → AreSeenAlike other third → AreSeenAlike world third
+seen_both world other third one two =
+    record { channels = one.channels ∙ two.channels; boxes = λ who. box_seen_both (box_at world who) (box_at other who) (box_at third who) (one.boxes who) (two.boxes who) }
+
+-- a box of the same make and settings
+box_alike_seen : (box other : BoxState) → IsAlike box other → settings_of box ≡ settings_of other → IsSeenAlike box other
+box_alike_seen box other alike same =
+    record { kind = alike.kind; receives = ap codecs_of alike.receives; sends = ap codecs_of alike.sends; settings = same }
+
+-- worlds that are alike but for what signals change
+alike_seen : (world other : WorldState) → AreAlike world other → AreSeenAlike world other
+alike_seen world other alike =
+    record { channels = alike.shape.channels; boxes = λ who. box_alike_seen (box_at world who) (box_at other who) (alike.shape.alike who) (alike.settings who) }
+
+-- a box with other settings
+box_seen_with : (box other new next : BoxState) → IsSeenAlike box other → IsAlike new box → IsAlike next other → settings_of new ≡ settings_of next → IsSeenAlike new next
+box_seen_with box other new next seen one two same = record {
+  kind = one.kind ∙ (seen.kind ∙ sym two.kind);
+  receives = ap codecs_of one.receives ∙ (seen.receives ∙ sym (ap codecs_of two.receives));
+  sends = ap codecs_of one.sends ∙ (seen.sends ∙ sym (ap codecs_of two.sends));
+  settings = same;
+}
+
+-- commands leave worlds so
+commanded_seen : (world other : WorldState) (turns : List Turn) → AreSeenAlike world other → AreSeenAlike (commanded world turns) (commanded other turns)
+commanded_seen world other turns seen = record {
+  channels = seen.channels;
+  boxes = λ who.
+      box_seen_with (box_at world who) (box_at other who) (box_at (commanded world turns) who) (box_at (commanded other turns) who) (seen.boxes who)
+      ((shape_stays world turns).alike who) ((shape_stays other turns).alike who)
+      (settings_are world turns who ∙ (ap (set_by_all (commands_of who turns)) (seen.boxes who).settings ∙ sym (settings_are other turns who)));
+}
+
+-- so do settled segments of one batch
+pub settles_are_seen_alike : (world other last end : WorldState) (batch turns others : List Turn) → IsSound world → IsSound other → AreSeenAlike world other
+    → IsSettled world batch turns last → IsSettled other batch others end → AreSeenAlike last end
+settles_are_seen_alike world other last end batch turns others sound other_sound seen one two =
+    seen_both last (commanded world batch) end (alike_seen last (commanded world batch) (batch_is_left world last batch turns sound (settled_used world last batch turns one)))
+    (seen_both (commanded world batch) (commanded other batch) end (commanded_seen world other batch seen)
+    (seen_back end (commanded other batch) (alike_seen end (commanded other batch) (batch_is_left other end batch others other_sound (settled_used other end batch others two)))))
+
+-- ---- what is heard
+
+media_same : (box other : BoxState) (local : ℕ) → settings_of box ≡ settings_of other → media_at box local ≡ media_at other local
+media_same box other local same = ap (λ (settings : Settings). media_at (record other { media = settings.media }) local) same
+
+-- a list where it is asked for
+list_if : (on : Bool) (list other : CodecList) → codecs_of list ≡ codecs_of other → codecs_of (if on then list else no_codecs) ≡ codecs_of (if on then other else no_codecs)
+list_if true list other same = same
+list_if false list other same = refl
+
+offered_by : (kind : Kind) (box other : BoxState) (media : SlotMedia) (local : ℕ) → codecs_of box.receives ≡ codecs_of other.receives
+    → codecs_of (own_of kind box media local).codecs ≡ codecs_of (own_of kind other media local).codecs
+offered_by Device box other media local same = list_if media.hears box.receives other.receives same
+offered_by Feature box other media local same = refl
+
+offered_same : (box other : BoxState) (local : ℕ) → IsSeenAlike box other → codecs_of (own box local).codecs ≡ codecs_of (own other local).codecs
+offered_same box other local seen =
+    ap (λ (kind : Kind). codecs_of (own_of kind box (media_at box local) local).codecs) seen.kind
+    ∙ (ap (λ (media : SlotMedia). codecs_of (own_of other.kind box media local).codecs) (media_same box other local seen.settings)
+    ∙ offered_by other.kind box other (media_at other local) local seen.receives)
+
+sent_by : (kind : Kind) (box other : BoxState) (media : SlotMedia) (local : ℕ) → codecs_of box.sends ≡ codecs_of other.sends
+    → codecs_of (sender_of kind box media local).codecs ≡ codecs_of (sender_of kind other media local).codecs
+sent_by Device box other media local same = list_if media.talks box.sends other.sends same
+sent_by Feature box other media local same = refl
+
+sent_same : (box other : BoxState) (local : ℕ) → IsSeenAlike box other → codecs_of (sender box local).codecs ≡ codecs_of (sender other local).codecs
+sent_same box other local seen =
+    ap (λ (kind : Kind). codecs_of (sender_of kind box (media_at box local) local).codecs) seen.kind
+    ∙ (ap (λ (media : SlotMedia). codecs_of (sender_of other.kind box media local).codecs) (media_same box other local seen.settings)
+    ∙ sent_by other.kind box other (media_at other local) local seen.sends)
+
+-- of the same channels, slot by slot
+heard_same : (world : WorldState) (boxes : List BoxState) (lanes : List (List Tagged)) (s t : ℕ) → AreSeenAlike (with_boxes world boxes lanes) world
+    → heard_codec (own_descriptor (with_boxes world boxes lanes) s) (own_sender (with_boxes world boxes lanes) t) ≡ heard_codec (own_descriptor world s) (own_sender world t)
+heard_same world boxes lanes s t seen =
+    let new : WorldState = with_boxes world boxes lanes in
+    ap (λ (list : List ℕ). shared_codec list (codecs_of (own_sender new t).codecs))
+    (offered_same (box_at new (place world s).0) (box_at world (place world s).0) (place world s).1 (seen.boxes (place world s).0))
+    ∙ ap (λ (list : List ℕ). shared_codec (codecs_of (own_descriptor world s).codecs) list)
+    (sent_same (box_at new (place world t).0) (box_at world (place world t).0) (place world t).1 (seen.boxes (place world t).0))
+
+-- ---- paths
+
+goals_stay : (new world : WorldState) → AreSeenAlike new world → GoalsStay new world
+goals_stay new world seen who local = ap (λ (settings : Settings). goal_at (record (box_at world who) { goals = settings.goals }) local) (seen.boxes who).settings
+
+-- the path of an end
+abbrev path_by : Bool → ℕ → Option ℕ → Option PathEnds
+path_by end s other = if end then option_and_then (from_low s) other else None
+
+path_same : (world : WorldState) (boxes : List BoxState) (lanes : List (List Tagged)) (s : ℕ) → GoalsStay (with_boxes world boxes lanes) world → path_from (with_boxes world boxes lanes) s ≡ path_from world s
+path_same world boxes lanes s stay =
+    ap (λ (goal : SlotGoal). path_by (is_end_goal goal) s (other_end (with_boxes world boxes lanes) s)) (stay (place world s).0 (place world s).1)
+    ∙ ap (path_by (is_end_goal (goal_of world s)) s) (end_same (length (all_tunnels world)) world boxes lanes s stay)
+
+each_same : (f g : ℕ → Option PathEnds) (entries : List (ℕ × ℕ)) (first : ℕ) → ((s : ℕ) → f s ≡ g s)
+    → filter_map (λ entry. f entry.0) (enumerate_from first entries) ≡ filter_map (λ entry. g entry.0) (enumerate_from first entries)
+each_same f g [] first same = refl
+each_same f g (entry ∷ entries) first same =
+    ap (λ (o : Option PathEnds). cons_option o (filter_map (λ entry. f entry.0) (enumerate_from (first + 1) entries))) (same first)
+    ∙ ap (cons_option (g first)) (each_same f g entries (first + 1) same)
+
+paths_same : (world : WorldState) (boxes : List BoxState) (lanes : List (List Tagged)) → GoalsStay (with_boxes world boxes lanes) world → paths (with_boxes world boxes lanes) ≡ paths world
+paths_same world boxes lanes stay = each_same (path_from (with_boxes world boxes lanes)) (path_from world) (places world) 0 (λ s. path_same world boxes lanes s stay)
+
+end_goal_same : (world : WorldState) (boxes : List BoxState) (lanes : List (List Tagged)) (s : ℕ) → GoalsStay (with_boxes world boxes lanes) world → end_goal (with_boxes world boxes lanes) s ≡ end_goal world s
+end_goal_same world boxes lanes s stay = ap end_goal_of (stay (place world s).0 (place world s).1)
+
+-- where the table has an answer, nothing stands in for it
+decided_by : (answer : Option State) (one two : State) → IsSome answer → unwrap_or answer one ≡ unwrap_or answer two
+decided_by (Some state) one two some = refl
+decided_by None one two some = absurd (cc)
+
+state_same : (world : WorldState) (boxes : List BoxState) (lanes : List (List Tagged)) (path : PathEnds) → GoalsStay (with_boxes world boxes lanes) world → IsDecided (with_boxes world boxes lanes) path
+    → path_state (with_boxes world boxes lanes) path ≡ path_state world path
+state_same world boxes lanes path stay decided =
+    let new : WorldState = with_boxes world boxes lanes in
+    decided_by (table (end_goal new path.low) (end_goal new path.high)) (slot_of new path.low).state (slot_of world path.low).state decided
+    ∙ (ap (λ (goal : Goal). unwrap_or (table goal (end_goal new path.high)) (slot_of world path.low).state) (end_goal_same world boxes lanes path.low stay)
+    ∙ ap (λ (goal : Goal). unwrap_or (table (end_goal world path.low) goal) (slot_of world path.low).state) (end_goal_same world boxes lanes path.high stay))
+
+-- ---- text
+
+-- the line of a path by what changes from world to world
+abbrev line_by : NameLists → WorldState → PathEnds → Goal → Goal → State → List ℕ
+line_by names world path goal far_goal state = line_of (
+    codes "path"
+    ∷ place_word names world path.low
+    ∷ place_word names world path.high
+    ∷ goal_word goal
+    ∷ goal_word far_goal
+    ∷ state_word state
+    ∷ medium_word (tunnel_of world path.low).medium
+    ∷ [])
+
+line_same : (names : NameLists) (world : WorldState) (boxes : List BoxState) (lanes : List (List Tagged)) (path : PathEnds) → GoalsStay (with_boxes world boxes lanes) world
+    → IsDecided (with_boxes world boxes lanes) path → path_line names (with_boxes world boxes lanes) path ≡ path_line names world path
+line_same names world boxes lanes path stay decided =
+    let new : WorldState = with_boxes world boxes lanes in
+    ap (λ (goal : Goal). line_by names world path goal (end_goal new path.high) (path_state new path)) (end_goal_same world boxes lanes path.low stay)
+    ∙ (ap (λ (goal : Goal). line_by names world path (end_goal world path.low) goal (path_state new path)) (end_goal_same world boxes lanes path.high stay)
+    ∙ ap (line_by names world path (end_goal world path.low) (end_goal world path.high)) (state_same world boxes lanes path stay decided))
+
+hears_same : (state : State) (names : NameLists) (world : WorldState) (boxes : List BoxState) (lanes : List (List Tagged)) (path : PathEnds) → AreSeenAlike (with_boxes world boxes lanes) world
+    → hears_lines state names (with_boxes world boxes lanes) path ≡ hears_lines state names world path
+hears_same Closed names world boxes lanes path seen = refl
+hears_same Opening names world boxes lanes path seen = refl
+hears_same Opened names world boxes lanes path seen = refl
+hears_same Closing names world boxes lanes path seen = refl
+hears_same Flowing names world boxes lanes path seen =
+    let new : WorldState = with_boxes world boxes lanes in
+    ap (λ (codec : Option ℕ). hears_line names world path.low codec ++ hears_line names world path.high (high_hears new path)) (heard_same world boxes lanes path.low path.high seen)
+    ∙ ap (λ (codec : Option ℕ). hears_line names world path.low (low_hears world path) ++ hears_line names world path.high codec) (heard_same world boxes lanes path.high path.low seen)
+
+text_same : (names : NameLists) (world : WorldState) (boxes : List BoxState) (lanes : List (List Tagged)) (path : PathEnds) → AreSeenAlike (with_boxes world boxes lanes) world
+    → IsDecided (with_boxes world boxes lanes) path → path_text names (with_boxes world boxes lanes) path ≡ path_text names world path
+text_same names world boxes lanes path seen decided =
+    let new : WorldState = with_boxes world boxes lanes in
+    let stay : GoalsStay new world = goals_stay new world seen in
+    ap (λ (line : List ℕ). line ++ hears_lines (path_state new path) names new path) (line_same names world boxes lanes path stay decided)
+    ∙ ap (λ (lines : List ℕ). path_line names world path ++ lines)
+    (ap (λ (state : State). hears_lines state names new path) (state_same world boxes lanes path stay decided) ∙ hears_same (path_state world path) names world boxes lanes path seen)
+
+texts_same : (names : NameLists) (world : WorldState) (boxes : List BoxState) (lanes : List (List Tagged)) (ends : List PathEnds) → AreSeenAlike (with_boxes world boxes lanes) world
+    → AllByRecursion (IsDecided (with_boxes world boxes lanes)) ends → flat_map (path_text names (with_boxes world boxes lanes)) ends ≡ flat_map (path_text names world) ends
+texts_same names world boxes lanes [] seen all = refl
+texts_same names world boxes lanes (path ∷ ends) seen all =
+    ap (λ (text : List ℕ). text ++ flat_map (path_text names (with_boxes world boxes lanes)) ends) (text_same names world boxes lanes path seen all.0)
+    ∙ ap (λ (text : List ℕ). path_text names world path ++ text) (texts_same names world boxes lanes ends seen all.1)
+
+settle_by : (names : NameLists) (number : ℕ) (world : WorldState) (boxes : List BoxState) (lanes : List (List Tagged)) → AreSeenAlike (with_boxes world boxes lanes) world
+    → AreDecided (with_boxes world boxes lanes) → settle_text names number (with_boxes world boxes lanes) ≡ settle_text names number world
+settle_by names number world boxes lanes seen decided =
+    let new : WorldState = with_boxes world boxes lanes in
+    ap (λ (text : List ℕ). line_of (codes "settle" ∷ decimal number ∷ []) ++ text)
+    (texts_same names world boxes lanes (paths new) seen (recursion_from_All (IsDecided new) (paths new) decided)
+    ∙ ap (λ (ends : List PathEnds). flat_map (path_text names world) ends) (paths_same world boxes lanes (goals_stay new world seen)))
+
+-- what is printed of a settle whose paths their goals decide
+pub settle_same : (names : NameLists) (number : ℕ) (world other : WorldState) → AreSeenAlike world other → AreDecided world → settle_text names number world ≡ settle_text names number other
+settle_same names number world other seen decided =
+    let is : world ≡ with_boxes other world.boxes world.lanes = ap (λ (c : List ChannelState). record world { channels = c }) seen.channels in
+    let as_other : AreSeenAlike (with_boxes other world.boxes world.lanes) other = subst (λ (w : WorldState). AreSeenAlike w other) is seen in
+    ap (λ (w : WorldState). settle_text names number w) is
+    ∙ settle_by names number other world.boxes world.lanes as_other (subst (λ (w : WorldState). AreDecided w) is decided)

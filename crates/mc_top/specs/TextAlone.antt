@@ -1,0 +1,21 @@
+-- Where the text alone decides what is printed.
+use Rattle.std.specs.Prelude.{◌≡◌, ℕ, List, map}
+use Rattle.mc_model.specs.Sound.{IsSound}
+use Rattle.mc_net.specs.Nets.{DeclaresNet, batch_turns}
+use Rattle.mc_net.specs.declared.net.Net.{Net}
+use Rattle.mc_settings.specs.Batches.{LeavesDecided}
+use Rattle.mc_script.specs.declared.command.JournalLine.{JournalLine}
+use Rattle.mc_top.specs.Journals.{IsJournal}
+use Rattle.mc_top.specs.Modes.{output_of}
+use Rattle.mc_top.specs.declared.words.Mode.{Mode}
+
+-- the journal settles all batches of a network that the text declares, whichever interleaving of the boxes it is
+pub record SettlesText (text : List ℕ) (net : Net) (journal : List JournalLine) : Type 0 where
+  pub declares : DeclaresNet text net
+  pub sound : IsSound net.world
+  pub settles : IsJournal net.world (map batch_turns net.batches.items) journal
+
+-- two runs of one text, in whichever modes, print the same, if no batch leaves a path of hold against hold
+abbrev pub TextAloneDecides : Type 0
+TextAloneDecides = (text : List ℕ) (net other : Net) (first second : List JournalLine) (mode instead : Mode) → SettlesText text net first → SettlesText text other second
+    → LeavesDecided net.world (map batch_turns net.batches.items) → output_of mode net first ≡ output_of instead other second
