@@ -1,5 +1,5 @@
 -- Runs of one text print the same, where goals decide all paths.
-use Rattle.std.proofs.Common.{◌≡◌, ◌+◌, ◌++◌, ℕ, zero, suc, List, [], ◌∷◌, Some, map, refl, ap, sym, ◌∙◌, subst, append_assoc}
+use Rattle.std.proofs.Common.{◌≡◌, ◌+◌, ◌++◌, ℕ, zero, suc, List, [], ◌∷◌, Option, Some, map, refl, ap, sym, ◌∙◌, subst, append_assoc}
 use Rattle.std.proofs.Math.ListN.{get_or}
 use Rattle.mc_box.specs.Boxes.{first_goal, first_media, no_box}
 use Rattle.mc_box.specs.declared.event.Turn.{Turn}
@@ -23,7 +23,8 @@ use Rattle.mc_text.specs.NameLists.{NameLists}
 use Rattle.mc_top.specs.Journals.{IsJournal, lines_for}
 use Rattle.mc_top.specs.Modes.{output_of}
 use Rattle.mc_top.specs.Printed.{journal_text, settle_text}
-use Rattle.mc_top.specs.TextAlone.{TextAloneDecides}
+use Rattle.mc_top.specs.TextAlone.{CallsPrintSame, SettlesText, TextAloneDecides}
+use Rattle.mc_top.specs.Top.{Worked}
 use Rattle.mc_top.specs.declared.words.Mode.{Mode}
 use Rattle.mc_top.specs.declared.words.Mode.TheVariants.{One, Run}
 use Rattle.mc_top.proofs.Running.{printed_after}
@@ -111,3 +112,12 @@ text_alone_decides text net other first second mode instead one two decided =
     ∙ (journals_same (map batch_turns net.batches.items) net.names 1 net.world other.world first second one.sound two.sound seen decided one.settles
     (subst (λ (list : List (List Turn)). IsJournal other.world list second) batches two.settles)
     ∙ (ap (λ (n : NameLists). journal_text n 1 other.world second) names ∙ sym (output_is instead other second)))
+
+-- a mode that did its work settled the text
+settles_text : (text : List ℕ) (mode : Mode) (old new : Option (List ℕ)) (status : ℕ) (journal : List JournalLine) → (worked : Worked mode (Some text) old new status journal)
+    → SettlesText text worked.net journal
+settles_text text mode old new status journal worked = record { declares = worked.declared; sound = worked.settles.sound; settles = worked.settles.settled }
+
+pub calls_print_same : CallsPrintSame
+calls_print_same text first second mode instead old new from to status end one two decided =
+    text_alone_decides text one.net two.net first second mode instead (settles_text text mode old new status first one) (settles_text text instead from to end second two) decided

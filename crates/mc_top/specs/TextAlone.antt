@@ -1,5 +1,5 @@
 -- Where the text alone decides what is printed.
-use Rattle.std.specs.Prelude.{◌≡◌, ℕ, List, map}
+use Rattle.std.specs.Prelude.{◌≡◌, ℕ, List, map, Option, Some}
 use Rattle.mc_model.specs.Sound.{IsSound}
 use Rattle.mc_net.specs.Nets.{DeclaresNet, batch_turns}
 use Rattle.mc_net.specs.declared.net.Net.{Net}
@@ -7,6 +7,7 @@ use Rattle.mc_settings.specs.Batches.{LeavesDecided}
 use Rattle.mc_script.specs.declared.command.JournalLine.{JournalLine}
 use Rattle.mc_top.specs.Journals.{IsJournal}
 use Rattle.mc_top.specs.Modes.{output_of}
+use Rattle.mc_top.specs.Top.{Worked}
 use Rattle.mc_top.specs.declared.words.Mode.{Mode}
 
 -- the journal settles all batches of a network that the text declares, whichever interleaving of the boxes it is
@@ -19,3 +20,9 @@ pub record SettlesText (text : List ℕ) (net : Net) (journal : List JournalLine
 abbrev pub TextAloneDecides : Type 0
 TextAloneDecides = (text : List ℕ) (net other : Net) (first second : List JournalLine) (mode instead : Mode) → SettlesText text net first → SettlesText text other second
     → LeavesDecided net.world (map batch_turns net.batches.items) → output_of mode net first ≡ output_of instead other second
+
+-- so two calls that did their work on one text print the same, under the same premise
+abbrev pub CallsPrintSame : Type 0
+CallsPrintSame = (text : List ℕ) (first second : List JournalLine) (mode instead : Mode) (old new from to : Option (List ℕ)) (status end : ℕ)
+    → (one : Worked mode (Some text) old new status first) (two : Worked instead (Some text) from to end second)
+    → LeavesDecided one.net.world (map batch_turns one.net.batches.items) → output_of mode one.net first ≡ output_of instead two.net second

@@ -1,7 +1,7 @@
 //! Laws of journals, over the definitions alone.
 
 ghost use Rattle.mc_top.specs.Drawn.{DrawnJournalIsOne};
-ghost use Rattle.mc_top.specs.TextAlone.{TextAloneDecides};
+ghost use Rattle.mc_top.specs.TextAlone.{CallsPrintSame, TextAloneDecides};
 
 use mc_seq::laws::schedule_is_one;
 
@@ -16,4 +16,9 @@ pub fn drawn_journal_is_one()
 /// modes, if no batch leaves a path of hold against hold: then the text alone decides what is printed.
 pub fn text_alone_decides()
     ensures { TextAloneDecides }
+{}
+
+/// So two calls that did their work on one text have the same to print, under the same premise.
+pub fn calls_print_same()
+    ensures { CallsPrintSame }
 {}
