@@ -55,7 +55,7 @@ const EIGHT_CHANNELS: &str = "chan audio l# a r# a\n\
 
 const CLOSED: &str = "settle 1\npath a/x b/y close close closed audio\n";
 
-const ROWS: [Row; 35] = [
+const ROWS: [Row; 33] = [
     // codec names
     ("media 1\n", 64, "codec c#\n", PAIR, ""),
     ("media 1\n", 65, "codec c#\n", PAIR, "fault 14 line 66\n"),
@@ -101,21 +101,6 @@ const ROWS: [Row; 35] = [
         "chan audio a s# b s#\n",
         "chan audio c s a s\n",
         "fault 14 line 69\n",
-    ),
-    // tunnels of a channel
-    (
-        "media 1\ndev a\ndev b\nchan audio a s b s\n",
-        7,
-        "also audio t# t#\n",
-        "begin\n",
-        "",
-    ),
-    (
-        "media 1\ndev a\ndev b\nchan audio a s b s\n",
-        8,
-        "also audio t# t#\n",
-        "begin\n",
-        "fault 14 line 12\n",
     ),
     // told words
     (
