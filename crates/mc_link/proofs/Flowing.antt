@@ -1,5 +1,5 @@
 -- The four parts of what two live slots send, put together.
-use Rattle.std.proofs.Common.{◌≡◌, ◌+◌, ℕ, Option, Some, List, [], ◌++◌, length, map, refl, ap, sym, subst, ◌∙◌, append_assoc, arith}
+use Rattle.std.proofs.Common.{◌≡◌, ◌+◌, ◌≤◌, ℕ, Option, Some, List, ◌++◌, length, map, refl, ap, subst, ◌∙◌, append_assoc, arith}
 use Rattle.std.proofs.lemmas.List.{map-append}
 use Rattle.mc_signal.specs.declared.Descriptor.{Descriptor}
 use Rattle.mc_signal.specs.declared.Signal.{Signal}
@@ -44,31 +44,61 @@ numbered_four an bn a b = simp (map-append, numbered_first an bn, numbered_secon
 pub flow_sends : (an bn : ℕ) (a b a_next b_next a_last : Slot) (none one two three four : List (ℕ × Signal))
     → a_next.got ≡ a.got → a_next.sel_out ≡ a.sel_out → a_next.sel_in ≡ a.sel_in → b_next.got ≡ b.got → b_next.sel_out ≡ b.sel_out → b_next.sel_in ≡ b.sel_in
     → a_last.sel_in ≡ a_next.sel_in
-    → none ≡ []
     → one ≡ none ++ map (pair_of an) (descriptor_due a b)
     → two ≡ one ++ map (pair_of bn) (pass_descriptor b.state b.sent a_next.got)
     → three ≡ two ++ map (pair_of an) (selector_due a_next b_next)
     → four ≡ three ++ map (pair_of bn) (selector_due b_next a_last)
-    → four ≡ map (with_number an bn) (flow a b)
-flow_sends an bn a b a_next b_next a_last none one two three four a_got a_sel_out a_sel_in b_got b_sel_out b_sel_in last_sel_in e0 e1 e2 e3 e4 =
+    → four ≡ none ++ map (with_number an bn) (flow a b)
+flow_sends an bn a b a_next b_next a_last none one two three four a_got a_sel_out a_sel_in b_got b_sel_out b_sel_in last_sel_in e1 e2 e3 e4 =
     let passed : pass_descriptor b.state b.sent a_next.got ≡ descriptor_due b a = ap (pass_descriptor b.state b.sent) a_got in
     let first : selector_due a_next b_next ≡ selector_due a b = choosing_same a b a_next b_next a_got a_sel_out b_sel_in in
     let second : selector_due b_next a_last ≡ selector_due b a = choosing_same b a b_next a_last b_got b_sel_out (last_sel_in ∙ a_sel_in) in
-    rw (e4, e3, e2, e1, e0, passed, first, second) (simp append_assoc (sym (numbered_four an bn a b)))
+    rw (e4, e3, e2, e1, passed, first, second, numbered_four an bn a b) (simp append_assoc)
+
+-- where all four parts have room, the first has it
+pub first_room : (a b : Slot) (none limit : ℕ) → none + length (flow a b) ≤ limit → none + length (descriptor_due a b) ≤ limit
+first_room a b none limit fits = omega (arith, fits, four_length (descriptor_due a b) (descriptor_due b a) (selector_due a b) (selector_due b a))
+
+-- then the second
+pub second_room : (a b a_next : Slot) (none one limit : ℕ) → a_next.got ≡ a.got → one ≡ none + length (descriptor_due a b) → none + length (flow a b) ≤ limit
+    → one + length (pass_descriptor b.state b.sent a_next.got) ≤ limit
+second_room a b a_next none one limit a_got e1 fits =
+    let passed : length (pass_descriptor b.state b.sent a_next.got) ≡ length (descriptor_due b a) = ap (λ (o : Option Descriptor). length (pass_descriptor b.state b.sent o)) a_got in
+    omega (arith, fits, e1, passed, four_length (descriptor_due a b) (descriptor_due b a) (selector_due a b) (selector_due b a))
+
+-- then the third
+pub third_room : (a b a_next b_next : Slot) (none one two limit : ℕ) → a_next.got ≡ a.got → a_next.sel_out ≡ a.sel_out → b_next.sel_in ≡ b.sel_in
+    → one ≡ none + length (descriptor_due a b) → two ≡ one + length (pass_descriptor b.state b.sent a_next.got)
+    → none + length (flow a b) ≤ limit → two + length (selector_due a_next b_next) ≤ limit
+third_room a b a_next b_next none one two limit a_got a_sel_out b_sel_in e1 e2 fits =
+    let passed : length (pass_descriptor b.state b.sent a_next.got) ≡ length (descriptor_due b a) = ap (λ (o : Option Descriptor). length (pass_descriptor b.state b.sent o)) a_got in
+    let first : length (selector_due a_next b_next) ≡ length (selector_due a b) = ap (λ (l : List Signal). length l) (choosing_same a b a_next b_next a_got a_sel_out b_sel_in) in
+    omega (arith, fits, e1, e2, passed, first, four_length (descriptor_due a b) (descriptor_due b a) (selector_due a b) (selector_due b a))
 
 -- how many signals the four parts are
 pub flow_length : (a b a_next b_next a_last : Slot) (none one two three four : ℕ)
     → a_next.got ≡ a.got → a_next.sel_out ≡ a.sel_out → a_next.sel_in ≡ a.sel_in → b_next.got ≡ b.got → b_next.sel_out ≡ b.sel_out → b_next.sel_in ≡ b.sel_in
     → a_last.sel_in ≡ a_next.sel_in
-    → none ≡ 0
     → one ≡ none + length (descriptor_due a b)
     → two ≡ one + length (pass_descriptor b.state b.sent a_next.got)
     → three ≡ two + length (selector_due a_next b_next)
     → four ≡ three + length (selector_due b_next a_last)
-    → four ≡ length (flow a b)
-flow_length a b a_next b_next a_last none one two three four a_got a_sel_out a_sel_in b_got b_sel_out b_sel_in last_sel_in e0 e1 e2 e3 e4 =
+    → four ≡ none + length (flow a b)
+flow_length a b a_next b_next a_last none one two three four a_got a_sel_out a_sel_in b_got b_sel_out b_sel_in last_sel_in e1 e2 e3 e4 =
     let passed : length (pass_descriptor b.state b.sent a_next.got) ≡ length (descriptor_due b a) = ap (λ (o : Option Descriptor). length (pass_descriptor b.state b.sent o)) a_got in
     let first : length (selector_due a_next b_next) ≡ length (selector_due a b) = ap (λ (l : List Signal). length l) (choosing_same a b a_next b_next a_got a_sel_out b_sel_in) in
     let second : length (selector_due b_next a_last) ≡ length (selector_due b a) =
     ap (λ (l : List Signal). length l) (choosing_same b a b_next a_last b_got b_sel_out (last_sel_in ∙ a_sel_in)) in
-    omega (arith, e0, e1, e2, e3, e4, passed, first, second, four_length (descriptor_due a b) (descriptor_due b a) (selector_due a b) (selector_due b a))
+    omega (arith, e1, e2, e3, e4, passed, first, second, four_length (descriptor_due a b) (descriptor_due b a) (selector_due a b) (selector_due b a))
+
+-- and the fourth
+pub fourth_room : (a b a_next b_next a_last : Slot) (none one two three limit : ℕ)
+    → a_next.got ≡ a.got → a_next.sel_out ≡ a.sel_out → a_next.sel_in ≡ a.sel_in → b_next.got ≡ b.got → b_next.sel_out ≡ b.sel_out → b_next.sel_in ≡ b.sel_in
+    → a_last.sel_in ≡ a_next.sel_in
+    → one ≡ none + length (descriptor_due a b)
+    → two ≡ one + length (pass_descriptor b.state b.sent a_next.got)
+    → three ≡ two + length (selector_due a_next b_next)
+    → none + length (flow a b) ≤ limit → three + length (selector_due b_next a_last) ≤ limit
+fourth_room a b a_next b_next a_last none one two three limit a_got a_sel_out a_sel_in b_got b_sel_out b_sel_in last_sel_in e1 e2 e3 fits =
+    let all = flow_length a b a_next b_next a_last none one two three (three + length (selector_due b_next a_last)) a_got a_sel_out a_sel_in b_got b_sel_out b_sel_in last_sel_in e1 e2 e3 refl in
+    omega (arith, fits, all)

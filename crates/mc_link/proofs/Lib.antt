@@ -1,4 +1,5 @@
 mod Flowing
+pub mod LinkFour
 pub mod LinkPays
 pub mod LinkRests
 pub mod LinkThree

@@ -20,11 +20,11 @@ answers_one : (answer : Option Signal) → length (answer_signals answer) ≤ 1
 answers_one answer = grind (arith)
 
 -- a slot passes on one descriptor at most
-passes_one : (a b : Slot) → length (descriptor_due a b) ≤ 1
+pub passes_one : (a b : Slot) → length (descriptor_due a b) ≤ 1
 passes_one a b = grind (arith)
 
 -- and one selector at most
-chooses_one : (a b : Slot) → length (selector_due a b) ≤ 1
+pub chooses_one : (a b : Slot) → length (selector_due a b) ≤ 1
 chooses_one a b = grind (arith)
 
 -- two live slots send four parts

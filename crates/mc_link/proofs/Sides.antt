@@ -1,6 +1,6 @@
 -- What is sent over a link, by its two sides.
-use Rattle.std.proofs.Common.{◌≡◌, ◌+◌, ◌≤◌, ℕ, Option, Some, None, List, [], ◌∷◌, ◌++◌, length, take, map, refl, ap, ◌∙◌, arith}
-use Rattle.std.proofs.lemmas.List.{append-nil, length-append, length-map, length-take-le}
+use Rattle.std.proofs.Common.{◌≡◌, ◌+◌, ℕ, Option, Some, None, List, [], ◌∷◌, ◌++◌, length, map, refl, ap, ◌∙◌, arith}
+use Rattle.std.proofs.lemmas.List.{append-nil, length-append, length-map}
 use Rattle.std.specs.Option.{option_and_then}
 use Rattle.mc_signal.specs.declared.Signal.{Signal}
 use Rattle.mc_slot.specs.Moves.{slot_send, slot_send_all}
@@ -84,7 +84,3 @@ sent_both slot middle last first second one two =
 pub four_length : (p q r t : List Signal)
     → length (from_side First p ++ (from_side Second q ++ (from_side First r ++ from_side Second t))) ≡ length p + length q + length r + length t
 four_length p q r t = grind (arith, length-append, length-map)
-
--- where nothing is sent the length is 0
-pub empty_len : {A : Type 0} (len : ℕ) (at : List A) → len ≤ length at → take len at ≡ [] → len ≡ 0
-empty_len len at fits none = omega (arith, length-take-le len at fits, ap length none)

@@ -35,22 +35,47 @@ pub fn link_turn(a: &mut Slot, an: u8, b: &mut Slot, bn: u8, closed_by_far: Opti
     ensures second { slot_send_all b.old (sent_by_second (link_turn a.old b.old closed_by_far)) ≡ Some b.new }
     ensures len { result.len ≡ length (link_turn a.old b.old closed_by_far) }
 {
+    let mut sends = Sends::none();
+    send_link_turn(a, an, b, bn, closed_by_far, &mut sends);
+    sends
+}
+
+/// The same turn, whose sendings come after those that are there.
+pub fn send_link_turn(
+    a: &mut Slot,
+    an: u8,
+    b: &mut Slot,
+    bn: u8,
+    closed_by_far: Option<Side>,
+    sends: &mut Sends,
+)
+    requires order { an < bn }
+    requires medium { a.old.medium ≡ b.old.medium }
+    requires got_first { IsTrue (is_live a.old.state) → IsSome a.old.got }
+    requires got_second { IsTrue (is_live b.old.state) → IsSome b.old.got }
+    requires closed { NamesClosed closed_by_far a.old b.old }
+    requires room { sends.old.len + length (link_turn a.old b.old closed_by_far) ≤ SENDS_LIMIT }
+    ensures sends { sends_of sends.new ≡ sends_of sends.old ++ map (with_number an bn) (link_turn a.old b.old closed_by_far) }
+    ensures first { slot_send_all a.old (sent_by_first (link_turn a.old b.old closed_by_far)) ≡ Some a.new }
+    ensures second { slot_send_all b.old (sent_by_second (link_turn a.old b.old closed_by_far)) ≡ Some b.new }
+    ensures len { sends.new.len ≡ sends.old.len + length (link_turn a.old b.old closed_by_far) }
+{
     match closed_by_far {
         Some(Side::First) => {
             if can_close(b) {
-                send_alone(b, bn, Signal::Close)
+                send_alone(b, bn, Signal::Close, sends)
             } else {
-                lean(a, an, b, bn)
+                lean(a, an, b, bn, sends)
             }
         }
         Some(Side::Second) => {
             if can_close(a) {
-                send_alone(a, an, Signal::Close)
+                send_alone(a, an, Signal::Close, sends)
             } else {
-                lean(a, an, b, bn)
+                lean(a, an, b, bn, sends)
             }
         }
-        None => lean(a, an, b, bn),
+        None => lean(a, an, b, bn, sends),
     }
 }
 
@@ -62,73 +87,73 @@ fn can_close(slot: &Slot) -> bool
 }
 
 // Sends one signal, and nothing else.
-fn send_alone(slot: &mut Slot, no: u8, s: Signal) -> Sends
-    requires { IsSome (slot_send slot.old s) }
-    ensures sends { sends_of result ≡ pair_of no s ∷ [] }
+fn send_alone(slot: &mut Slot, no: u8, s: Signal, sends: &mut Sends)
+    requires may { IsSome (slot_send slot.old s) }
+    requires room { sends.old.len < SENDS_LIMIT }
+    ensures sends { sends_of sends.new ≡ sends_of sends.old ++ pair_of no s ∷ [] }
     ensures after { slot_send slot.old s ≡ Some slot.new }
-    ensures len { result.len ≡ 1 }
+    ensures len { sends.new.len ≡ sends.old.len + 1 }
 {
     slot.send(s);
-    let mut sends = Sends::none();
     sends.push(no, s);
-    sends
 }
 
 // Leans towards media: asks for them where one slot alone is live, and passes on what is new where both are.
-#[tactic(auto, using(crate::proofs::Sides::empty_len))]
-fn lean(a: &mut Slot, an: u8, b: &mut Slot, bn: u8) -> Sends
+fn lean(a: &mut Slot, an: u8, b: &mut Slot, bn: u8, sends: &mut Sends)
     requires got_first { IsTrue (is_live a.old.state) → IsSome a.old.got }
     requires got_second { IsTrue (is_live b.old.state) → IsSome b.old.got }
-    ensures sends { sends_of result ≡ map (with_number an bn) (lean a.old b.old) }
+    requires room { sends.old.len + length (lean a.old b.old) ≤ SENDS_LIMIT }
+    ensures sends { sends_of sends.new ≡ sends_of sends.old ++ map (with_number an bn) (lean a.old b.old) }
     ensures first { slot_send_all a.old (sent_by_first (lean a.old b.old)) ≡ Some a.new }
     ensures second { slot_send_all b.old (sent_by_second (lean a.old b.old)) ≡ Some b.new }
-    ensures len { result.len ≡ length (lean a.old b.old) }
+    ensures len { sends.new.len ≡ sends.old.len + length (lean a.old b.old) }
 {
     match (a.state, b.state) {
-        (State::Closed, State::Opened | State::Flowing) => open_with(a, an, b.got),
-        (State::Opened | State::Flowing, State::Closed) => open_with(b, bn, a.got),
-        (State::Opened | State::Flowing, State::Opened | State::Flowing) => flow(a, an, b, bn),
-        _ => Sends::none(),
+        (State::Closed, State::Opened | State::Flowing) => open_with(a, an, b.got, sends),
+        (State::Opened | State::Flowing, State::Closed) => open_with(b, bn, a.got, sends),
+        (State::Opened | State::Flowing, State::Opened | State::Flowing) => {
+            flow(a, an, b, bn, sends)
+        }
+        _ => {}
     }
 }
 
 // A closed slot asks for media, with the descriptor that the other slot got.
-fn open_with(slot: &mut Slot, no: u8, got: Option<Descriptor>) -> Sends
-    requires { slot.old.state ≡ State.Closed }
-    ensures sends { sends_of result ≡ map (pair_of no) (open_with slot.old got) }
+fn open_with(slot: &mut Slot, no: u8, got: Option<Descriptor>, sends: &mut Sends)
+    requires closed { slot.old.state ≡ State.Closed }
+    requires room { sends.old.len + length (open_with slot.old got) ≤ SENDS_LIMIT }
+    ensures sends { Adds sends.old sends.new no (open_with slot.old got) }
     ensures after { slot_send_all slot.old (open_with slot.old got) ≡ Some slot.new }
-    ensures len { result.len ≡ length (open_with slot.old got) }
+    ensures len { sends.new.len ≡ sends.old.len + length (open_with slot.old got) }
 {
-    match got {
-        Some(got) => send_alone(slot, no, Signal::Open(slot.medium, got)),
-        None => Sends::none(),
+    if let Some(got) = got {
+        send_alone(slot, no, Signal::Open(slot.medium, got), sends);
     }
 }
 
 // Two live slots pass on what is new: first the descriptors, then the selectors.
-fn flow(a: &mut Slot, an: u8, b: &mut Slot, bn: u8) -> Sends
+fn flow(a: &mut Slot, an: u8, b: &mut Slot, bn: u8, sends: &mut Sends)
     requires live_first { IsTrue (is_live a.old.state) }
     requires live_second { IsTrue (is_live b.old.state) }
     requires got_first { IsSome a.old.got }
     requires got_second { IsSome b.old.got }
-    ensures sends { sends_of result ≡ map (with_number an bn) (flow a.old b.old) }
+    requires room { sends.old.len + length (flow a.old b.old) ≤ SENDS_LIMIT }
+    ensures sends { sends_of sends.new ≡ sends_of sends.old ++ map (with_number an bn) (flow a.old b.old) }
     ensures first { slot_send_all a.old (sent_by_first (flow a.old b.old)) ≡ Some a.new }
     ensures second { slot_send_all b.old (sent_by_second (flow a.old b.old)) ≡ Some b.new }
-    ensures len { result.len ≡ length (flow a.old b.old) }
+    ensures len { sends.new.len ≡ sends.old.len + length (flow a.old b.old) }
 {
-    let mut sends = Sends::none();
-    pass_descriptor(a, an, b.got, &mut sends);
-    pass_descriptor(b, bn, a.got, &mut sends);
-    pass_selector(a, an, b.sel_in, &mut sends);
-    pass_selector(b, bn, a.sel_in, &mut sends);
-    sends
+    pass_descriptor(a, an, b.got, sends);
+    pass_descriptor(b, bn, a.got, sends);
+    pass_selector(a, an, b.sel_in, sends);
+    pass_selector(b, bn, a.sel_in, sends);
 }
 
 // A live slot passes on the descriptor that the other slot got, where it is new.
 fn pass_descriptor(slot: &mut Slot, no: u8, got: Option<Descriptor>, sends: &mut Sends)
     requires live { IsTrue (is_live slot.old.state) }
     requires got { IsSome got }
-    requires room { sends.old.len < SENDS_LIMIT }
+    requires room { sends.old.len + length (pass_descriptor slot.old.state slot.old.sent got) ≤ SENDS_LIMIT }
     ensures after { slot_send_all slot.old (pass_descriptor slot.old.state slot.old.sent got) ≡ Some slot.new }
     ensures flowing { slot.new.state ≡ State.Flowing }
     ensures got { slot.new.got ≡ slot.old.got }
@@ -136,7 +161,6 @@ fn pass_descriptor(slot: &mut Slot, no: u8, got: Option<Descriptor>, sends: &mut
     ensures sel_out { slot.new.sel_out ≡ slot.old.sel_out }
     ensures sends { Adds sends.old sends.new no (pass_descriptor slot.old.state slot.old.sent got) }
     ensures len { sends.new.len ≡ sends.old.len + length (pass_descriptor slot.old.state slot.old.sent got) }
-    ensures few { sends.new.len ≤ sends.old.len + 1 }
 {
     if let Some(got) = got {
         if slot.state == State::Opened {
@@ -152,12 +176,11 @@ fn pass_descriptor(slot: &mut Slot, no: u8, got: Option<Descriptor>, sends: &mut
 // A flowing slot passes on the selector that the other slot got, where it answers this slot's descriptor and is new.
 fn pass_selector(slot: &mut Slot, no: u8, heard: Option<Selector>, sends: &mut Sends)
     requires flowing { slot.old.state ≡ State.Flowing }
-    requires room { sends.old.len < SENDS_LIMIT }
+    requires room { sends.old.len + length (pass_selector heard slot.old.got slot.old.sel_out) ≤ SENDS_LIMIT }
     ensures after { slot_send_all slot.old (pass_selector heard slot.old.got slot.old.sel_out) ≡ Some slot.new }
     ensures sel_in { slot.new.sel_in ≡ slot.old.sel_in }
     ensures sends { Adds sends.old sends.new no (pass_selector heard slot.old.got slot.old.sel_out) }
     ensures len { sends.new.len ≡ sends.old.len + length (pass_selector heard slot.old.got slot.old.sel_out) }
-    ensures few { sends.new.len ≤ sends.old.len + 1 }
 {
     if let (Some(heard), Some(got)) = (heard, slot.got) {
         if answers(&heard, &got) && slot.sel_out != Some(heard) {
