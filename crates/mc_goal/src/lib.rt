@@ -1,10 +1,11 @@
 //! The turn of an end: what it sends by its goal, after something that concerns it.
 #![tactic(auto)]
 
-ghost use Rattle.std.specs.Prelude.{◌≡◌, ◌≤◌, Some, IsSome, IsTrue, map};
+ghost use Rattle.std.specs.Prelude.{◌≡◌, ◌+◌, ◌≤◌, Some, IsSome, IsTrue, length, map};
 ghost use Rattle.mc_slot.specs.EndTurn.{end_turn, live_turn, owes};
 ghost use Rattle.mc_slot.specs.Moves.{is_live, slot_send_all};
-ghost use Rattle.mc_slot.specs.Sending.{sends_of, pair_of};
+ghost use Rattle.mc_slot.specs.Sending.{Adds, sends_of, pair_of};
+ghost use Rattle.mc_slot.specs.declared.sends.TheConstants.{SENDS_LIMIT};
 
 use mc_signal::{Descriptor, Sender, Signal, choose};
 use mc_slot::{Goal, Sends, Slot, State};
@@ -27,6 +28,26 @@ pub fn end_turn(
     ensures few { result.len ≤ 2 }
 {
     let mut sends = Sends::none();
+    send_end_turn(slot, no, goal, push, own, me, &mut sends);
+    sends
+}
+
+/// The same turn, whose sendings come after those that are there.
+pub fn send_end_turn(
+    slot: &mut Slot,
+    no: u8,
+    goal: Goal,
+    push: bool,
+    own: Descriptor,
+    me: &Sender,
+    sends: &mut Sends,
+)
+    requires got { IsTrue (is_live slot.old.state) → IsSome slot.old.got }
+    requires room { sends.old.len + length (end_turn goal slot.old push own me.now) ≤ SENDS_LIMIT }
+    ensures sends { Adds sends.old sends.new no (end_turn goal slot.old push own me.now) }
+    ensures after { slot_send_all slot.old (end_turn goal slot.old push own me.now) ≡ Some slot.new }
+    ensures len { sends.new.len ≡ sends.old.len + length (end_turn goal slot.old push own me.now) }
+{
     match (slot.state, goal) {
         (State::Closed, Goal::Open) => {
             if push {
@@ -41,21 +62,20 @@ pub fn end_turn(
             sends.push(no, Signal::Close);
         }
         (State::Opening, _) => {}
-        (State::Opened, _) => return accept(slot, no, own, me),
-        (State::Flowing, _) => return describe_anew(slot, no, own, me),
+        (State::Opened, _) => accept(slot, no, own, me, sends),
+        (State::Flowing, _) => describe_anew(slot, no, own, me, sends),
     }
-    sends
 }
 
 // An opened slot accepts, and answers the descriptor that it got.
-fn accept(slot: &mut Slot, no: u8, own: Descriptor, me: &Sender) -> Sends
+fn accept(slot: &mut Slot, no: u8, own: Descriptor, me: &Sender, sends: &mut Sends)
     requires opened { slot.old.state ≡ State.Opened }
     requires got { IsSome slot.old.got }
-    ensures sends { sends_of result ≡ map (pair_of no) (live_turn slot.old.state slot.old own me.now) }
+    requires room { sends.old.len + length (live_turn slot.old.state slot.old own me.now) ≤ SENDS_LIMIT }
+    ensures sends { Adds sends.old sends.new no (live_turn slot.old.state slot.old own me.now) }
     ensures after { slot_send_all slot.old (live_turn slot.old.state slot.old own me.now) ≡ Some slot.new }
-    ensures few { result.len ≤ 2 }
+    ensures len { sends.new.len ≡ sends.old.len + length (live_turn slot.old.state slot.old own me.now) }
 {
-    let mut sends = Sends::none();
     if let Some(got) = slot.got {
         let select = Signal::Select(choose(got, me));
         slot.send(Signal::Oack(own));
@@ -63,18 +83,17 @@ fn accept(slot: &mut Slot, no: u8, own: Descriptor, me: &Sender) -> Sends
         sends.push(no, Signal::Oack(own));
         sends.push(no, select);
     }
-    sends
 }
 
 // A flowing slot sends its descriptor and its selector, each where it differs from the last.
-fn describe_anew(slot: &mut Slot, no: u8, own: Descriptor, me: &Sender) -> Sends
+fn describe_anew(slot: &mut Slot, no: u8, own: Descriptor, me: &Sender, sends: &mut Sends)
     requires flowing { slot.old.state ≡ State.Flowing }
     requires got { IsSome slot.old.got }
-    ensures sends { sends_of result ≡ map (pair_of no) (live_turn slot.old.state slot.old own me.now) }
+    requires room { sends.old.len + length (live_turn slot.old.state slot.old own me.now) ≤ SENDS_LIMIT }
+    ensures sends { Adds sends.old sends.new no (live_turn slot.old.state slot.old own me.now) }
     ensures after { slot_send_all slot.old (live_turn slot.old.state slot.old own me.now) ≡ Some slot.new }
-    ensures few { result.len ≤ 2 }
+    ensures len { sends.new.len ≡ sends.old.len + length (live_turn slot.old.state slot.old own me.now) }
 {
-    let mut sends = Sends::none();
     if let Some(got) = slot.got {
         let choice = choose(got, me);
         if slot.sent != Some(own) {
@@ -86,7 +105,6 @@ fn describe_anew(slot: &mut Slot, no: u8, own: Descriptor, me: &Sender) -> Sends
             sends.push(no, Signal::Select(choice));
         }
     }
-    sends
 }
 
 /// Whether a slot owes a retry: its goal is open, and it is closed.
