@@ -1,21 +1,17 @@
 -- The turn of a goal: what it leaves as it was, what comes to rest, and how much it sends.
-use Rattle.std.proofs.Common.{◌≡◌, ◌≢◌, ℕ, ◌+◌, ◌<◌, ◌≤◌, ◌&&◌, Bool, true, false, if◌then◌else◌, Option, Some, None, List, [], ◌∷◌, ◌++◌, map, inl, inr, length, max, min, refl, ap, sym, ◌∙◌, subst, arith}
+use Rattle.std.proofs.Common.{◌≡◌, ◌≢◌, ℕ, ◌<◌, ◌≤◌, Bool, Option, Some, List, [], ◌∷◌, ◌++◌, map, inl, inr, length, max, min, refl, ap, sym, ◌∙◌, subst, arith}
 use Rattle.std.specs.Option.{option_map}
 use Rattle.std.proofs.Math.ListN.{get_or, set, length-set}
 use Rattle.std.proofs.lemmas.Bool.{cases_eq}
 use Rattle.std.proofs.lemmas.List.{get_or-set_same, get_or-set_other, length-map}
-use Rattle.mc_link.specs.LinkTurn.{can_close, selector_due, lean, link_turn, with_number, descriptor_due, sent_by_first, sent_by_second, IsLinkAtRest, closed_side}
+use Rattle.mc_link.specs.LinkTurn.{link_turn, with_number, sent_by_first, sent_by_second, IsLinkAtRest, closed_side}
 use Rattle.mc_link.specs.declared.Side.{Side}
-use Rattle.mc_link.specs.declared.Side.TheVariants.{First, Second}
+use Rattle.mc_goal.proofs.Few.{due_two}
+use Rattle.mc_link.proofs.LinkFour.{link_four}
 use Rattle.mc_link.proofs.LinkRests.{link_rests}
-use Rattle.mc_link.proofs.LinkThree.{calm_one}
-use Rattle.mc_link.proofs.Parts.{both, live_both}
-use Rattle.mc_link.proofs.Sides.{four_length}
-use Rattle.mc_signal.specs.declared.Descriptor.{Descriptor}
-use Rattle.mc_signal.specs.declared.Sender.{Sender}
 use Rattle.mc_signal.specs.declared.Signal.{Signal}
 use Rattle.mc_slot.specs.EndTurn.{end_turn, is_push}
-use Rattle.mc_slot.specs.Moves.{is_live, slot_send, slot_send_all}
+use Rattle.mc_slot.specs.Moves.{slot_send, slot_send_all}
 use Rattle.mc_slot.specs.Sending.{pair_of}
 use Rattle.mc_slot.specs.Tunnel.{Kept}
 use Rattle.mc_slot.specs.declared.Cause.{Cause}
@@ -24,7 +20,7 @@ use Rattle.mc_slot.specs.declared.Slot.{Slot}
 use Rattle.mc_slot.specs.declared.SlotGoal.{SlotGoal}
 use Rattle.mc_slot.specs.declared.SlotGoal.TheVariants.{End, Link}
 use Rattle.mc_turn.proofs.EndRests.{rests_kept}
-use Rattle.mc_box.specs.BoxEvents.{BoxStep, end_step, goal_step, pair_step, side_of, goal_step_by}
+use Rattle.mc_box.specs.BoxEvents.{BoxStep, end_step, goal_step, pair_step, side_of, goal_step_by, turn_length_by}
 use Rattle.mc_box.specs.BoxSound.{IsWired, RestsAt}
 use Rattle.mc_box.specs.Goals.{most_signals}
 use Rattle.mc_box.specs.Boxes.{BoxState, no_slot, slot_at, goal_at, media_at, own, sender, with_slot}
@@ -55,34 +51,14 @@ all_kept (signal ∷ signals) slot after goes kept =
 
 -- ---- how much a turn sends
 
-pub due_two : (goal : Goal) (slot : Slot) (pushed : Bool) (mine : Descriptor) (me : Sender) → length (end_turn goal slot pushed mine me) ≤ 2
-due_two goal slot pushed mine me = grind (arith)
+-- at most an end's two signals, or a link's four
+pub turn_most : (goal : SlotGoal) (box : BoxState) (local : ℕ) (cause : Cause) → turn_length_by goal box local cause ≤ most_signals goal
+turn_most (End goal) box local cause = due_two goal (slot_at box local) (is_push cause) (own box local) (sender box local)
+turn_most (Link partner) box local cause = link_four (closed_side cause (side_of local partner)) (slot_at box (min local partner)) (slot_at box (max local partner))
 
-passes_one : (a b : Slot) → length (descriptor_due a b) ≤ 1
-passes_one a b = grind (arith)
-
-chooses_one : (a b : Slot) → length (selector_due a b) ≤ 1
-chooses_one a b = grind (arith)
-
-lean_by : (live : Bool) (a b : Slot) → is_live a.state && is_live b.state ≡ live → length (lean a b) ≤ 4
-lean_by false a b is = omega (arith, calm_one None a b is)
-lean_by true a b is =
-    let live = both (is_live a.state) (is_live b.state) is in
-    let same : length (lean a b) ≡ length (descriptor_due a b) + length (descriptor_due b a) + length (selector_due a b) + length (selector_due b a) =
-    ap (λ (l : List (Side × Signal)). length l) (live_both a b live.0 live.1) ∙ four_length (descriptor_due a b) (descriptor_due b a) (selector_due a b) (selector_due b a) in
-    omega (arith, same, passes_one a b, passes_one b a, chooses_one a b, chooses_one b a)
-
-lean_four : (a b : Slot) → length (lean a b) ≤ 4
-lean_four a b = lean_by (is_live a.state && is_live b.state) a b refl
-
-one_or : (close : Bool) (one more : List (Side × Signal)) → length one ≤ 4 → length more ≤ 4 → length (if close then one else more) ≤ 4
-one_or true one more first second = first
-one_or false one more first second = second
-
-pub link_four : (closed : Option Side) (a b : Slot) → length (link_turn a b closed) ≤ 4
-link_four None a b = lean_four a b
-link_four (Some First) a b = one_or (can_close b.state) _ _ (omega arith) (lean_four a b)
-link_four (Some Second) a b = one_or (can_close a.state) _ _ (omega arith) (lean_four a b)
+pub most_four : (goal : SlotGoal) → most_signals goal ≤ 4
+most_four (End goal) = omega arith
+most_four (Link partner) = omega arith
 
 -- ---- the form of a turn
 
@@ -116,6 +92,18 @@ pair_form box low high closed step goes =
       after = with_slot (with_slot box low one.0) high second;
     }) (slot_send_all (slot_at box high) (sent_by_second (link_turn (slot_at box low) (slot_at box high) closed))) step one.2 in
     record { first = one.0; second = two.0; first_goes = one.1; second_goes = two.1; is = two.2 }
+
+-- what a turn sends is as long as it should be
+pub turn_is : (goal : SlotGoal) (box : BoxState) (local : ℕ) (cause : Cause) (step : BoxStep) → goal_step_by goal box local cause ≡ Some step
+    → length step.sent ≡ turn_length_by goal box local cause
+turn_is (End goal) box local cause step goes =
+    let form = end_form box local goal cause step goes in
+    subst (λ (s : BoxStep). length s.sent ≡ turn_length_by (End goal) box local cause) form.is
+    (length-map (end_turn goal (slot_at box local) (is_push cause) (own box local) (sender box local)) (pair_of local))
+turn_is (Link partner) box local cause step goes =
+    let form = pair_form box (min local partner) (max local partner) (closed_side cause (side_of local partner)) step goes in
+    subst (λ (s : BoxStep). length s.sent ≡ turn_length_by (Link partner) box local cause) form.is
+    (length-map (link_turn (slot_at box (min local partner)) (slot_at box (max local partner)) (closed_side cause (side_of local partner))) (with_number (min local partner) (max local partner)))
 
 -- ---- what a turn comes to
 

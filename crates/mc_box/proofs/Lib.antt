@@ -11,6 +11,7 @@ pub mod Held
 pub mod LinkFree
 pub mod NewBoxes
 pub mod Options
+pub mod Pairs
 pub mod SentBy
 pub mod ShapeEnables
 pub mod Sums

@@ -1,5 +1,5 @@
 -- One event of one box: what it sends, and what it is after that. An event that has no case can't happen.
-use Rattle.std.specs.Prelude.{◌≡◌, ℕ, ◌+◌, ◌==◌, ◌&&◌, Bool, true, false, if◌then◌else◌, not, List, [], ◌∷◌, ◌++◌, map, max, min, nat_lt, Option, Some, None}
+use Rattle.std.specs.Prelude.{◌≡◌, ℕ, ◌+◌, ◌==◌, ◌&&◌, Bool, true, false, if◌then◌else◌, not, List, [], ◌∷◌, ◌++◌, length, map, max, min, nat_lt, Option, Some, None}
 use Rattle.std.specs.Option.{option_map, option_and_then}
 use Rattle.mc_link.specs.LinkTurn.{link_turn, with_number, sent_by_first, sent_by_second, closed_side}
 use Rattle.mc_link.specs.declared.Side.{Side}
@@ -67,6 +67,16 @@ goal_step_by (Link partner) box local cause = link_step box local partner cause
 -- the turn of the goal that holds a slot, by what it follows
 abbrev pub goal_step : BoxState → ℕ → Cause → Option BoxStep
 goal_step box local cause = goal_step_by (goal_at box local) box local cause
+
+-- how many signals the turn of a goal is
+abbrev pub turn_length_by : SlotGoal → BoxState → ℕ → Cause → ℕ
+turn_length_by (End goal) box local cause = length (end_turn goal (slot_at box local) (is_push cause) (own box local) (sender box local))
+turn_length_by (Link partner) box local cause =
+    length (link_turn (slot_at box (min local partner)) (slot_at box (max local partner)) (closed_side cause (side_of local partner)))
+
+-- and that of the goal that holds a slot
+abbrev pub turn_length : BoxState → ℕ → Cause → ℕ
+turn_length box local cause = turn_length_by (goal_at box local) box local cause
 
 -- ---- a signal is taken
 

@@ -26,7 +26,7 @@ impl BoxParts {
         ensures sent { AppendsTo (goal_step (box_state self.old) local cause) self.new out.old out.new }
         ensures room { out.new.spare + length out.new.items ≡ out.old.spare + length out.old.items }
     {
-        let turn = self.goal_step(local, cause);
+        let turn = self.goal_turn(local, cause);
         out.push_all(turn.as_slice());
     }
 
@@ -40,7 +40,7 @@ impl BoxParts {
     {
         for i in 0..old.len() {
             if has_turn(i as u8, old[i], self.goals[i]) {
-                let turn = self.goal_step(i as u8, Cause::Push);
+                let turn = self.goal_turn(i as u8, Cause::Push);
                 out.push_all(turn.as_slice());
             }
         }

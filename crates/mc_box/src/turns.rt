@@ -1,79 +1,95 @@
 // The turns of a box's goals.
 
 ghost use Rattle.std.specs.Prelude.{◌≡◌, ◌+◌, ◌<◌, ◌≤◌, ◌++◌, length, map, max, min, Some, IsSome, IsTrue};
-ghost use Rattle.mc_link.specs.LinkTurn.{NamesClosed, closed_side};
+ghost use Rattle.mc_link.specs.LinkTurn.{NamesClosed, closed_side, link_turn};
 ghost use Rattle.mc_slot.specs.Moves.{answer_signals, slot_take};
 ghost use Rattle.mc_slot.specs.Sending.{pair_of, sends_of};
+ghost use Rattle.mc_slot.specs.declared.sends.TheConstants.{SENDS_LIMIT};
 ghost use Rattle.mc_slot.specs.declared.State.TheVariants.{Closed};
-ghost use Rattle.mc_box.specs.BoxEvents.{end_step, goal_step, link_step, pair_step, side_of, step_of, take_step};
+ghost use Rattle.mc_box.specs.BoxEvents.{Appends, end_step, goal_step, link_step, pair_step, side_of, step_of, take_step, turn_length, turn_length_by};
 ghost use Rattle.mc_box.specs.BoxSound.{box_state, IsSoundBox, IsWired};
 ghost use Rattle.mc_box.specs.Boxes.{goal_at, slot_at};
 ghost use Rattle.mc_box.specs.Goals.{most_signals};
 
 use crate::parts::BoxParts;
-use mc_goal::end_turn;
-use mc_link::{Side, link_turn};
+use mc_goal::send_end_turn;
+use mc_link::{Side, send_link_turn};
 use mc_signal::Signal;
 use mc_slot::{Cause, Goal, Sends, SlotGoal, cause_of};
 
 impl BoxParts {
     // An end sends what its goal lacks.
-    fn end_step(&mut self, local: u8, goal: Goal, cause: Cause) -> Sends
+    fn end_step(&mut self, local: u8, goal: Goal, cause: Cause, sends: &mut Sends)
         requires wired { IsWired (box_state self.old) }
         requires here { local < length self.old.slots.items }
-        ensures turn { end_step goal (box_state self.old) local cause ≡ Some (step_of result (box_state self.new)) }
-        ensures few { result.len ≤ 2 }
+        requires room { sends.old.len + turn_length_by (SlotGoal.End goal) (box_state self.old) local cause ≤ SENDS_LIMIT }
+        ensures turn { Appends (end_step goal (box_state self.old) local cause) (box_state self.new) (sends_of sends.old) (sends_of sends.new) }
+        ensures len { sends.new.len ≡ sends.old.len + turn_length_by (SlotGoal.End goal) (box_state self.old) local cause }
     {
         let own = self.own(local);
         let me = self.sender(local);
-        let mut slot = self.slots[local as usize];
         let push = matches!(cause, Cause::Push);
-        let sends = end_turn(&mut slot, local, goal, push, own, &me);
-        self.slots[local as usize] = slot;
-        sends
+        let slot = &mut self.slots[local as usize];
+        send_end_turn(slot, local, goal, push, own, &me, sends);
     }
 
     // Two linked slots, the lower one first, pass on what each has of the other.
-    fn pair_step(&mut self, low: u8, high: u8, closed: Option<Side>) -> Sends
+    fn pair_step(&mut self, low: u8, high: u8, closed: Option<Side>, sends: &mut Sends)
         requires wired { IsWired (box_state self.old) }
         requires order { low < high }
         requires here { high < length self.old.slots.items }
         requires medium { (slot_at (box_state self.old) low).medium ≡ (slot_at (box_state self.old) high).medium }
         requires closed { NamesClosed closed (slot_at (box_state self.old) low) (slot_at (box_state self.old) high) }
-        ensures { pair_step (box_state self.old) low high closed ≡ Some (step_of result (box_state self.new)) }
+        requires room { sends.old.len + length (link_turn (slot_at (box_state self.old) low) (slot_at (box_state self.old) high) closed) ≤ SENDS_LIMIT }
+        ensures turn { Appends (pair_step (box_state self.old) low high closed) (box_state self.new) (sends_of sends.old) (sends_of sends.new) }
+        ensures len { sends.new.len ≡ sends.old.len + length (link_turn (slot_at (box_state self.old) low) (slot_at (box_state self.old) high) closed) }
     {
-        let mut first = self.slots[low as usize];
-        let mut second = self.slots[high as usize];
-        let sends = link_turn(&mut first, low, &mut second, high, closed);
-        self.slots[low as usize] = first;
-        self.slots[high as usize] = second;
-        sends
+        let (lower, rest) = self.slots.split_at_mut(high as usize);
+        let first = &mut lower[low as usize];
+        let second = &mut rest[0];
+        send_link_turn(first, low, second, high, closed, sends);
     }
 
     // A link has its turn, as seen from one of its slots.
-    fn link_step(&mut self, local: u8, partner: u8, cause: Cause) -> Sends
+    fn link_step(&mut self, local: u8, partner: u8, cause: Cause, sends: &mut Sends)
         requires wired { IsWired (box_state self.old) }
         requires here { local < length self.old.slots.items }
         requires linked { goal_at (box_state self.old) local ≡ SlotGoal.Link partner }
         requires closed { cause ≡ Cause.Close → (slot_at (box_state self.old) local).state ≡ Closed }
-        ensures { link_step (box_state self.old) local partner cause ≡ Some (step_of result (box_state self.new)) }
+        requires room { sends.old.len + turn_length_by (SlotGoal.Link partner) (box_state self.old) local cause ≤ SENDS_LIMIT }
+        ensures turn { Appends (link_step (box_state self.old) local partner cause) (box_state self.new) (sends_of sends.old) (sends_of sends.new) }
+        ensures len { sends.new.len ≡ sends.old.len + turn_length_by (SlotGoal.Link partner) (box_state self.old) local cause }
     {
         let side = closed_side(cause, side_of(local, partner));
-        self.pair_step(local.min(partner), local.max(partner), side)
+        self.pair_step(local.min(partner), local.max(partner), side, sends);
+    }
+
+    // The goal that holds a slot has its turn, by what it follows, and its sendings come after those that are there.
+    fn goal_step(&mut self, local: u8, cause: Cause, sends: &mut Sends)
+        requires wired { IsWired (box_state self.old) }
+        requires here { local < length self.old.slots.items }
+        requires closed { cause ≡ Cause.Close → (slot_at (box_state self.old) local).state ≡ Closed }
+        requires room { sends.old.len + turn_length (box_state self.old) local cause ≤ SENDS_LIMIT }
+        ensures turn { Appends (goal_step (box_state self.old) local cause) (box_state self.new) (sends_of sends.old) (sends_of sends.new) }
+        ensures len { sends.new.len ≡ sends.old.len + turn_length (box_state self.old) local cause }
+    {
+        match self.goals[local as usize] {
+            SlotGoal::End(goal) => self.end_step(local, goal, cause, sends),
+            SlotGoal::Link(partner) => self.link_step(local, partner, cause, sends),
+        }
     }
 
     /// The turn of the goal that holds a slot, by what it follows.
-    pub fn goal_step(&mut self, local: u8, cause: Cause) -> Sends
+    pub fn goal_turn(&mut self, local: u8, cause: Cause) -> Sends
         requires wired { IsWired (box_state self.old) }
         requires here { local < length self.old.slots.items }
         requires closed { cause ≡ Cause.Close → (slot_at (box_state self.old) local).state ≡ Closed }
         ensures turn { goal_step (box_state self.old) local cause ≡ Some (step_of result (box_state self.new)) }
         ensures few { result.len ≤ most_signals (goal_at (box_state self.old) local) }
     {
-        match self.goals[local as usize] {
-            SlotGoal::End(goal) => self.end_step(local, goal, cause),
-            SlotGoal::Link(partner) => self.link_step(local, partner, cause),
-        }
+        let mut turn = Sends::none();
+        self.goal_step(local, cause, &mut turn);
+        turn
     }
 
     /// A slot takes a signal that is lawful for it, and the goal that holds it has its turn.
@@ -84,12 +100,11 @@ impl BoxParts {
         ensures step { take_step (box_state self.old) local s ≡ Some (step_of result (box_state self.new)) }
         ensures few { result.len ≤ 3 }
     {
-        let mut slot = self.slots[local as usize];
+        let slot = &mut self.slots[local as usize];
         let answer = slot.take(s);
-        self.slots[local as usize] = slot;
+        let cause = cause_of(&s, slot.state);
         let mut sends = Sends::answer(local, answer);
-        let turn = self.goal_step(local, cause_of(&s, slot.state));
-        sends.append(&turn);
+        self.goal_step(local, cause, &mut sends);
         sends
     }
 }

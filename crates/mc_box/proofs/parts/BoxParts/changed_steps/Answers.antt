@@ -14,10 +14,10 @@ push_all-requires c =
     let so_far = c.loop-i.invariant.turning in
     let also : c.loop-i.i < length c.loop-i.self.goals.items =
     omega (arith, turning_goals (box_state c.args.self.now) (box_state c.loop-i.self) c.args.old.now c.loop-i.i c.args.out.now.items c.loop-i.out.items c.requires.olds c.requires.wired so_far, c.loop-i-test.true) in
-    let fits = turning_fits (box_state c.args.self.now) (box_state c.loop-i.self) c.args.old.now c.loop-i.i c.goal_step-turn.result.len c.loop-i.out.spare c.args.out.now.spare c.args.out.now.items c.loop-i.out.items
+    let fits = turning_fits (box_state c.args.self.now) (box_state c.loop-i.self) c.args.old.now c.loop-i.i c.goal_turn-turn.result.len c.loop-i.out.spare c.args.out.now.spare c.args.out.now.items c.loop-i.out.items
     c.loop-i-test.true c.requires.olds c.requires.wired
     (turn_read c.args.old.now c.loop-i.self.goals.items c.loop-i.i _ c.index.result.now c.has_turn.result true c.loop-i-test.true also c.index.ensures c.has_turn.ensures c.if-has_turn.true)
-    c.goal_step-turn.ensures.few c.requires.space c.loop-i.invariant.room so_far in
+    c.goal_turn-turn.ensures.few c.requires.space c.loop-i.invariant.room so_far in
     rw c.as_slice.ensures.len fits
 
 pub loop-i-preserved : goal.loop-i-preserved
@@ -27,21 +27,21 @@ loop-i-preserved c =
     omega (arith, turning_goals (box_state c.args.self.now) (box_state c.loop-i.self) c.args.old.now c.loop-i.i c.args.out.now.items c.loop-i.out.items c.requires.olds c.requires.wired so_far, c.loop-i-test.true) in
     elim c.if-has_turn.branch [
       | then-has_turn w ↦
-          let fits : w.goal_step-turn.result.len ≤ length w.goal_step-turn.result.at = search rules in
-          let size : length (sends_of w.goal_step-turn.result) ≡ w.goal_step-turn.result.len = sends_length w.goal_step-turn.result fits in
-          let added : w.push_all.new.self.items ≡ c.loop-i.out.items ++ sends_of w.goal_step-turn.result =
+          let fits : w.goal_turn-turn.result.len ≤ length w.goal_turn-turn.result.at = search rules in
+          let size : length (sends_of w.goal_turn-turn.result) ≡ w.goal_turn-turn.result.len = sends_length w.goal_turn-turn.result fits in
+          let added : w.push_all.new.self.items ≡ c.loop-i.out.items ++ sends_of w.goal_turn-turn.result =
           w.push_all.ensures.items ∙ ap (λ (l : List (ℕ × Signal)). c.loop-i.out.items ++ l) w.as_slice.ensures.sends in
-          let long : length w.push_all.new.self.items ≡ length c.loop-i.out.items + length (sends_of w.goal_step-turn.result) =
-          ap length added ∙ length-append c.loop-i.out.items (sends_of w.goal_step-turn.result) in
-          let turning : Turning (box_state c.args.self.now) (box_state w.goal_step-turn.new.self) c.args.old.now (c.loop-i.i + 1) c.args.out.now.items w.push_all.new.self.items =
-          subst (λ (l : List (ℕ × Signal)). Turning (box_state c.args.self.now) (box_state w.goal_step-turn.new.self) c.args.old.now (c.loop-i.i + 1) c.args.out.now.items l) (sym added)
-          (turning_turn (box_state c.args.self.now) (box_state c.loop-i.self) (box_state w.goal_step-turn.new.self) c.args.old.now c.loop-i.i c.args.out.now.items c.loop-i.out.items (sends_of w.goal_step-turn.result)
+          let long : length w.push_all.new.self.items ≡ length c.loop-i.out.items + length (sends_of w.goal_turn-turn.result) =
+          ap length added ∙ length-append c.loop-i.out.items (sends_of w.goal_turn-turn.result) in
+          let turning : Turning (box_state c.args.self.now) (box_state w.goal_turn-turn.new.self) c.args.old.now (c.loop-i.i + 1) c.args.out.now.items w.push_all.new.self.items =
+          subst (λ (l : List (ℕ × Signal)). Turning (box_state c.args.self.now) (box_state w.goal_turn-turn.new.self) c.args.old.now (c.loop-i.i + 1) c.args.out.now.items l) (sym added)
+          (turning_turn (box_state c.args.self.now) (box_state c.loop-i.self) (box_state w.goal_turn-turn.new.self) c.args.old.now c.loop-i.i c.args.out.now.items c.loop-i.out.items (sends_of w.goal_turn-turn.result)
           c.loop-i-test.true c.requires.olds c.requires.wired
           (turn_read c.args.old.now c.loop-i.self.goals.items c.loop-i.i _ c.index.result.now c.has_turn.result true c.loop-i-test.true also c.index.ensures c.has_turn.ensures w.if-has_turn.true)
-          w.goal_step-turn.ensures.turn so_far) in
+          w.goal_turn-turn.ensures.turn so_far) in
           record {
             turning = subst (λ (p : BoxParts). Turning (box_state c.args.self.now) (box_state p) c.args.old.now (c.loop-i.i + 1) c.args.out.now.items c.if-has_turn.out.items) (sym w.self-is)
-                (subst (λ (q : Queue (ℕ × Signal)). Turning (box_state c.args.self.now) (box_state w.goal_step-turn.new.self) c.args.old.now (c.loop-i.i + 1) c.args.out.now.items q.items) (sym w.out-is) turning);
+                (subst (λ (q : Queue (ℕ × Signal)). Turning (box_state c.args.self.now) (box_state w.goal_turn-turn.new.self) c.args.old.now (c.loop-i.i + 1) c.args.out.now.items q.items) (sym w.out-is) turning);
             room = subst (λ (q : Queue (ℕ × Signal)). q.spare + length q.items ≡ c.args.out.now.spare + length c.args.out.now.items) (sym w.out-is)
                 (omega (arith, size, long, w.push_all.ensures.room, w.as_slice.ensures.len, c.loop-i.invariant.room));
           }
