@@ -74,7 +74,7 @@ abbrev pub GoalsStay : WorldState → WorldState → Type 0
 GoalsStay new old = (who local : ℕ) → goal_at (box_at new who) local ≡ goal_at (box_at old who) local
 
 -- partners stay then
-partner_same : (world : WorldState) (boxes : List BoxState) (lanes : List (List Tagged)) (s : ℕ) → GoalsStay (with_boxes world boxes lanes) world → partner_of (with_boxes world boxes lanes) s ≡ partner_of world s
+pub partner_same : (world : WorldState) (boxes : List BoxState) (lanes : List (List Tagged)) (s : ℕ) → GoalsStay (with_boxes world boxes lanes) world → partner_of (with_boxes world boxes lanes) s ≡ partner_of world s
 partner_same world boxes lanes s stay =
     ap (λ (g : SlotGoal). partner_by (with_boxes world boxes lanes) g s) (stay (place world s).0 (place world s).1) ∙ by_same (goal_of world s)
   where
@@ -83,7 +83,7 @@ partner_same world boxes lanes s stay =
     by_same (Link partner) = refl
 
 -- so each walk goes the same way
-walk_same : (most : ℕ) (world : WorldState) (boxes : List BoxState) (lanes : List (List Tagged)) (next : Option ℕ) → GoalsStay (with_boxes world boxes lanes) world
+pub walk_same : (most : ℕ) (world : WorldState) (boxes : List BoxState) (lanes : List (List Tagged)) (next : Option ℕ) → GoalsStay (with_boxes world boxes lanes) world
     → walk (with_boxes world boxes lanes) next most ≡ walk world next most
 walk_same most world boxes lanes None stay = refl
 walk_same zero world boxes lanes (Some s) stay = refl

@@ -9,7 +9,7 @@ use Rattle.mc_model.specs.Settles.{IsSettled, commands_of, next_command}
 use Rattle.mc_model.specs.Sound.{IsSound}
 use Rattle.mc_model.specs.Worlds.{WorldState}
 use Rattle.mc_settings.specs.Alike.{AreAlike}
-use Rattle.mc_settings.specs.Batches.{AreDecided, HasNoRing, EachLeaves, SettleAll, UsesUp, commanded_by}
+use Rattle.mc_settings.specs.Batches.{AreDecided, HasNoRing, EachLeaves, SettleAll, RunsThrough, commanded_by}
 use Rattle.mc_settings.specs.SettingLaws.{BatchIsLeft, BatchesAreLeft, DecidedIsLeft, DecidedStays, NoRingIsMet, NoRingStays, RingsAreLeft, SettlesAreAlike, StoppedUsesUp}
 use Rattle.mc_settings.specs.Settings.{commanded}
 use Rattle.mc_settings.proofs.Agreeing.{decided_passes}
@@ -34,10 +34,10 @@ past_end (turn ∷ turns) = past_end turns
 pub stopped_uses_up : StoppedUsesUp
 stopped_uses_up world last batch turns stopped = (none_next, uses)
   where
-    none_next : UsesUp world batch turns last → (who : ℕ) → next_command batch turns who ≡ None
+    none_next : RunsThrough world batch turns last → (who : ℕ) → next_command batch turns who ≡ None
     none_next used who = ap (λ (l : List Turn). slice_get (commands_of who batch) (length l)) (used.commands who) ∙ past_end (commands_of who batch)
 
-    uses : ((who : ℕ) → next_command batch turns who ≡ None) → UsesUp world batch turns last
+    uses : ((who : ℕ) → next_command batch turns who ≡ None) → RunsThrough world batch turns last
     uses none = record {
       runs = stopped.runs;
       commands = λ who. stopped.commands who ∙ taken_whole (commands_of who batch) (length (commands_of who turns)) (none who);
@@ -50,7 +50,7 @@ batch_is_left world last batch turns sound used =
     subst (λ (w : WorldState). AreAlike last w) (commands_alone world turns batch used.commands) (runs_follow_commands world last turns sound used.runs)
 
 -- a settled segment uses its batch up
-pub settled_used : (world last : WorldState) (batch turns : List Turn) → IsSettled world batch turns last → UsesUp world batch turns last
+pub settled_used : (world last : WorldState) (batch turns : List Turn) → IsSettled world batch turns last → RunsThrough world batch turns last
 settled_used world last batch turns settled = record { runs = settled.runs; commands = settled.commands }
 
 settled_left : (world last : WorldState) (batch turns : List Turn) → IsSound world → IsSettled world batch turns last → AreAlike last (commanded world batch)
@@ -88,7 +88,7 @@ Passes P = (world other : WorldState) → AreAlike world other → P world → P
 
 -- the next batch leaves such a world
 pub first_leaves : (P : WorldState → Type 0) (world last : WorldState) (batch turns : List Turn) (batches : List (List Turn)) → Passes P → IsSound world → EachLeaves P world (batch ∷ batches)
-    → UsesUp world batch turns last → P last
+    → RunsThrough world batch turns last → P last
 first_leaves P world last batch turns batches passes sound leave used =
     passes (commanded world batch) last (alike_back last (commanded world batch) (batch_is_left world last batch turns sound used)) (leave 0 (omega arith))
 

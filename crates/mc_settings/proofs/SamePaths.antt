@@ -1,32 +1,33 @@
 -- Worlds that are alike have the same paths and rings.
-use Rattle.std.proofs.Common.{◌≡◌, ◌<◌, ◌+◌, if◌then◌else◌, ℕ, zero, suc, Bool, List, [], ◌∷◌, Option, Some, None, length, refl, ap, sym, ◌∙◌, subst}
+use Rattle.std.proofs.Common.{◌≡◌, ◌<◌, ◌+◌, if◌then◌else◌, ℕ, suc, Bool, List, [], ◌∷◌, Option, Some, None, length, refl, ap, sym, ◌∙◌, subst}
 use Rattle.std.specs.List.{cons_option, enumerate_from, filter_map, slice_get}
 use Rattle.std.specs.Option.{option_and_then}
 use Rattle.mc_signal.specs.declared.Tagged.{Tagged}
 use Rattle.mc_signal.specs.declared.Descriptor.{Descriptor}
 use Rattle.mc_slot.specs.EndTurn.{is_end_goal}
 use Rattle.mc_slot.specs.declared.SlotGoal.{SlotGoal}
-use Rattle.mc_slot.specs.declared.SlotGoal.TheVariants.{End, Link}
 use Rattle.mc_box.specs.Acting.{IsAlike}
 use Rattle.mc_box.specs.Boxes.{BoxState, goal_at, media_at, own, own_of, sender, sender_of}
 use Rattle.mc_box.specs.declared.event.Kind.{Kind}
 use Rattle.mc_box.specs.declared.event.Kind.TheVariants.{Device, Feature}
 use Rattle.mc_box.specs.declared.setup.SlotMedia.{SlotMedia}
 use Rattle.mc_model.specs.PathTable.{heard_codec}
-use Rattle.mc_model.specs.Paths.{PathEnds, both_sides, end_goal, end_goal_of, from_low, next_slot, other_end, partner_by, partner_of, path_from, paths, slot_after, walk}
+use Rattle.mc_model.specs.Paths.{PathEnds, both_sides, end_goal, end_goal_of, from_low, other_end, path_from, paths, slot_after}
 use Rattle.mc_model.specs.Rings.{IsLeastOnRing, IsOnRing, NoneBefore}
-use Rattle.mc_model.specs.Worlds.{ChannelState, WorldState, all_tunnels, box_at, far, goal_of, own_descriptor, own_sender, place, places, slot_count}
-use Rattle.mc_laws.proofs.Reaches.{GoalsStay, end_same, ring_same, with_boxes}
+use Rattle.mc_model.specs.Worlds.{ChannelState, WorldState, all_tunnels, box_at, goal_of, own_descriptor, own_sender, place, places, slot_count}
+use Rattle.mc_laws.proofs.Reaches.{GoalsStay, end_same, partner_same, ring_same, walk_same, with_boxes}
 use Rattle.mc_settings.specs.Alike.{AreAlike, HaveSamePaths}
 use Rattle.mc_settings.specs.SettingLaws.{AlikeHaveSamePaths}
 use Rattle.mc_settings.specs.Settings.{Settings, settings_of}
 
 -- ---- goals, descriptors and senders
 
-goals_stay : (new world : WorldState) → AreAlike new world → GoalsStay new world
-goals_stay new world alike who local = ap (λ (settings : Settings). goal_at (record (box_at world who) { goals = settings.goals }) local) (alike.settings who)
+-- boxes of the same settings have the same goals
+pub goals_stay : (new world : WorldState) → ((who : ℕ) → settings_of (box_at new who) ≡ settings_of (box_at world who)) → GoalsStay new world
+goals_stay new world same who local = ap (λ (settings : Settings). goal_at (record (box_at world who) { goals = settings.goals }) local) (same who)
 
-media_same : (box other : BoxState) (local : ℕ) → settings_of box ≡ settings_of other → media_at box local ≡ media_at other local
+-- and the same media
+pub media_same : (box other : BoxState) (local : ℕ) → settings_of box ≡ settings_of other → media_at box local ≡ media_at other local
 media_same box other local same = ap (λ (settings : Settings). media_at (record other { media = settings.media }) local) same
 
 own_by : (kind : Kind) (box other : BoxState) (media : SlotMedia) (local : ℕ) → IsAlike box other → own_of kind box media local ≡ own_of kind other media local
@@ -49,27 +50,12 @@ sender_same box other local alike same =
 
 -- ---- walks, where the goals stay
 
-partner_by_same : (world : WorldState) (boxes : List BoxState) (lanes : List (List Tagged)) (goal : SlotGoal) (s : ℕ) → partner_by (with_boxes world boxes lanes) goal s ≡ partner_by world goal s
-partner_by_same world boxes lanes (End goal) s = refl
-partner_by_same world boxes lanes (Link partner) s = refl
-
-partner_same : (world : WorldState) (boxes : List BoxState) (lanes : List (List Tagged)) (s : ℕ) → GoalsStay (with_boxes world boxes lanes) world → partner_of (with_boxes world boxes lanes) s ≡ partner_of world s
-partner_same world boxes lanes s stay =
-    ap (λ (g : SlotGoal). partner_by (with_boxes world boxes lanes) g s) (stay (place world s).0 (place world s).1) ∙ partner_by_same world boxes lanes (goal_of world s) s
-
-walk_same : (most : ℕ) (world : WorldState) (boxes : List BoxState) (lanes : List (List Tagged)) (next : Option ℕ) → GoalsStay (with_boxes world boxes lanes) world
-    → walk (with_boxes world boxes lanes) next most ≡ walk world next most
-walk_same most world boxes lanes None stay = refl
-walk_same zero world boxes lanes (Some s) stay = refl
-walk_same (suc most) world boxes lanes (Some s) stay =
-    ap (λ (o : Option ℕ). s ∷ walk (with_boxes world boxes lanes) o most) (partner_same world boxes lanes (far s) stay)
-    ∙ ap (λ (slots : List ℕ). s ∷ slots) (walk_same most world boxes lanes (next_slot world s) stay)
-
 after_same : (world : WorldState) (boxes : List BoxState) (lanes : List (List Tagged)) (count s : ℕ) → GoalsStay (with_boxes world boxes lanes) world
     → slot_after (with_boxes world boxes lanes) count s ≡ slot_after world count s
 after_same world boxes lanes count s stay = ap (λ (slots : List ℕ). slice_get slots count) (walk_same (suc count) world boxes lanes (Some s) stay)
 
-end_goal_same : (world : WorldState) (boxes : List BoxState) (lanes : List (List Tagged)) (s : ℕ) → GoalsStay (with_boxes world boxes lanes) world → end_goal (with_boxes world boxes lanes) s ≡ end_goal world s
+-- ends have the same goals
+pub end_goal_same : (world : WorldState) (boxes : List BoxState) (lanes : List (List Tagged)) (s : ℕ) → GoalsStay (with_boxes world boxes lanes) world → end_goal (with_boxes world boxes lanes) s ≡ end_goal world s
 end_goal_same world boxes lanes s stay = ap end_goal_of (stay (place world s).0 (place world s).1)
 
 other_same : (world : WorldState) (boxes : List BoxState) (lanes : List (List Tagged)) (s : ℕ) → GoalsStay (with_boxes world boxes lanes) world → other_end (with_boxes world boxes lanes) s ≡ other_end world s
@@ -93,7 +79,8 @@ each_same f g (entry ∷ entries) first same =
     ap (λ (o : Option PathEnds). cons_option o (filter_map (λ entry. f entry.0) (enumerate_from (first + 1) entries))) (same first)
     ∙ ap (cons_option (g first)) (each_same f g entries (first + 1) same)
 
-paths_same : (world : WorldState) (boxes : List BoxState) (lanes : List (List Tagged)) → GoalsStay (with_boxes world boxes lanes) world → paths (with_boxes world boxes lanes) ≡ paths world
+-- and there are the same paths
+pub paths_same : (world : WorldState) (boxes : List BoxState) (lanes : List (List Tagged)) → GoalsStay (with_boxes world boxes lanes) world → paths (with_boxes world boxes lanes) ≡ paths world
 paths_same world boxes lanes stay = each_same (path_from (with_boxes world boxes lanes)) (path_from world) (places world) 0 (λ s. path_same world boxes lanes s stay)
 
 -- ---- rings
@@ -157,4 +144,4 @@ alike_have_same_paths world other alike =
     let is : world ≡ with_boxes other world.boxes world.lanes = ap (λ (c : List ChannelState). record world { channels = c }) alike.shape.channels in
     let as_other : AreAlike (with_boxes other world.boxes world.lanes) other = subst (λ (w : WorldState). AreAlike w other) is alike in
     subst (λ (w : WorldState). HaveSamePaths w other) (sym is)
-    (same_by other world.boxes world.lanes as_other (goals_stay (with_boxes other world.boxes world.lanes) other as_other))
+    (same_by other world.boxes world.lanes as_other (goals_stay (with_boxes other world.boxes world.lanes) other as_other.settings))

@@ -9,10 +9,14 @@ use Rattle.mc_model.specs.Steps.{run}
 use Rattle.mc_model.specs.Worlds.{WorldState}
 use Rattle.mc_settings.specs.Settings.{commanded}
 
--- a run that uses a batch up: it has its commands, box by box and in order, and no others. A settled segment does, and so do turns that stop at a ring
-pub record UsesUp (world : WorldState) (batch turns : List Turn) (last : WorldState) : Type 0 where
+-- turns use a batch up: they have its commands, box by box and in order, and no others
+abbrev pub UseUp : (batch turns : List Turn) → Type 0
+UseUp batch turns = (who : ℕ) → commands_of who turns ≡ commands_of who batch
+
+-- a run that uses a batch up. A settled segment does, and so do turns that stop at a ring
+pub record RunsThrough (world : WorldState) (batch turns : List Turn) (last : WorldState) : Type 0 where
   pub runs : run world turns ≡ Some last
-  pub commands : (who : ℕ) → commands_of who turns ≡ commands_of who batch
+  pub commands : UseUp batch turns
 
 -- one settled segment for each batch, in order
 abbrev pub SettleAll : WorldState → List (List Turn) → WorldState → Type 0

@@ -11,7 +11,7 @@ use Rattle.mc_model.specs.Sound.{IsSound}
 use Rattle.mc_model.specs.Steps.{run}
 use Rattle.mc_model.specs.Worlds.{WorldState}
 use Rattle.mc_settings.specs.Alike.{AreAlike, EndsAgree, HaveSamePaths}
-use Rattle.mc_settings.specs.Batches.{AreDecided, LeavesDecided, LeavesNoRing, SettleAll, UsesUp, commanded_by}
+use Rattle.mc_settings.specs.Batches.{AreDecided, LeavesDecided, LeavesNoRing, SettleAll, RunsThrough, commanded_by}
 use Rattle.mc_settings.specs.Settings.{commanded}
 
 -- ---- commands alone
@@ -50,11 +50,11 @@ AlikeHaveSamePaths = (world other : WorldState) → AreAlike world other → Hav
 -- turns that stopped within a batch use it up exactly where no box has a next command
 abbrev pub StoppedUsesUp : Type 0
 StoppedUsesUp = (world last : WorldState) (batch turns : List Turn) → IsStopped world batch turns last
-    → UsesUp world batch turns last ↔ ((who : ℕ) → next_command batch turns who ≡ None)
+    → RunsThrough world batch turns last ↔ ((who : ℕ) → next_command batch turns who ≡ None)
 
 -- a batch that is used up leaves a world as its commands make it
 abbrev pub BatchIsLeft : Type 0
-BatchIsLeft = (world last : WorldState) (batch turns : List Turn) → IsSound world → UsesUp world batch turns last → AreAlike last (commanded world batch)
+BatchIsLeft = (world last : WorldState) (batch turns : List Turn) → IsSound world → RunsThrough world batch turns last → AreAlike last (commanded world batch)
 
 -- and so do several batches that are settled
 abbrev pub BatchesAreLeft : Type 0
@@ -62,12 +62,12 @@ BatchesAreLeft = (world last : WorldState) (batches : List (List Turn)) → IsSo
 
 -- there is a ring after a batch where its commands make one
 abbrev pub RingsAreLeft : Type 0
-RingsAreLeft = (world last : WorldState) (batch turns : List Turn) → IsSound world → UsesUp world batch turns last → has_ring last ≡ has_ring (commanded world batch)
+RingsAreLeft = (world last : WorldState) (batch turns : List Turn) → IsSound world → RunsThrough world batch turns last → has_ring last ≡ has_ring (commanded world batch)
 
 -- where no batch leaves a ring, none is there when the next one is used up
 abbrev pub NoRingIsMet : Type 0
 NoRingIsMet = (world last : WorldState) (batch turns : List Turn) (batches : List (List Turn)) → IsSound world → LeavesNoRing world (batch ∷ batches)
-    → UsesUp world batch turns last → (has_ring last ≡ false) × IsLeastOnRing last None
+    → RunsThrough world batch turns last → (has_ring last ≡ false) × IsLeastOnRing last None
 
 -- and the batches behind one that is settled leave none
 abbrev pub NoRingStays : Type 0
@@ -92,7 +92,7 @@ HeldPathsAgree = (world other : WorldState) → AreAlike world other → AreDeci
 -- where no batch leaves a path of hold against hold, none is there when the next one is used up
 abbrev pub DecidedIsLeft : Type 0
 DecidedIsLeft = (world last : WorldState) (batch turns : List Turn) (batches : List (List Turn)) → IsSound world → LeavesDecided world (batch ∷ batches)
-    → UsesUp world batch turns last → AreDecided last
+    → RunsThrough world batch turns last → AreDecided last
 
 -- and the batches behind one that is settled leave none
 abbrev pub DecidedStays : Type 0

@@ -1,35 +1,34 @@
 -- Worlds that are seen alike have the same paths, and where goals decide these the same is printed of them.
-use Rattle.std.proofs.Common.{◌≡◌, ◌+◌, ◌++◌, ℕ, Bool, true, false, if◌then◌else◌, List, [], ◌∷◌, Option, Some, None, IsSome, codes, length, refl, ap, sym, ◌∙◌, subst}
+use Rattle.std.proofs.Common.{◌≡◌, ◌+◌, ◌++◌, ℕ, Bool, true, false, if◌then◌else◌, List, [], ◌∷◌, Option, Some, None, IsSome, codes, refl, ap, sym, ◌∙◌, subst}
 use Rattle.std.specs.Fmt.{decimal}
-use Rattle.std.specs.List.{AllByRecursion, cons_option, enumerate_from, filter_map, flat_map}
-use Rattle.std.specs.Option.{option_and_then, unwrap_or}
+use Rattle.std.specs.List.{AllByRecursion, flat_map}
+use Rattle.std.specs.Option.{unwrap_or}
 use Rattle.std.proofs.lemmas.List.Elements.{recursion_from_All}
 use Rattle.mc_signal.specs.Choice.{codecs_of, shared_codec}
 use Rattle.mc_signal.specs.Empty.{no_codecs}
 use Rattle.mc_signal.specs.declared.Tagged.{Tagged}
 use Rattle.mc_signal.specs.declared.codec_list.CodecList.{CodecList}
-use Rattle.mc_slot.specs.EndTurn.{is_end_goal}
 use Rattle.mc_slot.specs.declared.Goal.{Goal}
-use Rattle.mc_slot.specs.declared.SlotGoal.{SlotGoal}
 use Rattle.mc_slot.specs.declared.State.{State}
 use Rattle.mc_slot.specs.declared.State.TheVariants.{Closed, Opening, Opened, Flowing, Closing}
 use Rattle.mc_box.specs.Acting.{IsAlike}
-use Rattle.mc_box.specs.Boxes.{BoxState, goal_at, media_at, own, own_of, sender, sender_of}
+use Rattle.mc_box.specs.Boxes.{BoxState, media_at, own, own_of, sender, sender_of}
 use Rattle.mc_box.specs.declared.event.Kind.{Kind}
 use Rattle.mc_box.specs.declared.event.Kind.TheVariants.{Device, Feature}
 use Rattle.mc_box.specs.declared.event.Turn.{Turn}
 use Rattle.mc_box.specs.declared.setup.SlotMedia.{SlotMedia}
-use Rattle.mc_laws.proofs.Reaches.{GoalsStay, end_same, with_boxes}
+use Rattle.mc_laws.proofs.Reaches.{GoalsStay, with_boxes}
 use Rattle.mc_model.specs.PathTable.{heard_codec, high_hears, low_hears, path_state, table}
-use Rattle.mc_model.specs.Paths.{PathEnds, end_goal, end_goal_of, from_low, other_end, path_from, paths}
+use Rattle.mc_model.specs.Paths.{PathEnds, end_goal, paths}
 use Rattle.mc_model.specs.Settles.{IsSettled, commands_of}
 use Rattle.mc_model.specs.Sound.{IsSound}
-use Rattle.mc_model.specs.Worlds.{ChannelState, WorldState, all_tunnels, box_at, goal_of, own_descriptor, own_sender, place, places, slot_of, tunnel_of}
+use Rattle.mc_model.specs.Worlds.{ChannelState, WorldState, box_at, own_descriptor, own_sender, place, slot_of, tunnel_of}
 use Rattle.mc_settings.proofs.BatchesLeft.{batch_is_left, settled_used}
 use Rattle.mc_settings.proofs.CommandedWorlds.{settings_are, shape_stays}
+use Rattle.mc_settings.proofs.SamePaths.{end_goal_same, goals_stay, media_same, paths_same}
 use Rattle.mc_settings.specs.Alike.{AreAlike}
 use Rattle.mc_settings.specs.Batches.{AreDecided, IsDecided}
-use Rattle.mc_settings.specs.Settings.{Settings, commanded, set_by_all, settings_of}
+use Rattle.mc_settings.specs.Settings.{commanded, set_by_all, settings_of}
 use Rattle.mc_script.specs.Meaning.{goal_word}
 use Rattle.mc_table.specs.Words.{line_of, medium_word}
 use Rattle.mc_text.specs.NameLists.{NameLists}
@@ -105,9 +104,6 @@ settles_are_seen_alike world other last end batch turns others sound other_sound
 
 -- ---- what is heard
 
-media_same : (box other : BoxState) (local : ℕ) → settings_of box ≡ settings_of other → media_at box local ≡ media_at other local
-media_same box other local same = ap (λ (settings : Settings). media_at (record other { media = settings.media }) local) same
-
 -- a list where it is asked for
 list_if : (on : Bool) (list other : CodecList) → codecs_of list ≡ codecs_of other → codecs_of (if on then list else no_codecs) ≡ codecs_of (if on then other else no_codecs)
 list_if true list other same = same
@@ -146,31 +142,6 @@ heard_same world boxes lanes s t seen =
     (sent_same (box_at new (place world t).0) (box_at world (place world t).0) (place world t).1 (seen.boxes (place world t).0))
 
 -- ---- paths
-
-goals_stay : (new world : WorldState) → AreSeenAlike new world → GoalsStay new world
-goals_stay new world seen who local = ap (λ (settings : Settings). goal_at (record (box_at world who) { goals = settings.goals }) local) (seen.boxes who).settings
-
--- the path of an end
-abbrev path_by : Bool → ℕ → Option ℕ → Option PathEnds
-path_by end s other = if end then option_and_then (from_low s) other else None
-
-path_same : (world : WorldState) (boxes : List BoxState) (lanes : List (List Tagged)) (s : ℕ) → GoalsStay (with_boxes world boxes lanes) world → path_from (with_boxes world boxes lanes) s ≡ path_from world s
-path_same world boxes lanes s stay =
-    ap (λ (goal : SlotGoal). path_by (is_end_goal goal) s (other_end (with_boxes world boxes lanes) s)) (stay (place world s).0 (place world s).1)
-    ∙ ap (path_by (is_end_goal (goal_of world s)) s) (end_same (length (all_tunnels world)) world boxes lanes s stay)
-
-each_same : (f g : ℕ → Option PathEnds) (entries : List (ℕ × ℕ)) (first : ℕ) → ((s : ℕ) → f s ≡ g s)
-    → filter_map (λ entry. f entry.0) (enumerate_from first entries) ≡ filter_map (λ entry. g entry.0) (enumerate_from first entries)
-each_same f g [] first same = refl
-each_same f g (entry ∷ entries) first same =
-    ap (λ (o : Option PathEnds). cons_option o (filter_map (λ entry. f entry.0) (enumerate_from (first + 1) entries))) (same first)
-    ∙ ap (cons_option (g first)) (each_same f g entries (first + 1) same)
-
-paths_same : (world : WorldState) (boxes : List BoxState) (lanes : List (List Tagged)) → GoalsStay (with_boxes world boxes lanes) world → paths (with_boxes world boxes lanes) ≡ paths world
-paths_same world boxes lanes stay = each_same (path_from (with_boxes world boxes lanes)) (path_from world) (places world) 0 (λ s. path_same world boxes lanes s stay)
-
-end_goal_same : (world : WorldState) (boxes : List BoxState) (lanes : List (List Tagged)) (s : ℕ) → GoalsStay (with_boxes world boxes lanes) world → end_goal (with_boxes world boxes lanes) s ≡ end_goal world s
-end_goal_same world boxes lanes s stay = ap end_goal_of (stay (place world s).0 (place world s).1)
 
 -- where the table has an answer, nothing stands in for it
 decided_by : (answer : Option State) (one two : State) → IsSome answer → unwrap_or answer one ≡ unwrap_or answer two
@@ -222,7 +193,7 @@ text_same : (names : NameLists) (world : WorldState) (boxes : List BoxState) (la
     → IsDecided (with_boxes world boxes lanes) path → path_text names (with_boxes world boxes lanes) path ≡ path_text names world path
 text_same names world boxes lanes path seen decided =
     let new : WorldState = with_boxes world boxes lanes in
-    let stay : GoalsStay new world = goals_stay new world seen in
+    let stay : GoalsStay new world = goals_stay new world (λ who. (seen.boxes who).settings) in
     ap (λ (line : List ℕ). line ++ hears_lines (path_state new path) names new path) (line_same names world boxes lanes path stay decided)
     ∙ ap (λ (lines : List ℕ). path_line names world path ++ lines)
     (ap (λ (state : State). hears_lines state names new path) (state_same world boxes lanes path stay decided) ∙ hears_same (path_state world path) names world boxes lanes path seen)
@@ -240,7 +211,7 @@ settle_by names number world boxes lanes seen decided =
     let new : WorldState = with_boxes world boxes lanes in
     ap (λ (text : List ℕ). line_of (codes "settle" ∷ decimal number ∷ []) ++ text)
     (texts_same names world boxes lanes (paths new) seen (recursion_from_All (IsDecided new) (paths new) decided)
-    ∙ ap (λ (ends : List PathEnds). flat_map (path_text names world) ends) (paths_same world boxes lanes (goals_stay new world seen)))
+    ∙ ap (λ (ends : List PathEnds). flat_map (path_text names world) ends) (paths_same world boxes lanes (goals_stay new world (λ who. (seen.boxes who).settings))))
 
 -- what is printed of a settle whose paths their goals decide
 pub settle_same : (names : NameLists) (number : ℕ) (world other : WorldState) → AreSeenAlike world other → AreDecided world → settle_text names number world ≡ settle_text names number other

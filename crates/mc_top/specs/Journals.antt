@@ -1,16 +1,16 @@
 -- A journal: the turns of every settle, in order, each settle with its mark behind it. Where a script stops, the turns up to the stop come last, without a mark.
-use Rattle.std.specs.Prelude.{◌≡◌, ◌⊎◌, ℕ, List, [], ◌∷◌, ◌++◌, map, Option, Some, None}
+use Rattle.std.specs.Prelude.{◌≡◌, ◌⊎◌, List, [], ◌∷◌, ◌++◌, map, Option, Some, None}
 use Rattle.std.specs.List.{All}
 use Rattle.std.specs.Option.{unwrap_or}
 use Rattle.mc_model.specs.PathTable.{PathHolds}
 use Rattle.mc_model.specs.Paths.{paths}
 use Rattle.mc_laws.specs.Versions.{PassesLast}
 use Rattle.mc_model.specs.Rings.{IsFirstOnRing}
-use Rattle.mc_model.specs.Settles.{IsSettled, IsStopped, MeetsLast, commands_of, hears_in}
+use Rattle.mc_model.specs.Settles.{IsSettled, IsStopped, MeetsLast, hears_in}
 use Rattle.mc_model.specs.Steps.{step}
 use Rattle.mc_model.specs.Worlds.{WorldState}
 use Rattle.mc_box.specs.declared.event.Turn.{Turn}
-use Rattle.mc_settings.specs.Batches.{LeavesNoRing}
+use Rattle.mc_settings.specs.Batches.{LeavesNoRing, UseUp}
 use Rattle.mc_script.specs.declared.command.JournalLine.{JournalLine}
 use Rattle.mc_script.specs.declared.command.JournalLine.TheVariants.{Turn as Made, Settled}
 use Rattle.mc_top.specs.declared.stop.Stop.{Stop}
@@ -26,10 +26,6 @@ IsJournal world [] journal = journal ≡ []
 IsJournal world (batch ∷ batches) journal =
     (turns : List Turn) × (last : WorldState) × (rest : List JournalLine)
     × (journal ≡ lines_for turns ++ rest) × IsSettled world batch turns last × IsJournal last batches rest
-
--- turns make all commands of a batch, box by box
-abbrev pub UseUp : (batch turns : List Turn) → Type 0
-UseUp batch turns = (who : ℕ) → commands_of who turns ≡ commands_of who batch
 
 -- why a script stops, behind turns of a batch that leave a world: at the last version, or at the least slot on a ring, where the batch is used up
 abbrev pub IsCause : Stop → (batch turns : List Turn) → WorldState → Type 0
