@@ -1,0 +1,12 @@
+//! Tests over several machines and engines: networks that are laid out by hand, stepped by lists of turns or settled by
+//! draws, and what their paths are then.
+#![tactic(auto)]
+
+#[cfg(test)]
+mod fault;
+#[cfg(test)]
+mod networks;
+#[cfg(test)]
+mod settles;
+#[cfg(test)]
+mod steps;

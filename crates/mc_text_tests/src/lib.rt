@@ -1,0 +1,9 @@
+//! Tests of the crates of text whose proofs are long: what is read of texts, and what is printed.
+#![tactic(auto)]
+
+#[cfg(test)]
+mod net;
+#[cfg(test)]
+mod table;
+#[cfg(test)]
+mod text;
