@@ -1,11 +1,11 @@
 -- What was declared makes the network that the text declares.
 use Rattle.std.proofs.Common.{◌≡◌, ℕ, List, length, map, ◌∙◌}
-use Rattle.mc_net.specs.BoxLines.{box_seen}
+use Rattle.mc_lines.specs.BoxLines.{box_seen}
 use Rattle.mc_net.specs.Nets.{DeclaresNet, IsMadeOf}
-use Rattle.mc_net.specs.SoFar.{Declared}
+use Rattle.mc_lines.specs.SoFar.{Declared}
 use Rattle.mc_net.specs.Texts.{Says}
 use Rattle.mc_net.specs.declared.net.Net.{Net}
-use Rattle.mc_net.specs.declared.reader.Parts.{Parts}
+use Rattle.mc_lines.specs.declared.reader.Parts.{Parts}
 
 -- the parts are those that the text declares
 pub record AreOf (d : Declared) (parts : Parts) : Type 0 where

@@ -20,7 +20,7 @@ use Rattle.mc_script.specs.declared.command.Command.TheVariants.{Stimulus, Settl
 use Rattle.mc_script.specs.declared.keyword.CommandWord.{CommandWord}
 use Rattle.mc_script.specs.declared.keyword.CommandWord.TheVariants as command
 use Rattle.mc_script.specs.declared.rule.TheConstants.{SAME_SLOT, TWO_MEDIA, WRONG_WORD}
-use Rattle.mc_net.proofs.FirstBroken.{kept_at}
+use Rattle.mc_lines.proofs.FirstBroken.{kept_at}
 use Rattle.mc_net.proofs.Named.{named_within}
 
 -- the command's box is there, and its shape enables the event

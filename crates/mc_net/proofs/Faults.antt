@@ -2,8 +2,8 @@
 use Rattle.std.proofs.Common.{◌≡◌, ◌⊎◌, inl, inr, ℕ, zero, suc, ◌+◌, ◌<◌, ◌≤◌, List, length, Option, Some, None, refl, ap, subst, arith}
 use Rattle.std.proofs.lemmas.Bool.{cases_lt}
 use Rattle.mc_text.specs.Lines.{lines}
-use Rattle.mc_net.specs.Rules.{end_fault}
-use Rattle.mc_net.specs.SoFar.{Declared}
+use Rattle.mc_lines.specs.Rules.{end_fault}
+use Rattle.mc_lines.specs.SoFar.{Declared}
 use Rattle.mc_net.specs.TextLaws.{DeclaresOrFaults, OneFault, OneOrTheOther}
 use Rattle.mc_net.specs.Texts.{AreSound, IsFault, at_line, at_end, unbuilt, Says, declared_by, fault_at}
 

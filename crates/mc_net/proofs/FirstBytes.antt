@@ -5,12 +5,12 @@ use Rattle.std.proofs.lemmas.List.{append-nil, get_or_append_left, get_or_at, le
 use Rattle.std.specs.List.{slice_split}
 use Rattle.mc_text.specs.Lines.{has_bytes, is_line_end, lines, without_empty_last}
 use Rattle.mc_text.proofs.Cuts.{some_pieces}
-use Rattle.mc_net.specs.Rules.{line_fault, passes_limit}
-use Rattle.mc_net.specs.SoFar.{Declared}
+use Rattle.mc_lines.specs.Rules.{line_fault, passes_limit}
+use Rattle.mc_lines.specs.SoFar.{Declared}
 use Rattle.mc_net.specs.TextLaws.{FaultsOfTheFirstBytes, SaysTheWhole, first_bytes}
 use Rattle.mc_net.specs.Texts.{IsFault, at_line, at_end, unbuilt, Says, bytes_before, declared_by, fault_at}
 use Rattle.mc_net.proofs.Faults.{not_both, same_value}
-use Rattle.mc_net.specs.declared.limit.TheConstants.{TEXT_LIMIT}
+use Rattle.mc_lines.specs.declared.limit.TheConstants.{TEXT_LIMIT}
 
 -- ---- how many bytes lines have
 

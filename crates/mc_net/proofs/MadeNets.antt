@@ -16,14 +16,14 @@ use Rattle.mc_plan.specs.declared.plan.BoxPlan.{BoxPlan}
 use Rattle.mc_plan.proofs.Numbered.{box_slots, length_boxes}
 use Rattle.mc_script.specs.declared.command.Command.{Command}
 use Rattle.mc_script.specs.declared.command.Command.TheVariants.{Stimulus, Settle}
-use Rattle.mc_net.specs.BoxLines.{box_seen}
-use Rattle.mc_net.specs.Forms.{IsInForm, NamesEach}
+use Rattle.mc_lines.specs.BoxLines.{box_seen}
+use Rattle.mc_lines.specs.Forms.{IsInForm, NamesEach}
 use Rattle.mc_net.specs.Nets.{IsMadeOf, NamesAll, batch_turns, batches_of, before_next}
-use Rattle.mc_net.specs.SoFar.{Declared}
+use Rattle.mc_lines.specs.SoFar.{Declared}
 use Rattle.mc_net.specs.Texts.{Says}
-use Rattle.mc_net.specs.declared.limit.TheConstants.{COMMAND_LIMIT}
+use Rattle.mc_lines.specs.declared.limit.TheConstants.{COMMAND_LIMIT}
 use Rattle.mc_net.specs.declared.net.Net.{Net}
-use Rattle.mc_net.specs.declared.reader.Parts.{Parts}
+use Rattle.mc_lines.specs.declared.reader.Parts.{Parts}
 use Rattle.mc_net.proofs.Batches.{few_batches}
 use Rattle.mc_net.proofs.Declaring.{AreOf}
 use Rattle.mc_net.proofs.Enabled.{IsEnabled, IsOfLine, line_enabled}

@@ -5,9 +5,9 @@ use Rattle.std.specs.List.{All, position_or_len}
 use Rattle.std.specs.Option.{is_none, option_and_then, option_map, unwrap_or}
 use Rattle.std.specs.Str.{bytes_eq}
 use Rattle.mc_text.specs.NameLists.{NameLists, place_of}
-use Rattle.mc_net.specs.Meaning.{codec_number}
-use Rattle.mc_net.specs.Rules.{lists_undeclared}
-use Rattle.mc_net.specs.SoFar.{DeclaredBox}
+use Rattle.mc_lines.specs.Meaning.{codec_number}
+use Rattle.mc_lines.specs.Rules.{lists_undeclared}
+use Rattle.mc_lines.specs.SoFar.{DeclaredBox}
 
 -- the codecs that a box receives are declared
 abbrev pub HasCodecs : NameLists → DeclaredBox → Type 0

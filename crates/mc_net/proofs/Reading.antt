@@ -4,11 +4,13 @@ use Rattle.std.proofs.lemmas.Bool.{cases_lt}
 use Rattle.mc_text.specs.Lines.{lines, words}
 use Rattle.mc_script.specs.Rules.{byte_rules, least_broken}
 use Rattle.mc_script.specs.declared.rule.TheConstants.{UNBUILT}
-use Rattle.mc_net.specs.Meaning.{line_after}
-use Rattle.mc_net.specs.Rules.{end_fault, is_skipped, line_fault, line_words_rules, passes_limit}
-use Rattle.mc_net.specs.SoFar.{Declared}
-use Rattle.mc_net.specs.Texts.{AreSound, IsFault, at_line, at_end, unbuilt, Says, after_line, bytes_before, declared_after, declared_by, fault_at, first_unbuilt, is_unbuilt, with_unbuilt}
-use Rattle.mc_net.specs.declared.limit.TheConstants.{TEXT_LIMIT}
+use Rattle.mc_lines.specs.Meaning.{line_after}
+use Rattle.mc_lines.specs.Rules.{end_fault, is_skipped, line_fault, line_words_rules, passes_limit}
+use Rattle.mc_lines.specs.SoFar.{Declared}
+use Rattle.mc_lines.specs.Unbuilt.{after_line, first_unbuilt, is_unbuilt, with_unbuilt}
+use Rattle.mc_lines.proofs.FirstBroken.{first_kept}
+use Rattle.mc_net.specs.Texts.{AreSound, IsFault, at_line, at_end, unbuilt, Says, bytes_before, declared_after, declared_by, fault_at}
+use Rattle.mc_lines.specs.declared.limit.TheConstants.{TEXT_LIMIT}
 
 -- so many lines were read, and broke no rule; these are left. The next line has the number `number`, and `before` bytes stand before it
 pub record HasRead (text : List ℕ) (number before : ℕ) (d : Declared) (left : List (List ℕ)) : Type 0 where
@@ -81,11 +83,6 @@ fault_here : (text : List ℕ) (number before : ℕ) (d : Declared) (line : List
 fault_here text number before d line others read fault found =
     let place : slice_index_or (lines text) read.count [] ≡ line = at_place (lines text) line others read.count [] read.rest in
     rw (place, ← read.counted, ← read.declared) found
-
--- where no rule is broken, neither is the first
-pub first_kept : (number : ℕ) (broken : Bool) (others : List (ℕ × Bool)) → least_broken ((number, broken) ∷ others) ≡ None → broken ≡ false
-first_kept number true others kept = absurd (let clash : Some number ≡ None = kept in cc)
-first_kept number false others kept = refl
 
 not_past : (total before : ℕ) (d : Declared) (line : List ℕ) → line_fault total before d line ≡ None → passes_limit total before line ≡ false
 not_past total before d line kept = first_kept 1 (passes_limit total before line) (byte_rules line ++ line_words_rules (is_skipped (words line)) d (words line)) kept

@@ -19,19 +19,20 @@ use Rattle.mc_script.specs.declared.command.Command.{Command}
 use Rattle.mc_script.specs.declared.keyword.CommandWord.{CommandWord}
 use Rattle.mc_script.specs.declared.keyword.CommandWord.TheVariants as command
 use Rattle.mc_script.specs.declared.rule.TheConstants.{LIMIT_PASSED, UNDECLARED, UNFINISHED, WRONG_WORD}
-use Rattle.mc_net.specs.Meaning.{after_by, also_after, begin_after, channel_after, codec_after, codec_number, command_after, device_after, device_in, feature_after, declared_at, line_after, link_after, new_feature, send_after, unless_skipped, with_joined, with_new_box, with_new_codec, with_new_feature, with_send_line, with_widened, words_after}
-use Rattle.mc_net.specs.Rules.{also_rules, channel_rules, codec_rules, codec_words, command_line_rules, device_rules, feature_rules, is_late, is_second, is_skipped, is_unfinished, kind_of, line_fault, line_words_rules, link_line_rules, lists_undeclared, open_block, passes_limit, rank, rules_by, send_line_rules, send_rules, spelt_medium, words_rules}
-use Rattle.mc_net.specs.SoFar.{Declared, DeclaredBox, nothing}
-use Rattle.mc_net.specs.Texts.{AreSound, Says, bytes_before, declared_by, first_unbuilt, is_unbuilt, unbuilt_by, with_unbuilt}
-use Rattle.mc_net.specs.declared.limit.TheConstants.{COMMAND_LIMIT}
-use Rattle.mc_net.specs.declared.section.Keyword.{Keyword}
-use Rattle.mc_net.specs.declared.section.Keyword.TheVariants as keyword
-use Rattle.mc_net.specs.declared.section.Section.{Section}
-use Rattle.mc_net.specs.declared.section.Section.TheVariants as section
+use Rattle.mc_lines.specs.Meaning.{after_by, also_after, begin_after, channel_after, codec_after, codec_number, command_after, device_after, device_in, feature_after, declared_at, line_after, link_after, new_feature, send_after, unless_skipped, with_joined, with_new_box, with_new_codec, with_new_feature, with_send_line, with_widened, words_after}
+use Rattle.mc_lines.specs.Rules.{also_rules, channel_rules, codec_rules, codec_words, command_line_rules, device_rules, feature_rules, is_late, is_second, is_skipped, is_unfinished, kind_of, line_fault, line_words_rules, link_line_rules, lists_undeclared, open_block, passes_limit, rank, rules_by, send_line_rules, send_rules, spelt_medium, words_rules}
+use Rattle.mc_lines.specs.SoFar.{Declared, DeclaredBox, nothing}
+use Rattle.mc_lines.specs.Unbuilt.{first_unbuilt, is_unbuilt, unbuilt_by, with_unbuilt}
+use Rattle.mc_net.specs.Texts.{AreSound, Says, bytes_before, declared_by}
+use Rattle.mc_lines.specs.declared.limit.TheConstants.{COMMAND_LIMIT}
+use Rattle.mc_lines.specs.declared.section.Keyword.{Keyword}
+use Rattle.mc_lines.specs.declared.section.Keyword.TheVariants as keyword
+use Rattle.mc_lines.specs.declared.section.Section.{Section}
+use Rattle.mc_lines.specs.declared.section.Section.TheVariants as section
 use Rattle.mc_net.proofs.Enabled.{IsOfLine}
-use Rattle.mc_net.proofs.FirstBroken.{all_before, has_room, kept_at, others_kept}
+use Rattle.mc_lines.proofs.FirstBroken.{all_before, has_room, kept_at, others_kept}
 use Rattle.mc_net.proofs.Named.{HasCodecs, mapped, named_within, numbers_known}
-use Rattle.mc_net.proofs.Sends.{still_all}
+use Rattle.mc_lines.proofs.Sends.{still_all}
 use Rattle.mc_net.proofs.Shaped.{AreShapes, box_shaped, channel_shaped, none_shaped, send_shaped, tunnel_shaped}
 use Rattle.mc_net.proofs.Unfinished.{none_open}
 

@@ -13,9 +13,9 @@ use Rattle.mc_plan.specs.Plans.{PlanState, boxes_from, channel_between, last_cha
 use Rattle.mc_plan.proofs.Widened.{setups_widened}
 use Rattle.mc_plan.specs.Setups.{setup_if, setups_at, setups_from, setups_of}
 use Rattle.mc_plan.specs.declared.plan.BoxPlan.{BoxPlan}
-use Rattle.mc_net.specs.BoxLines.{box_seen}
-use Rattle.mc_net.specs.Meaning.{declared_at, new_shape, with_medium, with_send_list}
-use Rattle.mc_net.specs.SoFar.{DeclaredBox}
+use Rattle.mc_lines.specs.BoxLines.{box_seen}
+use Rattle.mc_lines.specs.Meaning.{declared_at, new_shape, with_medium, with_send_list}
+use Rattle.mc_lines.specs.SoFar.{DeclaredBox}
 
 -- the media of the slots that channels give a box
 abbrev pub media_of : List ChannelState → ℕ → List Medium

@@ -10,9 +10,9 @@ use Rattle.mc_plan.specs.Plans.{PlanState, boxes_from, world_of}
 use Rattle.mc_plan.specs.Setups.{setups_of}
 use Rattle.mc_plan.specs.declared.plan.BoxPlan.{BoxPlan}
 use Rattle.mc_plan.proofs.Numbered.{length_boxes}
-use Rattle.mc_net.specs.BoxLines.{box_seen}
-use Rattle.mc_net.specs.SoFar.{DeclaredBox}
-use Rattle.mc_net.specs.Meaning.{declared_at}
+use Rattle.mc_lines.specs.BoxLines.{box_seen}
+use Rattle.mc_lines.specs.SoFar.{DeclaredBox}
+use Rattle.mc_lines.specs.Meaning.{declared_at}
 use Rattle.mc_net.specs.Versions.{FirstVersions}
 
 -- what stands where no setup is

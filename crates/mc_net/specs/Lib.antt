@@ -1,11 +1,4 @@
-pub mod BoxLines
-pub mod Forms
-pub mod LineReadings
-pub mod Listing
-pub mod Meaning
 pub mod Nets
-pub mod Rules
-pub mod SoFar
 pub mod TextLaws
 pub mod Texts
 pub mod Versions

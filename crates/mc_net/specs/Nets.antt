@@ -9,12 +9,12 @@ use Rattle.mc_box.specs.declared.event.Turn.{Turn}
 use Rattle.mc_script.specs.declared.command.Batch.{Batch}
 use Rattle.mc_script.specs.declared.command.Command.{Command}
 use Rattle.mc_script.specs.declared.command.Command.TheVariants.{Stimulus, Settle}
-use Rattle.mc_net.specs.BoxLines.{box_seen}
-use Rattle.mc_net.specs.Rules.{shapes}
-use Rattle.mc_net.specs.SoFar.{Declared}
+use Rattle.mc_lines.specs.BoxLines.{box_seen}
+use Rattle.mc_lines.specs.Rules.{shapes}
+use Rattle.mc_lines.specs.SoFar.{Declared}
 use Rattle.mc_net.specs.Texts.{Says}
 use Rattle.mc_net.specs.declared.net.Net.{Net}
-use Rattle.mc_net.specs.declared.reader.Parts.{Parts}
+use Rattle.mc_lines.specs.declared.reader.Parts.{Parts}
 
 -- ---- batches
 

@@ -1,7 +1,7 @@
 -- Laws of texts: each says something or has a fault, and never both, nor two faults. The first bytes of a long text show its fault.
 use Rattle.std.specs.Prelude.{ℕ, ◌≡◌, ◌⊎◌, List, take}
-use Rattle.mc_net.specs.Rules.{read_limit}
-use Rattle.mc_net.specs.SoFar.{Declared}
+use Rattle.mc_lines.specs.Rules.{read_limit}
+use Rattle.mc_lines.specs.SoFar.{Declared}
 use Rattle.mc_net.specs.Texts.{IsFault, Says}
 
 -- a text that says something has no fault

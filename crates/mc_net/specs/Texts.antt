@@ -1,51 +1,16 @@
 -- A whole text: its first fault, and what it declares.
-use Rattle.std.specs.Prelude.{ℕ, zero, suc, ◌≡◌, ◌+◌, ◌<◌, ◌&&◌, not, Bool, true, false, List, [], Option, Some, None, if◌then◌else◌, length, slice_index_or}
-use Rattle.std.specs.Option.{is_some, option_map, unwrap_or}
+use Rattle.std.specs.Prelude.{ℕ, zero, suc, ◌≡◌, ◌+◌, ◌<◌, List, [], Option, Some, None, length, slice_index_or}
+use Rattle.std.specs.Option.{unwrap_or}
 use Rattle.mc_text.specs.Lines.{lines, words}
-use Rattle.mc_net.specs.Meaning.{entry_after, line_after, words_after}
-use Rattle.mc_net.specs.Rules.{end_fault, is_skipped, kind_of, line_fault}
-use Rattle.mc_net.specs.SoFar.{Declared, nothing}
+use Rattle.mc_script.specs.declared.rule.TheConstants.{UNBUILT}
+use Rattle.mc_lines.specs.Meaning.{line_after}
+use Rattle.mc_lines.specs.Rules.{end_fault, line_fault}
+use Rattle.mc_lines.specs.SoFar.{Declared, nothing}
+use Rattle.mc_lines.specs.Unbuilt.{first_unbuilt, is_unbuilt, with_unbuilt}
 use Rattle.mc_net.specs.declared.fault.NetFault.{NetFault}
 use Rattle.mc_net.specs.declared.fault.NetFault.TheVariants.{Line, NoMemory}
-use Rattle.mc_net.specs.declared.section.Keyword.{Keyword}
-use Rattle.mc_net.specs.declared.section.Keyword.TheVariants as keyword
-use Rattle.mc_script.specs.declared.rule.TheConstants.{UNBUILT}
-
--- ---- what can't be run yet
-
--- a line of this kind can't be run yet: it begins a box's program
-abbrev pub unbuilt_by : Option Keyword → Bool
-unbuilt_by (Some keyword.Prog) = true
-unbuilt_by other = false
-
--- a line of these words, behind the version line
-abbrev pub are_unbuilt : List (List ℕ) → Bool
-are_unbuilt words = unbuilt_by (kind_of words)
-
--- a line of these words, wherever it stands
-abbrev pub is_unbuilt : Declared → List (List ℕ) → Bool
-is_unbuilt d words = d.versioned && not (is_skipped words) && are_unbuilt words
 
 -- ---- one line after another
-
--- the first line that can't be run yet: one before, or this one by its number, if it can't
-abbrev pub first_unbuilt : Declared → ℕ → Bool → Option ℕ
-first_unbuilt d number unbuilt = if is_some d.unbuilt then d.unbuilt else (if unbuilt then Some number else None)
-
-abbrev pub with_unbuilt : Option ℕ → Declared → Declared
-with_unbuilt line d = record d { unbuilt = line }
-
--- what is declared after a line of these words, by its number, behind the version line
-abbrev pub after_words : Declared → ℕ → List (List ℕ) → Option Declared
-after_words d number words = option_map (with_unbuilt (first_unbuilt d number (are_unbuilt words))) (words_after true d words)
-
--- what is declared after a line of these words, wherever it stands
-abbrev pub after_entry : Declared → ℕ → List (List ℕ) → Option Declared
-after_entry d number words = option_map (with_unbuilt (first_unbuilt d number (is_unbuilt d words))) (entry_after d words)
-
--- what is declared after a line, by its number, if it means anything
-abbrev pub after_line : Declared → ℕ → List ℕ → Option Declared
-after_line d number line = after_entry d number (words line)
 
 -- what is declared after a line, by its number, with what the lines before it declared
 abbrev pub declared_after : Declared → ℕ → List ℕ → Declared
@@ -68,6 +33,8 @@ fault_at total lines k = line_fault total (bytes_before lines k) (declared_by li
 -- no line before an index breaks a rule
 abbrev pub AreSound : ℕ → List (List ℕ) → ℕ → Type 0
 AreSound total lines count = (k : ℕ) → k < count → fault_at total lines k ≡ None
+
+-- ---- a whole text
 
 -- the text's first fault: a line, by its number from 1, breaks the rule of this number and none with a lesser one, and no line before it breaks a rule. The end counts as one more line. A text that is in the grammar has fault 19 at its first line that can't be run yet
 pub data IsFault (text : List ℕ) : ℕ → ℕ → Type 0 where

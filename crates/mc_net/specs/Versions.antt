@@ -3,9 +3,9 @@ use Rattle.std.specs.Prelude.{◌≡◌, ◌+◌, ◌≤◌, ◌<◌, ℕ, lengt
 use Rattle.mc_box.specs.declared.limit.TheConstants.{LAST_VERSION}
 use Rattle.mc_model.specs.Settles.{hears_in}
 use Rattle.mc_model.specs.Worlds.{WorldState, box_at, version_at}
-use Rattle.mc_net.specs.Meaning.{declared_at}
+use Rattle.mc_lines.specs.Meaning.{declared_at}
 use Rattle.mc_net.specs.Nets.{IsFirstWorld, batches_of}
-use Rattle.mc_net.specs.SoFar.{Declared}
+use Rattle.mc_lines.specs.SoFar.{Declared}
 
 -- the first version of each slot and its Hears up to the last settle don't pass the last version together
 abbrev pub MeetsNoLast : Declared → Type 0

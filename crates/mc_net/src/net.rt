@@ -6,10 +6,10 @@ ghost use Rattle.mc_net.specs.Nets.{DeclaresNet, IsMadeOf, NamesAll, batches_of,
 ghost use Rattle.mc_net.specs.Texts.{RefusesText};
 
 use crate::fault::NetFault;
-use crate::limit::COMMAND_LIMIT;
-use crate::reader::Parts;
 use crate::text::read_text;
 use mc_box::Shape;
+use mc_lines::Parts;
+use mc_lines::limit::COMMAND_LIMIT;
 use mc_script::{Batch, Command};
 use mc_text::Names;
 use mc_world::World;

@@ -1,11 +1,11 @@
 //! Whole texts.
 
 ghost use Rattle.std.specs.Prelude.{◌≡◌, IfErr, IfOk};
-ghost use Rattle.mc_net.specs.Forms.{IsInForm};
+ghost use Rattle.mc_lines.specs.Forms.{IsInForm};
 ghost use Rattle.mc_net.specs.Texts.{Says, RefusesText};
 
 use crate::fault::{NetFault, TextFault};
-use crate::reader::Reader;
+use mc_lines::Reader;
 use mc_program::ReadFault;
 use mc_script::rule::UNBUILT;
 use mc_text::next_line;

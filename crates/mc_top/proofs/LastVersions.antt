@@ -12,9 +12,9 @@ use Rattle.mc_laws.specs.Versions.{PassesLast}
 use Rattle.mc_model.specs.Settles.{hears_in, hears_of}
 use Rattle.mc_model.specs.Sound.{IsSound}
 use Rattle.mc_model.specs.Worlds.{WorldState, version_at}
-use Rattle.mc_net.specs.Meaning.{declared_at}
+use Rattle.mc_lines.specs.Meaning.{declared_at}
 use Rattle.mc_net.specs.Nets.{DeclaresNet, batch_turns, batches_of}
-use Rattle.mc_net.specs.SoFar.{Declared}
+use Rattle.mc_lines.specs.SoFar.{Declared}
 use Rattle.mc_net.specs.Texts.{Says}
 use Rattle.mc_net.specs.Versions.{MeetsNoLast}
 use Rattle.mc_net.specs.declared.net.Net.{Net}

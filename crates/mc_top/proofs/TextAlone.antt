@@ -10,9 +10,9 @@ use Rattle.mc_model.specs.Worlds.{ChannelState, WorldState}
 use Rattle.mc_plan.specs.Plans.{PlanState, box_from, boxes_from, world_of}
 use Rattle.mc_plan.specs.Setups.{setups_of}
 use Rattle.mc_plan.specs.declared.plan.BoxPlan.{BoxPlan}
-use Rattle.mc_net.specs.BoxLines.{box_seen}
+use Rattle.mc_lines.specs.BoxLines.{box_seen}
 use Rattle.mc_net.specs.Nets.{IsFirstWorld, batch_turns, batches_of}
-use Rattle.mc_net.specs.SoFar.{Declared, DeclaredBox}
+use Rattle.mc_lines.specs.SoFar.{Declared, DeclaredBox}
 use Rattle.mc_net.specs.declared.net.Net.{Net}
 use Rattle.mc_settings.proofs.BatchesLeft.{decided_is_left, decided_stays, settled_used}
 use Rattle.mc_settings.specs.Batches.{LeavesDecided}

@@ -4,7 +4,7 @@ use Rattle.std.specs.declared.option.Option.{Option}
 use Rattle.mc_io.specs.Faults.{Rose, faults_after, next_count}
 use Rattle.mc_script.specs.declared.command.JournalLine.{JournalLine}
 use Rattle.mc_net.specs.Nets.{DeclaresNet, batch_turns}
-use Rattle.mc_net.specs.SoFar.{Declared}
+use Rattle.mc_lines.specs.SoFar.{Declared}
 use Rattle.mc_net.specs.TextLaws.{first_bytes}
 use Rattle.mc_net.specs.Texts.{IsFault, Says}
 use Rattle.mc_net.specs.Versions.{MeetsNoLast}

@@ -6,7 +6,7 @@ use Rattle.std.specs.Option.{option_and_then}
 use Rattle.mc_text.specs.Spelling.{number_of}
 use Rattle.mc_top.specs.Printed.{journal_text}
 use Rattle.mc_top.specs.Rings.{MakesNoRing}
-use Rattle.mc_net.specs.SoFar.{Declared}
+use Rattle.mc_lines.specs.SoFar.{Declared}
 use Rattle.mc_net.specs.Texts.{Says}
 use Rattle.mc_net.specs.Versions.{MeetsNoLast}
 use Rattle.mc_net.specs.declared.net.Net.{Net}

@@ -5,11 +5,11 @@ use Rattle.std.specs.Io.KnownBytes.{Appends, Consumes, IsAtEnd, Keeps}
 use Rattle.mc_io.specs.Bytes.{AppendsPart}
 use Rattle.mc_model.specs.Sound.{IsSound}
 use Rattle.mc_net.specs.Nets.{DeclaresNet, batch_turns}
-use Rattle.mc_net.specs.Rules.{read_limit}
+use Rattle.mc_lines.specs.Rules.{read_limit}
 use Rattle.mc_net.specs.TextLaws.{first_bytes}
 use Rattle.mc_net.specs.Texts.{IsFault}
 use Rattle.mc_net.specs.declared.net.Net.{Net}
-use Rattle.mc_net.specs.declared.limit.TheConstants.{TEXT_LIMIT}
+use Rattle.mc_lines.specs.declared.limit.TheConstants.{TEXT_LIMIT}
 use Rattle.mc_top.specs.Drawn.{IsDrawnJournal}
 use Rattle.mc_top.specs.Journals.{IsJournal, IsStoppedJournal, HoldsAtSettles, ShowsCause}
 use Rattle.mc_top.specs.Modes.{draws_from, output_of, reads}

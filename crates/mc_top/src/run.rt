@@ -2,7 +2,7 @@
 ghost use Rattle.std.specs.Prelude.{◌≡◌, ◌++◌, ◌∷◌, ◌<◌, ◌≤◌, [], length, map, Some, IfOk, OnOk};
 ghost use Rattle.mc_model.specs.Shapes.{AreAllAllowed, AreAllowed};
 ghost use Rattle.mc_net.specs.Nets.{NamesAll, batch_turns};
-ghost use Rattle.mc_net.specs.declared.limit.TheConstants.{COMMAND_LIMIT};
+ghost use Rattle.mc_lines.specs.declared.limit.TheConstants.{COMMAND_LIMIT};
 ghost use Rattle.mc_script.specs.declared.command.JournalLine.TheVariants.{Turn as Made};
 ghost use Rattle.mc_table.specs.Words.{line_of};
 ghost use Rattle.mc_text.specs.NameLists.{slot_names, slot_word};

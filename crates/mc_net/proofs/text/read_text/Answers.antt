@@ -2,7 +2,7 @@ use Rattle.std.proofs.Common.{◌≡◌, ◌+◌, ◌≤◌, ◌<◌, ◌∷◌,
 use Rattle.std.proofs.lemmas.Grind.{common_steps}
 use Rattle.std.proofs.lemmas.List.{nil_from_length}
 use Rattle.mc_text.specs.Lines.{lines}
-use Rattle.mc_net.specs.Rules.{line_fault}
+use Rattle.mc_lines.specs.Rules.{line_fault}
 use Rattle.mc_net.proofs.Reading.{HasRead, one_more, refused_at_end, refused_here, refused_unbuilt, says_it}
 use Rattle.mc_net.proofs.text.read_text.Goals as goal
 

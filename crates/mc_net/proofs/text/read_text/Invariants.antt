@@ -1,6 +1,6 @@
 use Rattle.std.proofs.Common.{◌+◌, ◌≤◌, ◌<◌, length}
 use Rattle.mc_text.specs.Lines.{lines}
-use Rattle.mc_net.specs.Forms.{IsInForm}
+use Rattle.mc_lines.specs.Forms.{IsInForm}
 use Rattle.mc_net.proofs.Reading.{HasRead}
 use Rattle.mc_net.proofs.text.read_text.Given as goal
 

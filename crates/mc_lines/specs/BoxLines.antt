@@ -1,0 +1,103 @@
+-- What the lines of boxes and channels say, as clauses see it.
+use Rattle.std.specs.Prelude.{ℕ, ◌≡◌, ◌<◌, ◌==◌, ◌||◌, Bool, if◌then◌else◌, List, [], ◌∷◌, Option, Some, None, Result, Ok, Err, IsTrue, length, nat_le}
+use Rattle.mc_signal.specs.Choice.{codecs_of}
+use Rattle.std.specs.Option.{is_some}
+use Rattle.mc_text.specs.NameLists.{NameLists, place_of, slot_names}
+use Rattle.mc_text.specs.Spelling.{is_name, is_spelt}
+use Rattle.mc_model.specs.Worlds.{ChannelState}
+use Rattle.mc_model.specs.declared.channel.TheConstants.{TUNNEL_LIMIT}
+use Rattle.mc_plan.specs.Plans.{last_channel}
+use Rattle.mc_plan.specs.declared.plan.BoxPlan.{BoxPlan}
+use Rattle.mc_script.specs.Places.{is_overlong, unless}
+use Rattle.mc_script.specs.declared.command.LineFault.{LineFault}
+use Rattle.mc_script.specs.declared.rule.TheConstants.{GIVEN_TWICE, LIMIT_PASSED, NAME_TOO_LONG, SAME_BOX}
+use Rattle.mc_lines.specs.Meaning.{with_joined, with_new_box, with_send_line, with_slots, with_widened}
+use Rattle.mc_lines.specs.Rules.{is_full}
+use Rattle.mc_lines.specs.SoFar.{Declared, DeclaredBox}
+use Rattle.mc_plan.specs.declared.limit.TheConstants.{CHANNEL_LIMIT}
+use Rattle.mc_lines.specs.declared.reader.boxes.DeviceLine.{DeviceLine}
+use Rattle.mc_lines.specs.declared.reader.channels.ChannelLine.{ChannelLine}
+use Rattle.mc_lines.specs.declared.reader.sends.SendLine.{SendLine}
+
+-- what is declared of a planned box
+abbrev pub box_seen : BoxPlan → DeclaredBox
+box_seen planned = record { kind = planned.kind; version = planned.first_version; receives = codecs_of planned.codecs; sends = codecs_of planned.sends }
+
+-- what is declared after a `dev` line
+abbrev pub device_seen : Declared → DeviceLine → Declared
+device_seen d line = with_new_box d line.name.now (box_seen line.planned)
+
+-- what is declared after a `send` line
+abbrev pub send_seen : Declared → SendLine → Declared
+send_seen d line = with_send_line d line.who (codecs_of line.sends)
+
+-- what is declared after a `chan` line
+abbrev pub channel_seen : Declared → ChannelLine → Declared
+channel_seen d line = with_joined d line.medium line.from line.slot.now line.to line.far_slot.now
+
+-- whether two boxes may be joined by one more channel of one tunnel
+abbrev pub check_join : NameLists → List ChannelState → (from to : ℕ) → Result (Unit {0}) LineFault
+check_join names channels from to = if from == to then Err (record { number = SAME_BOX })
+    else unless (is_full names from || is_full names to || nat_le CHANNEL_LIMIT (length channels)) LIMIT_PASSED tt
+
+-- what is declared where the two slots of a line are added
+abbrev pub slots_seen : Declared → ChannelLine → Declared
+slots_seen d line = with_slots d line.medium line.from line.slot.now line.to line.far_slot.now
+
+-- what is declared after an `also` line
+abbrev pub also_seen : Declared → ChannelLine → Declared
+also_seen d line = with_widened d line.medium line.from line.slot.now line.to line.far_slot.now
+
+-- the two boxes of the last channel, the initiator first
+abbrev pub last_ends : List ChannelState → Option (ℕ × ℕ)
+last_ends channels = if length channels == 0 then None else Some ((last_channel channels).from, (last_channel channels).to)
+
+-- whether the channel between two boxes, which has so many tunnels, may have one more
+abbrev pub check_widen : NameLists → ChannelState → Result (Unit {0}) LineFault
+check_widen names ends = unless (is_full names ends.from || is_full names ends.to || nat_le TUNNEL_LIMIT (length ends.tunnels)) LIMIT_PASSED tt
+
+-- what is left to ask of an `also` line whose words are known where they must be
+abbrev pub widening_rules : Declared → ChannelLine → List (ℕ × Bool)
+widening_rules d line =
+    let ends = last_channel d.channels in
+    (GIVEN_TWICE, is_some (place_of (slot_names d.names line.from) line.slot.now) || is_some (place_of (slot_names d.names line.to) line.far_slot.now))
+    ∷ (LIMIT_PASSED, is_full d.names ends.from || is_full d.names ends.to || nat_le TUNNEL_LIMIT (length ends.tunnels))
+    ∷ (NAME_TOO_LONG, is_overlong (Some line.slot.now) || is_overlong (Some line.far_slot.now))
+    ∷ []
+
+-- an `also` line's boxes are those of the last channel
+pub record IsOfLast (d : Declared) (line : ChannelLine) : Type 0 where
+  pub some : 0 < length d.channels
+  pub near : line.from ≡ (last_channel d.channels).from
+  pub far : line.to ≡ (last_channel d.channels).to
+
+-- what is left to ask of a `chan` line whose words are known where they must be
+abbrev pub joining_rules : Declared → ChannelLine → List (ℕ × Bool)
+joining_rules d line =
+    (GIVEN_TWICE, is_some (place_of (slot_names d.names line.from) line.slot.now) || is_some (place_of (slot_names d.names line.to) line.far_slot.now))
+    ∷ (SAME_BOX, line.from == line.to)
+    ∷ (LIMIT_PASSED, is_full d.names line.from || is_full d.names line.to || nat_le CHANNEL_LIMIT (length d.channels))
+    ∷ (NAME_TOO_LONG, is_overlong (Some line.slot.now) || is_overlong (Some line.far_slot.now))
+    ∷ []
+
+-- both boxes of a `chan` line are declared, and both slots are spelt as names are
+pub record KnowsEnds (d : Declared) (line : ChannelLine) : Type 0 where
+  pub near : line.from < length d.names.boxes
+  pub far : line.to < length d.names.boxes
+  pub slot : IsTrue (is_spelt line.slot.now)
+  pub far_slot : IsTrue (is_spelt line.far_slot.now)
+
+-- the last channel, whose boxes these are, may have one more tunnel, and both slots are named
+pub record CanWiden (d : Declared) (line : ChannelLine) : Type 0 where
+  pub last : IsOfLast d line
+  pub ends : KnowsEnds d line
+  pub widens : check_widen d.names (last_channel d.channels) ≡ Ok tt
+  pub slot : IsTrue (is_name line.slot.now)
+  pub far_slot : IsTrue (is_name line.far_slot.now)
+
+-- both boxes are declared, they may be joined, and both slots are named
+pub record CanJoin (d : Declared) (line : ChannelLine) : Type 0 where
+  pub ends : KnowsEnds d line
+  pub joins : check_join d.names d.channels line.from line.to ≡ Ok tt
+  pub slot : IsTrue (is_name line.slot.now)
+  pub far_slot : IsTrue (is_name line.far_slot.now)

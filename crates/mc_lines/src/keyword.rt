@@ -1,0 +1,52 @@
+//! The words that open lines.
+
+ghost use Rattle.std.specs.Prelude.{◌≡◌};
+ghost use Rattle.mc_lines.specs.Rules.{keyword_of};
+
+use crate::section::Keyword;
+
+/// The kind of line that a word opens. None where it opens none. That `send` opens one in version 2 alone is for the
+/// rules of its line to say.
+pub fn keyword_of(word: &[u8]) -> Option<Keyword>
+    ensures { result ≡ keyword_of word.now }
+{
+    if word == b"media".as_slice() {
+        Some(Keyword::Media)
+    } else if word == b"codec".as_slice() {
+        Some(Keyword::Codec)
+    } else if word == b"dev".as_slice() {
+        Some(Keyword::Dev)
+    } else if word == b"feat".as_slice() {
+        Some(Keyword::Feat)
+    } else if word == b"send".as_slice() {
+        Some(Keyword::Send)
+    } else if word == b"chan".as_slice() {
+        Some(Keyword::Chan)
+    } else if word == b"also".as_slice() {
+        Some(Keyword::Also)
+    } else if word == b"prog".as_slice() {
+        Some(Keyword::Prog)
+    } else if word == b"state".as_slice() {
+        Some(Keyword::State)
+    } else if word == b"goal".as_slice() {
+        Some(Keyword::Goal)
+    } else if word == b"when".as_slice() {
+        Some(Keyword::When)
+    } else if word == b"begin".as_slice() {
+        Some(Keyword::Begin)
+    } else if word == b"set".as_slice() {
+        Some(Keyword::Set)
+    } else if word == b"link".as_slice() {
+        Some(Keyword::Link)
+    } else if word == b"hear".as_slice() {
+        Some(Keyword::Hear)
+    } else if word == b"talk".as_slice() {
+        Some(Keyword::Talk)
+    } else if word == b"tell".as_slice() {
+        Some(Keyword::Tell)
+    } else if word == b"settle".as_slice() {
+        Some(Keyword::Settle)
+    } else {
+        None
+    }
+}

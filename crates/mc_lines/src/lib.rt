@@ -1,0 +1,13 @@
+//! The lines of a network's text: what each says, and the first rule that it breaks.
+#![tactic(auto)]
+
+mod codec_words;
+mod keyword;
+pub mod limit;
+mod places;
+mod reader;
+mod section;
+
+pub use keyword::keyword_of;
+pub use reader::{Parts, Reader};
+pub use section::{Keyword, Section};

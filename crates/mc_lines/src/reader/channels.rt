@@ -1,0 +1,301 @@
+//! Lines that declare channels.
+
+ghost use Rattle.std.specs.Prelude.{◌≡◌, ◌<◌, [], IfOk, IfSome, IsTrue, OnOk, length};
+ghost use Rattle.std.specs.Option.{is_some};
+ghost use Rattle.mc_text.specs.NameLists.{place_of, slot_names};
+ghost use Rattle.mc_text.specs.Spelling.{is_name};
+ghost use Rattle.mc_lines.specs.BoxLines.{CanJoin, CanWiden, IsOfLast, KnowsEnds, also_seen, channel_seen, check_join, check_widen, last_ends, slots_seen};
+ghost use Rattle.mc_plan.specs.Plans.{last_channel};
+ghost use Rattle.mc_lines.specs.Forms.{IsInForm};
+ghost use Rattle.mc_lines.specs.Meaning.{with_new_channel, with_medium, with_new_slot, with_new_tunnel};
+ghost use Rattle.mc_lines.specs.LineReadings.{ReadsKind, SpellsAlso, SpellsChannel, SpellsKind};
+
+use crate::places::fixed_medium;
+use crate::reader::Reader;
+use crate::section::{Keyword, Section};
+use mc_box::Shape;
+use mc_plan::PlanFault;
+use mc_program::ReadFault;
+use mc_script::LineFault;
+use mc_script::places::{is_misspelt, is_overlong, known_box};
+use mc_script::rule::{
+    EXTRA_WORD, GIVEN_TWICE, LIMIT_PASSED, MISSING_WORD, NAME_TOO_LONG, SAME_BOX, WRONG_WORD,
+};
+use mc_signal::Medium;
+use mc_text::{FirstWords, Words};
+use std::alloc::AllocError;
+
+/// What a `chan` line declares: its medium, its two boxes, and the names of the slot that each gets.
+#[derive(Drop)]
+pub struct ChannelLine<'a> {
+    medium: Medium,
+    from: u32,
+    slot: &'a [u8],
+    to: u32,
+    far_slot: &'a [u8],
+}
+
+impl Reader {
+    // What a `chan` line spells, in words that are known where they must be.
+    #[tactic(auto, using(crate::proofs::Missing::no_word_without_box, crate::proofs::Missing::no_fifth_without_first, crate::proofs::Missing::no_fifth_without_second, crate::proofs::Missing::no_fifth_without_third, crate::proofs::Missing::no_fifth_without_fourth))]
+    fn channel_words<'a>(&self, words: Words<'a>) -> Result<ChannelLine<'a>, LineFault>
+        ensures read { SpellsChannel self.now words.entry result }
+        ensures known { IfOk result (KnowsEnds self.now) }
+    {
+        let parts = FirstWords::new(words);
+        let from = known_box(&self.names, parts.second)?;
+        let to = known_box(&self.names, parts.fourth)?;
+        let medium = fixed_medium(parts.first)?;
+        if self.is_late(Section::Channels)
+            || from.is_some() && is_misspelt(parts.third)
+            || to.is_some() && is_misspelt(parts.fifth)
+        {
+            return Err(LineFault { number: WRONG_WORD });
+        }
+        let Some(far_slot) = parts.fifth else {
+            return Err(LineFault {
+                number: MISSING_WORD,
+            });
+        };
+        if parts.sixth.is_some() {
+            return Err(LineFault { number: EXTRA_WORD });
+        }
+        // where the fifth word is there, so are those before it
+        let (Some(medium), Some(from), Some(slot), Some(to)) = (medium, from, parts.third, to)
+        else {
+            unreachable!()
+        };
+        Ok(ChannelLine {
+            medium,
+            from,
+            slot,
+            to,
+            far_slot,
+        })
+    }
+
+    // What a `chan` line declares.
+    fn channel_line<'a>(&self, words: Words<'a>) -> Result<ChannelLine<'a>, LineFault>
+        requires { IsInForm self.now }
+        ensures read { SpellsKind (channel_seen self.now) (λ line. []) self.now Keyword.Chan words.entry result }
+        ensures can_join { IfOk result (CanJoin self.now) }
+    {
+        let line = self.channel_words(words)?;
+        if self.has_slot(line.from, line.slot) || self.has_slot(line.to, line.far_slot) {
+            return Err(LineFault {
+                number: GIVEN_TWICE,
+            });
+        }
+        // asked before the length of the names, which comes behind it
+        self.check_join(line.from, line.to, line.medium)?;
+        if is_overlong(Some(line.slot)) || is_overlong(Some(line.far_slot)) {
+            return Err(LineFault {
+                number: NAME_TOO_LONG,
+            });
+        }
+        Ok(line)
+    }
+
+    // Whether a box has a slot of this name.
+    fn has_slot(&self, who: u32, name: &[u8]) -> bool
+        requires { who < length self.now.names.boxes }
+        ensures { result ≡ is_some (place_of (slot_names self.now.names who) name.now) }
+    {
+        self.names.find_slot(who, name).is_some()
+    }
+
+    // Whether two boxes may be joined by one more channel of one tunnel: else fault 10 where they are the same box, and
+    // 14 where there would be too many channels, or slots of a box.
+    #[tactic(auto, using(crate::proofs::Joining::joins_by_plan))]
+    fn check_join(&self, from: u32, to: u32, medium: Medium) -> Result<(), LineFault>
+        requires in_form { IsInForm self.now }
+        requires near { from < length self.now.names.boxes }
+        requires far { to < length self.now.names.boxes }
+        ensures { result ≡ check_join self.now.names self.now.channels from to }
+    {
+        match self.plan.may_join(from, to, &[medium]) {
+            Ok(()) => Ok(()),
+            Err(PlanFault::SameBox) => Err(LineFault { number: SAME_BOX }),
+            Err(_) => Err(LineFault {
+                number: LIMIT_PASSED,
+            }),
+        }
+    }
+
+    /// Reads `chan MEDIUM BOX SLOT BOX SLOT` from the medium on.
+    pub fn read_channel<'a>(&mut self, words: Words<'a>) -> Result<(), ReadFault>
+        requires { IsInForm self.old }
+        ensures declared { ReadsKind self.old Keyword.Chan words.entry result self.new }
+        ensures in_form { OnOk result (IsInForm self.new) }
+    {
+        let line = self.channel_line(words)?;
+        self.join(line.from, line.to, line.medium)?;
+        self.add_slots(&line)?;
+        Ok(())
+    }
+
+    // What an `also` line spells, in words that are known where they must be.
+    #[tactic(auto, using(crate::proofs::Missing::no_third_without_first, crate::proofs::Missing::no_third_without_second))]
+    fn also_words<'a>(&self, words: Words<'a>) -> Result<ChannelLine<'a>, LineFault>
+        requires { IsInForm self.now }
+        ensures read { SpellsAlso self.now words.entry result }
+        ensures last { IfOk result (IsOfLast self.now) }
+        ensures known { IfOk result (KnowsEnds self.now) }
+    {
+        let parts = FirstWords::new(words);
+        let medium = fixed_medium(parts.first)?;
+        let Some((from, to)) = self.last_ends() else {
+            return Err(LineFault { number: WRONG_WORD });
+        };
+        if self.is_late(Section::Channels)
+            || is_misspelt(parts.second)
+            || is_misspelt(parts.third)
+        {
+            return Err(LineFault { number: WRONG_WORD });
+        }
+        let Some(far_slot) = parts.third else {
+            return Err(LineFault {
+                number: MISSING_WORD,
+            });
+        };
+        if parts.fourth.is_some() {
+            return Err(LineFault { number: EXTRA_WORD });
+        }
+        // where the third word is there, so are those before it
+        let (Some(medium), Some(slot)) = (medium, parts.second) else {
+            unreachable!()
+        };
+        Ok(ChannelLine {
+            medium,
+            from,
+            slot,
+            to,
+            far_slot,
+        })
+    }
+
+    // The two boxes of the last channel, the initiator first. None where there is no channel.
+    fn last_ends(&self) -> Option<(u32, u32)>
+        requires { IsInForm self.now }
+        ensures is { result ≡ last_ends self.now.channels }
+        ensures there { IfSome result (λ ends.
+            (ends.0 < length self.now.names.boxes) × (ends.1 < length self.now.names.boxes)) }
+    {
+        self.plan.keeps();
+        let channels = self.plan.channels();
+        if channels.is_empty() {
+            return None;
+        }
+        let last = &channels[channels.len() - 1];
+        Some((last.from, last.to))
+    }
+
+    // What an `also` line declares.
+    fn also_line<'a>(&self, words: Words<'a>) -> Result<ChannelLine<'a>, LineFault>
+        requires { IsInForm self.now }
+        ensures read { SpellsKind (also_seen self.now) (λ line. []) self.now Keyword.Also words.entry result }
+        ensures can_widen { IfOk result (CanWiden self.now) }
+    {
+        let line = self.also_words(words)?;
+        if self.has_slot(line.from, line.slot) || self.has_slot(line.to, line.far_slot) {
+            return Err(LineFault {
+                number: GIVEN_TWICE,
+            });
+        }
+        // asked before the length of the names, which comes behind it
+        self.check_widen()?;
+        if is_overlong(Some(line.slot)) || is_overlong(Some(line.far_slot)) {
+            return Err(LineFault {
+                number: NAME_TOO_LONG,
+            });
+        }
+        Ok(line)
+    }
+
+    // Whether the last channel may have one more tunnel: else fault 14, as it would have too many, or one of its boxes
+    // too many slots.
+    #[tactic(auto, using(crate::proofs::Joining::widens_by_plan))]
+    fn check_widen(&self) -> Result<(), LineFault>
+        requires in_form { IsInForm self.now }
+        requires some { 0 < length self.now.channels }
+        ensures { result ≡ check_widen self.now.names (last_channel self.now.channels) }
+    {
+        match self.plan.may_widen() {
+            Ok(()) => Ok(()),
+            Err(_) => Err(LineFault {
+                number: LIMIT_PASSED,
+            }),
+        }
+    }
+
+    /// Reads `also MEDIUM SLOT SLOT` from the medium on.
+    pub fn read_also<'a>(&mut self, words: Words<'a>) -> Result<(), ReadFault>
+        requires { IsInForm self.old }
+        ensures declared { ReadsKind self.old Keyword.Also words.entry result self.new }
+        ensures in_form { OnOk result (IsInForm self.new) }
+    {
+        let line = self.also_line(words)?;
+        self.widen(line.medium)?;
+        self.add_slots(&line)?;
+        Ok(())
+    }
+
+    // Gives the last channel one more tunnel.
+    fn widen(&mut self, medium: Medium) -> Result<(), AllocError>
+        ensures { OnOk result (self.new ≡ with_new_tunnel self.old medium) }
+    {
+        if self.plan.widen(medium).is_err() {
+            return Err(AllocError);
+        }
+        Ok(())
+    }
+
+    // Joins two boxes by one more channel of one tunnel.
+    fn join(&mut self, from: u32, to: u32, medium: Medium) -> Result<(), AllocError>
+        ensures { OnOk result (self.new ≡ with_new_channel self.old from to medium) }
+    {
+        if self.plan.join(from, to, &[medium]).is_err() {
+            return Err(AllocError);
+        }
+        Ok(())
+    }
+
+    // Adds the two slots of a line to their boxes, each as its last.
+    fn add_slots<'a>(&mut self, line: &ChannelLine<'a>) -> Result<(), AllocError>
+        requires known { KnowsEnds self.old line.now }
+        requires near { IsTrue (is_name line.now.slot.now) }
+        requires far { IsTrue (is_name line.now.far_slot.now) }
+        requires boxes { length self.old.shape ≡ length self.old.names.boxes }
+        ensures { OnOk result (self.new ≡ slots_seen self.old line.now) }
+    {
+        self.add_slot(line.from, line.slot, line.medium)?;
+        self.add_slot(line.to, line.far_slot, line.medium)?;
+        self.section = Section::Channels;
+        Ok(())
+    }
+
+    // Adds a slot to a box, as its last.
+    fn add_slot(&mut self, who: u32, name: &[u8], medium: Medium) -> Result<(), AllocError>
+        requires who { who < length self.old.names.boxes }
+        requires named { IsTrue (is_name name.now) }
+        requires boxes { length self.old.shape ≡ length self.old.names.boxes }
+        ensures added { OnOk result (self.new ≡ with_new_slot self.old who name.now medium) }
+    {
+        // each box has its list of slots
+        let _ = self.names.box_count();
+        if self.names.add_slot(who, name).is_err() {
+            return Err(AllocError);
+        }
+        add_medium(&mut self.shape, who, medium)
+    }
+}
+
+// A box has one more slot, of this medium.
+fn add_medium(shape: &mut Shape, who: u32, medium: Medium) -> Result<(), AllocError>
+    requires { who < length shape.old }
+    ensures { OnOk result (shape.new ≡ with_medium shape.old who medium) }
+{
+    let of_box = &mut shape.boxes[who as usize];
+    of_box.media.push(medium)?;
+    Ok(())
+}

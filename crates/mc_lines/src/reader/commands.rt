@@ -1,0 +1,68 @@
+//! The line `begin`, and commands.
+
+ghost use Rattle.std.specs.Prelude.{OnOk};
+ghost use Rattle.mc_script.specs.Meaning.{ReadsCommand};
+ghost use Rattle.mc_lines.specs.Forms.{IsInForm};
+ghost use Rattle.mc_lines.specs.LineReadings.{ReadsCommandLine, ReadsKind};
+ghost use Rattle.mc_lines.specs.Rules.{command_line_rules};
+
+use crate::limit::COMMAND_LIMIT;
+use crate::reader::Reader;
+use crate::section::{Keyword, Section};
+use mc_program::ReadFault;
+use mc_script::keyword::CommandWord;
+use mc_script::rule::{EXTRA_WORD, LIMIT_PASSED, UNFINISHED, WRONG_WORD};
+use mc_script::{Command, LineFault, read_kind};
+use mc_text::Words;
+
+impl Reader {
+    /// Reads `begin`, behind which no word stands.
+    pub fn read_begin<'a>(&mut self, mut words: Words<'a>) -> Result<(), ReadFault>
+        requires { IsInForm self.old }
+        ensures declared { ReadsKind self.old Keyword.Begin words.entry result self.new }
+        ensures in_form { OnOk result (IsInForm self.new) }
+    {
+        if self.is_late(Section::Begin) {
+            return Err(ReadFault::Line(LineFault { number: WRONG_WORD }));
+        }
+        if words.next_word().is_some() {
+            return Err(ReadFault::Line(LineFault { number: EXTRA_WORD }));
+        }
+        if self.is_unfinished() {
+            return Err(ReadFault::Line(LineFault { number: UNFINISHED }));
+        }
+        self.section = Section::Commands;
+        self.begun = true;
+        Ok(())
+    }
+
+    // The command that a line of this kind spells, if there may be one more.
+    #[tactic(auto, using(crate::proofs::FirstBroken::of_the_first, crate::proofs::FirstBroken::of_the_others))]
+    fn command_line<'a>(&self, kind: CommandWord, words: Words<'a>) -> Result<Command, LineFault>
+        requires { IsInForm self.now }
+        ensures { ReadsCommand self.now.names kind (command_line_rules self.now kind words.entry) words.entry result }
+    {
+        let command = read_kind(&self.names, &self.shape, kind, words)?;
+        if COMMAND_LIMIT <= self.commands.len() {
+            return Err(LineFault {
+                number: LIMIT_PASSED,
+            });
+        }
+        if self.is_unfinished() {
+            return Err(LineFault { number: UNFINISHED });
+        }
+        Ok(command)
+    }
+
+    /// Reads a command of a kind, by the words behind the first.
+    pub fn read_command<'a>(&mut self, kind: CommandWord, words: Words<'a>) -> Result<(), ReadFault>
+        requires { IsInForm self.old }
+        ensures declared { ReadsCommandLine self.old kind words.entry result self.new }
+        ensures in_form { OnOk result (IsInForm self.new) }
+    {
+        let command = self.command_line(kind, words)?;
+        self.commands.push(command)?;
+        self.section = Section::Commands;
+        Ok(())
+    }
+}

@@ -1,0 +1,56 @@
+// The sections of a text, and the words that open its lines.
+
+ghost use Rattle.std.specs.Prelude.{◌≡◌};
+ghost use Rattle.mc_lines.specs.Rules.{rank};
+
+/// A part of a text. They stand in this order.
+#[derive(Clone, Copy, PartialEq, Eq, Debug)]
+pub enum Section {
+    Version,
+    Codecs,
+    Boxes,
+    Channels,
+    Programs,
+    Begin,
+    Commands,
+}
+
+impl Section {
+    /// The place of the section in the order.
+    pub fn rank(self) -> u8
+        ensures { result ≡ rank self }
+    {
+        match self {
+            Section::Version => 0,
+            Section::Codecs => 1,
+            Section::Boxes => 2,
+            Section::Channels => 3,
+            Section::Programs => 4,
+            Section::Begin => 5,
+            Section::Commands => 6,
+        }
+    }
+}
+
+/// The word that opens a line.
+#[derive(Clone, Copy, PartialEq, Eq, Debug)]
+pub enum Keyword {
+    Media,
+    Codec,
+    Dev,
+    Feat,
+    Send,
+    Chan,
+    Also,
+    Prog,
+    State,
+    Goal,
+    When,
+    Begin,
+    Set,
+    Link,
+    Hear,
+    Talk,
+    Tell,
+    Settle,
+}
