@@ -49,6 +49,27 @@ rank section.Commands = 6
 abbrev pub is_late : Declared → Section → Bool
 is_late d s = nat_lt (rank s) (rank d.section)
 
+-- a word that opens a command
+abbrev pub keyword_of_command : List ℕ → Option Keyword
+keyword_of_command word =
+    if bytes_eq word (codes "set") then Some keyword.Set
+    else (if bytes_eq word (codes "link") then Some keyword.Link
+    else (if bytes_eq word (codes "hear") then Some keyword.Hear
+    else (if bytes_eq word (codes "talk") then Some keyword.Talk
+    else (if bytes_eq word (codes "tell") then Some keyword.Tell
+    else (if bytes_eq word (codes "settle") then Some keyword.Settle
+    else None)))))
+
+-- a word that opens a line behind the channels
+abbrev pub keyword_of_program : List ℕ → Option Keyword
+keyword_of_program word =
+    if bytes_eq word (codes "prog") then Some keyword.Prog
+    else (if bytes_eq word (codes "state") then Some keyword.State
+    else (if bytes_eq word (codes "goal") then Some keyword.Goal
+    else (if bytes_eq word (codes "when") then Some keyword.When
+    else (if bytes_eq word (codes "begin") then Some keyword.Begin
+    else keyword_of_command word))))
+
 -- the word that opens a line; `send` does so only where send lists stand apart, as the rules of its line say
 abbrev pub keyword_of : List ℕ → Option Keyword
 keyword_of word =
@@ -59,18 +80,7 @@ keyword_of word =
     else (if bytes_eq word (codes "send") then Some keyword.Send
     else (if bytes_eq word (codes "chan") then Some keyword.Chan
     else (if bytes_eq word (codes "also") then Some keyword.Also
-    else (if bytes_eq word (codes "prog") then Some keyword.Prog
-    else (if bytes_eq word (codes "state") then Some keyword.State
-    else (if bytes_eq word (codes "goal") then Some keyword.Goal
-    else (if bytes_eq word (codes "when") then Some keyword.When
-    else (if bytes_eq word (codes "begin") then Some keyword.Begin
-    else (if bytes_eq word (codes "set") then Some keyword.Set
-    else (if bytes_eq word (codes "link") then Some keyword.Link
-    else (if bytes_eq word (codes "hear") then Some keyword.Hear
-    else (if bytes_eq word (codes "talk") then Some keyword.Talk
-    else (if bytes_eq word (codes "tell") then Some keyword.Tell
-    else (if bytes_eq word (codes "settle") then Some keyword.Settle
-    else None)))))))))))))))))
+    else keyword_of_program word))))))
 
 -- the kind of line that these words open
 abbrev pub kind_of : List (List ℕ) → Option Keyword

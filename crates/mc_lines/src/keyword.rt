@@ -1,7 +1,7 @@
 //! The words that open lines.
 
 ghost use Rattle.std.specs.Prelude.{◌≡◌};
-ghost use Rattle.mc_lines.specs.Rules.{keyword_of};
+ghost use Rattle.mc_lines.specs.Rules.{keyword_of, keyword_of_command, keyword_of_program};
 
 use crate::section::Keyword;
 
@@ -24,7 +24,16 @@ pub fn keyword_of(word: &[u8]) -> Option<Keyword>
         Some(Keyword::Chan)
     } else if word == b"also".as_slice() {
         Some(Keyword::Also)
-    } else if word == b"prog".as_slice() {
+    } else {
+        keyword_of_program(word)
+    }
+}
+
+// The kind of line that a word opens behind the channels.
+fn keyword_of_program(word: &[u8]) -> Option<Keyword>
+    ensures { result ≡ keyword_of_program word.now }
+{
+    if word == b"prog".as_slice() {
         Some(Keyword::Prog)
     } else if word == b"state".as_slice() {
         Some(Keyword::State)
@@ -34,7 +43,16 @@ pub fn keyword_of(word: &[u8]) -> Option<Keyword>
         Some(Keyword::When)
     } else if word == b"begin".as_slice() {
         Some(Keyword::Begin)
-    } else if word == b"set".as_slice() {
+    } else {
+        keyword_of_command(word)
+    }
+}
+
+// The kind of command that a word opens.
+fn keyword_of_command(word: &[u8]) -> Option<Keyword>
+    ensures { result ≡ keyword_of_command word.now }
+{
+    if word == b"set".as_slice() {
         Some(Keyword::Set)
     } else if word == b"link".as_slice() {
         Some(Keyword::Link)
