@@ -1,15 +1,20 @@
 -- Reading the lines of a text, one after the other.
-use Rattle.std.proofs.Common.{◌≡◌, ◌⊎◌, inl, inr, ℕ, zero, suc, ◌+◌, ◌<◌, ◌≤◌, Bool, true, false, ◌&&◌, nat_le, nat_lt, List, [], ◌∷◌, ◌++◌, length, drop, Option, Some, None, slice_index_or, refl, ap, subst, arith}
+use Rattle.std.proofs.Common.{◌≡◌, ◌⊎◌, inl, inr, ℕ, zero, suc, ◌+◌, ◌<◌, ◌≤◌, false, ◌&&◌, nat_le, nat_lt, List, [], ◌∷◌, ◌++◌, length, drop, Option, Some, None, Err, slice_index_or, refl, ap, subst, arith}
 use Rattle.std.proofs.lemmas.Bool.{cases_lt}
 use Rattle.mc_text.specs.Lines.{lines, words}
-use Rattle.mc_script.specs.Rules.{byte_rules, least_broken}
+use Rattle.mc_script.specs.Rules.{byte_rules}
 use Rattle.mc_script.specs.declared.rule.TheConstants.{UNBUILT}
 use Rattle.mc_lines.specs.Meaning.{line_after}
 use Rattle.mc_lines.specs.Rules.{end_fault, is_skipped, line_fault, line_words_rules, passes_limit}
 use Rattle.mc_lines.specs.SoFar.{Declared}
 use Rattle.mc_lines.specs.Unbuilt.{after_line, first_unbuilt, is_unbuilt, with_unbuilt}
 use Rattle.mc_lines.proofs.FirstBroken.{first_kept}
-use Rattle.mc_net.specs.Texts.{AreSound, IsFault, at_line, at_end, unbuilt, Says, bytes_before, declared_after, declared_by, fault_at}
+use Rattle.mc_net.specs.Reading.{ReadsHere, fault_behind, last_fault}
+use Rattle.mc_net.specs.declared.fault.NetFault.{NetFault}
+use Rattle.mc_net.specs.declared.fault.NetFault.TheVariants.{Line, NoMemory}
+use Rattle.mc_net.specs.declared.fault.TextFault.{TextFault}
+use Rattle.mc_net.specs.declared.text.Place.{Place}
+use Rattle.mc_net.specs.Texts.{AreSound, IsFault, at_line, at_end, unbuilt, RefusesText, Says, bytes_before, declared_after, declared_by, fault_at}
 use Rattle.mc_lines.specs.declared.limit.TheConstants.{TEXT_LIMIT}
 
 -- so many lines were read, and broke no rule; these are left. The next line has the number `number`, and `before` bytes stand before it
@@ -132,15 +137,21 @@ one_more text number before next d after line others read sound means behind sma
         (at_most (length text) next small long, long)
 
 -- the line breaks a rule
-pub refused_here : (text : List ℕ) (number before : ℕ) (d : Declared) (line : List ℕ) (others : List (List ℕ)) (broken : ℕ) → HasRead text number before d (line ∷ others)
+refused_here : (text : List ℕ) (number before : ℕ) (d : Declared) (line : List ℕ) (others : List (List ℕ)) (broken : ℕ) → HasRead text number before d (line ∷ others)
     → line_fault (length text) before d line ≡ Some broken → IsFault text broken number
 refused_here text number before d line others broken read found =
     let counted : read.count + 1 ≡ number = let e = read.numbered in omega arith in
     subst (λ (n : ℕ). IsFault text broken n) counted
     (at_line read.count (within_place (lines text) line others read.count read.rest) read.sound (fault_here text number before d line others read (Some broken) found))
 
+-- why the line at a place isn't read is why the text isn't taken
+pub refused_by : (text : List ℕ) (place : Place) (d now : Declared) (line : List ℕ) (others : List (List ℕ)) (fault : NetFault) → HasRead text place.line place.before d (line ∷ others)
+    → ReadsHere (length text) place d line (Err fault) now → RefusesText text fault
+refused_by text place d now line others (Line fault) read why = rw why.1 (refused_here text place.line place.before d line others fault.number read why.0)
+refused_by text place d now line others (NoMemory e) read why = tt
+
 -- the end breaks a rule
-pub refused_at_end : (text : List ℕ) (number before : ℕ) (d : Declared) (broken : ℕ) → HasRead text number before d [] → end_fault d ≡ Some broken → IsFault text broken number
+refused_at_end : (text : List ℕ) (number before : ℕ) (d : Declared) (broken : ℕ) → HasRead text number before d [] → end_fault d ≡ Some broken → IsFault text broken number
 refused_at_end text number before d broken read found =
     let all : read.count ≡ length (lines text) = all_read (lines text) read.count read.rest read.so_far in
     let counted : length (lines text) + 1 ≡ number = let e = read.numbered in omega arith in
@@ -148,13 +159,26 @@ refused_at_end text number before d broken read found =
     (at_end (subst (λ (n : ℕ). AreSound (length text) (lines text) n) all read.sound) (rw (← all, ← read.declared) found))
 
 -- a line can't be run yet
-pub refused_unbuilt : (text : List ℕ) (number before : ℕ) (d : Declared) (line : ℕ) → HasRead text number before d [] → end_fault d ≡ None → d.unbuilt ≡ Some line → IsFault text UNBUILT line
+refused_unbuilt : (text : List ℕ) (number before : ℕ) (d : Declared) (line : ℕ) → HasRead text number before d [] → end_fault d ≡ None → d.unbuilt ≡ Some line → IsFault text UNBUILT line
 refused_unbuilt text number before d line read ended found =
     let all : read.count ≡ length (lines text) = all_read (lines text) read.count read.rest read.so_far in
     unbuilt (subst (λ (n : ℕ). AreSound (length text) (lines text) n) all read.sound) (rw (← all, ← read.declared) ended) (rw (← all, ← read.declared) found)
 
--- the text is in the grammar
-pub says_it : (text : List ℕ) (number before : ℕ) (d : Declared) → HasRead text number before d [] → end_fault d ≡ None → d.unbuilt ≡ None → Says text d
+-- the fault behind the last line is that of the text
+pub refused_behind : (text : List ℕ) (number before : ℕ) (d : Declared) (fault : TextFault) → HasRead text number before d [] → last_fault d number ≡ Some fault → IsFault text fault.number fault.line
+refused_behind text number before d fault read found = by (end_fault d) refl d.unbuilt refl found
+  where
+    by : (ended : Option ℕ) → end_fault d ≡ ended → (line : Option ℕ) → d.unbuilt ≡ line → fault_behind number ended line ≡ Some fault → IsFault text fault.number fault.line
+    by (Some broken) e line f found =
+        let is : record { number = broken; line = number } ≡ fault = cc in
+        subst (λ (it : TextFault). IsFault text it.number it.line) is (refused_at_end text number before d broken read e)
+    by None e (Some line) f found =
+        let is : record { number = UNBUILT; line = line } ≡ fault = cc in
+        subst (λ (it : TextFault). IsFault text it.number it.line) is (refused_unbuilt text number before d line read e f)
+    by None e None f found = absurd cc
+
+-- the text is in the grammar, and all of it can be run
+says_it : (text : List ℕ) (number before : ℕ) (d : Declared) → HasRead text number before d [] → end_fault d ≡ None → d.unbuilt ≡ None → Says text d
 says_it text number before d read ended built =
     let all : read.count ≡ length (lines text) = all_read (lines text) read.count read.rest read.so_far in
     record {
@@ -163,3 +187,12 @@ says_it text number before d read ended built =
       built = built;
       declared = rw (← all) read.declared;
     }
+
+-- where there is none behind the last line, that is so
+pub says_all : (text : List ℕ) (number before : ℕ) (d : Declared) → HasRead text number before d [] → last_fault d number ≡ None → Says text d
+says_all text number before d read none = by (end_fault d) refl d.unbuilt refl none
+  where
+    by : (ended : Option ℕ) → end_fault d ≡ ended → (line : Option ℕ) → d.unbuilt ≡ line → fault_behind number ended line ≡ None → Says text d
+    by (Some broken) e line f none = absurd cc
+    by None e (Some line) f none = absurd cc
+    by None e None f none = says_it text number before d read e f

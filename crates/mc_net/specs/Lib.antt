@@ -1,4 +1,5 @@
 pub mod Nets
+pub mod Reading
 pub mod TextLaws
 pub mod Texts
 pub mod Versions

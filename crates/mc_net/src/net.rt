@@ -52,18 +52,12 @@ pub fn read_net(alloc: Global, text: &[u8], tail: Tail) -> Result<Net, NetFault>
 fn make_net(alloc: Global, parts: Parts, rest: usize) -> Result<Net, AllocError>
     ensures { IfOk result (IsMadeOf parts rest) }
 {
-    let Parts {
-        names,
-        shape,
-        plan,
-        commands,
-    } = parts;
-    let world = plan.world()?;
-    let batches = batches_of(alloc, &commands)?;
+    let batches = batches_of(alloc, &parts.commands)?;
+    let world = parts.plan.world()?;
     Ok(Net {
         world,
-        names,
-        shape,
+        names: parts.names,
+        shape: parts.shape,
         batches,
         rest,
     })

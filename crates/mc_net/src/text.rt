@@ -1,7 +1,9 @@
 //! Whole texts.
 
-ghost use Rattle.std.specs.Prelude.{◌≡◌, IfErr, IfOk};
+ghost use Rattle.std.specs.Prelude.{◌≡◌, ◌+◌, ◌<◌, ◌^◌, IfErr, IfOk, OnOk, length};
 ghost use Rattle.mc_lines.specs.Forms.{IsInForm};
+ghost use Rattle.mc_lines.specs.SoFar.{nothing};
+ghost use Rattle.mc_net.specs.Reading.{ReadsHere, last_fault};
 ghost use Rattle.mc_net.specs.Texts.{Says, RefusesText};
 
 use crate::fault::{NetFault, TextFault};
@@ -11,39 +13,89 @@ use mc_script::rule::UNBUILT;
 use mc_text::next_line;
 use std::alloc::Global;
 
+/// Where a line begins: how many bytes stand before it, and its number.
+#[derive(Clone, Copy)]
+pub struct Place {
+    before: usize,
+    line: u32,
+}
+
+impl Place {
+    // The place behind a line of these bytes.
+    fn behind(self, line: &[u8]) -> Place
+        requires short { self.before + length line.now + 1 < 2 ^ 64 }
+        requires few { self.line + 1 < 2 ^ 32 }
+        ensures { result ≡ record { before = self.before + (length line.now + 1); line = self.line + 1 } }
+    {
+        Place {
+            before: self.before + line.len() + 1,
+            line: self.line + 1,
+        }
+    }
+}
+
 /// Reads a whole text, which must be in the grammar, and one that can be run.
 pub fn read_text(alloc: Global, text: &[u8]) -> Result<Reader, NetFault>
     ensures says { IfOk result (Says text.now) }
     ensures in_form { IfOk result (λ reader. IsInForm reader) }
     ensures refused { IfErr result (RefusesText text.now) }
 {
-    let total = text.len();
     let mut reader = Reader::new(alloc);
+    read_lines(&mut reader, text)?;
+    Ok(reader)
+}
+
+// Reads the lines of a text and its end. The reader isn't dropped here, which would be dear to prove in a loop.
+fn read_lines(reader: &mut Reader, text: &[u8]) -> Result<(), NetFault>
+    requires nothing { reader.old ≡ nothing }
+    requires in_form { IsInForm reader.old }
+    ensures says { OnOk result (Says text.now reader.new) }
+    ensures in_form { OnOk result (IsInForm reader.new) }
+    ensures refused { IfErr result (RefusesText text.now) }
+{
+    let mut place = Place { before: 0, line: 1 };
     let mut rest = text;
-    let mut before = 0;
-    let mut line = 1;
     while !rest.is_empty() {
         let (first, others) = next_line(rest);
-        match reader.read_line(total, before, line, first) {
-            Ok(()) => {}
-            Err(ReadFault::NoMemory(wanting)) => return Err(NetFault::NoMemory(wanting)),
-            Err(ReadFault::Line(fault)) => return Err(fault_at(fault.number, line)),
-        }
+        read_here(reader, text.len(), place, first)?;
+        place = place.behind(first);
         rest = others;
-        before += first.len() + 1;
-        line += 1;
     }
-    if let Some(number) = reader.end_fault() {
-        return Err(fault_at(number, line));
-    }
-    match reader.unbuilt() {
-        Some(line) => Err(fault_at(UNBUILT, line)),
-        None => Ok(reader),
+    match last_fault(reader, place.line) {
+        Some(fault) => Err(NetFault::Line(fault)),
+        None => Ok(()),
     }
 }
 
-fn fault_at(number: u8, line: u32) -> NetFault
-    ensures { result ≡ NetFault.Line (record { number = number; line = line }) }
+// Reads the line at a place of a text of `total` bytes.
+fn read_here(reader: &mut Reader, total: usize, place: Place, line: &[u8]) -> Result<(), NetFault>
+    requires small { place.before + length line.now < 2 ^ 64 }
+    requires in_form { IsInForm reader.old }
+    ensures { ReadsHere total place reader.old line.now result reader.new }
 {
-    NetFault::Line(TextFault { number, line })
+    match reader.read_line(total, place.before, place.line, line) {
+        Ok(()) => Ok(()),
+        Err(ReadFault::NoMemory(wanting)) => Err(NetFault::NoMemory(wanting)),
+        Err(ReadFault::Line(fault)) => Err(NetFault::Line(TextFault {
+            number: fault.number,
+            line: place.line,
+        })),
+    }
+}
+
+// The fault of a text whose lines break no rule: that of its end, by the number of the line behind the last, or that of
+// the first line that can't be run yet.
+fn last_fault(reader: &Reader, end: u32) -> Option<TextFault>
+    ensures { result ≡ last_fault reader.now end }
+{
+    if let Some(number) = reader.end_fault() {
+        return Some(TextFault { number, line: end });
+    }
+    match reader.unbuilt() {
+        Some(line) => Some(TextFault {
+            number: UNBUILT,
+            line,
+        }),
+        None => None,
+    }
 }

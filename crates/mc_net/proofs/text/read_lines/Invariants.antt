@@ -2,12 +2,12 @@ use Rattle.std.proofs.Common.{◌+◌, ◌≤◌, ◌<◌, length}
 use Rattle.mc_text.specs.Lines.{lines}
 use Rattle.mc_lines.specs.Forms.{IsInForm}
 use Rattle.mc_net.proofs.Reading.{HasRead}
-use Rattle.mc_net.proofs.text.read_text.Given as goal
+use Rattle.mc_net.proofs.text.read_lines.Given as goal
 
 abbrev pub invariant-loop-rest : goal.invariant-loop-rest
 invariant-loop-rest l = record {
-  read : HasRead l.text l.line l.before l.reader (lines l.rest);
-  left : 0 < length l.rest → l.before + length l.rest ≤ length l.text;
+  read : HasRead l.text l.place.line l.place.before l.reader (lines l.rest);
+  left : 0 < length l.rest → l.place.before + length l.rest ≤ length l.text;
   in_form : IsInForm l.reader;
 }
 
