@@ -2,6 +2,7 @@
 
 ghost use Rattle.std.specs.Prelude.{◌≡◌, ◌≤◌, IfErr, IfOk, length, map};
 ghost use Rattle.mc_model.specs.Shapes.{AreAllAllowed};
+ghost use Rattle.mc_plan.specs.Plans.{world_of};
 ghost use Rattle.mc_net.specs.Nets.{DeclaresNet, IsMadeOf, NamesAll, batches_of, batch_turns};
 ghost use Rattle.mc_net.specs.Texts.{RefusesText};
 
@@ -10,6 +11,7 @@ use crate::text::read_text;
 use mc_box::Shape;
 use mc_lines::Parts;
 use mc_lines::limit::COMMAND_LIMIT;
+use mc_plan::Plan;
 use mc_script::{Batch, Command};
 use mc_text::Names;
 use mc_world::World;
@@ -52,8 +54,7 @@ pub fn read_net(alloc: Global, text: &[u8], tail: Tail) -> Result<Net, NetFault>
 fn make_net(alloc: Global, parts: Parts, rest: usize) -> Result<Net, AllocError>
     ensures { IfOk result (IsMadeOf parts rest) }
 {
-    let batches = batches_of(alloc, &parts.commands)?;
-    let world = parts.plan.world()?;
+    let (world, batches) = world_and_batches(alloc, parts.plan, &parts.commands)?;
     Ok(Net {
         world,
         names: parts.names,
@@ -61,6 +62,18 @@ fn make_net(alloc: Global, parts: Parts, rest: usize) -> Result<Net, AllocError>
         batches,
         rest,
     })
+}
+
+// The first world of a plan, and the batches of commands.
+fn world_and_batches(
+    alloc: Global,
+    plan: Plan,
+    commands: &[Command],
+) -> Result<(World, Vec<Batch>), AllocError>
+    ensures { IfOk result (λ both. (both.0 ≡ world_of plan) × (map batch_turns both.1.items ≡ batches_of commands.now)) }
+{
+    let batches = batches_of(alloc, commands)?;
+    Ok((plan.world()?, batches))
 }
 
 // One batch for each settle, with the commands before it.
