@@ -24,7 +24,7 @@ use Rattle.mc_seq.specs.Schedule.{candidates_of, left_by, next_of, take_turn, ta
 use Rattle.mc_seq.specs.declared.counting.Counts.{Counts}
 use Rattle.mc_seq.proofs.ForEach.{each_same}
 use Rattle.mc_seq.proofs.FrontsStay.{fronts_stay}
-use Rattle.mc_seq.proofs.LaneBoxes.{lane_box}
+use Rattle.mc_world.proofs.LaneBoxes.{lane_box}
 use Rattle.mc_seq.proofs.Recounts.{weaker}
 use Rattle.mc_seq.proofs.TakeFronts.{take_fronts_stay}
 

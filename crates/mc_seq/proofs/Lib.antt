@@ -9,7 +9,6 @@ mod Fronts
 mod FrontsStay
 mod Hears
 mod Kth
-mod LaneBoxes
 mod LeftCommands
 mod Making
 mod Nexts

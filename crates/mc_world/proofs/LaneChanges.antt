@@ -63,6 +63,11 @@ pub room_kept : (lanes : Vec Lane Global) (first made second : List Lane) (topol
 room_kept lanes first made second topology who slots most count is long again few room =
     subst (λ (l : List Lane). HasRoomFrom l topology who slots count) (sym (again ∙ refilled lanes made (rw is at long))) (λ s below at d. omega (arith, few, room s below at d))
 
+-- and then another slice
+pub twice_refilled : (lanes : Vec Lane Global) (first made second last : List Lane) → first ≡ lanes.items → length made ≡ length first → second ≡ (with_items lanes made).items
+    → length last ≡ length second → (with_items (with_items lanes made) last).items ≡ last
+twice_refilled lanes first made second last is long again last_long = refilled (with_items lanes made) last (rw again at last_long)
+
 -- and then one with others
 pub signals_written : (lanes : Vec Lane Global) (first made second last : List Lane) (out : List (List Tagged) → List (List Tagged)) → first ≡ lanes.items
     → length made ≡ length first → signals_of made ≡ signals_of first → second ≡ (with_items lanes made).items → length last ≡ length second → signals_of last ≡ out (signals_of second)

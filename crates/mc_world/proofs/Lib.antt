@@ -1,7 +1,12 @@
 mod SlotNumbers
 mod TunnelTables
 mod LaneChanges
+pub mod LaneBoxes
 mod NewLanes
+mod FlagCounts
+mod Flags
 mod Tables
 mod TopologyLanes
+mod LaneFlags
 mod WorldSteps
+mod Waits

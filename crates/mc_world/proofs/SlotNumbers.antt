@@ -32,7 +32,7 @@ origins_more box local origin whole inside is =
 -- ---- and of all boxes
 
 -- a slot that is there has its origin as number
-by_origin : (world : WorldState) (who local : ℕ) → IsNumbered world → who < length world.boxes → local < length (box_at world who).slots
+pub by_origin : (world : WorldState) (who local : ℕ) → IsNumbered world → who < length world.boxes → local < length (box_at world who).slots
     → number world who local ≡ Some (media_at (box_at world who) local).origin
 by_origin world who local numbered here inside =
     let there = numbered.all who local here inside in
@@ -81,7 +81,7 @@ found_by world topology who local numbered are =
 pub tunnel_there : (topology : Topology) (count who local s : ℕ) → IsLaid topology count → local < length (numbers_of topology who) → s ≡ get_or (numbers_of topology who) local 0 → s / 2 < length topology.tunnels.items
 tunnel_there topology count who local s laid inside is =
     let at : slice_get (numbers_of topology who) local ≡ Some s = slice_get-get_or (numbers_of topology who) local 0 inside ∙ ap Some (sym is) in
-    let found = found_at topology.places.items who local s (sym (laid.found who local) ∙ at) in
+    let found = found_at topology.places.items who local s (sym (laid.numbers.found who local) ∙ at) in
     half_in s (length topology.tunnels.items) (subst (λ (n : ℕ). s < n) laid.slots found.0)
 
 -- room in the lane away from each of a box's slots, by local numbers, is room away from all its slots
@@ -89,7 +89,7 @@ pub room_from : (lanes : List Lane) (topology : Topology) (count who most : ℕ)
     → ((local : ℕ) → local < length (numbers_of topology who) → HasRoom lanes (lane_by topology (far (get_or (numbers_of topology who) local 0))) most) → HasRoomFrom lanes topology who (length topology.places.items) most
 room_from lanes topology count who most laid room s below is =
     let here : slice_get (numbers_of topology who) (get_or topology.places.items s (0, 0)).1 ≡ Some s =
-    laid.found who (get_or topology.places.items s (0, 0)).1
-    ∙ subst (λ (w : ℕ). position (is_place (w, (get_or topology.places.items s (0, 0)).1)) topology.places.items ≡ Some s) is (laid.once s below) in
+    laid.numbers.found who (get_or topology.places.items s (0, 0)).1
+    ∙ subst (λ (w : ℕ). position (is_place (w, (get_or topology.places.items s (0, 0)).1)) topology.places.items ≡ Some s) is (laid.numbers.once s below) in
     subst (λ (t : ℕ). HasRoom lanes (lane_by topology (far t)) most) (get_or_from_slice_get (numbers_of topology who) (get_or topology.places.items s (0, 0)).1 s 0 here)
     (room (get_or topology.places.items s (0, 0)).1 (slice_get_within (numbers_of topology who) (get_or topology.places.items s (0, 0)).1 s here))

@@ -1,36 +1,80 @@
 -- Where signals go by a world's tables: as the world's own numbers say.
-use Rattle.std.proofs.Common.{◌≡◌, ◌<◌, ◌+◌, ◌*◌, ◌/◌, ◌%◌, ℕ, Option, Some, None, List, [], ◌∷◌, ◌++◌, map, length, position, get_or, refl, ap, sym, ◌∙◌, subst, arith}
+use Rattle.std.proofs.Common.{◌≡◌, ◌<◌, ◌+◌, ◌*◌, ◌/◌, ◌%◌, ◌≤◌, inl, inr, ℕ, Option, Some, None, List, [], ◌∷◌, ◌++◌, map, length, position, get_or, refl, ap, sym, ◌∙◌, subst, arith}
 use Rattle.std.specs.Option.{option_map, unwrap_or}
 use Rattle.std.proofs.Math.ListN.{set, get_or-map}
+use Rattle.std.proofs.lemmas.Bool.{cases_lt}
 use Rattle.std.proofs.lemmas.List.{length-map}
+use Rattle.std.proofs.lemmas.Option.{slice_get-get_or}
+use Rattle.std.specs.List.{slice_get}
 use Rattle.mc_signal.specs.declared.Signal.{Signal}
-use Rattle.mc_world.specs.Lanes.{IsLaid, all_sent, lane_by, one_sent, with_sending, signals_of, tunnel_by}
+use Rattle.mc_signal.specs.declared.Tagged.{Tagged}
+use Rattle.mc_world.specs.Lanes.{HasNumbers, IsLaid, numbers_of, all_sent, lane_by, one_sent, with_sending, tunnel_by}
 use Rattle.mc_model.specs.Steps.{after_push, after_sends}
-use Rattle.mc_world.specs.Tables.{HasTables, channel_of}
-use Rattle.mc_model.specs.Worlds.{TunnelPlace, WorldState, far, is_place, tunnel_of, all_tunnels, tunnels_from, lane_of, no_tunnel, number, places}
+use Rattle.mc_box.specs.declared.limit.TheConstants.{SLOT_LIMIT}
+use Rattle.mc_model.specs.Sound.{IsSound}
+use Rattle.mc_world.proofs.LaneBoxes.{lane_run}
+use Rattle.mc_world.specs.Tables.{HasTables, channel_of, world_state}
+use Rattle.mc_model.specs.Worlds.{TunnelPlace, WorldState, box_at, place, slot_count, far, is_place, tunnel_of, all_tunnels, tunnels_from, lane_of, no_tunnel, number, places}
 use Rattle.mc_world.specs.declared.network.World.TheInside.{Inside}
 use Rattle.mc_world.specs.declared.topology.Topology.{Topology}
 use Rattle.mc_laws.proofs.TunnelPlaces.{channel_in, two_each}
-use Rattle.mc_world.proofs.LaneChanges.{Lane, signals_added}
-use Rattle.mc_laws.proofs.Numbers.{far_half, far_side, half_in}
+use Rattle.mc_laws.proofs.Numbers.{far_in, far_side, half_in, number_is}
 
 -- ---- lanes that are there
 
 lane_low : (channel side other count : ℕ) → 2 * channel + 1 < count → side + other ≡ 1 → 2 * channel + side < count
 lane_low channel side other count below one = omega arith
 
--- the lane that leads away from a slot
-pub away_there : (topology : Topology) (count s : ℕ) → IsLaid topology count → s < length topology.places.items → lane_by topology (far s) < count
-away_there topology count s laid below =
+-- the lane that leads to a slot
+pub lane_there : (topology : Topology) (count s : ℕ) → IsLaid topology count → s < length topology.places.items → lane_by topology s < count
+lane_there topology count s laid below =
     let tunnel : s / 2 < length topology.tunnels.items = half_in s (length topology.tunnels.items) (subst (λ (n : ℕ). s < n) laid.slots below) in
-    let same : (get_or topology.tunnels.items (far s / 2) (0, 0)).0 ≡ (get_or topology.tunnels.items (s / 2) (0, 0)).0 = ap (λ (t : ℕ). (get_or topology.tunnels.items t (0, 0)).0) (far_half s) in
-    lane_low (get_or topology.tunnels.items (far s / 2) (0, 0)).0 (far s % 2) (s % 2) count (subst (λ (c : ℕ). 2 * c + 1 < count) (sym same) (laid.lanes (s / 2) tunnel)) (far_side s)
+    lane_low (get_or topology.tunnels.items (s / 2) (0, 0)).0 (s % 2) (far s % 2) count (laid.lanes (s / 2) tunnel) (omega (arith, far_side s))
+
+-- the far slot is there
+pub far_there : (topology : Topology) (count s : ℕ) → IsLaid topology count → s < length topology.places.items → far s < length topology.places.items
+far_there topology count s laid below = subst (λ (n : ℕ). far s < n) (sym laid.slots) (far_in s (length topology.tunnels.items) (subst (λ (n : ℕ). s < n) laid.slots below))
 
 tunnel_at : (found : List TunnelPlace) (t : ℕ) → get_or (map channel_of found) t (0, 0) ≡ channel_of (get_or found t no_tunnel)
 tunnel_at found t = get_or-map channel_of found t no_tunnel
 
+-- the lane and the tunnel of a slot are the world's
+pub lane_same : (world : WorldState) (topology : Topology) (s : ℕ) → topology.tunnels.items ≡ map channel_of (all_tunnels world) → lane_by topology s ≡ lane_of world s
+lane_same world topology s is =
+    ap (λ (l : List (ℕ × ℕ)). 2 * (get_or l (s / 2) (0, 0)).0 + s % 2) is ∙ ap (λ (p : ℕ × ℕ). 2 * p.0 + s % 2) (tunnel_at (all_tunnels world) (s / 2))
+
+pub tunnel_same : (world : WorldState) (topology : Topology) (s : ℕ) → topology.tunnels.items ≡ map channel_of (all_tunnels world) → tunnel_by topology s ≡ (tunnel_of world s).within
+tunnel_same world topology s is =
+    ap (λ (l : List (ℕ × ℕ)). (get_or l (s / 2) (0, 0)).1) is ∙ ap (λ (p : ℕ × ℕ). p.1) (tunnel_at (all_tunnels world) (s / 2))
+
 channel_lanes : (channel channels count : ℕ) → channel < 0 + channels → count ≡ 2 * channels → 2 * channel + 1 < count
 channel_lanes channel channels count below is = omega arith
+
+-- a box has no more numbers than slots
+pub few_numbers : (world : WorldState) (numbers : List ℕ) (who count : ℕ) → ((local : ℕ) → slice_get numbers local ≡ number world who local) → ((local s : ℕ) → number world who local ≡ Some s → local < count) → length numbers ≤ count
+few_numbers world numbers who count found inside = elim (cases_lt count (length numbers)) [
+  | inl more ↦ let low = inside count (get_or numbers count 0) (sym (found count) ∙ slice_get-get_or numbers count 0 more) in absurd (omega arith)
+  | inr few ↦ few
+]
+
+-- where there are slots there is their box
+number_few : (world : WorldState) (who local s : ℕ) → IsSound world → number world who local ≡ Some s → local < SLOT_LIMIT
+number_few world who local s sound is =
+    let at = number_is world who local s is in
+    let home : who < length world.boxes = subst (λ (n : ℕ). n < length world.boxes) at.1 (sound.numbered.placed s at.0) in
+    let inside : (place world s).1 < length (box_at world who).slots = subst (λ (n : ℕ). (place world s).1 < length (box_at world n).slots) at.1 (sound.numbered.slots s at.0) in
+    omega (arith, inside, at.2, (sound.boxes who home).wired.few)
+
+-- a world's tables find its slots
+pub tables_numbers : (inside : Inside) → HasTables inside → HasNumbers inside.topology
+tables_numbers inside has = record {
+  found = has.found;
+  once = subst (λ (l : List (ℕ × ℕ)). (s : ℕ) → s < length l → position (is_place (get_or l s (0, 0))) l ≡ Some s) (sym has.places) has.sound.numbered.once;
+  few = λ who.
+      few_numbers (world_state inside) (numbers_of inside.topology who) who SLOT_LIMIT
+      (λ local. has.found who local ∙ ap (position (is_place (who, local))) has.places)
+      (λ local s is. number_few (world_state inside) who local s has.sound is);
+}
 
 -- a world's tables are of its lanes
 pub tables_laid : (inside : Inside) → HasTables inside → IsLaid inside.topology (length inside.lanes.items)
@@ -39,6 +83,7 @@ tables_laid inside has =
     let long : length inside.topology.tunnels.items ≡ length (tunnels_from 0 inside.channels.items) =
     ap (λ (l : List (ℕ × ℕ)). length l) has.tunnels ∙ length-map (tunnels_from 0 inside.channels.items) channel_of in
     record {
+      fit = has.few;
       slots = ap (λ (l : List (ℕ × ℕ)). length l) has.places ∙ (two_each inside.channels.items 0 ∙ ap (λ (n : ℕ). 2 * n) (sym long));
       lanes = λ t below.
           let channel : (get_or inside.topology.tunnels.items t (0, 0)).0 ≡ (get_or found t no_tunnel).channel =
@@ -46,27 +91,21 @@ tables_laid inside has =
           subst (λ (c : ℕ). 2 * c + 1 < length inside.lanes.items) (sym channel)
           (channel_lanes (get_or found t no_tunnel).channel (length inside.channels.items) (length inside.lanes.items)
           ((channel_in inside.channels.items 0 t (subst (λ (n : ℕ). t < n) long below)).1) has.lanes);
-      found = has.found;
-      once = subst (λ (l : List (ℕ × ℕ)). (s : ℕ) → s < length l → position (is_place (get_or l s (0, 0))) l ≡ Some s) (sym has.places) has.sound.numbered.once;
+      numbers = tables_numbers inside has;
+      follow = λ s t one two lane.
+          let world : WorldState = world_state inside in
+          let within : (r : ℕ) → r < length inside.topology.places.items → r < slot_count (world_state inside) = λ r below. subst (λ (l : List (ℕ × ℕ)). r < length l) has.places below in
+          subst (λ (n : ℕ). s + 2 * n ≡ t + 2 * tunnel_by inside.topology s) (sym (tunnel_same world inside.topology t has.tunnels))
+          (subst (λ (n : ℕ). s + 2 * (tunnel_of world t).within ≡ t + 2 * n) (sym (tunnel_same world inside.topology s has.tunnels))
+          (lane_run world s t (within s one) (within t two) (sym (lane_same world inside.topology s has.tunnels) ∙ (lane ∙ lane_same world inside.topology t has.tunnels))));
     }
 
 -- ---- where a sending goes
 
--- one sending, in the lanes as code has them
-pub sent_one : (topology : Topology) (who local s : ℕ) (signal : Signal) (lanes : List Lane) (k tunnel : ℕ) (d new : Lane) → position (is_place (who, local)) topology.places.items ≡ Some s
-    → k ≡ lane_by topology (far s) → tunnel ≡ tunnel_by topology (far s) → k < length lanes → new.items ≡ (get_or lanes k d).items ++ record { tunnel = tunnel; signal = signal } ∷ []
-    → signals_of (set lanes k new) ≡ one_sent topology who (signals_of lanes) (local, signal)
-sent_one topology who local s signal lanes k tunnel d new is lane within here added =
-    signals_added lanes k d new (record { tunnel = tunnel; signal = signal } ∷ []) here added ∙ rw (is, lane, within) refl
-
--- the lane and the tunnel of a slot are the world's
-pub lane_same : (world : WorldState) (topology : Topology) (s : ℕ) → topology.tunnels.items ≡ map channel_of (all_tunnels world) → lane_by topology s ≡ lane_of world s
-lane_same world topology s is =
-    ap (λ (l : List (ℕ × ℕ)). 2 * (get_or l (s / 2) (0, 0)).0 + s % 2) is ∙ ap (λ (p : ℕ × ℕ). 2 * p.0 + s % 2) (tunnel_at (all_tunnels world) (s / 2))
-
-tunnel_same : (world : WorldState) (topology : Topology) (s : ℕ) → topology.tunnels.items ≡ map channel_of (all_tunnels world) → tunnel_by topology s ≡ (tunnel_of world s).within
-tunnel_same world topology s is =
-    ap (λ (l : List (ℕ × ℕ)). (get_or l (s / 2) (0, 0)).1) is ∙ ap (λ (p : ℕ × ℕ). p.1) (tunnel_at (all_tunnels world) (s / 2))
+-- one sending is that to the far slot
+pub sent_one : (topology : Topology) (who local s : ℕ) (signal : Signal) (lanes : List (List Tagged)) → position (is_place (who, local)) topology.places.items ≡ Some s
+    → with_sending topology lanes signal (far s) ≡ one_sent topology who lanes (local, signal)
+sent_one topology who local s signal lanes is = rw is refl
 
 push_at : (world : WorldState) (signal : Signal) (lane one within tunnel : ℕ) → one ≡ lane → tunnel ≡ within
     → record world { lanes = set world.lanes lane (get_or world.lanes lane [] ++ record { tunnel = within; signal = signal } ∷ []) }

@@ -18,6 +18,8 @@ use Rattle.mc_box.specs.declared.event.Event.{Event}
 use Rattle.mc_box.specs.declared.event.Event.TheVariants.{Take, Set, Media, Tell, Retry, Shift}
 use Rattle.mc_world.specs.declared.network.World.TheInside.{Inside}
 use Rattle.mc_world.specs.declared.topology.Topology.{Topology}
+use Rattle.mc_world.specs.declared.waiting.Waiting.{Waiting}
+use Rattle.mc_world.specs.Waiting.{IsWaiting}
 use Rattle.mc_world.specs.Tables.{HasTables, channel_of, world_state}
 use Rattle.mc_box.proofs.EventGoes.{event_goes, version_end_stops}
 use Rattle.mc_laws.proofs.Numbers.{number_is}
@@ -136,17 +138,20 @@ act_made inside world who event step lanes has view other goes lanes_is =
     ∙ ap (λ (l : List (List Tagged)). Some (record (world_state inside) { boxes = set inside.boxes.items who step.after; lanes = l })) (sym lanes_is))
 
 -- it has the tables as before, and is sound, since a step of a sound world led to it
-pub step_tables : (inside : Inside) (world : WorldState) (who : ℕ) (event : Event) (boxes : Vec BoxState Global) (lanes : Vec (Queue Tagged) Global) → HasTables inside → world_state inside ≡ world
-    → who < length world.boxes → step_by world who event ≡ Some (world_state (record inside { boxes = boxes; lanes = lanes })) → HasTables (record inside { boxes = boxes; lanes = lanes })
-step_tables inside world who event boxes lanes has view here goes =
-    let kept : IsSound (world_state (record inside { boxes = boxes; lanes = lanes })) =
-    stays_sound world (world_state (record inside { boxes = boxes; lanes = lanes })) who event (subst (λ (w : WorldState). IsSound w) view has.sound) here goes in
+pub step_tables : (inside : Inside) (world : WorldState) (who : ℕ) (event : Event) (boxes : Vec BoxState Global) (lanes : Vec (Queue Tagged) Global) (waiting : Waiting) → HasTables inside → world_state inside ≡ world
+    → who < length world.boxes → length boxes.items ≡ length inside.boxes.items → IsWaiting inside.topology (signals_of lanes.items) waiting
+    → step_by world who event ≡ Some (world_state (record inside { boxes = boxes; lanes = lanes; waiting = waiting })) → HasTables (record inside { boxes = boxes; lanes = lanes; waiting = waiting })
+step_tables inside world who event boxes lanes waiting has view here homes waits goes =
+    let kept : IsSound (world_state (record inside { boxes = boxes; lanes = lanes; waiting = waiting })) =
+    stays_sound world (world_state (record inside { boxes = boxes; lanes = lanes; waiting = waiting })) who event (subst (λ (w : WorldState). IsSound w) view has.sound) here goes in
     record {
       channels = has.channels;
       places = has.places;
       tunnels = has.tunnels;
       found = has.found;
       few = has.few;
+      homes = has.homes ∙ sym homes;
       lanes = sym (length-map lanes.items (λ (lane : Queue Tagged). lane.items)) ∙ kept.numbered.lanes;
+      waiting = waits;
       sound = kept;
     }

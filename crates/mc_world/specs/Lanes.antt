@@ -1,11 +1,12 @@
 -- Lanes as they change, by the tables of a world.
-use Rattle.std.specs.Prelude.{ℕ, Bool, if◌then◌else◌, ◌≡◌, ◌+◌, ◌*◌, ◌/◌, ◌%◌, ◌<◌, ◌≤◌, List, [], ◌∷◌, ◌++◌, drop, fold, length, map, position, slice_index_or, slice_set, HoldsAt, Some, unwrap_or}
+use Rattle.std.specs.Prelude.{ℕ, Bool, if◌then◌else◌, ◌≡◌, ◌+◌, ◌*◌, ◌/◌, ◌%◌, ◌^◌, ◌<◌, ◌≤◌, List, [], ◌∷◌, ◌++◌, drop, fold, length, map, position, slice_index_or, slice_set, HoldsAt, Some, unwrap_or}
 use Rattle.std.specs.List.{slice_get}
 use Rattle.std.specs.Option.{option_map}
 use Rattle.mc_lane.specs.Queue.{Queue}
 use Rattle.mc_signal.specs.declared.Signal.{Signal}
 use Rattle.mc_signal.specs.declared.Tagged.{Tagged}
 use Rattle.mc_box.specs.Boxes.{BoxState}
+use Rattle.mc_box.specs.declared.limit.TheConstants.{SLOT_LIMIT}
 use Rattle.mc_model.specs.Worlds.{far, is_place}
 use Rattle.mc_world.specs.declared.topology.Topology.{Topology}
 
@@ -31,19 +32,26 @@ origins box = map (λ media. media.origin) box.media
 abbrev pub numbers_of : Topology → ℕ → List ℕ
 numbers_of topology who = slice_index_or (map (λ numbers. numbers.items) topology.numbers.items) who []
 
--- each tunnel has its two slots, and its channel two of so many lanes; each slot is found by its box and local number, and by no others
-pub record IsLaid (topology : Topology) (count : ℕ) : Type 0 where
-  pub slots : length topology.places.items ≡ 2 * length topology.tunnels.items
-  pub lanes : (t : ℕ) → t < length topology.tunnels.items → 2 * (slice_index_or topology.tunnels.items t (0, 0)).0 + 1 < count
-  pub found : (who local : ℕ) → slice_get (numbers_of topology who) local ≡ position (is_place (who, local)) topology.places.items
-  pub once : (s : ℕ) → s < length topology.places.items → position (is_place (slice_index_or topology.places.items s (0, 0))) topology.places.items ≡ Some s
-
 -- the lane that leads to a slot, and the number of the slot's tunnel within its channel
 abbrev pub lane_by : Topology → ℕ → ℕ
 lane_by topology s = 2 * (slice_index_or topology.tunnels.items (s / 2) (0, 0)).0 + s % 2
 
 abbrev pub tunnel_by : Topology → ℕ → ℕ
 tunnel_by topology s = (slice_index_or topology.tunnels.items (s / 2) (0, 0)).1
+
+-- each slot is found by its box and local number, and by no others, and each box has only so many
+pub record HasNumbers (topology : Topology) : Type 0 where
+  pub found : (who local : ℕ) → slice_get (numbers_of topology who) local ≡ position (is_place (who, local)) topology.places.items
+  pub once : (s : ℕ) → s < length topology.places.items → position (is_place (slice_index_or topology.places.items s (0, 0))) topology.places.items ≡ Some s
+  pub few : (who : ℕ) → length (numbers_of topology who) ≤ SLOT_LIMIT
+
+-- each tunnel has its two slots, whose numbers fit, and its channel two of so many lanes, slots have their numbers, and those to which one lane leads follow each other as their tunnels do
+pub record IsLaid (topology : Topology) (count : ℕ) : Type 0 where
+  pub slots : length topology.places.items ≡ 2 * length topology.tunnels.items
+  pub fit : length topology.places.items ≤ 2 ^ 32
+  pub lanes : (t : ℕ) → t < length topology.tunnels.items → 2 * (slice_index_or topology.tunnels.items t (0, 0)).0 + 1 < count
+  pub numbers : HasNumbers topology
+  pub follow : (s t : ℕ) → s < length topology.places.items → t < length topology.places.items → lane_by topology s ≡ lane_by topology t → s + 2 * tunnel_by topology t ≡ t + 2 * tunnel_by topology s
 
 -- a signal goes with its tunnel to the end of the lane that leads to a slot
 abbrev pub with_sending : Topology → List (List Tagged) → Signal → ℕ → List (List Tagged)

@@ -1,3 +1,4 @@
 pub mod Lanes
 pub mod StepAnswers
 pub mod Tables
+pub mod Waiting

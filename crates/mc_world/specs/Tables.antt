@@ -1,7 +1,8 @@
 -- What a world keeps: the tables beside its boxes and channels, and that it is sound.
 use Rattle.std.specs.Prelude.{◌≡◌, ℕ, List, ◌*◌, ◌^◌, ◌≤◌, length, map, position}
 use Rattle.std.specs.List.{slice_get}
-use Rattle.mc_world.specs.Lanes.{numbers_of}
+use Rattle.mc_world.specs.Lanes.{numbers_of, signals_of}
+use Rattle.mc_world.specs.Waiting.{IsWaiting}
 use Rattle.mc_model.specs.Sound.{IsSound}
 use Rattle.mc_model.specs.Worlds.{AreChannels, TunnelPlace, WorldState, is_place, tunnels_from, tunnels_within, places_among}
 use Rattle.mc_model.specs.declared.channel.Tunnel.{Tunnel}
@@ -18,12 +19,14 @@ channel_of tunnel = (tunnel.channel, tunnel.within)
 abbrev pub tunnels_by : ℕ → List Tunnel → List (ℕ × ℕ)
 tunnels_by channel tunnels = map channel_of (tunnels_within channel 0 tunnels)
 
--- the channels are within the limits, places and channels are found by number, numbers of slots by their boxes, those numbers fit, each channel has its two lanes, and the world is sound
+-- the channels are within the limits, places and channels are found by number, numbers of slots by their boxes, those numbers fit, each channel has its two lanes, flags and counts say what waits on these, and the world is sound
 pub record HasTables (inside : Inside) : Type 0 where
   pub channels : AreChannels inside.channels.items
   pub places : inside.topology.places.items ≡ places_among inside.channels.items
   pub tunnels : inside.topology.tunnels.items ≡ map channel_of (tunnels_from 0 inside.channels.items)
   pub found : (who local : ℕ) → slice_get (numbers_of inside.topology who) local ≡ position (is_place (who, local)) inside.topology.places.items
   pub few : length inside.topology.places.items ≤ 2 ^ 32
+  pub homes : length inside.topology.numbers.items ≡ length inside.boxes.items
   pub lanes : length inside.lanes.items ≡ 2 * length inside.channels.items
+  pub waiting : IsWaiting inside.topology (signals_of inside.lanes.items) inside.waiting
   pub sound : IsSound (world_state inside)

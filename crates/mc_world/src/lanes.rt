@@ -1,10 +1,12 @@
 // Lanes as they change, each given by its place among all lanes.
 
-ghost use Rattle.std.specs.Prelude.{◌≡◌, ℕ, ◌+◌, ◌<◌, [], length, slice_index_or, OnOk};
+ghost use Rattle.std.specs.Prelude.{◌≡◌, ℕ, ◌+◌, ◌<◌, true, [], drop, length, slice_index_or, OnOk};
 ghost use Rattle.mc_slot.specs.Sending.{sends_of};
-ghost use Rattle.mc_world.specs.Lanes.{signals_of, without_front, one_sent, all_sent, relay, IsLaid, HasRoom, HasRoomFrom};
+ghost use Rattle.mc_world.specs.Lanes.{signals_of, lane_by, without_front, one_sent, all_sent, relay, with_sending, IsLaid, HasRoom, HasRoomFrom};
+ghost use Rattle.mc_world.specs.Waiting.{waits_by, FirstServed, IsWaiting};
 
-use crate::topology::Topology;
+use crate::topology::{Topology, far};
+use crate::waiting::Waiting;
 use mc_lane::Lane;
 use mc_signal::{Signal, Tagged};
 use mc_slot::Sends;
@@ -22,7 +24,7 @@ pub fn make_room(
     ensures room { OnOk result (HasRoomFrom lanes.new topology.now who (length topology.now.places.items) most) }
 {
     for slot in topology.numbers(who) {
-        let (lane, _) = topology.away(*slot as usize);
+        let (lane, _) = topology.toward(far(*slot));
         reserve(lanes, lane, most)?;
     }
     Ok(())
@@ -30,54 +32,86 @@ pub fn make_room(
 
 /// What a box sends goes away, each sending in its order to the end of the lane that leads to the far slot of its
 /// own slot.
-pub fn send_all(lanes: &mut [Lane<Tagged>], topology: &Topology, who: u32, sends: &Sends)
+pub fn send_all(
+    lanes: &mut [Lane<Tagged>],
+    waiting: &mut Waiting,
+    topology: &Topology,
+    who: u32,
+    sends: &Sends,
+)
     requires laid { IsLaid topology.now (length lanes.old) }
+    requires waiting { IsWaiting topology.now (signals_of lanes.old) waiting.old }
     requires room { HasRoomFrom lanes.old topology.now who (length topology.now.places.items) sends.now.len }
-    ensures { signals_of lanes.new ≡ all_sent topology.now who (signals_of lanes.old) (sends_of sends.now) }
+    ensures sent { signals_of lanes.new ≡ all_sent topology.now who (signals_of lanes.old) (sends_of sends.now) }
+    ensures waiting { IsWaiting topology.now (signals_of lanes.new) waiting.new }
 {
     for sending in sends.as_slice() {
-        send(lanes, topology, who, sending.0, sending.1);
+        send(lanes, waiting, topology, who, sending.0, sending.1);
     }
 }
 
 /// The same for what stands in a queue.
 pub fn send_lane(
     lanes: &mut [Lane<Tagged>],
+    waiting: &mut Waiting,
     topology: &Topology,
     who: u32,
     sends: &Lane<(u8, Signal)>,
 )
     requires laid { IsLaid topology.now (length lanes.old) }
+    requires waiting { IsWaiting topology.now (signals_of lanes.old) waiting.old }
     requires room { HasRoomFrom lanes.old topology.now who (length topology.now.places.items) (length sends.now.items) }
-    ensures { signals_of lanes.new ≡ all_sent topology.now who (signals_of lanes.old) sends.now.items }
+    ensures sent { signals_of lanes.new ≡ all_sent topology.now who (signals_of lanes.old) sends.now.items }
+    ensures waiting { IsWaiting topology.now (signals_of lanes.new) waiting.new }
 {
     for i in 0..sends.len() {
         let sending = sends.get(i);
-        send(lanes, topology, who, sending.0, sending.1);
+        send(lanes, waiting, topology, who, sending.0, sending.1);
     }
 }
 
-/// The front leaves a lane, and then what a box sends goes away.
-pub fn relay(lanes: &mut [Lane<Tagged>], lane: usize, topology: &Topology, who: u32, sends: &Sends)
+/// A slot takes the front of its lane, and then what its box sends goes away.
+pub fn relay(
+    lanes: &mut [Lane<Tagged>],
+    waiting: &mut Waiting,
+    topology: &Topology,
+    who: u32,
+    slot: u32,
+    sends: &Sends,
+)
     requires laid { IsLaid topology.now (length lanes.old) }
-    requires here { lane < length lanes.old }
-    requires some { 0 < length (slice_index_or (signals_of lanes.old) lane []) }
+    requires waiting { IsWaiting topology.now (signals_of lanes.old) waiting.old }
+    requires here { slot < length topology.now.places.items }
+    requires some { waits_by topology.now (signals_of lanes.old) slot ≡ true }
+    requires served { FirstServed topology.now (lane_by topology.now slot) (drop 1 (slice_index_or (signals_of lanes.old) (lane_by topology.now slot) [])) }
     requires room { HasRoomFrom lanes.old topology.now who (length topology.now.places.items) sends.now.len }
-    ensures { signals_of lanes.new ≡ relay topology.now who (signals_of lanes.old) lane (sends_of sends.now) }
+    ensures sent { signals_of lanes.new ≡ relay topology.now who (signals_of lanes.old) (lane_by topology.now slot) (sends_of sends.now) }
+    ensures waiting { IsWaiting topology.now (signals_of lanes.new) waiting.new }
 {
-    pop_front(lanes, lane);
-    send_all(lanes, topology, who, sends);
+    pop_front(lanes, waiting, topology, slot);
+    send_all(lanes, waiting, topology, who, sends);
 }
 
-// The front leaves a lane. The room in each lane stays.
-fn pop_front(lanes: &mut [Lane<Tagged>], lane: usize)
-    requires here { lane < length lanes.old }
-    requires some { 0 < length (slice_index_or (signals_of lanes.old) lane []) }
-    ensures popped { signals_of lanes.new ≡ without_front (signals_of lanes.old) lane }
+// The front of its lane leaves for a slot, and another slot may be next. The room in each lane stays.
+fn pop_front(lanes: &mut [Lane<Tagged>], waiting: &mut Waiting, topology: &Topology, slot: u32)
+    requires laid { IsLaid topology.now (length lanes.old) }
+    requires waiting { IsWaiting topology.now (signals_of lanes.old) waiting.old }
+    requires here { slot < length topology.now.places.items }
+    requires some { waits_by topology.now (signals_of lanes.old) slot ≡ true }
+    requires served { FirstServed topology.now (lane_by topology.now slot) (drop 1 (slice_index_or (signals_of lanes.old) (lane_by topology.now slot) [])) }
+    ensures popped { signals_of lanes.new ≡ without_front (signals_of lanes.old) (lane_by topology.now slot) }
+    ensures waiting { IsWaiting topology.now (signals_of lanes.new) waiting.new }
     ensures room { (k count : ℕ) → HasRoom lanes.old k count → HasRoom lanes.new k count }
 {
+    let (lane, tunnel) = topology.toward(slot);
     let lane = &mut lanes[lane];
     let _front = lane.pop();
+    waiting.clear(topology, slot);
+    if let Some(next) = lane.front() {
+        // tunnels of a channel follow each other, and so do their slots on one side
+        let first = slot as usize + 2 * next.tunnel as usize - 2 * tunnel as usize;
+        waiting.set(topology, first as u32);
+    }
 }
 
 // Makes room in a lane. The room in each lane stays.
@@ -93,15 +127,47 @@ fn reserve(lanes: &mut [Lane<Tagged>], lane: usize, most: usize) -> Result<(), A
 
 // What a box sends by one of its slots goes to the end of the lane that leads to the far slot. A slot without a
 // number sends nothing.
-fn send(lanes: &mut [Lane<Tagged>], topology: &Topology, who: u32, local: u8, signal: Signal)
+fn send(
+    lanes: &mut [Lane<Tagged>],
+    waiting: &mut Waiting,
+    topology: &Topology,
+    who: u32,
+    local: u8,
+    signal: Signal,
+)
     requires laid { IsLaid topology.now (length lanes.old) }
+    requires waiting { IsWaiting topology.now (signals_of lanes.old) waiting.old }
     requires room { HasRoomFrom lanes.old topology.now who (length topology.now.places.items) 1 }
     ensures sent { signals_of lanes.new ≡ one_sent topology.now who (signals_of lanes.old) (local, signal) }
+    ensures waiting { IsWaiting topology.now (signals_of lanes.new) waiting.new }
     ensures room { (k count : ℕ) → HasRoom lanes.old k (count + 1) → HasRoom lanes.new k count }
 {
     if let Some(slot) = topology.number(who, local) {
-        let (lane, tunnel) = topology.away(slot as usize);
-        let lane = &mut lanes[lane];
-        lane.push(Tagged { tunnel, signal });
+        push_last(lanes, waiting, topology, far(slot), signal);
+    }
+}
+
+// A signal goes to the end of the lane that leads to a slot, for which it may be the first.
+fn push_last(
+    lanes: &mut [Lane<Tagged>],
+    waiting: &mut Waiting,
+    topology: &Topology,
+    slot: u32,
+    signal: Signal,
+)
+    requires laid { IsLaid topology.now (length lanes.old) }
+    requires waiting { IsWaiting topology.now (signals_of lanes.old) waiting.old }
+    requires here { slot < length topology.now.places.items }
+    requires room { HasRoom lanes.old (lane_by topology.now slot) 1 }
+    ensures sent { signals_of lanes.new ≡ with_sending topology.now (signals_of lanes.old) signal slot }
+    ensures waiting { IsWaiting topology.now (signals_of lanes.new) waiting.new }
+    ensures room { (k count : ℕ) → HasRoom lanes.old k (count + 1) → HasRoom lanes.new k count }
+{
+    let (lane, tunnel) = topology.toward(slot);
+    let lane = &mut lanes[lane];
+    let first = lane.is_empty();
+    lane.push(Tagged { tunnel, signal });
+    if first {
+        waiting.set(topology, slot);
     }
 }

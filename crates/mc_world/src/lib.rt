@@ -5,6 +5,7 @@ mod lanes;
 mod network;
 mod settled;
 mod topology;
+mod waiting;
 
 pub use mc_laws::laws;
 pub use mc_model::{Channel, TUNNEL_LIMIT, Tunnel};

@@ -6,13 +6,16 @@ ghost use Rattle.mc_model.specs.Settles.{is_quiet, rests};
 ghost use Rattle.mc_model.specs.Sound.{AreNew, IsNumbered, IsSound};
 ghost use Rattle.mc_world.specs.Lanes.{lane_number};
 ghost use Rattle.mc_world.specs.Tables.{channel_of, tunnels_by};
+ghost use Rattle.mc_world.specs.Waiting.{take_waits, waiting_count};
+ghost use Rattle.mc_box.specs.declared.limit.TheConstants.{SLOT_LIMIT};
 ghost use Rattle.mc_model.specs.declared.channel.TheConstants.{TUNNEL_LIMIT};
-ghost use Rattle.mc_model.specs.Worlds.{AreChannels, first_world, slot_count, place, number, far, tunnel_of, lane_of, front, front_for, slot_of, goal_of, places_among, places_within, tunnels_from, tunnels_within};
+ghost use Rattle.mc_model.specs.Worlds.{AreChannels, first_world, slot_count, box_at, place, number, far, tunnel_of, front, front_for, slot_of, goal_of, places_among, places_within, tunnels_from, tunnels_within};
 
 mod rings;
 mod step;
 
-use crate::topology::{Topology, numbers_among};
+use crate::topology::{Topology, far, numbers_among};
+use crate::waiting::Waiting;
 use mc_box::MediaBox;
 use mc_lane::Lane;
 use mc_model::{Channel, Tunnel};
@@ -33,6 +36,7 @@ pub struct World {
     channels: Vec<Channel>,
     lanes: Vec<Lane<Tagged>>,
     topology: Topology,
+    waiting: Waiting,
     alloc: Global,
 }
 
@@ -71,11 +75,13 @@ impl World {
             tunnels,
             numbers,
         };
+        let waiting = Waiting::new(alloc, &topology)?;
         Ok(World {
             boxes,
             channels,
             lanes,
             topology,
+            waiting,
             alloc,
         })
     }
@@ -135,11 +141,7 @@ impl World {
         requires { slot < slot_count self.now }
         ensures { result ≡ far slot }
     {
-        if slot.is_multiple_of(2) {
-            slot + 1
-        } else {
-            slot - 1
-        }
+        far(slot)
     }
 
     /// The number of a box's slot.
@@ -175,6 +177,25 @@ impl World {
         front_for(self.lane(channel, slot.is_multiple_of(2)), within)
     }
 
+    /// Whether a signal waits that a box's slot can take now.
+    pub fn waits(&self, who: u32, local: u8) -> bool
+        ensures { result ≡ take_waits self.now who local }
+    {
+        match self.number(who, local) {
+            Some(slot) => self.waiting.flags[slot as usize],
+            None => false,
+        }
+    }
+
+    /// At how many slots of a box a signal waits that they can take now.
+    pub fn takes(&self, who: u32) -> u32
+        requires { who < length self.now.boxes }
+        ensures count { result ≡ waiting_count self.now who (length (box_at self.now who).slots) }
+        ensures few { result ≤ SLOT_LIMIT }
+    {
+        u32::from(self.waiting.counts[who as usize])
+    }
+
     /// Whether nothing is under way.
     pub fn quiet(&self) -> bool
         ensures { result ≡ is_quiet self.now }
@@ -188,15 +209,6 @@ impl World {
     {
         // no box has a program yet
         self.quiet()
-    }
-
-    // The lane that leads to a slot.
-    fn lane_to(&self, slot: u32) -> usize
-        requires { slot < slot_count self.now }
-        ensures { result ≡ lane_of self.now slot }
-    {
-        let (channel, _) = self.channel(slot);
-        2 * channel as usize + slot as usize % 2
     }
 }
 

@@ -35,14 +35,25 @@ impl Topology {
         self.numbers(who).get(local as usize).copied()
     }
 
-    /// The lane that leads away from a slot, and the number of the slot's tunnel within its channel.
-    pub fn away(&self, slot: usize) -> (usize, u8)
+    /// The lane that leads to a slot, and the number of the slot's tunnel within its channel.
+    pub fn toward(&self, slot: u32) -> (usize, u8)
         requires { slot / 2 < length self.now.tunnels.items }
-        ensures lane { result.0 ≡ lane_by self.now (far slot) }
-        ensures tunnel { result.1 ≡ tunnel_by self.now (far slot) }
+        ensures lane { result.0 ≡ lane_by self.now slot }
+        ensures tunnel { result.1 ≡ tunnel_by self.now slot }
     {
-        let (channel, tunnel) = self.tunnels[slot / 2];
-        (2 * channel as usize + (1 - slot % 2), tunnel)
+        let (channel, tunnel) = self.tunnels[slot as usize / 2];
+        (2 * channel as usize + slot as usize % 2, tunnel)
+    }
+}
+
+/// The slot at the other end of a slot's tunnel.
+pub fn far(slot: u32) -> u32
+    ensures { result ≡ far slot }
+{
+    if slot.is_multiple_of(2) {
+        slot + 1
+    } else {
+        slot - 1
     }
 }
 

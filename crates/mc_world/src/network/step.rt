@@ -76,11 +76,17 @@ impl World {
         let Some(signal) = self.front(slot) else {
             return Err(StepFault::NotEnabled);
         };
-        let lane = self.lane_to(slot);
         make_room(&mut self.lanes, &self.topology, who, SENDS_LIMIT)?;
         let actor = &mut self.boxes[who as usize];
         let sends = actor.take(local, signal);
-        relay(&mut self.lanes, lane, &self.topology, who, &sends);
+        relay(
+            &mut self.lanes,
+            &mut self.waiting,
+            &self.topology,
+            who,
+            slot,
+            &sends,
+        );
         Ok(())
     }
 
@@ -106,7 +112,13 @@ impl World {
         if actor.act(event, &mut sends).is_err() {
             unreachable!()
         }
-        send_lane(&mut self.lanes, &self.topology, who, &sends);
+        send_lane(
+            &mut self.lanes,
+            &mut self.waiting,
+            &self.topology,
+            who,
+            &sends,
+        );
         Ok(())
     }
 }

@@ -1,6 +1,5 @@
-use Rattle.std.proofs.Common.{◌<◌, ◌+◌, ℕ, take, sym, ◌∙◌, ap, List, arith}
+use Rattle.std.proofs.Common.{◌+◌, ℕ, take, sym, ◌∙◌, ap, List, arith}
 use Rattle.std.proofs.lemmas.List.Sums.{fold_more}
-use Rattle.std.proofs.lemmas.Grind.{common_steps}
 use Rattle.mc_signal.specs.declared.Signal.{Signal}
 use Rattle.mc_signal.specs.declared.Tagged.{Tagged}
 use Rattle.mc_world.specs.Lanes.{all_sent, lane_by, one_sent, signals_of}
@@ -19,5 +18,6 @@ loop-sending-preserved c =
           ∙ (ap (λ (lanes : List (List Tagged)). one_sent c.args.topology.now c.args.who lanes c.sending-item.result) c.loop-sending.invariant.sent
           ∙ (ap (λ (sending : ℕ × Signal). one_sent c.args.topology.now c.args.who (all_sent c.args.topology.now c.args.who (signals_of c.args.lanes.now) (take c.loop-sending.sending-index items)) sending) c.sending-item.is
           ∙ sym (fold_more (one_sent c.args.topology.now c.args.who) (signals_of c.args.lanes.now) items c.loop-sending.sending-index c.sending-item.result c.loop-sending-test.true)));
+      waiting = c.send.ensures.waiting;
       room = λ k count room. c.send.ensures.room k count (c.loop-sending.invariant.room k (count + 1) (λ e. omega (arith, room e)));
     }

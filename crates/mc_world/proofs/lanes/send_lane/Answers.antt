@@ -20,5 +20,6 @@ loop-i-preserved c =
           ∙ (ap (λ (sending : ℕ × Signal). one_sent c.args.topology.now c.args.who (all_sent c.args.topology.now c.args.who (signals_of c.args.lanes.now) (take c.loop-i.i items)) sending)
           (got_is items c.loop-i.i c.get-sending.result c.get-sending.result c.get-sending.ensures)
           ∙ sym (fold_more (one_sent c.args.topology.now c.args.who) (signals_of c.args.lanes.now) items c.loop-i.i c.get-sending.result (omega (arith, c.loop-i-test.true, c.len-i-end.ensures)))));
+      waiting = c.send.ensures.waiting;
       room = λ k count room. c.send.ensures.room k count (c.loop-i.invariant.room k (count + 1) (λ e. omega (arith, room e)));
     }

@@ -1,6 +1,8 @@
 use Rattle.std.proofs.Common.{◌≡◌, ◌∙◌, ◌++◌, ap, false, subst, sym, true, ℕ, length, List, [], Some, None}
 use Rattle.std.proofs.lemmas.Result.{err_from_is_err_and}
+use Rattle.std.proofs.lemmas.List.{length-set}
 use Rattle.std.specs.Vec.{with_item, with_items}
+use Rattle.mc_world.specs.Waiting.{IsWaiting}
 use Rattle.mc_lane.specs.Queue.{Queue}
 use Rattle.mc_signal.specs.declared.Signal.{Signal}
 use Rattle.mc_signal.specs.declared.Tagged.{Tagged}
@@ -10,7 +12,7 @@ use Rattle.mc_world.specs.Lanes.{IsLaid, all_sent, signals_of}
 use Rattle.mc_model.specs.Steps.{step_by}
 use Rattle.mc_world.specs.Tables.{world_state}
 use Rattle.mc_model.specs.Worlds.{box_at}
-use Rattle.mc_world.proofs.LaneChanges.{Lane, length_kept, signals_kept, signals_written}
+use Rattle.mc_world.proofs.LaneChanges.{Lane, length_kept, signals_kept, signals_written, twice_refilled}
 use Rattle.mc_world.proofs.Tables.{box_read}
 use Rattle.mc_world.proofs.TopologyLanes.{tables_laid}
 use Rattle.mc_world.proofs.WorldSteps.{act_goes, act_made, done_of, step_tables}
@@ -55,6 +57,7 @@ stepped : (c : goal.After-drop-sends-inside-2) → step_by c.args.self.now c.arg
     ≡ Some (world_state (record c.self.inside {
       boxes = with_item c.self.inside.boxes c.args.who c.act.new.self;
       lanes = with_items (with_items c.self.inside.lanes c.make_room.new.lanes) c.send_lane.new.lanes;
+      waiting = c.send_lane.new.waiting;
     }))
 stepped c =
     let made : Appends (box_event c.index_mut-actor.result.now c.args.event None) c.act.new.self c.reserve.new.self.items c.act.new.out.items = done_of c.act.result (sym c.is_err.ensures.value ∙ c.if-is_err.false) c.act.ensures.event in
@@ -64,7 +67,7 @@ stepped c =
     ≡ all_sent c.self.inside.topology c.args.who (signals_of c.self.inside.lanes.items) c.act.new.out.items =
     signals_written c.self.inside.lanes c.deref_mut.result.now c.make_room.new.lanes c.deref_mut-2.result.now c.send_lane.new.lanes
     (λ (lanes : List (List Tagged)). all_sent c.self.inside.topology c.args.who lanes c.act.new.out.items)
-    c.deref_mut.ensures.value c.make_room.auto.lanes c.make_room.ensures.same c.deref_mut-2.ensures.value c.send_lane.auto.lanes c.send_lane.ensures in
+    c.deref_mut.ensures.value c.make_room.auto.lanes c.make_room.ensures.same c.deref_mut-2.ensures.value c.send_lane.auto.lanes c.send_lane.ensures.sent in
     let actor = box_read c.self.inside c.args.self.now c.args.who c.index_mut-actor.result.now c.self.view_is c.requires.here c.index_mut-actor.ensures.value in
     let goes : box_event (box_at c.args.self.now c.args.who) c.args.event None ≡ Some (record { sent = made.sent; after = c.act.new.self }) =
     subst (λ (box : BoxState). box_event box c.args.event None ≡ Some (record { sent = made.sent; after = c.act.new.self })) actor made.goes in
@@ -76,6 +79,13 @@ returns c = stepped c
 
 pub invariant_of-self-2 : goal.invariant_of-self-2
 invariant_of-self-2 c =
+    let lanes = twice_refilled c.self.inside.lanes c.deref_mut.result.now c.make_room.new.lanes c.deref_mut-2.result.now c.send_lane.new.lanes c.deref_mut.ensures.value c.make_room.auto.lanes c.deref_mut-2.ensures.value c.send_lane.auto.lanes in
     step_tables c.self.inside c.args.self.now c.args.who c.args.event
-    (with_item c.self.inside.boxes c.args.who c.act.new.self) (with_items (with_items c.self.inside.lanes c.make_room.new.lanes) c.send_lane.new.lanes)
-    c.self.invariant c.self.view_is c.requires.here (stepped c)
+    (with_item c.self.inside.boxes c.args.who c.act.new.self) (with_items (with_items c.self.inside.lanes c.make_room.new.lanes) c.send_lane.new.lanes) c.send_lane.new.waiting
+    c.self.invariant c.self.view_is c.requires.here (length-set c.self.inside.boxes.items c.args.who c.act.new.self)
+    (subst (λ (l : List Lane). IsWaiting c.self.inside.topology (signals_of l) c.send_lane.new.waiting) (sym lanes) c.send_lane.ensures.waiting) (stepped c)
+
+pub send_lane-requires-clause-waiting : goal.send_lane-requires-clause-waiting
+send_lane-requires-clause-waiting c =
+    let lanes = signals_kept c.self.inside.lanes c.deref_mut.result.now c.make_room.new.lanes c.deref_mut.ensures.value c.make_room.auto.lanes c.make_room.ensures.same in
+    subst (λ (l : List (List Tagged)). IsWaiting c.self.inside.topology l c.self.inside.waiting) (sym (ap (λ (l : List Lane). signals_of l) c.deref_mut-2.ensures.value ∙ lanes)) c.self.invariant.waiting

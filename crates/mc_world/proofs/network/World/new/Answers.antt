@@ -10,6 +10,7 @@ use Rattle.mc_model.specs.Worlds.{ChannelState, WorldState, first_world, is_plac
 use Rattle.mc_world.proofs.SlotNumbers.{found_by}
 use Rattle.mc_laws.proofs.NewWorlds.{first_is_sound}
 use Rattle.mc_world.proofs.TunnelTables.{few_slots}
+use Rattle.mc_world.proofs.Waits.{none_flagged}
 use Rattle.mc_world.proofs.network.World.new.Goals as goal
 
 -- a world, by its parts
@@ -36,6 +37,11 @@ invariant_of-result c =
           c.requires.numbered numbers
           ∙ ap (position (is_place (who, local))) (sym places);
       few = rw places (omega arith);
+      homes = sym (length-map c.in_ok-numbers.numbers.items (λ (numbers : Vec ℕ Global). numbers.items)) ∙ (ap (λ (l : List (List ℕ)). length l) numbers ∙ length-map c.args.boxes.items origins);
       lanes = omega arith;
+      waiting = record {
+        counted = c.in_ok-waiting.ensures.counted;
+        flagged = none_flagged (record { places = c.in_ok-places.places; tunnels = c.in_ok-tunnels.tunnels; numbers = c.in_ok-numbers.numbers }) (signals_of c.in_ok-lanes.lanes.items) c.in_ok-waiting.waiting.flags.items (2 * length c.args.channels.items) none c.in_ok-waiting.ensures.none;
+      };
       sound = subst (λ (world : WorldState). IsSound world) first (first_is_sound c.args.boxes.items c.args.channels.items c.requires.fresh c.requires.numbered);
     }

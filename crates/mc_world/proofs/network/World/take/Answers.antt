@@ -1,22 +1,25 @@
-use Rattle.std.proofs.Common.{◌≡◌, ◌∙◌, ap, subst, sym, ℕ, length, List, Some}
+use Rattle.std.proofs.Common.{◌≡◌, ◌∙◌, ap, subst, sym, ℕ, length, drop, get_or, List, [], Some}
 use Rattle.std.proofs.lemmas.Result.{err_from_is_err_and}
+use Rattle.std.proofs.lemmas.List.{length-set}
 use Rattle.std.specs.Vec.{with_item, with_items}
+use Rattle.mc_world.specs.Waiting.{FirstServed, IsWaiting}
 use Rattle.mc_signal.specs.declared.Tagged.{Tagged}
 use Rattle.mc_slot.specs.Sending.{sends_of}
 use Rattle.mc_slot.specs.declared.sends.TheConstants.{SENDS_LIMIT}
 use Rattle.mc_box.specs.BoxEvents.{box_event}
 use Rattle.mc_box.specs.Boxes.{BoxState}
-use Rattle.mc_world.specs.Lanes.{IsLaid, all_sent, signals_of, without_front}
+use Rattle.mc_world.specs.Lanes.{IsLaid, all_sent, lane_by, signals_of, without_front}
 use Rattle.mc_model.specs.Steps.{step_by}
 use Rattle.mc_world.specs.Tables.{world_state}
-use Rattle.mc_model.specs.Worlds.{box_at, number}
+use Rattle.mc_model.specs.Worlds.{WorldState, box_at, lane_of, number}
 use Rattle.mc_box.specs.declared.event.Event.TheVariants.{Take}
-use Rattle.mc_world.proofs.LaneChanges.{Lane, length_kept, room_kept, signals_kept, signals_written}
+use Rattle.mc_world.proofs.LaneChanges.{Lane, length_kept, room_kept, signals_kept, signals_written, twice_refilled}
 use Rattle.mc_laws.proofs.Numbers.{number_is}
 use Rattle.mc_laws.proofs.StepKeeps.{front_is_taken}
 use Rattle.mc_world.proofs.Tables.{box_read}
-use Rattle.mc_world.proofs.TopologyLanes.{tables_laid}
+use Rattle.mc_world.proofs.TopologyLanes.{lane_same, tables_laid}
 use Rattle.mc_world.proofs.WorldSteps.{number_inside, number_slot, step_tables, take_enabled, take_made}
+use Rattle.mc_world.proofs.Waits.{behind_served}
 use Rattle.mc_world.proofs.network.World.take.Goals as goal
 
 pub make_room-requires : goal.make_room-requires
@@ -61,24 +64,38 @@ stepped : (c : goal.After-self-3-1) → step_by c.args.self.now c.args.who (Take
     ≡ Some (world_state (record c.self.inside {
       boxes = with_item c.self.inside.boxes c.args.who c.take-sends.new.self;
       lanes = with_items (with_items c.self.inside.lanes c.make_room.new.lanes) c.relay.new.lanes;
+      waiting = c.relay.new.waiting;
     }))
 stepped c =
     let lanes : signals_of (with_items (with_items c.self.inside.lanes c.make_room.new.lanes) c.relay.new.lanes).items
-    ≡ all_sent c.self.inside.topology c.args.who (without_front (signals_of c.self.inside.lanes.items) c.lane_to-lane.result) (sends_of c.take-sends.result) =
+    ≡ all_sent c.self.inside.topology c.args.who (without_front (signals_of c.self.inside.lanes.items) (lane_by c.self.inside.topology c.in-Some.slot)) (sends_of c.take-sends.result) =
     signals_written c.self.inside.lanes c.deref_mut.result.now c.make_room.new.lanes c.deref_mut-2.result.now c.relay.new.lanes
-    (λ (lanes : List (List Tagged)). all_sent c.self.inside.topology c.args.who (without_front lanes c.lane_to-lane.result) (sends_of c.take-sends.result))
-    c.deref_mut.ensures.value c.make_room.auto.lanes c.make_room.ensures.same c.deref_mut-2.ensures.value c.relay.auto.lanes c.relay.ensures in
+    (λ (lanes : List (List Tagged)). all_sent c.self.inside.topology c.args.who (without_front lanes (lane_by c.self.inside.topology c.in-Some.slot)) (sends_of c.take-sends.result))
+    c.deref_mut.ensures.value c.make_room.auto.lanes c.make_room.ensures.same c.deref_mut-2.ensures.value c.relay.auto.lanes c.relay.ensures.sent in
     let actor = box_read c.self.inside c.args.self.now c.args.who c.index_mut-actor.result.now c.self.view_is c.requires.here c.index_mut-actor.ensures.value in
     let goes : box_event (box_at c.args.self.now c.args.who) (Take c.args.local) (Some c.in-Some-front.signal) ≡ Some (record { sent = sends_of c.take-sends.result; after = c.take-sends.new.self }) =
     subst (λ (box : BoxState). box_event box (Take c.args.local) (Some c.in-Some-front.signal) ≡ Some (record { sent = sends_of c.take-sends.result; after = c.take-sends.new.self })) actor c.take-sends.ensures.event in
-    take_made c.self.inside c.args.self.now c.args.who c.args.local c.in-Some.slot c.lane_to-lane.result c.in-Some-front.signal (record { sent = sends_of c.take-sends.result; after = c.take-sends.new.self }) _
-    c.self.invariant c.self.view_is (sym c.number.ensures ∙ c.in-Some.is) (sym c.front.ensures ∙ c.in-Some-front.is) c.lane_to-lane.ensures goes lanes
+    let lane : lane_by c.self.inside.topology c.in-Some.slot ≡ lane_of c.args.self.now c.in-Some.slot =
+    lane_same (world_state c.self.inside) c.self.inside.topology c.in-Some.slot c.self.invariant.tunnels ∙ ap (λ (w : WorldState). lane_of w c.in-Some.slot) c.self.view_is in
+    take_made c.self.inside c.args.self.now c.args.who c.args.local c.in-Some.slot (lane_by c.self.inside.topology c.in-Some.slot) c.in-Some-front.signal (record { sent = sends_of c.take-sends.result; after = c.take-sends.new.self }) _
+    c.self.invariant c.self.view_is (sym c.number.ensures ∙ c.in-Some.is) (sym c.front.ensures ∙ c.in-Some-front.is) lane goes lanes
 
 pub returns : goal.returns
 returns c = stepped c
 
 pub invariant_of-self-2 : goal.invariant_of-self-2
 invariant_of-self-2 c =
+    let lanes = twice_refilled c.self.inside.lanes c.deref_mut.result.now c.make_room.new.lanes c.deref_mut-2.result.now c.relay.new.lanes c.deref_mut.ensures.value c.make_room.auto.lanes c.deref_mut-2.ensures.value c.relay.auto.lanes in
     step_tables c.self.inside c.args.self.now c.args.who (Take c.args.local)
-    (with_item c.self.inside.boxes c.args.who c.take-sends.new.self) (with_items (with_items c.self.inside.lanes c.make_room.new.lanes) c.relay.new.lanes)
-    c.self.invariant c.self.view_is c.requires.here (stepped c)
+    (with_item c.self.inside.boxes c.args.who c.take-sends.new.self) (with_items (with_items c.self.inside.lanes c.make_room.new.lanes) c.relay.new.lanes) c.relay.new.waiting
+    c.self.invariant c.self.view_is c.requires.here (length-set c.self.inside.boxes.items c.args.who c.take-sends.new.self)
+    (subst (λ (l : List Lane). IsWaiting c.self.inside.topology (signals_of l) c.relay.new.waiting) (sym lanes) c.relay.ensures.waiting) (stepped c)
+
+pub relay-requires-clause-served : goal.relay-requires-clause-served
+relay-requires-clause-served c =
+    let lane : ℕ = lane_by c.self.inside.topology c.in-Some.slot in
+    let same : signals_of c.deref_mut-2.result.now ≡ signals_of c.self.inside.lanes.items =
+    ap (λ (l : List Lane). signals_of l) c.deref_mut-2.ensures.value
+    ∙ signals_kept c.self.inside.lanes c.deref_mut.result.now c.make_room.new.lanes c.deref_mut.ensures.value c.make_room.auto.lanes c.make_room.ensures.same in
+    subst (λ (l : List (List Tagged)). FirstServed c.self.inside.topology lane (drop 1 (get_or l lane []))) (sym same)
+    (behind_served c.self.inside lane (get_or (signals_of c.self.inside.lanes.items) lane []) c.self.invariant (c.self.invariant.sound.served lane))

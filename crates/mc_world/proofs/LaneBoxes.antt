@@ -1,5 +1,5 @@
--- The slots to which one lane leads are of one box.
-use Rattle.std.proofs.Common.{◌≡◌, ◌<◌, ◌≤◌, ◌+◌, ◌-◌, ◌*◌, ◌/◌, ◌%◌, ◌==◌, ◌⊎◌, inl, inr, if◌then◌else◌, ℕ, zero, suc, List, [], ◌∷◌, ◌++◌, length, length-append, refl, ap, sym, ◌∙◌, subst, arith}
+-- The slots to which one lane leads: they are of one box, and follow each other as their tunnels do.
+use Rattle.std.proofs.Common.{◌≡◌, ◌<◌, ◌≤◌, ◌+◌, ◌-◌, ◌*◌, ◌/◌, ◌%◌, ◌==◌, ◌⊎◌, inl, inr, if◌then◌else◌, ℕ, zero, suc, List, [], ◌∷◌, ◌++◌, length, length-append, zero-add, refl, ap, sym, ◌∙◌, subst, arith}
 use Rattle.std.proofs.Math.ListN.{get_or}
 use Rattle.std.proofs.lemmas.Bool.{cases_lt}
 use Rattle.std.proofs.lemmas.List.{get_or_append_left, get_or-append_right}
@@ -35,15 +35,22 @@ within_channel [] channel within i inside = absurd (omega arith)
 within_channel (tunnel ∷ tunnels) channel within zero inside = refl
 within_channel (tunnel ∷ tunnels) channel within (suc i) inside = within_channel tunnels channel (within + 1) i (omega arith)
 
+within_number : (tunnels : List Tunnel) (channel within i : ℕ) → i < length tunnels → (get_or (tunnels_within channel within tunnels) i no_tunnel).within ≡ within + i
+within_number [] channel within i inside = absurd (omega arith)
+within_number (tunnel ∷ tunnels) channel within zero inside = omega arith
+within_number (tunnel ∷ tunnels) channel within (suc i) inside = omega (arith, within_number tunnels channel (within + 1) i (omega arith))
+
 -- ---- all channels
 
 -- where a slot stands: in the first channel, or in one after it
 record Here (ends : ChannelState) (channels : List ChannelState) (first s : ℕ) : Type 0 where
   box : (get_or (places_among (ends ∷ channels)) s (0, 0)).0 ≡ side_of ends s
   channel : (get_or (tunnels_from first (ends ∷ channels)) (s / 2) no_tunnel).channel ≡ first
+  within : (get_or (tunnels_from first (ends ∷ channels)) (s / 2) no_tunnel).within ≡ s / 2
 
 record Later (ends : ChannelState) (channels : List ChannelState) (first s t : ℕ) : Type 0 where
   below : t < length (places_among channels)
+  sum : s ≡ t + 2 * length ends.tunnels
   side : t % 2 ≡ s % 2
   box : get_or (places_among (ends ∷ channels)) s (0, 0) ≡ get_or (places_among channels) t (0, 0)
   tunnel : get_or (tunnels_from first (ends ∷ channels)) (s / 2) no_tunnel ≡ get_or (tunnels_from (first + 1) channels) (t / 2) no_tunnel
@@ -71,12 +78,15 @@ stands ends channels first s inside =
             box = ap (λ (p : ℕ × ℕ). p.0) (get_or_append_left (places_within ends) (places_among channels) (0, 0) s (omega arith)) ∙ within_box ends ends.tunnels s below;
             channel = ap (λ (j : TunnelPlace). j.channel) (get_or_append_left (tunnels_within first 0 ends.tunnels) (tunnels_from (first + 1) channels) no_tunnel (s / 2) (subst (λ (m : ℕ). s / 2 < m) (sym count) (half_below s (length ends.tunnels) below)))
                 ∙ within_channel ends.tunnels first 0 (s / 2) (half_below s (length ends.tunnels) below);
+            within = ap (λ (j : TunnelPlace). j.within) (get_or_append_left (tunnels_within first 0 ends.tunnels) (tunnels_from (first + 1) channels) no_tunnel (s / 2) (subst (λ (m : ℕ). s / 2 < m) (sym count) (half_below s (length ends.tunnels) below)))
+                ∙ (within_number ends.tunnels first 0 (s / 2) (half_below s (length ends.tunnels) below) ∙ zero-add (s / 2));
           })
       | inr above ↦
           inr (
             s - 2 * length ends.tunnels,
             record {
               below = omega arith;
+              sum = omega arith;
               side = side_less s (length ends.tunnels) above;
               box = get_or-append_right (places_within ends) (places_among channels) (2 * length ends.tunnels) s (0, 0) slots above;
               tunnel = get_or-append_right (tunnels_within first 0 ends.tunnels) (tunnels_from (first + 1) channels) (length ends.tunnels) (s / 2) no_tunnel count (half_above s (length ends.tunnels) above)
@@ -114,14 +124,48 @@ one_box (ends ∷ channels) first s t one two channel side = elim (stands ends c
   ]
 ]
 
+-- two slots in the first channel, where their tunnels stand
+first_run : (s t : ℕ) → s % 2 ≡ t % 2 → s + 2 * (t / 2) ≡ t + 2 * (s / 2)
+first_run s t side = omega arith
+
+more_run : (s t s1 t1 n one two : ℕ) → s ≡ s1 + n → t ≡ t1 + n → s1 + 2 * two ≡ t1 + 2 * one → s + 2 * two ≡ t + 2 * one
+more_run s t s1 t1 n one two first second rest = omega arith
+
+-- and follow each other as their tunnels do
+one_run : (channels : List ChannelState) (first s t : ℕ) → s < length (places_among channels) → t < length (places_among channels)
+    → (get_or (tunnels_from first channels) (s / 2) no_tunnel).channel ≡ (get_or (tunnels_from first channels) (t / 2) no_tunnel).channel → s % 2 ≡ t % 2
+    → s + 2 * (get_or (tunnels_from first channels) (t / 2) no_tunnel).within ≡ t + 2 * (get_or (tunnels_from first channels) (s / 2) no_tunnel).within
+one_run [] first s t one two channel side = absurd (omega arith)
+one_run (ends ∷ channels) first s t one two channel side = elim (stands ends channels first s one) [
+  | inl here ↦ elim (stands ends channels first t two) [
+    | inl same ↦ ap (λ (n : ℕ). s + 2 * n) same.within ∙ (first_run s t side ∙ ap (λ (n : ℕ). t + 2 * n) (sym here.within))
+    | inr later ↦ absurd (let high = later_above ends channels first t later.0 later.1 in let is = here.channel in omega arith)
+  ]
+  | inr there ↦ elim (stands ends channels first t two) [
+    | inl same ↦ absurd (let high = later_above ends channels first s there.0 there.1 in let is = same.channel in omega arith)
+    | inr later ↦
+        more_run s t there.0 later.0 (2 * length ends.tunnels) (get_or (tunnels_from first (ends ∷ channels)) (s / 2) no_tunnel).within (get_or (tunnels_from first (ends ∷ channels)) (t / 2) no_tunnel).within there.1.sum later.1.sum
+        (ap (λ (j : TunnelPlace). there.0 + 2 * j.within) later.1.tunnel
+        ∙ (one_run channels (first + 1) there.0 later.0 there.1.below later.1.below
+        (sym (ap (λ (j : TunnelPlace). j.channel) there.1.tunnel) ∙ (channel ∙ ap (λ (j : TunnelPlace). j.channel) later.1.tunnel)) (there.1.side ∙ (side ∙ sym later.1.side))
+        ∙ ap (λ (j : TunnelPlace). later.0 + 2 * j.within) (sym there.1.tunnel)))
+  ]
+]
+
 lane_parts : (c d p q : ℕ) → p < 2 → q < 2 → 2 * c + p ≡ 2 * d + q → (c ≡ d) × (p ≡ q)
 lane_parts c d p q one two same = (omega arith, omega arith)
 
 side_low : (s : ℕ) → s % 2 < 2
 side_low s = omega arith
 
--- so slots of one lane are
+-- so slots of one lane are of one box
 pub lane_box : (world : WorldState) (s t : ℕ) → s < slot_count world → t < slot_count world → lane_of world s ≡ lane_of world t → (place world s).0 ≡ (place world t).0
 lane_box world s t one two same =
     let parts = lane_parts (tunnel_of world s).channel (tunnel_of world t).channel (s % 2) (t % 2) (side_low s) (side_low t) same in
     one_box world.channels 0 s t one two parts.0 parts.1
+
+-- and follow each other
+pub lane_run : (world : WorldState) (s t : ℕ) → s < slot_count world → t < slot_count world → lane_of world s ≡ lane_of world t → s + 2 * (tunnel_of world t).within ≡ t + 2 * (tunnel_of world s).within
+lane_run world s t one two same =
+    let parts = lane_parts (tunnel_of world s).channel (tunnel_of world t).channel (s % 2) (t % 2) (side_low s) (side_low t) same in
+    one_run world.channels 0 s t one two parts.0 parts.1

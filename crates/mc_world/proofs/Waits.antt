@@ -1,0 +1,113 @@
+-- What a world's flags and counts say of its fronts.
+use Rattle.std.proofs.Common.{◌≡◌, ◌<◌, ◌≤◌, inl, inr, ℕ, Bool, false, List, [], ◌∷◌, Option, Some, None, length, drop, get_or, position, refl, ap, sym, ◌∙◌, subst, arith}
+use Rattle.std.specs.List.{slice_get}
+use Rattle.std.specs.Option.{is_some, option_and_then}
+use Rattle.std.proofs.Math.ListN.{replicate, get_or-eq_default}
+use Rattle.std.proofs.lemmas.Bool.{cases_lt}
+use Rattle.std.proofs.lemmas.List.{get_or-replicate, get_or_read, length-replicate}
+use Rattle.std.proofs.lemmas.Option.{slice_get_within}
+use Rattle.mc_signal.specs.declared.Tagged.{Tagged}
+use Rattle.mc_box.specs.declared.limit.TheConstants.{SLOT_LIMIT}
+use Rattle.mc_turn.proofs.Sums.{total_same}
+use Rattle.mc_laws.proofs.Numbers.{number_is}
+use Rattle.mc_model.specs.Served.{AllServed, IsFor}
+use Rattle.mc_model.specs.Worlds.{WorldState, box_at, front, front_for, is_place, number, place, tunnel_of}
+use Rattle.mc_world.specs.Lanes.{lane_by, numbers_of, signals_of, tunnel_by}
+use Rattle.mc_world.specs.Tables.{HasTables, world_state}
+use Rattle.mc_world.specs.Waiting.{AreFlagged, FirstServed, bit, flag_of, take_waits, waiting_count, waits_by}
+use Rattle.mc_world.specs.declared.network.World.TheInside.{Inside}
+use Rattle.mc_world.specs.declared.topology.Topology.{Topology}
+use Rattle.mc_world.proofs.FlagCounts.{count_small}
+use Rattle.mc_world.proofs.SlotNumbers.{by_origin}
+use Rattle.mc_world.proofs.TopologyLanes.{few_numbers, lane_same, tables_numbers, tunnel_same}
+
+-- ---- fronts
+
+-- by the tables it is the front of the world
+pub waits_same : (inside : Inside) (s : ℕ) → HasTables inside → waits_by inside.topology (signals_of inside.lanes.items) s ≡ is_some (front (world_state inside) s)
+waits_same inside s has =
+    ap (λ (w : ℕ). is_some (front_for w (get_or (signals_of inside.lanes.items) (lane_by inside.topology s) []))) (tunnel_same (world_state inside) inside.topology s has.tunnels)
+    ∙ ap (λ (k : ℕ). is_some (front_for (tunnel_of (world_state inside) s).within (get_or (signals_of inside.lanes.items) k []))) (lane_same (world_state inside) inside.topology s has.tunnels)
+
+-- the signal behind the front is for some slot
+pub behind_served : (inside : Inside) (lane : ℕ) (signals : List Tagged) → HasTables inside → AllServed (world_state inside) lane signals → FirstServed inside.topology lane (drop 1 signals)
+behind_served inside lane [] has served = tt
+behind_served inside lane (first ∷ []) has served = tt
+behind_served inside lane (first ∷ second ∷ rest) has served =
+    let for : IsFor (world_state inside) lane second served.1.0.0 = served.1.0.1 in (
+      served.1.0.0,
+      record {
+        inside = subst (λ (l : List (ℕ × ℕ)). served.1.0.0 < length l) (sym has.places) for.inside;
+        leads = lane_same (world_state inside) inside.topology served.1.0.0 has.tunnels ∙ for.leads;
+        within = tunnel_same (world_state inside) inside.topology served.1.0.0 has.tunnels ∙ for.within;
+      },
+    )
+
+abbrev no_signals : List Tagged
+no_signals = []
+
+no_lane : (n k : ℕ) → get_or (replicate n no_signals) k no_signals ≡ no_signals
+no_lane n k = elim (cases_lt k n) [
+  | inl below ↦ get_or-replicate n k no_signals no_signals below
+  | inr above ↦ get_or-eq_default (replicate n no_signals) no_signals (omega (arith, above, length-replicate n no_signals))
+]
+
+-- with nothing under way no flag is set
+pub none_flagged : (topology : Topology) (lanes : List (List Tagged)) (flags : List Bool) (n : ℕ) → lanes ≡ replicate n [] → flags ≡ replicate (length topology.places.items) false → AreFlagged topology lanes flags
+none_flagged topology lanes flags n none clear s below =
+    ap (λ (l : List Bool). get_or l s false) clear
+    ∙ (get_or-replicate (length topology.places.items) s false false below
+    ∙ sym (ap (λ (l : List (List Tagged)). waits_by topology l s) none ∙ ap (λ (l : List Tagged). is_some (front_for (tunnel_by topology s) l)) (no_lane n (lane_by topology s))))
+
+-- ---- counts
+
+flag_by : (world : WorldState) (flags : List Bool) (o : Option ℕ) → ((s : ℕ) → o ≡ Some s → get_or flags s false ≡ is_some (front world s)) → flag_of flags o ≡ is_some (option_and_then (front world) o)
+flag_by world flags None each = refl
+flag_by world flags (Some s) each = each s refl
+
+-- a box's slot has a flag where a signal waits for it
+pub flag_is : (inside : Inside) (who local : ℕ) → HasTables inside → flag_of inside.waiting.flags.items (slice_get (numbers_of inside.topology who) local) ≡ take_waits (world_state inside) who local
+flag_is inside who local has =
+    ap (flag_of inside.waiting.flags.items) (has.found who local ∙ ap (position (is_place (who, local))) has.places)
+    ∙ flag_by (world_state inside) inside.waiting.flags.items (number (world_state inside) who local)
+    (λ s is. has.waiting.flagged s (subst (λ (l : List (ℕ × ℕ)). s < length l) (sym has.places) (number_is (world_state inside) who local s is).0) ∙ waits_same inside s has)
+
+-- a box has as many numbers as slots
+numbers_long : (inside : Inside) (who : ℕ) → HasTables inside → who < length inside.boxes.items → length (numbers_of inside.topology who) ≡ length (box_at (world_state inside) who).slots
+numbers_long inside who has here =
+    let world : WorldState = world_state inside in
+    let slots : ℕ = length (box_at (world_state inside) who).slots in
+    let found : (local : ℕ) → slice_get (numbers_of inside.topology who) local ≡ number (world_state inside) who local = λ local. has.found who local ∙ ap (position (is_place (who, local))) has.places in
+    let most : length (numbers_of inside.topology who) ≤ length (box_at (world_state inside) who).slots =
+    few_numbers world (numbers_of inside.topology who) who slots found
+    (λ local s is.
+    let at = number_is world who local s is in
+    let low : (place world s).1 < length (box_at world who).slots = subst (λ (n : ℕ). (place world s).1 < length (box_at world n).slots) at.1 (has.sound.numbered.slots s at.0) in
+    subst (λ (n : ℕ). n < length (box_at world who).slots) at.2 low) in
+    elim (cases_lt (length (numbers_of inside.topology who)) (length (box_at (world_state inside) who).slots)) [
+      | inl fewer ↦
+          let one = slice_get_within (numbers_of inside.topology who) (length (numbers_of inside.topology who)) _ (found (length (numbers_of inside.topology who)) ∙ by_origin world who (length (numbers_of inside.topology who)) has.sound.numbered here fewer) in
+          absurd (omega arith)
+      | inr all ↦ omega arith
+    ]
+
+-- what is read is the count of the box
+pub takes_is : (inside : Inside) (who count : ℕ) → HasTables inside → who < length inside.boxes.items → count ≡ get_or inside.waiting.counts.items who count
+    → count ≡ waiting_count (world_state inside) who (length (box_at (world_state inside) who).slots)
+takes_is inside who count has here reads =
+    get_or_read inside.waiting.counts.items who count (omega (arith, here, has.homes, has.waiting.counted.counts)) reads 0
+    ∙ (has.waiting.counted.each who (omega (arith, here, has.homes))
+    ∙ (total_same (λ local. bit (flag_of inside.waiting.flags.items (slice_get (numbers_of inside.topology who) local))) (λ local. bit (take_waits (world_state inside) who local)) (length (numbers_of inside.topology who))
+    (λ local below. ap bit (flag_is inside who local has))
+    ∙ ap (waiting_count (world_state inside) who) (numbers_long inside who has here)))
+
+-- and no more than a box has slots
+pub takes_few : (inside : Inside) (who count : ℕ) → HasTables inside → who < length inside.boxes.items → count ≡ get_or inside.waiting.counts.items who count → count ≤ SLOT_LIMIT
+takes_few inside who count has here reads =
+    omega (
+      arith,
+      get_or_read inside.waiting.counts.items who count (omega (arith, here, has.homes, has.waiting.counted.counts)) reads 0,
+      has.waiting.counted.each who (omega (arith, here, has.homes)),
+      count_small inside.topology inside.waiting.flags.items who (length (numbers_of inside.topology who)),
+      (tables_numbers inside has).few who,
+    )

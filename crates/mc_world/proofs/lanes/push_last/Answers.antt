@@ -1,0 +1,40 @@
+use Rattle.std.proofs.Common.{◌∙◌, sym}
+use Rattle.mc_world.proofs.LaneFlags.{Comes, come_behind, come_first, come_signals}
+use Rattle.mc_world.proofs.lanes.push_last.Goals as goal
+
+-- the signal is the first in its lane
+first : (c : goal.After-set) → Comes c.args.topology.now c.args.lanes.now c.args.waiting.now c.args.slot c.toward-lane.result.0 c.toward-lane.result.1 c.args.signal c.index-lanes-lane.result c.push.new.self
+first c = record {
+  laid = c.requires.laid;
+  table = c.requires.waiting;
+  here = c.requires.here;
+  lane = c.toward-lane.ensures.lane;
+  tunnel_is = c.toward-lane.ensures.tunnel;
+  added = c.push.ensures.items;
+}
+
+-- or others are before it
+behind : (c : goal.Else-first) → Comes c.args.topology.now c.args.lanes.now c.args.waiting.now c.args.slot c.toward-lane.result.0 c.toward-lane.result.1 c.args.signal c.index-lanes-lane.result c.push.new.self
+behind c = record {
+  laid = c.requires.laid;
+  table = c.requires.waiting;
+  here = c.requires.here;
+  lane = c.toward-lane.ensures.lane;
+  tunnel_is = c.toward-lane.ensures.tunnel;
+  added = c.push.ensures.items;
+}
+
+pub returns-then-first-clause-sent : goal.returns-then-first-clause-sent
+returns-then-first-clause-sent c = come_signals c.args.topology.now c.args.lanes.now c.args.waiting.now c.args.slot c.toward-lane.result.0 c.toward-lane.result.1 c.args.signal c.index-lanes-lane.result c.push.new.self (first c)
+
+pub returns-else-first-clause-sent : goal.returns-else-first-clause-sent
+returns-else-first-clause-sent c = come_signals c.args.topology.now c.args.lanes.now c.args.waiting.now c.args.slot c.toward-lane.result.0 c.toward-lane.result.1 c.args.signal c.index-lanes-lane.result c.push.new.self (behind c)
+
+pub returns-then-first-clause-waiting : goal.returns-then-first-clause-waiting
+returns-then-first-clause-waiting c =
+    come_first c.args.topology.now c.args.lanes.now c.args.waiting.now c.set.new.self c.args.slot c.toward-lane.result.0 c.toward-lane.result.1 c.args.signal c.index-lanes-lane.result c.push.new.self (first c)
+    (sym c.is_empty-first.ensures ∙ c.if-first.true) c.set.ensures.flags c.set.ensures.counted
+
+pub returns-else-first-clause-waiting : goal.returns-else-first-clause-waiting
+returns-else-first-clause-waiting c =
+    come_behind c.args.topology.now c.args.lanes.now c.args.waiting.now c.args.slot c.toward-lane.result.0 c.toward-lane.result.1 c.args.signal c.index-lanes-lane.result c.push.new.self (behind c) (sym c.is_empty-first.ensures ∙ c.if-first.false)
