@@ -18,7 +18,8 @@ use Rattle.mc_model.specs.Worlds.{WorldState, box_at, front, number, place, slot
 use Rattle.mc_laws.proofs.Numbers.{box_inside, number_is}
 use Rattle.mc_box.proofs.Options.{then_some}
 use Rattle.mc_laws.proofs.StepGoes.{front_step_goes, some_of}
-use Rattle.mc_seq.specs.Schedule.{Standing, candidates, drawn_turn, drawn_place, is_urgent, all_candidates, next_of, candidates_of, take_turn, waiting_take, takes_of, take_waits}
+use Rattle.mc_seq.specs.Schedule.{Standing, candidates, drawn_turn, drawn_place, is_urgent, all_candidates, next_of, candidates_of, take_turn, waiting_take, takes_of}
+use Rattle.mc_world.specs.Waiting.{take_waits}
 use Rattle.mc_seq.proofs.ForEach.{append_none, each_all, each_none, none_all, one_all}
 use Rattle.mc_seq.proofs.Fronts.{none_quiet}
 

@@ -20,7 +20,8 @@ use Rattle.mc_laws.proofs.TakeParts.{take_goals_stay}
 use Rattle.mc_seq.specs.Counts.{AreCounted, HasSlot, IsAside, IsCounted, IsUntouched, far_box}
 use Rattle.mc_seq.specs.ForEach.{for_each}
 use Rattle.mc_seq.specs.Ready.{IsAway, IsOff}
-use Rattle.mc_seq.specs.Schedule.{candidates_of, left_by, next_of, take_turn, take_waits, takes_of, waiting_take, without_next}
+use Rattle.mc_seq.specs.Schedule.{candidates_of, left_by, next_of, take_turn, takes_of, waiting_take, without_next}
+use Rattle.mc_world.specs.Waiting.{take_waits}
 use Rattle.mc_seq.specs.declared.counting.Counts.{Counts}
 use Rattle.mc_seq.proofs.ForEach.{each_same}
 use Rattle.mc_seq.proofs.FrontsStay.{fronts_stay}

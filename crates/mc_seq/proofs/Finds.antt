@@ -2,7 +2,8 @@
 use Rattle.std.proofs.Common.{◌≡◌, ◌<◌, ◌≤◌, ◌+◌, ◌-◌, if◌then◌else◌, ℕ, zero, suc, Bool, true, false, [], ◌∷◌, length, slice_get, Some, length-append, add-one, refl, ap, sym, ◌∙◌, subst, arith}
 use Rattle.mc_model.specs.Worlds.{WorldState, box_at}
 use Rattle.mc_seq.specs.ForEach.{for_each}
-use Rattle.mc_seq.specs.Schedule.{take_turn, waiting_take, takes_of, take_waits}
+use Rattle.mc_seq.specs.Schedule.{take_turn, waiting_take, takes_of}
+use Rattle.mc_world.specs.Waiting.{take_waits}
 use Rattle.mc_seq.proofs.Kth.{each_got}
 
 -- the Take that a slot has

@@ -1,14 +1,15 @@
 -- The schedule of a settle by draws: what can come next, and which of that is drawn.
 use Rattle.std.specs.Prelude.{◌≡◌, ℕ, ◌+◌, ◌/◌, ◌%◌, ◌==◌, ◌&&◌, not, if◌then◌else◌, Bool, false, List, [], ◌∷◌, ◌++◌, length, nat_lt, slice_get, Option, Some}
 use Rattle.std.specs.List.{find}
-use Rattle.std.specs.Option.{is_some, option_and_then, option_to_list}
+use Rattle.std.specs.Option.{option_to_list}
 use Rattle.mc_text.specs.Draws.{next_state}
 use Rattle.mc_box.specs.BoxEvents.{is_command}
 use Rattle.mc_box.specs.declared.event.Event.TheVariants.{Take}
 use Rattle.mc_box.specs.declared.event.Turn.{Turn}
 use Rattle.mc_model.specs.Paths.{has_ring}
 use Rattle.mc_model.specs.Steps.{step}
-use Rattle.mc_model.specs.Worlds.{WorldState, box_at, front, number}
+use Rattle.mc_model.specs.Worlds.{WorldState, box_at}
+use Rattle.mc_world.specs.Waiting.{take_waits}
 use Rattle.mc_seq.specs.ForEach.{for_each}
 
 -- where a settle stands: its world, the commands that are left, how many turns came since its last command or its beginning, counted to 63, and the state of the draws
@@ -31,11 +32,7 @@ next_of who left = find (λ turn. turn.who == who) left
 abbrev pub take_turn : ℕ → ℕ → Turn
 take_turn who local = record { who = who; event = Take local }
 
--- whether a signal waits that a box's slot can take now
-abbrev pub take_waits : WorldState → ℕ → ℕ → Bool
-take_waits world who local = is_some (option_and_then (front world) (number world who local))
-
--- that Take, if one waits
+-- the Take of a box's slot, if a signal waits that the slot can take now
 abbrev pub waiting_take : WorldState → ℕ → ℕ → List Turn
 waiting_take world who local = if take_waits world who local then take_turn who local ∷ [] else []
 
