@@ -1,8 +1,7 @@
 -- A Take changes few lanes of its box: those of the slot that takes, and over a link those of its partner.
-use Rattle.std.proofs.Common.{◌≡◌, ◌≢◌, ◌==◌, inl, inr, ◌<◌, if◌then◌else◌, nat_lt, ℕ, Bool, true, false, Option, Some, None, List, [], ◌∷◌, length, refl, ap, sym, ◌∙◌, subst, arith}
+use Rattle.std.proofs.Common.{◌≡◌, ◌≢◌, ◌==◌, inl, inr, ◌<◌, nat_lt, ℕ, Option, Some, None, List, [], ◌∷◌, length, refl, ap, sym, ◌∙◌, subst}
 use Rattle.std.specs.Option.{option_map}
 use Rattle.std.proofs.lemmas.Bool.{cases_eq}
-use Rattle.std.proofs.lemmas.Grind.{common_steps}
 use Rattle.std.proofs.lemmas.List.{get_or-set_other}
 use Rattle.mc_signal.specs.declared.Signal.{Signal}
 use Rattle.mc_slot.specs.declared.SlotGoal.{SlotGoal}
@@ -17,23 +16,11 @@ use Rattle.mc_model.specs.Sound.{IsSound}
 use Rattle.mc_model.specs.Steps.{after_making, after_pop, after_sends, step_by, take_at, with_box}
 use Rattle.mc_model.specs.Worlds.{WorldState, box_at, far, front, lane_of, number}
 use Rattle.mc_laws.proofs.Numbers.{box_inside}
+use Rattle.mc_world.proofs.TakeSends.{first_by, more_by, self_test}
 use Rattle.mc_seq.specs.Ready.{IsOff, TakeFrontsStay}
 use Rattle.mc_seq.proofs.FrontsStay.{SameLane, both_same, same_front, sent_one}
 
 -- ---- what is sent
-
--- what a slot sends of the rest it sends in all
-more_by : (here : Bool) (signal : Signal) (rest : List Signal) → (rest ≡ [] → ⊥) → (if here then signal ∷ rest else rest) ≡ [] → ⊥
-more_by true signal rest some none = absurd (cc)
-more_by false signal rest some none = some none
-
--- and a sending is one of its slot's
-first_by : (here : Bool) (signal : Signal) (rest : List Signal) → here ≡ true → (if here then signal ∷ rest else rest) ≡ [] → ⊥
-first_by true signal rest is none = absurd (cc)
-first_by false signal rest is none = absurd (cc)
-
-self_test : (a : ℕ) → (a == a) ≡ true
-self_test a = grind (arith, common_steps)
 
 -- no slot that sends has the lane at the far end of its tunnel
 abbrev NoneBy : WorldState → (who lane : ℕ) → List (ℕ × Signal) → Type 0

@@ -6,8 +6,7 @@ use Rattle.std.specs.Vec.{with_items}
 use Rattle.std.proofs.lemmas.List.{map-set, set-get_or, with_items_is}
 use Rattle.mc_lane.specs.Queue.{Queue, TakesFirst}
 use Rattle.mc_signal.specs.declared.Tagged.{Tagged}
-use Rattle.mc_world.specs.Lanes.{HasRoomFrom, signals_of}
-use Rattle.mc_world.specs.declared.topology.Topology.{Topology}
+use Rattle.mc_world.specs.Lanes.{HasRoom, signals_of}
 
 abbrev pub Lane : Type 0
 Lane = Queue Tagged
@@ -58,10 +57,10 @@ pub length_kept : (lanes : Vec Lane Global) (first made second : List Lane) → 
 length_kept lanes first made second is long again = ap (λ (l : List Lane). length l) (again ∙ refilled lanes made (rw is at long)) ∙ (long ∙ ap (λ (l : List Lane). length l) is)
 
 -- and their room, for as much as is sent
-pub room_kept : (lanes : Vec Lane Global) (first made second : List Lane) (topology : Topology) (who slots most count : ℕ) → first ≡ lanes.items → length made ≡ length first → second ≡ (with_items lanes made).items
-    → count ≤ most → HasRoomFrom made topology who slots most → HasRoomFrom second topology who slots count
-room_kept lanes first made second topology who slots most count is long again few room =
-    subst (λ (l : List Lane). HasRoomFrom l topology who slots count) (sym (again ∙ refilled lanes made (rw is at long))) (λ s below at d. omega (arith, few, room s below at d))
+pub room_kept : (lanes : Vec Lane Global) (first made second : List Lane) (k most count : ℕ) → first ≡ lanes.items → length made ≡ length first → second ≡ (with_items lanes made).items
+    → count ≤ most → HasRoom made k most → HasRoom second k count
+room_kept lanes first made second k most count is long again few room =
+    subst (λ (l : List Lane). HasRoom l k count) (sym (again ∙ refilled lanes made (rw is at long))) (λ d. omega (arith, few, room d))
 
 -- and then another slice
 pub twice_refilled : (lanes : Vec Lane Global) (first made second last : List Lane) → first ≡ lanes.items → length made ≡ length first → second ≡ (with_items lanes made).items

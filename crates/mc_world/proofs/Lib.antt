@@ -8,5 +8,6 @@ mod Flags
 mod Tables
 mod TopologyLanes
 mod LaneFlags
+pub mod TakeSends
 mod WorldSteps
 mod Waits

@@ -1,5 +1,5 @@
 -- The numbers of a box's slots: its descriptors have them as origins.
-use Rattle.std.proofs.Common.{◌≡◌, ◌<◌, ◌≤◌, ◌+◌, ◌++◌, ◌/◌, inl, inr, ℕ, List, [], ◌∷◌, Option, Some, None, length, map, take, position, get_or, refl, ap, sym, ◌∙◌, subst, arith}
+use Rattle.std.proofs.Common.{◌≡◌, ◌<◌, ◌≤◌, ◌+◌, ◌++◌, ◌/◌, inl, inr, ℕ, List, [], ◌∷◌, Option, Some, None, length, map, take, get_or, refl, ap, sym, ◌∙◌, subst, arith}
 use Rattle.std.specs.List.{slice_get}
 use Rattle.std.proofs.Math.ListN.{get_or-eq_default, get_or-map}
 use Rattle.std.proofs.lemmas.Bool.{cases_lt}
@@ -9,9 +9,9 @@ use Rattle.mc_box.specs.Boxes.{BoxState, IsBox, media_at, no_box, no_media, own,
 use Rattle.mc_box.specs.declared.event.Kind.{Kind}
 use Rattle.mc_box.specs.declared.event.Kind.TheVariants.{Device, Feature}
 use Rattle.mc_box.specs.declared.setup.SlotMedia.{SlotMedia}
-use Rattle.mc_world.specs.Lanes.{HasRoom, HasRoomFrom, IsLaid, lane_by, numbers_of, origins}
+use Rattle.mc_world.specs.Lanes.{HasRoom, HasRoomFor, IsLaid, lane_by, numbers_of, origins}
 use Rattle.mc_model.specs.Sound.{IsNumbered}
-use Rattle.mc_model.specs.Worlds.{WorldState, box_at, far, is_place, number, place}
+use Rattle.mc_model.specs.Worlds.{WorldState, box_at, far, number, place}
 use Rattle.mc_world.specs.declared.topology.Topology.{Topology}
 use Rattle.mc_world.proofs.LaneChanges.{Lane}
 use Rattle.mc_laws.proofs.Numbers.{found_at, half_in, number_is}
@@ -84,12 +84,8 @@ tunnel_there topology count who local s laid inside is =
     let found = found_at topology.places.items who local s (sym (laid.numbers.found who local) ∙ at) in
     half_in s (length topology.tunnels.items) (subst (λ (n : ℕ). s < n) laid.slots found.0)
 
--- room in the lane away from each of a box's slots, by local numbers, is room away from all its slots
-pub room_from : (lanes : List Lane) (topology : Topology) (count who most : ℕ) → IsLaid topology count
-    → ((local : ℕ) → local < length (numbers_of topology who) → HasRoom lanes (lane_by topology (far (get_or (numbers_of topology who) local 0))) most) → HasRoomFrom lanes topology who (length topology.places.items) most
-room_from lanes topology count who most laid room s below is =
-    let here : slice_get (numbers_of topology who) (get_or topology.places.items s (0, 0)).1 ≡ Some s =
-    laid.numbers.found who (get_or topology.places.items s (0, 0)).1
-    ∙ subst (λ (w : ℕ). position (is_place (w, (get_or topology.places.items s (0, 0)).1)) topology.places.items ≡ Some s) is (laid.numbers.once s below) in
-    subst (λ (t : ℕ). HasRoom lanes (lane_by topology (far t)) most) (get_or_from_slice_get (numbers_of topology who) (get_or topology.places.items s (0, 0)).1 s 0 here)
-    (room (get_or topology.places.items s (0, 0)).1 (slice_get_within (numbers_of topology who) (get_or topology.places.items s (0, 0)).1 s here))
+-- room in the lane away from each of a box's numbers is room away from each of its slots
+pub room_from : (lanes : List Lane) (topology : Topology) (who most : ℕ) → ((local : ℕ) → local < length (numbers_of topology who) → HasRoom lanes (lane_by topology (far (get_or (numbers_of topology who) local 0))) most)
+    → (local : ℕ) → HasRoomFor lanes topology who local most
+room_from lanes topology who most room local s is =
+    subst (λ (t : ℕ). HasRoom lanes (lane_by topology (far t)) most) (get_or_from_slice_get (numbers_of topology who) local s 0 is) (room local (slice_get_within (numbers_of topology who) local s is))

@@ -1,5 +1,5 @@
 -- Lanes as they change, by the tables of a world.
-use Rattle.std.specs.Prelude.{ℕ, Bool, if◌then◌else◌, ◌≡◌, ◌+◌, ◌*◌, ◌/◌, ◌%◌, ◌^◌, ◌<◌, ◌≤◌, List, [], ◌∷◌, ◌++◌, drop, fold, length, map, position, slice_index_or, slice_set, HoldsAt, Some, unwrap_or}
+use Rattle.std.specs.Prelude.{ℕ, Bool, if◌then◌else◌, ◌≡◌, ◌+◌, ◌*◌, ◌/◌, ◌%◌, ◌^◌, ◌<◌, ◌≤◌, List, [], ◌∷◌, ◌++◌, All, drop, fold, length, map, position, slice_index_or, slice_set, HoldsAt, Some, unwrap_or}
 use Rattle.std.specs.List.{slice_get}
 use Rattle.std.specs.Option.{option_map}
 use Rattle.mc_lane.specs.Queue.{Queue}
@@ -75,6 +75,10 @@ relay topology who lanes lane sent = all_sent topology who (without_front lanes 
 abbrev pub HasRoom : List (Queue Tagged) → ℕ → ℕ → Type 0
 HasRoom lanes lane count = HoldsAt (λ queue. count ≤ queue.spare) lanes lane
 
--- and so has each lane that leads away from one of the first slots, where it is the box's
-abbrev pub HasRoomFrom : List (Queue Tagged) → Topology → ℕ → ℕ → ℕ → Type 0
-HasRoomFrom lanes topology who first count = (s : ℕ) → s < first → (slice_index_or topology.places.items s (0, 0)).0 ≡ who → HasRoom lanes (lane_by topology (far s)) count
+-- and so has the lane that leads away from a box's slot
+abbrev pub HasRoomFor : List (Queue Tagged) → Topology → ℕ → ℕ → ℕ → Type 0
+HasRoomFor lanes topology who local count = (s : ℕ) → slice_get (numbers_of topology who) local ≡ Some s → HasRoom lanes (lane_by topology (far s)) count
+
+-- for each slot by which a box sends
+abbrev pub HasRoomFrom : List (Queue Tagged) → Topology → ℕ → List (ℕ × Signal) → ℕ → Type 0
+HasRoomFrom lanes topology who sent count = All (λ sending. HasRoomFor lanes topology who sending.0 count) sent

@@ -1,8 +1,9 @@
 // Lanes as they change, each given by its place among all lanes.
 
-ghost use Rattle.std.specs.Prelude.{◌≡◌, ℕ, ◌+◌, ◌<◌, true, [], drop, length, slice_index_or, OnOk};
+ghost use Rattle.std.specs.Prelude.{◌≡◌, ℕ, ◌+◌, ◌<◌, true, [], drop, length, slice_index_or, IfSome, OnOk};
 ghost use Rattle.mc_slot.specs.Sending.{sends_of};
-ghost use Rattle.mc_world.specs.Lanes.{signals_of, lane_by, without_front, one_sent, all_sent, relay, with_sending, IsLaid, HasRoom, HasRoomFrom};
+ghost use Rattle.mc_model.specs.Worlds.{far};
+ghost use Rattle.mc_world.specs.Lanes.{signals_of, lane_by, without_front, one_sent, all_sent, relay, with_sending, IsLaid, HasRoom, HasRoomFor, HasRoomFrom};
 ghost use Rattle.mc_world.specs.Waiting.{waits_by, FirstServed, IsWaiting};
 
 use crate::topology::{Topology, far};
@@ -21,10 +22,35 @@ pub fn make_room(
 ) -> Result<(), AllocError>
     requires { IsLaid topology.now (length lanes.old) }
     ensures same { signals_of lanes.new ≡ signals_of lanes.old }
-    ensures room { OnOk result (HasRoomFrom lanes.new topology.now who (length topology.now.places.items) most) }
+    ensures room { OnOk result ((local : ℕ) → HasRoomFor lanes.new topology.now who local most) }
 {
     for slot in topology.numbers(who) {
         let (lane, _) = topology.toward(far(*slot));
+        reserve(lanes, lane, most)?;
+    }
+    Ok(())
+}
+
+/// Makes room in the lane that leads away from a slot, and in the one away from the slot that it is linked with: a
+/// Take sends by no other.
+pub fn make_room_by(
+    lanes: &mut [Lane<Tagged>],
+    topology: &Topology,
+    slot: u32,
+    partner: Option<u32>,
+    most: usize,
+) -> Result<(), AllocError>
+    requires laid { IsLaid topology.now (length lanes.old) }
+    requires here { slot < length topology.now.places.items }
+    requires partner { IfSome partner (λ partner. partner < length topology.now.places.items) }
+    ensures same { signals_of lanes.new ≡ signals_of lanes.old }
+    ensures own { OnOk result (HasRoom lanes.new (lane_by topology.now (far slot)) most) }
+    ensures linked { OnOk result (IfSome partner (λ partner. HasRoom lanes.new (lane_by topology.now (far partner)) most)) }
+{
+    let (lane, _) = topology.toward(far(slot));
+    reserve(lanes, lane, most)?;
+    if let Some(partner) = partner {
+        let (lane, _) = topology.toward(far(partner));
         reserve(lanes, lane, most)?;
     }
     Ok(())
@@ -41,7 +67,7 @@ pub fn send_all(
 )
     requires laid { IsLaid topology.now (length lanes.old) }
     requires waiting { IsWaiting topology.now (signals_of lanes.old) waiting.old }
-    requires room { HasRoomFrom lanes.old topology.now who (length topology.now.places.items) sends.now.len }
+    requires room { HasRoomFrom lanes.old topology.now who (sends_of sends.now) sends.now.len }
     ensures sent { signals_of lanes.new ≡ all_sent topology.now who (signals_of lanes.old) (sends_of sends.now) }
     ensures waiting { IsWaiting topology.now (signals_of lanes.new) waiting.new }
 {
@@ -60,7 +86,7 @@ pub fn send_lane(
 )
     requires laid { IsLaid topology.now (length lanes.old) }
     requires waiting { IsWaiting topology.now (signals_of lanes.old) waiting.old }
-    requires room { HasRoomFrom lanes.old topology.now who (length topology.now.places.items) (length sends.now.items) }
+    requires room { HasRoomFrom lanes.old topology.now who sends.now.items (length sends.now.items) }
     ensures sent { signals_of lanes.new ≡ all_sent topology.now who (signals_of lanes.old) sends.now.items }
     ensures waiting { IsWaiting topology.now (signals_of lanes.new) waiting.new }
 {
@@ -84,7 +110,7 @@ pub fn relay(
     requires here { slot < length topology.now.places.items }
     requires some { waits_by topology.now (signals_of lanes.old) slot ≡ true }
     requires served { FirstServed topology.now (lane_by topology.now slot) (drop 1 (slice_index_or (signals_of lanes.old) (lane_by topology.now slot) [])) }
-    requires room { HasRoomFrom lanes.old topology.now who (length topology.now.places.items) sends.now.len }
+    requires room { HasRoomFrom lanes.old topology.now who (sends_of sends.now) sends.now.len }
     ensures sent { signals_of lanes.new ≡ relay topology.now who (signals_of lanes.old) (lane_by topology.now slot) (sends_of sends.now) }
     ensures waiting { IsWaiting topology.now (signals_of lanes.new) waiting.new }
 {
@@ -137,7 +163,7 @@ fn send(
 )
     requires laid { IsLaid topology.now (length lanes.old) }
     requires waiting { IsWaiting topology.now (signals_of lanes.old) waiting.old }
-    requires room { HasRoomFrom lanes.old topology.now who (length topology.now.places.items) 1 }
+    requires room { HasRoomFor lanes.old topology.now who local 1 }
     ensures sent { signals_of lanes.new ≡ one_sent topology.now who (signals_of lanes.old) (local, signal) }
     ensures waiting { IsWaiting topology.now (signals_of lanes.new) waiting.new }
     ensures room { (k count : ℕ) → HasRoom lanes.old k (count + 1) → HasRoom lanes.new k count }

@@ -8,7 +8,7 @@ ghost use Rattle.mc_model.specs.Steps.{ends_version_at, step, step_by};
 ghost use Rattle.mc_world.specs.declared.network.step.StepFault.TheVariants.{NoMemory};
 
 use super::World;
-use crate::lanes::{make_room, relay, send_lane};
+use crate::lanes::{make_room, make_room_by, relay, send_lane};
 use mc_box::limit::LAST_VERSION;
 use mc_box::{Event, MediaBox, MediaChange};
 use mc_lane::Lane;
@@ -76,7 +76,8 @@ impl World {
         let Some(signal) = self.front(slot) else {
             return Err(StepFault::NotEnabled);
         };
-        make_room(&mut self.lanes, &self.topology, who, SENDS_LIMIT)?;
+        let partner = self.partner(slot);
+        make_room_by(&mut self.lanes, &self.topology, slot, partner, SENDS_LIMIT)?;
         let actor = &mut self.boxes[who as usize];
         let sends = actor.take(local, signal);
         relay(

@@ -4,5 +4,5 @@ use Rattle.mc_world.proofs.lanes.make_room.Goals as goal
 
 pub returns-clause-room : goal.returns-clause-room
 returns-clause-room c =
-    room_from c.loop-slot.lanes c.args.topology.now (length c.args.lanes.now) c.args.who c.args.most c.requires
+    room_from c.loop-slot.lanes c.args.topology.now c.args.who c.args.most
     (λ local inside. c.loop-slot.invariant.room local (omega (arith, inside, c.loop-slot-test.false, ap length c.numbers-slot-items.ensures)))

@@ -1,4 +1,4 @@
-use Rattle.std.proofs.Common.{◌≡◌, ◌∙◌, ap, subst, sym, ℕ, length, drop, get_or, List, [], Some}
+use Rattle.std.proofs.Common.{◌≡◌, ◌∙◌, ap, subst, sym, ℕ, length, drop, get_or, position, List, [], Some}
 use Rattle.std.proofs.lemmas.Result.{err_from_is_err_and}
 use Rattle.std.proofs.lemmas.List.{length-set}
 use Rattle.std.specs.Vec.{with_item, with_items}
@@ -11,7 +11,7 @@ use Rattle.mc_box.specs.Boxes.{BoxState}
 use Rattle.mc_world.specs.Lanes.{IsLaid, all_sent, lane_by, signals_of, without_front}
 use Rattle.mc_model.specs.Steps.{step_by}
 use Rattle.mc_world.specs.Tables.{world_state}
-use Rattle.mc_model.specs.Worlds.{WorldState, box_at, lane_of, number}
+use Rattle.mc_model.specs.Worlds.{WorldState, box_at, far, is_place, lane_of, number}
 use Rattle.mc_box.specs.declared.event.Event.TheVariants.{Take}
 use Rattle.mc_world.proofs.LaneChanges.{Lane, length_kept, room_kept, signals_kept, signals_written, twice_refilled}
 use Rattle.mc_laws.proofs.Numbers.{number_is}
@@ -19,17 +19,18 @@ use Rattle.mc_laws.proofs.StepKeeps.{front_is_taken}
 use Rattle.mc_world.proofs.Tables.{box_read}
 use Rattle.mc_world.proofs.TopologyLanes.{lane_same, tables_laid}
 use Rattle.mc_world.proofs.WorldSteps.{number_inside, number_slot, step_tables, take_enabled, take_made}
+use Rattle.mc_world.proofs.TakeSends.{take_room}
 use Rattle.mc_world.proofs.Waits.{behind_served}
 use Rattle.mc_world.proofs.network.World.take.Goals as goal
 
-pub make_room-requires : goal.make_room-requires
-make_room-requires c =
+pub make_room_by-requires-clause-laid : goal.make_room_by-requires-clause-laid
+make_room_by-requires-clause-laid c =
     subst (λ (n : ℕ). IsLaid c.self.inside.topology n) (sym (ap (λ (l : List Lane). length l) c.deref_mut.ensures.value)) (tables_laid c.self.inside c.self.invariant)
 
-pub returns-in_err-make_room : goal.returns-in_err-make_room
-returns-in_err-make_room c =
+pub returns-in_err-make_room_by : goal.returns-in_err-make_room_by
+returns-in_err-make_room_by c =
     let p = err_from_is_err_and c.from_residual.result c.from_residual.ensures.1 in
-    let lanes = signals_kept c.self.inside.lanes c.deref_mut.result.now c.make_room.new.lanes c.deref_mut.ensures.value c.make_room.auto.lanes c.make_room.ensures.same in
+    let lanes = signals_kept c.self.inside.lanes c.deref_mut.result.now c.make_room_by.new.lanes c.deref_mut.ensures.value c.make_room_by.auto.lanes c.make_room_by.ensures.same in
     rw (p.1, p.2) (
       take_enabled c.args.self.now c.args.who c.args.local c.in-Some.slot c.in-Some-front.signal c.requires.sound (sym c.number.ensures ∙ c.in-Some.is) (sym c.front.ensures ∙ c.in-Some-front.is),
       ap (λ (l : List (List Tagged)). record (world_state c.self.inside) { lanes = l }) lanes ∙ c.self.view_is,
@@ -51,27 +52,34 @@ take-sends-requires-clause-lawful c =
 pub relay-requires-clause-laid : goal.relay-requires-clause-laid
 relay-requires-clause-laid c =
     subst (λ (n : ℕ). IsLaid c.self.inside.topology n)
-    (sym (length_kept c.self.inside.lanes c.deref_mut.result.now c.make_room.new.lanes c.deref_mut-2.result.now c.deref_mut.ensures.value c.make_room.auto.lanes c.deref_mut-2.ensures.value))
+    (sym (length_kept c.self.inside.lanes c.deref_mut.result.now c.make_room_by.new.lanes c.deref_mut-2.result.now c.deref_mut.ensures.value c.make_room_by.auto.lanes c.deref_mut-2.ensures.value))
     (tables_laid c.self.inside c.self.invariant)
 
 pub relay-requires-clause-room : goal.relay-requires-clause-room
-relay-requires-clause-room c =
-    room_kept c.self.inside.lanes c.deref_mut.result.now c.make_room.new.lanes c.deref_mut-2.result.now c.self.inside.topology c.args.who (length c.self.inside.topology.places.items) SENDS_LIMIT c.take-sends.result.len
-    c.deref_mut.ensures.value c.make_room.auto.lanes c.deref_mut-2.ensures.value c.take-sends.result.short c.in_ok-make_room.ensures.room
+relay-requires-clause-room c k d below s is =
+    let actor = box_read c.self.inside c.args.self.now c.args.who c.index_mut-actor.result.now c.self.view_is c.requires.here c.index_mut-actor.ensures.value in
+    let goes : box_event (box_at c.args.self.now c.args.who) (Take c.args.local) (Some c.in-Some-front.signal) ≡ Some (record { sent = sends_of c.take-sends.result; after = c.take-sends.new.self }) =
+    subst (λ (box : BoxState). box_event box (Take c.args.local) (Some c.in-Some-front.signal) ≡ Some (record { sent = sends_of c.take-sends.result; after = c.take-sends.new.self })) actor c.take-sends.ensures.event in
+    room_kept c.self.inside.lanes c.deref_mut.result.now c.make_room_by.new.lanes c.deref_mut-2.result.now (lane_by c.self.inside.topology (far s)) SENDS_LIMIT c.take-sends.result.len
+    c.deref_mut.ensures.value c.make_room_by.auto.lanes c.deref_mut-2.ensures.value c.take-sends.result.short
+    (take_room c.args.self.now c.self.inside.topology c.make_room_by.new.lanes c.args.who c.args.local c.in-Some.slot SENDS_LIMIT c.partner-partner.result c.in-Some-front.signal _ (c.requires.sound.boxes c.args.who c.requires.here) goes
+    (sym c.number.ensures ∙ c.in-Some.is) c.partner-partner.ensures.partner
+    (λ other. c.self.invariant.found c.args.who other ∙ (ap (position (is_place (c.args.who, other))) c.self.invariant.places ∙ ap (λ (w : WorldState). number w c.args.who other) c.self.view_is))
+    c.in_ok-make_room_by.ensures.own c.in_ok-make_room_by.ensures.linked k d below s is)
 
 -- the world that was left is the next one
 stepped : (c : goal.After-self-3-1) → step_by c.args.self.now c.args.who (Take c.args.local)
     ≡ Some (world_state (record c.self.inside {
       boxes = with_item c.self.inside.boxes c.args.who c.take-sends.new.self;
-      lanes = with_items (with_items c.self.inside.lanes c.make_room.new.lanes) c.relay.new.lanes;
+      lanes = with_items (with_items c.self.inside.lanes c.make_room_by.new.lanes) c.relay.new.lanes;
       waiting = c.relay.new.waiting;
     }))
 stepped c =
-    let lanes : signals_of (with_items (with_items c.self.inside.lanes c.make_room.new.lanes) c.relay.new.lanes).items
+    let lanes : signals_of (with_items (with_items c.self.inside.lanes c.make_room_by.new.lanes) c.relay.new.lanes).items
     ≡ all_sent c.self.inside.topology c.args.who (without_front (signals_of c.self.inside.lanes.items) (lane_by c.self.inside.topology c.in-Some.slot)) (sends_of c.take-sends.result) =
-    signals_written c.self.inside.lanes c.deref_mut.result.now c.make_room.new.lanes c.deref_mut-2.result.now c.relay.new.lanes
+    signals_written c.self.inside.lanes c.deref_mut.result.now c.make_room_by.new.lanes c.deref_mut-2.result.now c.relay.new.lanes
     (λ (lanes : List (List Tagged)). all_sent c.self.inside.topology c.args.who (without_front lanes (lane_by c.self.inside.topology c.in-Some.slot)) (sends_of c.take-sends.result))
-    c.deref_mut.ensures.value c.make_room.auto.lanes c.make_room.ensures.same c.deref_mut-2.ensures.value c.relay.auto.lanes c.relay.ensures.sent in
+    c.deref_mut.ensures.value c.make_room_by.auto.lanes c.make_room_by.ensures.same c.deref_mut-2.ensures.value c.relay.auto.lanes c.relay.ensures.sent in
     let actor = box_read c.self.inside c.args.self.now c.args.who c.index_mut-actor.result.now c.self.view_is c.requires.here c.index_mut-actor.ensures.value in
     let goes : box_event (box_at c.args.self.now c.args.who) (Take c.args.local) (Some c.in-Some-front.signal) ≡ Some (record { sent = sends_of c.take-sends.result; after = c.take-sends.new.self }) =
     subst (λ (box : BoxState). box_event box (Take c.args.local) (Some c.in-Some-front.signal) ≡ Some (record { sent = sends_of c.take-sends.result; after = c.take-sends.new.self })) actor c.take-sends.ensures.event in
@@ -85,9 +93,9 @@ returns c = stepped c
 
 pub invariant_of-self-2 : goal.invariant_of-self-2
 invariant_of-self-2 c =
-    let lanes = twice_refilled c.self.inside.lanes c.deref_mut.result.now c.make_room.new.lanes c.deref_mut-2.result.now c.relay.new.lanes c.deref_mut.ensures.value c.make_room.auto.lanes c.deref_mut-2.ensures.value c.relay.auto.lanes in
+    let lanes = twice_refilled c.self.inside.lanes c.deref_mut.result.now c.make_room_by.new.lanes c.deref_mut-2.result.now c.relay.new.lanes c.deref_mut.ensures.value c.make_room_by.auto.lanes c.deref_mut-2.ensures.value c.relay.auto.lanes in
     step_tables c.self.inside c.args.self.now c.args.who (Take c.args.local)
-    (with_item c.self.inside.boxes c.args.who c.take-sends.new.self) (with_items (with_items c.self.inside.lanes c.make_room.new.lanes) c.relay.new.lanes) c.relay.new.waiting
+    (with_item c.self.inside.boxes c.args.who c.take-sends.new.self) (with_items (with_items c.self.inside.lanes c.make_room_by.new.lanes) c.relay.new.lanes) c.relay.new.waiting
     c.self.invariant c.self.view_is c.requires.here (length-set c.self.inside.boxes.items c.args.who c.take-sends.new.self)
     (subst (λ (l : List Lane). IsWaiting c.self.inside.topology (signals_of l) c.relay.new.waiting) (sym lanes) c.relay.ensures.waiting) (stepped c)
 
@@ -96,6 +104,6 @@ relay-requires-clause-served c =
     let lane : ℕ = lane_by c.self.inside.topology c.in-Some.slot in
     let same : signals_of c.deref_mut-2.result.now ≡ signals_of c.self.inside.lanes.items =
     ap (λ (l : List Lane). signals_of l) c.deref_mut-2.ensures.value
-    ∙ signals_kept c.self.inside.lanes c.deref_mut.result.now c.make_room.new.lanes c.deref_mut.ensures.value c.make_room.auto.lanes c.make_room.ensures.same in
+    ∙ signals_kept c.self.inside.lanes c.deref_mut.result.now c.make_room_by.new.lanes c.deref_mut.ensures.value c.make_room_by.auto.lanes c.make_room_by.ensures.same in
     subst (λ (l : List (List Tagged)). FirstServed c.self.inside.topology lane (drop 1 (get_or l lane []))) (sym same)
     (behind_served c.self.inside lane (get_or (signals_of c.self.inside.lanes.items) lane []) c.self.invariant (c.self.invariant.sound.served lane))
