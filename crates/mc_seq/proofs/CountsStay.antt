@@ -1,6 +1,7 @@
--- A turn changes the candidates of few boxes: of its own, and of those at the far ends of its slots.
-use Rattle.std.proofs.Common.{◌≡◌, ◌≢◌, ◌<◌, ◌++◌, ◌==◌, cond, if◌then◌else◌, nat_lt, ℕ, Bool, true, false, List, [], ◌∷◌, length, position, Option, Some, None, refl, ap, sym, ◌∙◌, subst, arith}
+-- A turn changes the candidates of few boxes: of its own, and of those at the far ends of its slots; and only a command changes which command is next, of its own box.
+use Rattle.std.proofs.Common.{◌≡◌, ◌≢◌, ◌<◌, ◌++◌, ◌==◌, cond, if◌then◌else◌, nat_lt, ℕ, Bool, true, false, List, [], ◌∷◌, length, position, Vec, Option, Some, None, refl, ap, sym, ◌∙◌, subst, arith}
 use Rattle.std.specs.Option.{is_some, option_and_then, option_map, option_to_list}
+use Rattle.std.specs.declared.alloc.Global.{Global}
 use Rattle.std.proofs.Math.ListN.{get_or}
 use Rattle.std.proofs.lemmas.Grind.{common_steps}
 use Rattle.mc_box.specs.BoxEvents.{is_command}
@@ -17,10 +18,10 @@ use Rattle.mc_laws.proofs.Numbers.{box_inside, number_is}
 use Rattle.mc_laws.proofs.ShapesKept.{step_keeps_shape}
 use Rattle.mc_laws.proofs.StepActs.{take_happened}
 use Rattle.mc_laws.proofs.TakeParts.{take_goals_stay}
-use Rattle.mc_seq.specs.Counts.{AreCounted, HasSlot, IsAside, IsCounted, IsUntouched, far_box}
+use Rattle.mc_seq.specs.Counts.{AreListed, HasSlot, IsAside, IsCounted, IsCountedBut, IsUntouched, KeepsCommands, far_box}
 use Rattle.mc_seq.specs.ForEach.{for_each}
 use Rattle.mc_seq.specs.Ready.{IsAway, IsOff}
-use Rattle.mc_seq.specs.Schedule.{candidates_of, left_by, next_of, take_turn, takes_of, waiting_take, without_next}
+use Rattle.mc_seq.specs.Schedule.{candidates_of, commands_of, left_by, next_of, take_turn, takes_of, waiting_take, without_next}
 use Rattle.mc_world.specs.Waiting.{take_waits}
 use Rattle.mc_seq.specs.declared.counting.Counts.{Counts}
 use Rattle.mc_seq.proofs.ForEach.{each_same}
@@ -115,17 +116,20 @@ next_stays : (who other : ℕ) (left : List Turn) → other ≢ who → next_of 
 next_stays who other [] apart = refl
 next_stays who other (turn ∷ left) apart = next_by (turn.who == who) turn left (without_next who left) who other refl apart (next_stays who other left apart)
 
-left_stays : (command : Bool) (who other : ℕ) (left : List Turn) → other ≢ who → next_of other (if command then without_next who left else left) ≡ next_of other left
-left_stays true who other left apart = next_stays who other left apart
-left_stays false who other left apart = refl
+left_stays : (command : Bool) (who other : ℕ) (left : List Turn) → (command ≡ true → other ≢ who) → next_of other (if command then without_next who left else left) ≡ next_of other left
+left_stays true who other left keeps = next_stays who other left (keeps refl)
+left_stays false who other left keeps = refl
+
+commands_stay : (turn : Turn) (left : List Turn) (other : ℕ) → KeepsCommands turn.who turn.event other → commands_of (left_by turn left) other ≡ commands_of left other
+commands_stay turn left other keeps = ap (λ (o : Option Turn). option_to_list o) (left_stays (is_command turn.event) turn.who other left keeps)
 
 -- ---- both
 
-pub candidates_stay : (world next : WorldState) (turn : Turn) (left : List Turn) (urgent : Bool) (other : ℕ) → IsSound world → step world turn ≡ Some next → IsUntouched world turn.who turn.event other
-    → candidates_of next (left_by turn left) urgent other ≡ candidates_of world left urgent other
-candidates_stay world next turn left urgent other sound goes untouched =
-    ap (λ (o : Option Turn). option_to_list o ++ (if urgent then [] else takes_of next other)) (left_stays (is_command turn.event) turn.who other left (other_by turn.event world turn.who other untouched))
-    ∙ ap (λ (takes : List Turn). option_to_list (next_of other left) ++ (if urgent then [] else takes)) (takes_stay world next turn other sound goes untouched)
+pub candidates_stay : (world next : WorldState) (turn : Turn) (left : List Turn) (other : ℕ) → IsSound world → step world turn ≡ Some next → IsUntouched world turn.who turn.event other
+    → candidates_of next (left_by turn left) false other ≡ candidates_of world left false other
+candidates_stay world next turn left other sound goes untouched =
+    ap (λ (commands : List Turn). commands ++ takes_of next other) (commands_stay turn left other (λ command. other_by turn.event world turn.who other untouched))
+    ∙ ap (λ (takes : List Turn). commands_of left other ++ takes) (takes_stay world next turn other sound goes untouched)
 
 -- ---- before and after
 
@@ -156,22 +160,24 @@ before_by (Tell word) world next who other sound goes shape aside = aside_before
 before_by (Retry local) world next who other sound goes shape aside = aside_before world next who other shape aside
 before_by Shift world next who other sound goes shape aside = aside_before world next who other shape aside
 
--- so those of boxes that a turn leaves are still counted
+-- so what a turn leaves is still counted
 pub untouched_counted : (world next : WorldState) (turn : Turn) (left : List Turn) (counts : Counts) → IsSound world → step world turn ≡ Some next → IsCounted world left counts
-    → AreCounted (IsUntouched next turn.who turn.event) next (left_by turn left) counts
+    → IsCountedBut next (left_by turn left) turn counts
 untouched_counted world next turn left counts sound goes counted =
     let shape = step_keeps_shape world next turn sound goes in
     record {
-      all = counted.all;
-      all_long = counted.all_long ∙ sym shape.boxes;
-      all_right = λ who below untouched.
-          counted.all_right who (subst (λ (n : ℕ). who < n) shape.boxes below) tt
-          ∙ ap (λ (turns : List Turn). length turns) (sym (candidates_stay world next turn left false who sound goes (before_by turn.event world next turn.who who sound goes shape untouched)));
-      commands = counted.commands;
-      commands_long = counted.commands_long ∙ sym shape.boxes;
-      commands_right = λ who below untouched.
-          counted.commands_right who (subst (λ (n : ℕ). who < n) shape.boxes below) tt
-          ∙ ap (λ (turns : List Turn). length turns) (sym (candidates_stay world next turn left true who sound goes (before_by turn.event world next turn.who who sound goes shape untouched)));
+      all = record {
+        tree = counted.all.tree;
+        long = counted.all.long ∙ sym shape.boxes;
+        right = λ who below untouched.
+            counted.all.right who (subst (λ (n : ℕ). who < n) shape.boxes below) tt
+            ∙ ap (λ (turns : List Turn). length turns) (sym (candidates_stay world next turn left who sound goes (before_by turn.event world next turn.who who sound goes shape untouched)));
+      };
+      commands = record {
+        tree = counted.commands.tree;
+        long = counted.commands.long ∙ sym shape.boxes;
+        right = λ who below keeps. counted.commands.right who (subst (λ (n : ℕ). who < n) shape.boxes below) tt ∙ ap (λ (turns : List Turn). length turns) (sym (commands_stay turn left who keeps));
+      };
     }
 
 -- ---- the turn's own box
@@ -216,5 +222,6 @@ untouched_by (Tell word) world who other numbered aside = aside
 untouched_by (Retry local) world who other numbered aside = aside
 untouched_by Shift world who other numbered aside = aside
 
-pub aside_counted : (event : Event) (world : WorldState) (left : List Turn) (counts : Counts) (who : ℕ) → IsNumbered world → AreCounted (IsUntouched world who event) world left counts → AreCounted (IsAside world who) world left counts
-aside_counted event world left counts who numbered counted = weaker (IsUntouched world who event) (IsAside world who) world left counts (λ other aside. untouched_by event world who other numbered aside) counted
+pub aside_counted : (event : Event) (world : WorldState) (left : List Turn) (levels : List (Vec ℕ Global)) (who : ℕ) → IsNumbered world → AreListed (IsUntouched world who event) world left levels → AreListed (IsAside world who) world left levels
+aside_counted event world left levels who numbered counted =
+    weaker (IsUntouched world who event) (IsAside world who) (candidates_of world left false) (length world.boxes) levels (λ other aside. untouched_by event world who other numbered aside) counted

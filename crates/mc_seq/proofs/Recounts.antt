@@ -5,16 +5,16 @@ use Rattle.std.proofs.lemmas.Grind.{common_steps}
 use Rattle.mc_text.specs.Draws.{next_state}
 use Rattle.std.proofs.Math.ListN.{get_or, set, length-set}
 use Rattle.std.proofs.lemmas.Bool.{cases_eq}
-use Rattle.std.proofs.lemmas.List.{get_or-set_same, get_or-set_other}
+use Rattle.std.proofs.lemmas.List.{append-nil, get_or-set_same, get_or-set_other}
 use Rattle.mc_slot.specs.declared.Goal.{Goal}
 use Rattle.mc_slot.specs.declared.SlotGoal.TheVariants.{End, Link}
 use Rattle.mc_box.specs.Boxes.{goal_at}
 use Rattle.mc_box.specs.declared.event.Turn.{Turn}
 use Rattle.mc_model.specs.Sound.{IsNumbered}
 use Rattle.mc_model.specs.Worlds.{WorldState, box_at, number}
-use Rattle.mc_seq.specs.Counts.{AreCounted, CountsWhere, IsApart, IsBeside, IsCounted, IsRecounted, IsTree, far_box, levels_by}
+use Rattle.mc_seq.specs.Counts.{AnyBox, AreCounted, AreListed, IsApart, IsBeside, IsCounted, IsRecounted, IsTree, far_box, levels_by}
 use Rattle.mc_seq.specs.Ready.{CountsCandidates}
-use Rattle.mc_seq.specs.Schedule.{Standing, all_candidates, candidates, candidates_of, drawn_turn, is_urgent}
+use Rattle.mc_seq.specs.Schedule.{Standing, all_candidates, candidates, candidates_of, commands_of, drawn_turn, is_urgent}
 use Rattle.mc_seq.specs.Sums.{AreSums, counts_of, level_at, levels_of}
 use Rattle.mc_seq.specs.declared.counting.Counts.{Counts}
 use Rattle.mc_seq.proofs.Kth.{count_is}
@@ -25,7 +25,7 @@ use Rattle.mc_seq.proofs.TreeSums.{sum_cons}
 
 -- a count that is made again is right, and the others are as they were
 right_by : (Before After : ℕ → Type 0) (f : ℕ → List Turn) (old new : List ℕ) (limit who : ℕ) → ((other : ℕ) → After other → other ≢ who → Before other) → length old ≡ limit → who < limit
-    → new ≡ set old who (length (f who)) → CountsWhere Before f old limit → CountsWhere After f new limit
+    → new ≡ set old who (length (f who)) → ((other : ℕ) → other < limit → Before other → get_or old other 0 ≡ length (f other)) → (other : ℕ) → other < limit → After other → get_or new other 0 ≡ length (f other)
 right_by Before After f old new limit who passes long inside is right other below after = elim (cases_eq other who) [
   | inl same ↦
       subst (λ (w : ℕ). get_or new w 0 ≡ length (f w)) (sym same)
@@ -34,15 +34,20 @@ right_by Before After f old new limit who passes long inside is right other belo
       ap (λ (l : List ℕ). get_or l other 0) is ∙ (get_or-set_other old who other (length (f who)) 0 apart ∙ right other below (passes other after apart))
 ]
 
-pub recounted : (Before After : ℕ → Type 0) (world : WorldState) (left : List Turn) (old new : Counts) (who : ℕ) → ((other : ℕ) → After other → other ≢ who → Before other) → who < length world.boxes
-    → AreCounted Before world left old → IsRecounted world left old new who → AreCounted After world left new
-recounted Before After world left old new who passes inside counted again = record {
-  all = again.all;
-  all_long = ap length again.all_is ∙ (length-set (counts_of old.all.items) who (length (candidates_of world left false who)) ∙ counted.all_long);
-  all_right = right_by Before After (candidates_of world left false) (counts_of old.all.items) (counts_of new.all.items) (length world.boxes) who passes counted.all_long inside again.all_is counted.all_right;
-  commands = again.commands;
-  commands_long = ap length again.commands_is ∙ (length-set (counts_of old.commands.items) who (length (candidates_of world left true who)) ∙ counted.commands_long);
-  commands_right = right_by Before After (candidates_of world left true) (counts_of old.commands.items) (counts_of new.commands.items) (length world.boxes) who passes counted.commands_long inside again.commands_is counted.commands_right;
+pub recounted : (Before After : ℕ → Type 0) (f : ℕ → List Turn) (limit : ℕ) (old new : List (Vec ℕ Global)) (who : ℕ) → ((other : ℕ) → After other → other ≢ who → Before other) → who < limit
+    → AreCounted Before f limit old → IsRecounted f old new who → AreCounted After f limit new
+recounted Before After f limit old new who passes inside counted again = record {
+  tree = again.tree;
+  long = ap length again.is ∙ (length-set (counts_of old) who (length (f who)) ∙ counted.long);
+  right = right_by Before After f (counts_of old) (counts_of new) limit who passes counted.long inside again.is counted.right;
+}
+
+-- less need be said
+pub weaker : (Before After : ℕ → Type 0) (f : ℕ → List Turn) (limit : ℕ) (levels : List (Vec ℕ Global)) → ((other : ℕ) → After other → Before other) → AreCounted Before f limit levels → AreCounted After f limit levels
+weaker Before After f limit levels passes counted = record {
+  tree = counted.tree;
+  long = counted.long;
+  right = λ who below after. counted.right who below (passes who after);
 }
 
 -- ---- the boxes of a turn
@@ -58,28 +63,17 @@ apart_less world who local far other is differs apart at from below = elim (case
   | inr later ↦ apart at (omega arith) below
 ]
 
-pub far_counted : (world : WorldState) (left : List Turn) (old new : Counts) (who last local far : ℕ) → far_box world who local ≡ Some far → far < length world.boxes
-    → AreCounted (IsDone world who last local) world left old → IsRecounted world left old new far → AreCounted (IsDone world who far (local + 1)) world left new
+pub far_counted : (world : WorldState) (left : List Turn) (old new : List (Vec ℕ Global)) (who last local far : ℕ) → far_box world who local ≡ Some far → far < length world.boxes
+    → AreListed (IsDone world who last local) world left old → IsRecounted (candidates_of world left false) old new far → AreListed (IsDone world who far (local + 1)) world left new
 far_counted world left old new who last local far is inside counted again =
-    recounted (IsDone world who last local) (IsDone world who far (local + 1)) world left old new far
+    recounted (IsDone world who last local) (IsDone world who far (local + 1)) (candidates_of world left false) (length world.boxes) old new far
     (λ other done differs. λ _. apart_less world who local far other is differs (done differs)) inside counted again
 
--- less need be said
-pub weaker : (Before After : ℕ → Type 0) (world : WorldState) (left : List Turn) (counts : Counts) → ((other : ℕ) → After other → Before other) → AreCounted Before world left counts → AreCounted After world left counts
-weaker Before After world left counts passes counted = record {
-  all = counted.all;
-  all_long = counted.all_long;
-  all_right = λ who below after. counted.all_right who below (passes who after);
-  commands = counted.commands;
-  commands_long = counted.commands_long;
-  commands_right = λ who below after. counted.commands_right who below (passes who after);
-}
-
 -- which may be the one that was counted last
-pub same_counted : (world : WorldState) (left : List Turn) (counts : Counts) (who last local far : ℕ) → far_box world who local ≡ Some far → far ≡ last
-    → AreCounted (IsDone world who last local) world left counts → AreCounted (IsDone world who last (local + 1)) world left counts
-same_counted world left counts who last local far is same counted =
-    weaker (IsDone world who last local) (IsDone world who last (local + 1)) world left counts
+pub same_counted : (world : WorldState) (left : List Turn) (levels : List (Vec ℕ Global)) (who last local far : ℕ) → far_box world who local ≡ Some far → far ≡ last
+    → AreListed (IsDone world who last local) world left levels → AreListed (IsDone world who last (local + 1)) world left levels
+same_counted world left levels who last local far is same counted =
+    weaker (IsDone world who last local) (IsDone world who last (local + 1)) (candidates_of world left false) (length world.boxes) levels
     (λ other done. λ differs. apart_less world who local far other is (λ e. differs (e ∙ same)) (done differs)) counted
 
 -- ---- the boxes of a Take
@@ -95,27 +89,27 @@ IsFar world who local other = (far_box world who local ≢ Some other) × IsBeyo
 some_apart : (a b : ℕ) → b ≢ a → Some a ≢ Some b
 some_apart a b apart same = apart (let e : b ≡ a = cc in e)
 
-pub take_own : (world : WorldState) (left : List Turn) (old new : Counts) (who local : ℕ) → who < length world.boxes → AreCounted (IsBeside world who local) world left old → IsRecounted world left old new who
-    → AreCounted (IsFar world who local) world left new
+pub take_own : (world : WorldState) (left : List Turn) (old new : List (Vec ℕ Global)) (who local : ℕ) → who < length world.boxes → AreListed (IsBeside world who local) world left old → IsRecounted (candidates_of world left false) old new who
+    → AreListed (IsFar world who local) world left new
 take_own world left old new who local inside counted again =
-    recounted (IsBeside world who local) (IsFar world who local) world left old new who (λ other far differs. record { apart = differs; slot = far.0; partner = far.1 }) inside counted again
+    recounted (IsBeside world who local) (IsFar world who local) (candidates_of world left false) (length world.boxes) old new who (λ other far differs. record { apart = differs; slot = far.0; partner = far.1 }) inside counted again
 
-pub take_far : (world : WorldState) (left : List Turn) (old new : Counts) (who local far : ℕ) → far_box world who local ≡ Some far → far < length world.boxes → AreCounted (IsFar world who local) world left old → IsRecounted world left old new far
-    → AreCounted (IsBeyond world who local) world left new
+pub take_far : (world : WorldState) (left : List Turn) (old new : List (Vec ℕ Global)) (who local far : ℕ) → far_box world who local ≡ Some far → far < length world.boxes → AreListed (IsFar world who local) world left old → IsRecounted (candidates_of world left false) old new far
+    → AreListed (IsBeyond world who local) world left new
 take_far world left old new who local far is inside counted again =
-    recounted (IsFar world who local) (IsBeyond world who local) world left old new far (λ other beyond differs. (λ leads. some_apart far other differs (sym is ∙ leads), beyond)) inside counted again
+    recounted (IsFar world who local) (IsBeyond world who local) (candidates_of world left false) (length world.boxes) old new far (λ other beyond differs. (λ leads. some_apart far other differs (sym is ∙ leads), beyond)) inside counted again
 
-pub take_mate : (world : WorldState) (left : List Turn) (old new : Counts) (who local mate far : ℕ) → goal_at (box_at world who) local ≡ Link mate → far_box world who mate ≡ Some far → far < length world.boxes
-    → AreCounted (IsBeyond world who local) world left old → IsRecounted world left old new far → IsCounted world left new
+pub take_mate : (world : WorldState) (left : List Turn) (old new : List (Vec ℕ Global)) (who local mate far : ℕ) → goal_at (box_at world who) local ≡ Link mate → far_box world who mate ≡ Some far → far < length world.boxes
+    → AreListed (IsBeyond world who local) world left old → IsRecounted (candidates_of world left false) old new far → AreListed AnyBox world left new
 take_mate world left old new who local mate far linked is inside counted again =
-    recounted (IsBeyond world who local) (λ other. Unit {0}) world left old new far
+    recounted (IsBeyond world who local) AnyBox (candidates_of world left false) (length world.boxes) old new far
     (λ other all differs. λ partner aims leads.
     let same : mate ≡ partner = cc (linked, aims) in
     some_apart far other differs (sym is ∙ (ap (far_box world who) same ∙ leads))) inside counted again
 
-pub take_end : (world : WorldState) (left : List Turn) (counts : Counts) (who local : ℕ) (goal : Goal) → goal_at (box_at world who) local ≡ End goal → AreCounted (IsBeyond world who local) world left counts → IsCounted world left counts
-take_end world left counts who local goal is counted =
-    weaker (IsBeyond world who local) (λ other. Unit {0}) world left counts (λ other all. λ mate aims leads. cc (is, aims)) counted
+pub take_end : (world : WorldState) (left : List Turn) (levels : List (Vec ℕ Global)) (who local : ℕ) (goal : Goal) → goal_at (box_at world who) local ≡ End goal → AreListed (IsBeyond world who local) world left levels → AreListed AnyBox world left levels
+take_end world left levels who local goal is counted =
+    weaker (IsBeyond world who local) AnyBox (candidates_of world left false) (length world.boxes) levels (λ other all. λ mate aims leads. cc (is, aims)) counted
 
 -- each slot of a box has its number
 pub has_number : (world : WorldState) (who local : ℕ) → IsNumbered world → who < length world.boxes → local < length (box_at world who).slots → number world who local ≡ None → ⊥
@@ -128,8 +122,11 @@ has_number world who local numbered here inside none =
 
 pub searched : (urgent : Bool) (world : WorldState) (left : List Turn) (counts : Counts) → IsCounted world left counts
     → AreSums (levels_of (levels_by counts urgent)) × CountsCandidates world left urgent (counts_of (levels_by counts urgent))
-searched true world left counts counted = (counted.commands.sums, record { long = counted.commands_long; counts = λ who below. counted.commands_right who below tt })
-searched false world left counts counted = (counted.all.sums, record { long = counted.all_long; counts = λ who below. counted.all_right who below tt })
+searched true world left counts counted = (
+  counted.commands.tree.sums,
+  record { long = counted.commands.long; counts = λ who below. counted.commands.right who below tt ∙ ap length (sym (append-nil (commands_of left who))) },
+)
+searched false world left counts counted = (counted.all.tree.sums, record { long = counted.all.long; counts = λ who below. counted.all.right who below tt })
 
 -- which counts all that is listed
 pub listed_count : (urgent : Bool) (world : WorldState) (left : List Turn) (counts : Counts) (levels : List (Vec ℕ Global)) (count : ℕ) → IsCounted world left counts → levels ≡ levels_by counts urgent → count ≡ sum (counts_of levels)

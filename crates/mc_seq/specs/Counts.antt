@@ -1,14 +1,15 @@
--- How many candidates each box has, in two trees of sums: with its Takes, and without.
+-- How many candidates each box has, in a tree of sums, and how many commands, in another.
 use Rattle.std.specs.Prelude.{◌≡◌, ◌≢◌, ◌<◌, ◌≤◌, ℕ, if◌then◌else◌, Bool, true, false, List, [], length, slice_index_or, slice_set, Option, Some, Vec}
 use Rattle.std.specs.Option.{option_map}
 use Rattle.std.specs.declared.alloc.Global.{Global}
 use Rattle.mc_slot.specs.declared.SlotGoal.TheVariants.{Link}
+use Rattle.mc_box.specs.BoxEvents.{is_command}
 use Rattle.mc_box.specs.Boxes.{goal_at}
 use Rattle.mc_box.specs.declared.event.Event.{Event}
 use Rattle.mc_box.specs.declared.event.Event.TheVariants.{Take}
 use Rattle.mc_box.specs.declared.event.Turn.{Turn}
 use Rattle.mc_model.specs.Worlds.{WorldState, box_at, far, number, place}
-use Rattle.mc_seq.specs.Schedule.{candidates_of}
+use Rattle.mc_seq.specs.Schedule.{candidates_of, commands_of}
 use Rattle.mc_seq.specs.Sums.{AreSums, counts_of, levels_of}
 use Rattle.mc_seq.specs.declared.counting.Counts.{Counts}
 
@@ -17,22 +18,24 @@ pub record IsTree (levels : List (List ℕ)) : Type 0 where
   pub sums : AreSums levels
   pub small : (who : ℕ) → slice_index_or (slice_index_or levels 0 []) who 0 ≤ 65
 
--- counts of what a function gives, for those numbers below a limit of which it is said
-abbrev pub CountsWhere : (ℕ → Type 0) → (ℕ → List Turn) → List ℕ → ℕ → Type 0
-CountsWhere Said f numbers limit = (who : ℕ) → who < limit → Said who → slice_index_or numbers who 0 ≡ length (f who)
-
--- both trees have the candidates of those boxes of which it is said
-pub record AreCounted (Said : ℕ → Type 0) (world : WorldState) (left : List Turn) (counts : Counts) : Type 0 where
-  pub all : IsTree (levels_of counts.all.items)
-  pub all_long : length (counts_of counts.all.items) ≡ length world.boxes
-  pub all_right : CountsWhere Said (candidates_of world left false) (counts_of counts.all.items) (length world.boxes)
-  pub commands : IsTree (levels_of counts.commands.items)
-  pub commands_long : length (counts_of counts.commands.items) ≡ length world.boxes
-  pub commands_right : CountsWhere Said (candidates_of world left true) (counts_of counts.commands.items) (length world.boxes)
+-- a tree that has how many turns a function gives, for those numbers below a limit of which it is said
+pub record AreCounted (Said : ℕ → Type 0) (f : ℕ → List Turn) (limit : ℕ) (levels : List (Vec ℕ Global)) : Type 0 where
+  pub tree : IsTree (levels_of levels)
+  pub long : length (counts_of levels) ≡ limit
+  pub right : (who : ℕ) → who < limit → Said who → slice_index_or (counts_of levels) who 0 ≡ length (f who)
 
 -- of each box
-abbrev pub IsCounted : WorldState → List Turn → Counts → Type 0
-IsCounted world left counts = AreCounted (λ who. Unit {0}) world left counts
+abbrev pub AnyBox : ℕ → Type 0
+AnyBox who = Unit {0}
+
+-- the candidates of those boxes of which it is said
+abbrev pub AreListed : (ℕ → Type 0) → WorldState → List Turn → List (Vec ℕ Global) → Type 0
+AreListed Said world left levels = AreCounted Said (candidates_of world left false) (length world.boxes) levels
+
+-- the candidates of each box are counted, and which of them are commands
+pub record IsCounted (world : WorldState) (left : List Turn) (counts : Counts) : Type 0 where
+  pub all : AreListed AnyBox world left counts.all.items
+  pub commands : AreCounted AnyBox (commands_of left) (length world.boxes) counts.commands.items
 
 -- ---- the boxes that a turn may change
 
@@ -63,12 +66,19 @@ IsUntouched world who event other = IsAside world who other
 abbrev pub HasSlot : WorldState → Turn → Type 0
 HasSlot world turn = (local : ℕ) → turn.event ≡ Take local → local < length (box_at world turn.who).slots
 
--- one box is counted anew
-pub record IsRecounted (world : WorldState) (left : List Turn) (old new : Counts) (who : ℕ) : Type 0 where
-  pub all : IsTree (levels_of new.all.items)
-  pub all_is : counts_of new.all.items ≡ slice_set (counts_of old.all.items) who (length (candidates_of world left false who))
-  pub commands : IsTree (levels_of new.commands.items)
-  pub commands_is : counts_of new.commands.items ≡ slice_set (counts_of old.commands.items) who (length (candidates_of world left true who))
+-- a box of which an event of this one leaves the commands: any of them, unless the event is a command itself
+abbrev pub KeepsCommands : ℕ → Event → ℕ → Type 0
+KeepsCommands who event other = is_command event ≡ true → other ≢ who
+
+-- what a turn leaves as it is, is counted
+pub record IsCountedBut (world : WorldState) (left : List Turn) (turn : Turn) (counts : Counts) : Type 0 where
+  pub all : AreListed (IsUntouched world turn.who turn.event) world left counts.all.items
+  pub commands : AreCounted (KeepsCommands turn.who turn.event) (commands_of left) (length world.boxes) counts.commands.items
+
+-- one number is counted anew
+pub record IsRecounted (f : ℕ → List Turn) (old new : List (Vec ℕ Global)) (who : ℕ) : Type 0 where
+  pub tree : IsTree (levels_of new)
+  pub is : counts_of new ≡ slice_set (counts_of old) who (length (f who))
 
 -- the tree that a draw searches
 abbrev pub levels_by : Counts → Bool → List (Vec ℕ Global)

@@ -1,14 +1,15 @@
-// How many candidates each box has, in trees of sums, and which of them a turn may have changed.
+// How many candidates each box has, in trees of sums, and which of these counts a turn may have changed.
 
-ghost use Rattle.std.specs.Prelude.{◌≡◌, ℕ, ◌<◌, ◌≤◌, ◌^◌, length, slice_index_or, slice_set, IfOk, Some};
+ghost use Rattle.std.specs.Prelude.{◌≡◌, ℕ, ◌<◌, ◌≤◌, ◌^◌, false, length, slice_index_or, slice_set, IfOk, Some};
 ghost use Rattle.mc_box.specs.Boxes.{goal_at};
 ghost use Rattle.mc_model.specs.Worlds.{box_at};
 ghost use Rattle.mc_seq.specs.Commands.{AreKept, left_of};
-ghost use Rattle.mc_seq.specs.Counts.{AreCounted, HasSlot, IsAside, IsBeside, IsCounted, IsRecounted, IsTree, IsUntouched, far_box, levels_by};
+ghost use Rattle.mc_seq.specs.Counts.{AnyBox, AreCounted, AreListed, HasSlot, IsAside, IsBeside, IsCounted, IsCountedBut, IsRecounted, IsTree, KeepsCommands, far_box, levels_by};
 ghost use Rattle.mc_seq.specs.Ready.{CountsCandidates};
-ghost use Rattle.mc_seq.specs.Schedule.{candidates_of, takes_of};
-ghost use Rattle.mc_seq.specs.Sums.{counts_of, levels_of};
+ghost use Rattle.mc_seq.specs.Schedule.{candidates_of, commands_of, takes_of};
+ghost use Rattle.mc_seq.specs.Sums.{CountsEach, counts_of, levels_of};
 
+use crate::batches::is_command;
 use crate::commands::{Commands, next_command};
 use crate::finding::{slots_of, takes_at};
 use crate::sums::{count_at, put, tree};
@@ -17,7 +18,7 @@ use mc_slot::SlotGoal;
 use mc_world::World;
 use std::alloc::{AllocError, Global};
 
-// Of each box, how many candidates it has, and how many of them are commands.
+// Of each box, how many candidates it has, and how many of them are commands, of which a Take changes none.
 #[derive(Debug, Drop)]
 pub struct Counts {
     pub all: Vec<Vec<u64>>,
@@ -29,62 +30,75 @@ pub fn count_all(alloc: Global, world: &World, left: &Commands) -> Result<Counts
     requires { AreKept left.now }
     ensures { IfOk result (IsCounted world.now (left_of left.now)) }
 {
-    let listed = box_counts(alloc, world, left, false)?;
-    let urgent = box_counts(alloc, world, left, true)?;
+    let listed = candidate_counts(alloc, world, left)?;
+    let urgent = command_counts(alloc, world, left)?;
     let all = tree(alloc, listed)?;
     let commands = tree(alloc, urgent)?;
     Ok(Counts { all, commands })
 }
 
-// Counts the candidates of those boxes again that a turn may have changed.
+// Counts what a turn may have changed again.
 pub fn recount(counts: &mut Counts, world: &World, left: &Commands, turn: Turn)
     requires here { turn.who < length world.now.boxes }
     requires inside { HasSlot world.now turn }
     requires kept { AreKept left.now }
-    requires counted { AreCounted (IsUntouched world.now turn.who turn.event) world.now (left_of left.now) counts.old }
+    requires counted { IsCountedBut world.now (left_of left.now) turn counts.old }
     ensures { IsCounted world.now (left_of left.now) counts.new }
 {
     world.keeps();
+    recount_commands(&mut counts.commands, left, turn);
     match turn.event {
-        Event::Take(local) => recount_take(counts, world, left, turn.who, local),
-        _ => recount_all(counts, world, left, turn.who),
+        Event::Take(local) => recount_take(&mut counts.all, world, left, turn.who, local),
+        _ => recount_all(&mut counts.all, world, left, turn.who),
+    }
+}
+
+// Counts the commands of a turn's box again, where the turn was one of them.
+fn recount_commands(levels: &mut Vec<Vec<u64>>, left: &Commands, turn: Turn)
+    requires inside { turn.who < length (counts_of levels.old.items) }
+    requires kept { AreKept left.now }
+    requires counted { AreCounted (KeepsCommands turn.who turn.event) (commands_of (left_of left.now)) (length (counts_of levels.old.items)) levels.old.items }
+    ensures { AreCounted AnyBox (commands_of (left_of left.now)) (length (counts_of levels.old.items)) levels.new.items }
+{
+    if is_command(turn.event) {
+        put_small(levels, turn.who, commands_in(left, turn.who));
     }
 }
 
 // Counts a box again, and the boxes at the far ends of a slot and of its partner.
-fn recount_take(counts: &mut Counts, world: &World, left: &Commands, who: u32, local: u8)
+fn recount_take(levels: &mut Vec<Vec<u64>>, world: &World, left: &Commands, who: u32, local: u8)
     requires here { who < length world.now.boxes }
     requires inside { local < length (box_at world.now who).slots }
     requires kept { AreKept left.now }
-    requires counted { AreCounted (IsBeside world.now who local) world.now (left_of left.now) counts.old }
-    ensures { IsCounted world.now (left_of left.now) counts.new }
+    requires counted { AreListed (IsBeside world.now who local) world.now (left_of left.now) levels.old.items }
+    ensures { AreListed AnyBox world.now (left_of left.now) levels.new.items }
 {
     world.keeps();
-    recount_box(counts, world, left, who);
-    recount_box(counts, world, left, far_box(world, who, local));
+    recount_box(levels, world, left, who);
+    recount_box(levels, world, left, far_box(world, who, local));
     match goal_of(world, who, local) {
         SlotGoal::Link(partner) => {
-            recount_box(counts, world, left, far_box(world, who, partner));
+            recount_box(levels, world, left, far_box(world, who, partner));
         }
         SlotGoal::End(_) => {}
     }
 }
 
 // Counts a box again, and the boxes at the far ends of its slots.
-fn recount_all(counts: &mut Counts, world: &World, left: &Commands, who: u32)
+fn recount_all(levels: &mut Vec<Vec<u64>>, world: &World, left: &Commands, who: u32)
     requires here { who < length world.now.boxes }
     requires kept { AreKept left.now }
-    requires counted { AreCounted (IsAside world.now who) world.now (left_of left.now) counts.old }
-    ensures { IsCounted world.now (left_of left.now) counts.new }
+    requires counted { AreListed (IsAside world.now who) world.now (left_of left.now) levels.old.items }
+    ensures { AreListed AnyBox world.now (left_of left.now) levels.new.items }
 {
     world.keeps();
     let mut last = who;
-    recount_box(counts, world, left, last);
+    recount_box(levels, world, left, last);
     for local in 0..slots_of(world, who) {
         let other = far_box(world, who, local as u8);
         // slots of one channel follow each other
         if other != last {
-            recount_box(counts, world, left, other);
+            recount_box(levels, world, left, other);
             last = other;
         }
     }
@@ -102,19 +116,14 @@ pub fn levels_by(counts: &Counts, urgent: bool) -> &[Vec<u64>]
 }
 
 // Counts the candidates of a box again.
-fn recount_box(counts: &mut Counts, world: &World, left: &Commands, who: u32)
+fn recount_box(levels: &mut Vec<Vec<u64>>, world: &World, left: &Commands, who: u32)
     requires here { who < length world.now.boxes }
     requires kept { AreKept left.now }
-    requires all { IsTree (levels_of counts.old.all.items) }
-    requires all_long { length (counts_of counts.old.all.items) ≡ length world.now.boxes }
-    requires commands { IsTree (levels_of counts.old.commands.items) }
-    requires commands_long { length (counts_of counts.old.commands.items) ≡ length world.now.boxes }
-    ensures { IsRecounted world.now (left_of left.now) counts.old counts.new who }
+    requires tree { IsTree (levels_of levels.old.items) }
+    requires long { length (counts_of levels.old.items) ≡ length world.now.boxes }
+    ensures { IsRecounted (candidates_of world.now (left_of left.now) false) levels.old.items levels.new.items who }
 {
-    let all = count_of(world, left, false, who);
-    put_small(&mut counts.all, who, all);
-    let commands = count_of(world, left, true, who);
-    put_small(&mut counts.commands, who, commands);
+    put_small(levels, who, candidates_in(world, left, who));
 }
 
 // Changes a small count of a tree, if it isn't that already.
@@ -132,36 +141,54 @@ fn put_small(levels: &mut Vec<Vec<u64>>, who: u32, count: u64)
 }
 
 // How many candidates each box has.
-fn box_counts(
-    alloc: Global,
-    world: &World,
-    left: &Commands,
-    urgent: bool,
-) -> Result<Vec<u64>, AllocError>
+fn candidate_counts(alloc: Global, world: &World, left: &Commands) -> Result<Vec<u64>, AllocError>
     requires { AreKept left.now }
-    ensures counts { IfOk result (λ counts. CountsCandidates world.now (left_of left.now) urgent counts.items) }
+    ensures counts { IfOk result (λ counts. CountsCandidates world.now (left_of left.now) false counts.items) }
     ensures small { IfOk result (λ counts. (who : ℕ) → slice_index_or counts.items who 0 ≤ 65) }
     ensures few { IfOk result (λ counts. length counts.items ≤ 2 ^ 32) }
 {
     world.keeps();
     let mut counts = Vec::new(alloc);
     for who in 0..world.boxes().len() {
-        counts.push(count_of(world, left, urgent, who as u32))?;
+        counts.push(candidates_in(world, left, who as u32))?;
+    }
+    Ok(counts)
+}
+
+// How many of them are commands.
+fn command_counts(alloc: Global, world: &World, left: &Commands) -> Result<Vec<u64>, AllocError>
+    requires { AreKept left.now }
+    ensures counts { IfOk result (λ counts. CountsEach (commands_of (left_of left.now)) counts.items (length world.now.boxes)) }
+    ensures small { IfOk result (λ counts. (who : ℕ) → slice_index_or counts.items who 0 ≤ 65) }
+    ensures few { IfOk result (λ counts. length counts.items ≤ 2 ^ 32) }
+{
+    world.keeps();
+    let mut counts = Vec::new(alloc);
+    for who in 0..world.boxes().len() {
+        counts.push(commands_in(left, who as u32))?;
     }
     Ok(counts)
 }
 
 // How many candidates a box has.
-fn count_of(world: &World, left: &Commands, urgent: bool, who: u32) -> u64
+fn candidates_in(world: &World, left: &Commands, who: u32) -> u64
     requires here { who < length world.now.boxes }
     requires kept { AreKept left.now }
-    ensures count { result ≡ length (candidates_of world.now (left_of left.now) urgent who) }
+    ensures count { result ≡ length (candidates_of world.now (left_of left.now) false who) }
     ensures small { result ≤ 65 }
 {
-    let takes = if urgent { 0 } else { takes_in(world, who) };
+    commands_in(left, who) + takes_in(world, who)
+}
+
+// How many commands a box can make next: one, or none.
+fn commands_in(left: &Commands, who: u32) -> u64
+    requires { AreKept left.now }
+    ensures count { result ≡ length (commands_of (left_of left.now) who) }
+    ensures small { result ≤ 1 }
+{
     match next_command(left, who) {
-        Some(_) => takes + 1,
-        None => takes,
+        Some(_) => 1,
+        None => 0,
     }
 }
 

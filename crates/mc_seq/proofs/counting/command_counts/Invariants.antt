@@ -1,12 +1,12 @@
 use Rattle.std.proofs.Common.{◌≤◌, ◌^◌}
 use Rattle.mc_seq.specs.Commands.{left_of}
-use Rattle.mc_seq.specs.Schedule.{candidates_of}
+use Rattle.mc_seq.specs.Schedule.{commands_of}
 use Rattle.mc_seq.proofs.Recounts.{CountsFirst}
-use Rattle.mc_seq.proofs.counting.box_counts.Given as goal
+use Rattle.mc_seq.proofs.counting.command_counts.Given as goal
 
 -- the boxes so far are counted
 abbrev pub invariant-loop-who : goal.invariant-loop-who
 invariant-loop-who l = record {
-  first : CountsFirst (candidates_of l.world (left_of l.left) l.urgent) l.counts.items l.who;
+  first : CountsFirst (commands_of (left_of l.left)) l.counts.items l.who;
   few : l.who ≤ 2 ^ 32;
 }
