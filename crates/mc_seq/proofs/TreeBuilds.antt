@@ -1,59 +1,69 @@
 -- A tree of sums, built level by level.
-use Rattle.std.proofs.Common.{◌≡◌, ◌<◌, ◌≤◌, ◌+◌, ◌-◌, ◌*◌, ◌/◌, ◌%◌, ◌^◌, ◌++◌, inl, inr, ℕ, zero, suc, List, [], ◌∷◌, length, min, sum, take, refl, ap, sym, ◌∙◌, subst, arith}
+use Rattle.std.proofs.Common.{◌≡◌, ◌<◌, ◌≤◌, ◌+◌, ◌-◌, ◌*◌, ◌/◌, ◌%◌, ◌^◌, ◌++◌, inl, inr, ℕ, List, [], ◌∷◌, length, min, sum, take, drop, ap, sym, ◌∙◌, subst, arith}
 use Rattle.std.proofs.Math.ListN.{get_or}
+use Rattle.std.proofs.Math.Seq.{take-nil}
 use Rattle.std.proofs.lemmas.Bool.{cases_lt, cases_eq}
-use Rattle.std.proofs.lemmas.List.{get_or_append_left, get_or_push, length_push, take_all, take_more}
-use Rattle.mc_seq.specs.Sums.{level_at, pair_sums}
-use Rattle.mc_seq.proofs.TreePuts.{in_sum}
-use Rattle.mc_seq.proofs.TreeSums.{halved_at, sum_halved}
+use Rattle.std.proofs.lemmas.List.{drop_all, get_or_append_left, get_or_past, get_or_push, length_push}
+use Rattle.std.proofs.lemmas.List.Sums.{sum_by-take-drop, sum_by-take-le}
+use Rattle.std.specs.Fork.{slice_chunk}
+use Rattle.mc_seq.specs.Sums.{AreGroupSums, level_at}
+use Rattle.mc_seq.specs.declared.sums.TheConstants.{FAN}
+use Rattle.mc_seq.proofs.TreeSums.{grouped_sum}
 
 -- ---- one level
 
--- it has half as many numbers, rounded up
-pub halved_count : (xs : List ℕ) → length (pair_sums xs) ≡ (length xs + 1) / 2
-halved_count [] = omega arith
-halved_count (x ∷ []) = omega arith
-halved_count (x ∷ y ∷ xs) = let rest = halved_count xs in omega arith
-
--- so no more than before
-pub halved_few : (xs : List ℕ) (most : ℕ) → length xs ≤ most → length (pair_sums xs) ≤ most
-halved_few xs most few = let count = halved_count xs in omega arith
+-- it has no more numbers than before
+pub grouped_few : (level above : List ℕ) (most : ℕ) → AreGroupSums level above → length level ≤ most → length above ≤ most
+grouped_few level above most sums few = let long = sums.long in omega arith
 
 -- and fewer, where there were several
-pub halved_less : (xs : List ℕ) → 1 < length xs → length (pair_sums xs) < length xs
-halved_less xs some = let count = halved_count xs in omega arith
+pub grouped_less : (level above : List ℕ) → AreGroupSums level above → 1 < length level → length above < length level
+grouped_less level above sums some = let long = sums.long in omega arith
 
--- two neighbours are at most the sum of all
-pub pair_small : (xs : List ℕ) (i limit : ℕ) → sum xs < limit → get_or xs (2 * i) 0 + get_or xs (2 * i + 1) 0 < limit
-pair_small xs i limit low =
-    let at : get_or (pair_sums xs) i 0 ≡ get_or xs (2 * i) 0 + get_or xs (2 * i + 1) 0 = halved_at xs i in
-    let one : get_or (pair_sums xs) i 0 ≤ sum (pair_sums xs) = in_sum (pair_sums xs) i in
-    let all : sum (pair_sums xs) ≡ sum xs = sum_halved xs in
+-- a part of a level has no more than the whole
+pub part_small : (level : List ℕ) (first count limit : ℕ) → sum level < limit → sum (take count (drop first level)) < limit
+part_small level first count limit low =
+    let part : sum (take count (drop first level)) ≤ sum (drop first level) = sum_by-take-le (λ (n : ℕ). n) (drop first level) count in
+    let both : sum (take first level) + sum (drop first level) ≡ sum level = sum_by-take-drop (λ (n : ℕ). n) level first in
     omega arith
 
+-- past the last group there is nothing
+past_groups : (level : List ℕ) (group : ℕ) → length level ≤ group * FAN → sum (slice_chunk level FAN group) ≡ 0
+past_groups level group past = ap (λ (l : List ℕ). sum (take FAN l)) (drop_all (group * FAN) level past) ∙ ap sum (take-nil FAN)
+
+-- the sums of so many groups
+pub record SumsFirst (level above : List ℕ) (groups : ℕ) : Type 0 where
+  pub long : length above ≡ groups
+  pub each : (group : ℕ) → group < groups → get_or above group 0 ≡ sum (slice_chunk level FAN group)
+
 -- one more of them
-pub halved_more : (xs above : List ℕ) (place one two end : ℕ) → end ≡ length xs / 2 + min 1 (length xs % 2) → place < end → above ≡ take place (pair_sums xs) → one ≡ get_or xs (2 * place) 0 → two ≡ get_or xs (2 * place + 1) 0
-    → above ++ (one + two) ∷ [] ≡ take (place + 1) (pair_sums xs)
-halved_more xs above place one two end ends low so_far first second =
-    let count : length (pair_sums xs) ≡ (length xs + 1) / 2 = halved_count xs in
-    let at : get_or (pair_sums xs) place 0 ≡ get_or xs (2 * place) 0 + get_or xs (2 * place + 1) 0 = halved_at xs place in
-    let same : one + two ≡ get_or (pair_sums xs) place 0 = omega arith in
-    let inside : place < length (pair_sums xs) = omega arith in
-    ap (λ (l : List ℕ). l ++ (one + two) ∷ []) so_far
-    ∙ (ap (λ (n : ℕ). take place (pair_sums xs) ++ n ∷ []) same ∙ sym (take_more (pair_sums xs) place 0 inside))
+pub group_pushed : (level above more : List ℕ) (groups number : ℕ) → SumsFirst level above groups → number ≡ sum (slice_chunk level FAN groups) → more ≡ above ++ number ∷ [] → SumsFirst level more (groups + 1)
+group_pushed level above more groups number so_far is pushed = subst (λ (l : List ℕ). SumsFirst level l (groups + 1)) (sym pushed) (record {
+  long = let one : length (above ++ number ∷ []) ≡ length above + 1 = length_push above number in let long = so_far.long in omega arith;
+  each = λ group low. elim (cases_eq group groups) [
+    | inl same ↦ get_or_push above number 0 group (let long = so_far.long in omega arith) ∙ (is ∙ ap (λ (n : ℕ). sum (slice_chunk level FAN n)) (sym same))
+    | inr apart ↦ get_or_append_left above (number ∷ []) 0 group (let long = so_far.long in omega arith) ∙ so_far.each group (omega arith)
+  ];
+})
 
 -- all of them
-pub halved_all : (xs above : List ℕ) (place end : ℕ) → end ≡ length xs / 2 + min 1 (length xs % 2) → end ≤ place → above ≡ take place (pair_sums xs) → above ≡ pair_sums xs
-halved_all xs above place end ends high so_far =
-    let count : length (pair_sums xs) ≡ (length xs + 1) / 2 = halved_count xs in
-    so_far ∙ take_all place (pair_sums xs) (omega arith)
+pub groups_all : (level above : List ℕ) (groups end : ℕ) → end ≡ length level / FAN + min 1 (length level % FAN) → groups ≡ end → SumsFirst level above groups → AreGroupSums level above
+groups_all level above groups end ends is so_far =
+    let long : length above ≡ end = so_far.long ∙ is in
+    record {
+      long = long ∙ ends;
+      each = λ group. elim (cases_lt group groups) [
+        | inl below ↦ so_far.each group below
+        | inr past ↦ get_or_past above group 0 (omega arith) ∙ sym (past_groups level group (omega arith))
+      ];
+    }
 
 -- ---- level by level
 
 -- the levels so far, of which this is the last
 pub record IsBuilt (counts : List ℕ) (all : List (List ℕ)) (level : List ℕ) : Type 0 where
   pub some : 0 < length all
-  pub halves : (depth : ℕ) → depth + 1 < length all → level_at all (depth + 1) ≡ pair_sums (level_at all depth)
+  pub groups : (depth : ℕ) → depth + 1 < length all → AreGroupSums (level_at all depth) (level_at all (depth + 1))
   pub few : (depth : ℕ) → length (level_at all depth) ≤ 2 ^ 32
   pub last : (depth : ℕ) → depth + 1 ≡ length all → level_at all depth ≡ level
   pub bottom : level_at all 0 ≡ counts
@@ -61,49 +71,45 @@ pub record IsBuilt (counts : List ℕ) (all : List (List ℕ)) (level : List ℕ
 
 -- past the end there is no level
 past_none : (all : List (List ℕ)) (depth : ℕ) → length all ≤ depth → level_at all depth ≡ []
-past_none [] depth past = refl
-past_none (level ∷ all) zero past = absurd (omega arith)
-past_none (level ∷ all) (suc depth) past = past_none all depth (omega arith)
+past_none all depth past = get_or_past all depth [] past
 
 -- one level more
-more_few : (counts : List ℕ) (all : List (List ℕ)) (level : List ℕ) (depth : ℕ) → IsBuilt counts all level → length (level_at (all ++ pair_sums level ∷ []) depth) ≤ 2 ^ 32
-more_few counts all level depth built = elim (cases_lt depth (length all)) [
-  | inl below ↦ subst (λ (l : List ℕ). length l ≤ 2 ^ 32) (sym (get_or_append_left all (pair_sums level ∷ []) [] depth below)) (built.few depth)
+more_few : (counts : List ℕ) (all : List (List ℕ)) (level above : List ℕ) (depth : ℕ) → AreGroupSums level above → IsBuilt counts all level → length (level_at (all ++ above ∷ []) depth) ≤ 2 ^ 32
+more_few counts all level above depth sums built = elim (cases_lt depth (length all)) [
+  | inl below ↦ subst (λ (l : List ℕ). length l ≤ 2 ^ 32) (sym (get_or_append_left all (above ∷ []) [] depth below)) (built.few depth)
   | inr high ↦ elim (cases_eq depth (length all)) [
     | inl same ↦
-        subst (λ (l : List ℕ). length l ≤ 2 ^ 32) (sym (get_or_push all (pair_sums level) [] depth (sym same)))
-        (halved_few level (2 ^ 32) (subst (λ (l : List ℕ). length l ≤ 2 ^ 32) (built.last (length all - 1) (let some = built.some in omega arith)) (built.few (length all - 1))))
+        subst (λ (l : List ℕ). length l ≤ 2 ^ 32) (sym (get_or_push all above [] depth (sym same)))
+        (grouped_few level above (2 ^ 32) sums (subst (λ (l : List ℕ). length l ≤ 2 ^ 32) (built.last (length all - 1) (let some = built.some in omega arith)) (built.few (length all - 1))))
     | inr apart ↦
-        let count : length (all ++ pair_sums level ∷ []) ≡ length all + 1 = length_push all (pair_sums level) in
-        subst (λ (l : List ℕ). length l ≤ 2 ^ 32) (sym (past_none (all ++ pair_sums level ∷ []) depth (omega arith))) (omega arith)
+        let count : length (all ++ above ∷ []) ≡ length all + 1 = length_push all above in
+        subst (λ (l : List ℕ). length l ≤ 2 ^ 32) (sym (past_none (all ++ above ∷ []) depth (omega arith))) (omega arith)
   ]
 ]
 
-more_halves : (counts : List ℕ) (all : List (List ℕ)) (level : List ℕ) (depth : ℕ) → IsBuilt counts all level → depth + 1 < length all + 1
-    → level_at (all ++ pair_sums level ∷ []) (depth + 1) ≡ pair_sums (level_at (all ++ pair_sums level ∷ []) depth)
-more_halves counts all level depth built low =
-    let here : level_at (all ++ pair_sums level ∷ []) depth ≡ level_at all depth = get_or_append_left all (pair_sums level ∷ []) [] depth (omega arith) in
-    elim (cases_lt (depth + 1) (length all)) [
-      | inl below ↦ get_or_append_left all (pair_sums level ∷ []) [] (depth + 1) below ∙ (built.halves depth below ∙ ap pair_sums (sym here))
+more_groups : (counts : List ℕ) (all : List (List ℕ)) (level above : List ℕ) (depth : ℕ) → AreGroupSums level above → IsBuilt counts all level → depth + 1 < length all + 1
+    → AreGroupSums (level_at (all ++ above ∷ []) depth) (level_at (all ++ above ∷ []) (depth + 1))
+more_groups counts all level above depth sums built low =
+    let here : level_at (all ++ above ∷ []) depth ≡ level_at all depth = get_or_append_left all (above ∷ []) [] depth (omega arith) in
+    subst (λ (l : List ℕ). AreGroupSums l (level_at (all ++ above ∷ []) (depth + 1))) (sym here) (elim (cases_lt (depth + 1) (length all)) [
+      | inl below ↦ subst (AreGroupSums (level_at all depth)) (sym (get_or_append_left all (above ∷ []) [] (depth + 1) below)) (built.groups depth below)
       | inr high ↦
           let is : length all ≡ depth + 1 = omega arith in
-          get_or_push all (pair_sums level) [] (depth + 1) is ∙ ap pair_sums (sym (here ∙ built.last depth (sym is)))
-    ]
+          subst (AreGroupSums (level_at all depth)) (sym (get_or_push all above [] (depth + 1) is)) (subst (λ (l : List ℕ). AreGroupSums l above) (sym (built.last depth (sym is))) sums)
+    ])
 
-pub build_more : (counts : List ℕ) (all : List (List ℕ)) (level : List ℕ) → IsBuilt counts all level → IsBuilt counts (all ++ pair_sums level ∷ []) (pair_sums level)
-build_more counts all level built =
-    let count : length (all ++ pair_sums level ∷ []) ≡ length all + 1 = length_push all (pair_sums level) in
+pub build_more : (counts : List ℕ) (all : List (List ℕ)) (level above : List ℕ) → AreGroupSums level above → IsBuilt counts all level → IsBuilt counts (all ++ above ∷ []) above
+build_more counts all level above sums built =
+    let count : length (all ++ above ∷ []) ≡ length all + 1 = length_push all above in
     record {
       some = omega arith;
-      halves = λ depth low. more_halves counts all level depth built (subst (λ (n : ℕ). depth + 1 < n) count low);
-      few = λ depth. more_few counts all level depth built;
-      last = λ depth is. get_or_push all (pair_sums level) [] depth (omega arith);
-      bottom = get_or_append_left all (pair_sums level ∷ []) [] 0 built.some ∙ built.bottom;
-      same = sum_halved level ∙ built.same;
+      groups = λ depth low. more_groups counts all level above depth sums built (subst (λ (n : ℕ). depth + 1 < n) count low);
+      few = λ depth. more_few counts all level above depth sums built;
+      last = λ depth is. get_or_push all above [] depth (omega arith);
+      bottom = get_or_append_left all (above ∷ []) [] 0 built.some ∙ built.bottom;
+      same = grouped_sum level above sums ∙ built.same;
     }
 
--- as code does it: the last level is put behind the others, and the next one is halved from it
-pub build_pushed : (counts : List ℕ) (all levels : List (List ℕ)) (level above : List ℕ) → IsBuilt counts (all ++ level ∷ []) level → levels ≡ all ++ level ∷ [] → above ≡ pair_sums level → IsBuilt counts (levels ++ above ∷ []) above
-build_pushed counts all levels level above built pushed is =
-    subst (λ (l : List ℕ). IsBuilt counts (levels ++ l ∷ []) l) (sym is)
-    (subst (λ (l : List (List ℕ)). IsBuilt counts (l ++ pair_sums level ∷ []) (pair_sums level)) (sym pushed) (build_more counts (all ++ level ∷ []) level built))
+-- as code does it: the last level is put behind the others, and the next one is made of it
+pub build_pushed : (counts : List ℕ) (all levels : List (List ℕ)) (level above : List ℕ) → IsBuilt counts (all ++ level ∷ []) level → levels ≡ all ++ level ∷ [] → AreGroupSums level above → IsBuilt counts (levels ++ above ∷ []) above
+build_pushed counts all levels level above built pushed sums = subst (λ (l : List (List ℕ)). IsBuilt counts (l ++ above ∷ []) above) (sym pushed) (build_more counts (all ++ level ∷ []) level above sums built)

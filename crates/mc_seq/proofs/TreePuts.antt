@@ -1,51 +1,23 @@
 -- A tree of sums after one count has changed.
-use Rattle.std.proofs.Common.{◌≡◌, ◌≢◌, ◌<◌, ◌≤◌, ◌+◌, ◌-◌, ◌*◌, ◌/◌, ◌^◌, ◌⊎◌, inl, inr, ℕ, zero, suc, List, [], ◌∷◌, length, map, sum, refl, ap, sym, ◌∙◌, subst, arith}
+use Rattle.std.proofs.Common.{◌≡◌, ◌≢◌, ◌<◌, ◌≤◌, ◌+◌, ◌-◌, ◌*◌, ◌/◌, ◌%◌, ◌^◌, inl, inr, ℕ, zero, suc, List, [], ◌∷◌, length, map, min, sum, take, drop, length-drop, length-take, refl, ap, sym, ◌∙◌, subst, arith}
 use Rattle.std.proofs.Math.ListN.{get_or, set, length-set}
-use Rattle.std.proofs.lemmas.Bool.{cases_eq}
-use Rattle.std.proofs.lemmas.List.{get_or-set_same, get_or-set_other}
-use Rattle.mc_seq.specs.Sums.{AreSums, level_after, level_at, pair_sums}
-use Rattle.mc_seq.proofs.TreeSums.{halved_at, level_sum, sum_cons}
+use Rattle.std.proofs.Math.Seq.{take-set-lt}
+use Rattle.std.proofs.lemmas.Bool.{cases_eq, cases_lt}
+use Rattle.std.proofs.lemmas.List.{drop-set-add, drop-set-lt, get_or-drop, get_or-set_other, get_or-set_same, get_or-take, take-set-le}
+use Rattle.std.proofs.lemmas.List.Sums.{sum_by-set}
+use Rattle.std.specs.Fork.{slice_chunk}
+use Rattle.std.specs.Int.{div_ceil}
+use Rattle.mc_seq.specs.Sums.{AreGroupSums, AreSums, level_after, level_at}
+use Rattle.mc_seq.specs.declared.sums.TheConstants.{FAN}
+use Rattle.mc_seq.proofs.TreeSums.{level_sum, sum_cons}
 
--- ---- halves
+-- ---- groups
 
--- half of two more is one more
-half_more : (i : ℕ) → suc (suc i) / 2 ≡ suc (i / 2)
-half_more i = omega arith
+-- each number's group has its place above
+pub grouped_long : (level above : List ℕ) (i : ℕ) → AreGroupSums level above → i < length level → i / FAN < length above
+grouped_long level above i sums inside = let long = sums.long in omega arith
 
--- half of a place is a place of the halved list
-pub halved_long : (xs : List ℕ) (i : ℕ) → i < length xs → i / 2 < length (pair_sums xs)
-halved_long [] i inside = absurd (omega arith)
-halved_long (x ∷ []) i inside = omega arith
-halved_long (x ∷ y ∷ xs) zero inside = omega arith
-halved_long (x ∷ y ∷ xs) (suc zero) inside = omega arith
-halved_long (x ∷ y ∷ xs) (suc (suc i)) inside = let rest = halved_long xs i (omega arith) in omega arith
-
--- a half-way number changes as its part does
-pub halved_set : (xs : List ℕ) (i was count : ℕ) → i < length xs → was ≤ get_or xs i 0
-    → pair_sums (set xs i (get_or xs i 0 - was + count)) ≡ set (pair_sums xs) (i / 2) (get_or (pair_sums xs) (i / 2) 0 - was + count)
-halved_set [] i was count inside less = absurd (omega arith)
-halved_set (x ∷ []) zero was count inside less = refl
-halved_set (x ∷ []) (suc i) was count inside less = absurd (omega arith)
-halved_set (x ∷ y ∷ xs) zero was count inside less = let same : (x - was + count) + y ≡ (x + y) - was + count = omega arith in ap (λ (n : ℕ). n ∷ pair_sums xs) same
-halved_set (x ∷ y ∷ xs) (suc zero) was count inside less = let same : x + (y - was + count) ≡ (x + y) - was + count = omega arith in ap (λ (n : ℕ). n ∷ pair_sums xs) same
-halved_set (x ∷ y ∷ xs) (suc (suc i)) was count inside less =
-    ap (λ (l : List ℕ). (x + y) ∷ l) (halved_set xs i was count (omega arith) less)
-    ∙ sym (ap (λ (n : ℕ). set ((x + y) ∷ pair_sums xs) n (get_or ((x + y) ∷ pair_sums xs) n 0 - was + count)) (half_more i))
-
--- a place is twice its half, or one more
-half_place : (i : ℕ) → (i ≡ 2 * (i / 2)) ⊎ (i ≡ 2 * (i / 2) + 1)
-half_place i = grind arith
-
--- a number is at most the sum of it and its neighbour
-pub halved_covers : (xs : List ℕ) (i : ℕ) → get_or xs i 0 ≤ get_or (pair_sums xs) (i / 2) 0
-halved_covers xs i =
-    let both : get_or (pair_sums xs) (i / 2) 0 ≡ get_or xs (2 * (i / 2)) 0 + get_or xs (2 * (i / 2) + 1) 0 = halved_at xs (i / 2) in
-    elim (half_place i) [
-      | inl first ↦ let same : get_or xs i 0 ≡ get_or xs (2 * (i / 2)) 0 = ap (λ (n : ℕ). get_or xs n 0) first in omega arith
-      | inr second ↦ let same : get_or xs i 0 ≡ get_or xs (2 * (i / 2) + 1) 0 = ap (λ (n : ℕ). get_or xs n 0) second in omega arith
-    ]
-
--- and at most the sum of all
+-- a number is at most the sum of its list
 pub in_sum : (xs : List ℕ) (i : ℕ) → get_or xs i 0 ≤ sum xs
 in_sum [] i = omega arith
 in_sum (x ∷ xs) zero = let one : sum (x ∷ xs) ≡ x + sum xs = sum_cons x xs in omega arith
@@ -53,6 +25,76 @@ in_sum (x ∷ xs) (suc i) =
     let one : sum (x ∷ xs) ≡ x + sum xs = sum_cons x xs in
     let rest : get_or xs i 0 ≤ sum xs = in_sum xs i in
     omega arith
+
+-- a number stands in its group
+in_group : (level : List ℕ) (group i : ℕ) → i < FAN → get_or (slice_chunk level FAN group) i 0 ≡ get_or level (group * FAN + i) 0
+in_group level group i low = get_or-take FAN (drop (group * FAN) level) i 0 low ∙ get_or-drop (group * FAN) level i 0
+
+-- so it is at most the sum of that
+pub grouped_covers : (level above : List ℕ) (i : ℕ) → AreGroupSums level above → get_or level i 0 ≤ get_or above (i / FAN) 0
+grouped_covers level above i sums =
+    let group : ℕ = i / FAN in
+    let place : group * FAN + i % FAN ≡ i = omega arith in
+    let each : get_or above group 0 ≡ sum (slice_chunk level FAN group) = sums.each group in
+    let one : get_or (slice_chunk level FAN group) (i % FAN) 0 ≤ sum (slice_chunk level FAN group) = in_sum (slice_chunk level FAN group) (i % FAN) in
+    let same : get_or (slice_chunk level FAN group) (i % FAN) 0 ≡ get_or level i 0 = in_group level group (i % FAN) (omega arith) ∙ ap (λ (n : ℕ). get_or level n 0) place in
+    omega arith
+
+-- a number that is replaced changes no group before its own
+before_set : (level : List ℕ) (group i v : ℕ) → (group + 1) * FAN ≤ i → slice_chunk (set level i v) FAN group ≡ slice_chunk level FAN group
+before_set level group i v past =
+    let place : group * FAN + (i - group * FAN) ≡ i = omega arith in
+    ap (λ (n : ℕ). slice_chunk (set level n v) FAN group) (sym place)
+    ∙ (ap (take FAN) (drop-set-add (group * FAN) level (i - group * FAN) v) ∙ take-set-le FAN (drop (group * FAN) level) (i - group * FAN) v (omega arith))
+
+-- nor one behind it
+behind_set : (level : List ℕ) (group i v : ℕ) → i < group * FAN → slice_chunk (set level i v) FAN group ≡ slice_chunk level FAN group
+behind_set level group i v low = ap (take FAN) (drop-set-lt (group * FAN) level i v low)
+
+-- and no other than its own
+other_group : (level : List ℕ) (group i v : ℕ) → group ≢ i / FAN → slice_chunk (set level i v) FAN group ≡ slice_chunk level FAN group
+other_group level group i v apart = elim (cases_lt i (group * FAN)) [
+  | inl low ↦ behind_set level group i v low
+  | inr high ↦ before_set level group i v (omega arith)
+]
+
+-- in its own it is replaced
+own_group : (level : List ℕ) (i v : ℕ) → slice_chunk (set level i v) FAN (i / FAN) ≡ set (slice_chunk level FAN (i / FAN)) (i % FAN) v
+own_group level i v =
+    let group : ℕ = i / FAN in
+    let place : group * FAN + i % FAN ≡ i = omega arith in
+    ap (λ (n : ℕ). slice_chunk (set level n v) FAN group) (sym place)
+    ∙ (ap (take FAN) (drop-set-add (group * FAN) level (i % FAN) v) ∙ take-set-lt FAN (drop (group * FAN) level) (i % FAN) v (omega arith))
+
+-- whose sum changes as it does
+own_sum : (level : List ℕ) (i was count : ℕ) → i < length level → was ≤ get_or level i 0
+    → sum (slice_chunk (set level i (get_or level i 0 - was + count)) FAN (i / FAN)) ≡ sum (slice_chunk level FAN (i / FAN)) - was + count
+own_sum level i was count inside less =
+    let group : List ℕ = slice_chunk level FAN (i / FAN) in
+    let v : ℕ = get_or level i 0 - was + count in
+    let place : i / FAN * FAN + i % FAN ≡ i = omega arith in
+    let new : sum (slice_chunk (set level i v) FAN (i / FAN)) ≡ sum (set group (i % FAN) v) = ap sum (own_group level i v) in
+    let long : length group ≡ min FAN (length level - i / FAN * FAN) = length-take FAN (drop (i / FAN * FAN) level) ∙ ap (min FAN) (length-drop (i / FAN * FAN) level) in
+    let old : get_or group (i % FAN) 0 ≡ get_or level i 0 = in_group level (i / FAN) (i % FAN) (omega arith) ∙ ap (λ (n : ℕ). get_or level n 0) place in
+    let both : sum (set group (i % FAN) v) + get_or group (i % FAN) 0 ≡ sum group + v = sum_by-set (λ (n : ℕ). n) group (i % FAN) v 0 (omega arith) in
+    let low : get_or group (i % FAN) 0 ≤ sum group = in_sum group (i % FAN) in
+    omega arith
+
+-- so the sums of groups change as one number does
+pub grouped_set : (level above : List ℕ) (i was count : ℕ) → AreGroupSums level above → i < length level → was ≤ get_or level i 0
+    → AreGroupSums (level_after level i was count) (level_after above (i / FAN) was count)
+grouped_set level above i was count sums inside less =
+    let new : ℕ = get_or above (i / FAN) 0 - was + count in
+    record {
+      long = length-set above (i / FAN) new ∙ (sums.long ∙ ap (λ (n : ℕ). div_ceil n FAN) (sym (length-set level i (get_or level i 0 - was + count))));
+      each = λ group. elim (cases_eq group (i / FAN)) [
+        | inl same ↦
+            subst (λ (n : ℕ). get_or (set above (i / FAN) new) n 0 ≡ sum (slice_chunk (level_after level i was count) FAN n)) (sym same)
+            (get_or-set_same above (i / FAN) new 0 (grouped_long level above i sums inside)
+            ∙ (ap (λ (n : ℕ). n - was + count) (sums.each (i / FAN)) ∙ sym (own_sum level i was count inside less)))
+        | inr apart ↦ get_or-set_other above (i / FAN) group new 0 apart ∙ (sums.each group ∙ ap sum (sym (other_group level group i (get_or level i 0 - was + count) apart)))
+      ];
+    }
 
 -- ---- level by level
 
@@ -63,8 +105,8 @@ pub record IsPut (start now : List (List ℕ)) (place was count depth here : ℕ
   pub covers : depth < length start → was ≤ get_or (level_at start depth) here 0
   pub long : (d : ℕ) → length (level_at now d) ≡ length (level_at start d)
   pub above : (d : ℕ) → depth ≤ d → level_at now d ≡ level_at start d
-  pub halves : (d : ℕ) → d + 1 < depth → level_at now (d + 1) ≡ pair_sums (level_at now d)
-  pub seam : (d : ℕ) → d + 1 ≡ depth → depth < length start → pair_sums (level_at now d) ≡ set (level_at start depth) here (get_or (level_at start depth) here 0 - was + count)
+  pub groups : (d : ℕ) → d + 1 < depth → AreGroupSums (level_at now d) (level_at now (d + 1))
+  pub seam : (d : ℕ) → d + 1 ≡ depth → depth < length start → AreGroupSums (level_at now d) (level_after (level_at start depth) here was count)
   pub bottom : 0 < depth → level_at now 0 ≡ set (level_at start 0) place count
 
 -- before the first level is changed nothing is
@@ -75,7 +117,7 @@ put_first start place count was is inside = record {
   covers = λ some. omega arith;
   long = λ d. refl;
   above = λ d high. refl;
-  halves = λ d low. absurd (omega arith);
+  groups = λ d low. absurd (omega arith);
   seam = λ d is_last some. absurd (omega arith);
   bottom = λ some. absurd (omega arith);
 }
@@ -105,50 +147,48 @@ zero_case start now place was count zero here so_far inside is begins =
 zero_case start now place was count (suc depth) here so_far inside is begins =
     level_other now (suc depth) 0 (level_after (level_at start (suc depth)) here was count) (λ same. let wrong : 0 ≡ suc depth = same in absurd (omega arith)) ∙ so_far.bottom (omega arith)
 
--- the changed level is still the halved one below it
-halves_more : (start now : List (List ℕ)) (place was count depth here d : ℕ) → IsPut start now place was count depth here → depth < length now → d + 1 < depth + 1
-    → level_at (set now depth (level_after (level_at start depth) here was count)) (d + 1) ≡ pair_sums (level_at (set now depth (level_after (level_at start depth) here was count)) d)
-halves_more start now place was count depth here d so_far inside low =
+-- the changed level still has the sums of the one below it
+groups_more : (start now : List (List ℕ)) (place was count depth here d : ℕ) → IsPut start now place was count depth here → depth < length now → d + 1 < depth + 1
+    → AreGroupSums (level_at (set now depth (level_after (level_at start depth) here was count)) d) (level_at (set now depth (level_after (level_at start depth) here was count)) (d + 1))
+groups_more start now place was count depth here d so_far inside low =
     let level : List ℕ = level_after (level_at start depth) here was count in
     let below : level_at (set now depth level) d ≡ level_at now d = level_other now depth d level (omega arith) in
-    elim (cases_eq (d + 1) depth) [
+    subst (λ (l : List ℕ). AreGroupSums l (level_at (set now depth level) (d + 1))) (sym below) (elim (cases_eq (d + 1) depth) [
       | inl same ↦
-          subst (λ (e : ℕ). level_at (set now depth level) e ≡ pair_sums (level_at (set now depth level) d)) (sym same)
-          (level_same now depth level inside ∙ (sym (so_far.seam d same (subst (λ (n : ℕ). depth < n) so_far.count_same inside)) ∙ ap pair_sums (sym below)))
-      | inr apart ↦ level_other now depth (d + 1) level apart ∙ (so_far.halves d (omega arith) ∙ ap pair_sums (sym below))
-    ]
+          subst (λ (e : ℕ). AreGroupSums (level_at now d) (level_at (set now depth level) e)) (sym same)
+          (subst (AreGroupSums (level_at now d)) (sym (level_same now depth level inside)) (so_far.seam d same (subst (λ (n : ℕ). depth < n) so_far.count_same inside)))
+      | inr apart ↦ subst (AreGroupSums (level_at now d)) (sym (level_other now depth (d + 1) level apart)) (so_far.groups d (omega arith))
+    ])
 
 -- at the end all is put
 pub put_last : (start now : List (List ℕ)) (place was count here : ℕ) → AreSums start → IsPut start now place was count (length start) here → AreSums now
 put_last start now place was count here sums done = record {
   some = subst (λ (n : ℕ). 0 < n) (sym done.count_same) sums.some;
-  halves = λ d low. done.halves d (subst (λ (n : ℕ). d + 1 < n) done.count_same low);
+  groups = λ d low. done.groups d (subst (λ (n : ℕ). d + 1 < n) done.count_same low);
   few = λ d. subst (λ (n : ℕ). n ≤ 2 ^ 32) (sym (done.long d)) (sums.few d);
   top = subst (λ (n : ℕ). length (level_at now (n - 1)) ≤ 1) (sym done.count_same) (subst (λ (n : ℕ). n ≤ 1) (sym (done.long (length start - 1))) sums.top);
 }
 
 -- one more level is changed
 pub put_more : (start now next : List (List ℕ)) (place was count depth here : ℕ) → AreSums start → was ≡ get_or (level_at start 0) place 0 → (depth ≡ 0 → here ≡ place) → depth < length start
-    → IsPut start now place was count depth here → next ≡ set now depth (set (level_at now depth) here (get_or (level_at now depth) here 0 - was + count)) → IsPut start next place was count (depth + 1) (here / 2)
+    → IsPut start now place was count depth here → next ≡ set now depth (set (level_at now depth) here (get_or (level_at now depth) here 0 - was + count)) → IsPut start next place was count (depth + 1) (here / FAN)
 put_more start now next place was count depth here sums is begins inside so_far goes =
     let level : List ℕ = level_after (level_at start depth) here was count in
     let there : depth < length now = subst (λ (n : ℕ). depth < n) (sym so_far.count_same) inside in
-    let step : depth + 1 < length start → level_at start (depth + 1) ≡ pair_sums (level_at start depth) = sums.halves depth in
-    subst (λ (l : List (List ℕ)). IsPut start l place was count (depth + 1) (here / 2))
+    let step : depth + 1 < length start → AreGroupSums (level_at start depth) (level_at start (depth + 1)) = sums.groups depth in
+    subst (λ (l : List (List ℕ)). IsPut start l place was count (depth + 1) (here / FAN))
     (sym (goes ∙ ap (λ (l : List ℕ). set now depth (set l here (get_or l here 0 - was + count))) (so_far.above depth (omega arith)))) (record {
       count_same = length-set now depth level ∙ so_far.count_same;
-      inside = λ some. subst (λ (l : List ℕ). here / 2 < length l) (sym (step some)) (halved_long (level_at start depth) here (so_far.inside inside));
-      covers = λ some.
-          subst (λ (l : List ℕ). was ≤ get_or l (here / 2) 0) (sym (step some))
-          (let one = so_far.covers inside in let two = halved_covers (level_at start depth) here in omega arith);
+      inside = λ some. grouped_long (level_at start depth) (level_at start (depth + 1)) here (step some) (so_far.inside inside);
+      covers = λ some. let one = so_far.covers inside in let two = grouped_covers (level_at start depth) (level_at start (depth + 1)) here (step some) in omega arith;
       long = λ d. same_long start now depth d level there (length-set (level_at start depth) here (get_or (level_at start depth) here 0 - was + count)) so_far.long;
       above = λ d high. level_other now depth d level (omega arith) ∙ so_far.above d (omega arith);
-      halves = λ d low. halves_more start now place was count depth here d so_far there low;
+      groups = λ d low. groups_more start now place was count depth here d so_far there low;
       seam = λ d is_last some.
           let same : d ≡ depth = omega arith in
-          subst (λ (e : ℕ). pair_sums (level_at (set now depth level) e) ≡ level_after (level_at start (depth + 1)) (here / 2) was count) (sym same)
-          (ap pair_sums (level_same now depth level there) ∙ (halved_set (level_at start depth) here was count (so_far.inside inside) (so_far.covers inside)
-          ∙ ap (λ (l : List ℕ). level_after l (here / 2) was count) (sym (step some))));
+          subst (λ (e : ℕ). AreGroupSums (level_at (set now depth level) e) (level_after (level_at start (depth + 1)) (here / FAN) was count)) (sym same)
+          (subst (λ (l : List ℕ). AreGroupSums l (level_after (level_at start (depth + 1)) (here / FAN) was count)) (sym (level_same now depth level there))
+          (grouped_set (level_at start depth) (level_at start (depth + 1)) here was count (step some) (so_far.inside inside) (so_far.covers inside)));
       bottom = λ some. zero_case start now place was count depth here so_far there is begins;
     })
 

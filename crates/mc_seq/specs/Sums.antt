@@ -1,13 +1,15 @@
--- A tree of sums: counts, the sums of neighbours two by two, those of neighbours among these, and so on up to one.
+-- A wide tree of sums: counts, the sums of groups of neighbours, those of groups of these, and so on up to one.
 use Rattle.mc_box.specs.declared.event.Turn.{Turn}
-use Rattle.std.specs.Prelude.{◌≡◌, ◌<◌, ◌≤◌, ◌+◌, ◌-◌, ◌^◌, ℕ, List, [], ◌∷◌, length, map, slice_index_or, slice_set, Vec}
+use Rattle.std.specs.Prelude.{◌≡◌, ◌<◌, ◌≤◌, ◌+◌, ◌-◌, ◌^◌, ℕ, List, [], length, map, slice_index_or, slice_set, sum, Vec}
+use Rattle.std.specs.Fork.{slice_chunk}
+use Rattle.std.specs.Int.{div_ceil}
 use Rattle.std.specs.declared.alloc.Global.{Global}
+use Rattle.mc_seq.specs.declared.sums.TheConstants.{FAN}
 
--- the sums of neighbours, two by two; a last number without a neighbour stands alone
-abbrev pub pair_sums : List ℕ → List ℕ
-pair_sums [] = []
-pair_sums (x ∷ []) = x ∷ []
-pair_sums (x ∷ y ∷ rest) = (x + y) ∷ pair_sums rest
+-- the level above another one: each of its numbers is the sum of a group of FAN neighbours there; the last group has what is left
+pub record AreGroupSums (level above : List ℕ) : Type 0 where
+  pub long : length above ≡ div_ceil (length level) FAN
+  pub each : (group : ℕ) → slice_index_or above group 0 ≡ sum (slice_chunk level FAN group)
 
 abbrev pub level_at : List (List ℕ) → ℕ → List ℕ
 level_at levels depth = slice_index_or levels depth []
@@ -28,10 +30,10 @@ level_after level place was count = slice_set level place (slice_index_or level 
 abbrev pub levels_after : List (List ℕ) → (depth place was count : ℕ) → List (List ℕ)
 levels_after levels depth place was count = slice_set levels depth (level_after (level_at levels depth) place was count)
 
--- each level is the one below it, halved, and the last has one number at most; places fit
+-- each level has the sums of the one below it, and the last has one number at most; places fit
 pub record AreSums (levels : List (List ℕ)) : Type 0 where
   pub some : 0 < length levels
-  pub halves : (depth : ℕ) → depth + 1 < length levels → level_at levels (depth + 1) ≡ pair_sums (level_at levels depth)
+  pub groups : (depth : ℕ) → depth + 1 < length levels → AreGroupSums (level_at levels depth) (level_at levels (depth + 1))
   pub few : (depth : ℕ) → length (level_at levels depth) ≤ 2 ^ 32
   pub top : length (level_at levels (length levels - 1)) ≤ 1
 

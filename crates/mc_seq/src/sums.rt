@@ -1,9 +1,13 @@
-// A tree of sums, in which the place of the k-th of all that is counted is found by as many steps as it has levels.
+// A wide tree of sums, in which the place of the k-th of all that is counted is found along one group of each level.
 
-ghost use Rattle.std.specs.Prelude.{◌≡◌, ◌<◌, ◌≤◌, ◌+◌, ◌^◌, length, slice_index_or, slice_set, sum, take, IfOk};
-ghost use Rattle.mc_seq.specs.Sums.{AreSums, counts_of, level_after, level_at, levels_after, levels_of, pair_sums};
+ghost use Rattle.std.specs.Prelude.{◌≡◌, ◌<◌, ◌≤◌, ◌+◌, ◌*◌, ◌^◌, length, slice_index_or, slice_set, sum, take, IfOk};
+ghost use Rattle.std.specs.Fork.{slice_chunk};
+ghost use Rattle.mc_seq.specs.Sums.{AreGroupSums, AreSums, counts_of, level_after, level_at, levels_after, levels_of};
 
 use std::alloc::{AllocError, Global};
+
+// So many neighbours of a level make one number of the level above it.
+const FAN: usize = 16;
 
 /// The tree of the sums of these counts.
 pub fn tree(alloc: Global, counts: Vec<u64>) -> Result<Vec<Vec<u64>>, AllocError>
@@ -15,7 +19,7 @@ pub fn tree(alloc: Global, counts: Vec<u64>) -> Result<Vec<Vec<u64>>, AllocError
     let mut levels = Vec::new(alloc);
     let mut level = counts;
     'up: while level.len() > 1 {
-        let above = halved(alloc, &level)?;
+        let above = group_sums(alloc, &level)?;
         levels.push(level)?;
         level = above;
     }
@@ -23,16 +27,35 @@ pub fn tree(alloc: Global, counts: Vec<u64>) -> Result<Vec<Vec<u64>>, AllocError
     Ok(levels)
 }
 
-// The sums of neighbours, two by two.
-fn halved(alloc: Global, level: &[u64]) -> Result<Vec<u64>, AllocError>
+// The level above a level.
+fn group_sums(alloc: Global, level: &[u64]) -> Result<Vec<u64>, AllocError>
     requires { sum level.now < 2 ^ 64 }
-    ensures { IfOk result (λ above. above.items ≡ pair_sums level.now) }
+    ensures { IfOk result (λ above. AreGroupSums level.now above.items) }
 {
     let mut above = Vec::new(alloc);
-    for place in 0..level.len().div_ceil(2) {
-        above.push(number_at(level, 2 * place) + number_at(level, 2 * place + 1))?;
+    for group in 0..level.len().div_ceil(FAN) {
+        above.push(group_sum(level, group))?;
     }
     Ok(above)
+}
+
+// The sum of a group of neighbours.
+fn group_sum(level: &[u64], group: usize) -> u64
+    requires inside { group * FAN < length level.now }
+    requires fits { sum level.now < 2 ^ 64 }
+    ensures { result ≡ sum (slice_chunk level.now FAN group) }
+{
+    let first = group * FAN;
+    let end = level.len().min(first + FAN);
+    sum_of(&level[first..end])
+}
+
+// The sum of numbers.
+fn sum_of(numbers: &[u64]) -> u64
+    requires { sum numbers.now < 2 ^ 64 }
+    ensures { result ≡ sum numbers.now }
+{
+    numbers.iter().sum()
 }
 
 /// The sum of all counts.
@@ -64,15 +87,38 @@ pub fn find(levels: &[Vec<u64>], k: u64) -> (usize, u64)
     let mut depth = levels.len() - 1;
     'down: while depth > 0 {
         depth -= 1;
-        let first = at(levels, depth, 2 * place);
-        if rest < first {
-            place = 2 * place;
-        } else {
-            rest -= first;
-            place = 2 * place + 1;
-        }
+        let (next, left) = find_at(levels, depth, place * FAN, rest);
+        place = next;
+        rest = left;
     }
     (place, rest)
+}
+
+// Where the k-th from a place on stands on a level: at which number, and how many of that come before it.
+fn find_at(levels: &[Vec<u64>], depth: usize, first: usize, k: u64) -> (usize, u64)
+    requires depth { depth < length levels.now }
+    requires inside { sum (take first (level_at (levels_of levels.now) depth)) + k < sum (level_at (levels_of levels.now) depth) }
+    ensures before { sum (take result.0 (level_at (levels_of levels.now) depth)) + result.1 ≡ sum (take first (level_at (levels_of levels.now) depth)) + k }
+    ensures within { result.1 < slice_index_or (level_at (levels_of levels.now) depth) result.0 0 }
+{
+    find_from(&levels[depth], first, k)
+}
+
+// The same of one level.
+fn find_from(level: &[u64], first: usize, k: u64) -> (usize, u64)
+    requires { sum (take first level.now) + k < sum level.now }
+    ensures before { sum (take result.0 level.now) + result.1 ≡ sum (take first level.now) + k }
+    ensures within { result.1 < slice_index_or level.now result.0 0 }
+{
+    let mut rest = k;
+    for place in first..level.len() {
+        let number = level[place];
+        if rest < number {
+            return (place, rest);
+        }
+        rest -= number;
+    }
+    unreachable!()
 }
 
 /// Changes a count, and one number of each level with it.
@@ -87,7 +133,7 @@ pub fn put(levels: &mut [Vec<u64>], place: usize, count: u64)
     let mut here = place;
     'up: for depth in 0..levels.len() {
         change(levels, depth, here, was, count);
-        here /= 2;
+        here /= FAN;
     }
 }
 
