@@ -1,9 +1,10 @@
--- The k-th candidate of a box.
-use Rattle.std.proofs.Common.{◌≡◌, ◌<◌, ◌≤◌, ◌+◌, ◌-◌, if◌then◌else◌, ℕ, zero, suc, Bool, true, false, [], ◌∷◌, length, slice_get, Some, length-append, add-one, refl, ap, sym, ◌∙◌, subst, arith}
+-- The Takes of a box: how many there are, and the k-th of them.
+use Rattle.std.proofs.Common.{◌≡◌, ◌<◌, ◌≤◌, ◌+◌, ◌-◌, ◌++◌, if◌then◌else◌, ℕ, zero, suc, Bool, true, false, List, [], ◌∷◌, length, slice_get, Some, length-append, add-one, refl, ap, sym, ◌∙◌, subst, arith}
+use Rattle.mc_box.specs.declared.event.Turn.{Turn}
 use Rattle.mc_model.specs.Worlds.{WorldState, box_at}
 use Rattle.mc_seq.specs.ForEach.{for_each}
-use Rattle.mc_seq.specs.Schedule.{take_turn, waiting_take, takes_of}
-use Rattle.mc_world.specs.Waiting.{take_waits}
+use Rattle.mc_seq.specs.Schedule.{candidates_of, commands_of, take_turn, waiting_take, takes_of}
+use Rattle.mc_world.specs.Waiting.{bit, take_waits, waiting_count}
 use Rattle.mc_seq.proofs.Kth.{each_got}
 
 -- the Take that a slot has
@@ -11,6 +12,29 @@ has_by : (there : Bool) (who local rest : ℕ) → rest < length (if there then 
 has_by true who local zero low = refl
 has_by true who local (suc rest) low = absurd (omega arith)
 has_by false who local rest low = absurd (omega arith)
+
+-- a slot gives as many Takes as signals that it can take now
+one_counted : (there : Bool) (who local : ℕ) → length (if there then take_turn who local ∷ [] else []) ≡ bit there
+one_counted true who local = refl
+one_counted false who local = refl
+
+-- and a box's slots together
+takes_counted : (world : WorldState) (who count : ℕ) → length (for_each (waiting_take world who) count) ≡ waiting_count world who count
+takes_counted world who zero = refl
+takes_counted world who (suc count) =
+    let rest : length (for_each (waiting_take world who) count) ≡ waiting_count world who count = takes_counted world who count in
+    let both : length (for_each (waiting_take world who) count ++ waiting_take world who count) ≡ length (for_each (waiting_take world who) count) + length (waiting_take world who count)
+    = length-append (for_each (waiting_take world who) count) (waiting_take world who count) in
+    let one : length (waiting_take world who count) ≡ bit (take_waits world who count) = one_counted (take_waits world who count) who count in
+    omega arith
+
+-- so a box has as many candidates as commands that can come next and slots that can take
+pub listed_counted : (world : WorldState) (left : List Turn) (who commands takes : ℕ) → commands ≡ length (commands_of left who) → takes ≡ waiting_count world who (length (box_at world who).slots)
+    → commands + takes ≡ length (candidates_of world left false who)
+listed_counted world left who commands takes one two =
+    let both : length (commands_of left who ++ takes_of world who) ≡ length (commands_of left who) + length (takes_of world who) = length-append (commands_of left who) (takes_of world who) in
+    let each : length (takes_of world who) ≡ waiting_count world who (length (box_at world who).slots) = takes_counted world who (length (box_at world who).slots) in
+    omega arith
 
 -- where the search among a box's Takes ends, there is the k-th
 pub found_take : (world : WorldState) (who local k rest takes : ℕ) → local < length (box_at world who).slots → takes ≡ length (waiting_take world who local) → rest < takes

@@ -6,12 +6,12 @@ ghost use Rattle.mc_model.specs.Worlds.{box_at};
 ghost use Rattle.mc_seq.specs.Commands.{AreKept, left_of};
 ghost use Rattle.mc_seq.specs.Counts.{AnyBox, AreCounted, AreListed, HasSlot, IsAside, IsBeside, IsCounted, IsCountedBut, IsRecounted, IsTree, KeepsCommands, far_box, levels_by};
 ghost use Rattle.mc_seq.specs.Ready.{CountsCandidates};
-ghost use Rattle.mc_seq.specs.Schedule.{candidates_of, commands_of, takes_of};
+ghost use Rattle.mc_seq.specs.Schedule.{candidates_of, commands_of};
 ghost use Rattle.mc_seq.specs.Sums.{CountsEach, counts_of, levels_of};
 
 use crate::batches::is_command;
 use crate::commands::{Commands, next_command};
-use crate::finding::{slots_of, takes_at};
+use crate::finding::slots_of;
 use crate::sums::{count_at, put, tree};
 use mc_box::{Event, Turn};
 use mc_slot::SlotGoal;
@@ -177,7 +177,7 @@ fn candidates_in(world: &World, left: &Commands, who: u32) -> u64
     ensures count { result ≡ length (candidates_of world.now (left_of left.now) false who) }
     ensures small { result ≤ 65 }
 {
-    commands_in(left, who) + takes_in(world, who)
+    commands_in(left, who) + u64::from(world.takes(who))
 }
 
 // How many commands a box can make next: one, or none.
@@ -190,19 +190,6 @@ fn commands_in(left: &Commands, who: u32) -> u64
         Some(_) => 1,
         None => 0,
     }
-}
-
-// How many Takes a box has.
-fn takes_in(world: &World, who: u32) -> u64
-    requires { who < length world.now.boxes }
-    ensures count { result ≡ length (takes_of world.now who) }
-    ensures small { result ≤ 64 }
-{
-    let mut count = 0;
-    for local in 0..slots_of(world, who) {
-        count += takes_at(world, who, local as u8);
-    }
-    count
 }
 
 // The box at the other end of a slot's tunnel.

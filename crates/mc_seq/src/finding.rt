@@ -8,7 +8,6 @@ ghost use Rattle.mc_seq.specs.Ready.{CountsCandidates};
 ghost use Rattle.mc_seq.specs.Sums.{AreSums, counts_of, levels_of};
 
 use crate::commands::{Commands, next_command};
-use crate::listing::take_waits;
 use crate::sums::find;
 use mc_box::{Event, Turn};
 use mc_world::World;
@@ -74,8 +73,8 @@ pub fn slots_of(world: &World, who: u32) -> usize
 }
 
 // How many Takes a slot has: one, or none.
-pub fn takes_at(world: &World, who: u32, local: u8) -> u64
+fn takes_at(world: &World, who: u32, local: u8) -> u64
     ensures { result ≡ length (waiting_take world.now who local) }
 {
-    if take_waits(world, who, local) { 1 } else { 0 }
+    if world.waits(who, local) { 1 } else { 0 }
 }

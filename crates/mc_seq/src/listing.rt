@@ -9,7 +9,7 @@ use mc_world::World;
 use std::alloc::{AllocError, Global};
 
 // Whether a signal waits that a box's slot can take now.
-pub fn take_waits(world: &World, who: u32, local: u8) -> bool
+fn take_waits(world: &World, who: u32, local: u8) -> bool
     ensures { result ≡ take_waits world.now who local }
 {
     match world.number(who, local) {
