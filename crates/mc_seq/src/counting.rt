@@ -148,8 +148,9 @@ fn candidate_counts(alloc: Global, world: &World, left: &Commands) -> Result<Vec
     ensures few { IfOk result (λ counts. length counts.items ≤ 2 ^ 32) }
 {
     world.keeps();
-    let mut counts = Vec::new(alloc);
-    for who in 0..world.boxes().len() {
+    let boxes = world.boxes().len();
+    let mut counts = Vec::with_capacity(alloc, boxes)?;
+    for who in 0..boxes {
         counts.push(candidates_in(world, left, who as u32))?;
     }
     Ok(counts)
@@ -163,8 +164,9 @@ fn command_counts(alloc: Global, world: &World, left: &Commands) -> Result<Vec<u
     ensures few { IfOk result (λ counts. length counts.items ≤ 2 ^ 32) }
 {
     world.keeps();
-    let mut counts = Vec::new(alloc);
-    for who in 0..world.boxes().len() {
+    let boxes = world.boxes().len();
+    let mut counts = Vec::with_capacity(alloc, boxes)?;
+    for who in 0..boxes {
         counts.push(commands_in(left, who as u32))?;
     }
     Ok(counts)

@@ -6,9 +6,12 @@ ghost use Rattle.mc_model.specs.Paths.{has_ring};
 ghost use Rattle.mc_model.specs.Settles.{IsSettled};
 ghost use Rattle.mc_model.specs.Worlds.{place, slot_count};
 ghost use Rattle.mc_seq.specs.Commands.{AreKept, left_of};
+ghost use Rattle.mc_seq.specs.Counts.{IsCounted};
 ghost use Rattle.mc_seq.specs.Draws.{SettlesByDraws, StopsByDraws};
 ghost use Rattle.mc_seq.specs.Drawing.{CameToRest, DrewOnce, IsInStep, MayCome, Picks, TriedTurn, UsedUp, moment_of, sight_of};
+ghost use Rattle.mc_seq.specs.Retries.{retries_by_box};
 ghost use Rattle.mc_seq.specs.Schedule.{is_urgent, left_by, since_by};
+ghost use Rattle.mc_seq.specs.Turns.{MadeAll};
 
 use crate::batches::is_command;
 use crate::commands::{Commands, all_commands, drop_command};
@@ -73,10 +76,36 @@ pub fn settle_one(
         return Err(SettleFault::Ring(stopped(sitting, at)));
     }
     come_to_rest(&mut sitting, draws)?;
-    retry_by_box(&mut sitting.settled)?;
-    sitting.counts = count_all(alloc, &sitting.settled.world, &sitting.left)?;
+    retry_all(
+        alloc,
+        &mut sitting.settled,
+        &mut sitting.counts,
+        &sitting.left,
+    )?;
     come_to_rest(&mut sitting, draws)?;
     Ok(settled_by(sitting))
+}
+
+// Makes each retry that is owed, and counts again where there was one.
+fn retry_all(
+    alloc: Global,
+    settled: &mut Settled,
+    counts: &mut Counts,
+    left: &Commands,
+) -> Result<(), AllocError>
+    requires kept { AreKept left.now }
+    requires counted { IsCounted settled.old.world (left_of left.now) counts.old }
+    ensures rings { OnOk result (has_ring settled.new.world ≡ has_ring settled.old.world) }
+    ensures made { OnOk result (MadeAll settled.old settled.new (retries_by_box settled.old.world)) }
+    ensures counted { OnOk result (IsCounted settled.new.world (left_of left.now) counts.new) }
+{
+    let before = settled.turns.len();
+    retry_by_box(settled)?;
+    if settled.turns.len() == before {
+        return Ok(());
+    }
+    *counts = count_all(alloc, &settled.world, left)?;
+    Ok(())
 }
 
 // The world and the turns of a settle.

@@ -56,12 +56,12 @@ done_is c =
     let used : Sight = sight_of c.use_up.new.sitting c.use_up.new.draws.state in
     let first = subst (UsedUp start used) c.in_default.is c.in_ok-at.ensures.drew in
     let rested : Sight = sight_of c.come_to_rest.new.sitting c.come_to_rest.new.draws.state in
-    let again : Sight = record { standing = record rested.standing { world = c.retry_by_box.new.settled.world }; turns = c.retry_by_box.new.settled.turns.items } in
+    let again : Sight = record { standing = record rested.standing { world = c.retry_all.new.settled.world }; turns = c.retry_all.new.settled.turns.items } in
     let ended : Sight = sight_of c.come_to_rest-2.new.sitting c.come_to_rest-2.new.draws.state in
     let scheduled : SettlesByDraws c.args.world c.args.batch.now c.args.draws.now.state ended.standing.draws c.come_to_rest-2.new.sitting.settled =
-    scheduled_is c.args.world c.retry_by_box.new.settled.world c.args.batch.now c.args.draws.now.state start used rested again ended
+    scheduled_is c.args.world c.retry_all.new.settled.world c.args.batch.now c.args.draws.now.state start used rested again ended
     (ap (λ (l : List Turn). first_standing c.args.world l c.args.draws.now.state) c.in_ok-left.ensures.left) c.new-turns.ensures.items
-    first.0 c.in_ok-come_to_rest.ensures.rests refl c.in_ok-retry_by_box.ensures.made.ran c.in_ok-retry_by_box.ensures.made.logged c.in_ok-come_to_rest-2.ensures.rests in
+    first.0 c.in_ok-come_to_rest.ensures.rests refl c.in_ok-retry_all.ensures.made.ran c.in_ok-retry_all.ensures.made.logged c.in_ok-come_to_rest-2.ensures.rests in
     subst (λ (done : Settled). SettlesByDraws c.args.world c.args.batch.now c.args.draws.now.state ended.standing.draws done) (sym c.settled_by.ensures) scheduled
 
 pub returns-clause-scheduled : goal.returns-clause-scheduled
