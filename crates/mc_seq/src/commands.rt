@@ -43,6 +43,10 @@ pub fn next_command(commands: &Commands, who: u32) -> Option<Turn>
     requires { AreKept commands.now }
     ensures { result ≡ next_of who (left_of commands.now) }
 {
+    // most turns of a settle come after its last command
+    if commands.count == 0 {
+        return None;
+    }
     command_at(&commands.queues, who, used_at(&commands.used, who))
 }
 
