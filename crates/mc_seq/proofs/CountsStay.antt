@@ -21,7 +21,7 @@ use Rattle.mc_laws.proofs.TakeParts.{take_goals_stay}
 use Rattle.mc_seq.specs.Counts.{AreListed, HasSlot, IsAside, IsCounted, IsCountedBut, IsUntouched, KeepsCommands, far_box}
 use Rattle.mc_seq.specs.ForEach.{for_each}
 use Rattle.mc_seq.specs.Ready.{IsAway, IsOff}
-use Rattle.mc_seq.specs.Schedule.{candidates_of, commands_of, left_by, next_of, take_turn, takes_of, waiting_take, without_next}
+use Rattle.mc_seq.specs.Schedule.{candidates_of, command_candidates, left_by, next_of, take_turn, takes_of, waiting_take, without_next}
 use Rattle.mc_world.specs.Waiting.{take_waits}
 use Rattle.mc_seq.specs.declared.counting.Counts.{Counts}
 use Rattle.mc_seq.proofs.ForEach.{each_same}
@@ -120,7 +120,7 @@ left_stays : (command : Bool) (who other : ℕ) (left : List Turn) → (command 
 left_stays true who other left keeps = next_stays who other left (keeps refl)
 left_stays false who other left keeps = refl
 
-commands_stay : (turn : Turn) (left : List Turn) (other : ℕ) → KeepsCommands turn.who turn.event other → commands_of (left_by turn left) other ≡ commands_of left other
+commands_stay : (turn : Turn) (left : List Turn) (other : ℕ) → KeepsCommands turn.who turn.event other → command_candidates (left_by turn left) other ≡ command_candidates left other
 commands_stay turn left other keeps = ap (λ (o : Option Turn). option_to_list o) (left_stays (is_command turn.event) turn.who other left keeps)
 
 -- ---- both
@@ -129,7 +129,7 @@ pub candidates_stay : (world next : WorldState) (turn : Turn) (left : List Turn)
     → candidates_of next (left_by turn left) false other ≡ candidates_of world left false other
 candidates_stay world next turn left other sound goes untouched =
     ap (λ (commands : List Turn). commands ++ takes_of next other) (commands_stay turn left other (λ command. other_by turn.event world turn.who other untouched))
-    ∙ ap (λ (takes : List Turn). commands_of left other ++ takes) (takes_stay world next turn other sound goes untouched)
+    ∙ ap (λ (takes : List Turn). command_candidates left other ++ takes) (takes_stay world next turn other sound goes untouched)
 
 -- ---- before and after
 

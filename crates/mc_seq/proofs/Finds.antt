@@ -3,7 +3,7 @@ use Rattle.std.proofs.Common.{◌≡◌, ◌<◌, ◌≤◌, ◌+◌, ◌-◌, �
 use Rattle.mc_box.specs.declared.event.Turn.{Turn}
 use Rattle.mc_model.specs.Worlds.{WorldState, box_at}
 use Rattle.mc_seq.specs.ForEach.{for_each}
-use Rattle.mc_seq.specs.Schedule.{candidates_of, commands_of, take_turn, waiting_take, takes_of}
+use Rattle.mc_seq.specs.Schedule.{candidates_of, command_candidates, take_turn, waiting_take, takes_of}
 use Rattle.mc_world.specs.Waiting.{bit, take_waits, waiting_count}
 use Rattle.mc_seq.proofs.Kth.{each_got}
 
@@ -29,10 +29,10 @@ takes_counted world who (suc count) =
     omega arith
 
 -- so a box has as many candidates as commands that can come next and slots that can take
-pub listed_counted : (world : WorldState) (left : List Turn) (who commands takes : ℕ) → commands ≡ length (commands_of left who) → takes ≡ waiting_count world who (length (box_at world who).slots)
+pub listed_counted : (world : WorldState) (left : List Turn) (who commands takes : ℕ) → commands ≡ length (command_candidates left who) → takes ≡ waiting_count world who (length (box_at world who).slots)
     → commands + takes ≡ length (candidates_of world left false who)
 listed_counted world left who commands takes one two =
-    let both : length (commands_of left who ++ takes_of world who) ≡ length (commands_of left who) + length (takes_of world who) = length-append (commands_of left who) (takes_of world who) in
+    let both : length (command_candidates left who ++ takes_of world who) ≡ length (command_candidates left who) + length (takes_of world who) = length-append (command_candidates left who) (takes_of world who) in
     let each : length (takes_of world who) ≡ waiting_count world who (length (box_at world who).slots) = takes_counted world who (length (box_at world who).slots) in
     omega arith
 

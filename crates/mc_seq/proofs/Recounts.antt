@@ -14,7 +14,7 @@ use Rattle.mc_model.specs.Sound.{IsNumbered}
 use Rattle.mc_model.specs.Worlds.{WorldState, box_at, number}
 use Rattle.mc_seq.specs.Counts.{AnyBox, AreCounted, AreListed, IsApart, IsBeside, IsCounted, IsRecounted, IsTree, far_box, levels_by}
 use Rattle.mc_seq.specs.Ready.{CountsCandidates}
-use Rattle.mc_seq.specs.Schedule.{Standing, all_candidates, candidates, candidates_of, commands_of, drawn_turn, is_urgent}
+use Rattle.mc_seq.specs.Schedule.{Standing, all_candidates, candidates, candidates_of, command_candidates, drawn_turn, is_urgent}
 use Rattle.mc_seq.specs.Sums.{AreSums, counts_of, level_at, levels_of}
 use Rattle.mc_seq.specs.declared.counting.Counts.{Counts}
 use Rattle.mc_seq.proofs.Kth.{count_is}
@@ -124,7 +124,7 @@ pub searched : (urgent : Bool) (world : WorldState) (left : List Turn) (counts :
     → AreSums (levels_of (levels_by counts urgent)) × CountsCandidates world left urgent (counts_of (levels_by counts urgent))
 searched true world left counts counted = (
   counted.commands.tree.sums,
-  record { long = counted.commands.long; counts = λ who below. counted.commands.right who below tt ∙ ap length (sym (append-nil (commands_of left who))) },
+  record { long = counted.commands.long; counts = λ who below. counted.commands.right who below tt ∙ ap length (sym (append-nil (command_candidates left who))) },
 )
 searched false world left counts counted = (counted.all.tree.sums, record { long = counted.all.long; counts = λ who below. counted.all.right who below tt })
 

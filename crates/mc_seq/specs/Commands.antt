@@ -29,11 +29,11 @@ abbrev pub used_of : List ℕ → ℕ → ℕ
 used_of used who = slice_index_or used who 0
 
 -- the commands that are left
-abbrev pub left_of : Commands → List Turn
-left_of commands = left_after (used_of commands.used.items) commands.batch.items
+abbrev pub commands_left : Commands → List Turn
+commands_left commands = left_after (used_of commands.used.items) commands.batch.items
 
 -- each box has its list, and those that are left are counted
 pub record AreKept (commands : Commands) : Type 0 where
   pub queues : (who : ℕ) → queue_at (queues_of commands.queues.items) who ≡ turns_of who commands.batch.items
   pub long : length commands.used.items ≡ length commands.queues.items
-  pub counted : commands.count ≡ length (left_of commands)
+  pub counted : commands.count ≡ length (commands_left commands)

@@ -9,7 +9,7 @@ use Rattle.mc_box.specs.declared.event.Event.{Event}
 use Rattle.mc_box.specs.declared.event.Event.TheVariants.{Take}
 use Rattle.mc_box.specs.declared.event.Turn.{Turn}
 use Rattle.mc_model.specs.Worlds.{WorldState, box_at, far, number, place}
-use Rattle.mc_seq.specs.Schedule.{candidates_of, commands_of}
+use Rattle.mc_seq.specs.Schedule.{candidates_of, command_candidates}
 use Rattle.mc_seq.specs.Sums.{AreSums, counts_of, levels_of}
 use Rattle.mc_seq.specs.declared.counting.Counts.{Counts}
 
@@ -35,7 +35,7 @@ AreListed Said world left levels = AreCounted Said (candidates_of world left fal
 -- the candidates of each box are counted, and which of them are commands
 pub record IsCounted (world : WorldState) (left : List Turn) (counts : Counts) : Type 0 where
   pub all : AreListed AnyBox world left counts.all.items
-  pub commands : AreCounted AnyBox (commands_of left) (length world.boxes) counts.commands.items
+  pub commands : AreCounted AnyBox (command_candidates left) (length world.boxes) counts.commands.items
 
 -- ---- the boxes that a turn may change
 
@@ -73,7 +73,7 @@ KeepsCommands who event other = is_command event ≡ true → other ≢ who
 -- what a turn leaves as it is, is counted
 pub record IsCountedBut (world : WorldState) (left : List Turn) (turn : Turn) (counts : Counts) : Type 0 where
   pub all : AreListed (IsUntouched world turn.who turn.event) world left counts.all.items
-  pub commands : AreCounted (KeepsCommands turn.who turn.event) (commands_of left) (length world.boxes) counts.commands.items
+  pub commands : AreCounted (KeepsCommands turn.who turn.event) (command_candidates left) (length world.boxes) counts.commands.items
 
 -- one number is counted anew
 pub record IsRecounted (f : ℕ → List Turn) (old new : List (Vec ℕ Global)) (who : ℕ) : Type 0 where

@@ -30,8 +30,8 @@ abbrev pub next_of : ℕ → List Turn → Option Turn
 next_of who left = find (λ turn. turn.who == who) left
 
 -- that command, if a box has one
-abbrev pub commands_of : List Turn → ℕ → List Turn
-commands_of left who = option_to_list (next_of who left)
+abbrev pub command_candidates : List Turn → ℕ → List Turn
+command_candidates left who = option_to_list (next_of who left)
 
 abbrev pub take_turn : ℕ → ℕ → Turn
 take_turn who local = record { who = who; event = Take local }
@@ -50,7 +50,7 @@ is_urgent left since = not (length left == 0) && not (nat_lt since 63)
 
 -- the candidates of a box: its next command; then its Takes, unless commands alone are listed. The Shift of its program would stand behind them
 abbrev pub candidates_of : WorldState → List Turn → Bool → ℕ → List Turn
-candidates_of world left urgent who = commands_of left who ++ (if urgent then [] else takes_of world who)
+candidates_of world left urgent who = command_candidates left who ++ (if urgent then [] else takes_of world who)
 
 -- the candidates of all boxes, box by box
 abbrev pub all_candidates : WorldState → List Turn → Bool → List Turn

@@ -3,7 +3,7 @@
 ghost use Rattle.std.specs.Prelude.{◌≡◌, ℕ, ◌<◌, ◌++◌, [], ◌∷◌, length, replicate, slice_set, IfOk, OnOk};
 ghost use Rattle.std.specs.List.{slice_get};
 ghost use Rattle.mc_model.specs.Shapes.{AreAllowed};
-ghost use Rattle.mc_seq.specs.Commands.{AreKept, left_of, queue_at, queues_of, turns_of, used_of};
+ghost use Rattle.mc_seq.specs.Commands.{AreKept, commands_left, queue_at, queues_of, turns_of, used_of};
 ghost use Rattle.mc_seq.specs.Schedule.{next_of, without_next};
 
 use mc_box::Turn;
@@ -23,7 +23,7 @@ pub struct Commands {
 pub fn all_commands(alloc: Global, world: &World, batch: &[Turn]) -> Result<Commands, AllocError>
     requires { AreAllowed world.now batch.now }
     ensures kept { IfOk result AreKept }
-    ensures left { IfOk result (λ commands. left_of commands ≡ batch.now) }
+    ensures left { IfOk result (λ commands. commands_left commands ≡ batch.now) }
 {
     let boxes = world.boxes().len();
     let queues = queues_by_box(alloc, world, batch)?;
@@ -41,7 +41,7 @@ pub fn all_commands(alloc: Global, world: &World, batch: &[Turn]) -> Result<Comm
 // The next command of a box.
 pub fn next_command(commands: &Commands, who: u32) -> Option<Turn>
     requires { AreKept commands.now }
-    ensures { result ≡ next_of who (left_of commands.now) }
+    ensures { result ≡ next_of who (commands_left commands.now) }
 {
     // most turns of a settle come after its last command
     if commands.count == 0 {
@@ -54,7 +54,7 @@ pub fn next_command(commands: &Commands, who: u32) -> Option<Turn>
 pub fn drop_command(commands: &mut Commands, who: u32)
     requires { AreKept commands.old }
     ensures kept { AreKept commands.new }
-    ensures left { left_of commands.new ≡ without_next who (left_of commands.old) }
+    ensures left { commands_left commands.new ≡ without_next who (commands_left commands.old) }
 {
     let used = used_at(&commands.used, who);
     if used < queue_len(&commands.queues, who) {

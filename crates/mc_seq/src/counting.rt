@@ -3,10 +3,10 @@
 ghost use Rattle.std.specs.Prelude.{◌≡◌, ℕ, ◌<◌, ◌≤◌, ◌^◌, false, length, slice_index_or, slice_set, IfOk, Some};
 ghost use Rattle.mc_box.specs.Boxes.{goal_at};
 ghost use Rattle.mc_model.specs.Worlds.{box_at};
-ghost use Rattle.mc_seq.specs.Commands.{AreKept, left_of};
+ghost use Rattle.mc_seq.specs.Commands.{AreKept, commands_left};
 ghost use Rattle.mc_seq.specs.Counts.{AnyBox, AreCounted, AreListed, HasSlot, IsAside, IsBeside, IsCounted, IsCountedBut, IsRecounted, IsTree, KeepsCommands, far_box, levels_by};
 ghost use Rattle.mc_seq.specs.Ready.{CountsCandidates};
-ghost use Rattle.mc_seq.specs.Schedule.{candidates_of, commands_of};
+ghost use Rattle.mc_seq.specs.Schedule.{candidates_of, command_candidates};
 ghost use Rattle.mc_seq.specs.Sums.{CountsEach, counts_of, levels_of};
 
 use crate::batches::is_command;
@@ -28,7 +28,7 @@ pub struct Counts {
 // Counts the candidates of all boxes.
 pub fn count_all(alloc: Global, world: &World, left: &Commands) -> Result<Counts, AllocError>
     requires { AreKept left.now }
-    ensures { IfOk result (IsCounted world.now (left_of left.now)) }
+    ensures { IfOk result (IsCounted world.now (commands_left left.now)) }
 {
     let listed = candidate_counts(alloc, world, left)?;
     let urgent = command_counts(alloc, world, left)?;
@@ -42,8 +42,8 @@ pub fn recount(counts: &mut Counts, world: &World, left: &Commands, turn: Turn)
     requires here { turn.who < length world.now.boxes }
     requires inside { HasSlot world.now turn }
     requires kept { AreKept left.now }
-    requires counted { IsCountedBut world.now (left_of left.now) turn counts.old }
-    ensures { IsCounted world.now (left_of left.now) counts.new }
+    requires counted { IsCountedBut world.now (commands_left left.now) turn counts.old }
+    ensures { IsCounted world.now (commands_left left.now) counts.new }
 {
     world.keeps();
     recount_commands(&mut counts.commands, left, turn);
@@ -57,8 +57,8 @@ pub fn recount(counts: &mut Counts, world: &World, left: &Commands, turn: Turn)
 fn recount_commands(levels: &mut Vec<Vec<u64>>, left: &Commands, turn: Turn)
     requires inside { turn.who < length (counts_of levels.old.items) }
     requires kept { AreKept left.now }
-    requires counted { AreCounted (KeepsCommands turn.who turn.event) (commands_of (left_of left.now)) (length (counts_of levels.old.items)) levels.old.items }
-    ensures { AreCounted AnyBox (commands_of (left_of left.now)) (length (counts_of levels.old.items)) levels.new.items }
+    requires counted { AreCounted (KeepsCommands turn.who turn.event) (command_candidates (commands_left left.now)) (length (counts_of levels.old.items)) levels.old.items }
+    ensures { AreCounted AnyBox (command_candidates (commands_left left.now)) (length (counts_of levels.old.items)) levels.new.items }
 {
     if is_command(turn.event) {
         put_small(levels, turn.who, commands_in(left, turn.who));
@@ -70,8 +70,8 @@ fn recount_take(levels: &mut Vec<Vec<u64>>, world: &World, left: &Commands, who:
     requires here { who < length world.now.boxes }
     requires inside { local < length (box_at world.now who).slots }
     requires kept { AreKept left.now }
-    requires counted { AreListed (IsBeside world.now who local) world.now (left_of left.now) levels.old.items }
-    ensures { AreListed AnyBox world.now (left_of left.now) levels.new.items }
+    requires counted { AreListed (IsBeside world.now who local) world.now (commands_left left.now) levels.old.items }
+    ensures { AreListed AnyBox world.now (commands_left left.now) levels.new.items }
 {
     world.keeps();
     recount_box(levels, world, left, who);
@@ -88,8 +88,8 @@ fn recount_take(levels: &mut Vec<Vec<u64>>, world: &World, left: &Commands, who:
 fn recount_all(levels: &mut Vec<Vec<u64>>, world: &World, left: &Commands, who: u32)
     requires here { who < length world.now.boxes }
     requires kept { AreKept left.now }
-    requires counted { AreListed (IsAside world.now who) world.now (left_of left.now) levels.old.items }
-    ensures { AreListed AnyBox world.now (left_of left.now) levels.new.items }
+    requires counted { AreListed (IsAside world.now who) world.now (commands_left left.now) levels.old.items }
+    ensures { AreListed AnyBox world.now (commands_left left.now) levels.new.items }
 {
     world.keeps();
     let mut last = who;
@@ -121,7 +121,7 @@ fn recount_box(levels: &mut Vec<Vec<u64>>, world: &World, left: &Commands, who: 
     requires kept { AreKept left.now }
     requires tree { IsTree (levels_of levels.old.items) }
     requires long { length (counts_of levels.old.items) ≡ length world.now.boxes }
-    ensures { IsRecounted (candidates_of world.now (left_of left.now) false) levels.old.items levels.new.items who }
+    ensures { IsRecounted (candidates_of world.now (commands_left left.now) false) levels.old.items levels.new.items who }
 {
     put_small(levels, who, candidates_in(world, left, who));
 }
@@ -143,7 +143,7 @@ fn put_small(levels: &mut Vec<Vec<u64>>, who: u32, count: u64)
 // How many candidates each box has.
 fn candidate_counts(alloc: Global, world: &World, left: &Commands) -> Result<Vec<u64>, AllocError>
     requires { AreKept left.now }
-    ensures counts { IfOk result (λ counts. CountsCandidates world.now (left_of left.now) false counts.items) }
+    ensures counts { IfOk result (λ counts. CountsCandidates world.now (commands_left left.now) false counts.items) }
     ensures small { IfOk result (λ counts. (who : ℕ) → slice_index_or counts.items who 0 ≤ 65) }
     ensures few { IfOk result (λ counts. length counts.items ≤ 2 ^ 32) }
 {
@@ -159,7 +159,7 @@ fn candidate_counts(alloc: Global, world: &World, left: &Commands) -> Result<Vec
 // How many of them are commands.
 fn command_counts(alloc: Global, world: &World, left: &Commands) -> Result<Vec<u64>, AllocError>
     requires { AreKept left.now }
-    ensures counts { IfOk result (λ counts. CountsEach (commands_of (left_of left.now)) counts.items (length world.now.boxes)) }
+    ensures counts { IfOk result (λ counts. CountsEach (command_candidates (commands_left left.now)) counts.items (length world.now.boxes)) }
     ensures small { IfOk result (λ counts. (who : ℕ) → slice_index_or counts.items who 0 ≤ 65) }
     ensures few { IfOk result (λ counts. length counts.items ≤ 2 ^ 32) }
 {
@@ -176,7 +176,7 @@ fn command_counts(alloc: Global, world: &World, left: &Commands) -> Result<Vec<u
 fn candidates_in(world: &World, left: &Commands, who: u32) -> u64
     requires here { who < length world.now.boxes }
     requires kept { AreKept left.now }
-    ensures count { result ≡ length (candidates_of world.now (left_of left.now) false who) }
+    ensures count { result ≡ length (candidates_of world.now (commands_left left.now) false who) }
     ensures small { result ≤ 65 }
 {
     commands_in(left, who) + u64::from(world.takes(who))
@@ -185,7 +185,7 @@ fn candidates_in(world: &World, left: &Commands, who: u32) -> u64
 // How many commands a box can make next: one, or none.
 fn commands_in(left: &Commands, who: u32) -> u64
     requires { AreKept left.now }
-    ensures count { result ≡ length (commands_of (left_of left.now) who) }
+    ensures count { result ≡ length (command_candidates (commands_left left.now) who) }
     ensures small { result ≤ 1 }
 {
     match next_command(left, who) {

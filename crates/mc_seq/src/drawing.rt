@@ -5,7 +5,7 @@ ghost use Rattle.mc_model.specs.Shapes.{AreAllowed};
 ghost use Rattle.mc_model.specs.Paths.{has_ring};
 ghost use Rattle.mc_model.specs.Settles.{IsSettled};
 ghost use Rattle.mc_model.specs.Worlds.{place, slot_count};
-ghost use Rattle.mc_seq.specs.Commands.{AreKept, left_of};
+ghost use Rattle.mc_seq.specs.Commands.{AreKept, commands_left};
 ghost use Rattle.mc_seq.specs.Counts.{IsCounted};
 ghost use Rattle.mc_seq.specs.Draws.{SettlesByDraws, StopsByDraws};
 ghost use Rattle.mc_seq.specs.Drawing.{CameToRest, DrewOnce, IsInStep, MayCome, Picks, TriedTurn, UsedUp, moment_of, sight_of};
@@ -94,10 +94,10 @@ fn retry_all(
     left: &Commands,
 ) -> Result<(), AllocError>
     requires kept { AreKept left.now }
-    requires counted { IsCounted settled.old.world (left_of left.now) counts.old }
+    requires counted { IsCounted settled.old.world (commands_left left.now) counts.old }
     ensures rings { OnOk result (has_ring settled.new.world ≡ has_ring settled.old.world) }
     ensures made { OnOk result (MadeAll settled.old settled.new (retries_by_box settled.old.world)) }
-    ensures counted { OnOk result (IsCounted settled.new.world (left_of left.now) counts.new) }
+    ensures counted { OnOk result (IsCounted settled.new.world (commands_left left.now) counts.new) }
 {
     let before = settled.turns.len();
     retry_by_box(settled)?;
@@ -133,7 +133,7 @@ fn stopped(sitting: Sitting, at: u32) -> Stopped
 
 // Draws until the batch is used up, or to the last version of a slot.
 fn use_up(sitting: &mut Sitting, draws: &mut Draws) -> Result<Option<u32>, AllocError>
-    requires allowed { AreAllowed sitting.old.settled.world (left_of sitting.old.left) }
+    requires allowed { AreAllowed sitting.old.settled.world (commands_left sitting.old.left) }
     requires counted { IsInStep sitting.old }
     ensures drew { IfOk result (UsedUp (sight_of sitting.old draws.old.state) (sight_of sitting.new draws.new.state)) }
     ensures counted { OnOk result (IsInStep sitting.new) }
@@ -151,7 +151,7 @@ fn use_up(sitting: &mut Sitting, draws: &mut Draws) -> Result<Option<u32>, Alloc
 
 // Draws until nothing is listed, where the batch is used up. Where there is no ring, that ends.
 fn come_to_rest(sitting: &mut Sitting, draws: &mut Draws) -> Result<(), AllocError>
-    requires used_up { left_of sitting.old.left ≡ [] }
+    requires used_up { commands_left sitting.old.left ≡ [] }
     requires free { has_ring sitting.old.settled.world ≡ false }
     requires counted { IsInStep sitting.old }
     ensures rests { OnOk result (CameToRest (sight_of sitting.old draws.old.state) (sight_of sitting.new draws.new.state)) }
@@ -169,7 +169,7 @@ fn come_to_rest(sitting: &mut Sitting, draws: &mut Draws) -> Result<(), AllocErr
 
 // Draws once, where anything is listed, and makes the turn that is drawn.
 fn draw_once(sitting: &mut Sitting, draws: &mut Draws) -> Result<Draw, AllocError>
-    requires allowed { AreAllowed sitting.old.settled.world (left_of sitting.old.left) }
+    requires allowed { AreAllowed sitting.old.settled.world (commands_left sitting.old.left) }
     requires counted { IsInStep sitting.old }
     ensures drew { IfOk result (DrewOnce (sight_of sitting.old draws.old.state) (sight_of sitting.new draws.new.state)) }
     ensures counted { OnOk result (IsInStep sitting.new) }
@@ -199,7 +199,7 @@ fn pick(sitting: &Sitting, draws: &mut Draws) -> Option<Turn>
 // Whether commands alone are listed.
 fn is_urgent(left: &Commands, since: u8) -> bool
     requires { AreKept left.now }
-    ensures { result ≡ is_urgent (left_of left.now) since }
+    ensures { result ≡ is_urgent (commands_left left.now) since }
 {
     left.count != 0 && !(since < 63)
 }
@@ -236,7 +236,7 @@ fn try_turn(sitting: &mut Sitting, turn: Turn) -> Result<Draw, AllocError>
 fn count(left: &mut Commands, since: &mut u8, turn: Turn)
     requires { AreKept left.old }
     ensures kept { AreKept left.new }
-    ensures left { left_of left.new ≡ left_by turn (left_of left.old) }
+    ensures left { commands_left left.new ≡ left_by turn (commands_left left.old) }
     ensures since { since.new ≡ since_by turn since.old }
 {
     if is_command(turn.event) {

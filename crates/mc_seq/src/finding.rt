@@ -2,7 +2,7 @@
 
 ghost use Rattle.std.specs.Prelude.{◌≡◌, ◌<◌, ◌≤◌, Some, length, slice_get};
 ghost use Rattle.mc_model.specs.Worlds.{box_at};
-ghost use Rattle.mc_seq.specs.Commands.{AreKept, left_of};
+ghost use Rattle.mc_seq.specs.Commands.{AreKept, commands_left};
 ghost use Rattle.mc_seq.specs.Schedule.{all_candidates, candidates_of, takes_of, waiting_take};
 ghost use Rattle.mc_seq.specs.Ready.{CountsCandidates};
 ghost use Rattle.mc_seq.specs.Sums.{AreSums, counts_of, levels_of};
@@ -16,9 +16,9 @@ use mc_world::World;
 pub fn kth(levels: &[Vec<u64>], world: &World, left: &Commands, urgent: bool, k: u64) -> Turn
     requires kept { AreKept left.now }
     requires sums { AreSums (levels_of levels.now) }
-    requires counts { CountsCandidates world.now (left_of left.now) urgent (counts_of levels.now) }
-    requires inside { k < length (all_candidates world.now (left_of left.now) urgent) }
-    ensures { slice_get (all_candidates world.now (left_of left.now) urgent) k ≡ Some result }
+    requires counts { CountsCandidates world.now (commands_left left.now) urgent (counts_of levels.now) }
+    requires inside { k < length (all_candidates world.now (commands_left left.now) urgent) }
+    ensures { slice_get (all_candidates world.now (commands_left left.now) urgent) k ≡ Some result }
 {
     world.keeps();
     let (who, rest) = find(levels, k);
@@ -29,8 +29,8 @@ pub fn kth(levels: &[Vec<u64>], world: &World, left: &Commands, urgent: bool, k:
 fn kth_of_box(world: &World, left: &Commands, urgent: bool, who: u32, k: u64) -> Turn
     requires kept { AreKept left.now }
     requires here { who < length world.now.boxes }
-    requires inside { k < length (candidates_of world.now (left_of left.now) urgent who) }
-    ensures { slice_get (candidates_of world.now (left_of left.now) urgent who) k ≡ Some result }
+    requires inside { k < length (candidates_of world.now (commands_left left.now) urgent who) }
+    ensures { slice_get (candidates_of world.now (commands_left left.now) urgent who) k ≡ Some result }
 {
     match next_command(left, who) {
         Some(turn) => {

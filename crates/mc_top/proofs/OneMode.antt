@@ -2,7 +2,7 @@
 use Rattle.std.proofs.Common.{◌≡◌, inl, inr, ℕ, List, [], ◌∷◌, Some, codes, drop, map, slice_get, refl, ap, sym, ◌∙◌, subst}
 use Rattle.std.specs.Prelude.{string_bytes, String}
 use Rattle.std.specs.declared.alloc.Global.{Global}
-use Rattle.mc_top.specs.Modes.{IsCommand, Spells, spelt_state}
+use Rattle.mc_top.specs.Modes.{IsCommand, Spells, spelt_draws}
 use Rattle.mc_top.specs.declared.words.Mode.{Mode}
 use Rattle.mc_top.specs.declared.words.Mode.TheVariants.{One, Run}
 
@@ -15,8 +15,8 @@ no_dashes (One state) words (word, is, spelt) dashes =
     let clash : Some (codes "one") ≡ Some (codes "--") = subst (λ (list : List (List ℕ)). slice_get list 0 ≡ Some (codes "--")) is dashes in
     cc
 
-same_state : (word other : List ℕ) (state more : ℕ) → word ≡ other → spelt_state word ≡ Some state → spelt_state other ≡ Some more → state ≡ more
-same_state word other state more is one two = let both : Some state ≡ Some more = sym one ∙ (ap spelt_state is ∙ two) in cc
+same_state : (word other : List ℕ) (state more : ℕ) → word ≡ other → spelt_draws word ≡ Some state → spelt_draws other ≡ Some more → state ≡ more
+same_state word other state more is one two = let both : Some state ≡ Some more = sym one ∙ (ap spelt_draws is ∙ two) in cc
 
 -- words by themselves spell one mode
 spells_one : (mode other : Mode) (words : List (List ℕ)) → Spells mode words → Spells other words → mode ≡ other

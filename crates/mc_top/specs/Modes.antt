@@ -20,13 +20,13 @@ abbrev pub state_within : ℕ → Option ℕ
 state_within number = if nat_le number STATE_LIMIT then Some number else None
 
 -- the state that a word spells, at which draws may begin
-abbrev pub spelt_state : List ℕ → Option ℕ
-spelt_state word = option_and_then state_within (number_of word)
+abbrev pub spelt_draws : List ℕ → Option ℕ
+spelt_draws word = option_and_then state_within (number_of word)
 
 -- the words, without a first `--`, ask for a mode
 abbrev pub Spells : Mode → List (List ℕ) → Type 0
 Spells Run words = words ≡ codes "run" ∷ []
-Spells (One state) words = (word : List ℕ) × (words ≡ codes "one" ∷ word ∷ []) × (spelt_state word ≡ Some state)
+Spells (One state) words = (word : List ℕ) × (words ≡ codes "one" ∷ word ∷ []) × (spelt_draws word ≡ Some state)
 
 -- the words of the command line ask for a mode: by themselves, or behind a first `--`, which says nothing
 abbrev pub IsCommand : List (String Global) → Mode → Type 0

@@ -3,7 +3,7 @@ ghost use Rattle.std.specs.Prelude.{◌≡◌, ◌↔◌, map, string_bytes, IsT
 ghost use Rattle.std.specs.Option.{option_map};
 ghost use Rattle.mc_top.specs.declared.words.Mode.{Mode};
 ghost use Rattle.mc_top.specs.declared.words.Mode.TheVariants.{One};
-ghost use Rattle.mc_top.specs.Modes.{IsCommand, Spells, spelt_state};
+ghost use Rattle.mc_top.specs.Modes.{IsCommand, Spells, spelt_draws};
 
 use mc_text::read_number;
 
@@ -26,8 +26,8 @@ fn is_word(word: &String, text: &str) -> bool
 }
 
 // The state that a word spells.
-fn state_of(word: &String) -> Option<u32>
-    ensures { result ≡ spelt_state (string_bytes word.now) }
+fn spelt_draws(word: &String) -> Option<u32>
+    ensures { result ≡ spelt_draws (string_bytes word.now) }
 {
     let number = read_number(word.as_bytes())?;
     if number <= STATE_LIMIT {
@@ -39,9 +39,9 @@ fn state_of(word: &String) -> Option<u32>
 
 // The mode with draws from the state that a word spells.
 fn one_of(word: &String) -> Option<Mode>
-    ensures { result ≡ option_map One (spelt_state (string_bytes word.now)) }
+    ensures { result ≡ option_map One (spelt_draws (string_bytes word.now)) }
 {
-    Some(Mode::One(state_of(word)?))
+    Some(Mode::One(spelt_draws(word)?))
 }
 
 // The mode that the words ask for without a `--` before them, if they do.

@@ -9,7 +9,7 @@ use Rattle.mc_turn.specs.Sums.{total}
 use Rattle.mc_box.specs.declared.limit.TheConstants.{SLOT_LIMIT}
 use Rattle.mc_turn.proofs.Sums.{total_none, total_one, total_same}
 use Rattle.mc_world.specs.Lanes.{HasNumbers, numbers_of}
-use Rattle.mc_world.specs.Waiting.{AreCounted, bit, flag_count, flag_of}
+use Rattle.mc_world.specs.Waiting.{AreFlagsCounted, bit, flag_count, flag_of}
 use Rattle.mc_world.specs.declared.topology.Topology.{Topology}
 use Rattle.mc_world.specs.declared.waiting.Waiting.{Waiting}
 use Rattle.mc_laws.proofs.Numbers.{found_at}
@@ -85,9 +85,9 @@ home_there topology s numbers below = elim (cases_lt (place_by topology s).0 (le
 ]
 
 -- a flag changes, and with it the count of its box
-pub counted_set : (topology : Topology) (old new : Waiting) (s count : ℕ) (b : Bool) → HasNumbers topology → AreCounted topology old → s < length topology.places.items
+pub counted_set : (topology : Topology) (old new : Waiting) (s count : ℕ) (b : Bool) → HasNumbers topology → AreFlagsCounted topology old → s < length topology.places.items
     → new.flags.items ≡ set old.flags.items s b → new.counts.items ≡ set old.counts.items (place_by topology s).0 count
-    → count + bit (get_or old.flags.items s false) ≡ get_or old.counts.items (place_by topology s).0 0 + bit b → AreCounted topology new
+    → count + bit (get_or old.flags.items s false) ≡ get_or old.counts.items (place_by topology s).0 0 + bit b → AreFlagsCounted topology new
 counted_set topology old new s count b numbers counted below flags counts sum =
     let who : ℕ = (place_by topology s).0 in
     let home : (place_by topology s).0 < length topology.numbers.items = home_there topology s numbers below in
@@ -111,7 +111,7 @@ counted_set topology old new s count b numbers counted below flags counts sum =
 -- the place of a slot, and the count of its box
 pub record IsRead (topology : Topology) (waiting : Waiting) (s : ℕ) (place : ℕ × ℕ) (count : ℕ) : Type 0 where
   pub numbers : HasNumbers topology
-  pub counted : AreCounted topology waiting
+  pub counted : AreFlagsCounted topology waiting
   pub below : s < length topology.places.items
   pub place_is : place ≡ get_or topology.places.items s place
   pub count_is : count ≡ get_or waiting.counts.items place.0 count
@@ -119,7 +119,7 @@ pub record IsRead (topology : Topology) (waiting : Waiting) (s : ℕ) (place : �
 place_read : (topology : Topology) (s : ℕ) (place : ℕ × ℕ) → s < length topology.places.items → place ≡ get_or topology.places.items s place → place ≡ place_by topology s
 place_read topology s place below reads = get_or_read topology.places.items s place below reads (0, 0)
 
-pub home_read : (topology : Topology) (waiting : Waiting) (s : ℕ) (place : ℕ × ℕ) → HasNumbers topology → AreCounted topology waiting → s < length topology.places.items
+pub home_read : (topology : Topology) (waiting : Waiting) (s : ℕ) (place : ℕ × ℕ) → HasNumbers topology → AreFlagsCounted topology waiting → s < length topology.places.items
     → place ≡ get_or topology.places.items s place → place.0 < length waiting.counts.items
 home_read topology waiting s place numbers counted below reads =
     subst (λ (p : ℕ × ℕ). p.0 < length waiting.counts.items) (sym (place_read topology s place below reads)) (omega (arith, home_there topology s numbers below, counted.counts))
@@ -155,7 +155,7 @@ one_there topology waiting s place count read is =
 
 -- what is written is counted
 pub counted_by : (topology : Topology) (old new : Waiting) (s : ℕ) (place : ℕ × ℕ) (count made : ℕ) (b : Bool) → IsRead topology old s place count → new.flags.items ≡ set old.flags.items s b
-    → new.counts.items ≡ set old.counts.items place.0 made → made + bit (get_or old.flags.items s false) ≡ count + bit b → AreCounted topology new
+    → new.counts.items ≡ set old.counts.items place.0 made → made + bit (get_or old.flags.items s false) ≡ count + bit b → AreFlagsCounted topology new
 counted_by topology old new s place count made b read flags counts sum =
     counted_set topology old new s made b read.numbers read.counted read.below flags (counts ∙ ap (λ (p : ℕ × ℕ). set old.counts.items p.0 made) (place_read topology s place read.below read.place_is))
     (sum ∙ ap (λ (n : ℕ). n + bit b) (count_read topology old s place count read))
@@ -168,7 +168,7 @@ no_flags n (Some s) = elim (cases_lt s n) [
   | inr above ↦ get_or-eq_default (replicate n false) false (omega (arith, above, length-replicate n false))
 ]
 
-pub counted_new : (topology : Topology) (waiting : Waiting) → waiting.flags.items ≡ replicate (length topology.places.items) false → waiting.counts.items ≡ replicate (length topology.numbers.items) 0 → AreCounted topology waiting
+pub counted_new : (topology : Topology) (waiting : Waiting) → waiting.flags.items ≡ replicate (length topology.places.items) false → waiting.counts.items ≡ replicate (length topology.numbers.items) 0 → AreFlagsCounted topology waiting
 counted_new topology waiting flags counts = record {
   flags = ap length flags ∙ length-replicate (length topology.places.items) false;
   counts = ap length counts ∙ length-replicate (length topology.numbers.items) 0;

@@ -7,7 +7,7 @@ use Rattle.std.proofs.lemmas.List.{length-map}
 use Rattle.mc_signal.specs.declared.Signal.{Signal}
 use Rattle.mc_signal.specs.declared.Tagged.{Tagged}
 use Rattle.mc_world.specs.Lanes.{IsLaid, lane_by, signals_of, tunnel_by, with_sending, without_front}
-use Rattle.mc_world.specs.Waiting.{AreCounted, AreFlagged, FirstServed, IsWaiting, waits_by}
+use Rattle.mc_world.specs.Waiting.{AreFlagsCounted, AreFlagged, FirstServed, IsWaiting, waits_by}
 use Rattle.mc_world.specs.declared.topology.Topology.{Topology}
 use Rattle.mc_world.specs.declared.waiting.Waiting.{Waiting}
 use Rattle.mc_world.proofs.Flags.{flags_begun, flags_last, flags_next, flags_stay}
@@ -47,7 +47,7 @@ none_left (tagged ∷ rest) front is none = absurd (cc)
 
 -- nothing is behind it
 pub taken_last : (topology : Topology) (lanes : List Lane) (waiting after : Waiting) (s k : ℕ) (d new : Lane) (front : Option Tagged) → Takes topology lanes waiting s k d new
-    → front ≡ slice_get new.items 0 → front ≡ None → after.flags.items ≡ set waiting.flags.items s false → AreCounted topology after → IsWaiting topology (signals_of (set lanes k new)) after
+    → front ≡ slice_get new.items 0 → front ≡ None → after.flags.items ≡ set waiting.flags.items s false → AreFlagsCounted topology after → IsWaiting topology (signals_of (set lanes k new)) after
 taken_last topology lanes waiting after s k d new front takes front_is none flags counted = record {
   counted = counted;
   flagged = subst (λ (l : List (List Tagged)). AreFlagged topology l after.flags.items) (sym (taken_signals topology lanes waiting s k d new takes))
@@ -59,7 +59,7 @@ taken_last topology lanes waiting after s k d new front takes front_is none flag
 -- another signal is, for a slot that gets its flag
 pub taken_next : (topology : Topology) (lanes : List Lane) (waiting mid after : Waiting) (s k next : ℕ) (d new : Lane) (front : Option Tagged) (tagged : Tagged) → Takes topology lanes waiting s k d new
     → FirstServed topology (lane_by topology s) (drop 1 (get_or (signals_of lanes) (lane_by topology s) [])) → front ≡ slice_get new.items 0 → front ≡ Some tagged → mid.flags.items ≡ set waiting.flags.items s false
-    → next ≡ s + 2 * tagged.tunnel - 2 * tunnel_by topology s → after.flags.items ≡ set mid.flags.items next true → AreCounted topology after → IsWaiting topology (signals_of (set lanes k new)) after
+    → next ≡ s + 2 * tagged.tunnel - 2 * tunnel_by topology s → after.flags.items ≡ set mid.flags.items next true → AreFlagsCounted topology after → IsWaiting topology (signals_of (set lanes k new)) after
 taken_next topology lanes waiting mid after s k next d new front tagged takes served front_is some cleared next_is flags counted = record {
   counted = counted;
   flagged = subst (λ (l : List (List Tagged)). AreFlagged topology l after.flags.items) (sym (taken_signals topology lanes waiting s k d new takes))
@@ -102,7 +102,7 @@ some_was (tagged ∷ rest) some none = absurd (cc)
 
 -- it is the first, and the slot gets its flag
 pub come_first : (topology : Topology) (lanes : List Lane) (waiting after : Waiting) (s k tunnel : ℕ) (signal : Signal) (d new : Lane) → Comes topology lanes waiting s k tunnel signal d new
-    → (length (get_or lanes k d).items == 0) ≡ true → after.flags.items ≡ set waiting.flags.items s true → AreCounted topology after → IsWaiting topology (signals_of (set lanes k new)) after
+    → (length (get_or lanes k d).items == 0) ≡ true → after.flags.items ≡ set waiting.flags.items s true → AreFlagsCounted topology after → IsWaiting topology (signals_of (set lanes k new)) after
 come_first topology lanes waiting after s k tunnel signal d new comes empty flags counted =
     let sent : Tagged = record { tunnel = tunnel_by topology s; signal = signal } in
     let none : get_or (signals_of lanes) (lane_by topology s) [] ≡ [] = sym (was_is topology lanes waiting s k tunnel signal d new comes) ∙ none_was (get_or lanes k d).items empty in

@@ -50,7 +50,7 @@ abbrev pub flag_count : Topology → List Bool → ℕ → ℕ → ℕ
 flag_count topology flags who count = total (λ local. bit (flag_of flags (slice_get (numbers_of topology who) local))) count
 
 -- each slot has its flag, and each box the count of the flags of its slots
-pub record AreCounted (topology : Topology) (waiting : Waiting) : Type 0 where
+pub record AreFlagsCounted (topology : Topology) (waiting : Waiting) : Type 0 where
   pub flags : length waiting.flags.items ≡ length topology.places.items
   pub counts : length waiting.counts.items ≡ length topology.numbers.items
   pub each : (who : ℕ) → who < length topology.numbers.items → slice_index_or waiting.counts.items who 0 ≡ flag_count topology waiting.flags.items who (length (numbers_of topology who))
@@ -61,5 +61,5 @@ AreFlagged topology lanes flags = (s : ℕ) → s < length topology.places.items
 
 -- flags and counts are those of these lanes
 pub record IsWaiting (topology : Topology) (lanes : List (List Tagged)) (waiting : Waiting) : Type 0 where
-  pub counted : AreCounted topology waiting
+  pub counted : AreFlagsCounted topology waiting
   pub flagged : AreFlagged topology lanes waiting.flags.items

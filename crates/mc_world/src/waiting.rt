@@ -2,7 +2,7 @@
 
 ghost use Rattle.std.specs.Prelude.{◌≡◌, ◌<◌, true, false, IfOk, length, replicate, slice_index_or, slice_set};
 ghost use Rattle.mc_world.specs.Lanes.{HasNumbers};
-ghost use Rattle.mc_world.specs.Waiting.{AreCounted};
+ghost use Rattle.mc_world.specs.Waiting.{AreFlagsCounted};
 
 use crate::topology::Topology;
 use std::alloc::{AllocError, Global};
@@ -18,7 +18,7 @@ pub struct Waiting {
 impl Waiting {
     /// With no flag set.
     pub fn new(alloc: Global, topology: &Topology) -> Result<Waiting, AllocError>
-        ensures counted { IfOk result (λ waiting. AreCounted topology.now waiting) }
+        ensures counted { IfOk result (λ waiting. AreFlagsCounted topology.now waiting) }
         ensures none { IfOk result (λ waiting. waiting.flags.items ≡ replicate (length topology.now.places.items) false) }
     {
         let flags = vec![in alloc; false; topology.places.len()]?;
@@ -29,11 +29,11 @@ impl Waiting {
     /// The flag of a slot that has none is set.
     pub fn set(&mut self, topology: &Topology, slot: u32)
         requires numbers { HasNumbers topology.now }
-        requires counted { AreCounted topology.now self.old }
+        requires counted { AreFlagsCounted topology.now self.old }
         requires here { slot < length topology.now.places.items }
         requires unset { slice_index_or self.old.flags.items slot false ≡ false }
         ensures flags { self.new.flags.items ≡ slice_set self.old.flags.items slot true }
-        ensures counted { AreCounted topology.now self.new }
+        ensures counted { AreFlagsCounted topology.now self.new }
     {
         let (who, _) = topology.places[slot as usize];
         self.flags[slot as usize] = true;
@@ -43,11 +43,11 @@ impl Waiting {
     /// The flag of a slot that has one is cleared.
     pub fn clear(&mut self, topology: &Topology, slot: u32)
         requires numbers { HasNumbers topology.now }
-        requires counted { AreCounted topology.now self.old }
+        requires counted { AreFlagsCounted topology.now self.old }
         requires here { slot < length topology.now.places.items }
         requires set { slice_index_or self.old.flags.items slot false ≡ true }
         ensures flags { self.new.flags.items ≡ slice_set self.old.flags.items slot false }
-        ensures counted { AreCounted topology.now self.new }
+        ensures counted { AreFlagsCounted topology.now self.new }
     {
         let (who, _) = topology.places[slot as usize];
         self.flags[slot as usize] = false;

@@ -1,6 +1,6 @@
 use Rattle.std.proofs.Common.{◌≡◌, []}
 use Rattle.mc_laws.specs.Measures.{IsRingFree, measure}
-use Rattle.mc_seq.specs.Commands.{left_of}
+use Rattle.mc_seq.specs.Commands.{commands_left}
 use Rattle.mc_seq.specs.Drawing.{IsInStep, sight_of}
 use Rattle.mc_seq.proofs.Sittings.{GoesOn}
 use Rattle.mc_seq.proofs.drawing.come_to_rest.Given as goal
@@ -10,7 +10,7 @@ abbrev pub invariant-takes : goal.invariant-takes
 invariant-takes l = record {
   counted : IsInStep l.sitting;
   free : IsRingFree l.sitting.settled.world;
-  left : left_of l.sitting.left ≡ [];
+  left : commands_left l.sitting.left ≡ [];
   drew : GoesOn (sight_of l.initial.sitting l.initial.draws.state) (sight_of l.sitting l.draws.state);
 }
 

@@ -3,7 +3,7 @@ use Rattle.mc_box.specs.declared.event.Turn.{Turn}
 use Rattle.mc_world.specs.declared.settled.Settled.{Settled}
 use Rattle.mc_model.specs.Rings.{IsFirstOnRing, IsLeastOnRing}
 use Rattle.mc_model.specs.Worlds.{place}
-use Rattle.mc_seq.specs.Commands.{left_of}
+use Rattle.mc_seq.specs.Commands.{commands_left}
 use Rattle.mc_seq.specs.Drawing.{RanOut, Sight, UsedUp, sight_of}
 use Rattle.mc_seq.specs.Draws.{SettlesByDraws, StopsAtRing, StopsAtVersion}
 use Rattle.mc_seq.specs.Schedule.{first_standing}
@@ -13,12 +13,12 @@ use Rattle.mc_seq.proofs.drawing.settle_one.Goals as goal
 pub stopped-requires : goal.stopped-requires
 stopped-requires c =
     let used : Sight = sight_of c.use_up.new.sitting c.use_up.new.draws.state in
-    let start : Sight = record { standing = first_standing c.args.world (left_of c.in_ok-left.left) c.args.draws.now.state; turns = c.new-turns.result.items } in
+    let start : Sight = record { standing = first_standing c.args.world (commands_left c.in_ok-left.left) c.args.draws.now.state; turns = c.new-turns.result.items } in
     out_inside start used c.in-Some.at (subst (UsedUp start used) c.in-Some.is c.in_ok-at.ensures.drew)
 
 pub returns-in-Some-clause-stops : goal.returns-in-Some-clause-stops
 returns-in-Some-clause-stops c =
-    let start : Sight = record { standing = first_standing c.args.world (left_of c.in_ok-left.left) c.args.draws.now.state; turns = c.new-turns.result.items } in
+    let start : Sight = record { standing = first_standing c.args.world (commands_left c.in_ok-left.left) c.args.draws.now.state; turns = c.new-turns.result.items } in
     let begins : start.standing ≡ first_standing c.args.world c.args.batch.now c.args.draws.now.state = ap (λ (l : List Turn). first_standing c.args.world l c.args.draws.now.state) c.in_ok-left.ensures.left in
     let used : Sight = sight_of c.use_up.new.sitting c.use_up.new.draws.state in
     let out : RanOut start used c.in-Some.at = subst (UsedUp start used) c.in-Some.is c.in_ok-at.ensures.drew in
@@ -34,7 +34,7 @@ returns-in-Some-clause-stops c =
 
 pub returns-in-Some-ring-clause-stops : goal.returns-in-Some-ring-clause-stops
 returns-in-Some-ring-clause-stops c =
-    let start : Sight = record { standing = first_standing c.args.world (left_of c.in_ok-left.left) c.args.draws.now.state; turns = c.new-turns.result.items } in
+    let start : Sight = record { standing = first_standing c.args.world (commands_left c.in_ok-left.left) c.args.draws.now.state; turns = c.new-turns.result.items } in
     let begins : start.standing ≡ first_standing c.args.world c.args.batch.now c.args.draws.now.state = ap (λ (l : List Turn). first_standing c.args.world l c.args.draws.now.state) c.in_ok-left.ensures.left in
     let used : Sight = sight_of c.use_up.new.sitting c.use_up.new.draws.state in
     let first = subst (UsedUp start used) c.in_default.is c.in_ok-at.ensures.drew in
@@ -52,7 +52,7 @@ returns-in-Some-ring-clause-stops c =
 -- what was done is by the schedule
 done_is : (c : goal.After-settled_by) → SettlesByDraws c.args.world c.args.batch.now c.args.draws.now.state c.come_to_rest-2.new.draws.state c.settled_by.result
 done_is c =
-    let start : Sight = record { standing = first_standing c.args.world (left_of c.in_ok-left.left) c.args.draws.now.state; turns = c.new-turns.result.items } in
+    let start : Sight = record { standing = first_standing c.args.world (commands_left c.in_ok-left.left) c.args.draws.now.state; turns = c.new-turns.result.items } in
     let used : Sight = sight_of c.use_up.new.sitting c.use_up.new.draws.state in
     let first = subst (UsedUp start used) c.in_default.is c.in_ok-at.ensures.drew in
     let rested : Sight = sight_of c.come_to_rest.new.sitting c.come_to_rest.new.draws.state in

@@ -1,6 +1,6 @@
 use Rattle.std.proofs.Common.{◌≡◌, ◌≢◌, ◌<◌, ◌≤◌, ℕ, List, length, subst, arith}
 use Rattle.mc_box.specs.declared.event.Turn.{Turn}
-use Rattle.mc_seq.specs.Commands.{left_of}
+use Rattle.mc_seq.specs.Commands.{commands_left}
 use Rattle.mc_seq.specs.Drawing.{DrewOnce, DrewTurn, Sight, sight_of}
 use Rattle.mc_seq.proofs.Sittings.{empty_is, goes_last, goes_more, left_goes, made_allowed, made_lowers, made_sound, ran_out, some_listed}
 use Rattle.mc_seq.proofs.drawing.use_up.Goals as goal
@@ -44,7 +44,7 @@ unreachable-requires c =
 pub returns-clause-drew : goal.returns-clause-drew
 returns-clause-drew c = (
   goes_last (sight_of c.args.sitting.now c.args.draws.now.state) (sight_of c.commands.sitting c.commands.draws.state) c.commands.invariant.drew,
-  empty_is (left_of c.commands.sitting.left) (none_left c.commands.sitting.left.count (left_of c.commands.sitting.left) c.commands.invariant.counted.kept.counted c.commands-test.false),
+  empty_is (commands_left c.commands.sitting.left) (none_left c.commands.sitting.left.count (commands_left c.commands.sitting.left) c.commands.invariant.counted.kept.counted c.commands-test.false),
 )
 
 pub returns-in-VersionEnd-clause-drew : goal.returns-in-VersionEnd-clause-drew

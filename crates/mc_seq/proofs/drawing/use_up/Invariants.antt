@@ -1,6 +1,6 @@
 use Rattle.mc_model.specs.Sound.{IsSound}
 use Rattle.mc_model.specs.Shapes.{AreAllowed}
-use Rattle.mc_seq.specs.Commands.{left_of}
+use Rattle.mc_seq.specs.Commands.{commands_left}
 use Rattle.mc_seq.specs.Drawing.{IsInStep, sight_of}
 use Rattle.mc_seq.proofs.Sittings.{GoesOn, to_come}
 use Rattle.mc_seq.proofs.drawing.use_up.Given as goal
@@ -10,9 +10,9 @@ abbrev pub invariant-commands : goal.invariant-commands
 invariant-commands l = record {
   counted : IsInStep l.sitting;
   sound : IsSound l.sitting.settled.world;
-  allowed : AreAllowed l.sitting.settled.world (left_of l.sitting.left);
+  allowed : AreAllowed l.sitting.settled.world (commands_left l.sitting.left);
   drew : GoesOn (sight_of l.initial.sitting l.initial.draws.state) (sight_of l.sitting l.draws.state);
 }
 
 abbrev pub decreases-commands : goal.decreases-commands
-decreases-commands l = to_come (left_of l.sitting.left) l.sitting.since
+decreases-commands l = to_come (commands_left l.sitting.left) l.sitting.since
