@@ -1,0 +1,4 @@
+mod TreeBuilds
+mod TreePuts
+mod TreeSums
+mod TwoTrees

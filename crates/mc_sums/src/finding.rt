@@ -1,0 +1,111 @@
+// Where the k-th of all that is counted stands, found along one group of each level from the top down.
+ghost use Rattle.std.specs.Prelude.{◌≡◌, ◌<◌, ◌+◌, ◌^◌, length, slice_index_or, sum, take};
+ghost use Rattle.mc_sums.specs.Sums.{AreFound, AreSums, IsFound, LieBehind, LiesBehind, counts_of, level_at, levels_of};
+
+use crate::levels::FAN;
+
+/// The place where the k-th stands, and how many of that place's come before it.
+pub fn find(levels: &[Vec<u64>], k: u64) -> (usize, u64)
+    requires sums { AreSums (levels_of levels.now) }
+    requires inside { k < sum (counts_of levels.now) }
+    ensures found { IsFound (counts_of levels.now) 0 k result.0 result.1 }
+    ensures place { result.0 < length (counts_of levels.now) }
+{
+    let mut place = 0;
+    let mut rest = k;
+    let mut depth = levels.len() - 1;
+    'down: while depth > 0 {
+        depth -= 1;
+        let (next, left) = find_at(levels, depth, place * FAN, rest);
+        place = next;
+        rest = left;
+    }
+    (place, rest)
+}
+
+// The same on one level, of what stands there from a place on.
+#[inline]
+fn find_at(levels: &[Vec<u64>], depth: usize, first: usize, k: u64) -> (usize, u64)
+    requires depth { depth < length levels.now }
+    requires inside { LiesBehind (level_at (levels_of levels.now) depth) first k }
+    ensures { IsFound (level_at (levels_of levels.now) depth) first k result.0 result.1 }
+{
+    find_from(&levels[depth], first, k)
+}
+
+// The walk along the level.
+#[inline]
+fn find_from(level: &[u64], first: usize, k: u64) -> (usize, u64)
+    requires { LiesBehind level.now first k }
+    ensures { IsFound level.now first k result.0 result.1 }
+{
+    let mut rest = k;
+    for place in first..level.len() {
+        let number = level[place];
+        if rest < number {
+            return (place, rest);
+        }
+        rest -= number;
+    }
+    unreachable!()
+}
+
+/// The same over the sums of two counts at each place, in two trees with as many places.
+pub fn find_in_both(levels: &[Vec<u64>], others: &[Vec<u64>], k: u64) -> (usize, u64)
+    requires sums { AreSums (levels_of levels.now) }
+    requires other_sums { AreSums (levels_of others.now) }
+    requires long { length (counts_of levels.now) ≡ length (counts_of others.now) }
+    requires fits { sum (counts_of levels.now) + sum (counts_of others.now) < 2 ^ 64 }
+    requires inside { k < sum (counts_of levels.now) + sum (counts_of others.now) }
+    ensures found { AreFound (counts_of levels.now) (counts_of others.now) 0 k result.0 result.1 }
+    ensures place { result.0 < length (counts_of levels.now) }
+{
+    let mut place = 0;
+    let mut rest = k;
+    let mut depth = levels.len() - 1;
+    'down: while depth > 0 {
+        depth -= 1;
+        let (next, left) = find_in_both_at(levels, others, depth, place * FAN, rest);
+        place = next;
+        rest = left;
+    }
+    (place, rest)
+}
+
+// The same on one level of each, of what stands there from a place on.
+#[inline]
+fn find_in_both_at(
+    levels: &[Vec<u64>],
+    others: &[Vec<u64>],
+    depth: usize,
+    first: usize,
+    k: u64,
+) -> (usize, u64)
+    requires depth { depth < length levels.now }
+    requires other_depth { depth < length others.now }
+    requires long { length (level_at (levels_of levels.now) depth) ≡ length (level_at (levels_of others.now) depth) }
+    requires fits { sum (level_at (levels_of levels.now) depth) + sum (level_at (levels_of others.now) depth) < 2 ^ 64 }
+    requires inside { LieBehind (level_at (levels_of levels.now) depth) (level_at (levels_of others.now) depth) first k }
+    ensures { AreFound (level_at (levels_of levels.now) depth) (level_at (levels_of others.now) depth) first k result.0 result.1 }
+{
+    find_in_both_from(&levels[depth], &others[depth], first, k)
+}
+
+// The walk along both levels.
+#[inline]
+fn find_in_both_from(level: &[u64], other: &[u64], first: usize, k: u64) -> (usize, u64)
+    requires long { length level.now ≡ length other.now }
+    requires fits { sum level.now + sum other.now < 2 ^ 64 }
+    requires inside { LieBehind level.now other.now first k }
+    ensures { AreFound level.now other.now first k result.0 result.1 }
+{
+    let mut rest = k;
+    for place in first..level.len() {
+        let number = level[place] + other[place];
+        if rest < number {
+            return (place, rest);
+        }
+        rest -= number;
+    }
+    unreachable!()
+}

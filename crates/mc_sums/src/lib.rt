@@ -1,0 +1,9 @@
+//! Counts at places, kept in wide trees of sums, so that the k-th of all that is counted is found in few steps.
+#![tactic(auto)]
+
+mod finding;
+mod levels;
+pub mod limit;
+mod sums;
+
+pub use sums::Sums;
