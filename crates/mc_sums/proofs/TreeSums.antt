@@ -1,7 +1,7 @@
 -- Sums of groups of neighbours, and what a search in a tree of sums keeps.
 use Rattle.std.proofs.Common.{◌≡◌, ◌<◌, ◌≤◌, ◌+◌, ◌-◌, ◌*◌, ◌^◌, ℕ, zero, suc, List, [], ◌∷◌, length, sum, take, drop, add-one, refl, ap, sym, ◌∙◌, subst, arith}
 use Rattle.std.proofs.Math.ListN.{get_or}
-use Rattle.std.proofs.lemmas.List.{drop-take, take-take, take_all}
+use Rattle.std.proofs.lemmas.List.{drop-take, take-take}
 use Rattle.std.proofs.lemmas.List.Sums.{sum_by-cons, sum_by-take-drop, sum_by-take-le}
 use Rattle.std.proofs.lemmas.Slice.Chunks.{sum_by_chunks}
 use Rattle.std.specs.Fork.{slice_chunk}
@@ -153,15 +153,3 @@ place_fits levels k depth place rest sums at =
     let few = sums.few depth in
     let inside = there (level_at levels depth) place rest at.within in
     omega arith
-
--- ---- along a level
-
--- the number at a place isn't the one that is searched for, if what is left isn't below it
-pub walk_more : (level : List ℕ) (place rest number start : ℕ) → number ≡ get_or level place 0 → number ≤ rest → sum (take place level) + rest ≡ start → sum (take (place + 1) level) + (rest - number) ≡ start
-walk_more level place rest number start is low so_far =
-    let more : sum (take (place + 1) level) ≡ sum (take place level) + get_or level place 0 = ap (λ (n : ℕ). sum (take n level)) (add-one place) ∙ take_one level place in
-    omega arith
-
--- and it is found before the end
-pub walk_ends : (level : List ℕ) (place rest start : ℕ) → length level ≤ place → sum (take place level) + rest ≡ start → start < sum level → ⊥
-walk_ends level place rest start past so_far low = let all : sum (take place level) ≡ sum level = ap sum (take_all place level past) in omega arith

@@ -2,11 +2,11 @@
 use Rattle.std.proofs.Common.{◌≡◌, ◌<◌, ◌≤◌, ◌+◌, ◌-◌, ◌*◌, ◌^◌, inl, inr, ℕ, zero, suc, List, length, sum, take, add-one, ap, sym, ◌∙◌, subst, arith}
 use Rattle.std.proofs.Math.ListN.{get_or}
 use Rattle.std.proofs.lemmas.Bool.{cases_lt}
-use Rattle.std.proofs.lemmas.List.{get_or_past, take_all}
+use Rattle.std.proofs.lemmas.List.{get_or_past}
 use Rattle.std.specs.Int.{div_ceil}
-use Rattle.mc_sums.specs.Sums.{AreFound, AreGroupSums, AreSums, level_at}
+use Rattle.mc_sums.specs.Sums.{AreFound, AreGroupSums, ArePair, AreSums, level_at}
 use Rattle.mc_sums.specs.declared.levels.TheConstants.{FAN}
-use Rattle.mc_sums.proofs.TreeSums.{group_fits, grouped_before, level_sum, step_down, take_one, top_is}
+use Rattle.mc_sums.proofs.TreeSums.{group_fits, grouped_before, level_sum, step_down, top_is}
 
 -- ---- their levels
 
@@ -52,12 +52,6 @@ pub as_long : (levels others : List (List ℕ)) (depth : ℕ) → AreSums levels
 as_long levels others depth sums other_sums long inside = (alike_at levels others depth sums other_sums long inside).long
 
 -- ---- the search
-
--- what the search needs of them
-pub record ArePair (levels others : List (List ℕ)) : Type 0 where
-  pub sums : AreSums levels
-  pub other_sums : AreSums others
-  pub long : length (level_at levels 0) ≡ length (level_at others 0)
 
 -- where it is
 pub record IsAtBoth (levels others : List (List ℕ)) (k depth place rest : ℕ) : Type 0 where
@@ -128,21 +122,4 @@ pub both_sums : (levels others : List (List ℕ)) (depth : ℕ) → ArePair leve
 both_sums levels others depth pair inside =
     let one : sum (level_at levels depth) ≡ sum (level_at levels 0) = level_sum levels depth pair.sums inside in
     let two : sum (level_at others depth) ≡ sum (level_at others 0) = level_sum others depth pair.other_sums (other_inside levels others depth pair inside) in
-    omega arith
-
--- ---- along two levels
-
--- the numbers at a place aren't those that are searched for, if what is left isn't below their sum
-pub both_more : (level other : List ℕ) (place rest start : ℕ) → get_or level place 0 + get_or other place 0 ≤ rest → sum (take place level) + sum (take place other) + rest ≡ start
-    → sum (take (place + 1) level) + sum (take (place + 1) other) + (rest - (get_or level place 0 + get_or other place 0)) ≡ start
-both_more level other place rest start low so_far =
-    let one : sum (take (place + 1) level) ≡ sum (take place level) + get_or level place 0 = ap (λ (n : ℕ). sum (take n level)) (add-one place) ∙ take_one level place in
-    let two : sum (take (place + 1) other) ≡ sum (take place other) + get_or other place 0 = ap (λ (n : ℕ). sum (take n other)) (add-one place) ∙ take_one other place in
-    omega arith
-
--- and they are found before the end
-pub both_end : (level other : List ℕ) (place rest start : ℕ) → length level ≡ length other → length level ≤ place → sum (take place level) + sum (take place other) + rest ≡ start → start < sum level + sum other → ⊥
-both_end level other place rest start long past so_far low =
-    let one : sum (take place level) ≡ sum level = ap sum (take_all place level past) in
-    let two : sum (take place other) ≡ sum other = ap sum (take_all place other (omega arith)) in
     omega arith

@@ -18,9 +18,13 @@ level_at levels depth = slice_index_or levels depth []
 abbrev pub levels_of : List (Vec ℕ Global) → List (List ℕ)
 levels_of levels = map (λ level. level.items) levels
 
+-- one of them
+abbrev pub level_of : List (Vec ℕ Global) → ℕ → List ℕ
+level_of levels depth = level_at (levels_of levels) depth
+
 -- the counts themselves: the lowest level
 abbrev pub counts_of : List (Vec ℕ Global) → List ℕ
-counts_of levels = level_at (levels_of levels) 0
+counts_of levels = level_of levels 0
 
 -- a level after so many have been taken from a number of it, and so many more given to it
 abbrev pub level_after : List ℕ → (place less more : ℕ) → List ℕ
@@ -42,6 +46,12 @@ pub record AreSums (levels : List (List ℕ)) : Type 0 where
 pub record AreSmallSums (levels : List (List ℕ)) : Type 0 where
   pub sums : AreSums levels
   pub small : (place : ℕ) → slice_index_or (level_at levels 0) place 0 ≤ COUNT_LIMIT
+
+-- two trees with as many places
+pub record ArePair (levels others : List (List ℕ)) : Type 0 where
+  pub sums : AreSums levels
+  pub other_sums : AreSums others
+  pub long : length (level_at levels 0) ≡ length (level_at others 0)
 
 -- a level has a k-th from a place on
 abbrev pub LiesBehind : List ℕ → (first k : ℕ) → Type 0

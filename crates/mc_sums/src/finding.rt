@@ -1,6 +1,7 @@
-// Where the k-th of all that is counted stands, found along one group of each level from the top down.
+// Where the k-th of all that is counted stands: from the top down, along one group of each level.
 ghost use Rattle.std.specs.Prelude.{◌≡◌, ◌<◌, ◌+◌, ◌^◌, length, slice_index_or, sum, take};
-ghost use Rattle.mc_sums.specs.Sums.{AreFound, AreSums, IsFound, LieBehind, LiesBehind, counts_of, level_at, levels_of};
+ghost use Rattle.mc_sums.specs.Sums.{AreFound, ArePair, AreSums, IsFound, LieBehind, LiesBehind};
+ghost use Rattle.mc_sums.specs.Sums.{counts_of, level_of, levels_of};
 
 use crate::levels::FAN;
 
@@ -27,8 +28,8 @@ pub fn find(levels: &[Vec<u64>], k: u64) -> (usize, u64)
 #[inline]
 fn find_at(levels: &[Vec<u64>], depth: usize, first: usize, k: u64) -> (usize, u64)
     requires depth { depth < length levels.now }
-    requires inside { LiesBehind (level_at (levels_of levels.now) depth) first k }
-    ensures { IsFound (level_at (levels_of levels.now) depth) first k result.0 result.1 }
+    requires inside { LiesBehind (level_of levels.now depth) first k }
+    ensures { IsFound (level_of levels.now depth) first k result.0 result.1 }
 {
     find_from(&levels[depth], first, k)
 }
@@ -52,9 +53,7 @@ fn find_from(level: &[u64], first: usize, k: u64) -> (usize, u64)
 
 /// The same over the sums of two counts at each place, in two trees with as many places.
 pub fn find_in_both(levels: &[Vec<u64>], others: &[Vec<u64>], k: u64) -> (usize, u64)
-    requires sums { AreSums (levels_of levels.now) }
-    requires other_sums { AreSums (levels_of others.now) }
-    requires long { length (counts_of levels.now) ≡ length (counts_of others.now) }
+    requires pair { ArePair (levels_of levels.now) (levels_of others.now) }
     requires fits { sum (counts_of levels.now) + sum (counts_of others.now) < 2 ^ 64 }
     requires inside { k < sum (counts_of levels.now) + sum (counts_of others.now) }
     ensures found { AreFound (counts_of levels.now) (counts_of others.now) 0 k result.0 result.1 }
@@ -83,10 +82,10 @@ fn find_in_both_at(
 ) -> (usize, u64)
     requires depth { depth < length levels.now }
     requires other_depth { depth < length others.now }
-    requires long { length (level_at (levels_of levels.now) depth) ≡ length (level_at (levels_of others.now) depth) }
-    requires fits { sum (level_at (levels_of levels.now) depth) + sum (level_at (levels_of others.now) depth) < 2 ^ 64 }
-    requires inside { LieBehind (level_at (levels_of levels.now) depth) (level_at (levels_of others.now) depth) first k }
-    ensures { AreFound (level_at (levels_of levels.now) depth) (level_at (levels_of others.now) depth) first k result.0 result.1 }
+    requires long { length (level_of levels.now depth) ≡ length (level_of others.now depth) }
+    requires fits { sum (level_of levels.now depth) + sum (level_of others.now depth) < 2 ^ 64 }
+    requires inside { LieBehind (level_of levels.now depth) (level_of others.now depth) first k }
+    ensures { AreFound (level_of levels.now depth) (level_of others.now depth) first k result.0 result.1 }
 {
     find_in_both_from(&levels[depth], &others[depth], first, k)
 }

@@ -1,7 +1,8 @@
 // A wide tree of sums, level by level: how it is built of counts, and how a count changes.
 ghost use Rattle.std.specs.Prelude.{◌≡◌, ◌<◌, ◌≤◌, ◌+◌, ◌*◌, ◌^◌, ℕ, length, slice_index_or, sum, IfOk};
 ghost use Rattle.std.specs.Fork.{slice_chunk};
-ghost use Rattle.mc_sums.specs.Sums.{AreGroupSums, AreSmallSums, AreSums, counts_of, level_after, level_at, levels_after, levels_of};
+ghost use Rattle.mc_sums.specs.Sums.{AreGroupSums, AreSmallSums, AreSums};
+ghost use Rattle.mc_sums.specs.Sums.{counts_of, level_after, level_of, levels_after, levels_of};
 ghost use Rattle.mc_sums.specs.declared.limit.TheConstants.{COUNT_LIMIT};
 
 use std::alloc::{AllocError, Global};
@@ -71,7 +72,7 @@ pub fn total(levels: &[Vec<u64>]) -> u64
 #[inline]
 pub fn number(levels: &[Vec<u64>], depth: usize, place: usize) -> u64
     requires { depth < length levels.now }
-    ensures { result ≡ slice_index_or (level_at (levels_of levels.now) depth) place 0 }
+    ensures { result ≡ slice_index_or (level_of levels.now depth) place 0 }
 {
     number_of(&levels[depth], place)
 }
@@ -84,7 +85,7 @@ fn number_of(level: &[u64], place: usize) -> u64
     if place < level.len() { level[place] } else { 0 }
 }
 
-/// Takes so many from a count, gives it so many more, and does the same to one number of each level with it.
+/// Takes so many from a count, gives it so many more, and does the same to the sums above it.
 #[inline]
 pub fn change(levels: &mut [Vec<u64>], place: usize, less: u64, more: u64)
     requires sums { AreSums (levels_of levels.old) }
@@ -105,9 +106,9 @@ pub fn change(levels: &mut [Vec<u64>], place: usize, less: u64, more: u64)
 #[inline]
 fn change_at(levels: &mut [Vec<u64>], depth: usize, place: usize, less: u64, more: u64)
     requires depth { depth < length levels.old }
-    requires inside { place < length (level_at (levels_of levels.old) depth) }
-    requires less { less ≤ slice_index_or (level_at (levels_of levels.old) depth) place 0 }
-    requires fits { slice_index_or (level_at (levels_of levels.old) depth) place 0 + more < 2 ^ 64 }
+    requires inside { place < length (level_of levels.old depth) }
+    requires less { less ≤ slice_index_or (level_of levels.old depth) place 0 }
+    requires fits { slice_index_or (level_of levels.old depth) place 0 + more < 2 ^ 64 }
     ensures { levels_of levels.new ≡ levels_after (levels_of levels.old) depth place less more }
 {
     change_number(&mut levels[depth], place, less, more);

@@ -1,4 +1,4 @@
-//! Counts at places, kept in wide trees of sums, so that the k-th of all that is counted is found in few steps.
+//! Counts in wide trees of sums, by which the k-th of all that is counted is found in few steps.
 #![tactic(auto)]
 
 mod finding;
@@ -7,3 +7,6 @@ pub mod limit;
 mod sums;
 
 pub use sums::Sums;
+
+#[cfg(test)]
+mod tests;

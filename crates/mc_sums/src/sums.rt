@@ -6,9 +6,9 @@ use crate::{finding, levels};
 use std::alloc::{AllocError, Global};
 use std::marker::Model;
 
-/// Counts at places 0, 1, .., kept so that the k-th of all that is counted is found, and a count changed, in a time
-/// that hangs on the number of places by its logarithm alone. A count is at most `COUNT_LIMIT`, and there are at
-/// most 2^32 places.
+/// Counts at places 0, 1, .., kept so that the k-th of all that is counted is found, and a count
+/// changed, in a time that hangs on the number of places by its logarithm alone. A count is at most
+/// `COUNT_LIMIT`, and there are at most 2^32 places.
 #[derive(Debug, Drop)]
 pub struct Sums {
     // The counts, and above each level the sums of its groups.
@@ -62,7 +62,8 @@ impl Sums {
         levels::number(&self.levels, 0, place)
     }
 
-    /// Where the k-th of all that is counted stands: at which place, and how many of that place's come before it.
+    /// Where the k-th of all that is counted stands: at which place, and how many of that place's
+    /// come before it.
     pub fn find(&self, k: u64) -> (usize, u64)
         requires { k < sum self.now }
         ensures before { sum (take result.0 self.now) + result.1 ≡ k }
