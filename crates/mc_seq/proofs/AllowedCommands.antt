@@ -14,13 +14,12 @@ use Rattle.mc_box.specs.declared.event.Turn.{Turn}
 use Rattle.mc_box.proofs.ShapeEnables.{medium_of}
 use Rattle.mc_model.specs.Shapes.{HasShape, is_allowed, AreAllowed}
 use Rattle.mc_model.specs.Sound.{IsSound}
-use Rattle.mc_model.specs.Worlds.{ChannelState, WorldState, box_at, tunnel_of, place, slot_count}
+use Rattle.mc_model.specs.Worlds.{ChannelState, WorldState, box_at, tunnel_of, place, places_among, slot_count}
 use Rattle.mc_laws.proofs.CommandsGo.{allowed_parts, command_goes}
 use Rattle.mc_laws.proofs.Numbers.{box_inside}
 use Rattle.mc_seq.specs.Drawing.{MayCome}
 use Rattle.mc_seq.specs.Schedule.{left_by, next_of, without_next}
 use Rattle.mc_seq.proofs.Candidates.{IsListed, take_goes}
-use Rattle.mc_seq.proofs.RetriesMade.{count_same}
 use Rattle.mc_seq.proofs.Segments.{both_there}
 
 -- ---- in a later world
@@ -28,6 +27,10 @@ use Rattle.mc_seq.proofs.Segments.{both_there}
 -- a slot's medium is that of its tunnel
 medium_at : (world : WorldState) (who local s : ℕ) → IsSound world → s < slot_count world → place world s ≡ (who, local) → (slot_at (box_at world who) local).medium ≡ (tunnel_of world s).medium
 medium_at world who local s sound inside at = sym (ap (λ (p : ℕ × ℕ). (slot_at (box_at world p.0) p.1).medium) at) ∙ sound.numbered.media s inside
+
+-- a world of the same channels has as many slots
+count_same : (now start : WorldState) → HasShape now start → slot_count now ≡ slot_count start
+count_same now start shape = ap (λ (channels : List ChannelState). length (places_among channels)) shape.channels
 
 -- a slot has the medium that it had
 medium_kept : (start now : WorldState) (who local : ℕ) → IsSound start → IsSound now → HasShape now start → who < length start.boxes → local < length (box_at start who).slots

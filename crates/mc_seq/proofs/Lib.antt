@@ -13,7 +13,6 @@ mod LeftCommands
 mod Making
 mod Nexts
 mod OneSchedule
-mod OrderSettles
 mod Recounts
 mod Retries
 mod RetriesMade
@@ -22,7 +21,6 @@ mod Scheduled
 mod Segments
 mod Sittings
 mod TakeFronts
-mod Taking
 mod TreeBuilds
 mod TreePuts
 mod TreeSums

@@ -1,19 +1,15 @@
--- The retries that are owed, in both orders: they are retries and nothing else, and each is there once.
-use Rattle.std.proofs.Common.{◌≡◌, ◌≢◌, ◌<◌, ◌==◌, ◌&&◌, inl, inr, if◌then◌else◌, nat_lt, ℕ, zero, suc, Bool, true, false, [], ◌∷◌, length, count_by, refl, ap, sym, ◌∙◌, subst, arith}
+-- The retries that are owed: they are retries and nothing else, and each is there once.
+use Rattle.std.proofs.Common.{◌≡◌, ◌≢◌, ◌<◌, ◌==◌, ◌&&◌, inl, inr, if◌then◌else◌, nat_lt, ℕ, zero, suc, Bool, true, false, [], ◌∷◌, length, count_by, refl, ap, ◌∙◌, subst, arith}
 use Rattle.std.proofs.lemmas.Bool.{cases_eq}
 use Rattle.std.proofs.lemmas.Grind.{common_steps}
 use Rattle.mc_box.specs.Boxes.{is_slot, box_owes}
 use Rattle.mc_turn.specs.Sums.{total}
 use Rattle.mc_turn.proofs.Sums.{total_none}
 use Rattle.mc_model.specs.Settles.{is_retry_of, world_owes, takes_or_retries}
-use Rattle.mc_model.specs.Sound.{IsSound}
-use Rattle.mc_model.specs.Worlds.{WorldState, box_at, place, slot_count}
-use Rattle.mc_laws.proofs.ActedWorlds.{place_apart}
-use Rattle.mc_laws.proofs.CommandsGo.{both_true}
+use Rattle.mc_model.specs.Worlds.{WorldState, box_at}
 use Rattle.mc_laws.proofs.Numbers.{box_inside, slot_inside}
-use Rattle.mc_laws.proofs.StepGoes.{below_test}
 use Rattle.mc_seq.specs.ForEach.{for_each}
-use Rattle.mc_seq.specs.Retries.{owed_retry, retries_by_box, retries_by_number, retries_of, retry_at, retry_turn}
+use Rattle.mc_seq.specs.Retries.{owed_retry, retries_by_box, retries_of, retry_turn}
 use Rattle.mc_seq.proofs.ForEach.{each_count, each_pass}
 use Rattle.mc_seq.proofs.Segments.{all_besides}
 
@@ -32,10 +28,6 @@ pub boxes_besides : (world : WorldState) (n : ℕ) → all_besides (for_each (re
 boxes_besides world n =
     each_pass (λ turn. takes_or_retries turn.event) (retries_of world) n
     (λ who. each_pass (λ turn. takes_or_retries turn.event) (owed_retry world who) (length (box_at world who).slots) (owed_besides world who))
-
--- of the slots below a number
-pub numbers_besides : (world : WorldState) (n : ℕ) → all_besides (for_each (retry_at world) n) ≡ true
-numbers_besides world n = each_pass (λ turn. takes_or_retries turn.event) (retry_at world) n (λ s. owed_besides world (place world s).0 (place world s).1)
 
 -- ---- sums
 
@@ -123,49 +115,3 @@ boxes_by false world who local is =
 -- each owed Retry is there once, and no other
 pub once_by_box : (world : WorldState) (who local : ℕ) → count_by (is_retry_of who local) (retries_by_box world) ≡ (if world_owes world who local then 1 else 0)
 once_by_box world who local = boxes_by (nat_lt who (length world.boxes)) world who local refl
-
--- ---- by the numbers of slots
-
--- the retry of another slot, by its number, doesn't count
-number_else : (world : WorldState) (s who local : ℕ) → ((place world s).0 ≡ who → (place world s).1 ≡ local → ⊥) → count_by (is_retry_of who local) (retry_at world s) ≡ 0
-number_else world s who local apart = owed_else world (place world s).0 (place world s).1 who local apart
-
--- that of a slot that is there comes once, where it is owed
-number_there : (world : WorldState) (s who local : ℕ) → IsSound world → s < slot_count world → place world s ≡ (who, local)
-    → count_by (is_retry_of who local) (retries_by_number world) ≡ (if box_owes (box_at world who) local then 1 else 0)
-number_there world s who local sound inside at =
-    each_count (is_retry_of who local) (retry_at world) (slot_count world)
-    ∙ (total_alone (λ (t : ℕ). count_by (is_retry_of who local) (retry_at world t)) (slot_count world) s inside
-    (λ t within apart. number_else world t who local (λ who_is local_is. apart (place_apart world t s sound.numbered within inside
-    (who_is ∙ sym (ap (λ (p : ℕ × ℕ). p.0) at)) (local_is ∙ sym (ap (λ (p : ℕ × ℕ). p.1) at)))))
-    ∙ (ap (λ (p : ℕ × ℕ). count_by (is_retry_of who local) (owed_retry world p.0 p.1)) at ∙ owed_here world who local))
-
--- two tests of which one fails
-not_both : (a b : Bool) → (a && b) ≡ false → a ≡ true → b ≡ true → ⊥
-not_both a b none one two = grind arith
-
--- no place is that of a slot that isn't there
-not_placed : (world : WorldState) (t who local : ℕ) → IsSound world → t < slot_count world → (nat_lt who (length world.boxes) && is_slot (box_at world who) local) ≡ false
-    → (place world t).0 ≡ who → (place world t).1 ≡ local → ⊥
-not_placed world t who local sound within none who_is local_is =
-    not_both (nat_lt who (length world.boxes)) (is_slot (box_at world who) local) none
-    (subst (λ (v : ℕ). nat_lt v (length world.boxes) ≡ true) who_is (below_test (place world t).0 (length world.boxes) (sound.numbered.placed t within)))
-    (subst (λ (v : ℕ). is_slot (box_at world v) local ≡ true) who_is
-    (subst (λ (l : ℕ). is_slot (box_at world (place world t).0) l ≡ true) local_is (below_test (place world t).1 (length (box_at world (place world t).0).slots) (sound.numbered.slots t within))))
-
--- by whether the slot is there
-numbers_by : (there : Bool) (world : WorldState) (who local : ℕ) → (nat_lt who (length world.boxes) && is_slot (box_at world who) local) ≡ there → IsSound world
-    → count_by (is_retry_of who local) (retries_by_number world) ≡ (if world_owes world who local then 1 else 0)
-numbers_by true world who local is sound =
-    let parts = both_true (nat_lt who (length world.boxes)) (is_slot (box_at world who) local) is in
-    let found = sound.numbered.all who local (box_inside world who parts.0) (slot_inside (box_at world who) local parts.1) in
-    number_there world found.0 who local sound found.1 found.2
-    ∙ sym (ap (λ (b : Bool). if b && box_owes (box_at world who) local then 1 else 0) is)
-numbers_by false world who local is sound =
-    each_count (is_retry_of who local) (retry_at world) (slot_count world)
-    ∙ (total_none (λ (t : ℕ). count_by (is_retry_of who local) (retry_at world t)) (slot_count world) (λ t within. number_else world t who local (not_placed world t who local sound within is))
-    ∙ sym (ap (λ (b : Bool). if b && box_owes (box_at world who) local then 1 else 0) is))
-
--- each owed retry is there once, and no other
-pub once_by_number : (world : WorldState) (who local : ℕ) → IsSound world → count_by (is_retry_of who local) (retries_by_number world) ≡ (if world_owes world who local then 1 else 0)
-once_by_number world who local sound = numbers_by (nat_lt who (length world.boxes) && is_slot (box_at world who) local) world who local refl sound

@@ -1,5 +1,5 @@
 -- Retries one after another: each leaves what the other slots owe.
-use Rattle.std.proofs.Common.{◌≡◌, ◌≢◌, ◌<◌, ◌≤◌, ◌+◌, if◌then◌else◌, ℕ, Bool, true, false, List, [], ◌∷◌, length, Some, None, add-one, ap, sym, ◌∙◌, subst, arith}
+use Rattle.std.proofs.Common.{◌≡◌, ◌≢◌, ◌≤◌, ◌+◌, if◌then◌else◌, ℕ, Bool, true, false, List, [], ◌∷◌, length, Some, None, add-one, ap, sym, ◌∙◌, subst, arith}
 use Rattle.mc_slot.specs.declared.Slot.{Slot}
 use Rattle.mc_slot.specs.declared.SlotGoal.{SlotGoal}
 use Rattle.mc_box.specs.Boxes.{goal_at, slot_owes, box_owes, slot_at}
@@ -8,15 +8,14 @@ use Rattle.mc_box.specs.declared.event.Turn.{Turn}
 use Rattle.mc_model.specs.Shapes.{HasShape}
 use Rattle.mc_model.specs.Sound.{IsSound}
 use Rattle.mc_model.specs.Steps.{run, step}
-use Rattle.mc_model.specs.Worlds.{ChannelState, WorldState, box_at, place, places_among, slot_count}
+use Rattle.mc_model.specs.Worlds.{WorldState, box_at, place}
 use Rattle.mc_world.specs.declared.settled.Settled.{Settled}
-use Rattle.mc_laws.proofs.ActedWorlds.{place_apart}
 use Rattle.mc_laws.proofs.ShapesKept.{run_keeps_shape, shape_both}
 use Rattle.mc_box.proofs.Options.{then_some}
 use Rattle.mc_laws.proofs.StepKeeps.{run_keeps_sound}
 use Rattle.mc_laws.proofs.TakeParts.{RetryHappened, part_stays, retry_goals_stay, retry_is}
 use Rattle.mc_seq.specs.ForEach.{for_each}
-use Rattle.mc_seq.specs.Retries.{OthersOwe, owed_retry, retries_of, retry_at, retry_turn}
+use Rattle.mc_seq.specs.Retries.{OthersOwe, owed_retry, retries_of, retry_turn}
 use Rattle.mc_seq.specs.Turns.{MadeAll}
 use Rattle.mc_seq.proofs.ForEach.{each_same}
 use Rattle.mc_seq.proofs.Making.{made_more}
@@ -108,40 +107,3 @@ boxes_more start now next number retried more others = record {
       let low : number ≤ w = omega arith in
       others w l apart ∙ retried.others w l low;
 }
-
--- ---- the numbers of slots
-
--- a world of the same channels has as many slots
-pub count_same : (now start : WorldState) → HasShape now start → slot_count now ≡ slot_count start
-count_same now start shape = ap (λ (channels : List ChannelState). length (places_among channels)) shape.channels
-
--- a slot has the place that it had
-pub place_same : (now start : WorldState) (s : ℕ) → HasShape now start → place now s ≡ place start s
-place_same now start s shape = ap (λ (channels : List ChannelState). place (record now { channels = channels }) s) shape.channels
-
--- what a slot owes still, it makes as at the beginning
-at_same : (now start : WorldState) (s : ℕ) → HasShape now start → box_owes (box_at now (place start s).0) (place start s).1 ≡ box_owes (box_at start (place start s).0) (place start s).1 → retry_at now s ≡ retry_at start s
-at_same now start s shape owes =
-    ap (λ (p : ℕ × ℕ). owed_retry now p.0 p.1) (place_same now start s shape) ∙ owed_same now start (place start s).0 (place start s).1 owes
-
--- the slots below a number have made their retries, and the others owe what they owed
-pub record NumbersRetried (start now : Settled) (number : ℕ) : Type 0 where
-  pub so_far : MadeEach start now (retry_at start.world) number
-  pub others : (t : ℕ) → number ≤ t → t < slot_count start.world
-      → box_owes (box_at now.world (place start.world t).0) (place start.world t).1 ≡ box_owes (box_at start.world (place start.world t).0) (place start.world t).1
-
--- the next slot makes its retry
-pub numbers_more : (start now next : Settled) (number : ℕ) → IsSound start.world → number < slot_count start.world → NumbersRetried start now number → MadeAll now next (retry_at now.world number) → NumbersRetried start next (number + 1)
-numbers_more start now next number sound inside retried more =
-    let at : place now.world number ≡ place start.world number = place_same now.world start.world number retried.so_far.shape in
-    record {
-      so_far = each_more start now next (retry_at start.world) number (retry_at now.world number) retried.so_far
-          (at_same now.world start.world number retried.so_far.shape (retried.others number (omega arith) inside)) more;
-      others = λ t past within.
-          let low : number ≤ t = omega arith in
-          retry_else now.world next.world (place now.world number).0 (place now.world number).1 (place start.world t).0 (place start.world t).1 retried.so_far.sound
-          (λ here same.
-          let one : t ≡ number = place_apart start.world t number sound.numbered within inside (here ∙ ap (λ (p : ℕ × ℕ). p.0) at) (same ∙ ap (λ (p : ℕ × ℕ). p.1) at) in
-          omega arith) more.ran
-          ∙ retried.others t low within;
-    }

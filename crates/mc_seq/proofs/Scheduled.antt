@@ -276,7 +276,7 @@ version_is world batch state at start used begins nothing allowed out =
 -- ---- where a settle stops
 
 -- the places of slots stay
-pub placed_same : (world last : WorldState) (turns : List Turn) (s : ℕ) → IsSound world → run world turns ≡ Some last → place last s ≡ place world s
+placed_same : (world last : WorldState) (turns : List Turn) (s : ℕ) → IsSound world → run world turns ≡ Some last → place last s ≡ place world s
 placed_same world last turns s sound goes = ap (λ (channels : List ChannelState). slice_index_or (places_among channels) s (0, 0)) (run_keeps_shape world last turns sound goes).channels
 
 heard_inside : (world : WorldState) (turn : Turn) (at : ℕ) → heard_slot world turn ≡ Some at → at < slot_count world

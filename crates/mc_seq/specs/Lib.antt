@@ -4,7 +4,6 @@ pub mod Drawing
 pub mod Draws
 pub mod ForEach
 pub mod Places
-pub mod PlainOrder
 pub mod Ready
 pub mod Retries
 pub mod Schedule

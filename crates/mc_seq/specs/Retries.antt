@@ -1,9 +1,9 @@
--- The retries that are owed: by one slot, by a box, and in all, in the orders of the two engines.
+-- The retries that are owed: by one slot, by a box, and in all.
 use Rattle.std.specs.Prelude.{◌≡◌, ◌≢◌, ℕ, if◌then◌else◌, List, [], ◌∷◌, length}
 use Rattle.mc_box.specs.Boxes.{box_owes}
 use Rattle.mc_box.specs.declared.event.Event.TheVariants.{Retry}
 use Rattle.mc_box.specs.declared.event.Turn.{Turn}
-use Rattle.mc_model.specs.Worlds.{WorldState, box_at, place, slot_count}
+use Rattle.mc_model.specs.Worlds.{WorldState, box_at}
 use Rattle.mc_seq.specs.ForEach.{for_each}
 
 abbrev pub retry_turn : ℕ → ℕ → Turn
@@ -12,8 +12,6 @@ retry_turn who local = record { who = who; event = Retry local }
 -- the retry of a box's slot, if it owes one
 abbrev pub owed_retry : WorldState → ℕ → ℕ → List Turn
 owed_retry world who local = if box_owes (box_at world who) local then retry_turn who local ∷ [] else []
-
--- ---- by box
 
 -- those of a box, by local number in rising order
 abbrev pub retries_of : WorldState → ℕ → List Turn
@@ -26,13 +24,3 @@ retries_by_box world = for_each (retries_of world) (length world.boxes)
 -- each other box owes what it owed
 abbrev pub OthersOwe : (old new : WorldState) → ℕ → Type 0
 OthersOwe old new who = (other local : ℕ) → other ≢ who → box_owes (box_at new other) local ≡ box_owes (box_at old other) local
-
--- ---- by the numbers of slots
-
--- that of a slot, by its number
-abbrev pub retry_at : WorldState → ℕ → List Turn
-retry_at world s = owed_retry world (place world s).0 (place world s).1
-
--- those of all slots, the lowest first
-abbrev pub retries_by_number : WorldState → List Turn
-retries_by_number world = for_each (retry_at world) (slot_count world)

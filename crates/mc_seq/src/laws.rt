@@ -1,13 +1,7 @@
 //! Laws of settles on one thread, over the definitions alone.
 
 ghost use Rattle.mc_seq.specs.Draws.{DrawsEnd, ScheduleIsOne, ScheduleSettles, TakesEndDraws};
-ghost use Rattle.mc_seq.specs.PlainOrder.{PlainOrderSettles};
 ghost use Rattle.mc_seq.specs.Ready.{CountIsSum, FrontsStay, KthIsFound, TakeFrontsStay};
-
-/// Turns in the plain order are a settled segment for their batch, where they leave no ring.
-pub fn plain_order_settles()
-    ensures { PlainOrderSettles }
-{}
 
 /// Turns by the schedule of draws are a settled segment for their batch.
 pub fn schedule_settles()

@@ -1,9 +1,9 @@
-// The retries that are owed, in the orders of the two engines.
+// The retries that are owed, one after another.
 
 ghost use Rattle.std.specs.Prelude.{◌≡◌, ◌<◌, length, OnOk};
 ghost use Rattle.mc_model.specs.Paths.{has_ring};
 ghost use Rattle.mc_model.specs.Worlds.{box_at};
-ghost use Rattle.mc_seq.specs.Retries.{OthersOwe, owed_retry, retries_by_box, retries_by_number, retries_of};
+ghost use Rattle.mc_seq.specs.Retries.{OthersOwe, owed_retry, retries_by_box, retries_of};
 ghost use Rattle.mc_seq.specs.Turns.{MadeAll};
 
 use crate::turns::make;
@@ -48,19 +48,6 @@ pub fn retry_by_box(settled: &mut Settled) -> Result<(), AllocError>
     let boxes = settled.world.boxes().len();
     for who in 0..boxes {
         retry_box(settled, who as u32)?;
-    }
-    Ok(())
-}
-
-// Makes each retry that is owed at the beginning, the lowest slot first.
-pub fn retry_by_number(settled: &mut Settled) -> Result<(), AllocError>
-    ensures rings { OnOk result (has_ring settled.new.world ≡ has_ring settled.old.world) }
-    ensures made { OnOk result (MadeAll settled.old settled.new (retries_by_number settled.old.world)) }
-{
-    settled.world.keeps();
-    for number in 0..settled.world.slot_count() {
-        let (who, local) = settled.world.place(number as u32);
-        retry(settled, who, local)?;
     }
     Ok(())
 }

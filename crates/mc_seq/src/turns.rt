@@ -1,8 +1,7 @@
 // Turns that are made, and written down.
 
 ghost use Rattle.std.specs.Prelude.{◌≡◌, ◌++◌, [], ◌∷◌, Some, IsSome, OnOk};
-ghost use Rattle.mc_model.specs.Steps.{run, step};
-ghost use Rattle.mc_seq.specs.Turns.{MadeAll};
+ghost use Rattle.mc_model.specs.Steps.{step};
 
 use mc_box::Turn;
 use mc_world::{Settled, StepFault};
@@ -20,16 +19,4 @@ pub fn make(settled: &mut Settled, turn: Turn) -> Result<(), AllocError>
         Err(StepFault::NoMemory(e)) => Err(e),
         Err(StepFault::NotEnabled | StepFault::VersionEnd) => unreachable!(),
     }
-}
-
-// Makes turns that can happen one after another.
-pub fn make_all(settled: &mut Settled, turns: &[Turn]) -> Result<(), AllocError>
-    requires { IsSome (run settled.old.world turns.now) }
-    ensures { OnOk result (MadeAll settled.old settled.new turns.now) }
-{
-    settled.world.keeps();
-    for turn in turns {
-        make(settled, *turn)?;
-    }
-    Ok(())
 }
