@@ -1,10 +1,9 @@
 -- The commands that are left of a batch, when so many of each box have come.
-use Rattle.std.proofs.Common.{◌≡◌, ◌≢◌, ◌<◌, ◌≤◌, ◌+◌, ◌-◌, ◌++◌, ◌==◌, inl, inr, cond, if◌then◌else◌, ℕ, zero, suc, Bool, true, false, List, [], ◌∷◌, length, map, replicate, take, slice_get, Option, Some, None, refl, ap, sym, ◌∙◌, subst, arith}
+use Rattle.std.proofs.Common.{◌≡◌, ◌≢◌, ◌<◌, ◌≤◌, ◌+◌, ◌-◌, ◌++◌, ◌==◌, inl, inr, cond, if◌then◌else◌, ℕ, zero, suc, Bool, true, false, List, [], ◌∷◌, length, map, replicate, slice_get, Option, Some, None, refl, ap, sym, ◌∙◌, subst, arith}
 use Rattle.std.proofs.Math.ListN.{get_or, set}
 use Rattle.std.proofs.lemmas.Bool.{cases_eq}
 use Rattle.std.proofs.lemmas.Grind.{common_steps}
-use Rattle.std.proofs.lemmas.List.{append-nil, get_or-set_same, get_or-set_other}
-use Rattle.std.proofs.lemmas.List.Elements.{filter_more}
+use Rattle.std.proofs.lemmas.List.{get_or-set_same, get_or-set_other}
 use Rattle.mc_box.specs.declared.event.Turn.{Turn}
 use Rattle.mc_seq.specs.Commands.{left_after, lowered, queue_at, turns_of, used_of}
 use Rattle.mc_seq.specs.Schedule.{next_of, without_next}
@@ -176,25 +175,6 @@ zeros (suc n) zero = refl
 zeros (suc n) (suc who) = zeros n who
 
 -- ---- the lists by box
-
--- one more turn is put last in its list
-put_by : (own : Bool) (queues : List (List Turn)) (turn : Turn) (who : ℕ) (before : List Turn) → (turn.who == who) ≡ own → turn.who < length queues → queue_at queues who ≡ before
-    → queue_at (set queues turn.who (queue_at queues turn.who ++ turn ∷ [])) who ≡ before ++ cond own (turn ∷ []) []
-put_by true queues turn who before test inside is =
-    let same : who ≡ turn.who = sym (same_by turn.who who test) in
-    ap (queue_at (set queues turn.who (queue_at queues turn.who ++ turn ∷ []))) same
-    ∙ (get_or-set_same queues turn.who (queue_at queues turn.who ++ turn ∷ []) [] inside
-    ∙ ap (λ (l : List Turn). l ++ turn ∷ []) (ap (queue_at queues) (sym same) ∙ is))
-put_by false queues turn who before test inside is =
-    get_or-set_other queues turn.who who (queue_at queues turn.who ++ turn ∷ []) [] (λ same. apart_by turn.who who test (sym same))
-    ∙ (is ∙ sym (append-nil before))
-
-pub put_more : (queues : List (List Turn)) (batch : List Turn) (i who : ℕ) (turn : Turn) → i < length batch → turn ≡ get_or batch i turn → turn.who < length queues
-    → queue_at queues who ≡ turns_of who (take i batch)
-    → queue_at (set queues turn.who (queue_at queues turn.who ++ turn ∷ [])) who ≡ turns_of who (take (i + 1) batch)
-put_more queues batch i who turn inside is there so_far =
-    put_by (turn.who == who) queues turn who (turns_of who (take i batch)) refl there so_far
-    ∙ sym (filter_more (λ (t : Turn). t.who == who) batch i turn inside ∙ ap (λ (t : Turn). turns_of who (take i batch) ++ cond (t.who == who) (t ∷ []) []) (sym is))
 
 -- a list of commands as lists see it: to replace one and then to map is to map and then to replace
 set_map : {A : Type 0} (f : A → List Turn) (xs : List A) (k : ℕ) (new : A) → map f (set xs k new) ≡ set (map f xs) k (f new)

@@ -1,7 +1,6 @@
 pub mod AllowedCommands
 mod Candidates
 mod CountsStay
-pub mod DrawnLinks
 mod DrawsEnd
 mod Finds
 mod ForEach

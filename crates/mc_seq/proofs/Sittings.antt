@@ -23,21 +23,11 @@ use Rattle.mc_seq.proofs.Candidates.{IsListed, IsTake, drawn_listed, none_left, 
 use Rattle.mc_seq.proofs.AllowedCommands.{all_kept, left_pass, next_pass}
 use Rattle.mc_seq.proofs.Nexts.{without_less}
 
--- ---- one draw
-
--- a list that isn't empty has a length above 0
-some_length : (xs : List Turn) → length xs ≢ 0 → 0 < length xs
-some_length xs some = omega arith
-
 -- ---- several draws
 
 -- whatever is drawn from here goes on from what was written down
 abbrev pub GoesOn : Sight → Sight → Type 0
 GoesOn start now = (more : List Turn) (last : Standing) → AreDrawn now.standing more last → DrewAll start (record { standing = last; turns = now.turns ++ more })
-
--- so it is at the beginning
-pub goes_first : (start : Sight) → GoesOn start start
-goes_first start more last draws = record { turns = more; draws = draws; logged = refl }
 
 -- and after one more drawn turn
 pub goes_more : (start now next : Sight) → MayGo now.standing → DrewTurn now next → GoesOn start now → GoesOn start next
