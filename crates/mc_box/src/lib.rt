@@ -9,8 +9,6 @@ pub mod limit;
 mod media_box;
 mod parts;
 mod setup;
-#[cfg(test)]
-mod tests;
 mod turns;
 
 pub use event::{BoxShape, Change, Event, Kind, MediaChange, Shape, Turn};

@@ -2,7 +2,7 @@
 ghost use Rattle.std.specs.Prelude.{◌≡◌};
 ghost use Rattle.mc_box.specs.BoxEvents.{is_take};
 
-use super::*;
+use mc_box::{Change, Event, Kind, MediaBox, MediaChange, Setup, SlotSetup, VersionEnd};
 use mc_lane::Lane;
 use mc_signal::{CodecList, Descriptor, Medium, Sender, Signal, choose};
 use mc_slot::{Goal, Slot, SlotGoal, State};
@@ -64,6 +64,23 @@ fn takes(e: Event) -> bool
     matches!(e, Event::Take(_))
 }
 
+// How an event ends that takes nothing, and what it sends.
+fn outcome(
+    rt: &impl Abort,
+    alloc: Global,
+    part: &mut MediaBox,
+    e: Event,
+) -> Result<(Result<(), VersionEnd>, Lane<(u8, Signal)>), Fail> {
+    let mut out = Lane::new(alloc);
+    out.reserve(128)?;
+    let count = part.slots().len();
+    assert!(rt; part.enabled(&e));
+    assert!(rt; !takes(e));
+    let ended = part.act(e, &mut out);
+    assert!(rt; out.len() <= 2 * count);
+    Ok((ended, out))
+}
+
 // Whether just this is sent in an event that takes nothing.
 fn acts(
     rt: &impl Abort,
@@ -72,13 +89,8 @@ fn acts(
     e: Event,
     want: &[(u8, Signal)],
 ) -> Result<(), Fail> {
-    let mut out = Lane::new(alloc);
-    out.reserve(128)?;
-    let count = part.slots().len();
-    assert!(rt; part.enabled(&e));
-    assert!(rt; !takes(e));
-    assert_eq!(rt; part.act(e, &mut out), Ok(()));
-    assert!(rt; out.len() <= 2 * count);
+    let (ended, mut out) = outcome(rt, alloc, part, e)?;
+    assert_eq!(rt; ended, Ok(()));
     for sending in want {
         assert_eq!(rt; out.pop(), Some(*sending));
     }
@@ -179,11 +191,9 @@ fn a_device_opens_hears_and_asks_again(rt: HostRuntime) -> Result<(), Fail> {
     let hear = Event::Media(MediaChange::Hear(1, true));
     acts(&rt, rt.alloc(), &mut part, hear, &[])?;
     assert_eq!(rt; shown(&rt, &part, 1).2.version, 4294967295);
-    let mut out = Lane::new(rt.alloc());
-    out.reserve(128)?;
     let count = part.slots().len();
-    assert!(rt; part.enabled(&hear));
-    assert_eq!(rt; part.act(hear, &mut out), Err(VersionEnd));
+    let (ended, out) = outcome(&rt, rt.alloc(), &mut part, hear)?;
+    assert_eq!(rt; ended, Err(VersionEnd));
     assert_eq!(rt; out.len(), 0);
     assert_eq!(rt; part.slots().len(), count);
     assert_eq!(rt; shown(&rt, &part, 1).2.version, 4294967295);

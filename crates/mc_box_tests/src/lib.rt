@@ -1,0 +1,5 @@
+//! Tests of single boxes: worked events, and what each sends.
+#![tactic(auto)]
+
+#[cfg(test)]
+mod boxes;
