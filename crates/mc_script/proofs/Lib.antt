@@ -1,3 +1,2 @@
 pub mod Apart
-pub mod Example
 pub mod Read

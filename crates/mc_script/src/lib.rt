@@ -9,8 +9,6 @@ mod lines;
 pub mod places;
 mod print;
 pub mod rule;
-#[cfg(test)]
-mod tests;
 
 pub use command::{Batch, Command, JournalLine, JournalText, LineFault};
 pub use line::{LINE_LIMIT, check_bytes, read_command, read_kind};

@@ -1,14 +1,16 @@
+// Commands that are read or refused, and one that is printed.
 ghost use Rattle.std.specs.Prelude.{◌≡◌, IfOk, length};
 ghost use Rattle.mc_text.specs.NameLists.{slot_names};
 ghost use Rattle.mc_box.specs.BoxShapes.{shape_of};
 ghost use Rattle.mc_script.specs.Places.{Fits};
 
-use super::*;
 use mc_box::{BoxShape, Change, Event, Kind, Shape, Turn};
+use mc_script::{Command, print_command, read_command};
 use mc_signal::Medium;
 use mc_slot::Goal;
 use mc_text::{NameFault, Names};
 use std::alloc::{AllocError, Global};
+use std::process::Abort;
 
 // A device `alice` with a slot `a`, and a feature `f` with a slot `w`.
 fn example_names(alloc: Global) -> Result<Names, NameFault>
@@ -76,6 +78,7 @@ fn a_command_is_printed(rt: HostRuntime) -> Result<(), NameFault> {
     Ok(())
 }
 
+// The number of the rule that a line breaks, or 0.
 fn number_of(names: &Names, shape: &Shape, line: &[u8]) -> u8
     requires { Fits names.now shape.now }
 {
@@ -85,13 +88,26 @@ fn number_of(names: &Names, shape: &Shape, line: &[u8]) -> u8
     }
 }
 
+// Each line is read, or refused by its number.
+fn are_numbered(rt: &impl Abort, names: &Names, shape: &Shape, rows: &[(&[u8], u8)])
+    requires { Fits names.now shape.now }
+{
+    for (line, number) in rows {
+        assert_eq!(rt; number_of(names, shape, *line), *number);
+    }
+}
+
+const ROWS: [(&[u8], u8); 5] = [
+    (b" set  alice a open ", 0),
+    (b"set alice a", 6),
+    (b"settle now", 7),
+    (b"set alice z open", 11),
+    (b"link f w w", 12),
+];
+
 #[test]
 fn lines_are_read_or_refused(rt: HostRuntime) -> Result<(), NameFault> {
-    let Example { names, shape } = new_example(rt.alloc())?;
-    assert_eq!(rt; number_of(&names, &shape, b" set  alice a open "), 0);
-    assert_eq!(rt; number_of(&names, &shape, b"set alice a"), 6);
-    assert_eq!(rt; number_of(&names, &shape, b"settle now"), 7);
-    assert_eq!(rt; number_of(&names, &shape, b"set alice z open"), 11);
-    assert_eq!(rt; number_of(&names, &shape, b"link f w w"), 12);
+    let example = new_example(rt.alloc())?;
+    are_numbered(&rt, &example.names, &example.shape, &ROWS);
     Ok(())
 }

@@ -1,0 +1,2 @@
+-- What is known of the values of tests.
+pub mod Example
