@@ -86,58 +86,52 @@ home_there topology s numbers below = elim (cases_lt (place_by topology s).0 (le
 
 -- a flag changes, and with it the count of its box
 pub counted_set : (topology : Topology) (old new : Waiting) (s count : ℕ) (b : Bool) → HasNumbers topology → AreFlagsCounted topology old → s < length topology.places.items
-    → new.flags.items ≡ set old.flags.items s b → new.counts.items ≡ set old.counts.items (place_by topology s).0 count
-    → count + bit (get_or old.flags.items s false) ≡ get_or old.counts.items (place_by topology s).0 0 + bit b → AreFlagsCounted topology new
-counted_set topology old new s count b numbers counted below flags counts sum =
+    → new.flags.items ≡ set old.flags.items s b → new.takes ≡ set old.takes (place_by topology s).0 count
+    → count + bit (get_or old.flags.items s false) ≡ get_or old.takes (place_by topology s).0 0 + bit b → AreFlagsCounted topology new
+counted_set topology old new s count b numbers counted below flags takes sum =
     let who : ℕ = (place_by topology s).0 in
     let home : (place_by topology s).0 < length topology.numbers.items = home_there topology s numbers below in
     record {
       flags = ap length flags ∙ (length-set old.flags.items s b ∙ counted.flags);
-      counts = ap length counts ∙ (length-set old.counts.items who count ∙ counted.counts);
+      takes = ap length takes ∙ (length-set old.takes who count ∙ counted.takes);
       each = λ other inside.
-          subst (λ (l : List ℕ). get_or l other 0 ≡ flag_count topology new.flags.items other (length (numbers_of topology other))) (sym counts)
-          (subst (λ (l : List Bool). get_or (set old.counts.items who count) other 0 ≡ flag_count topology l other (length (numbers_of topology other))) (sym flags)
+          subst (λ (l : List ℕ). get_or l other 0 ≡ flag_count topology new.flags.items other (length (numbers_of topology other))) (sym takes)
+          (subst (λ (l : List Bool). get_or (set old.takes who count) other 0 ≡ flag_count topology l other (length (numbers_of topology other))) (sym flags)
           (elim (cases_eq other who) [
             | inl is ↦
-                subst (λ (n : ℕ). get_or (set old.counts.items who count) n 0 ≡ flag_count topology (set old.flags.items s b) n (length (numbers_of topology n))) (sym is)
-                (get_or-set_same old.counts.items who count 0 (omega (arith, home, counted.counts))
+                subst (λ (n : ℕ). get_or (set old.takes who count) n 0 ≡ flag_count topology (set old.flags.items s b) n (length (numbers_of topology n))) (sym is)
+                (get_or-set_same old.takes who count 0 (omega (arith, home, counted.takes))
                 ∙ omega (arith, sum, counted.each who home, count_own topology old.flags.items s b numbers below (omega (arith, below, counted.flags))))
-            | inr apart ↦ get_or-set_other old.counts.items who other count 0 apart ∙ (counted.each other inside ∙ sym (count_other topology old.flags.items s b other (length (numbers_of topology other)) numbers apart))
+            | inr apart ↦ get_or-set_other old.takes who other count 0 apart ∙ (counted.each other inside ∙ sym (count_other topology old.flags.items s b other (length (numbers_of topology other)) numbers apart))
           ]));
     }
 
 -- ---- what code reads and writes
 
--- the place of a slot, and the count of its box
-pub record IsRead (topology : Topology) (waiting : Waiting) (s : ℕ) (place : ℕ × ℕ) (count : ℕ) : Type 0 where
+-- the place of a slot
+pub record IsRead (topology : Topology) (waiting : Waiting) (s : ℕ) (place : ℕ × ℕ) : Type 0 where
   pub numbers : HasNumbers topology
   pub counted : AreFlagsCounted topology waiting
   pub below : s < length topology.places.items
   pub place_is : place ≡ get_or topology.places.items s place
-  pub count_is : count ≡ get_or waiting.counts.items place.0 count
 
-place_read : (topology : Topology) (s : ℕ) (place : ℕ × ℕ) → s < length topology.places.items → place ≡ get_or topology.places.items s place → place ≡ place_by topology s
-place_read topology s place below reads = get_or_read topology.places.items s place below reads (0, 0)
+place_read : (topology : Topology) (waiting : Waiting) (s : ℕ) (place : ℕ × ℕ) → IsRead topology waiting s place → place ≡ place_by topology s
+place_read topology waiting s place read = get_or_read topology.places.items s place read.below read.place_is (0, 0)
 
-pub home_read : (topology : Topology) (waiting : Waiting) (s : ℕ) (place : ℕ × ℕ) → HasNumbers topology → AreFlagsCounted topology waiting → s < length topology.places.items
-    → place ≡ get_or topology.places.items s place → place.0 < length waiting.counts.items
-home_read topology waiting s place numbers counted below reads =
-    subst (λ (p : ℕ × ℕ). p.0 < length waiting.counts.items) (sym (place_read topology s place below reads)) (omega (arith, home_there topology s numbers below, counted.counts))
-
-count_read : (topology : Topology) (waiting : Waiting) (s : ℕ) (place : ℕ × ℕ) (count : ℕ) → IsRead topology waiting s place count → count ≡ get_or waiting.counts.items (place_by topology s).0 0
-count_read topology waiting s place count read =
-    get_or_read waiting.counts.items place.0 count (home_read topology waiting s place read.numbers read.counted read.below read.place_is) read.count_is 0
-    ∙ ap (λ (p : ℕ × ℕ). get_or waiting.counts.items p.0 0) (place_read topology s place read.below read.place_is)
+-- its box has a count
+pub home_read : (topology : Topology) (waiting : Waiting) (s : ℕ) (place : ℕ × ℕ) → IsRead topology waiting s place → place.0 < length waiting.takes
+home_read topology waiting s place read =
+    subst (λ (p : ℕ × ℕ). p.0 < length waiting.takes) (sym (place_read topology waiting s place read)) (omega (arith, home_there topology s read.numbers read.below, read.counted.takes))
 
 -- one more slot has a flag, so before there were fewer than slots
-pub one_more_fits : (topology : Topology) (waiting : Waiting) (s : ℕ) (place : ℕ × ℕ) (count : ℕ) → IsRead topology waiting s place count → get_or waiting.flags.items s false ≡ false → count < SLOT_LIMIT
-one_more_fits topology waiting s place count read unset =
+pub one_more_fits : (topology : Topology) (waiting : Waiting) (s : ℕ) (place : ℕ × ℕ) → IsRead topology waiting s place → get_or waiting.flags.items s false ≡ false → get_or waiting.takes place.0 0 < SLOT_LIMIT
+one_more_fits topology waiting s place read unset =
     let who : ℕ = (place_by topology s).0 in
-    let before : get_or waiting.counts.items who 0 ≡ flag_count topology waiting.flags.items who (length (numbers_of topology who)) = read.counted.each who (home_there topology s read.numbers read.below) in
+    let before : get_or waiting.takes who 0 ≡ flag_count topology waiting.flags.items who (length (numbers_of topology who)) = read.counted.each who (home_there topology s read.numbers read.below) in
     let none : bit (get_or waiting.flags.items s false) ≡ 0 = ap bit unset in
     omega (
       arith,
-      count_read topology waiting s place count read,
+      ap (λ (p : ℕ × ℕ). get_or waiting.takes p.0 0) (place_read topology waiting s place read),
       before,
       none,
       count_own topology waiting.flags.items s true read.numbers read.below (omega (arith, read.below, read.counted.flags)),
@@ -146,19 +140,25 @@ one_more_fits topology waiting s place count read unset =
     )
 
 -- a slot has a flag, so there is one
-pub one_there : (topology : Topology) (waiting : Waiting) (s : ℕ) (place : ℕ × ℕ) (count : ℕ) → IsRead topology waiting s place count → get_or waiting.flags.items s false ≡ true → 1 ≤ count
-one_there topology waiting s place count read is =
+pub one_there : (topology : Topology) (waiting : Waiting) (s : ℕ) (place : ℕ × ℕ) → IsRead topology waiting s place → get_or waiting.flags.items s false ≡ true → 0 < get_or waiting.takes place.0 0
+one_there topology waiting s place read is =
     let who : ℕ = (place_by topology s).0 in
-    let before : get_or waiting.counts.items who 0 ≡ flag_count topology waiting.flags.items who (length (numbers_of topology who)) = read.counted.each who (home_there topology s read.numbers read.below) in
+    let before : get_or waiting.takes who 0 ≡ flag_count topology waiting.flags.items who (length (numbers_of topology who)) = read.counted.each who (home_there topology s read.numbers read.below) in
     let one : bit (get_or waiting.flags.items s false) ≡ 1 = ap bit is in
-    omega (arith, count_read topology waiting s place count read, before, one, count_own topology waiting.flags.items s false read.numbers read.below (omega (arith, read.below, read.counted.flags)))
+    omega (
+      arith,
+      ap (λ (p : ℕ × ℕ). get_or waiting.takes p.0 0) (place_read topology waiting s place read),
+      before,
+      one,
+      count_own topology waiting.flags.items s false read.numbers read.below (omega (arith, read.below, read.counted.flags)),
+    )
 
 -- what is written is counted
-pub counted_by : (topology : Topology) (old new : Waiting) (s : ℕ) (place : ℕ × ℕ) (count made : ℕ) (b : Bool) → IsRead topology old s place count → new.flags.items ≡ set old.flags.items s b
-    → new.counts.items ≡ set old.counts.items place.0 made → made + bit (get_or old.flags.items s false) ≡ count + bit b → AreFlagsCounted topology new
-counted_by topology old new s place count made b read flags counts sum =
-    counted_set topology old new s made b read.numbers read.counted read.below flags (counts ∙ ap (λ (p : ℕ × ℕ). set old.counts.items p.0 made) (place_read topology s place read.below read.place_is))
-    (sum ∙ ap (λ (n : ℕ). n + bit b) (count_read topology old s place count read))
+pub counted_by : (topology : Topology) (old new : Waiting) (s : ℕ) (place : ℕ × ℕ) (made : ℕ) (b : Bool) → IsRead topology old s place → new.flags.items ≡ set old.flags.items s b
+    → new.takes ≡ set old.takes place.0 made → made + bit (get_or old.flags.items s false) ≡ get_or old.takes place.0 0 + bit b → AreFlagsCounted topology new
+counted_by topology old new s place made b read flags takes sum =
+    counted_set topology old new s made b read.numbers read.counted read.below flags (takes ∙ ap (λ (p : ℕ × ℕ). set old.takes p.0 made) (place_read topology old s place read))
+    (sum ∙ ap (λ (p : ℕ × ℕ). get_or old.takes p.0 0 + bit b) (place_read topology old s place read))
 
 -- with no flag all counts are zero
 no_flags : (n : ℕ) (o : Option ℕ) → flag_of (replicate n false) o ≡ false
@@ -168,12 +168,12 @@ no_flags n (Some s) = elim (cases_lt s n) [
   | inr above ↦ get_or-eq_default (replicate n false) false (omega (arith, above, length-replicate n false))
 ]
 
-pub counted_new : (topology : Topology) (waiting : Waiting) → waiting.flags.items ≡ replicate (length topology.places.items) false → waiting.counts.items ≡ replicate (length topology.numbers.items) 0 → AreFlagsCounted topology waiting
-counted_new topology waiting flags counts = record {
+pub counted_new : (topology : Topology) (waiting : Waiting) → waiting.flags.items ≡ replicate (length topology.places.items) false → waiting.takes ≡ replicate (length topology.numbers.items) 0 → AreFlagsCounted topology waiting
+counted_new topology waiting flags takes = record {
   flags = ap length flags ∙ length-replicate (length topology.places.items) false;
-  counts = ap length counts ∙ length-replicate (length topology.numbers.items) 0;
+  takes = ap length takes ∙ length-replicate (length topology.numbers.items) 0;
   each = λ who below.
-      ap (λ (l : List ℕ). get_or l who 0) counts
+      ap (λ (l : List ℕ). get_or l who 0) takes
       ∙ (get_or-replicate (length topology.numbers.items) who 0 0 below
       ∙ sym (subst (λ (l : List Bool). flag_count topology l who (length (numbers_of topology who)) ≡ 0) (sym flags)
       (total_none _ (length (numbers_of topology who)) (λ local inside. ap bit (no_flags (length topology.places.items) (slice_get (numbers_of topology who) local))))));

@@ -1,12 +1,13 @@
 -- What a world's flags and counts say of its fronts.
-use Rattle.std.proofs.Common.{◌≡◌, ◌<◌, ◌≤◌, inl, inr, ℕ, Bool, false, List, [], ◌∷◌, Option, Some, None, length, drop, get_or, position, refl, ap, sym, ◌∙◌, subst, arith}
+use Rattle.std.proofs.Common.{◌≡◌, ◌<◌, ◌≤◌, inl, inr, ℕ, Bool, false, List, [], ◌∷◌, Option, Some, None, length, drop, get_or, map, position, Vec, Global, refl, ap, sym, ◌∙◌, subst, arith}
 use Rattle.std.specs.List.{slice_get}
 use Rattle.std.specs.Option.{is_some, option_and_then}
 use Rattle.std.proofs.Math.ListN.{replicate, get_or-eq_default}
 use Rattle.std.proofs.lemmas.Bool.{cases_lt}
-use Rattle.std.proofs.lemmas.List.{get_or-replicate, get_or_read, length-replicate}
+use Rattle.std.proofs.lemmas.List.{get_or-replicate, length-map, length-replicate}
 use Rattle.std.proofs.lemmas.Option.{slice_get_within}
 use Rattle.mc_signal.specs.declared.Tagged.{Tagged}
+use Rattle.mc_box.specs.Boxes.{BoxState, no_box}
 use Rattle.mc_box.specs.declared.limit.TheConstants.{SLOT_LIMIT}
 use Rattle.mc_turn.proofs.Sums.{total_same}
 use Rattle.mc_laws.proofs.Numbers.{number_is}
@@ -14,7 +15,7 @@ use Rattle.mc_model.specs.Served.{AllServed, IsFor}
 use Rattle.mc_model.specs.Worlds.{WorldState, box_at, front, front_for, is_place, number, place, tunnel_of}
 use Rattle.mc_world.specs.Lanes.{lane_by, numbers_of, signals_of, tunnel_by}
 use Rattle.mc_world.specs.Tables.{HasTables, world_state}
-use Rattle.mc_world.specs.Waiting.{AreFlagged, FirstServed, bit, flag_of, take_waits, waiting_count, waits_by}
+use Rattle.mc_world.specs.Waiting.{AreFlagged, CountsTakes, FirstServed, bit, flag_count, flag_of, take_waits, waiting_count, waits_by}
 use Rattle.mc_world.specs.declared.network.World.TheInside.{Inside}
 use Rattle.mc_world.specs.declared.topology.Topology.{Topology}
 use Rattle.mc_world.proofs.FlagCounts.{count_small}
@@ -72,9 +73,9 @@ flag_is inside who local has =
     ∙ flag_by (world_state inside) inside.waiting.flags.items (number (world_state inside) who local)
     (λ s is. has.waiting.flagged s (subst (λ (l : List (ℕ × ℕ)). s < length l) (sym has.places) (number_is (world_state inside) who local s is).0) ∙ waits_same inside s has)
 
--- a box has as many numbers as slots
-numbers_long : (inside : Inside) (who : ℕ) → HasTables inside → who < length inside.boxes.items → length (numbers_of inside.topology who) ≡ length (box_at (world_state inside) who).slots
-numbers_long inside who has here =
+-- a box has as many numbers as slots, and so has one that isn't there
+numbers_there : (inside : Inside) (who : ℕ) → HasTables inside → who < length inside.boxes.items → length (numbers_of inside.topology who) ≡ length (box_at (world_state inside) who).slots
+numbers_there inside who has here =
     let world : WorldState = world_state inside in
     let slots : ℕ = length (box_at (world_state inside) who).slots in
     let found : (local : ℕ) → slice_get (numbers_of inside.topology who) local ≡ number (world_state inside) who local = λ local. has.found who local ∙ ap (position (is_place (who, local))) has.places in
@@ -91,23 +92,60 @@ numbers_long inside who has here =
       | inr all ↦ omega arith
     ]
 
--- what is read is the count of the box
-pub takes_is : (inside : Inside) (who count : ℕ) → HasTables inside → who < length inside.boxes.items → count ≡ get_or inside.waiting.counts.items who count
-    → count ≡ waiting_count (world_state inside) who (length (box_at (world_state inside) who).slots)
-takes_is inside who count has here reads =
-    get_or_read inside.waiting.counts.items who count (omega (arith, here, has.homes, has.waiting.counted.counts)) reads 0
-    ∙ (has.waiting.counted.each who (omega (arith, here, has.homes))
-    ∙ (total_same (λ local. bit (flag_of inside.waiting.flags.items (slice_get (numbers_of inside.topology who) local))) (λ local. bit (take_waits (world_state inside) who local)) (length (numbers_of inside.topology who))
-    (λ local below. ap bit (flag_is inside who local has))
-    ∙ ap (waiting_count (world_state inside) who) (numbers_long inside who has here)))
+numbers_long : (inside : Inside) (who : ℕ) → HasTables inside → length (numbers_of inside.topology who) ≡ length (box_at (world_state inside) who).slots
+numbers_long inside who has = elim (cases_lt who (length inside.boxes.items)) [
+  | inl here ↦ numbers_there inside who has here
+  | inr outside ↦
+      ap length (get_or-eq_default (map (λ (numbers : Vec ℕ Global). numbers.items) inside.topology.numbers.items) [] (omega (arith, outside, has.homes, length-map inside.topology.numbers.items (λ (numbers : Vec ℕ Global). numbers.items))))
+      ∙ sym (ap (λ (box : BoxState). length box.slots) (get_or-eq_default inside.boxes.items no_box outside))
+]
 
--- and no more than a box has slots
-pub takes_few : (inside : Inside) (who count : ℕ) → HasTables inside → who < length inside.boxes.items → count ≡ get_or inside.waiting.counts.items who count → count ≤ SLOT_LIMIT
-takes_few inside who count has here reads =
-    omega (
-      arith,
-      get_or_read inside.waiting.counts.items who count (omega (arith, here, has.homes, has.waiting.counted.counts)) reads 0,
-      has.waiting.counted.each who (omega (arith, here, has.homes)),
-      count_small inside.topology inside.waiting.flags.items who (length (numbers_of inside.topology who)),
-      (tables_numbers inside has).few who,
-    )
+-- flags are counted where signals wait
+pub counts_same : (inside : Inside) (who count : ℕ) → HasTables inside → flag_count inside.topology inside.waiting.flags.items who count ≡ waiting_count (world_state inside) who count
+counts_same inside who count has =
+    total_same (λ local. bit (flag_of inside.waiting.flags.items (slice_get (numbers_of inside.topology who) local))) (λ local. bit (take_waits (world_state inside) who local)) count
+    (λ local below. ap bit (flag_is inside who local has))
+
+-- and so over all of a box
+pub box_count : (inside : Inside) (who : ℕ) → HasTables inside
+    → flag_count inside.topology inside.waiting.flags.items who (length (numbers_of inside.topology who)) ≡ waiting_count (world_state inside) who (length (box_at (world_state inside) who).slots)
+box_count inside who has = counts_same inside who (length (numbers_of inside.topology who)) has ∙ ap (waiting_count (world_state inside) who) (numbers_long inside who has)
+
+-- a count is no more than a box has slots
+counts_few : (inside : Inside) (who : ℕ) → HasTables inside → get_or inside.waiting.takes who 0 ≤ SLOT_LIMIT
+counts_few inside who has = elim (cases_lt who (length inside.topology.numbers.items)) [
+  | inl here ↦
+      omega (
+        arith,
+        has.waiting.counted.each who here,
+        count_small inside.topology inside.waiting.flags.items who (length (numbers_of inside.topology who)),
+        (tables_numbers inside has).few who,
+      )
+  | inr outside ↦
+      let none : get_or inside.waiting.takes who 0 ≡ 0 = get_or-eq_default inside.waiting.takes 0 (omega (arith, outside, has.waiting.counted.takes)) in
+      omega arith
+]
+
+-- the counts are those of the world
+pub takes_counted : (inside : Inside) → HasTables inside → CountsTakes (world_state inside) inside.waiting.takes
+takes_counted inside has = record {
+  long = has.waiting.counted.takes ∙ has.homes;
+  each = λ who here. has.waiting.counted.each who (omega (arith, here, has.homes)) ∙ box_count inside who has;
+  few = λ who. counts_few inside who has;
+}
+
+-- ---- the k-th of a box
+
+-- it is among the flags
+pub kth_inside : (inside : Inside) (world : WorldState) (who k : ℕ) → HasTables inside → world_state inside ≡ world → k < waiting_count world who (length (box_at world who).slots)
+    → k < flag_count inside.topology inside.waiting.flags.items who (length (numbers_of inside.topology who))
+kth_inside inside world who k has view below =
+    rw (box_count inside who has) (subst (λ (w : WorldState). k < waiting_count w who (length (box_at w who).slots)) (sym view) below)
+
+-- and as many signals wait before it as there are flags
+pub kth_before : (inside : Inside) (world : WorldState) (who local k : ℕ) → HasTables inside → world_state inside ≡ world → flag_count inside.topology inside.waiting.flags.items who local ≡ k → waiting_count world who local ≡ k
+kth_before inside world who local k has view before = subst (λ (w : WorldState). waiting_count w who local ≡ k) view (sym (counts_same inside who local has) ∙ before)
+
+-- at a slot of the box
+pub kth_there : (inside : Inside) (world : WorldState) (who local : ℕ) → HasTables inside → world_state inside ≡ world → local < length (numbers_of inside.topology who) → local < length (box_at world who).slots
+kth_there inside world who local has view there = subst (λ (w : WorldState). local < length (box_at w who).slots) view (subst (λ (n : ℕ). local < n) (numbers_long inside who has) there)

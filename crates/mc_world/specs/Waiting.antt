@@ -1,10 +1,11 @@
 -- Which slots can take a signal, and how many of each box: by the lanes, and as flags and counts keep it.
-use Rattle.std.specs.Prelude.{ℕ, Bool, false, if◌then◌else◌, ◌≡◌, ◌<◌, List, [], ◌∷◌, length, slice_index_or, Option, Some, None}
+use Rattle.std.specs.Prelude.{ℕ, Bool, false, if◌then◌else◌, ◌≡◌, ◌<◌, ◌≤◌, List, [], ◌∷◌, length, slice_index_or, Option, Some, None}
 use Rattle.std.specs.List.{slice_get}
 use Rattle.std.specs.Option.{is_some, option_and_then}
 use Rattle.mc_signal.specs.declared.Tagged.{Tagged}
 use Rattle.mc_turn.specs.Sums.{total}
-use Rattle.mc_model.specs.Worlds.{WorldState, front, front_for, number}
+use Rattle.mc_box.specs.declared.limit.TheConstants.{SLOT_LIMIT}
+use Rattle.mc_model.specs.Worlds.{WorldState, box_at, front, front_for, number}
 use Rattle.mc_world.specs.Lanes.{lane_by, numbers_of, tunnel_by}
 use Rattle.mc_world.specs.declared.topology.Topology.{Topology}
 use Rattle.mc_world.specs.declared.waiting.Waiting.{Waiting}
@@ -22,6 +23,12 @@ take_waits world who local = is_some (option_and_then (front world) (number worl
 -- at how many of a box's first slots one waits
 abbrev pub waiting_count : WorldState → ℕ → ℕ → ℕ
 waiting_count world who count = total (λ local. bit (take_waits world who local)) count
+
+-- these are the counts of all boxes, each of all slots of the box
+pub record CountsTakes (world : WorldState) (counts : List ℕ) : Type 0 where
+  pub long : length counts ≡ length world.boxes
+  pub each : (who : ℕ) → who < length world.boxes → slice_index_or counts who 0 ≡ waiting_count world who (length (box_at world who).slots)
+  pub few : (who : ℕ) → slice_index_or counts who 0 ≤ SLOT_LIMIT
 
 -- ---- by the tables of a world
 
@@ -52,8 +59,8 @@ flag_count topology flags who count = total (λ local. bit (flag_of flags (slice
 -- each slot has its flag, and each box the count of the flags of its slots
 pub record AreFlagsCounted (topology : Topology) (waiting : Waiting) : Type 0 where
   pub flags : length waiting.flags.items ≡ length topology.places.items
-  pub counts : length waiting.counts.items ≡ length topology.numbers.items
-  pub each : (who : ℕ) → who < length topology.numbers.items → slice_index_or waiting.counts.items who 0 ≡ flag_count topology waiting.flags.items who (length (numbers_of topology who))
+  pub takes : length waiting.takes ≡ length topology.numbers.items
+  pub each : (who : ℕ) → who < length topology.numbers.items → slice_index_or waiting.takes who 0 ≡ flag_count topology waiting.flags.items who (length (numbers_of topology who))
 
 -- a slot's flag says whether the front of its lane is for it
 abbrev pub AreFlagged : Topology → List (List Tagged) → List Bool → Type 0

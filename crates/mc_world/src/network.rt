@@ -1,13 +1,12 @@
 // The world that channels join.
 
-ghost use Rattle.std.specs.Prelude.{◌≡◌, ◌+◌, ◌<◌, ◌≤◌, ◌*◌, ◌^◌, ◌++◌, if◌then◌else◌, [], map, length, replicate, slice_index_or, ◌==◌, IfOk, OnOk};
+ghost use Rattle.std.specs.Prelude.{◌≡◌, ◌+◌, ◌<◌, ◌≤◌, ◌*◌, ◌^◌, ◌++◌, if◌then◌else◌, [], map, length, replicate, slice_index_or, ◌==◌, true, IfOk, OnOk};
 ghost use Rattle.std.specs.List.{list_all};
 ghost use Rattle.mc_model.specs.Settles.{is_quiet, rests};
 ghost use Rattle.mc_model.specs.Sound.{AreNew, IsNumbered, IsSound};
 ghost use Rattle.mc_world.specs.Lanes.{lane_number};
 ghost use Rattle.mc_world.specs.Tables.{channel_of, tunnels_by};
-ghost use Rattle.mc_world.specs.Waiting.{take_waits, waiting_count};
-ghost use Rattle.mc_box.specs.declared.limit.TheConstants.{SLOT_LIMIT};
+ghost use Rattle.mc_world.specs.Waiting.{take_waits, waiting_count, CountsTakes};
 ghost use Rattle.mc_model.specs.declared.channel.TheConstants.{TUNNEL_LIMIT};
 ghost use Rattle.mc_model.specs.Worlds.{AreChannels, first_world, slot_count, box_at, place, number, far, tunnel_of, front, front_for, slot_of, goal_of, places_among, places_within, tunnels_from, tunnels_within};
 
@@ -21,6 +20,7 @@ use mc_lane::Lane;
 use mc_model::{Channel, Tunnel};
 use mc_signal::{Signal, Tagged};
 use mc_slot::{Slot, SlotGoal};
+use mc_sums::Sums;
 use std::alloc::{AllocError, Global};
 use std::marker::Model;
 pub use step::StepFault;
@@ -187,13 +187,21 @@ impl World {
         }
     }
 
-    /// At how many slots of a box a signal waits that they can take now.
-    pub fn takes(&self, who: u32) -> u32
-        requires { who < length self.now.boxes }
-        ensures count { result ≡ waiting_count self.now who (length (box_at self.now who).slots) }
-        ensures few { result ≤ SLOT_LIMIT }
+    /// At how many slots of each box a signal waits that they can take now.
+    pub fn takes(&self) -> &Sums
+        ensures { CountsTakes self.now result.now }
     {
-        u32::from(self.waiting.counts[who as usize])
+        &self.waiting.takes
+    }
+
+    /// The k-th slot of a box, by its local number, at which a signal waits that it can take now.
+    pub fn kth_take(&self, who: u32, k: u64) -> u8
+        requires { k < waiting_count self.now who (length (box_at self.now who).slots) }
+        ensures waits { take_waits self.now who result ≡ true }
+        ensures before { waiting_count self.now who result ≡ k }
+        ensures there { result < length (box_at self.now who).slots }
+    {
+        self.waiting.kth(&self.topology, who, k)
     }
 
     /// Whether nothing is under way.

@@ -1,29 +1,33 @@
 // Which slots can take a signal, kept beside the lanes.
 
-ghost use Rattle.std.specs.Prelude.{◌≡◌, ◌<◌, true, false, IfOk, length, replicate, slice_index_or, slice_set};
-ghost use Rattle.mc_world.specs.Lanes.{HasNumbers};
-ghost use Rattle.mc_world.specs.Waiting.{AreFlagsCounted};
+ghost use Rattle.std.specs.Prelude.{◌≡◌, ◌^◌, ◌<◌, ◌≤◌, true, false, IfOk, length, replicate, slice_index_or, slice_set};
+ghost use Rattle.std.specs.List.{slice_get};
+ghost use Rattle.mc_world.specs.Lanes.{HasNumbers, numbers_of};
+ghost use Rattle.mc_world.specs.Waiting.{flag_count, flag_of, AreFlagsCounted};
 
 use crate::topology::Topology;
+use mc_sums::Sums;
 use std::alloc::{AllocError, Global};
 
 /// For each slot whether the front of its lane is for it, and for each box how many of its slots have such a front.
-/// So nobody has to look at lanes to tell what a box can take.
+/// So nobody has to look at lanes to tell what a box can take, nor at boxes to tell which of them can take something.
 #[derive(Debug, Drop)]
 pub struct Waiting {
     pub flags: Vec<bool>,
-    pub counts: Vec<u8>,
+    pub takes: Sums,
 }
 
 impl Waiting {
     /// With no flag set.
     pub fn new(alloc: Global, topology: &Topology) -> Result<Waiting, AllocError>
+        requires few { length topology.now.numbers.items ≤ 2 ^ 32 }
         ensures counted { IfOk result (λ waiting. AreFlagsCounted topology.now waiting) }
         ensures none { IfOk result (λ waiting. waiting.flags.items ≡ replicate (length topology.now.places.items) false) }
     {
         let flags = vec![in alloc; false; topology.places.len()]?;
         let counts = vec![in alloc; 0; topology.numbers.len()]?;
-        Ok(Waiting { flags, counts })
+        let takes = Sums::new(alloc, counts)?;
+        Ok(Waiting { flags, takes })
     }
 
     /// The flag of a slot that has none is set.
@@ -37,7 +41,7 @@ impl Waiting {
     {
         let (who, _) = topology.places[slot as usize];
         self.flags[slot as usize] = true;
-        self.counts[who as usize] += 1;
+        self.takes.raise(who as usize);
     }
 
     /// The flag of a slot that has one is cleared.
@@ -51,6 +55,28 @@ impl Waiting {
     {
         let (who, _) = topology.places[slot as usize];
         self.flags[slot as usize] = false;
-        self.counts[who as usize] -= 1;
+        self.takes.lower(who as usize);
+    }
+
+    /// The local number of the k-th of a box's slots that have a flag.
+    pub fn kth(&self, topology: &Topology, who: u32, k: u64) -> u8
+        requires numbers { HasNumbers topology.now }
+        requires counted { AreFlagsCounted topology.now self.now }
+        requires inside { k < flag_count topology.now self.now.flags.items who (length (numbers_of topology.now who)) }
+        ensures has { flag_of self.now.flags.items (slice_get (numbers_of topology.now who) result) ≡ true }
+        ensures before { flag_count topology.now self.now.flags.items who result ≡ k }
+        ensures there { result < length (numbers_of topology.now who) }
+    {
+        let numbers = topology.numbers(who);
+        let mut rest = k;
+        for local in 0..numbers.len() {
+            if self.flags[numbers[local] as usize] {
+                if rest == 0 {
+                    return local as u8;
+                }
+                rest -= 1;
+            }
+        }
+        unreachable!()
     }
 }

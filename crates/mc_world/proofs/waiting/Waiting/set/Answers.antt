@@ -1,22 +1,23 @@
-use Rattle.std.proofs.Common.{◌+◌, true, refl, ap, arith}
+use Rattle.std.proofs.Common.{◌+◌, true, refl, ap, arith, get_or}
 use Rattle.mc_world.specs.Waiting.{bit}
 use Rattle.mc_world.proofs.FlagCounts.{IsRead, counted_by, home_read, one_more_fits}
 use Rattle.mc_world.proofs.waiting.Waiting.set.Goals as goal
 
-pub index_mut-requires-2 : goal.index_mut-requires-2
-index_mut-requires-2 c =
-    let home = home_read c.args.topology.now c.args.self.now c.args.slot c.index.result.now c.requires.numbers c.requires.counted c.requires.here c.index.ensures in
-    omega (arith, home, c.args.self.now.counts.ok.0)
+pub raise-requires-clause-inside : goal.raise-requires-clause-inside
+raise-requires-clause-inside c =
+    let read : IsRead c.args.topology.now c.args.self.now c.args.slot c.index.result.now =
+    record { numbers = c.requires.numbers; counted = c.requires.counted; below = c.requires.here; place_is = c.index.ensures } in
+    home_read c.args.topology.now c.args.self.now c.args.slot c.index.result.now read
 
-pub overflow_add-index_mut : goal.overflow_add-index_mut
-overflow_add-index_mut c =
-    let read : IsRead c.args.topology.now c.args.self.now c.args.slot c.index.result.now c.index_mut-2.result.now =
-    record { numbers = c.requires.numbers; counted = c.requires.counted; below = c.requires.here; place_is = c.index.ensures; count_is = c.index_mut-2.ensures.value } in
-    omega (arith, one_more_fits c.args.topology.now c.args.self.now c.args.slot c.index.result.now c.index_mut-2.result.now read c.requires.unset)
+pub raise-requires-clause-room : goal.raise-requires-clause-room
+raise-requires-clause-room c =
+    let read : IsRead c.args.topology.now c.args.self.now c.args.slot c.index.result.now =
+    record { numbers = c.requires.numbers; counted = c.requires.counted; below = c.requires.here; place_is = c.index.ensures } in
+    omega (arith, one_more_fits c.args.topology.now c.args.self.now c.args.slot c.index.result.now read c.requires.unset)
 
 pub returns-clause-counted : goal.returns-clause-counted
 returns-clause-counted c =
-    let read : IsRead c.args.topology.now c.args.self.now c.args.slot c.index.result.now c.index_mut-2.result.now =
-    record { numbers = c.requires.numbers; counted = c.requires.counted; below = c.requires.here; place_is = c.index.ensures; count_is = c.index_mut-2.ensures.value } in
-    counted_by c.args.topology.now c.args.self.now _ c.args.slot c.index.result.now c.index_mut-2.result.now (c.index_mut-2.result.now + 1) true read refl refl
+    let read : IsRead c.args.topology.now c.args.self.now c.args.slot c.index.result.now =
+    record { numbers = c.requires.numbers; counted = c.requires.counted; below = c.requires.here; place_is = c.index.ensures } in
+    counted_by c.args.topology.now c.args.self.now _ c.args.slot c.index.result.now (get_or c.args.self.now.takes c.index.result.now.0 0 + 1) true read refl c.raise.ensures
     (omega (arith, ap bit c.requires.unset))
