@@ -111,7 +111,7 @@ three_sent local answer turn step few is =
     subst (λ (s : BoxStep). length s.sent ≤ 3) is
     (omega (arith, length-append (map (pair_of local) (answer_signals answer)) turn.sent, length-map (answer_signals answer) (pair_of local), few))
 
-pub take_three : (box : BoxState) (local : ℕ) (signal : Signal) (step : BoxStep) → IsSoundBox box → local < length box.slots → take_step box local signal ≡ Some step → length step.sent ≤ 3
+take_three : (box : BoxState) (local : ℕ) (signal : Signal) (step : BoxStep) → IsSoundBox box → local < length box.slots → take_step box local signal ≡ Some step → length step.sent ≤ 3
 take_three box local signal step sound inside goes =
     let one = then_some (λ (took : Took). option_map (with_answer local took.answer)
     (goal_step (with_slot box local took.after) local (cause_of signal took.after.state))) (slot_take (slot_at box local) signal) step goes in

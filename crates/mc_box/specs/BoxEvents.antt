@@ -68,11 +68,14 @@ goal_step_by (Link partner) box local cause = link_step box local partner cause
 abbrev pub goal_step : BoxState → ℕ → Cause → Option BoxStep
 goal_step box local cause = goal_step_by (goal_at box local) box local cause
 
--- how many signals the turn of a goal is
+-- how many signals the turn of a link is
+abbrev pub pair_length : BoxState → ℕ → ℕ → Option Side → ℕ
+pair_length box low high closed = length (link_turn (slot_at box low) (slot_at box high) closed)
+
+-- and the turn of a goal
 abbrev pub turn_length_by : SlotGoal → BoxState → ℕ → Cause → ℕ
 turn_length_by (End goal) box local cause = length (end_turn goal (slot_at box local) (is_push cause) (own box local) (sender box local))
-turn_length_by (Link partner) box local cause =
-    length (link_turn (slot_at box (min local partner)) (slot_at box (max local partner)) (closed_side cause (side_of local partner)))
+turn_length_by (Link partner) box local cause = pair_length box (min local partner) (max local partner) (closed_side cause (side_of local partner))
 
 -- and that of the goal that holds a slot
 abbrev pub turn_length : BoxState → ℕ → Cause → ℕ
@@ -197,3 +200,7 @@ pub record Appends (made : Option BoxStep) (after : BoxState) (before items : Li
   pub sent : List (ℕ × Signal)
   pub goes : made ≡ Some record { sent = sent; after = after }
   pub appended : items ≡ before ++ sent
+
+-- and here it is added to a list of sendings
+abbrev pub AddsStep : Option BoxStep → BoxState → Sends → Sends → Type 0
+AddsStep made after old new = Appends made after (sends_of old) (sends_of new)

@@ -5,10 +5,11 @@ use Rattle.mc_signal.specs.Own.{address_of}
 use Rattle.mc_slot.specs.EndTurn.{IsAtRest}
 use Rattle.mc_slot.specs.Tunnel.{Kept}
 use Rattle.mc_slot.specs.declared.SlotGoal.{SlotGoal}
+use Rattle.mc_slot.specs.declared.sends.Sends.{Sends}
 use Rattle.mc_slot.specs.declared.SlotGoal.TheVariants.{End, Link}
 use Rattle.mc_lane.specs.Queue.{Queue}
 use Rattle.mc_signal.specs.declared.Signal.{Signal}
-use Rattle.mc_box.specs.BoxEvents.{Appends, BoxStep}
+use Rattle.mc_box.specs.BoxEvents.{AddsStep, Appends, BoxStep}
 use Rattle.mc_box.specs.Boxes.{BoxState, IsBox, slot_at, goal_at, own, sender}
 use Rattle.mc_box.specs.declared.event.Kind.TheVariants.{Feature}
 use Rattle.mc_box.specs.declared.limit.TheConstants.{SLOT_LIMIT}
@@ -54,3 +55,7 @@ box_state parts = record {
 -- the parts of a box made a step, and what it sends is appended to a queue
 abbrev pub AppendsTo : Option BoxStep → BoxParts → Queue (ℕ × Signal) → Queue (ℕ × Signal) → Type 0
 AppendsTo made after old new = Appends made (box_state after) old.items new.items
+
+-- and to a list of sendings
+abbrev pub AddsTo : Option BoxStep → BoxParts → Sends → Sends → Type 0
+AddsTo made after old new = AddsStep made (box_state after) old new

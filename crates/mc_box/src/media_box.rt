@@ -3,7 +3,8 @@
 ghost use Rattle.std.specs.Prelude.{◌≡◌, ◌+◌, ◌*◌, ◌^◌, ◌<◌, ◌≤◌, length, is_err, IfOk, IsFalse, IsSome, IsTrue, None, OnErr, OnOk, Some};
 ghost use Rattle.mc_signal.specs.Own.{address_of};
 ghost use Rattle.mc_slot.specs.Moves.{slot_take};
-ghost use Rattle.mc_box.specs.BoxEvents.{box_event, is_enabled, is_take, is_version_end, may_link, step_of, Appends};
+ghost use Rattle.mc_slot.specs.Sending.{HasPlaces};
+ghost use Rattle.mc_box.specs.BoxEvents.{box_event, is_enabled, is_take, is_version_end, may_link, step_of, AddsStep, Appends};
 ghost use Rattle.mc_box.specs.BoxSound.{IsSoundBox};
 ghost use Rattle.mc_box.specs.Boxes.{goal_at, is_slot, box_owes, own, sender, set_up, slot_at};
 ghost use Rattle.mc_box.specs.declared.limit.TheConstants.{SLOT_LIMIT};
@@ -144,7 +145,20 @@ impl MediaBox {
         ensures event { box_event self.old (Event.Take slot) (Some s) ≡ Some (step_of result self.new) }
         ensures few { result.len ≤ 3 }
     {
-        self.parts.take(slot, s)
+        let mut sends = Sends::none();
+        self.send_take(slot, s, &mut sends);
+        sends
+    }
+
+    /// The same, where what is sent comes after what is in a list that the caller has.
+    pub fn send_take(&mut self, slot: u8, s: Signal, sends: &mut Sends)
+        requires here { slot < length self.old.slots }
+        requires lawful { IsSome (slot_take (slot_at self.old slot) s) }
+        requires room { HasPlaces sends.old 3 }
+        ensures event { AddsStep (box_event self.old (Event.Take slot) (Some s)) self.new sends.old sends.new }
+        ensures few { sends.new.len ≤ sends.old.len + 3 }
+    {
+        self.parts.send_take(slot, s, sends);
     }
 
     /// An enabled event that takes no signal happens, and what it sends is appended to `out`. It fails just where it is

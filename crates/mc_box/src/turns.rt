@@ -1,13 +1,13 @@
 // The turns of a box's goals.
 
-ghost use Rattle.std.specs.Prelude.{◌≡◌, ◌+◌, ◌<◌, ◌≤◌, ◌++◌, length, map, max, min, Some, IsSome, IsTrue};
-ghost use Rattle.mc_link.specs.LinkTurn.{NamesClosed, closed_side, link_turn};
-ghost use Rattle.mc_slot.specs.Moves.{answer_signals, slot_take};
-ghost use Rattle.mc_slot.specs.Sending.{pair_of, sends_of};
-ghost use Rattle.mc_slot.specs.declared.sends.TheConstants.{SENDS_LIMIT};
+ghost use Rattle.std.specs.Prelude.{◌≡◌, ◌+◌, ◌<◌, ◌≤◌, length, Some, IsSome};
+ghost use Rattle.mc_link.specs.LinkTurn.{NamesClosed, closed_side};
+ghost use Rattle.mc_slot.specs.Moves.{slot_take};
+ghost use Rattle.mc_slot.specs.Sending.{HasPlaces};
+ghost use Rattle.mc_slot.specs.declared.SlotGoal.TheVariants.{End, Link};
 ghost use Rattle.mc_slot.specs.declared.State.TheVariants.{Closed};
-ghost use Rattle.mc_box.specs.BoxEvents.{Appends, end_step, goal_step, link_step, pair_step, side_of, step_of, take_step, turn_length, turn_length_by};
-ghost use Rattle.mc_box.specs.BoxSound.{box_state, IsSoundBox, IsWired};
+ghost use Rattle.mc_box.specs.BoxEvents.{end_step, goal_step, link_step, pair_length, pair_step, side_of, step_of, take_step, turn_length, turn_length_by};
+ghost use Rattle.mc_box.specs.BoxSound.{box_state, AddsTo, IsSoundBox, IsWired};
 ghost use Rattle.mc_box.specs.Boxes.{goal_at, slot_at};
 ghost use Rattle.mc_box.specs.Goals.{most_signals};
 
@@ -22,9 +22,9 @@ impl BoxParts {
     fn end_step(&mut self, local: u8, goal: Goal, cause: Cause, sends: &mut Sends)
         requires wired { IsWired (box_state self.old) }
         requires here { local < length self.old.slots.items }
-        requires room { sends.old.len + turn_length_by (SlotGoal.End goal) (box_state self.old) local cause ≤ SENDS_LIMIT }
-        ensures turn { Appends (end_step goal (box_state self.old) local cause) (box_state self.new) (sends_of sends.old) (sends_of sends.new) }
-        ensures len { sends.new.len ≡ sends.old.len + turn_length_by (SlotGoal.End goal) (box_state self.old) local cause }
+        requires room { HasPlaces sends.old (turn_length_by (End goal) (box_state self.old) local cause) }
+        ensures turn { AddsTo (end_step goal (box_state self.old) local cause) self.new sends.old sends.new }
+        ensures len { sends.new.len ≡ sends.old.len + turn_length_by (End goal) (box_state self.old) local cause }
     {
         let own = self.own(local);
         let me = self.sender(local);
@@ -40,9 +40,9 @@ impl BoxParts {
         requires here { high < length self.old.slots.items }
         requires medium { (slot_at (box_state self.old) low).medium ≡ (slot_at (box_state self.old) high).medium }
         requires closed { NamesClosed closed (slot_at (box_state self.old) low) (slot_at (box_state self.old) high) }
-        requires room { sends.old.len + length (link_turn (slot_at (box_state self.old) low) (slot_at (box_state self.old) high) closed) ≤ SENDS_LIMIT }
-        ensures turn { Appends (pair_step (box_state self.old) low high closed) (box_state self.new) (sends_of sends.old) (sends_of sends.new) }
-        ensures len { sends.new.len ≡ sends.old.len + length (link_turn (slot_at (box_state self.old) low) (slot_at (box_state self.old) high) closed) }
+        requires room { HasPlaces sends.old (pair_length (box_state self.old) low high closed) }
+        ensures turn { AddsTo (pair_step (box_state self.old) low high closed) self.new sends.old sends.new }
+        ensures len { sends.new.len ≡ sends.old.len + pair_length (box_state self.old) low high closed }
     {
         let (lower, rest) = self.slots.split_at_mut(high as usize);
         let first = &mut lower[low as usize];
@@ -54,11 +54,11 @@ impl BoxParts {
     fn link_step(&mut self, local: u8, partner: u8, cause: Cause, sends: &mut Sends)
         requires wired { IsWired (box_state self.old) }
         requires here { local < length self.old.slots.items }
-        requires linked { goal_at (box_state self.old) local ≡ SlotGoal.Link partner }
+        requires linked { goal_at (box_state self.old) local ≡ Link partner }
         requires closed { cause ≡ Cause.Close → (slot_at (box_state self.old) local).state ≡ Closed }
-        requires room { sends.old.len + turn_length_by (SlotGoal.Link partner) (box_state self.old) local cause ≤ SENDS_LIMIT }
-        ensures turn { Appends (link_step (box_state self.old) local partner cause) (box_state self.new) (sends_of sends.old) (sends_of sends.new) }
-        ensures len { sends.new.len ≡ sends.old.len + turn_length_by (SlotGoal.Link partner) (box_state self.old) local cause }
+        requires room { HasPlaces sends.old (turn_length_by (Link partner) (box_state self.old) local cause) }
+        ensures turn { AddsTo (link_step (box_state self.old) local partner cause) self.new sends.old sends.new }
+        ensures len { sends.new.len ≡ sends.old.len + turn_length_by (Link partner) (box_state self.old) local cause }
     {
         let side = closed_side(cause, side_of(local, partner));
         self.pair_step(local.min(partner), local.max(partner), side, sends);
@@ -69,8 +69,8 @@ impl BoxParts {
         requires wired { IsWired (box_state self.old) }
         requires here { local < length self.old.slots.items }
         requires closed { cause ≡ Cause.Close → (slot_at (box_state self.old) local).state ≡ Closed }
-        requires room { sends.old.len + turn_length (box_state self.old) local cause ≤ SENDS_LIMIT }
-        ensures turn { Appends (goal_step (box_state self.old) local cause) (box_state self.new) (sends_of sends.old) (sends_of sends.new) }
+        requires room { HasPlaces sends.old (turn_length (box_state self.old) local cause) }
+        ensures turn { AddsTo (goal_step (box_state self.old) local cause) self.new sends.old sends.new }
         ensures len { sends.new.len ≡ sends.old.len + turn_length (box_state self.old) local cause }
     {
         match self.goals[local as usize] {
@@ -92,20 +92,21 @@ impl BoxParts {
         turn
     }
 
-    /// A slot takes a signal that is lawful for it, and the goal that holds it has its turn.
-    pub fn take(&mut self, local: u8, s: Signal) -> Sends
+    /// A slot takes a signal that is lawful for it, and the goal that holds it has its turn. What is sent comes after
+    /// what is there.
+    pub fn send_take(&mut self, local: u8, s: Signal, sends: &mut Sends)
         requires sound { IsSoundBox (box_state self.old) }
         requires here { local < length self.old.slots.items }
         requires lawful { IsSome (slot_take (slot_at (box_state self.old) local) s) }
-        ensures step { take_step (box_state self.old) local s ≡ Some (step_of result (box_state self.new)) }
-        ensures few { result.len ≤ 3 }
+        requires room { HasPlaces sends.old 3 }
+        ensures step { AddsTo (take_step (box_state self.old) local s) self.new sends.old sends.new }
+        ensures few { sends.new.len ≤ sends.old.len + 3 }
     {
         let slot = &mut self.slots[local as usize];
         let answer = slot.take(s);
         let cause = cause_of(&s, slot.state);
-        let mut sends = Sends::answer(local, answer);
-        self.goal_step(local, cause, &mut sends);
-        sends
+        sends.push_answer(local, answer);
+        self.goal_step(local, cause, sends);
     }
 }
 

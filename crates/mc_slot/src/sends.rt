@@ -21,9 +21,9 @@ pub struct Sends {
 }
 
 impl Sends {
-    ghost use Rattle.std.specs.Prelude.{◌++◌, [], ◌∷◌, length, map};
+    ghost use Rattle.std.specs.Prelude.{◌++◌, [], ◌∷◌, length};
     ghost use Rattle.mc_slot.specs.Moves.{answer_signals};
-    ghost use Rattle.mc_slot.specs.Sending.{sends_of, pair_of};
+    ghost use Rattle.mc_slot.specs.Sending.{Adds, HasPlaces, pair_of, sends_of};
 
     /// Nothing is sent.
     pub fn none() -> Sends
@@ -33,18 +33,6 @@ impl Sends {
             len: 0,
             at: [(0, Signal::Close); SENDS_LIMIT],
         }
-    }
-
-    /// What a slot answers.
-    pub fn answer(no: u8, answer: Option<Signal>) -> Sends
-        ensures sends { sends_of result ≡ map (pair_of no) (answer_signals answer) }
-        ensures len { result.len ≡ length (answer_signals answer) }
-    {
-        let mut sends = Sends::none();
-        if let Some(answer) = answer {
-            sends.push(no, answer);
-        }
-        sends
     }
 
     /// What is sent, in order.
@@ -65,14 +53,14 @@ impl Sends {
         self.len += 1;
     }
 
-    /// Adds what is sent after that.
-    pub fn append(&mut self, more: &Sends)
-        requires { self.old.len + more.now.len ≤ SENDS_LIMIT }
-        ensures sent { sends_of self.new ≡ sends_of self.old ++ sends_of more.now }
-        ensures len { self.new.len ≡ self.old.len + more.now.len }
+    /// Adds what a slot answers, where it answers.
+    pub fn push_answer(&mut self, no: u8, answer: Option<Signal>)
+        requires { HasPlaces self.old (length (answer_signals answer)) }
+        ensures sent { Adds self.old self.new no (answer_signals answer) }
+        ensures len { self.new.len ≡ self.old.len + length (answer_signals answer) }
     {
-        for sending in more.as_slice() {
-            self.push(sending.0, sending.1);
+        if let Some(answer) = answer {
+            self.push(no, answer);
         }
     }
 }
