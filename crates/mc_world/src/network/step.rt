@@ -12,7 +12,7 @@ use crate::lanes::{make_room, make_room_by, relay, send_lane};
 use mc_box::limit::LAST_VERSION;
 use mc_box::{Event, MediaBox, MediaChange};
 use mc_lane::Lane;
-use mc_slot::SENDS_LIMIT;
+use mc_slot::{SENDS_LIMIT, Sends};
 use std::alloc::AllocError;
 
 /// Why a step isn't made.
@@ -79,7 +79,8 @@ impl World {
         let partner = self.partner(slot);
         make_room_by(&mut self.lanes, &self.topology, slot, partner, SENDS_LIMIT)?;
         let actor = &mut self.boxes[who as usize];
-        let sends = actor.take(local, signal);
+        let mut sends = Sends::none();
+        actor.send_take(local, signal, &mut sends);
         relay(
             &mut self.lanes,
             &mut self.waiting,

@@ -1,4 +1,4 @@
-use Rattle.std.proofs.Common.{◌≡◌, ◌∙◌, ap, subst, sym, ℕ, length, drop, get_or, position, List, [], Some}
+use Rattle.std.proofs.Common.{◌≡◌, ◌≤◌, ◌∙◌, ap, subst, sym, ℕ, length, drop, get_or, position, List, [], Some, arith, rules}
 use Rattle.std.proofs.lemmas.Result.{err_from_is_err_and}
 use Rattle.std.proofs.lemmas.List.{length-set}
 use Rattle.std.specs.Vec.{with_item, with_items}
@@ -14,6 +14,7 @@ use Rattle.mc_world.specs.Tables.{world_state}
 use Rattle.mc_model.specs.Worlds.{WorldState, box_at, far, is_place, lane_of, number}
 use Rattle.mc_box.specs.declared.event.Event.TheVariants.{Take}
 use Rattle.mc_world.proofs.LaneChanges.{Lane, length_kept, room_kept, signals_kept, signals_written, twice_refilled}
+use Rattle.mc_box.proofs.Taking.{adds_all, sends_length}
 use Rattle.mc_laws.proofs.Numbers.{number_is}
 use Rattle.mc_laws.proofs.StepKeeps.{front_is_taken}
 use Rattle.mc_world.proofs.Tables.{box_read}
@@ -36,18 +37,23 @@ returns-in_err-make_room_by c =
       ap (λ (l : List (List Tagged)). record (world_state c.self.inside) { lanes = l }) lanes ∙ c.self.view_is,
     )
 
-pub take-sends-requires-clause-here : goal.take-sends-requires-clause-here
-take-sends-requires-clause-here c =
+pub send_take-requires-clause-here : goal.send_take-requires-clause-here
+send_take-requires-clause-here c =
     let actor = box_read c.self.inside c.args.self.now c.args.who c.index_mut-actor.result.now c.self.view_is c.requires.here c.index_mut-actor.ensures.value in
     rw actor (number_inside c.args.self.now c.args.who c.args.local c.in-Some.slot c.requires.sound.numbered (sym c.number.ensures ∙ c.in-Some.is))
 
-pub take-sends-requires-clause-lawful : goal.take-sends-requires-clause-lawful
-take-sends-requires-clause-lawful c =
+pub send_take-requires-clause-lawful : goal.send_take-requires-clause-lawful
+send_take-requires-clause-lawful c =
     let actor = box_read c.self.inside c.args.self.now c.args.who c.index_mut-actor.result.now c.self.view_is c.requires.here c.index_mut-actor.ensures.value in
     let is : number c.args.self.now c.args.who c.args.local ≡ Some c.in-Some.slot = sym c.number.ensures ∙ c.in-Some.is in
     rw (actor, ← number_slot c.args.self.now c.args.who c.args.local c.in-Some.slot is)
     (front_is_taken c.args.self.now c.in-Some.slot c.in-Some-front.signal c.requires.sound ((number_is c.args.self.now c.args.who c.args.local c.in-Some.slot is).0)
     (sym c.front.ensures ∙ c.in-Some-front.is))
+
+pub send_take-requires-clause-room : goal.send_take-requires-clause-room
+send_take-requires-clause-room c =
+    let fits : c.none-sends.result.len ≤ length c.none-sends.result.at = search rules in
+    omega (arith, sends_length c.none-sends.result fits, ap length c.none-sends.ensures)
 
 pub relay-requires-clause-laid : goal.relay-requires-clause-laid
 relay-requires-clause-laid c =
@@ -58,10 +64,11 @@ relay-requires-clause-laid c =
 pub relay-requires-clause-room : goal.relay-requires-clause-room
 relay-requires-clause-room c k d below s is =
     let actor = box_read c.self.inside c.args.self.now c.args.who c.index_mut-actor.result.now c.self.view_is c.requires.here c.index_mut-actor.ensures.value in
-    let goes : box_event (box_at c.args.self.now c.args.who) (Take c.args.local) (Some c.in-Some-front.signal) ≡ Some (record { sent = sends_of c.take-sends.result; after = c.take-sends.new.self }) =
-    subst (λ (box : BoxState). box_event box (Take c.args.local) (Some c.in-Some-front.signal) ≡ Some (record { sent = sends_of c.take-sends.result; after = c.take-sends.new.self })) actor c.take-sends.ensures.event in
-    room_kept c.self.inside.lanes c.deref_mut.result.now c.make_room_by.new.lanes c.deref_mut-2.result.now (lane_by c.self.inside.topology (far s)) SENDS_LIMIT c.take-sends.result.len
-    c.deref_mut.ensures.value c.make_room_by.auto.lanes c.deref_mut-2.ensures.value c.take-sends.result.short
+    let goes : box_event (box_at c.args.self.now c.args.who) (Take c.args.local) (Some c.in-Some-front.signal) ≡ Some (record { sent = sends_of c.send_take.new.sends; after = c.send_take.new.self }) =
+    subst (λ (box : BoxState). box_event box (Take c.args.local) (Some c.in-Some-front.signal) ≡ Some (record { sent = sends_of c.send_take.new.sends; after = c.send_take.new.self })) actor
+    (adds_all _ _ c.none-sends.result c.send_take.new.sends c.none-sends.ensures c.send_take.ensures.event) in
+    room_kept c.self.inside.lanes c.deref_mut.result.now c.make_room_by.new.lanes c.deref_mut-2.result.now (lane_by c.self.inside.topology (far s)) SENDS_LIMIT c.send_take.new.sends.len
+    c.deref_mut.ensures.value c.make_room_by.auto.lanes c.deref_mut-2.ensures.value c.send_take.new.sends.short
     (take_room c.args.self.now c.self.inside.topology c.make_room_by.new.lanes c.args.who c.args.local c.in-Some.slot SENDS_LIMIT c.partner-partner.result c.in-Some-front.signal _ (c.requires.sound.boxes c.args.who c.requires.here) goes
     (sym c.number.ensures ∙ c.in-Some.is) c.partner-partner.ensures.partner
     (λ other. c.self.invariant.found c.args.who other ∙ (ap (position (is_place (c.args.who, other))) c.self.invariant.places ∙ ap (λ (w : WorldState). number w c.args.who other) c.self.view_is))
@@ -70,22 +77,23 @@ relay-requires-clause-room c k d below s is =
 -- the world that was left is the next one
 stepped : (c : goal.After-self-3-1) → step_by c.args.self.now c.args.who (Take c.args.local)
     ≡ Some (world_state (record c.self.inside {
-      boxes = with_item c.self.inside.boxes c.args.who c.take-sends.new.self;
+      boxes = with_item c.self.inside.boxes c.args.who c.send_take.new.self;
       lanes = with_items (with_items c.self.inside.lanes c.make_room_by.new.lanes) c.relay.new.lanes;
       waiting = c.relay.new.waiting;
     }))
 stepped c =
     let lanes : signals_of (with_items (with_items c.self.inside.lanes c.make_room_by.new.lanes) c.relay.new.lanes).items
-    ≡ all_sent c.self.inside.topology c.args.who (without_front (signals_of c.self.inside.lanes.items) (lane_by c.self.inside.topology c.in-Some.slot)) (sends_of c.take-sends.result) =
+    ≡ all_sent c.self.inside.topology c.args.who (without_front (signals_of c.self.inside.lanes.items) (lane_by c.self.inside.topology c.in-Some.slot)) (sends_of c.send_take.new.sends) =
     signals_written c.self.inside.lanes c.deref_mut.result.now c.make_room_by.new.lanes c.deref_mut-2.result.now c.relay.new.lanes
-    (λ (lanes : List (List Tagged)). all_sent c.self.inside.topology c.args.who (without_front lanes (lane_by c.self.inside.topology c.in-Some.slot)) (sends_of c.take-sends.result))
+    (λ (lanes : List (List Tagged)). all_sent c.self.inside.topology c.args.who (without_front lanes (lane_by c.self.inside.topology c.in-Some.slot)) (sends_of c.send_take.new.sends))
     c.deref_mut.ensures.value c.make_room_by.auto.lanes c.make_room_by.ensures.same c.deref_mut-2.ensures.value c.relay.auto.lanes c.relay.ensures.sent in
     let actor = box_read c.self.inside c.args.self.now c.args.who c.index_mut-actor.result.now c.self.view_is c.requires.here c.index_mut-actor.ensures.value in
-    let goes : box_event (box_at c.args.self.now c.args.who) (Take c.args.local) (Some c.in-Some-front.signal) ≡ Some (record { sent = sends_of c.take-sends.result; after = c.take-sends.new.self }) =
-    subst (λ (box : BoxState). box_event box (Take c.args.local) (Some c.in-Some-front.signal) ≡ Some (record { sent = sends_of c.take-sends.result; after = c.take-sends.new.self })) actor c.take-sends.ensures.event in
+    let goes : box_event (box_at c.args.self.now c.args.who) (Take c.args.local) (Some c.in-Some-front.signal) ≡ Some (record { sent = sends_of c.send_take.new.sends; after = c.send_take.new.self }) =
+    subst (λ (box : BoxState). box_event box (Take c.args.local) (Some c.in-Some-front.signal) ≡ Some (record { sent = sends_of c.send_take.new.sends; after = c.send_take.new.self })) actor
+    (adds_all _ _ c.none-sends.result c.send_take.new.sends c.none-sends.ensures c.send_take.ensures.event) in
     let lane : lane_by c.self.inside.topology c.in-Some.slot ≡ lane_of c.args.self.now c.in-Some.slot =
     lane_same (world_state c.self.inside) c.self.inside.topology c.in-Some.slot c.self.invariant.tunnels ∙ ap (λ (w : WorldState). lane_of w c.in-Some.slot) c.self.view_is in
-    take_made c.self.inside c.args.self.now c.args.who c.args.local c.in-Some.slot (lane_by c.self.inside.topology c.in-Some.slot) c.in-Some-front.signal (record { sent = sends_of c.take-sends.result; after = c.take-sends.new.self }) _
+    take_made c.self.inside c.args.self.now c.args.who c.args.local c.in-Some.slot (lane_by c.self.inside.topology c.in-Some.slot) c.in-Some-front.signal (record { sent = sends_of c.send_take.new.sends; after = c.send_take.new.self }) _
     c.self.invariant c.self.view_is (sym c.number.ensures ∙ c.in-Some.is) (sym c.front.ensures ∙ c.in-Some-front.is) lane goes lanes
 
 pub returns : goal.returns
@@ -95,8 +103,8 @@ pub invariant_of-self-2 : goal.invariant_of-self-2
 invariant_of-self-2 c =
     let lanes = twice_refilled c.self.inside.lanes c.deref_mut.result.now c.make_room_by.new.lanes c.deref_mut-2.result.now c.relay.new.lanes c.deref_mut.ensures.value c.make_room_by.auto.lanes c.deref_mut-2.ensures.value c.relay.auto.lanes in
     step_tables c.self.inside c.args.self.now c.args.who (Take c.args.local)
-    (with_item c.self.inside.boxes c.args.who c.take-sends.new.self) (with_items (with_items c.self.inside.lanes c.make_room_by.new.lanes) c.relay.new.lanes) c.relay.new.waiting
-    c.self.invariant c.self.view_is c.requires.here (length-set c.self.inside.boxes.items c.args.who c.take-sends.new.self)
+    (with_item c.self.inside.boxes c.args.who c.send_take.new.self) (with_items (with_items c.self.inside.lanes c.make_room_by.new.lanes) c.relay.new.lanes) c.relay.new.waiting
+    c.self.invariant c.self.view_is c.requires.here (length-set c.self.inside.boxes.items c.args.who c.send_take.new.self)
     (subst (λ (l : List Lane). IsWaiting c.self.inside.topology (signals_of l) c.relay.new.waiting) (sym lanes) c.relay.ensures.waiting) (stepped c)
 
 pub relay-requires-clause-served : goal.relay-requires-clause-served
