@@ -4,6 +4,7 @@ use Rattle.std.specs.List.{slice_get}
 use Rattle.std.proofs.lemmas.Bool.{cases_eq}
 use Rattle.std.proofs.lemmas.Grind.{common_steps}
 use Rattle.mc_signal.specs.declared.Signal.{Signal}
+use Rattle.mc_slot.specs.declared.Goal.{Goal}
 use Rattle.mc_slot.specs.declared.SlotGoal.{SlotGoal}
 use Rattle.mc_slot.specs.declared.SlotGoal.TheVariants.{End, Link}
 use Rattle.mc_box.specs.Acting.{sent_by}
@@ -51,8 +52,15 @@ sender_by (Link partner) box local other signal step took some = elim (cases_eq 
   ]
 ]
 
+-- an end has no partner
+pub end_alone : (world : WorldState) (who local slot : ℕ) (goal : Goal) → number world who local ≡ Some slot → goal_at (box_at world who) local ≡ End goal → partner_of world slot ≡ None
+end_alone world who local slot goal is aims =
+    let at = number_is world who local slot is in
+    let goal_is : goal_of world slot ≡ End goal = rw (at.1, at.2) aims in
+    ap (λ (g : SlotGoal). partner_by world g slot) goal_is
+
 -- the partner's number, by the goal of the slot
-linked_is : (world : WorldState) (who local other slot : ℕ) → number world who local ≡ Some slot → goal_at (box_at world who) local ≡ Link other → partner_of world slot ≡ number world who other
+pub linked_is : (world : WorldState) (who local other slot : ℕ) → number world who local ≡ Some slot → goal_at (box_at world who) local ≡ Link other → partner_of world slot ≡ number world who other
 linked_is world who local other slot is goal =
     let at = number_is world who local slot is in
     let goal_is : goal_of world slot ≡ Link other = rw (at.1, at.2) goal in

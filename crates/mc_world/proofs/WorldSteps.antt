@@ -1,5 +1,5 @@
 -- The steps of a world, from what its boxes and lanes do.
-use Rattle.std.proofs.Common.{◌≡◌, ℕ, ◌<◌, if◌then◌else◌, Bool, true, false, Option, Some, None, IsSome, List, length, map, nat_lt, Vec, Result, Ok, Err, OnOk, refl, ap, sym, subst, ◌∙◌}
+use Rattle.std.proofs.Common.{◌≡◌, ℕ, ◌<◌, if◌then◌else◌, Bool, true, false, Option, Some, None, IsSome, List, [], get_or, length, map, nat_lt, Vec, Result, Ok, Err, OnOk, refl, ap, sym, subst, ◌∙◌}
 use Rattle.std.proofs.Math.ListN.{set}
 use Rattle.std.proofs.lemmas.List.{length-map}
 use Rattle.std.specs.declared.alloc.Global.{Global}
@@ -13,7 +13,7 @@ use Rattle.mc_box.specs.Boxes.{BoxState, slot_at}
 use Rattle.mc_world.specs.Lanes.{all_sent, signals_of, without_front}
 use Rattle.mc_model.specs.Sound.{IsNumbered, IsSound}
 use Rattle.mc_model.specs.Steps.{after_making, after_pop, step, step_by, with_box}
-use Rattle.mc_model.specs.Worlds.{WorldState, box_at, front, all_tunnels, lane_of, number, place, places, slot_of}
+use Rattle.mc_model.specs.Worlds.{WorldState, box_at, front, front_for, all_tunnels, lane_of, number, place, places, slot_of, tunnel_of}
 use Rattle.mc_box.specs.declared.event.Event.{Event}
 use Rattle.mc_box.specs.declared.event.Event.TheVariants.{Take, Set, Media, Tell, Retry, Shift}
 use Rattle.mc_world.specs.declared.network.World.TheInside.{Inside}
@@ -41,6 +41,17 @@ pub number_slot : (world : WorldState) (who local s : ℕ) → number world who 
 number_slot world who local s is =
     let found = number_is world who local s is in
     rw (found.1, found.2) refl
+
+-- the front of the lane that leads to a slot
+pub front_is : (world : WorldState) (s lane tunnel : ℕ) (found : Option Signal) → lane ≡ lane_of world s → tunnel ≡ (tunnel_of world s).within
+    → found ≡ front_for tunnel (get_or world.lanes lane []) → found ≡ front world s
+front_is world s lane tunnel found leads within is =
+    is ∙ (ap (λ (k : ℕ). front_for tunnel (get_or world.lanes k [])) leads ∙ ap (λ (t : ℕ). front_for t (get_or world.lanes (lane_of world s) [])) within)
+
+-- where there is one
+pub front_found : (world : WorldState) (s lane tunnel : ℕ) (found : Option Signal) (signal : Signal) → lane ≡ lane_of world s → tunnel ≡ (tunnel_of world s).within
+    → found ≡ front_for tunnel (get_or world.lanes lane []) → found ≡ Some signal → front world s ≡ Some signal
+front_found world s lane tunnel found signal leads within is some = sym (front_is world s lane tunnel found leads within is) ∙ some
 
 -- ---- a step that is made
 

@@ -65,9 +65,9 @@ one_sent topology who lanes sending = unwrap_or (option_map (λ s. with_sending 
 abbrev pub all_sent : Topology → ℕ → List (List Tagged) → List (ℕ × Signal) → List (List Tagged)
 all_sent topology who lanes sendings = fold (one_sent topology who) lanes sendings
 
--- the front leaves a lane, and then what a box sends goes away
+-- the front leaves the lane that leads to a slot, and then what a box sends goes away
 abbrev pub relay : Topology → ℕ → List (List Tagged) → ℕ → List (ℕ × Signal) → List (List Tagged)
-relay topology who lanes lane sent = all_sent topology who (without_front lanes lane) sent
+relay topology who lanes s sent = all_sent topology who (without_front lanes (lane_by topology s)) sent
 
 -- ---- room
 
@@ -75,9 +75,13 @@ relay topology who lanes lane sent = all_sent topology who (without_front lanes 
 abbrev pub HasRoom : List (Queue Tagged) → ℕ → ℕ → Type 0
 HasRoom lanes lane count = HoldsAt (λ queue. count ≤ queue.spare) lanes lane
 
--- and so has the lane that leads away from a box's slot
+-- and so has the lane that leads away from a slot
+abbrev pub HasRoomAway : List (Queue Tagged) → Topology → ℕ → ℕ → Type 0
+HasRoomAway lanes topology s count = HasRoom lanes (lane_by topology (far s)) count
+
+-- which is a box's with this local number
 abbrev pub HasRoomFor : List (Queue Tagged) → Topology → ℕ → ℕ → ℕ → Type 0
-HasRoomFor lanes topology who local count = (s : ℕ) → slice_get (numbers_of topology who) local ≡ Some s → HasRoom lanes (lane_by topology (far s)) count
+HasRoomFor lanes topology who local count = (s : ℕ) → slice_get (numbers_of topology who) local ≡ Some s → HasRoomAway lanes topology s count
 
 -- for each slot by which a box sends
 abbrev pub HasRoomFrom : List (Queue Tagged) → Topology → ℕ → List (ℕ × Signal) → ℕ → Type 0

@@ -1,3 +1,4 @@
+pub mod Fronts
 pub mod Lanes
 pub mod StepAnswers
 pub mod Tables

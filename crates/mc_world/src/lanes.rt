@@ -1,10 +1,10 @@
 // Lanes as they change, each given by its place among all lanes.
 
-ghost use Rattle.std.specs.Prelude.{◌≡◌, ℕ, ◌+◌, ◌<◌, true, [], drop, length, slice_index_or, IfSome, OnOk};
+ghost use Rattle.std.specs.Prelude.{◌≡◌, ℕ, ◌+◌, ◌<◌, true, length, IfSome, OnOk};
 ghost use Rattle.mc_slot.specs.Sending.{sends_of};
-ghost use Rattle.mc_model.specs.Worlds.{far};
-ghost use Rattle.mc_world.specs.Lanes.{signals_of, lane_by, without_front, one_sent, all_sent, relay, with_sending, IsLaid, HasRoom, HasRoomFor, HasRoomFrom};
-ghost use Rattle.mc_world.specs.Waiting.{waits_by, FirstServed, IsWaiting};
+ghost use Rattle.mc_world.specs.Lanes.{signals_of, lane_by, tunnel_by, without_front, one_sent, all_sent, relay, with_sending, IsLaid, HasRoom, HasRoomAway, HasRoomFor, HasRoomFrom};
+ghost use Rattle.mc_world.specs.Fronts.{NextServed};
+ghost use Rattle.mc_world.specs.Waiting.{waits_by, IsWaiting};
 
 use crate::topology::{Topology, far};
 use crate::waiting::Waiting;
@@ -44,8 +44,8 @@ pub fn make_room_by(
     requires here { slot < length topology.now.places.items }
     requires partner { IfSome partner (λ partner. partner < length topology.now.places.items) }
     ensures same { signals_of lanes.new ≡ signals_of lanes.old }
-    ensures own { OnOk result (HasRoom lanes.new (lane_by topology.now (far slot)) most) }
-    ensures linked { OnOk result (IfSome partner (λ partner. HasRoom lanes.new (lane_by topology.now (far partner)) most)) }
+    ensures own { OnOk result (HasRoomAway lanes.new topology.now slot most) }
+    ensures linked { OnOk result (IfSome partner (λ partner. HasRoomAway lanes.new topology.now partner most)) }
 {
     let (lane, _) = topology.toward(far(slot));
     reserve(lanes, lane, most)?;
@@ -96,47 +96,58 @@ pub fn send_lane(
     }
 }
 
-/// A slot takes the front of its lane, and then what its box sends goes away.
+/// A slot takes the front of the lane toward it, and then what its box sends goes away.
 pub fn relay(
     lanes: &mut [Lane<Tagged>],
     waiting: &mut Waiting,
     topology: &Topology,
     who: u32,
     slot: u32,
+    toward: (usize, u8),
     sends: &Sends,
 )
     requires laid { IsLaid topology.now (length lanes.old) }
     requires waiting { IsWaiting topology.now (signals_of lanes.old) waiting.old }
     requires here { slot < length topology.now.places.items }
     requires some { waits_by topology.now (signals_of lanes.old) slot ≡ true }
-    requires served { FirstServed topology.now (lane_by topology.now slot) (drop 1 (slice_index_or (signals_of lanes.old) (lane_by topology.now slot) [])) }
+    requires served { NextServed topology.now (signals_of lanes.old) slot }
+    requires lane { toward.0 ≡ lane_by topology.now slot }
+    requires tunnel { toward.1 ≡ tunnel_by topology.now slot }
     requires room { HasRoomFrom lanes.old topology.now who (sends_of sends.now) sends.now.len }
-    ensures sent { signals_of lanes.new ≡ relay topology.now who (signals_of lanes.old) (lane_by topology.now slot) (sends_of sends.now) }
+    ensures sent { signals_of lanes.new ≡ relay topology.now who (signals_of lanes.old) slot (sends_of sends.now) }
     ensures waiting { IsWaiting topology.now (signals_of lanes.new) waiting.new }
 {
-    pop_front(lanes, waiting, topology, slot);
+    pop_front(lanes, waiting, topology, slot, toward);
     send_all(lanes, waiting, topology, who, sends);
 }
 
 // The front of its lane leaves for a slot, and another slot may be next. The room in each lane stays.
-fn pop_front(lanes: &mut [Lane<Tagged>], waiting: &mut Waiting, topology: &Topology, slot: u32)
+fn pop_front(
+    lanes: &mut [Lane<Tagged>],
+    waiting: &mut Waiting,
+    topology: &Topology,
+    slot: u32,
+    toward: (usize, u8),
+)
     requires laid { IsLaid topology.now (length lanes.old) }
     requires waiting { IsWaiting topology.now (signals_of lanes.old) waiting.old }
     requires here { slot < length topology.now.places.items }
     requires some { waits_by topology.now (signals_of lanes.old) slot ≡ true }
-    requires served { FirstServed topology.now (lane_by topology.now slot) (drop 1 (slice_index_or (signals_of lanes.old) (lane_by topology.now slot) [])) }
+    requires served { NextServed topology.now (signals_of lanes.old) slot }
+    requires lane { toward.0 ≡ lane_by topology.now slot }
+    requires tunnel { toward.1 ≡ tunnel_by topology.now slot }
     ensures popped { signals_of lanes.new ≡ without_front (signals_of lanes.old) (lane_by topology.now slot) }
     ensures waiting { IsWaiting topology.now (signals_of lanes.new) waiting.new }
     ensures room { (k count : ℕ) → HasRoom lanes.old k count → HasRoom lanes.new k count }
 {
-    let (lane, tunnel) = topology.toward(slot);
+    let (lane, tunnel) = toward;
     let lane = &mut lanes[lane];
     let _front = lane.pop();
     waiting.clear(topology, slot);
     if let Some(next) = lane.front() {
         // tunnels of a channel follow each other, and so do their slots on one side
-        let first = slot as usize + 2 * next.tunnel as usize - 2 * tunnel as usize;
-        waiting.set(topology, first as u32);
+        let next_slot = slot as usize + 2 * next.tunnel as usize - 2 * tunnel as usize;
+        waiting.set(topology, next_slot as u32);
     }
 }
 
@@ -191,9 +202,9 @@ fn push_last(
 {
     let (lane, tunnel) = topology.toward(slot);
     let lane = &mut lanes[lane];
-    let first = lane.is_empty();
+    let was_empty = lane.is_empty();
     lane.push(Tagged { tunnel, signal });
-    if first {
+    if was_empty {
         waiting.set(topology, slot);
     }
 }

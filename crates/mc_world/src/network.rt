@@ -1,14 +1,15 @@
 // The world that channels join.
 
-ghost use Rattle.std.specs.Prelude.{◌≡◌, ◌+◌, ◌<◌, ◌≤◌, ◌*◌, ◌^◌, ◌++◌, if◌then◌else◌, [], map, length, replicate, slice_index_or, ◌==◌, true, IfOk, OnOk};
+ghost use Rattle.std.specs.Prelude.{◌≡◌, ℕ, ◌+◌, ◌<◌, ◌≤◌, ◌*◌, ◌^◌, ◌++◌, if◌then◌else◌, [], map, length, replicate, slice_index_or, ◌==◌, true, IfOk, IfSome, OnOk, Some};
 ghost use Rattle.std.specs.List.{list_all};
+ghost use Rattle.mc_model.specs.Paths.{partner_of};
 ghost use Rattle.mc_model.specs.Settles.{is_quiet, rests};
 ghost use Rattle.mc_model.specs.Sound.{AreNew, IsNumbered, IsSound};
 ghost use Rattle.mc_world.specs.Lanes.{lane_number};
 ghost use Rattle.mc_world.specs.Tables.{channel_of, tunnels_by};
 ghost use Rattle.mc_world.specs.Waiting.{take_waits, waiting_count, CountsTakes};
 ghost use Rattle.mc_model.specs.declared.channel.TheConstants.{TUNNEL_LIMIT};
-ghost use Rattle.mc_model.specs.Worlds.{AreChannels, first_world, slot_count, box_at, place, number, far, tunnel_of, front, front_for, slot_of, goal_of, places_among, places_within, tunnels_from, tunnels_within};
+ghost use Rattle.mc_model.specs.Worlds.{AreChannels, first_world, slot_count, box_at, place, number, far, tunnel_of, front, lane_of, front_for, slot_of, goal_of, places_among, places_within, tunnels_from, tunnels_within};
 
 mod rings;
 mod step;
@@ -151,6 +152,19 @@ impl World {
         self.topology.number(who, local)
     }
 
+    // The slot that a box's slot is linked with; none where its goal is an end's.
+    fn partner_at(&self, who: u32, local: u8) -> Option<u32>
+        requires here { who < length self.now.boxes }
+        requires inside { local < length (box_at self.now who).slots }
+        ensures partner { (slot : ℕ) → number self.now who local ≡ Some slot → result ≡ partner_of self.now slot }
+        ensures there { IfSome result (λ partner. partner < slot_count self.now) }
+    {
+        match self.boxes[who as usize].goal(local) {
+            SlotGoal::End(_) => None,
+            SlotGoal::Link(partner) => self.number(who, partner),
+        }
+    }
+
     /// The channel of a slot, and the number of the slot's tunnel within it.
     pub fn channel(&self, slot: u32) -> (u32, u8)
         requires { slot < slot_count self.now }
@@ -173,8 +187,27 @@ impl World {
         requires { slot < slot_count self.now }
         ensures { result ≡ front self.now slot }
     {
-        let (channel, within) = self.channel(slot);
-        front_for(self.lane(channel, slot.is_multiple_of(2)), within)
+        let toward = self.toward(slot);
+        self.front_in(toward)
+    }
+
+    // The lane that leads to a slot, and the number of the slot's tunnel within its channel.
+    fn toward(&self, slot: u32) -> (usize, u8)
+        requires { slot < slot_count self.now }
+        ensures lane { result.0 ≡ lane_of self.now slot }
+        ensures tunnel { result.1 ≡ (tunnel_of self.now slot).within }
+        ensures there { result.0 < length self.now.lanes }
+    {
+        self.topology.toward(slot)
+    }
+
+    // The front of a lane, where that is for this tunnel of it.
+    fn front_in(&self, toward: (usize, u8)) -> Option<Signal>
+        requires { toward.0 < length self.now.lanes }
+        ensures { result ≡ front_for toward.1 (slice_index_or self.now.lanes toward.0 []) }
+    {
+        let (lane, tunnel) = toward;
+        front_for(&self.lanes[lane], tunnel)
     }
 
     /// Whether a signal waits that a box's slot can take now.

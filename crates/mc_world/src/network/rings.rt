@@ -8,7 +8,6 @@ ghost use Rattle.mc_model.specs.Sound.{IsSound};
 ghost use Rattle.mc_model.specs.Worlds.{slot_count};
 
 use super::World;
-use mc_slot::SlotGoal;
 
 impl World {
     /// The slot that a slot is linked with; none where its goal is an end's.
@@ -17,13 +16,9 @@ impl World {
         ensures partner { result ≡ partner_of self.now slot }
         ensures inside { IfSome result (λ partner. partner < slot_count self.now) }
     {
-        match self.goal(slot) {
-            SlotGoal::End(_) => None,
-            SlotGoal::Link(partner) => {
-                let (who, _) = self.place(slot);
-                self.number(who, partner)
-            }
-        }
+        self.keeps();
+        let (who, local) = self.place(slot);
+        self.partner_at(who, local)
     }
 
     /// The least slot that stands on a ring, a closed chain of tunnels and links; none where there is no ring.

@@ -73,10 +73,11 @@ impl World {
         let Some(slot) = self.number(who, local) else {
             return Err(StepFault::NotEnabled);
         };
-        let Some(signal) = self.front(slot) else {
+        let toward = self.toward(slot);
+        let Some(signal) = self.front_in(toward) else {
             return Err(StepFault::NotEnabled);
         };
-        let partner = self.partner(slot);
+        let partner = self.partner_at(who, local);
         make_room_by(&mut self.lanes, &self.topology, slot, partner, SENDS_LIMIT)?;
         let actor = &mut self.boxes[who as usize];
         let mut sends = Sends::none();
@@ -87,6 +88,7 @@ impl World {
             &self.topology,
             who,
             slot,
+            toward,
             &sends,
         );
         Ok(())

@@ -14,7 +14,7 @@ first c = record {
 }
 
 -- or others are before it
-behind : (c : goal.Else-first) → Comes c.args.topology.now c.args.lanes.now c.args.waiting.now c.args.slot c.toward-lane.result.0 c.toward-lane.result.1 c.args.signal c.index-lanes-lane.result c.push.new.self
+behind : (c : goal.Else-was_empty) → Comes c.args.topology.now c.args.lanes.now c.args.waiting.now c.args.slot c.toward-lane.result.0 c.toward-lane.result.1 c.args.signal c.index-lanes-lane.result c.push.new.self
 behind c = record {
   laid = c.requires.laid;
   table = c.requires.waiting;
@@ -24,17 +24,17 @@ behind c = record {
   added = c.push.ensures.items;
 }
 
-pub returns-then-first-clause-sent : goal.returns-then-first-clause-sent
-returns-then-first-clause-sent c = come_signals c.args.topology.now c.args.lanes.now c.args.waiting.now c.args.slot c.toward-lane.result.0 c.toward-lane.result.1 c.args.signal c.index-lanes-lane.result c.push.new.self (first c)
+pub returns-then-was_empty-clause-sent : goal.returns-then-was_empty-clause-sent
+returns-then-was_empty-clause-sent c = come_signals c.args.topology.now c.args.lanes.now c.args.waiting.now c.args.slot c.toward-lane.result.0 c.toward-lane.result.1 c.args.signal c.index-lanes-lane.result c.push.new.self (first c)
 
-pub returns-else-first-clause-sent : goal.returns-else-first-clause-sent
-returns-else-first-clause-sent c = come_signals c.args.topology.now c.args.lanes.now c.args.waiting.now c.args.slot c.toward-lane.result.0 c.toward-lane.result.1 c.args.signal c.index-lanes-lane.result c.push.new.self (behind c)
+pub returns-else-was_empty-clause-sent : goal.returns-else-was_empty-clause-sent
+returns-else-was_empty-clause-sent c = come_signals c.args.topology.now c.args.lanes.now c.args.waiting.now c.args.slot c.toward-lane.result.0 c.toward-lane.result.1 c.args.signal c.index-lanes-lane.result c.push.new.self (behind c)
 
-pub returns-then-first-clause-waiting : goal.returns-then-first-clause-waiting
-returns-then-first-clause-waiting c =
+pub returns-then-was_empty-clause-waiting : goal.returns-then-was_empty-clause-waiting
+returns-then-was_empty-clause-waiting c =
     come_first c.args.topology.now c.args.lanes.now c.args.waiting.now c.set.new.self c.args.slot c.toward-lane.result.0 c.toward-lane.result.1 c.args.signal c.index-lanes-lane.result c.push.new.self (first c)
-    (sym c.is_empty-first.ensures ∙ c.if-first.true) c.set.ensures.flags c.set.ensures.counted
+    (sym c.is_empty-was_empty.ensures ∙ c.if-was_empty.true) c.set.ensures.flags c.set.ensures.counted
 
-pub returns-else-first-clause-waiting : goal.returns-else-first-clause-waiting
-returns-else-first-clause-waiting c =
-    come_behind c.args.topology.now c.args.lanes.now c.args.waiting.now c.args.slot c.toward-lane.result.0 c.toward-lane.result.1 c.args.signal c.index-lanes-lane.result c.push.new.self (behind c) (sym c.is_empty-first.ensures ∙ c.if-first.false)
+pub returns-else-was_empty-clause-waiting : goal.returns-else-was_empty-clause-waiting
+returns-else-was_empty-clause-waiting c =
+    come_behind c.args.topology.now c.args.lanes.now c.args.waiting.now c.args.slot c.toward-lane.result.0 c.toward-lane.result.1 c.args.signal c.index-lanes-lane.result c.push.new.self (behind c) (sym c.is_empty-was_empty.ensures ∙ c.if-was_empty.false)

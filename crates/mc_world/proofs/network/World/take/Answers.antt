@@ -11,18 +11,21 @@ use Rattle.mc_box.specs.Boxes.{BoxState}
 use Rattle.mc_world.specs.Lanes.{IsLaid, all_sent, lane_by, signals_of, without_front}
 use Rattle.mc_model.specs.Steps.{step_by}
 use Rattle.mc_world.specs.Tables.{world_state}
-use Rattle.mc_model.specs.Worlds.{WorldState, box_at, far, is_place, lane_of, number}
+use Rattle.mc_model.specs.Worlds.{WorldState, box_at, far, is_place, lane_of, number, tunnel_of}
 use Rattle.mc_box.specs.declared.event.Event.TheVariants.{Take}
 use Rattle.mc_world.proofs.LaneChanges.{Lane, length_kept, room_kept, signals_kept, signals_written, twice_refilled}
 use Rattle.mc_box.proofs.Taking.{adds_all, sends_length}
 use Rattle.mc_laws.proofs.Numbers.{number_is}
 use Rattle.mc_laws.proofs.StepKeeps.{front_is_taken}
 use Rattle.mc_world.proofs.Tables.{box_read}
-use Rattle.mc_world.proofs.TopologyLanes.{lane_same, tables_laid}
-use Rattle.mc_world.proofs.WorldSteps.{number_inside, number_slot, step_tables, take_enabled, take_made}
+use Rattle.mc_world.proofs.TopologyLanes.{lane_same, tables_laid, tunnel_same}
+use Rattle.mc_world.proofs.WorldSteps.{front_found, number_inside, number_slot, step_tables, take_enabled, take_made}
 use Rattle.mc_world.proofs.TakeSends.{take_room}
 use Rattle.mc_world.proofs.Waits.{behind_served}
 use Rattle.mc_world.proofs.network.World.take.Goals as goal
+
+pub partner_at-partner-requires-clause-inside : goal.partner_at-partner-requires-clause-inside
+partner_at-partner-requires-clause-inside c = number_inside c.args.self.now c.args.who c.args.local c.in-Some.slot c.requires.sound.numbered (sym c.number.ensures ∙ c.in-Some.is)
 
 pub make_room_by-requires-clause-laid : goal.make_room_by-requires-clause-laid
 make_room_by-requires-clause-laid c =
@@ -33,7 +36,7 @@ returns-in_err-make_room_by c =
     let p = err_from_is_err_and c.from_residual.result c.from_residual.ensures.1 in
     let lanes = signals_kept c.self.inside.lanes c.deref_mut.result.now c.make_room_by.new.lanes c.deref_mut.ensures.value c.make_room_by.auto.lanes c.make_room_by.ensures.same in
     rw (p.1, p.2) (
-      take_enabled c.args.self.now c.args.who c.args.local c.in-Some.slot c.in-Some-front.signal c.requires.sound (sym c.number.ensures ∙ c.in-Some.is) (sym c.front.ensures ∙ c.in-Some-front.is),
+      take_enabled c.args.self.now c.args.who c.args.local c.in-Some.slot c.in-Some-front_in.signal c.requires.sound (sym c.number.ensures ∙ c.in-Some.is) (front_found c.args.self.now c.in-Some.slot _ _ _ _ c.toward-toward.ensures.lane c.toward-toward.ensures.tunnel c.front_in.ensures c.in-Some-front_in.is),
       ap (λ (l : List (List Tagged)). record (world_state c.self.inside) { lanes = l }) lanes ∙ c.self.view_is,
     )
 
@@ -47,8 +50,8 @@ send_take-requires-clause-lawful c =
     let actor = box_read c.self.inside c.args.self.now c.args.who c.index_mut-actor.result.now c.self.view_is c.requires.here c.index_mut-actor.ensures.value in
     let is : number c.args.self.now c.args.who c.args.local ≡ Some c.in-Some.slot = sym c.number.ensures ∙ c.in-Some.is in
     rw (actor, ← number_slot c.args.self.now c.args.who c.args.local c.in-Some.slot is)
-    (front_is_taken c.args.self.now c.in-Some.slot c.in-Some-front.signal c.requires.sound ((number_is c.args.self.now c.args.who c.args.local c.in-Some.slot is).0)
-    (sym c.front.ensures ∙ c.in-Some-front.is))
+    (front_is_taken c.args.self.now c.in-Some.slot c.in-Some-front_in.signal c.requires.sound ((number_is c.args.self.now c.args.who c.args.local c.in-Some.slot is).0)
+    (front_found c.args.self.now c.in-Some.slot _ _ _ _ c.toward-toward.ensures.lane c.toward-toward.ensures.tunnel c.front_in.ensures c.in-Some-front_in.is))
 
 pub send_take-requires-clause-room : goal.send_take-requires-clause-room
 send_take-requires-clause-room c =
@@ -64,13 +67,13 @@ relay-requires-clause-laid c =
 pub relay-requires-clause-room : goal.relay-requires-clause-room
 relay-requires-clause-room c k d below s is =
     let actor = box_read c.self.inside c.args.self.now c.args.who c.index_mut-actor.result.now c.self.view_is c.requires.here c.index_mut-actor.ensures.value in
-    let goes : box_event (box_at c.args.self.now c.args.who) (Take c.args.local) (Some c.in-Some-front.signal) ≡ Some (record { sent = sends_of c.send_take.new.sends; after = c.send_take.new.self }) =
-    subst (λ (box : BoxState). box_event box (Take c.args.local) (Some c.in-Some-front.signal) ≡ Some (record { sent = sends_of c.send_take.new.sends; after = c.send_take.new.self })) actor
+    let goes : box_event (box_at c.args.self.now c.args.who) (Take c.args.local) (Some c.in-Some-front_in.signal) ≡ Some (record { sent = sends_of c.send_take.new.sends; after = c.send_take.new.self }) =
+    subst (λ (box : BoxState). box_event box (Take c.args.local) (Some c.in-Some-front_in.signal) ≡ Some (record { sent = sends_of c.send_take.new.sends; after = c.send_take.new.self })) actor
     (adds_all _ _ c.none-sends.result c.send_take.new.sends c.none-sends.ensures c.send_take.ensures.event) in
     room_kept c.self.inside.lanes c.deref_mut.result.now c.make_room_by.new.lanes c.deref_mut-2.result.now (lane_by c.self.inside.topology (far s)) SENDS_LIMIT c.send_take.new.sends.len
     c.deref_mut.ensures.value c.make_room_by.auto.lanes c.deref_mut-2.ensures.value c.send_take.new.sends.short
-    (take_room c.args.self.now c.self.inside.topology c.make_room_by.new.lanes c.args.who c.args.local c.in-Some.slot SENDS_LIMIT c.partner-partner.result c.in-Some-front.signal _ (c.requires.sound.boxes c.args.who c.requires.here) goes
-    (sym c.number.ensures ∙ c.in-Some.is) c.partner-partner.ensures.partner
+    (take_room c.args.self.now c.self.inside.topology c.make_room_by.new.lanes c.args.who c.args.local c.in-Some.slot SENDS_LIMIT c.partner_at-partner.result c.in-Some-front_in.signal _ (c.requires.sound.boxes c.args.who c.requires.here) goes
+    (sym c.number.ensures ∙ c.in-Some.is) (c.partner_at-partner.ensures.partner c.in-Some.slot (sym c.number.ensures ∙ c.in-Some.is))
     (λ other. c.self.invariant.found c.args.who other ∙ (ap (position (is_place (c.args.who, other))) c.self.invariant.places ∙ ap (λ (w : WorldState). number w c.args.who other) c.self.view_is))
     c.in_ok-make_room_by.ensures.own c.in_ok-make_room_by.ensures.linked k d below s is)
 
@@ -88,13 +91,13 @@ stepped c =
     (λ (lanes : List (List Tagged)). all_sent c.self.inside.topology c.args.who (without_front lanes (lane_by c.self.inside.topology c.in-Some.slot)) (sends_of c.send_take.new.sends))
     c.deref_mut.ensures.value c.make_room_by.auto.lanes c.make_room_by.ensures.same c.deref_mut-2.ensures.value c.relay.auto.lanes c.relay.ensures.sent in
     let actor = box_read c.self.inside c.args.self.now c.args.who c.index_mut-actor.result.now c.self.view_is c.requires.here c.index_mut-actor.ensures.value in
-    let goes : box_event (box_at c.args.self.now c.args.who) (Take c.args.local) (Some c.in-Some-front.signal) ≡ Some (record { sent = sends_of c.send_take.new.sends; after = c.send_take.new.self }) =
-    subst (λ (box : BoxState). box_event box (Take c.args.local) (Some c.in-Some-front.signal) ≡ Some (record { sent = sends_of c.send_take.new.sends; after = c.send_take.new.self })) actor
+    let goes : box_event (box_at c.args.self.now c.args.who) (Take c.args.local) (Some c.in-Some-front_in.signal) ≡ Some (record { sent = sends_of c.send_take.new.sends; after = c.send_take.new.self }) =
+    subst (λ (box : BoxState). box_event box (Take c.args.local) (Some c.in-Some-front_in.signal) ≡ Some (record { sent = sends_of c.send_take.new.sends; after = c.send_take.new.self })) actor
     (adds_all _ _ c.none-sends.result c.send_take.new.sends c.none-sends.ensures c.send_take.ensures.event) in
     let lane : lane_by c.self.inside.topology c.in-Some.slot ≡ lane_of c.args.self.now c.in-Some.slot =
     lane_same (world_state c.self.inside) c.self.inside.topology c.in-Some.slot c.self.invariant.tunnels ∙ ap (λ (w : WorldState). lane_of w c.in-Some.slot) c.self.view_is in
-    take_made c.self.inside c.args.self.now c.args.who c.args.local c.in-Some.slot (lane_by c.self.inside.topology c.in-Some.slot) c.in-Some-front.signal (record { sent = sends_of c.send_take.new.sends; after = c.send_take.new.self }) _
-    c.self.invariant c.self.view_is (sym c.number.ensures ∙ c.in-Some.is) (sym c.front.ensures ∙ c.in-Some-front.is) lane goes lanes
+    take_made c.self.inside c.args.self.now c.args.who c.args.local c.in-Some.slot (lane_by c.self.inside.topology c.in-Some.slot) c.in-Some-front_in.signal (record { sent = sends_of c.send_take.new.sends; after = c.send_take.new.self }) _
+    c.self.invariant c.self.view_is (sym c.number.ensures ∙ c.in-Some.is) (front_found c.args.self.now c.in-Some.slot _ _ _ _ c.toward-toward.ensures.lane c.toward-toward.ensures.tunnel c.front_in.ensures c.in-Some-front_in.is) lane goes lanes
 
 pub returns : goal.returns
 returns c = stepped c
@@ -115,3 +118,13 @@ relay-requires-clause-served c =
     ∙ signals_kept c.self.inside.lanes c.deref_mut.result.now c.make_room_by.new.lanes c.deref_mut.ensures.value c.make_room_by.auto.lanes c.make_room_by.ensures.same in
     subst (λ (l : List (List Tagged)). FirstServed c.self.inside.topology lane (drop 1 (get_or l lane []))) (sym same)
     (behind_served c.self.inside lane (get_or (signals_of c.self.inside.lanes.items) lane []) c.self.invariant (c.self.invariant.sound.served lane))
+
+pub relay-requires-clause-lane : goal.relay-requires-clause-lane
+relay-requires-clause-lane c =
+    c.toward-toward.ensures.lane
+    ∙ sym (lane_same (world_state c.self.inside) c.self.inside.topology c.in-Some.slot c.self.invariant.tunnels ∙ ap (λ (w : WorldState). lane_of w c.in-Some.slot) c.self.view_is)
+
+pub relay-requires-clause-tunnel : goal.relay-requires-clause-tunnel
+relay-requires-clause-tunnel c =
+    c.toward-toward.ensures.tunnel
+    ∙ sym (tunnel_same (world_state c.self.inside) c.self.inside.topology c.in-Some.slot c.self.invariant.tunnels ∙ ap (λ (w : WorldState). (tunnel_of w c.in-Some.slot).within) c.self.view_is)
