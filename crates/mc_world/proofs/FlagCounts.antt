@@ -106,6 +106,41 @@ counted_set topology old new s count b numbers counted below flags takes sum =
           ]));
     }
 
+-- a flag goes over to another slot of the box, and each box has as many as before
+own_passed : (topology : Topology) (flags : List Bool) (s t : ℕ) → HasNumbers topology → s < length topology.places.items → t < length topology.places.items → length flags ≡ length topology.places.items
+    → (place_by topology s).0 ≡ (place_by topology t).0 → get_or flags s false ≡ true → get_or (set flags s false) t false ≡ false
+    → flag_count topology (set (set flags s false) t true) (place_by topology t).0 (length (numbers_of topology (place_by topology t).0))
+    ≡ flag_count topology flags (place_by topology t).0 (length (numbers_of topology (place_by topology t).0))
+own_passed topology flags s t numbers below there long home is none =
+    let mid : List Bool = set flags s false in
+    let count : List Bool → ℕ = λ bits. flag_count topology bits (place_by topology t).0 (length (numbers_of topology (place_by topology t).0)) in
+    let less : count (set flags s false) + bit (get_or flags s false) ≡ count flags + 0 =
+    subst (λ (who : ℕ). flag_count topology (set flags s false) who (length (numbers_of topology who)) + bit (get_or flags s false) ≡ flag_count topology flags who (length (numbers_of topology who)) + 0) home
+    (count_own topology flags s false numbers below (omega (arith, below, long))) in
+    let more : count (set (set flags s false) t true) + bit (get_or (set flags s false) t false) ≡ count (set flags s false) + 1 =
+    count_own topology (set flags s false) t true numbers there (omega (arith, there, long, length-set flags s false)) in
+    omega (arith, less, more, ap bit is, ap bit none)
+
+pub counted_passed : (topology : Topology) (old new : Waiting) (s t : ℕ) → HasNumbers topology → AreFlagsCounted topology old → s < length topology.places.items → t < length topology.places.items
+    → (place_by topology s).0 ≡ (place_by topology t).0 → get_or old.flags.items s false ≡ true → get_or (set old.flags.items s false) t false ≡ false
+    → new.flags.items ≡ set (set old.flags.items s false) t true → new.takes ≡ old.takes → AreFlagsCounted topology new
+counted_passed topology old new s t numbers counted below there home is none flags takes = record {
+  flags = ap length flags ∙ (length-set (set old.flags.items s false) t true ∙ (length-set old.flags.items s false ∙ counted.flags));
+  takes = ap length takes ∙ counted.takes;
+  each = λ who inside.
+      subst (λ (l : List ℕ). get_or l who 0 ≡ flag_count topology new.flags.items who (length (numbers_of topology who))) (sym takes)
+      (subst (λ (l : List Bool). get_or old.takes who 0 ≡ flag_count topology l who (length (numbers_of topology who))) (sym flags)
+      (counted.each who inside
+      ∙ sym (elim (cases_eq who (place_by topology t).0) [
+        | inl own ↦
+            subst (λ (n : ℕ). flag_count topology (set (set old.flags.items s false) t true) n (length (numbers_of topology n)) ≡ flag_count topology old.flags.items n (length (numbers_of topology n))) (sym own)
+            (own_passed topology old.flags.items s t numbers below there counted.flags home is none)
+        | inr apart ↦
+            count_other topology (set old.flags.items s false) t true who (length (numbers_of topology who)) numbers apart
+            ∙ count_other topology old.flags.items s false who (length (numbers_of topology who)) numbers (λ own. apart (own ∙ home))
+      ])));
+}
+
 -- ---- what code reads and writes
 
 -- the place of a slot

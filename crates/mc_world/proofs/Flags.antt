@@ -105,6 +105,14 @@ no_flag topology lanes flags k s flagged below is none =
     flagged s below
     ∙ (ap (λ (j : ℕ). is_some (front_for (tunnel_by topology s) (get_or lanes j []))) is ∙ ap (λ (l : List Tagged). is_some (front_for (tunnel_by topology s) l)) none)
 
+-- nor has the next one of a lane that is emptied
+pub none_next : (topology : Topology) (lanes : List (List Tagged)) (flags : List Bool) (count s next : ℕ) → IsLaid topology count → AreFlagged topology lanes flags → s < length topology.places.items
+    → length flags ≡ length topology.places.items → lane_by topology s < length lanes → waits_by topology lanes s ≡ true → next < length topology.places.items → lane_by topology next ≡ lane_by topology s
+    → get_or (set flags s false) next false ≡ false
+none_next topology lanes flags count s next laid flagged below long lane waits inside leads =
+    no_flag topology (set lanes (lane_by topology s) []) (set flags s false) (lane_by topology s) next (flags_taken topology lanes flags count s laid flagged below (omega (arith, below, long)) lane waits) inside leads
+    (get_or-set_same lanes (lane_by topology s) [] [] lane)
+
 -- ---- the front of a lane goes
 
 -- the signal that comes first then is for some slot

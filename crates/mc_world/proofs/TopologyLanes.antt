@@ -12,7 +12,7 @@ use Rattle.mc_world.specs.Lanes.{HasNumbers, IsLaid, numbers_of, all_sent, lane_
 use Rattle.mc_model.specs.Steps.{after_push, after_sends}
 use Rattle.mc_box.specs.declared.limit.TheConstants.{SLOT_LIMIT}
 use Rattle.mc_model.specs.Sound.{IsSound}
-use Rattle.mc_world.proofs.LaneBoxes.{lane_run}
+use Rattle.mc_world.proofs.LaneBoxes.{lane_box, lane_run}
 use Rattle.mc_world.specs.Tables.{HasTables, channel_of, world_state}
 use Rattle.mc_model.specs.Worlds.{TunnelPlace, WorldState, box_at, place, slot_count, far, is_place, tunnel_of, all_tunnels, tunnels_from, lane_of, no_tunnel, number, places}
 use Rattle.mc_world.specs.declared.network.World.TheInside.{Inside}
@@ -92,6 +92,11 @@ tables_laid inside has =
           (channel_lanes (get_or found t no_tunnel).channel (length inside.channels.items) (length inside.lanes.items)
           ((channel_in inside.channels.items 0 t (subst (λ (n : ℕ). t < n) long below)).1) has.lanes);
       numbers = tables_numbers inside has;
+      home = λ s t one two lane.
+          let world : WorldState = world_state inside in
+          let within : (r : ℕ) → r < length inside.topology.places.items → r < slot_count (world_state inside) = λ r below. subst (λ (l : List (ℕ × ℕ)). r < length l) has.places below in
+          subst (λ (l : List (ℕ × ℕ)). (get_or l s (0, 0)).0 ≡ (get_or l t (0, 0)).0) (sym has.places)
+          (lane_box world s t (within s one) (within t two) (sym (lane_same world inside.topology s has.tunnels) ∙ (lane ∙ lane_same world inside.topology t has.tunnels)));
       follow = λ s t one two lane.
           let world : WorldState = world_state inside in
           let within : (r : ℕ) → r < length inside.topology.places.items → r < slot_count (world_state inside) = λ r below. subst (λ (l : List (ℕ × ℕ)). r < length l) has.places below in

@@ -45,12 +45,13 @@ pub record HasNumbers (topology : Topology) : Type 0 where
   pub once : (s : ℕ) → s < length topology.places.items → position (is_place (slice_index_or topology.places.items s (0, 0))) topology.places.items ≡ Some s
   pub few : (who : ℕ) → length (numbers_of topology who) ≤ SLOT_LIMIT
 
--- each tunnel has its two slots, whose numbers fit, and its channel two of so many lanes, slots have their numbers, and those to which one lane leads follow each other as their tunnels do
+-- each tunnel has its two slots, whose numbers fit, and its channel two of so many lanes, slots have their numbers, and those to which one lane leads are of one box, and follow each other as their tunnels do
 pub record IsLaid (topology : Topology) (count : ℕ) : Type 0 where
   pub slots : length topology.places.items ≡ 2 * length topology.tunnels.items
   pub fit : length topology.places.items ≤ 2 ^ 32
   pub lanes : (t : ℕ) → t < length topology.tunnels.items → 2 * (slice_index_or topology.tunnels.items t (0, 0)).0 + 1 < count
   pub numbers : HasNumbers topology
+  pub home : (s t : ℕ) → s < length topology.places.items → t < length topology.places.items → lane_by topology s ≡ lane_by topology t → (slice_index_or topology.places.items s (0, 0)).0 ≡ (slice_index_or topology.places.items t (0, 0)).0
   pub follow : (s t : ℕ) → s < length topology.places.items → t < length topology.places.items → lane_by topology s ≡ lane_by topology t → s + 2 * tunnel_by topology t ≡ t + 2 * tunnel_by topology s
 
 -- a signal goes with its tunnel to the end of the lane that leads to a slot

@@ -143,11 +143,13 @@ fn pop_front(
     let (lane, tunnel) = toward;
     let lane = &mut lanes[lane];
     let _front = lane.pop();
-    waiting.clear(topology, slot);
-    if let Some(next) = lane.front() {
-        // tunnels of a channel follow each other, and so do their slots on one side
-        let next_slot = slot as usize + 2 * next.tunnel as usize - 2 * tunnel as usize;
-        waiting.set(topology, next_slot as u32);
+    match lane.front() {
+        Some(next) => {
+            // tunnels of a channel follow each other, and so do their slots on one side
+            let next_slot = slot as usize + 2 * next.tunnel as usize - 2 * tunnel as usize;
+            waiting.pass(slot, next_slot as u32);
+        }
+        None => waiting.clear(topology, slot),
     }
 }
 

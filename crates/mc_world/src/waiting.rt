@@ -58,6 +58,17 @@ impl Waiting {
         self.takes.lower(who as usize);
     }
 
+    /// The flag of a slot that has one goes over to a slot of the same box that has none then, so no count changes.
+    pub fn pass(&mut self, from: u32, next: u32)
+        requires here { from < length self.old.flags.items }
+        requires there { next < length self.old.flags.items }
+        ensures flags { self.new.flags.items ≡ slice_set (slice_set self.old.flags.items from false) next true }
+        ensures takes { self.new.takes ≡ self.old.takes }
+    {
+        self.flags[from as usize] = false;
+        self.flags[next as usize] = true;
+    }
+
     /// The local number of the k-th of a box's slots that have a flag.
     pub fn kth(&self, topology: &Topology, who: u32, k: u64) -> u8
         requires numbers { HasNumbers topology.now }

@@ -4,7 +4,7 @@ use Rattle.mc_world.proofs.LaneFlags.{Takes, taken_last, taken_next, taken_signa
 use Rattle.mc_world.proofs.lanes.pop_front.Goals as goal
 
 -- the front is taken, and another is there
-takes_one : (c : goal.After-set) → Takes c.args.topology.now c.args.lanes.now c.args.waiting.now c.args.slot c.args.toward.0 c.index-lanes-lane.result c.pop-front.new.self
+takes_one : (c : goal.After-pass) → Takes c.args.topology.now c.args.lanes.now c.args.waiting.now c.args.slot c.args.toward.0 c.index-lanes-lane.result c.pop-front.new.self
 takes_one c = record {
   laid = c.requires.laid;
   table = c.requires.waiting;
@@ -15,7 +15,7 @@ takes_one c = record {
 }
 
 -- or none is
-takes_last : (c : goal.In_default) → Takes c.args.topology.now c.args.lanes.now c.args.waiting.now c.args.slot c.args.toward.0 c.index-lanes-lane.result c.pop-front.new.self
+takes_last : (c : goal.After-clear) → Takes c.args.topology.now c.args.lanes.now c.args.waiting.now c.args.slot c.args.toward.0 c.index-lanes-lane.result c.pop-front.new.self
 takes_last c = record {
   laid = c.requires.laid;
   table = c.requires.waiting;
@@ -28,16 +28,15 @@ takes_last c = record {
 pub returns-in-Some-clause-popped : goal.returns-in-Some-clause-popped
 returns-in-Some-clause-popped c = taken_signals c.args.topology.now c.args.lanes.now c.args.waiting.now c.args.slot c.args.toward.0 c.index-lanes-lane.result c.pop-front.new.self (takes_one c)
 
-pub returns-in_default-clause-popped : goal.returns-in_default-clause-popped
-returns-in_default-clause-popped c = taken_signals c.args.topology.now c.args.lanes.now c.args.waiting.now c.args.slot c.args.toward.0 c.index-lanes-lane.result c.pop-front.new.self (takes_last c)
+pub returns-in-None-clause-popped : goal.returns-in-None-clause-popped
+returns-in-None-clause-popped c = taken_signals c.args.topology.now c.args.lanes.now c.args.waiting.now c.args.slot c.args.toward.0 c.index-lanes-lane.result c.pop-front.new.self (takes_last c)
 
 pub returns-in-Some-clause-waiting : goal.returns-in-Some-clause-waiting
 returns-in-Some-clause-waiting c =
-    taken_next c.args.topology.now c.args.lanes.now c.args.waiting.now c.clear.new.self c.set.new.self c.args.slot c.args.toward.0 _ c.index-lanes-lane.result c.pop-front.new.self c.front.result c.in-Some.next (takes_one c)
-    c.requires.served c.front.ensures.item c.in-Some.is c.clear.ensures.flags
-    (ap (λ (n : ℕ). c.args.slot + 2 * c.in-Some.next.tunnel - 2 * n) c.requires.tunnel) c.set.ensures.flags c.set.ensures.counted
+    taken_next c.args.topology.now c.args.lanes.now c.args.waiting.now c.pass.new.self c.args.slot c.args.toward.0 _ c.index-lanes-lane.result c.pop-front.new.self c.front.result c.in-Some.next (takes_one c)
+    c.requires.served c.front.ensures.item c.in-Some.is (ap (λ (n : ℕ). c.args.slot + 2 * c.in-Some.next.tunnel - 2 * n) c.requires.tunnel) c.pass.ensures.flags c.pass.ensures.takes
 
-pub returns-in_default-clause-waiting : goal.returns-in_default-clause-waiting
-returns-in_default-clause-waiting c =
+pub returns-in-None-clause-waiting : goal.returns-in-None-clause-waiting
+returns-in-None-clause-waiting c =
     taken_last c.args.topology.now c.args.lanes.now c.args.waiting.now c.clear.new.self c.args.slot c.args.toward.0 c.index-lanes-lane.result c.pop-front.new.self c.front.result (takes_last c)
-    c.front.ensures.item c.in_default.is c.clear.ensures.flags c.clear.ensures.counted
+    c.front.ensures.item c.in-None.is c.clear.ensures.flags c.clear.ensures.counted
