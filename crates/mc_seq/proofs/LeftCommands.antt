@@ -1,12 +1,14 @@
 -- The commands that are left of a batch, when so many of each box have come.
 use Rattle.std.proofs.Common.{◌≡◌, ◌≢◌, ◌<◌, ◌≤◌, ◌+◌, ◌-◌, ◌++◌, ◌==◌, inl, inr, cond, if◌then◌else◌, ℕ, zero, suc, Bool, true, false, List, [], ◌∷◌, length, map, replicate, slice_get, Option, Some, None, refl, ap, sym, ◌∙◌, subst, arith}
-use Rattle.std.proofs.Math.ListN.{get_or, set}
+use Rattle.std.specs.Option.{option_to_list}
+use Rattle.std.proofs.Math.ListN.{get_or, set, length-set}
 use Rattle.std.proofs.lemmas.Bool.{cases_eq}
 use Rattle.std.proofs.lemmas.Grind.{common_steps}
 use Rattle.std.proofs.lemmas.List.{get_or-set_same, get_or-set_other}
 use Rattle.mc_box.specs.declared.event.Turn.{Turn}
-use Rattle.mc_seq.specs.Commands.{left_after, lowered, queue_at, turns_of, used_of}
-use Rattle.mc_seq.specs.Schedule.{next_of, without_next}
+use Rattle.mc_seq.specs.Commands.{first_of, left_after, lowered, queue_at, turns_of, used_of}
+use Rattle.mc_seq.specs.Ready.{CountsEach}
+use Rattle.mc_seq.specs.Schedule.{command_candidates, next_of, without_next}
 use Rattle.mc_seq.proofs.Nexts.{without_less}
 
 -- ---- numbers and their tests
@@ -229,13 +231,7 @@ none_stays who (turn ∷ left) none = stays_by (turn.who == who) turn left (with
 pub none_more : (batch : List Turn) (used : ℕ → ℕ) (who : ℕ) → length (turns_of who batch) ≤ used who → without_next who (left_after used batch) ≡ left_after used batch
 none_more batch used who past = none_stays who (left_after used batch) (next_is batch used who ∙ none_past (turns_of who batch) (used who) past)
 
--- a box whose commands haven't all come, by what code reads
-pub some_by : (queues : List (List Turn)) (batch : List Turn) (used who have all : ℕ) → queue_at queues who ≡ turns_of who batch → have ≡ used → all ≡ length (queue_at queues who) → have < all → used < length (turns_of who batch)
-some_by queues batch used who have all is one two low =
-    let same : length (queue_at queues who) ≡ length (turns_of who batch) = ap length is in
-    omega arith
-
--- or have
+-- a box whose commands have all come, by what code reads
 pub none_by : (queues : List (List Turn)) (batch : List Turn) (used who have all : ℕ) → queue_at queues who ≡ turns_of who batch → have ≡ used → all ≡ length (queue_at queues who) → all ≤ have → length (turns_of who batch) ≤ used
 none_by queues batch used who have all is one two high =
     let same : length (queue_at queues who) ≡ length (turns_of who batch) = ap length is in
@@ -248,6 +244,82 @@ dropped_is used batch who have inside is =
     ap (λ (n : ℕ). left_after (used_of (set used who (n + 1))) batch) is
     ∙ left_more batch (used_of used) (used_of (set used who (used_of used who + 1))) who (used_more used who inside)
 
--- one is fewer, as code counts
-pub count_less : (count less all : ℕ) → count ≡ all → less + 1 ≡ all → count - 1 ≡ less
-count_less count less all is one = omega arith
+-- ---- the boxes that have a command left
+
+-- a box of whose commands some haven't come has a next one
+pub some_next : (batch : List Turn) (used : ℕ → ℕ) (who : ℕ) → used who < length (turns_of who batch) → length (command_candidates (left_after used batch) who) ≡ 1
+some_next batch used who some =
+    let turn = there_is (turns_of who batch) (used who) some in
+    ap (λ (o : Option Turn). length (option_to_list o)) (next_is batch used who ∙ turn.1)
+
+-- and one whose commands have all come has none
+none_next : (batch : List Turn) (used : ℕ → ℕ) (who : ℕ) → length (turns_of who batch) ≤ used who → length (command_candidates (left_after used batch) who) ≡ 0
+none_next batch used who past = ap (λ (o : Option Turn). length (option_to_list o)) (next_is batch used who ∙ none_past (turns_of who batch) (used who) past)
+
+-- equal numbers of a box leave it the same next one
+same_next : (batch : List Turn) (used more : ℕ → ℕ) (who : ℕ) → more who ≡ used who → length (command_candidates (left_after used batch) who) ≡ length (command_candidates (left_after more batch) who)
+same_next batch used more who same =
+    ap (λ (o : Option Turn). length (option_to_list o)) (next_is batch used who ∙ (ap (slice_get (turns_of who batch)) (sym same) ∙ sym (next_is batch more who)))
+
+-- the last command of a box comes: it has none left
+last_counts : (batch : List Turn) (used more : ℕ → ℕ) (next : List ℕ) (who limit : ℕ) → IsMore used more who → CountsEach (command_candidates (left_after used batch)) next limit → who < limit
+    → used who < length (turns_of who batch) → length (turns_of who batch) ≤ used who + 1 → CountsEach (command_candidates (left_after more batch)) (set next who (get_or next who 0 - 1)) limit
+last_counts batch used more next who limit one each inside some last = record {
+  long = length-set next who (get_or next who 0 - 1) ∙ each.long;
+  counts = λ t below. elim (cases_eq t who) [
+    | inl same ↦
+        subst (λ (w : ℕ). get_or (set next who (get_or next who 0 - 1)) w 0 ≡ length (command_candidates (left_after more batch) w)) (sym same)
+        (let now : get_or (set next who (get_or next who 0 - 1)) who 0 ≡ get_or next who 0 - 1 = get_or-set_same next who (get_or next who 0 - 1) 0 (subst (λ (n : ℕ). who < n) (sym each.long) inside) in
+        let was : get_or next who 0 ≡ length (command_candidates (left_after used batch) who) = each.counts who inside in
+        let first : length (command_candidates (left_after used batch) who) ≡ 1 = some_next batch used who some in
+        let none : length (command_candidates (left_after more batch) who) ≡ 0 = none_next batch more who (let here = one.here in omega arith) in
+        omega arith)
+    | inr apart ↦
+        get_or-set_other next who t (get_or next who 0 - 1) 0 apart ∙ (each.counts t below ∙ same_next batch used more t (one.others t apart))
+  ];
+}
+
+-- another one of a box comes: it has a next one as before
+other_counts : (batch : List Turn) (used more : ℕ → ℕ) (next : List ℕ) (who limit : ℕ) → IsMore used more who → CountsEach (command_candidates (left_after used batch)) next limit
+    → used who < length (turns_of who batch) → used who + 1 < length (turns_of who batch) → CountsEach (command_candidates (left_after more batch)) next limit
+other_counts batch used more next who limit one each some later = record {
+  long = each.long;
+  counts = λ t below. elim (cases_eq t who) [
+    | inl same ↦
+        each.counts t below
+        ∙ subst (λ (w : ℕ). length (command_candidates (left_after used batch) w) ≡ length (command_candidates (left_after more batch) w)) (sym same)
+        (some_next batch used who some ∙ sym (some_next batch more who (let here = one.here in omega arith)))
+    | inr apart ↦ each.counts t below ∙ same_next batch used more t (one.others t apart)
+  ];
+}
+
+-- so, whether it was the last
+next_lowered : (last : Bool) (batch : List Turn) (used more : ℕ → ℕ) (next : List ℕ) (who limit have all : ℕ) → (have + 1 == all) ≡ last → have ≡ used who → all ≡ length (turns_of who batch) → have < all
+    → IsMore used more who → CountsEach (command_candidates (left_after used batch)) next limit → who < limit
+    → CountsEach (command_candidates (left_after more batch)) (if last then set next who (get_or next who 0 - 1) else next) limit
+next_lowered true batch used more next who limit have all test is total low one each inside =
+    let same : have + 1 ≡ all = same_by (have + 1) all test in
+    last_counts batch used more next who limit one each inside (omega arith) (omega arith)
+next_lowered false batch used more next who limit have all test is total low one each inside =
+    let apart : have + 1 ≢ all = apart_by (have + 1) all test in
+    other_counts batch used more next who limit one each (omega arith) (omega arith)
+
+-- as code reads and writes
+pub next_dropped : (batch : List Turn) (used next new : List ℕ) (who limit have all : ℕ) → have ≡ used_of used who → all ≡ length (turns_of who batch) → have < all → who < length used
+    → CountsEach (command_candidates (left_after (used_of used) batch)) next limit → who < limit → new ≡ (if have + 1 == all then set next who (get_or next who 0 - 1) else next)
+    → CountsEach (command_candidates (left_after (used_of (set used who (have + 1))) batch)) new limit
+next_dropped batch used next new who limit have all is total low there each inside written =
+    subst (λ (counts : List ℕ). CountsEach (command_candidates (left_after (used_of (set used who (have + 1))) batch)) counts limit) (sym written)
+    (subst (λ (n : ℕ). CountsEach (command_candidates (left_after (used_of (set used who (n + 1))) batch)) (if have + 1 == all then set next who (get_or next who 0 - 1) else next) limit) (sym is)
+    (next_lowered (have + 1 == all) batch (used_of used) (used_of (set used who (used_of used who + 1))) next who limit have all refl is total low (used_more used who there) each inside))
+
+-- at first the next command of a box is its first
+pub first_counted : (queues : List (List Turn)) (batch : List Turn) (used : ℕ → ℕ) (counts next : List ℕ) (boxes limit : ℕ) → ((who : ℕ) → queue_at queues who ≡ turns_of who batch) → ((who : ℕ) → used who ≡ 0)
+    → CountsEach (first_of queues) counts boxes → next ≡ counts → limit ≡ boxes → CountsEach (command_candidates (left_after used batch)) next limit
+first_counted queues batch used counts next boxes limit each none first same long = record {
+  long = ap length same ∙ (first.long ∙ sym long);
+  counts = λ who below. ap (λ (l : List ℕ). get_or l who 0) same
+      ∙ (first.counts who (subst (λ (n : ℕ). who < n) long below)
+      ∙ ap (λ (o : Option Turn). length (option_to_list o))
+      (ap (λ (queue : List Turn). slice_get queue 0) (each who) ∙ (ap (slice_get (turns_of who batch)) (sym (none who)) ∙ sym (next_is batch used who))));
+}

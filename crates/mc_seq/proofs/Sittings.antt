@@ -1,7 +1,8 @@
 -- Turns drawn one after another, while a settle goes on.
-use Rattle.std.proofs.Common.{◌≡◌, ◌≢◌, ◌<◌, ◌+◌, ◌-◌, ◌*◌, ◌++◌, ◌==◌, ◌&&◌, inl, inr, if◌then◌else◌, nat_lt, not, ℕ, Bool, true, false, List, [], ◌∷◌, length, slice_get, Some, IsTrue, append_assoc, append-nil, refl, ap, sym, ◌∙◌, subst, arith}
+use Rattle.std.proofs.Common.{◌≡◌, ◌≢◌, ◌<◌, ◌+◌, ◌-◌, ◌*◌, ◌/◌, ◌%◌, ◌++◌, ◌==◌, ◌&&◌, inl, inr, if◌then◌else◌, nat_lt, not, ℕ, Bool, true, false, List, [], ◌∷◌, length, slice_get, Some, IsTrue, append_assoc, append-nil, refl, ap, sym, ◌∙◌, subst, arith}
 use Rattle.std.proofs.lemmas.Bool.{and_parts}
 use Rattle.std.proofs.lemmas.Grind.{common_steps}
+use Rattle.mc_text.specs.Draws.{next_state}
 use Rattle.mc_box.specs.declared.event.Event.{Event}
 use Rattle.mc_box.specs.declared.event.Event.TheVariants.{Take}
 use Rattle.mc_box.specs.declared.event.Turn.{Turn}
@@ -173,6 +174,15 @@ list_is now list seen looked urgent is left by looks =
 -- what was picked of it is drawn
 pub picked : (now : Standing) (shown : List Turn) (turn : Turn) → shown ≡ candidates now → slice_get shown (drawn_place now.draws (length shown)) ≡ Some turn → drawn_turn now ≡ Some turn
 picked now shown turn is got = subst (λ (l : List Turn). slice_get l (drawn_place now.draws (length l)) ≡ Some turn) is got
+
+-- at the place that is drawn, as code reckons it
+pub place_is : (now : Standing) (draw count next : ℕ) (shown : List Turn) → count ≡ length shown → draw ≡ next / 65536 → next ≡ next_state now.draws → draw % count ≡ drawn_place now.draws (length shown)
+place_is now draw count next shown total drawn state =
+    ap (λ (n : ℕ). n % count) (drawn ∙ ap (λ (s : ℕ). s / 65536) state) ∙ ap (λ (n : ℕ). next_state now.draws / 65536 % n) total
+
+-- which is within the list
+pub place_low : (draw count all : ℕ) → count ≡ all → count ≢ 0 → draw % count < all
+place_low draw count all is some = subst (λ (n : ℕ). draw % count < n) is (grind (arith, common_steps))
 
 -- the test whether nothing is left says no
 pub some_by : (b : Bool) (n : ℕ) → b ≡ (n == 0) → b ≡ false → n ≢ 0

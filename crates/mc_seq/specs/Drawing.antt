@@ -7,8 +7,7 @@ use Rattle.mc_model.specs.Steps.{ends_version, step, heard_slot}
 use Rattle.mc_model.specs.Worlds.{WorldState}
 use Rattle.mc_seq.specs.Schedule.{AreDrawn, Standing, candidates, drawn_turn, left_by, standing_after, since_by}
 use Rattle.mc_world.specs.declared.settled.Settled.{Settled}
-use Rattle.mc_seq.specs.Commands.{AreKept, commands_left}
-use Rattle.mc_seq.specs.Counts.{IsCounted}
+use Rattle.mc_seq.specs.Commands.{commands_left}
 use Rattle.mc_seq.specs.declared.drawing.Sitting.{Sitting}
 use Rattle.mc_seq.specs.declared.stopping.Draw.{Draw}
 use Rattle.mc_seq.specs.declared.stopping.Draw.TheVariants.{Drawn, Nothing, VersionEnd}
@@ -37,11 +36,6 @@ moment_of sitting = record { settled = sitting.settled; left = commands_left sit
 
 abbrev pub sight_of : Sitting → ℕ → Sight
 sight_of sitting draws = sight_at (moment_of sitting) draws
-
--- the commands of a sitting are kept, and its candidates counted
-pub record IsInStep (sitting : Sitting) : Type 0 where
-  pub kept : AreKept sitting.left
-  pub counted : IsCounted sitting.settled.world (commands_left sitting.left) sitting.counts
 
 -- the same for a sitting that lists all candidates
 abbrev pub plain_moment : PlainSitting → Moment

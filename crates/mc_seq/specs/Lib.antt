@@ -1,5 +1,4 @@
 pub mod Commands
-pub mod Counts
 pub mod Drawing
 pub mod Draws
 pub mod ForEach
@@ -7,5 +6,4 @@ pub mod Places
 pub mod Ready
 pub mod Retries
 pub mod Schedule
-pub mod Sums
 pub mod Turns

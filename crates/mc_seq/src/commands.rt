@@ -1,32 +1,38 @@
 // The commands of a batch by their boxes, so that the next one of a box is found at once.
 
-ghost use Rattle.std.specs.Prelude.{◌≡◌, ℕ, ◌<◌, ◌++◌, [], ◌∷◌, length, replicate, slice_set, IfOk, OnOk};
+ghost use Rattle.std.specs.Prelude.{◌≡◌, ℕ, ◌<◌, ◌≤◌, ◌-◌, ◌^◌, ◌++◌, if◌then◌else◌, [], ◌∷◌, length, replicate, slice_index_or, slice_set, IfOk, OnOk};
 ghost use Rattle.std.specs.List.{slice_get};
 ghost use Rattle.mc_model.specs.Shapes.{AreAllowed};
-ghost use Rattle.mc_seq.specs.Commands.{AreKept, commands_left, queue_at, queues_of, turns_of, used_of};
+ghost use Rattle.mc_seq.specs.Commands.{AreKept, AreKeptFor, commands_left, first_of, queue_at, queues_of, turns_of, used_of};
+ghost use Rattle.mc_seq.specs.Ready.{CountsEach};
 ghost use Rattle.mc_seq.specs.Schedule.{next_of, without_next};
 
 use mc_box::Turn;
+use mc_sums::Sums;
 use mc_world::World;
 use std::alloc::{AllocError, Global};
 
-// A batch, the commands of each box in their order, how many of these have come, and how many are left in all.
+// A batch, the commands of each box in their order, how many of these have come, which boxes have a command left (1 for
+// one that has, else 0), and how many commands are left in all.
 #[derive(Debug, Drop)]
 pub struct Commands {
     pub batch: Vec<Turn>,
     pub queues: Vec<Vec<Turn>>,
     pub used: Vec<usize>,
+    pub next: Sums,
     pub count: usize,
 }
 
 // The commands of a batch, of which none has come.
 pub fn all_commands(alloc: Global, world: &World, batch: &[Turn]) -> Result<Commands, AllocError>
     requires { AreAllowed world.now batch.now }
-    ensures kept { IfOk result AreKept }
+    ensures kept { IfOk result (AreKeptFor world.now) }
     ensures left { IfOk result (λ commands. commands_left commands ≡ batch.now) }
 {
     let boxes = world.boxes().len();
     let queues = queues_by_box(alloc, world, batch)?;
+    let next = first_counts(alloc, world, &queues)?;
+    let next = Sums::new(alloc, next)?;
     let used = vec![in alloc; 0; boxes]?;
     let count = batch.len();
     let batch = Vec::from_slice(alloc, batch)?;
@@ -34,6 +40,7 @@ pub fn all_commands(alloc: Global, world: &World, batch: &[Turn]) -> Result<Comm
         batch,
         queues,
         used,
+        next,
         count,
     })
 }
@@ -43,10 +50,6 @@ pub fn next_command(commands: &Commands, who: u32) -> Option<Turn>
     requires { AreKept commands.now }
     ensures { result ≡ next_of who (commands_left commands.now) }
 {
-    // most turns of a settle come after its last command
-    if commands.count == 0 {
-        return None;
-    }
     command_at(&commands.queues, who, used_at(&commands.used, who))
 }
 
@@ -54,12 +57,25 @@ pub fn next_command(commands: &Commands, who: u32) -> Option<Turn>
 pub fn drop_command(commands: &mut Commands, who: u32)
     requires { AreKept commands.old }
     ensures kept { AreKept commands.new }
+    ensures boxes { length commands.new.queues.items ≡ length commands.old.queues.items }
     ensures left { commands_left commands.new ≡ without_next who (commands_left commands.old) }
 {
     let used = used_at(&commands.used, who);
-    if used < queue_len(&commands.queues, who) {
+    let all = queue_len(&commands.queues, who);
+    if used < all {
         commands.used[who as usize] = used + 1;
         commands.count -= 1;
+        lower_at_last(&mut commands.next, who, used + 1 == all);
+    }
+}
+
+// A box whose last command has come has none left.
+fn lower_at_last(next: &mut Sums, who: u32, last: bool)
+    requires { 0 < slice_index_or next.old who 0 }
+    ensures { next.new ≡ (if last then slice_set next.old who (slice_index_or next.old who 0 - 1) else next.old) }
+{
+    if last {
+        next.lower(who as usize);
     }
 }
 
@@ -105,11 +121,38 @@ fn queues_by_box(alloc: Global, world: &World, batch: &[Turn]) -> Result<Vec<Vec
     Ok(queues)
 }
 
+// Of each box 1 where it has a command, and else 0.
+fn first_counts(alloc: Global, world: &World, queues: &[Vec<Turn>]) -> Result<Vec<u64>, AllocError>
+    ensures counts { IfOk result (λ counts. CountsEach (first_of (queues_of queues.now))
+        counts.items (length world.now.boxes)) }
+    ensures small { IfOk result (λ counts. (who : ℕ) → slice_index_or counts.items who 0 ≤ 1) }
+    ensures few { IfOk result (λ counts. length counts.items ≤ 2 ^ 32) }
+{
+    world.keeps();
+    let boxes = world.boxes().len();
+    let mut counts = Vec::with_capacity(alloc, boxes)?;
+    for who in 0..boxes {
+        counts.push(first_count(queues, who as u32))?;
+    }
+    Ok(counts)
+}
+
+// The same of one box.
+fn first_count(queues: &[Vec<Turn>], who: u32) -> u64
+    ensures count { result ≡ length (first_of (queues_of queues.now) who) }
+    ensures small { result ≤ 1 }
+{
+    match command_at(queues, who, 0) {
+        Some(_) => 1,
+        None => 0,
+    }
+}
+
 // As many empty lists.
 fn empty_queues(alloc: Global, boxes: usize) -> Result<Vec<Vec<Turn>>, AllocError>
     ensures { IfOk result (λ queues. queues_of queues.items ≡ replicate boxes []) }
 {
-    let mut queues = Vec::new(alloc);
+    let mut queues = Vec::with_capacity(alloc, boxes)?;
     for _done in 0..boxes {
         queues.push(Vec::new(alloc))?;
     }

@@ -1,39 +1,33 @@
 // A settle by draws, of which a turn takes no longer in a larger network.
 
-ghost use Rattle.std.specs.Prelude.{◌≡◌, ◌<◌, [], false, IfOk, IfErr, OnOk};
+ghost use Rattle.std.specs.Prelude.{◌≡◌, ◌<◌, ◌%◌, [], false, length, IfOk, IfErr, OnOk};
 ghost use Rattle.mc_model.specs.Shapes.{AreAllowed};
 ghost use Rattle.mc_model.specs.Paths.{has_ring};
 ghost use Rattle.mc_model.specs.Settles.{IsSettled};
 ghost use Rattle.mc_model.specs.Worlds.{place, slot_count};
-ghost use Rattle.mc_seq.specs.Commands.{AreKept, commands_left};
-ghost use Rattle.mc_seq.specs.Counts.{IsCounted};
+ghost use Rattle.mc_seq.specs.Commands.{AreKept, AreKeptFor, commands_left};
 ghost use Rattle.mc_seq.specs.Draws.{SettlesByDraws, StopsByDraws};
-ghost use Rattle.mc_seq.specs.Drawing.{CameToRest, DrewOnce, IsInStep, MayCome, Picks, TriedTurn, UsedUp, moment_of, sight_of};
-ghost use Rattle.mc_seq.specs.Retries.{retries_by_box};
+ghost use Rattle.mc_seq.specs.Drawing.{CameToRest, DrewOnce, MayCome, Picks, TriedTurn, UsedUp, moment_of, sight_of};
 ghost use Rattle.mc_seq.specs.Schedule.{is_urgent, left_by, since_by};
-ghost use Rattle.mc_seq.specs.Turns.{MadeAll};
 
 use crate::batches::is_command;
 use crate::commands::{Commands, all_commands, drop_command};
-use crate::counting::{Counts, count_all, levels_by, recount};
 use crate::fault::{SettleFault, Stopped};
-use crate::finding::kth;
+use crate::finding::{candidate_count, kth};
 use crate::retrying::retry_by_box;
 use crate::stopping::{Draw, heard_slot, stop_at};
-use crate::sums::total;
 use mc_box::Turn;
 use mc_text::Draws;
 use mc_world::{Settled, StepFault, World};
 use std::alloc::{AllocError, Global};
 
-// Where a settle stands: its world and its turns so far, the commands that are left, how many turns came since the
-// last command or the beginning, counted to 63, and how many candidates each box has.
+// Where a settle stands: its world and its turns so far, the commands that are left, and how many turns came since
+// the last command or the beginning, counted to 63.
 #[derive(Debug, Drop)]
 struct Sitting {
     settled: Settled,
     left: Commands,
     since: u8,
-    counts: Counts,
 }
 
 /// Settles a batch by draws. Each turn is drawn among those that can come: the next command of each box, and a Take of
@@ -45,8 +39,8 @@ struct Sitting {
 /// The world allows each command. It always ends: at rest, at a ring of links that the batch left,
 /// or at a Hear of a descriptor that has the last version; or for want of memory.
 ///
-/// Candidates are counted by box, and counted again only where a turn may have changed them. So the time of a turn
-/// hangs on its box and the neighbours of that, and beside these on the network's size by its logarithm alone.
+/// The world and the commands that are left keep how many candidates each box has, in trees of sums. So the time of a
+/// turn hangs on its box, and beside that on the network's size by its logarithm alone.
 pub fn settle_one(
     alloc: Global,
     world: World,
@@ -60,14 +54,12 @@ pub fn settle_one(
 {
     world.keeps();
     let left = all_commands(alloc, &world, batch)?;
-    let counts = count_all(alloc, &world, &left)?;
     let turns = Vec::new(alloc);
     let settled = Settled { world, turns };
     let mut sitting = Sitting {
         settled,
         left,
         since: 0,
-        counts,
     };
     if let Some(at) = use_up(&mut sitting, draws)? {
         return Err(SettleFault::VersionEnd(stopped(sitting, at)));
@@ -76,36 +68,10 @@ pub fn settle_one(
         return Err(SettleFault::Ring(stopped(sitting, at)));
     }
     come_to_rest(&mut sitting, draws)?;
-    retry_all(
-        alloc,
-        &mut sitting.settled,
-        &mut sitting.counts,
-        &sitting.left,
-    )?;
+    sitting.settled.world.keeps();
+    retry_by_box(&mut sitting.settled)?;
     come_to_rest(&mut sitting, draws)?;
     Ok(settled_by(sitting))
-}
-
-// Makes each retry that is owed, and counts again where there was one.
-fn retry_all(
-    alloc: Global,
-    settled: &mut Settled,
-    counts: &mut Counts,
-    left: &Commands,
-) -> Result<(), AllocError>
-    requires kept { AreKept left.now }
-    requires counted { IsCounted settled.old.world (commands_left left.now) counts.old }
-    ensures rings { OnOk result (has_ring settled.new.world ≡ has_ring settled.old.world) }
-    ensures made { OnOk result (MadeAll settled.old settled.new (retries_by_box settled.old.world)) }
-    ensures counted { OnOk result (IsCounted settled.new.world (commands_left left.now) counts.new) }
-{
-    let before = settled.turns.len();
-    retry_by_box(settled)?;
-    if settled.turns.len() == before {
-        return Ok(());
-    }
-    *counts = count_all(alloc, &settled.world, left)?;
-    Ok(())
 }
 
 // The world and the turns of a settle.
@@ -116,7 +82,6 @@ fn settled_by(sitting: Sitting) -> Settled
         settled,
         left: _,
         since: _,
-        counts: _,
     } = sitting;
     settled
 }
@@ -134,9 +99,9 @@ fn stopped(sitting: Sitting, at: u32) -> Stopped
 // Draws until the batch is used up, or to the last version of a slot.
 fn use_up(sitting: &mut Sitting, draws: &mut Draws) -> Result<Option<u32>, AllocError>
     requires allowed { AreAllowed sitting.old.settled.world (commands_left sitting.old.left) }
-    requires counted { IsInStep sitting.old }
+    requires kept { AreKeptFor sitting.old.settled.world sitting.old.left }
     ensures drew { IfOk result (UsedUp (sight_of sitting.old draws.old.state) (sight_of sitting.new draws.new.state)) }
-    ensures counted { OnOk result (IsInStep sitting.new) }
+    ensures kept { OnOk result (AreKeptFor sitting.new.settled.world sitting.new.left) }
 {
     sitting.settled.world.keeps();
     'commands: while sitting.left.count > 0 {
@@ -153,9 +118,9 @@ fn use_up(sitting: &mut Sitting, draws: &mut Draws) -> Result<Option<u32>, Alloc
 fn come_to_rest(sitting: &mut Sitting, draws: &mut Draws) -> Result<(), AllocError>
     requires used_up { commands_left sitting.old.left ≡ [] }
     requires free { has_ring sitting.old.settled.world ≡ false }
-    requires counted { IsInStep sitting.old }
+    requires kept { AreKeptFor sitting.old.settled.world sitting.old.left }
     ensures rests { OnOk result (CameToRest (sight_of sitting.old draws.old.state) (sight_of sitting.new draws.new.state)) }
-    ensures counted { OnOk result (IsInStep sitting.new) }
+    ensures kept { OnOk result (AreKeptFor sitting.new.settled.world sitting.new.left) }
 {
     sitting.settled.world.keeps();
     'takes: loop {
@@ -170,9 +135,9 @@ fn come_to_rest(sitting: &mut Sitting, draws: &mut Draws) -> Result<(), AllocErr
 // Draws once, where anything is listed, and makes the turn that is drawn.
 fn draw_once(sitting: &mut Sitting, draws: &mut Draws) -> Result<Draw, AllocError>
     requires allowed { AreAllowed sitting.old.settled.world (commands_left sitting.old.left) }
-    requires counted { IsInStep sitting.old }
+    requires kept { AreKeptFor sitting.old.settled.world sitting.old.left }
     ensures drew { IfOk result (DrewOnce (sight_of sitting.old draws.old.state) (sight_of sitting.new draws.new.state)) }
-    ensures counted { OnOk result (IsInStep sitting.new) }
+    ensures kept { OnOk result (AreKeptFor sitting.new.settled.world sitting.new.left) }
 {
     sitting.settled.world.keeps();
     match pick(sitting, draws) {
@@ -183,17 +148,31 @@ fn draw_once(sitting: &mut Sitting, draws: &mut Draws) -> Result<Draw, AllocErro
 
 // The candidate that is drawn; none where there is none, and then nothing is drawn.
 fn pick(sitting: &Sitting, draws: &mut Draws) -> Option<Turn>
-    requires { IsInStep sitting.now }
+    requires { AreKeptFor sitting.now.settled.world sitting.now.left }
     ensures { Picks (sight_of sitting.now draws.old.state).standing draws.new.state result }
 {
     let urgent = is_urgent(&sitting.left, sitting.since);
-    let levels = levels_by(&sitting.counts, urgent);
-    let count = total(levels);
+    let count = candidate_count(&sitting.settled.world, &sitting.left, urgent);
     if count == 0 {
         return None;
     }
-    let k = u64::from(draws.draw()) % count;
-    Some(kth(levels, &sitting.settled.world, &sitting.left, urgent, k))
+    let k = modulo(draws.draw(), count);
+    Some(kth(&sitting.settled.world, &sitting.left, urgent, k))
+}
+
+// A draw modulo a count, by a short division at most.
+fn modulo(draw: u32, count: u64) -> u64
+    requires { 0 < count }
+    ensures { result ≡ draw % count }
+{
+    if count == 1 {
+        return 0;
+    }
+    let draw = u64::from(draw);
+    if draw < count {
+        return draw;
+    }
+    u64::from(draw as u32 % count as u32)
 }
 
 // Whether commands alone are listed.
@@ -207,21 +186,15 @@ fn is_urgent(left: &Commands, since: u8) -> bool
 // Makes a turn, unless it ends a version.
 fn try_turn(sitting: &mut Sitting, turn: Turn) -> Result<Draw, AllocError>
     requires comes { MayCome sitting.old.settled.world turn }
-    requires counted { IsInStep sitting.old }
+    requires kept { AreKeptFor sitting.old.settled.world sitting.old.left }
     ensures tried { IfOk result (TriedTurn (moment_of sitting.old) (moment_of sitting.new) turn) }
-    ensures counted { OnOk result (IsInStep sitting.new) }
+    ensures kept { OnOk result (AreKeptFor sitting.new.settled.world sitting.new.left) }
 {
     sitting.settled.world.keeps();
     match sitting.settled.world.step(turn.who, turn.event) {
         Ok(()) => {
             sitting.settled.turns.push(turn)?;
             count(&mut sitting.left, &mut sitting.since, turn);
-            recount(
-                &mut sitting.counts,
-                &sitting.settled.world,
-                &sitting.left,
-                turn,
-            );
             Ok(Draw::Drawn)
         }
         Err(StepFault::VersionEnd) => {
@@ -236,6 +209,7 @@ fn try_turn(sitting: &mut Sitting, turn: Turn) -> Result<Draw, AllocError>
 fn count(left: &mut Commands, since: &mut u8, turn: Turn)
     requires { AreKept left.old }
     ensures kept { AreKept left.new }
+    ensures boxes { length left.new.queues.items ≡ length left.old.queues.items }
     ensures left { commands_left left.new ≡ left_by turn (commands_left left.old) }
     ensures since { since.new ≡ since_by turn since.old }
 {

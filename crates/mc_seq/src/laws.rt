@@ -1,7 +1,7 @@
 //! Laws of settles on one thread, over the definitions alone.
 
 ghost use Rattle.mc_seq.specs.Draws.{DrawsEnd, ScheduleIsOne, ScheduleSettles, TakesEndDraws};
-ghost use Rattle.mc_seq.specs.Ready.{CountIsSum, FrontsStay, KthIsFound, TakeFrontsStay};
+ghost use Rattle.mc_seq.specs.Ready.{CountIsSum, KthIsFound};
 
 /// Turns by the schedule of draws are a settled segment for their batch.
 pub fn schedule_settles()
@@ -21,17 +21,6 @@ pub fn kth_is_found()
 /// There are as many candidates as that sum.
 pub fn count_is_sum()
     ensures { CountIsSum }
-{}
-
-/// A step changes the fronts of those lanes alone that lead to slots of its box, or to the other ends of their tunnels.
-pub fn fronts_stay()
-    ensures { FrontsStay }
-{}
-
-/// Of the lanes of its box a Take changes the fronts of those alone that lead to the slot that takes, or from it, and over
-/// a link of those of its partner.
-pub fn take_fronts_stay()
-    ensures { TakeFrontsStay }
 {}
 
 /// While commands are left, drawn turns are few, whether links make a ring or not.

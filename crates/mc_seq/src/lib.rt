@@ -3,7 +3,6 @@
 
 mod batches;
 mod commands;
-mod counting;
 mod drawing;
 mod fault;
 mod finding;
@@ -12,7 +11,6 @@ mod listing;
 mod plain;
 mod retrying;
 mod stopping;
-mod sums;
 mod turns;
 
 pub use batches::fits;

@@ -9,7 +9,7 @@ takes-preserved c =
     let next : Sight = sight_of c.draw_once.new.sitting c.draw_once.new.draws.state in
     let made : DrewTurn now next = subst (DrewOnce now next) c.in-Drawn.is c.in_ok-draw_once.ensures.drew in
     record {
-      counted = c.in_ok-draw_once.ensures.counted;
+      kept = c.in_ok-draw_once.ensures.kept;
       free = take_free now next made c.takes.invariant.left c.takes.invariant.free;
       left = made_none now next made c.takes.invariant.left;
       drew = goes_more (sight_of c.args.sitting.now c.args.draws.now.state) now next (λ none. c.takes.invariant.free.free) made c.takes.invariant.drew;

@@ -1,14 +1,14 @@
 use Rattle.std.proofs.Common.{◌≡◌, []}
 use Rattle.mc_laws.specs.Measures.{IsRingFree, measure}
-use Rattle.mc_seq.specs.Commands.{commands_left}
-use Rattle.mc_seq.specs.Drawing.{IsInStep, sight_of}
+use Rattle.mc_seq.specs.Commands.{AreKeptFor, commands_left}
+use Rattle.mc_seq.specs.Drawing.{sight_of}
 use Rattle.mc_seq.proofs.Sittings.{GoesOn}
 use Rattle.mc_seq.proofs.drawing.come_to_rest.Given as goal
 
 -- whatever is drawn, it goes on from here
 abbrev pub invariant-takes : goal.invariant-takes
 invariant-takes l = record {
-  counted : IsInStep l.sitting;
+  kept : AreKeptFor l.sitting.settled.world l.sitting.left;
   free : IsRingFree l.sitting.settled.world;
   left : commands_left l.sitting.left ≡ [];
   drew : GoesOn (sight_of l.initial.sitting l.initial.draws.state) (sight_of l.sitting l.draws.state);

@@ -6,6 +6,8 @@ use Rattle.mc_model.specs.Worlds.{place}
 use Rattle.mc_seq.specs.Commands.{commands_left}
 use Rattle.mc_seq.specs.Drawing.{RanOut, Sight, UsedUp, sight_of}
 use Rattle.mc_seq.specs.Draws.{SettlesByDraws, StopsAtRing, StopsAtVersion}
+use Rattle.mc_laws.proofs.ShapesKept.{run_keeps_shape}
+use Rattle.mc_seq.specs.Retries.{retries_by_box}
 use Rattle.mc_seq.specs.Schedule.{first_standing}
 use Rattle.mc_seq.proofs.Scheduled.{out_inside, ring_is, ring_placed, schedule_settles, scheduled_is, version_is, version_placed}
 use Rattle.mc_seq.proofs.drawing.settle_one.Goals as goal
@@ -49,6 +51,13 @@ returns-in-Some-ring-clause-stops c =
           ∙ ap (place c.args.world) (sym c.stopped-in-Some-ring.ensures.at)),
     )
 
+pub come_to_rest-requires-2-clause-kept : goal.come_to_rest-requires-2-clause-kept
+come_to_rest-requires-2-clause-kept c = record {
+  kept = c.in_ok-come_to_rest.ensures.kept.kept;
+  boxes = c.in_ok-come_to_rest.ensures.kept.boxes
+      ∙ sym (run_keeps_shape c.come_to_rest.new.sitting.settled.world c.retry_by_box.new.settled.world (retries_by_box c.come_to_rest.new.sitting.settled.world) c.keeps-2.ensures.sound c.in_ok-retry_by_box.ensures.made.ran).boxes;
+}
+
 -- what was done is by the schedule
 done_is : (c : goal.After-settled_by) → SettlesByDraws c.args.world c.args.batch.now c.args.draws.now.state c.come_to_rest-2.new.draws.state c.settled_by.result
 done_is c =
@@ -56,12 +65,12 @@ done_is c =
     let used : Sight = sight_of c.use_up.new.sitting c.use_up.new.draws.state in
     let first = subst (UsedUp start used) c.in_default.is c.in_ok-at.ensures.drew in
     let rested : Sight = sight_of c.come_to_rest.new.sitting c.come_to_rest.new.draws.state in
-    let again : Sight = record { standing = record rested.standing { world = c.retry_all.new.settled.world }; turns = c.retry_all.new.settled.turns.items } in
+    let again : Sight = record { standing = record rested.standing { world = c.retry_by_box.new.settled.world }; turns = c.retry_by_box.new.settled.turns.items } in
     let ended : Sight = sight_of c.come_to_rest-2.new.sitting c.come_to_rest-2.new.draws.state in
     let scheduled : SettlesByDraws c.args.world c.args.batch.now c.args.draws.now.state ended.standing.draws c.come_to_rest-2.new.sitting.settled =
-    scheduled_is c.args.world c.retry_all.new.settled.world c.args.batch.now c.args.draws.now.state start used rested again ended
+    scheduled_is c.args.world c.retry_by_box.new.settled.world c.args.batch.now c.args.draws.now.state start used rested again ended
     (ap (λ (l : List Turn). first_standing c.args.world l c.args.draws.now.state) c.in_ok-left.ensures.left) c.new-turns.ensures.items
-    first.0 c.in_ok-come_to_rest.ensures.rests refl c.in_ok-retry_all.ensures.made.ran c.in_ok-retry_all.ensures.made.logged c.in_ok-come_to_rest-2.ensures.rests in
+    first.0 c.in_ok-come_to_rest.ensures.rests refl c.in_ok-retry_by_box.ensures.made.ran c.in_ok-retry_by_box.ensures.made.logged c.in_ok-come_to_rest-2.ensures.rests in
     subst (λ (done : Settled). SettlesByDraws c.args.world c.args.batch.now c.args.draws.now.state ended.standing.draws done) (sym c.settled_by.ensures) scheduled
 
 pub returns-clause-scheduled : goal.returns-clause-scheduled

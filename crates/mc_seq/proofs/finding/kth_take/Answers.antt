@@ -1,11 +1,13 @@
-use Rattle.std.proofs.Common.{◌<◌, ℕ, subst}
-use Rattle.mc_seq.proofs.Finds.{found_take, take_more}
+use Rattle.std.proofs.Common.{◌<◌, ◌∙◌, ℕ, sym, subst}
+use Rattle.mc_seq.proofs.Finds.{take_at_box, take_within, takes_sum}
 use Rattle.mc_seq.proofs.finding.kth_take.Goals as goal
 
-pub returns-then-rest-takes : goal.returns-then-rest-takes
-returns-then-rest-takes c =
-    found_take c.args.world.now c.args.who c.loop-local.local c.args.k c.loop-local.rest c.takes_at-takes.result (subst (λ (n : ℕ). c.loop-local.local < n) c.slots_of-slots.ensures.slots c.loop-local-test.true)
-    c.takes_at-takes.ensures c.if-rest-takes.true c.loop-local.invariant
+pub find-who-requires : goal.find-who-requires
+find-who-requires c = subst (λ (n : ℕ). c.args.k < n) (sym (takes_sum c.args.world.now c.takes.result.now c.takes.ensures)) c.requires
 
-pub loop-local-preserved : goal.loop-local-preserved
-loop-local-preserved c = take_more c.args.world.now c.args.who c.loop-local.local c.args.k c.loop-local.rest c.takes_at-takes.result c.takes_at-takes.ensures c.if-rest-takes.false c.loop-local.invariant
+pub kth_take_of-requires : goal.kth_take_of-requires
+kth_take_of-requires c = take_within c.args.world.now c.takes.result.now c.find-who.result.0 c.find-who.result.1 c.takes.ensures c.find-who.ensures.place c.find-who.ensures.within
+
+pub returns : goal.returns
+returns c =
+    take_at_box c.args.world.now c.takes.result.now c.args.k c.find-who.result.0 c.find-who.result.1 c.takes.ensures c.find-who.ensures.place c.find-who.ensures.before c.find-who.ensures.within ∙ c.kth_take_of.ensures

@@ -1,7 +1,0 @@
-use Rattle.std.proofs.Common.{◌-◌, ◌*◌, ◌^◌}
-use Rattle.mc_seq.specs.declared.sums.TheConstants.{FAN}
-use Rattle.mc_seq.proofs.TreeBuilds.{part_small}
-use Rattle.mc_seq.proofs.sums.group_sum.Goals as goal
-
-pub sum_of-requires : goal.sum_of-requires
-sum_of-requires c = part_small c.args.level.now (c.args.group * FAN) (c.min-end.result - c.args.group * FAN) (2 ^ 64) c.requires.fits

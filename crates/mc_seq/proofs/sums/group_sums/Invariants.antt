@@ -1,6 +1,0 @@
-use Rattle.mc_seq.proofs.TreeBuilds.{SumsFirst}
-use Rattle.mc_seq.proofs.sums.group_sums.Given as goal
-
--- so many of them
-abbrev pub invariant-loop-group : goal.invariant-loop-group
-invariant-loop-group l = SumsFirst l.level l.above.items l.group
