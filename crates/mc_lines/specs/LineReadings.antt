@@ -11,8 +11,8 @@ use Rattle.mc_script.specs.declared.rule.TheConstants.{GIVEN_TWICE, LIMIT_PASSED
 use Rattle.mc_script.specs.declared.command.LineFault.{LineFault}
 use Rattle.mc_script.specs.declared.keyword.CommandWord.{CommandWord}
 use Rattle.mc_lines.specs.BoxLines.{also_seen, channel_seen, device_seen, joining_rules, send_seen, widening_rules}
-use Rattle.mc_lines.specs.Meaning.{after_by, command_after, send_after, with_new_box, with_new_codec, words_after}
-use Rattle.mc_lines.specs.Rules.{command_line_rules, entry_fault, line_fault, rules_by, send_rules, words_rules}
+use Rattle.mc_lines.specs.Meaning.{after_by, command_after, program_link_after, send_after, with_new_box, with_new_codec, words_after}
+use Rattle.mc_lines.specs.Rules.{command_line_rules, entry_fault, line_fault, program_link_rules, rules_by, send_rules, words_rules}
 use Rattle.mc_lines.specs.SoFar.{Declared, DeclaredBox}
 use Rattle.mc_lines.specs.Unbuilt.{after_entry, after_line, after_words}
 use Rattle.mc_lines.specs.declared.reader.boxes.DeviceLine.{DeviceLine}
@@ -78,7 +78,11 @@ ReadsBox d name declared result now = Declares result now (least_broken (box_nam
 abbrev pub ReadsCodec : Declared → List ℕ → Result (Unit {0}) ReadFault → Declared → Type 0
 ReadsCodec d name result now = Declares result now (least_broken (codec_name_rules d name)) (Some (with_new_codec d name))
 
--- the line of a command is, outside programs
+-- a `link` line in the programs is
+abbrev pub ReadsProgramLink : Declared → List (List ℕ) → Result (Unit {0}) ReadFault → Declared → Type 0
+ReadsProgramLink d words result now = Declares result now (least_broken (program_link_rules d words)) (program_link_after d words)
+
+-- the line of a command is
 abbrev pub ReadsCommandLine : Declared → CommandWord → List (List ℕ) → Result (Unit {0}) ReadFault → Declared → Type 0
 ReadsCommandLine d kind words result now = Declares result now (least_broken (command_line_rules d kind words)) (command_after d kind words)
 

@@ -13,13 +13,11 @@ use Rattle.mc_plan.specs.Plans.{channel_between, last_channel, widened}
 use Rattle.mc_script.specs.Meaning.{command_by}
 use Rattle.mc_script.specs.Places.{box_named, spelt_value}
 use Rattle.mc_script.specs.declared.keyword.CommandWord.{CommandWord}
-use Rattle.mc_script.specs.declared.keyword.CommandWord.TheVariants as command
-use Rattle.mc_lines.specs.Rules.{begins_digit, codec_words, is_second, is_skipped, kind_of, spelt_medium, open_block}
+use Rattle.mc_lines.specs.Rules.{begins_digit, codec_words, is_program_link, is_second, is_skipped, kind_of, spelt_medium, open_block}
 use Rattle.mc_program.specs.Programs.{◌>>=◌, BlockState, block_goal_after, block_link_after, block_when_after, new_block, with_new_part}
 use Rattle.mc_lines.specs.SoFar.{Declared, DeclaredBox}
 use Rattle.mc_lines.specs.declared.section.Keyword.{Keyword}
 use Rattle.mc_lines.specs.declared.section.Keyword.TheVariants as keyword
-use Rattle.mc_lines.specs.declared.section.Section.{Section}
 use Rattle.mc_lines.specs.declared.section.Section.TheVariants as section
 
 -- ---- codecs, boxes, channels
@@ -166,9 +164,8 @@ command_after d kind words = option_map (λ it. record d { section = section.Com
 
 -- ---- any line
 
-abbrev pub link_after : Declared → Section → List (List ℕ) → Option Declared
-link_after d section.Programs words = option_and_then (λ block. option_map (with_block d) (block_link_after d.names block words)) (open_block d)
-link_after d other words = command_after d command.Link words
+abbrev pub program_link_after : Declared → List (List ℕ) → Option Declared
+program_link_after d words = option_and_then (λ block. option_map (with_block d) (block_link_after d.names block words)) (open_block d)
 
 abbrev pub after_by : Declared → Option Keyword → List (List ℕ) → Option Declared
 after_by d (Some keyword.Codec) words = codec_after d words
@@ -182,12 +179,7 @@ after_by d (Some keyword.State) words = state_after d words
 after_by d (Some keyword.Goal) words = option_and_then (λ block. option_map (with_block d) (block_goal_after d.names block words)) (open_block d)
 after_by d (Some keyword.When) words = option_and_then (λ block. when_after d block words) (open_block d)
 after_by d (Some keyword.Begin) words = Some (begin_after d)
-after_by d (Some keyword.Set) words = command_after d command.Set words
-after_by d (Some keyword.Link) words = link_after d d.section words
-after_by d (Some keyword.Hear) words = command_after d command.Hear words
-after_by d (Some keyword.Talk) words = command_after d command.Talk words
-after_by d (Some keyword.Tell) words = command_after d command.Tell words
-after_by d (Some keyword.Settle) words = command_after d command.Settle words
+after_by d (Some (keyword.Command kind)) words = if is_program_link d.section kind then program_link_after d words else command_after d kind words
 after_by d other words = None
 
 abbrev pub words_after : Bool → Declared → List (List ℕ) → Option Declared

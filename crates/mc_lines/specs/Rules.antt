@@ -1,7 +1,7 @@
 -- The rules on the lines of a text, by their numbers: every rule is asked of every line, with what the lines before it declared. The words are those behind the first.
 use Rattle.std.specs.Prelude.{ℕ, ◌+◌, ◌-◌, ◌==◌, ◌&&◌, ◌||◌, not, Bool, true, false, List, [], ◌∷◌, ◌++◌, Option, Some, None, codes, drop, if◌then◌else◌, length, nat_le, nat_lt}
 use Rattle.std.specs.List.{list_any, slice_get}
-use Rattle.std.specs.Option.{is_none, is_some, option_and_then, unwrap_or}
+use Rattle.std.specs.Option.{is_none, is_some, option_and_then, option_map, unwrap_or}
 use Rattle.std.specs.Str.{bytes_eq}
 use Rattle.mc_signal.specs.declared.Medium.{Medium}
 use Rattle.mc_signal.specs.declared.Medium.TheVariants.{Audio, Video}
@@ -11,7 +11,7 @@ use Rattle.mc_text.specs.Spelling.{is_digit, number_of}
 use Rattle.mc_text.specs.declared.limit.TheConstants.{BOX_LIMIT, CODEC_LIMIT, SLOT_LIMIT}
 use Rattle.mc_box.specs.BoxShapes.{BoxShapeState}
 use Rattle.mc_script.specs.Places.{are_same, box_named, has, is_misspelt, is_no, is_overlong, lacks}
-use Rattle.mc_script.specs.Rules.{byte_rules, is_no_device, kind_rules, least_broken}
+use Rattle.mc_script.specs.Rules.{byte_rules, command_word, is_no_device, kind_rules, least_broken}
 use Rattle.mc_script.specs.declared.keyword.CommandWord.{CommandWord}
 use Rattle.mc_script.specs.declared.keyword.CommandWord.TheVariants as command
 use Rattle.mc_script.specs.declared.rule.TheConstants.{EXTRA_WORD, GIVEN_TWICE, LIMIT_PASSED, MISSING_WORD, NAME_TOO_LONG, NO_BEGIN, NO_VERSION_LINE, SAME_BOX, TEXT_TOO_LONG, UNDECLARED, UNFINISHED, WRONG_VERSION, WRONG_WORD}
@@ -49,17 +49,6 @@ rank section.Commands = 6
 abbrev pub is_late : Declared → Section → Bool
 is_late d s = nat_lt (rank s) (rank d.section)
 
--- a word that opens a command
-abbrev pub keyword_of_command : List ℕ → Option Keyword
-keyword_of_command word =
-    if bytes_eq word (codes "set") then Some keyword.Set
-    else (if bytes_eq word (codes "link") then Some keyword.Link
-    else (if bytes_eq word (codes "hear") then Some keyword.Hear
-    else (if bytes_eq word (codes "talk") then Some keyword.Talk
-    else (if bytes_eq word (codes "tell") then Some keyword.Tell
-    else (if bytes_eq word (codes "settle") then Some keyword.Settle
-    else None)))))
-
 -- a word that opens a line behind the channels
 abbrev pub keyword_of_program : List ℕ → Option Keyword
 keyword_of_program word =
@@ -68,7 +57,7 @@ keyword_of_program word =
     else (if bytes_eq word (codes "goal") then Some keyword.Goal
     else (if bytes_eq word (codes "when") then Some keyword.When
     else (if bytes_eq word (codes "begin") then Some keyword.Begin
-    else keyword_of_command word))))
+    else option_map (λ kind. keyword.Command kind) (command_word word)))))
 
 -- the word that opens a line; `send` does so only where send lists stand apart, as the rules of its line say
 abbrev pub keyword_of : List ℕ → Option Keyword
@@ -244,10 +233,13 @@ command_line_rules d kind words =
 
 -- ---- any line
 
--- a `link` line in the programs is a part's, and else a command
-abbrev pub link_line_rules : Declared → Section → List (List ℕ) → List (ℕ × Bool)
-link_line_rules d section.Programs words = in_block (λ block. block_link_rules d.names (shapes d) block words) (open_block d)
-link_line_rules d other words = command_line_rules d command.Link words
+-- a `link` line in the programs, which is a part's and no command
+abbrev pub is_program_link : Section → CommandWord → Bool
+is_program_link section.Programs command.Link = true
+is_program_link other kind = false
+
+abbrev pub program_link_rules : Declared → List (List ℕ) → List (ℕ × Bool)
+program_link_rules d words = in_block (λ block. block_link_rules d.names (shapes d) block words) (open_block d)
 
 abbrev pub rules_by : Declared → Option Keyword → List (List ℕ) → List (ℕ × Bool)
 rules_by d (Some keyword.Codec) words = codec_rules d words
@@ -261,12 +253,7 @@ rules_by d (Some keyword.State) words = state_rules d words
 rules_by d (Some keyword.Goal) words = in_block (λ block. block_goal_rules d.names block words) (open_block d)
 rules_by d (Some keyword.When) words = in_block (λ block. block_when_rules d.names block words) (open_block d)
 rules_by d (Some keyword.Begin) words = begin_rules d words
-rules_by d (Some keyword.Set) words = command_line_rules d command.Set words
-rules_by d (Some keyword.Link) words = link_line_rules d d.section words
-rules_by d (Some keyword.Hear) words = command_line_rules d command.Hear words
-rules_by d (Some keyword.Talk) words = command_line_rules d command.Talk words
-rules_by d (Some keyword.Tell) words = command_line_rules d command.Tell words
-rules_by d (Some keyword.Settle) words = command_line_rules d command.Settle words
+rules_by d (Some (keyword.Command kind)) words = if is_program_link d.section kind then program_link_rules d words else command_line_rules d kind words
 rules_by d other words = (WRONG_WORD, true) ∷ []
 
 -- `media 1` or `media 2`, the two words

@@ -1,9 +1,10 @@
 //! The words that open lines.
 
 ghost use Rattle.std.specs.Prelude.{◌≡◌};
-ghost use Rattle.mc_lines.specs.Rules.{keyword_of, keyword_of_command, keyword_of_program};
+ghost use Rattle.mc_lines.specs.Rules.{keyword_of, keyword_of_program};
 
 use crate::section::Keyword;
+use mc_script::keyword::command_word;
 
 /// The kind of line that a word opens. None where it opens none. That `send` opens one in version 2 alone is for the
 /// rules of its line to say.
@@ -44,27 +45,6 @@ fn keyword_of_program(word: &[u8]) -> Option<Keyword>
     } else if word == b"begin".as_slice() {
         Some(Keyword::Begin)
     } else {
-        keyword_of_command(word)
-    }
-}
-
-// The kind of command that a word opens.
-fn keyword_of_command(word: &[u8]) -> Option<Keyword>
-    ensures { result ≡ keyword_of_command word.now }
-{
-    if word == b"set".as_slice() {
-        Some(Keyword::Set)
-    } else if word == b"link".as_slice() {
-        Some(Keyword::Link)
-    } else if word == b"hear".as_slice() {
-        Some(Keyword::Hear)
-    } else if word == b"talk".as_slice() {
-        Some(Keyword::Talk)
-    } else if word == b"tell".as_slice() {
-        Some(Keyword::Tell)
-    } else if word == b"settle".as_slice() {
-        Some(Keyword::Settle)
-    } else {
-        None
+        command_word(word).map(Keyword::Command)
     }
 }

@@ -23,7 +23,6 @@ use crate::section::{Keyword, Section};
 use mc_box::Shape;
 use mc_plan::Plan;
 use mc_program::{Block, ReadFault, is_unfinished};
-use mc_script::keyword::CommandWord;
 use mc_script::rule::{NO_BEGIN, NO_VERSION_LINE, TEXT_TOO_LONG, UNFINISHED, WRONG_WORD};
 use mc_script::{Command, LineFault, check_bytes};
 use mc_text::{Names, Words};
@@ -146,12 +145,7 @@ impl Reader {
             Keyword::Goal => self.read_goal(words),
             Keyword::When => self.read_when(words),
             Keyword::Begin => self.read_begin(words),
-            Keyword::Set => self.read_command(CommandWord::Set, words),
-            Keyword::Link => self.read_link(words),
-            Keyword::Hear => self.read_command(CommandWord::Hear, words),
-            Keyword::Talk => self.read_command(CommandWord::Talk, words),
-            Keyword::Tell => self.read_command(CommandWord::Tell, words),
-            Keyword::Settle => self.read_command(CommandWord::Settle, words),
+            Keyword::Command(kind) => self.read_command_word(kind, words),
         }
     }
 

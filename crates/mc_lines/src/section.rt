@@ -3,6 +3,8 @@
 ghost use Rattle.std.specs.Prelude.{◌≡◌};
 ghost use Rattle.mc_lines.specs.Rules.{rank};
 
+use mc_script::keyword::CommandWord;
+
 /// A part of a text. They stand in this order.
 #[derive(Clone, Copy, PartialEq, Eq, Debug)]
 pub enum Section {
@@ -47,10 +49,6 @@ pub enum Keyword {
     Goal,
     When,
     Begin,
-    Set,
-    Link,
-    Hear,
-    Talk,
-    Tell,
-    Settle,
+    /// The word of a command. In the programs `link` opens a part's line.
+    Command(CommandWord),
 }

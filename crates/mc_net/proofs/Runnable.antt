@@ -17,10 +17,9 @@ use Rattle.mc_script.specs.Places.{box_named, is_misspelt, is_no, spelt_value}
 use Rattle.mc_script.specs.Rules.{byte_rules, is_no_device, is_plain, kind_rules, least_broken}
 use Rattle.mc_script.specs.declared.command.Command.{Command}
 use Rattle.mc_script.specs.declared.keyword.CommandWord.{CommandWord}
-use Rattle.mc_script.specs.declared.keyword.CommandWord.TheVariants as command
 use Rattle.mc_script.specs.declared.rule.TheConstants.{LIMIT_PASSED, UNDECLARED, UNFINISHED, WRONG_WORD}
-use Rattle.mc_lines.specs.Meaning.{after_by, also_after, begin_after, channel_after, codec_after, codec_number, command_after, device_after, device_in, feature_after, declared_at, line_after, link_after, new_feature, send_after, unless_skipped, with_joined, with_new_box, with_new_codec, with_new_feature, with_send_line, with_widened, words_after}
-use Rattle.mc_lines.specs.Rules.{also_rules, channel_rules, codec_rules, codec_words, command_line_rules, device_rules, feature_rules, is_late, is_second, is_skipped, is_unfinished, kind_of, line_fault, line_words_rules, link_line_rules, lists_undeclared, open_block, passes_limit, rank, rules_by, send_line_rules, send_rules, spelt_medium, words_rules}
+use Rattle.mc_lines.specs.Meaning.{after_by, also_after, begin_after, channel_after, codec_after, codec_number, command_after, device_after, device_in, feature_after, declared_at, line_after, new_feature, program_link_after, send_after, unless_skipped, with_joined, with_new_box, with_new_codec, with_new_feature, with_send_line, with_widened, words_after}
+use Rattle.mc_lines.specs.Rules.{also_rules, channel_rules, codec_rules, codec_words, command_line_rules, device_rules, feature_rules, is_late, is_program_link, is_second, is_skipped, is_unfinished, kind_of, line_fault, line_words_rules, lists_undeclared, open_block, passes_limit, program_link_rules, rank, rules_by, send_line_rules, send_rules, spelt_medium, words_rules}
 use Rattle.mc_lines.specs.SoFar.{Declared, DeclaredBox, nothing}
 use Rattle.mc_lines.specs.Unbuilt.{first_unbuilt, is_unbuilt, unbuilt_by, with_unbuilt}
 use Rattle.mc_net.specs.Texts.{AreSound, Says, bytes_before, declared_by}
@@ -315,14 +314,11 @@ command_runs d after kind words runs kept means =
 no_open : (d : Declared) → IsRunnable d → open_block d ≡ None
 no_open d runs = rw runs.plain (none_open d.section)
 
-link_runs : (d after : Declared) (place : Section) (words : List (List ℕ)) → IsRunnable d → least_broken (link_line_rules d place words) ≡ None → link_after d place words ≡ Some after → IsRunnable after
-link_runs d after section.Programs words runs kept means = absurd (let none : None ≡ Some after = rw (no_open d runs) at means in cc)
-link_runs d after section.Version words runs kept means = command_runs d after command.Link words runs kept means
-link_runs d after section.Codecs words runs kept means = command_runs d after command.Link words runs kept means
-link_runs d after section.Boxes words runs kept means = command_runs d after command.Link words runs kept means
-link_runs d after section.Channels words runs kept means = command_runs d after command.Link words runs kept means
-link_runs d after section.Begin words runs kept means = command_runs d after command.Link words runs kept means
-link_runs d after section.Commands words runs kept means = command_runs d after command.Link words runs kept means
+-- a line that a command's word opens: a part's line, or a command
+word_runs : (d after : Declared) (of_part : Bool) (kind : CommandWord) (words : List (List ℕ)) → IsRunnable d → least_broken (if of_part then program_link_rules d words else command_line_rules d kind words) ≡ None
+    → (if of_part then program_link_after d words else command_after d kind words) ≡ Some after → IsRunnable after
+word_runs d after true kind words runs kept means = absurd (let none : None ≡ Some after = rw (no_open d runs) at means in cc)
+word_runs d after false kind words runs kept means = command_runs d after kind words runs kept means
 
 -- `begin`
 begin_runs : (d : Declared) → IsRunnable d → IsRunnable (begin_after d)
@@ -352,12 +348,7 @@ kind_runs d after keyword.State words runs kept built means = absurd (let none :
 kind_runs d after keyword.Goal words runs kept built means = absurd (let none : None ≡ Some after = rw (no_open d runs) at means in cc)
 kind_runs d after keyword.When words runs kept built means = absurd (let none : None ≡ Some after = rw (no_open d runs) at means in cc)
 kind_runs d after keyword.Begin words runs kept built means = let same : after ≡ begin_after d = cc in subst (λ (x : Declared). IsRunnable x) (sym same) (begin_runs d runs)
-kind_runs d after keyword.Set words runs kept built means = command_runs d after command.Set words runs kept means
-kind_runs d after keyword.Link words runs kept built means = link_runs d after d.section words runs kept means
-kind_runs d after keyword.Hear words runs kept built means = command_runs d after command.Hear words runs kept means
-kind_runs d after keyword.Talk words runs kept built means = command_runs d after command.Talk words runs kept means
-kind_runs d after keyword.Tell words runs kept built means = command_runs d after command.Tell words runs kept means
-kind_runs d after keyword.Settle words runs kept built means = command_runs d after command.Settle words runs kept means
+kind_runs d after (keyword.Command kind) words runs kept built means = word_runs d after (is_program_link d.section kind) kind words runs kept means
 
 -- ---- whole lines and texts
 

@@ -3,7 +3,8 @@
 ghost use Rattle.std.specs.Prelude.{◌≡◌, ◌<◌, OnOk, length};
 ghost use Rattle.mc_lines.specs.Forms.{IsInForm};
 ghost use Rattle.mc_lines.specs.Meaning.{with_program};
-ghost use Rattle.mc_lines.specs.LineReadings.{ReadsKind};
+ghost use Rattle.mc_lines.specs.LineReadings.{ReadsKind, ReadsProgramLink};
+ghost use Rattle.mc_lines.specs.Rules.{is_program_link};
 
 use crate::reader::Reader;
 use crate::section::{Keyword, Section};
@@ -75,30 +76,44 @@ impl Reader {
         }
     }
 
-    /// Reads `link ..` from the second word on: in the programs a part's line, and else a command.
-    pub fn read_link<'a>(&mut self, words: Words<'a>) -> Result<(), ReadFault>
+    /// Reads a line that a command's word opens, from the second word on: in the programs `link` is
+    /// a part's line, and all else is a command.
+    pub fn read_command_word<'a>(
+        &mut self,
+        kind: CommandWord,
+        words: Words<'a>,
+    ) -> Result<(), ReadFault>
         requires { IsInForm self.old }
-        ensures declared { ReadsKind self.old Keyword.Link words.entry result self.new }
+        ensures declared { ReadsKind self.old (Keyword.Command kind) words.entry result self.new }
         ensures in_form { OnOk result (IsInForm self.new) }
     {
-        match self.section {
-            Section::Programs => self.read_part_link(words),
-            _ => self.read_command(CommandWord::Link, words),
+        if is_program_link(self.section, kind) {
+            self.read_program_link(words)
+        } else {
+            self.read_command(kind, words)
         }
     }
 
     // Reads `link SLOT SLOT` from the first slot on, which must stand in a part.
-    fn read_part_link<'a>(&mut self, words: Words<'a>) -> Result<(), ReadFault>
-        requires in_form { IsInForm self.old }
-        requires programs { self.old.section ≡ Section.Programs }
-        ensures declared { ReadsKind self.old Keyword.Link words.entry result self.new }
+    fn read_program_link<'a>(&mut self, words: Words<'a>) -> Result<(), ReadFault>
+        requires { IsInForm self.old }
+        ensures declared { ReadsProgramLink self.old words.entry result self.new }
         ensures in_form { OnOk result (IsInForm self.new) }
     {
-        match self.blocks.last_mut() {
-            None => Err(ReadFault::Line(LineFault { number: WRONG_WORD })),
-            Some(block) => Ok(block.read_link(&self.names, &self.shape, words)?),
+        match (self.section, self.blocks.last_mut()) {
+            (Section::Programs, Some(block)) => {
+                Ok(block.read_link(&self.names, &self.shape, words)?)
+            }
+            _ => Err(ReadFault::Line(LineFault { number: WRONG_WORD })),
         }
     }
+}
+
+// Whether a line of this kind is a part's in this section, and no command.
+fn is_program_link(section: Section, kind: CommandWord) -> bool
+    ensures { result ≡ is_program_link section kind }
+{
+    matches!((section, kind), (Section::Programs, CommandWord::Link))
 }
 
 // A box has a program.

@@ -66,38 +66,8 @@ returns-in-Begin-clause-declared c = rw c.in-Begin.is c.read_begin.ensures.decla
 pub returns-in-Begin-clause-in_form : goal.returns-in-Begin-clause-in_form
 returns-in-Begin-clause-in_form c = c.read_begin.ensures.in_form
 
-pub returns-in-Set-clause-declared : goal.returns-in-Set-clause-declared
-returns-in-Set-clause-declared c = rw c.in-Set.is c.read_command.ensures.declared
+pub returns-in-Command-clause-declared : goal.returns-in-Command-clause-declared
+returns-in-Command-clause-declared c = rw c.in-Command.is c.read_command_word.ensures.declared
 
-pub returns-in-Set-clause-in_form : goal.returns-in-Set-clause-in_form
-returns-in-Set-clause-in_form c = c.read_command.ensures.in_form
-
-pub returns-in-Link-clause-declared : goal.returns-in-Link-clause-declared
-returns-in-Link-clause-declared c = rw c.in-Link.is c.read_link.ensures.declared
-
-pub returns-in-Link-clause-in_form : goal.returns-in-Link-clause-in_form
-returns-in-Link-clause-in_form c = c.read_link.ensures.in_form
-
-pub returns-in-Hear-clause-declared : goal.returns-in-Hear-clause-declared
-returns-in-Hear-clause-declared c = rw c.in-Hear.is c.read_command-in-Hear.ensures.declared
-
-pub returns-in-Hear-clause-in_form : goal.returns-in-Hear-clause-in_form
-returns-in-Hear-clause-in_form c = c.read_command-in-Hear.ensures.in_form
-
-pub returns-in-Talk-clause-declared : goal.returns-in-Talk-clause-declared
-returns-in-Talk-clause-declared c = rw c.in-Talk.is c.read_command-in-Talk.ensures.declared
-
-pub returns-in-Talk-clause-in_form : goal.returns-in-Talk-clause-in_form
-returns-in-Talk-clause-in_form c = c.read_command-in-Talk.ensures.in_form
-
-pub returns-in-Tell-clause-declared : goal.returns-in-Tell-clause-declared
-returns-in-Tell-clause-declared c = rw c.in-Tell.is c.read_command-in-Tell.ensures.declared
-
-pub returns-in-Tell-clause-in_form : goal.returns-in-Tell-clause-in_form
-returns-in-Tell-clause-in_form c = c.read_command-in-Tell.ensures.in_form
-
-pub returns-in-Settle-clause-declared : goal.returns-in-Settle-clause-declared
-returns-in-Settle-clause-declared c = rw c.in-Settle.is c.read_command-in-Settle.ensures.declared
-
-pub returns-in-Settle-clause-in_form : goal.returns-in-Settle-clause-in_form
-returns-in-Settle-clause-in_form c = c.read_command-in-Settle.ensures.in_form
+pub returns-in-Command-clause-in_form : goal.returns-in-Command-clause-in_form
+returns-in-Command-clause-in_form c = c.read_command_word.ensures.in_form
