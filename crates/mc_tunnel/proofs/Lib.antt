@@ -1,5 +1,4 @@
 pub mod Alike
-pub mod Props
 pub mod Sending
 pub mod Steps
 pub mod Taking
