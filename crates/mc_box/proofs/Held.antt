@@ -142,10 +142,6 @@ pub lacks_more : (k : ℕ) (some more : List ℕ) → Lacks k (some ++ more) →
 lacks_more k [] more lacks = lacks
 lacks_more k (local ∷ some) more lacks = lacks_more k some more lacks.1
 
-pub lacks_both : (k : ℕ) (some more : List ℕ) → Lacks k some → Lacks k more → Lacks k (some ++ more)
-lacks_both k [] more one two = two
-lacks_both k (local ∷ some) more one two = (one.0, lacks_both k some more one.1 two)
-
 -- each goal is at rest, but perhaps those that hold these slots
 abbrev pub RestsBut : BoxState → List ℕ → Type 0
 RestsBut box todo = (k : ℕ) → Lacks k todo → RestsAt (goal_at box k) box k

@@ -2,14 +2,14 @@
 use Rattle.std.proofs.Common.{◌≡◌, ℕ, ◌+◌, ◌*◌, ◌<◌, ◌≤◌, Bool, true, false, if◌then◌else◌, Option, Some, None, List, [], ◌∷◌, ◌++◌, drop, length, zero, suc, refl, ap, sym, ◌∙◌, subst, arith, append_assoc, length-append}
 use Rattle.std.specs.Option.{option_and_then, option_map}
 use Rattle.std.proofs.Math.ListN.{get_or}
-use Rattle.std.proofs.lemmas.List.{append-nil, drop_all, drop_more}
+use Rattle.std.proofs.lemmas.List.{drop_more}
 use Rattle.mc_turn.specs.Sums.{total}
 use Rattle.mc_turn.proofs.Sums.{total_grows, total_next}
 use Rattle.mc_signal.specs.declared.Signal.{Signal}
 use Rattle.mc_slot.specs.declared.Goal.TheVariants.{Close as ToClose}
 use Rattle.mc_slot.specs.declared.SlotGoal.{SlotGoal}
 use Rattle.mc_slot.specs.declared.SlotGoal.TheVariants.{End}
-use Rattle.mc_box.specs.BoxEvents.{Appends, BoxStep, sends_first, goal_step, goal_steps}
+use Rattle.mc_box.specs.BoxEvents.{BoxStep, sends_first, goal_step, goal_steps}
 use Rattle.mc_box.specs.BoxSound.{IsWired}
 use Rattle.mc_box.specs.Boxes.{BoxState, goal_at}
 use Rattle.mc_box.specs.Goals.{changed_from, changed_slots, has_turn, most_signals}
@@ -29,26 +29,11 @@ pub record Turning (start now : BoxState) (olds : List SlotGoal) (i : ℕ) (befo
 
 -- ---- what was sent before
 
-followed_none : (o : Option BoxStep) → option_map (sends_first []) o ≡ o
-followed_none None = refl
-followed_none (Some step) = refl
-
 followed_both : (sent more : List (ℕ × Signal)) (o : Option BoxStep) → option_map (sends_first sent) (option_map (sends_first more) o) ≡ option_map (sends_first (sent ++ more)) o
 followed_both sent more None = refl
 followed_both sent more (Some step) = ap (λ (l : List (ℕ × Signal)). Some (record step { sent = l })) (sym (append_assoc sent more step.sent))
 
 -- ---- the loop
-
-pub turning_first : (start : BoxState) (olds : List SlotGoal) (before : List (ℕ × Signal)) → IsWired start → Turning start start olds 0 before before
-turning_first start olds before wired = record {
-  wired = wired;
-  goals = refl;
-  count = refl;
-  sent = [];
-  is = sym (append-nil before);
-  few = omega arith;
-  rest = followed_none (goal_steps start (changed_slots olds start.goals));
-}
 
 -- the next of the changed goals
 next_changed : (olds news : List SlotGoal) (i : ℕ) → i < length olds → i < length news
@@ -111,19 +96,6 @@ turning_turn start now next olds i before items more inside size wired turns goe
       rest = sym (followed_both so_far.sent more (goal_steps next (changed_from (i + 1) (drop (i + 1) olds) (drop (i + 1) start.goals))))
           ∙ (ap (λ (o : Option BoxStep). option_map (sends_first so_far.sent) o) (sym turn)
           ∙ (ap (λ (l : List ℕ). option_map (sends_first so_far.sent) (goal_steps now l)) (sym same) ∙ so_far.rest));
-    }
-
--- when all have had theirs
-pub turning_last : (start now : BoxState) (olds : List SlotGoal) (i : ℕ) (before items : List (ℕ × Signal)) → length olds ≤ i
-    → Turning start now olds i before items → Appends (goal_steps start (changed_slots olds start.goals)) now before items
-turning_last start now olds i before items past so_far =
-    let none : drop i olds ≡ [] = drop_all i olds past in
-    let end : option_map (sends_first so_far.sent) (goal_steps now (changed_from i (drop i olds) (drop i start.goals))) ≡ Some (record { sent = so_far.sent ++ []; after = now }) =
-    ap (λ (l : List SlotGoal). option_map (sends_first so_far.sent) (goal_steps now (changed_from i l (drop i start.goals)))) none in
-    record {
-      sent = so_far.sent;
-      goes = sym so_far.rest ∙ (end ∙ ap (λ (l : List (ℕ × Signal)). Some (record { sent = l; after = now })) (append-nil so_far.sent));
-      appended = so_far.is;
     }
 
 -- there is room for the next turn

@@ -56,9 +56,6 @@ media_at box local = slice_index_or box.media local no_media
 abbrev pub with_slot : BoxState → ℕ → Slot → BoxState
 with_slot box local slot = record box { slots = slice_set box.slots local slot }
 
-abbrev pub with_goal : BoxState → ℕ → SlotGoal → BoxState
-with_goal box local goal = record box { goals = slice_set box.goals local goal }
-
 abbrev pub with_goals : BoxState → List SlotGoal → BoxState
 with_goals box goals = record box { goals = goals }
 
