@@ -22,10 +22,6 @@ pub record WalkBoth (world : WorldState) (s done ahead behind : ℕ) : Type 0 wh
   pub behind_inside : behind < slot_count world
   pub behind_is : slot_after world done behind ≡ Some s
 
--- they begin at the slot
-pub both_begin : (world : WorldState) (s : ℕ) → s < slot_count world → WalkBoth world s 0 s s
-both_begin world s inside = record { ahead_inside = inside; ahead_is = refl; behind_inside = inside; behind_is = refl }
-
 -- and go one tunnel on, each its way
 pub both_on : (world : WorldState) (s done ahead behind next last : ℕ) → IsSound world → WalkBoth world s done ahead behind
     → partner_of world (far ahead) ≡ Some next → partner_of world behind ≡ Some last → WalkBoth world s (done + 1) next (far last)

@@ -57,12 +57,6 @@ allowed_parts world turn allowed =
     let two = both_true (is_command turn.event) (is_enabled box turn.event) (sym (shape_enables box turn.event) ∙ one.1) in
     record { command = two.0; below = one.0; enabled = two.1 }
 
-pub parts_allowed : (world : WorldState) (turn : Turn) → Allowed world turn → is_allowed world turn ≡ true
-parts_allowed world turn parts =
-    let box : BoxState = box_at world turn.who in
-    both_is (nat_lt turn.who (length world.boxes)) (is_enabled_by (box_shape box) turn.event) parts.below
-    (shape_enables box turn.event ∙ both_is (is_command turn.event) (is_enabled box turn.event) parts.command parts.enabled)
-
 takes_none : (event : Event) → is_command event ≡ true → is_take event ≡ false
 takes_none (Take local) is = absurd (cc)
 takes_none (Set change) is = refl

@@ -1,13 +1,13 @@
 -- Lanes: what is under way to each slot after a front has left one lane and signals have gone to the end of another.
 use Rattle.std.proofs.Common.{◌≡◌, ◌≢◌, ◌<◌, ◌+◌, ◌*◌, ◌/◌, ◌%◌, ◌==◌, if◌then◌else◌, ℕ, Bool, true, false, Some, None, List, [], ◌∷◌, ◌++◌, map, length, drop, refl, ap, sym, ◌∙◌, subst, arith}
-use Rattle.std.proofs.Math.ListN.{get_or, set, length-set}
+use Rattle.std.proofs.Math.ListN.{get_or}
 use Rattle.std.proofs.lemmas.Grind.{common_steps}
-use Rattle.std.proofs.lemmas.List.{append-nil, get_or-set_same, get_or-set_other}
+use Rattle.std.proofs.lemmas.List.{append-nil}
 use Rattle.mc_signal.specs.declared.Signal.{Signal}
 use Rattle.mc_signal.specs.declared.Tagged.{Tagged}
-use Rattle.mc_model.specs.Worlds.{WorldState, TunnelPlace, far, for_tunnel, front_for, tunnel_of, all_tunnels, lane_of, no_tunnel, slot_count}
+use Rattle.mc_model.specs.Worlds.{WorldState, far, for_tunnel, front_for, tunnel_of, all_tunnels, lane_of, no_tunnel, slot_count}
 use Rattle.mc_laws.proofs.TunnelPlaces.{channel_in, places_apart, two_each}
-use Rattle.mc_laws.proofs.Numbers.{by_half, far_half, far_side, half_in}
+use Rattle.mc_laws.proofs.Numbers.{by_half, far_half, half_in}
 
 -- ---- lanes of a world
 
@@ -39,13 +39,6 @@ lane_apart world s t one two lane within =
 -- far slots share their tunnel
 pub far_tunnel : (world : WorldState) (s : ℕ) → tunnel_of world (far s) ≡ tunnel_of world s
 far_tunnel world s = ap (λ (t : ℕ). get_or (all_tunnels world) t no_tunnel) (far_half s)
-
-lanes_differ : (c d p q : ℕ) → d ≡ c → q + p ≡ 1 → 2 * c + p ≢ 2 * d + q
-lanes_differ c d p q one two same = omega arith
-
--- but their lanes are two
-pub far_lane : (world : WorldState) (s : ℕ) → lane_of world s ≢ lane_of world (far s)
-far_lane world s = lanes_differ (tunnel_of world s).channel (tunnel_of world (far s)).channel (s % 2) (far s % 2) (ap (λ (j : TunnelPlace). j.channel) (far_tunnel world s)) (far_side s)
 
 -- ---- what a lane has for a tunnel
 
@@ -100,18 +93,6 @@ front_next tunnel signal (tagged ∷ rest) fronts =
     }
 
 -- ---- two lanes change
-
--- the first of them
-pub changed_first : (lanes : List (List Tagged)) (a b : ℕ) (left more : List Tagged) → a ≢ b → a < length lanes → get_or (set (set lanes a left) b more) a [] ≡ left
-changed_first lanes a b left more apart inside = get_or-set_other (set lanes a left) b a more [] apart ∙ get_or-set_same lanes a left [] inside
-
--- the second
-pub changed_second : (lanes : List (List Tagged)) (a b : ℕ) (left more : List Tagged) → b < length lanes → get_or (set (set lanes a left) b more) b [] ≡ more
-changed_second lanes a b left more inside = get_or-set_same (set lanes a left) b more [] (subst (λ (n : ℕ). b < n) (sym (length-set lanes a left)) inside)
-
--- every other lane stays
-pub changed_other : (lanes : List (List Tagged)) (a b c : ℕ) (left more : List Tagged) → c ≢ a → c ≢ b → get_or (set (set lanes a left) b more) c [] ≡ get_or lanes c []
-changed_other lanes a b c left more one two = get_or-set_other (set lanes a left) b c more [] two ∙ get_or-set_other lanes a c left [] one
 
 -- what the new second lane has for its tunnel, and for each other
 pub sent_own : (tunnel : ℕ) (lane : List Tagged) (signals : List Signal) → for_tunnel tunnel (lane ++ map (tagged_for tunnel) signals) ≡ for_tunnel tunnel lane ++ signals

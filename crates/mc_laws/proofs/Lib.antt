@@ -1,9 +1,7 @@
-pub mod ActedBoxes
 pub mod ActedWorlds
 pub mod Acting
 pub mod BatchMade
 pub mod BothWays
-pub mod BoxSound
 pub mod BoxVersions
 pub mod CommandsGo
 pub mod Exchanges
@@ -28,7 +26,6 @@ pub mod RunVersions
 pub mod SentOut
 pub mod ShapesKept
 pub mod StepActs
-pub mod StepForms
 pub mod StepGoes
 pub mod StepKeeps
 pub mod StepSendings

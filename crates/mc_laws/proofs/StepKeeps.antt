@@ -10,8 +10,8 @@ use Rattle.mc_box.specs.BoxSound.{IsSoundBox}
 use Rattle.mc_box.specs.Boxes.{BoxState}
 use Rattle.mc_model.specs.Sound.{IsSound}
 use Rattle.mc_laws.specs.StepLaws.{StepKeepsSound, RunKeepsSound, FrontIsTaken}
-use Rattle.mc_model.specs.Steps.{run, step, take_at}
-use Rattle.mc_model.specs.Worlds.{WorldState, box_at, far, for_tunnel, tunnel_of, lane_to, list_to, place, slot_of}
+use Rattle.mc_model.specs.Steps.{run, step}
+use Rattle.mc_model.specs.Worlds.{WorldState, box_at, far, for_tunnel, tunnel_of, lane_to, list_to, slot_of}
 use Rattle.mc_box.specs.declared.event.Event.{Event}
 use Rattle.mc_box.specs.declared.event.Turn.{Turn}
 use Rattle.mc_laws.proofs.LanesKept.{front_next}
@@ -19,11 +19,6 @@ use Rattle.mc_laws.proofs.StepActs.{Turned, step_turns}
 use Rattle.mc_box.proofs.Options.{then_some}
 use Rattle.mc_laws.proofs.SteppedKeeps.{after_is, numbers_stay, served_stays, tunnels_stay}
 pub use Rattle.mc_laws.proofs.Numbers.{box_inside, slot_inside}
-
--- a Take by the place in place of the box's and the local number
-pub take_there : (world next : WorldState) (who local s : ℕ) → (place world s).0 ≡ who → (place world s).1 ≡ local
-    → take_at world who local s ≡ Some next → take_at world (place world s).0 (place world s).1 s ≡ Some next
-take_there world next who local s who_is local_is goes = rw (who_is, local_is) goes
 
 -- ---- a step
 
