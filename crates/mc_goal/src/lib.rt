@@ -4,8 +4,7 @@
 ghost use Rattle.std.specs.Prelude.{◌≡◌, ◌+◌, ◌≤◌, Some, IsSome, IsTrue, length, map};
 ghost use Rattle.mc_slot.specs.EndTurn.{end_turn, live_turn, owes};
 ghost use Rattle.mc_slot.specs.Moves.{is_live, slot_send_all};
-ghost use Rattle.mc_slot.specs.Sending.{Adds, sends_of, pair_of};
-ghost use Rattle.mc_slot.specs.declared.sends.TheConstants.{SENDS_LIMIT};
+ghost use Rattle.mc_slot.specs.Sending.{Adds, HasPlaces, sends_of, pair_of};
 
 use mc_signal::{Descriptor, Sender, Signal, choose};
 use mc_slot::{Goal, Sends, Slot, State};
@@ -43,7 +42,7 @@ pub fn send_end_turn(
     sends: &mut Sends,
 )
     requires got { IsTrue (is_live slot.old.state) → IsSome slot.old.got }
-    requires room { sends.old.len + length (end_turn goal slot.old push own me.now) ≤ SENDS_LIMIT }
+    requires room { HasPlaces sends.old (length (end_turn goal slot.old push own me.now)) }
     ensures sends { Adds sends.old sends.new no (end_turn goal slot.old push own me.now) }
     ensures after { slot_send_all slot.old (end_turn goal slot.old push own me.now) ≡ Some slot.new }
     ensures len { sends.new.len ≡ sends.old.len + length (end_turn goal slot.old push own me.now) }
@@ -71,7 +70,7 @@ pub fn send_end_turn(
 fn accept(slot: &mut Slot, no: u8, own: Descriptor, me: &Sender, sends: &mut Sends)
     requires opened { slot.old.state ≡ State.Opened }
     requires got { IsSome slot.old.got }
-    requires room { sends.old.len + length (live_turn slot.old.state slot.old own me.now) ≤ SENDS_LIMIT }
+    requires room { HasPlaces sends.old (length (live_turn slot.old.state slot.old own me.now)) }
     ensures sends { Adds sends.old sends.new no (live_turn slot.old.state slot.old own me.now) }
     ensures after { slot_send_all slot.old (live_turn slot.old.state slot.old own me.now) ≡ Some slot.new }
     ensures len { sends.new.len ≡ sends.old.len + length (live_turn slot.old.state slot.old own me.now) }
@@ -89,7 +88,7 @@ fn accept(slot: &mut Slot, no: u8, own: Descriptor, me: &Sender, sends: &mut Sen
 fn describe_anew(slot: &mut Slot, no: u8, own: Descriptor, me: &Sender, sends: &mut Sends)
     requires flowing { slot.old.state ≡ State.Flowing }
     requires got { IsSome slot.old.got }
-    requires room { sends.old.len + length (live_turn slot.old.state slot.old own me.now) ≤ SENDS_LIMIT }
+    requires room { HasPlaces sends.old (length (live_turn slot.old.state slot.old own me.now)) }
     ensures sends { Adds sends.old sends.new no (live_turn slot.old.state slot.old own me.now) }
     ensures after { slot_send_all slot.old (live_turn slot.old.state slot.old own me.now) ≡ Some slot.new }
     ensures len { sends.new.len ≡ sends.old.len + length (live_turn slot.old.state slot.old own me.now) }

@@ -6,11 +6,13 @@ use Rattle.mc_signal.specs.declared.Selector.{Selector}
 use Rattle.mc_signal.specs.declared.Signal.{Signal}
 use Rattle.mc_signal.specs.declared.Signal.TheVariants.{Open, Oack, Close}
 use Rattle.mc_slot.specs.EndTurn.{describe_newer, select_newer}
+use Rattle.mc_slot.specs.Sending.{sends_of}
 use Rattle.mc_slot.specs.declared.Cause.{Cause}
 use Rattle.mc_slot.specs.declared.Cause.TheVariants.{Close as ByClose}
 use Rattle.mc_slot.specs.declared.Slot.{Slot}
 use Rattle.mc_slot.specs.declared.State.{State}
 use Rattle.mc_slot.specs.declared.State.TheVariants.{Closed, Opening, Opened, Flowing}
+use Rattle.mc_slot.specs.declared.sends.Sends.{Sends}
 use Rattle.mc_link.specs.declared.Side.{Side}
 use Rattle.mc_link.specs.declared.Side.TheVariants.{First, Second}
 
@@ -110,3 +112,7 @@ sent_by_second ((Second, signal) ∷ rest) = signal ∷ sent_by_second rest
 abbrev pub with_number : ℕ → ℕ → Side × Signal → ℕ × Signal
 with_number an bn (First, signal) = (an, signal)
 with_number an bn (Second, signal) = (bn, signal)
+
+-- signals that two linked slots send are added
+abbrev pub AddsBoth : Sends → Sends → ℕ → ℕ → List (Side × Signal) → Type 0
+AddsBoth old new an bn signals = sends_of new ≡ sends_of old ++ map (with_number an bn) signals

@@ -1,10 +1,10 @@
 //! The turn of a link: what two linked slots send, after something that concerns one of them.
 #![tactic(auto)]
 
-ghost use Rattle.std.specs.Prelude.{◌≡◌, ◌+◌, ◌<◌, ◌≤◌, ◌++◌, [], ◌∷◌, Some, IsSome, IsTrue, length, map};
-ghost use Rattle.mc_link.specs.LinkTurn.{NamesClosed, can_close, open_with, pass_descriptor, pass_selector, flow, lean, link_turn, sent_by_first, sent_by_second, with_number};
+ghost use Rattle.std.specs.Prelude.{◌≡◌, ◌+◌, ◌<◌, ◌++◌, [], ◌∷◌, Some, IsSome, IsTrue, length, map};
+ghost use Rattle.mc_link.specs.LinkTurn.{AddsBoth, NamesClosed, can_close, open_with, pass_descriptor, pass_selector, flow, lean, link_turn, sent_by_first, sent_by_second, with_number};
 ghost use Rattle.mc_slot.specs.Moves.{is_live, slot_send, slot_send_all};
-ghost use Rattle.mc_slot.specs.Sending.{Adds, sends_of, pair_of};
+ghost use Rattle.mc_slot.specs.Sending.{Adds, HasPlaces, sends_of, pair_of};
 ghost use Rattle.mc_slot.specs.declared.sends.TheConstants.{SENDS_LIMIT};
 
 use mc_signal::{Descriptor, Selector, Signal, answers};
@@ -54,8 +54,8 @@ pub fn send_link_turn(
     requires got_first { IsTrue (is_live a.old.state) → IsSome a.old.got }
     requires got_second { IsTrue (is_live b.old.state) → IsSome b.old.got }
     requires closed { NamesClosed closed_by_far a.old b.old }
-    requires room { sends.old.len + length (link_turn a.old b.old closed_by_far) ≤ SENDS_LIMIT }
-    ensures sends { sends_of sends.new ≡ sends_of sends.old ++ map (with_number an bn) (link_turn a.old b.old closed_by_far) }
+    requires room { HasPlaces sends.old (length (link_turn a.old b.old closed_by_far)) }
+    ensures sends { AddsBoth sends.old sends.new an bn (link_turn a.old b.old closed_by_far) }
     ensures first { slot_send_all a.old (sent_by_first (link_turn a.old b.old closed_by_far)) ≡ Some a.new }
     ensures second { slot_send_all b.old (sent_by_second (link_turn a.old b.old closed_by_far)) ≡ Some b.new }
     ensures len { sends.new.len ≡ sends.old.len + length (link_turn a.old b.old closed_by_far) }
@@ -102,8 +102,8 @@ fn send_alone(slot: &mut Slot, no: u8, s: Signal, sends: &mut Sends)
 fn lean(a: &mut Slot, an: u8, b: &mut Slot, bn: u8, sends: &mut Sends)
     requires got_first { IsTrue (is_live a.old.state) → IsSome a.old.got }
     requires got_second { IsTrue (is_live b.old.state) → IsSome b.old.got }
-    requires room { sends.old.len + length (lean a.old b.old) ≤ SENDS_LIMIT }
-    ensures sends { sends_of sends.new ≡ sends_of sends.old ++ map (with_number an bn) (lean a.old b.old) }
+    requires room { HasPlaces sends.old (length (lean a.old b.old)) }
+    ensures sends { AddsBoth sends.old sends.new an bn (lean a.old b.old) }
     ensures first { slot_send_all a.old (sent_by_first (lean a.old b.old)) ≡ Some a.new }
     ensures second { slot_send_all b.old (sent_by_second (lean a.old b.old)) ≡ Some b.new }
     ensures len { sends.new.len ≡ sends.old.len + length (lean a.old b.old) }
@@ -121,7 +121,7 @@ fn lean(a: &mut Slot, an: u8, b: &mut Slot, bn: u8, sends: &mut Sends)
 // A closed slot asks for media, with the descriptor that the other slot got.
 fn open_with(slot: &mut Slot, no: u8, got: Option<Descriptor>, sends: &mut Sends)
     requires closed { slot.old.state ≡ State.Closed }
-    requires room { sends.old.len + length (open_with slot.old got) ≤ SENDS_LIMIT }
+    requires room { HasPlaces sends.old (length (open_with slot.old got)) }
     ensures sends { Adds sends.old sends.new no (open_with slot.old got) }
     ensures after { slot_send_all slot.old (open_with slot.old got) ≡ Some slot.new }
     ensures len { sends.new.len ≡ sends.old.len + length (open_with slot.old got) }
@@ -137,8 +137,8 @@ fn flow(a: &mut Slot, an: u8, b: &mut Slot, bn: u8, sends: &mut Sends)
     requires live_second { IsTrue (is_live b.old.state) }
     requires got_first { IsSome a.old.got }
     requires got_second { IsSome b.old.got }
-    requires room { sends.old.len + length (flow a.old b.old) ≤ SENDS_LIMIT }
-    ensures sends { sends_of sends.new ≡ sends_of sends.old ++ map (with_number an bn) (flow a.old b.old) }
+    requires room { HasPlaces sends.old (length (flow a.old b.old)) }
+    ensures sends { AddsBoth sends.old sends.new an bn (flow a.old b.old) }
     ensures first { slot_send_all a.old (sent_by_first (flow a.old b.old)) ≡ Some a.new }
     ensures second { slot_send_all b.old (sent_by_second (flow a.old b.old)) ≡ Some b.new }
     ensures len { sends.new.len ≡ sends.old.len + length (flow a.old b.old) }
@@ -153,7 +153,7 @@ fn flow(a: &mut Slot, an: u8, b: &mut Slot, bn: u8, sends: &mut Sends)
 fn pass_descriptor(slot: &mut Slot, no: u8, got: Option<Descriptor>, sends: &mut Sends)
     requires live { IsTrue (is_live slot.old.state) }
     requires got { IsSome got }
-    requires room { sends.old.len + length (pass_descriptor slot.old.state slot.old.sent got) ≤ SENDS_LIMIT }
+    requires room { HasPlaces sends.old (length (pass_descriptor slot.old.state slot.old.sent got)) }
     ensures after { slot_send_all slot.old (pass_descriptor slot.old.state slot.old.sent got) ≡ Some slot.new }
     ensures flowing { slot.new.state ≡ State.Flowing }
     ensures got { slot.new.got ≡ slot.old.got }
@@ -176,7 +176,7 @@ fn pass_descriptor(slot: &mut Slot, no: u8, got: Option<Descriptor>, sends: &mut
 // A flowing slot passes on the selector that the other slot got, where it answers this slot's descriptor and is new.
 fn pass_selector(slot: &mut Slot, no: u8, heard: Option<Selector>, sends: &mut Sends)
     requires flowing { slot.old.state ≡ State.Flowing }
-    requires room { sends.old.len + length (pass_selector heard slot.old.got slot.old.sel_out) ≤ SENDS_LIMIT }
+    requires room { HasPlaces sends.old (length (pass_selector heard slot.old.got slot.old.sel_out)) }
     ensures after { slot_send_all slot.old (pass_selector heard slot.old.got slot.old.sel_out) ≡ Some slot.new }
     ensures sel_in { slot.new.sel_in ≡ slot.old.sel_in }
     ensures sends { Adds sends.old sends.new no (pass_selector heard slot.old.got slot.old.sel_out) }
