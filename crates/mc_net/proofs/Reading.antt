@@ -30,21 +30,6 @@ pub record HasRead (text : List ℕ) (number before : ℕ) (d : Declared) (left 
   pub within : before ≤ TEXT_LIMIT + 1
   pub short : TEXT_LIMIT < length text → before ≤ TEXT_LIMIT
 
--- nothing was read
-pub none_read : (text : List ℕ) (d : Declared) → d ≡ declared_by (lines text) 0 → HasRead text 1 0 d (lines text)
-none_read text d new = record {
-  count = 0;
-  numbered = refl;
-  counted = refl;
-  declared = new;
-  rest = refl;
-  so_far = omega arith;
-  sound = λ k within. absurd (omega arith);
-  few = omega arith;
-  within = omega arith;
-  short = λ long. omega arith;
-}
-
 -- the line at a place, of lines that are left
 at_place : {A : Type 0} (xs : List A) (x : A) (others : List A) (k : ℕ) (default : A) → x ∷ others ≡ drop k xs → slice_index_or xs k default ≡ x
 at_place [] x others zero default here = absurd cc
