@@ -201,10 +201,6 @@ pub batch_allowed : (names : NameLists) (start : WorldState) (first : ℕ) (all 
 batch_allowed names start first all i none rest now within sound allowed on =
     all_kept (batch_turns (slice_index_or all i none)) start now.world sound on.sound on.shape (batch_at (AreAllowed start) all i none within allowed)
 
--- all has its names now
-pub names_now : (names : NameLists) (start : WorldState) (first : ℕ) (all rest : List (List Turn)) (count : ℕ) (now : ScriptState) → NamesAll names start → GoesOn names start first all rest count now → NamesAll names now.world
-names_now names start first all rest count now named on = names_kept names now.world start on.shape named
-
 -- nothing was run yet
 pub goes_first : (names : NameLists) (start : WorldState) (first : ℕ) (all : List (List Turn)) → IsSound start → GoesOn names start first all all 0 (first_state start first)
 goes_first names start first all sound = record {
