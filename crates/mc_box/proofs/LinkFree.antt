@@ -34,14 +34,6 @@ use Rattle.mc_box.proofs.Options.{else_some, map_some, then_some}
 abbrev AreEnds : List SlotGoal → Type 0
 AreEnds goals = (k : ℕ) → is_end_goal (get_or goals k (End ToClose)) ≡ true
 
-end_of : (goal : SlotGoal) → is_end_goal goal ≡ true → (end : Goal) × (goal ≡ End end)
-end_of (End end) is = (end, refl)
-end_of (Link partner) is = absurd (cc)
-
--- each slot is an end of some goal
-pub end_at : (box : BoxState) (local : ℕ) → IsUnlinked box → (goal : Goal) × (goal_at box local ≡ End goal)
-end_at box local free = end_of (goal_at box local) (free local)
-
 -- ---- goals that no event links
 
 turn_by_goals : (goal : SlotGoal) (box : BoxState) (local : ℕ) (cause : Cause) (step : BoxStep) → is_end_goal goal ≡ true

@@ -21,7 +21,6 @@ pub mod Reaches
 pub mod Repeats
 pub mod RingChains
 pub mod RingWalks
-pub mod Rings
 pub mod RunVersions
 pub mod SentOut
 pub mod ShapesKept
