@@ -1,5 +1,5 @@
 -- The numbers of a box's slots: its descriptors have them as origins.
-use Rattle.std.proofs.Common.{◌≡◌, ◌<◌, ◌≤◌, ◌+◌, ◌++◌, ◌/◌, inl, inr, ℕ, List, [], ◌∷◌, Option, Some, None, length, map, take, get_or, refl, ap, sym, ◌∙◌, subst, arith}
+use Rattle.std.proofs.Common.{◌≡◌, ◌<◌, ◌≤◌, ◌+◌, ◌++◌, inl, inr, ℕ, List, [], ◌∷◌, Option, Some, None, length, map, take, get_or, refl, ap, sym, ◌∙◌, subst, arith}
 use Rattle.std.specs.List.{slice_get}
 use Rattle.std.proofs.Math.ListN.{get_or-eq_default, get_or-map}
 use Rattle.std.proofs.lemmas.Bool.{cases_lt}
@@ -9,12 +9,12 @@ use Rattle.mc_box.specs.Boxes.{BoxState, IsBox, media_at, no_box, no_media, own,
 use Rattle.mc_box.specs.declared.event.Kind.{Kind}
 use Rattle.mc_box.specs.declared.event.Kind.TheVariants.{Device, Feature}
 use Rattle.mc_box.specs.declared.setup.SlotMedia.{SlotMedia}
-use Rattle.mc_world.specs.Lanes.{HasRoom, HasRoomFor, IsLaid, lane_by, numbers_of, origins}
+use Rattle.mc_world.specs.Lanes.{HasRoom, HasRoomFor, lane_by, numbers_of, origins}
 use Rattle.mc_model.specs.Sound.{IsNumbered}
 use Rattle.mc_model.specs.Worlds.{WorldState, box_at, far, number, place}
 use Rattle.mc_world.specs.declared.topology.Topology.{Topology}
 use Rattle.mc_world.proofs.LaneChanges.{Lane}
-use Rattle.mc_laws.proofs.Numbers.{found_at, half_in, number_is}
+use Rattle.mc_laws.proofs.Numbers.{number_is}
 
 -- ---- origins of a box
 
@@ -76,13 +76,6 @@ found_by world topology who local numbered are =
     ])
 
 -- ---- lanes away from a box
-
--- a slot of a box has a tunnel
-pub tunnel_there : (topology : Topology) (count who local s : ℕ) → IsLaid topology count → local < length (numbers_of topology who) → s ≡ get_or (numbers_of topology who) local 0 → s / 2 < length topology.tunnels.items
-tunnel_there topology count who local s laid inside is =
-    let at : slice_get (numbers_of topology who) local ≡ Some s = slice_get-get_or (numbers_of topology who) local 0 inside ∙ ap Some (sym is) in
-    let found = found_at topology.places.items who local s (sym (laid.numbers.found who local) ∙ at) in
-    half_in s (length topology.tunnels.items) (subst (λ (n : ℕ). s < n) laid.slots found.0)
 
 -- room in the lane away from each of a box's numbers is room away from each of its slots
 pub room_from : (lanes : List Lane) (topology : Topology) (who most : ℕ) → ((local : ℕ) → local < length (numbers_of topology who) → HasRoom lanes (lane_by topology (far (get_or (numbers_of topology who) local 0))) most)

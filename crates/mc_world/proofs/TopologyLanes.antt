@@ -18,7 +18,7 @@ use Rattle.mc_model.specs.Worlds.{TunnelPlace, WorldState, box_at, place, slot_c
 use Rattle.mc_world.specs.declared.network.World.TheInside.{Inside}
 use Rattle.mc_world.specs.declared.topology.Topology.{Topology}
 use Rattle.mc_laws.proofs.TunnelPlaces.{channel_in, two_each}
-use Rattle.mc_laws.proofs.Numbers.{far_in, far_side, half_in, number_is}
+use Rattle.mc_laws.proofs.Numbers.{far_side, half_in, number_is}
 
 -- ---- lanes that are there
 
@@ -30,10 +30,6 @@ pub lane_there : (topology : Topology) (count s : ℕ) → IsLaid topology count
 lane_there topology count s laid below =
     let tunnel : s / 2 < length topology.tunnels.items = half_in s (length topology.tunnels.items) (subst (λ (n : ℕ). s < n) laid.slots below) in
     lane_low (get_or topology.tunnels.items (s / 2) (0, 0)).0 (s % 2) (far s % 2) count (laid.lanes (s / 2) tunnel) (omega (arith, far_side s))
-
--- the far slot is there
-pub far_there : (topology : Topology) (count s : ℕ) → IsLaid topology count → s < length topology.places.items → far s < length topology.places.items
-far_there topology count s laid below = subst (λ (n : ℕ). far s < n) (sym laid.slots) (far_in s (length topology.tunnels.items) (subst (λ (n : ℕ). s < n) laid.slots below))
 
 tunnel_at : (found : List TunnelPlace) (t : ℕ) → get_or (map channel_of found) t (0, 0) ≡ channel_of (get_or found t no_tunnel)
 tunnel_at found t = get_or-map channel_of found t no_tunnel

@@ -21,7 +21,7 @@ use Rattle.mc_world.specs.declared.topology.Topology.{Topology}
 use Rattle.mc_world.specs.declared.waiting.Waiting.{Waiting}
 use Rattle.mc_world.specs.Waiting.{IsWaiting}
 use Rattle.mc_world.specs.Tables.{HasTables, channel_of, world_state}
-use Rattle.mc_box.proofs.EventGoes.{event_goes, version_end_stops}
+use Rattle.mc_box.proofs.EventGoes.{event_goes}
 use Rattle.mc_laws.proofs.Numbers.{number_is}
 use Rattle.mc_laws.proofs.StepGoes.{below_test, front_step_goes}
 use Rattle.mc_laws.proofs.StepKeeps.{step_keeps_sound}
@@ -104,10 +104,6 @@ pub act_goes : (world : WorldState) (who : ℕ) (event : Event) → IsSound worl
 act_goes world who event sound below other enabled more =
     let step = is_there (box_event (box_at world who) event None) (event_goes (box_at world who) event (sound.boxes who below) enabled other more) in
     rw (act_by world who event other, step.1) refl
-
--- and where that is the last, it doesn't
-pub act_stops : (world : WorldState) (who : ℕ) (event : Event) → is_take event ≡ false → is_version_end (box_at world who) event ≡ true → step_by world who event ≡ None
-act_stops world who event other last = rw (act_by world who event other, version_end_stops (box_at world who) event last) refl
 
 pub act_is : (world : WorldState) (topology : Topology) (who : ℕ) (event : Event) (step : BoxStep) → is_take event ≡ false
     → box_event (box_at world who) event None ≡ Some step → topology.places.items ≡ places world → topology.tunnels.items ≡ map channel_of (all_tunnels world)
