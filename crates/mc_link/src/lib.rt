@@ -2,6 +2,8 @@
 #![tactic(auto)]
 
 ghost use Rattle.std.specs.Prelude.{◌≡◌, ◌+◌, ◌<◌, ◌++◌, [], ◌∷◌, Some, IsSome, IsTrue, length, map};
+ghost use Rattle.std.specs.Option.{option_eq};
+ghost use Rattle.mc_signal.specs.Same.{is_same_descriptor, is_same_selector};
 ghost use Rattle.mc_link.specs.LinkTurn.{AddsBoth, NamesClosed, can_close, open_with, pass_descriptor, pass_selector, flow, lean, link_turn, sent_by_first, sent_by_second, with_number};
 ghost use Rattle.mc_slot.specs.Moves.{is_live, slot_send, slot_send_all};
 ghost use Rattle.mc_slot.specs.Sending.{Adds, HasPlaces, sends_of, pair_of};
@@ -143,49 +145,66 @@ fn flow(a: &mut Slot, an: u8, b: &mut Slot, bn: u8, sends: &mut Sends)
     ensures second { slot_send_all b.old (sent_by_second (flow a.old b.old)) ≡ Some b.new }
     ensures len { sends.new.len ≡ sends.old.len + length (flow a.old b.old) }
 {
-    pass_descriptor(a, an, b.got, sends);
-    pass_descriptor(b, bn, a.got, sends);
-    pass_selector(a, an, b.sel_in, sends);
-    pass_selector(b, bn, a.sel_in, sends);
+    pass_descriptor(a, an, &b.got, sends);
+    pass_descriptor(b, bn, &a.got, sends);
+    pass_selector(a, an, &b.sel_in, sends);
+    pass_selector(b, bn, &a.sel_in, sends);
 }
 
 // A live slot passes on the descriptor that the other slot got, where it is new.
-fn pass_descriptor(slot: &mut Slot, no: u8, got: Option<Descriptor>, sends: &mut Sends)
+fn pass_descriptor(slot: &mut Slot, no: u8, got: &Option<Descriptor>, sends: &mut Sends)
     requires live { IsTrue (is_live slot.old.state) }
-    requires got { IsSome got }
-    requires room { HasPlaces sends.old (length (pass_descriptor slot.old.state slot.old.sent got)) }
-    ensures after { slot_send_all slot.old (pass_descriptor slot.old.state slot.old.sent got) ≡ Some slot.new }
+    requires got { IsSome got.now }
+    requires room { HasPlaces sends.old (length (pass_descriptor slot.old.state slot.old.sent got.now)) }
+    ensures after { slot_send_all slot.old (pass_descriptor slot.old.state slot.old.sent got.now) ≡ Some slot.new }
     ensures flowing { slot.new.state ≡ State.Flowing }
     ensures got { slot.new.got ≡ slot.old.got }
     ensures sel_in { slot.new.sel_in ≡ slot.old.sel_in }
     ensures sel_out { slot.new.sel_out ≡ slot.old.sel_out }
-    ensures sends { Adds sends.old sends.new no (pass_descriptor slot.old.state slot.old.sent got) }
-    ensures len { sends.new.len ≡ sends.old.len + length (pass_descriptor slot.old.state slot.old.sent got) }
+    ensures sends { Adds sends.old sends.new no (pass_descriptor slot.old.state slot.old.sent got.now) }
+    ensures len { sends.new.len ≡ sends.old.len + length (pass_descriptor slot.old.state slot.old.sent got.now) }
 {
     if let Some(got) = got {
         if slot.state == State::Opened {
-            slot.send(Signal::Oack(got));
-            sends.push(no, Signal::Oack(got));
-        } else if slot.sent != Some(got) {
-            slot.send(Signal::Describe(got));
-            sends.push(no, Signal::Describe(got));
+            slot.send(Signal::Oack(*got));
+            sends.push(no, Signal::Oack(*got));
+        } else if !is_sent(&slot.sent, got) {
+            slot.send(Signal::Describe(*got));
+            sends.push(no, Signal::Describe(*got));
         }
     }
 }
 
 // A flowing slot passes on the selector that the other slot got, where it answers this slot's descriptor and is new.
-fn pass_selector(slot: &mut Slot, no: u8, heard: Option<Selector>, sends: &mut Sends)
+fn pass_selector(slot: &mut Slot, no: u8, heard: &Option<Selector>, sends: &mut Sends)
     requires flowing { slot.old.state ≡ State.Flowing }
-    requires room { HasPlaces sends.old (length (pass_selector heard slot.old.got slot.old.sel_out)) }
-    ensures after { slot_send_all slot.old (pass_selector heard slot.old.got slot.old.sel_out) ≡ Some slot.new }
+    requires room { HasPlaces sends.old (length (pass_selector heard.now slot.old.got slot.old.sel_out)) }
+    ensures after { slot_send_all slot.old (pass_selector heard.now slot.old.got slot.old.sel_out) ≡ Some slot.new }
     ensures sel_in { slot.new.sel_in ≡ slot.old.sel_in }
-    ensures sends { Adds sends.old sends.new no (pass_selector heard slot.old.got slot.old.sel_out) }
-    ensures len { sends.new.len ≡ sends.old.len + length (pass_selector heard slot.old.got slot.old.sel_out) }
+    ensures sends { Adds sends.old sends.new no (pass_selector heard.now slot.old.got slot.old.sel_out) }
+    ensures len { sends.new.len ≡ sends.old.len + length (pass_selector heard.now slot.old.got slot.old.sel_out) }
 {
     if let (Some(heard), Some(got)) = (heard, slot.got) {
-        if answers(&heard, &got) && slot.sel_out != Some(heard) {
-            slot.send(Signal::Select(heard));
-            sends.push(no, Signal::Select(heard));
+        if answers(heard, &got) && !is_chosen(&slot.sel_out, heard) {
+            slot.send(Signal::Select(*heard));
+            sends.push(no, Signal::Select(*heard));
         }
     }
+}
+
+// Whether the last descriptor that was sent is this one. It's compared apart from where it's copied, since the copy
+// then goes as a whole, and not field by field: what reads it next as a whole doesn't wait for it.
+#[inline(never)]
+fn is_sent(last: &Option<Descriptor>, got: &Descriptor) -> bool
+    ensures { result ≡ option_eq is_same_descriptor last.now (Some got.now) }
+{
+    *last == Some(*got)
+}
+
+// Whether the last selector that was sent is this one, compared apart in the same way.
+#[inline(never)]
+fn is_chosen(last: &Option<Selector>, heard: &Selector) -> bool
+    ensures { result ≡ option_eq is_same_selector last.now (Some heard.now) }
+{
+    *last == Some(*heard)
 }

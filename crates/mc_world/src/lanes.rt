@@ -72,7 +72,7 @@ pub fn send_all(
     ensures waiting { IsWaiting topology.now (signals_of lanes.new) waiting.new }
 {
     for sending in sends.as_slice() {
-        send(lanes, waiting, topology, who, sending.0, sending.1);
+        send(lanes, waiting, topology, who, sending.0, &sending.1);
     }
 }
 
@@ -92,7 +92,7 @@ pub fn send_lane(
 {
     for i in 0..sends.len() {
         let sending = sends.get(i);
-        send(lanes, waiting, topology, who, sending.0, sending.1);
+        send(lanes, waiting, topology, who, sending.0, &sending.1);
     }
 }
 
@@ -172,12 +172,12 @@ fn send(
     topology: &Topology,
     who: u32,
     local: u8,
-    signal: Signal,
+    signal: &Signal,
 )
     requires laid { IsLaid topology.now (length lanes.old) }
     requires waiting { IsWaiting topology.now (signals_of lanes.old) waiting.old }
     requires room { HasRoomFor lanes.old topology.now who local 1 }
-    ensures sent { signals_of lanes.new ≡ one_sent topology.now who (signals_of lanes.old) (local, signal) }
+    ensures sent { signals_of lanes.new ≡ one_sent topology.now who (signals_of lanes.old) (local, signal.now) }
     ensures waiting { IsWaiting topology.now (signals_of lanes.new) waiting.new }
     ensures room { (k count : ℕ) → HasRoom lanes.old k (count + 1) → HasRoom lanes.new k count }
 {
@@ -192,20 +192,23 @@ fn push_last(
     waiting: &mut Waiting,
     topology: &Topology,
     slot: u32,
-    signal: Signal,
+    signal: &Signal,
 )
     requires laid { IsLaid topology.now (length lanes.old) }
     requires waiting { IsWaiting topology.now (signals_of lanes.old) waiting.old }
     requires here { slot < length topology.now.places.items }
     requires room { HasRoom lanes.old (lane_by topology.now slot) 1 }
-    ensures sent { signals_of lanes.new ≡ with_sending topology.now (signals_of lanes.old) signal slot }
+    ensures sent { signals_of lanes.new ≡ with_sending topology.now (signals_of lanes.old) signal.now slot }
     ensures waiting { IsWaiting topology.now (signals_of lanes.new) waiting.new }
     ensures room { (k count : ℕ) → HasRoom lanes.old k (count + 1) → HasRoom lanes.new k count }
 {
     let (lane, tunnel) = topology.toward(slot);
     let lane = &mut lanes[lane];
     let was_empty = lane.is_empty();
-    lane.push(Tagged { tunnel, signal });
+    lane.push(Tagged {
+        tunnel,
+        signal: *signal,
+    });
     if was_empty {
         waiting.set(topology, slot);
     }
