@@ -72,7 +72,7 @@ pub fn send_all(
     ensures waiting { IsWaiting topology.now (signals_of lanes.new) waiting.new }
 {
     for sending in sends.as_slice() {
-        send(lanes, waiting, topology, who, sending.0, &sending.1);
+        send(lanes, waiting, topology, who, sending);
     }
 }
 
@@ -92,7 +92,7 @@ pub fn send_lane(
 {
     for i in 0..sends.len() {
         let sending = sends.get(i);
-        send(lanes, waiting, topology, who, sending.0, &sending.1);
+        send(lanes, waiting, topology, who, &sending);
     }
 }
 
@@ -171,18 +171,17 @@ fn send(
     waiting: &mut Waiting,
     topology: &Topology,
     who: u32,
-    local: u8,
-    signal: &Signal,
+    sending: &(u8, Signal),
 )
     requires laid { IsLaid topology.now (length lanes.old) }
     requires waiting { IsWaiting topology.now (signals_of lanes.old) waiting.old }
-    requires room { HasRoomFor lanes.old topology.now who local 1 }
-    ensures sent { signals_of lanes.new ≡ one_sent topology.now who (signals_of lanes.old) (local, signal.now) }
+    requires room { HasRoomFor lanes.old topology.now who sending.now.0 1 }
+    ensures sent { signals_of lanes.new ≡ one_sent topology.now who (signals_of lanes.old) sending.now }
     ensures waiting { IsWaiting topology.now (signals_of lanes.new) waiting.new }
     ensures room { (k count : ℕ) → HasRoom lanes.old k (count + 1) → HasRoom lanes.new k count }
 {
-    if let Some(slot) = topology.number(who, local) {
-        push_last(lanes, waiting, topology, far(slot), signal);
+    if let Some(slot) = topology.number(who, sending.0) {
+        push_last(lanes, waiting, topology, far(slot), &sending.1);
     }
 }
 
