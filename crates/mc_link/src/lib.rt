@@ -166,11 +166,9 @@ fn pass_descriptor(slot: &mut Slot, no: u8, got: &Option<Descriptor>, sends: &mu
 {
     if let Some(got) = got {
         if slot.state == State::Opened {
-            slot.send(Signal::Oack(*got));
-            sends.push(no, Signal::Oack(*got));
+            send_alone(slot, no, Signal::Oack(*got), sends);
         } else if !is_sent(&slot.sent, got) {
-            slot.send(Signal::Describe(*got));
-            sends.push(no, Signal::Describe(*got));
+            send_alone(slot, no, Signal::Describe(*got), sends);
         }
     }
 }
@@ -186,8 +184,7 @@ fn pass_selector(slot: &mut Slot, no: u8, heard: &Option<Selector>, sends: &mut 
 {
     if let (Some(heard), Some(got)) = (heard, slot.got) {
         if answers(heard, &got) && !is_chosen(&slot.sel_out, heard) {
-            slot.send(Signal::Select(*heard));
-            sends.push(no, Signal::Select(*heard));
+            send_alone(slot, no, Signal::Select(*heard), sends);
         }
     }
 }
