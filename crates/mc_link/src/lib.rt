@@ -189,8 +189,8 @@ fn pass_selector(slot: &mut Slot, no: u8, heard: &Option<Selector>, sends: &mut 
     }
 }
 
-// Whether the last descriptor that was sent is this one. It's compared apart from where it's copied, since the copy
-// then goes as a whole, and not field by field: what reads it next as a whole doesn't wait for it.
+// Whether the last descriptor that was sent is this one. Inlined, it would have the copy beside it made field by
+// field, and whoever reads that copy next, as a whole, would wait for it.
 #[inline(never)]
 fn is_sent(last: &Option<Descriptor>, got: &Descriptor) -> bool
     ensures { result ≡ option_eq is_same_descriptor last.now (Some got.now) }
@@ -198,7 +198,7 @@ fn is_sent(last: &Option<Descriptor>, got: &Descriptor) -> bool
     *last == Some(*got)
 }
 
-// Whether the last selector that was sent is this one, compared apart in the same way.
+// Whether the last selector that was sent is this one, apart for the same cause.
 #[inline(never)]
 fn is_chosen(last: &Option<Selector>, heard: &Selector) -> bool
     ensures { result ≡ option_eq is_same_selector last.now (Some heard.now) }
