@@ -4,6 +4,7 @@
 ghost use Rattle.std.specs.Prelude.{◌≡◌, ◌<◌, map, All, IfOk, IsTrue, Some};
 ghost use Rattle.std.specs.Option.{option_map};
 ghost use Rattle.mc_path_laws.specs.PathLaws.{IsQuietPath};
+ghost use Rattle.mc_path.specs.Reached.{AreReached};
 ghost use Rattle.mc_path.specs.Views.{end_view, shown_codec, is_flowing, path_flows, view_of};
 ghost use Rattle.mc_path.specs.Walks.{walk_from};
 ghost use Rattle.mc_model.specs.Paths.{end_goal_of, path_from, paths};
@@ -30,12 +31,30 @@ pub fn paths(alloc: Global, world: &World) -> Result<Vec<PathView>, AllocError>
 {
     world.keeps();
     let mut views = Vec::new(alloc);
+    let mut reached = vec![in alloc; false; world.slot_count()]?;
     for slot in 0..world.slot_count() {
-        if let Some(view) = path_from(world, slot as u32) {
+        if let Some(view) = next_path(world, &mut reached, slot as u32) {
             views.push(view)?;
         }
     }
     Ok(views)
+}
+
+// The path of which a slot is the lower end. Its other end is reached then, and so nobody walks from there: that walk
+// leads back to a lower slot.
+fn next_path(world: &World, reached: &mut [bool], low: u32) -> Option<PathView>
+    requires inside { low < slot_count world.now }
+    requires reached { AreReached world.now reached.old }
+    ensures path { result ≡ option_map (view_of world.now) (path_from world.now low) }
+    ensures reached { AreReached world.now reached.new }
+{
+    world.keeps();
+    if reached[low as usize] {
+        return None;
+    }
+    let path = path_from(world, low)?;
+    reached[path.high.slot as usize] = true;
+    Some(path)
 }
 
 // The path of which a slot is the lower end.

@@ -1,6 +1,10 @@
+use Rattle.mc_path.specs.Reached.{AreReached}
 use Rattle.mc_path.proofs.Shown.{ShownTo}
 use Rattle.mc_path.proofs.paths.Given as goal
 
--- the paths of the slots so far
+-- the paths of the slots so far, and the slots that these reached
 abbrev pub invariant-loop-slot : goal.invariant-loop-slot
-invariant-loop-slot l = ShownTo l.world l.slot l.views.items
+invariant-loop-slot l = record {
+  shown : ShownTo l.world l.slot l.views.items;
+  reached : AreReached l.world l.reached.items;
+}
