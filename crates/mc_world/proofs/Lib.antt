@@ -9,5 +9,6 @@ mod Tables
 mod TopologyLanes
 mod LaneFlags
 pub mod TakeSends
+mod Ringless
 mod WorldSteps
 mod Waits

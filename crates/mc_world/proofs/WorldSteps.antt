@@ -1,6 +1,7 @@
 -- The steps of a world, from what its boxes and lanes do.
-use Rattle.std.proofs.Common.{◌≡◌, ℕ, ◌<◌, if◌then◌else◌, Bool, true, false, Option, Some, None, IsSome, List, [], get_or, length, map, nat_lt, Vec, Result, Ok, Err, OnOk, refl, ap, sym, subst, ◌∙◌}
+use Rattle.std.proofs.Common.{◌≡◌, ℕ, ◌<◌, if◌then◌else◌, ◌&&◌, not, Bool, true, false, Option, Some, None, IsSome, List, [], get_or, length, map, nat_lt, Vec, Result, Ok, Err, OnOk, refl, ap, sym, subst, ◌∙◌}
 use Rattle.std.proofs.Math.ListN.{set}
+use Rattle.std.proofs.lemmas.Bool.{and_parts}
 use Rattle.std.proofs.lemmas.List.{length-map}
 use Rattle.std.specs.declared.alloc.Global.{Global}
 use Rattle.std.specs.Option.{option_map}
@@ -8,8 +9,10 @@ use Rattle.std.specs.Result.{is_err}
 use Rattle.mc_lane.specs.Queue.{Queue}
 use Rattle.mc_signal.specs.declared.Signal.{Signal}
 use Rattle.mc_signal.specs.declared.Tagged.{Tagged}
-use Rattle.mc_box.specs.BoxEvents.{BoxStep, box_event, is_enabled, is_take, is_version_end}
+use Rattle.mc_box.specs.BoxEvents.{BoxStep, box_event, is_enabled, is_take, is_version_end, turn_of}
 use Rattle.mc_box.specs.Boxes.{BoxState, slot_at}
+use Rattle.mc_box.specs.LinkFree.{is_linking}
+use Rattle.mc_model.specs.Rings.{IsLeastOnRing}
 use Rattle.mc_world.specs.Lanes.{all_sent, signals_of, without_front}
 use Rattle.mc_model.specs.Sound.{IsNumbered, IsSound}
 use Rattle.mc_model.specs.Steps.{after_making, after_pop, step, step_by, with_box}
@@ -25,6 +28,7 @@ use Rattle.mc_box.proofs.EventGoes.{event_goes}
 use Rattle.mc_laws.proofs.Numbers.{number_is}
 use Rattle.mc_laws.proofs.StepGoes.{below_test, front_step_goes}
 use Rattle.mc_laws.proofs.StepKeeps.{step_keeps_sound}
+use Rattle.mc_world.proofs.Ringless.{step_makes_none}
 use Rattle.mc_world.proofs.TopologyLanes.{sent_out_by}
 
 -- ---- slots and their numbers
@@ -111,13 +115,23 @@ pub act_is : (world : WorldState) (topology : Topology) (who : ℕ) (event : Eve
 act_is world topology who event step other goes at through =
     rw (act_by world who event other, goes) (ap (λ (w : WorldState). Some w) (sent_out_by step.sent (with_box world who step.after) topology who at through))
 
--- ---- a sound world after a step of one of its boxes
+-- ---- a world after a step of one of its boxes
 
+is_step : (world next : WorldState) (who : ℕ) (event : Event) → who < length world.boxes → step_by world who event ≡ Some next → step world (turn_of who event) ≡ Some next
+is_step world next who event here goes =
+    let there : nat_lt who (length world.boxes) ≡ true = below_test who (length world.boxes) here in
+    rw there goes
+
+-- it is sound
 pub stays_sound : (world next : WorldState) (who : ℕ) (event : Event) → IsSound world → who < length world.boxes → step_by world who event ≡ Some next → IsSound next
 stays_sound world next who event sound here goes =
-    let there : nat_lt who (length world.boxes) ≡ true = below_test who (length world.boxes) here in
-    let stepped : step world (record { who = who; event = event }) ≡ Some next = rw there goes in
-    step_keeps_sound world next (record { who = who; event = event }) sound stepped
+    step_keeps_sound world next (record { who = who; event = event }) sound (is_step world next who event here goes)
+
+-- and without a ring where there was none, unless the step links slots
+stays_ringless : (world next : WorldState) (who : ℕ) (event : Event) → IsSound world → who < length world.boxes → is_linking event ≡ false → step_by world who event ≡ Some next
+    → IsLeastOnRing world None → IsLeastOnRing next None
+stays_ringless world next who event sound here links goes none =
+    step_makes_none world next (record { who = who; event = event }) sound links (is_step world next who event here goes) none
 
 -- ---- the world that code leaves
 
@@ -144,13 +158,44 @@ act_made inside world who event step lanes has view other goes lanes_is =
     ∙ (ap (λ (w : WorldState). Some (put w inside.topology who step)) (sym view)
     ∙ ap (λ (l : List (List Tagged)). Some (record (world_state inside) { boxes = set inside.boxes.items who step.after; lanes = l })) (sym lanes_is))
 
--- it has the tables as before, and is sound, since a step of a sound world led to it
-pub step_tables : (inside : Inside) (world : WorldState) (who : ℕ) (event : Event) (boxes : Vec BoxState Global) (lanes : Vec (Queue Tagged) Global) (waiting : Waiting) → HasTables inside → world_state inside ≡ world
-    → who < length world.boxes → length boxes.items ≡ length inside.boxes.items → IsWaiting inside.topology (signals_of lanes.items) waiting
-    → step_by world who event ≡ Some (world_state (record inside { boxes = boxes; lanes = lanes; waiting = waiting })) → HasTables (record inside { boxes = boxes; lanes = lanes; waiting = waiting })
-step_tables inside world who event boxes lanes waiting has view here homes waits goes =
-    let kept : IsSound (world_state (record inside { boxes = boxes; lanes = lanes; waiting = waiting })) =
-    stays_sound world (world_state (record inside { boxes = boxes; lanes = lanes; waiting = waiting })) who event (subst (λ (w : WorldState). IsSound w) view has.sound) here goes in
+-- lanes that have the same signals leave what a world keeps
+pub lanes_tables : (inside : Inside) (lanes : Vec (Queue Tagged) Global) → HasTables inside → signals_of lanes.items ≡ signals_of inside.lanes.items → HasTables (record inside { lanes = lanes })
+lanes_tables inside lanes has same =
+    let signals : signals_of inside.lanes.items ≡ signals_of lanes.items = sym same in
+    record {
+      channels = has.channels;
+      places = has.places;
+      tunnels = has.tunnels;
+      found = has.found;
+      few = has.few;
+      homes = has.homes;
+      lanes = sym (length-map lanes.items (λ (lane : Queue Tagged). lane.items))
+          ∙ (ap (λ (l : List (List Tagged)). length l) same ∙ (length-map inside.lanes.items (λ (lane : Queue Tagged). lane.items) ∙ has.lanes));
+      waiting = subst (λ (l : List (List Tagged)). IsWaiting inside.topology l inside.waiting) signals has.waiting;
+      sound = subst (λ (l : List (List Tagged)). IsSound (record (world_state inside) { lanes = l })) signals has.sound;
+      ringless = λ remembered. subst (λ (l : List (List Tagged)). IsLeastOnRing (record (world_state inside) { lanes = l }) None) signals (has.ringless remembered);
+    }
+
+-- where it is remembered still, it was before, and the event links no slots
+pub still_remembered : (before after : Bool) (event : Event) → after ≡ (before && not (is_linking event)) → after ≡ true → (before ≡ true) × (is_linking event ≡ false)
+still_remembered before after event is remembered =
+    let parts = and_parts before (not (is_linking event)) (sym is ∙ remembered) in
+    (parts.0, not_true (is_linking event) parts.1)
+  where
+    not_true : (b : Bool) → not b ≡ true → b ≡ false
+    not_true true is = absurd (cc)
+    not_true false is = refl
+
+-- it has the tables as before, is sound, since a step of a sound world led to it, and has no ring where that is remembered still
+pub step_tables : (inside : Inside) (world : WorldState) (who : ℕ) (event : Event) (boxes : Vec BoxState Global) (lanes : Vec (Queue Tagged) Global) (waiting : Waiting) (ringless : Bool) → HasTables inside
+    → world_state inside ≡ world → who < length world.boxes → length boxes.items ≡ length inside.boxes.items → IsWaiting inside.topology (signals_of lanes.items) waiting
+    → (ringless ≡ true → (inside.ringless ≡ true) × (is_linking event ≡ false))
+    → step_by world who event ≡ Some (world_state (record inside { boxes = boxes; lanes = lanes; waiting = waiting }))
+    → HasTables (record inside { boxes = boxes; lanes = lanes; waiting = waiting; ringless = ringless })
+step_tables inside world who event boxes lanes waiting ringless has view here homes waits links goes =
+    let sound : IsSound world = subst (λ (w : WorldState). IsSound w) view has.sound in
+    let next : WorldState = world_state (record inside { boxes = boxes; lanes = lanes; waiting = waiting }) in
+    let kept : IsSound next = stays_sound world next who event sound here goes in
     record {
       channels = has.channels;
       places = has.places;
@@ -161,4 +206,7 @@ step_tables inside world who event boxes lanes waiting has view here homes waits
       lanes = sym (length-map lanes.items (λ (lane : Queue Tagged). lane.items)) ∙ kept.numbered.lanes;
       waiting = waits;
       sound = kept;
+      ringless = λ remembered.
+          let parts = links remembered in
+          stays_ringless world next who event sound here parts.1 goes (subst (λ (w : WorldState). IsLeastOnRing w None) view (has.ringless parts.0));
     }

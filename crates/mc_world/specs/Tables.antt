@@ -1,8 +1,9 @@
 -- What a world keeps: the tables beside its boxes and channels, and that it is sound.
-use Rattle.std.specs.Prelude.{◌≡◌, ℕ, List, ◌*◌, ◌^◌, ◌≤◌, length, map, position}
+use Rattle.std.specs.Prelude.{◌≡◌, ℕ, List, None, true, ◌*◌, ◌^◌, ◌≤◌, length, map, position}
 use Rattle.std.specs.List.{slice_get}
 use Rattle.mc_world.specs.Lanes.{numbers_of, signals_of}
 use Rattle.mc_world.specs.Waiting.{IsWaiting}
+use Rattle.mc_model.specs.Rings.{IsLeastOnRing}
 use Rattle.mc_model.specs.Sound.{IsSound}
 use Rattle.mc_model.specs.Worlds.{AreChannels, TunnelPlace, WorldState, is_place, tunnels_from, tunnels_within, places_among}
 use Rattle.mc_model.specs.declared.channel.Tunnel.{Tunnel}
@@ -19,7 +20,7 @@ channel_of tunnel = (tunnel.channel, tunnel.within)
 abbrev pub tunnels_by : ℕ → List Tunnel → List (ℕ × ℕ)
 tunnels_by channel tunnels = map channel_of (tunnels_within channel 0 tunnels)
 
--- the channels are within the limits, places and channels are found by number, numbers of slots by their boxes, those numbers fit, each channel has its two lanes, flags and counts say what waits on these, and the world is sound
+-- the channels are within the limits, places and channels are found by number, numbers of slots by their boxes, those numbers fit, each channel has its two lanes, flags and counts say what waits on these, the world is sound, and it has no ring where that is remembered
 pub record HasTables (inside : Inside) : Type 0 where
   pub channels : AreChannels inside.channels.items
   pub places : inside.topology.places.items ≡ places_among inside.channels.items
@@ -30,3 +31,4 @@ pub record HasTables (inside : Inside) : Type 0 where
   pub lanes : length inside.lanes.items ≡ 2 * length inside.channels.items
   pub waiting : IsWaiting inside.topology (signals_of inside.lanes.items) inside.waiting
   pub sound : IsSound (world_state inside)
+  pub ringless : inside.ringless ≡ true → IsLeastOnRing (world_state inside) None

@@ -38,6 +38,8 @@ pub struct World {
     lanes: Vec<Lane<Tagged>>,
     topology: Topology,
     waiting: Waiting,
+    // no slot stands on a ring; where this is false one may or not
+    ringless: bool,
     alloc: Global,
 }
 
@@ -83,6 +85,7 @@ impl World {
             lanes,
             topology,
             waiting,
+            ringless: true,
             alloc,
         })
     }

@@ -27,12 +27,26 @@ impl World {
         ensures has { has_ring self.now ≡ is_some result }
     {
         self.keeps();
+        if self.ringless {
+            return None;
+        }
         for slot in 0..self.slot_count() {
             if self.is_on_ring(slot as u32) {
                 return Some(slot as u32);
             }
         }
         None
+    }
+
+    /// The same as `ring`. Where there is none the world remembers it, until a link is set.
+    pub fn find_ring(&mut self) -> Option<u32>
+        ensures least { IsLeastOnRing self.new result }
+        ensures has { has_ring self.new ≡ is_some result }
+        ensures same { self.new ≡ self.old }
+    {
+        let found = self.ring();
+        self.ringless = found.is_none();
+        found
     }
 
     // Whether a slot stands on a ring, where none before it does. Two walks go from it, one each way, until one meets

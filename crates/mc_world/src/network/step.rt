@@ -1,7 +1,8 @@
 // One step of a world.
 
-ghost use Rattle.std.specs.Prelude.{◌≡◌, ◌↔◌, ◌<◌, Some, None, false, length, IsFalse, IsTrue, OnOk, OnErr};
+ghost use Rattle.std.specs.Prelude.{◌≡◌, ◌↔◌, ◌<◌, ◌&&◌, not, Some, None, false, length, IsFalse, IsTrue, OnOk, OnErr};
 ghost use Rattle.mc_box.specs.BoxEvents.{is_enabled, is_take, is_version_end, turn_of};
+ghost use Rattle.mc_box.specs.LinkFree.{is_linking};
 ghost use Rattle.mc_model.specs.Sound.{IsSound};
 ghost use Rattle.mc_world.specs.StepAnswers.{Answers, CannotHappen, LacksVersion};
 ghost use Rattle.mc_model.specs.Steps.{ends_version_at, step, step_by};
@@ -10,7 +11,7 @@ ghost use Rattle.mc_world.specs.declared.network.step.StepFault.TheVariants.{NoM
 use super::World;
 use crate::lanes::{make_room, make_room_by, relay, send_lane};
 use mc_box::limit::LAST_VERSION;
-use mc_box::{Event, MediaBox, MediaChange};
+use mc_box::{Change, Event, MediaBox, MediaChange};
 use mc_lane::Lane;
 use mc_slot::{SENDS_LIMIT, Sends};
 use std::alloc::AllocError;
@@ -123,8 +124,16 @@ impl World {
             who,
             &sends,
         );
+        self.ringless = stays_ringless(self.ringless, event);
         Ok(())
     }
+}
+
+// Whether it stays remembered that there is no ring: an event that links two slots may make one, and no other does.
+fn stays_ringless(ringless: bool, event: Event) -> bool
+    ensures { result ≡ (ringless && not (is_linking event)) }
+{
+    ringless && !matches!(event, Event::Set(Change::Link(..)))
 }
 
 // Whether an event is a Hear of a slot whose descriptor has the last version.

@@ -1,12 +1,14 @@
-use Rattle.std.proofs.Common.{◌≡◌, ◌*◌, ◌≤◌, ◌^◌, ap, [], length, map, position, ℕ, List, Vec, Global, ◌∙◌, subst, sym, rules, arith}
+use Rattle.std.proofs.Common.{◌≡◌, ◌*◌, ◌≤◌, ◌^◌, ap, [], length, map, position, ℕ, List, None, Vec, Global, ◌∙◌, subst, sym, rules, arith}
 use Rattle.std.proofs.Math.ListN.{replicate}
 use Rattle.std.proofs.lemmas.List.{length-map, length-replicate}
 use Rattle.mc_lane.specs.Queue.{Queue}
 use Rattle.mc_signal.specs.declared.Tagged.{Tagged}
 use Rattle.mc_box.specs.Boxes.{BoxState}
 use Rattle.mc_world.specs.Lanes.{origins, signals_of}
+use Rattle.mc_model.specs.Rings.{IsLeastOnRing}
 use Rattle.mc_model.specs.Sound.{IsSound}
 use Rattle.mc_model.specs.Worlds.{ChannelState, WorldState, first_world, is_place, places_among}
+use Rattle.mc_world.proofs.Ringless.{first_has_none}
 use Rattle.mc_world.proofs.SlotNumbers.{found_by}
 use Rattle.mc_laws.proofs.NewWorlds.{first_is_sound}
 use Rattle.mc_world.proofs.TunnelTables.{few_slots}
@@ -44,4 +46,6 @@ invariant_of-result c =
         flagged = none_flagged (record { places = c.in_ok-places.places; tunnels = c.in_ok-tunnels.tunnels; numbers = c.in_ok-numbers.numbers }) (signals_of c.in_ok-lanes.lanes.items) c.in_ok-waiting.waiting.flags.items (2 * length c.args.channels.items) none c.in_ok-waiting.ensures.none;
       };
       sound = subst (λ (world : WorldState). IsSound world) first (first_is_sound c.args.boxes.items c.args.channels.items c.requires.fresh c.requires.numbered);
+      ringless = λ remembered.
+          subst (λ (world : WorldState). IsLeastOnRing world None) first (first_has_none c.args.boxes.items c.args.channels.items c.requires.fresh c.requires.numbered);
     }

@@ -1,6 +1,23 @@
-use Rattle.std.proofs.Common.{◌≡◌, true, false, Some, None, refl, arith}
+use Rattle.std.proofs.Common.{◌≡◌, true, false, Some, None, refl, subst, arith}
+use Rattle.mc_model.specs.Rings.{IsLeastOnRing}
+use Rattle.mc_model.specs.Worlds.{WorldState}
 use Rattle.mc_laws.proofs.BothWays.{has_by, none_yet}
 use Rattle.mc_world.proofs.network.World.ring.Goals as goal
+
+-- it is remembered that there is none
+pub returns-then-self-clause-least : goal.returns-then-self-clause-least
+returns-then-self-clause-least c = subst (λ (w : WorldState). IsLeastOnRing w None) c.self.view_is (c.self.invariant.ringless c.if-self.true)
+
+pub returns-then-self-clause-has : goal.returns-then-self-clause-has
+returns-then-self-clause-has c =
+    has_by c.args.self.now None c.keeps.ensures.sound (subst (λ (w : WorldState). IsLeastOnRing w None) c.self.view_is (c.self.invariant.ringless c.if-self.true))
+
+pub returns-then-is_on_ring-clause-least : goal.returns-then-is_on_ring-clause-least
+returns-then-is_on_ring-clause-least c = record {
+  inside = omega (arith, c.loop-slot-test.true, c.slot_count-slot-end.ensures);
+  on = c.if-is_on_ring.ensures.0 refl;
+  least = c.loop-slot.invariant;
+}
 
 pub returns-then-is_on_ring-clause-has : goal.returns-then-is_on_ring-clause-has
 returns-then-is_on_ring-clause-has c =

@@ -1,4 +1,4 @@
-use Rattle.std.proofs.Common.{◌≡◌, ◌≤◌, ◌∙◌, ap, subst, sym, ℕ, length, drop, get_or, position, List, [], Some, arith, rules}
+use Rattle.std.proofs.Common.{◌≡◌, ◌≤◌, ◌∙◌, ap, refl, subst, sym, ℕ, length, drop, get_or, position, List, [], Some, arith, rules}
 use Rattle.std.proofs.lemmas.Result.{err_from_is_err_and}
 use Rattle.std.proofs.lemmas.List.{length-set}
 use Rattle.std.specs.Vec.{with_item, with_items}
@@ -19,7 +19,7 @@ use Rattle.mc_laws.proofs.Numbers.{number_is}
 use Rattle.mc_laws.proofs.StepKeeps.{front_is_taken}
 use Rattle.mc_world.proofs.Tables.{box_read}
 use Rattle.mc_world.proofs.TopologyLanes.{lane_same, tables_laid, tunnel_same}
-use Rattle.mc_world.proofs.WorldSteps.{front_found, number_inside, number_slot, step_tables, take_enabled, take_made}
+use Rattle.mc_world.proofs.WorldSteps.{front_found, number_inside, number_slot, lanes_tables, step_tables, take_enabled, take_made}
 use Rattle.mc_world.proofs.TakeSends.{take_room}
 use Rattle.mc_world.proofs.Waits.{behind_served}
 use Rattle.mc_world.proofs.network.World.take.Goals as goal
@@ -39,6 +39,16 @@ returns-in_err-make_room_by c =
       take_enabled c.args.self.now c.args.who c.args.local c.in-Some.slot c.in-Some-front_in.signal c.requires.sound (sym c.number.ensures ∙ c.in-Some.is) (front_found c.args.self.now c.in-Some.slot _ _ _ _ c.toward-toward.ensures.lane c.toward-toward.ensures.tunnel c.front_in.ensures c.in-Some-front_in.is),
       ap (λ (l : List (List Tagged)). record (world_state c.self.inside) { lanes = l }) lanes ∙ c.self.view_is,
     )
+
+pub invariant_of-self : goal.invariant_of-self
+invariant_of-self c =
+    lanes_tables c.self.inside (with_items c.self.inside.lanes c.make_room_by.new.lanes) c.self.invariant
+    (signals_kept c.self.inside.lanes c.deref_mut.result.now c.make_room_by.new.lanes c.deref_mut.ensures.value c.make_room_by.auto.lanes c.make_room_by.ensures.same)
+
+pub relay-requires-clause-waiting : goal.relay-requires-clause-waiting
+relay-requires-clause-waiting c =
+    let lanes = signals_kept c.self.inside.lanes c.deref_mut.result.now c.make_room_by.new.lanes c.deref_mut.ensures.value c.make_room_by.auto.lanes c.make_room_by.ensures.same in
+    subst (λ (l : List (List Tagged)). IsWaiting c.self.inside.topology l c.self.inside.waiting) (sym (ap (λ (l : List Lane). signals_of l) c.deref_mut-2.ensures.value ∙ lanes)) c.self.invariant.waiting
 
 pub send_take-requires-clause-here : goal.send_take-requires-clause-here
 send_take-requires-clause-here c =
@@ -106,9 +116,9 @@ pub invariant_of-self-2 : goal.invariant_of-self-2
 invariant_of-self-2 c =
     let lanes = twice_refilled c.self.inside.lanes c.deref_mut.result.now c.make_room_by.new.lanes c.deref_mut-2.result.now c.relay.new.lanes c.deref_mut.ensures.value c.make_room_by.auto.lanes c.deref_mut-2.ensures.value c.relay.auto.lanes in
     step_tables c.self.inside c.args.self.now c.args.who (Take c.args.local)
-    (with_item c.self.inside.boxes c.args.who c.send_take.new.self) (with_items (with_items c.self.inside.lanes c.make_room_by.new.lanes) c.relay.new.lanes) c.relay.new.waiting
+    (with_item c.self.inside.boxes c.args.who c.send_take.new.self) (with_items (with_items c.self.inside.lanes c.make_room_by.new.lanes) c.relay.new.lanes) c.relay.new.waiting c.self.inside.ringless
     c.self.invariant c.self.view_is c.requires.here (length-set c.self.inside.boxes.items c.args.who c.send_take.new.self)
-    (subst (λ (l : List Lane). IsWaiting c.self.inside.topology (signals_of l) c.relay.new.waiting) (sym lanes) c.relay.ensures.waiting) (stepped c)
+    (subst (λ (l : List Lane). IsWaiting c.self.inside.topology (signals_of l) c.relay.new.waiting) (sym lanes) c.relay.ensures.waiting) (λ remembered. (remembered, refl)) (stepped c)
 
 pub relay-requires-clause-served : goal.relay-requires-clause-served
 relay-requires-clause-served c =
