@@ -64,7 +64,7 @@ pub fn settle_one(
     if let Some(at) = use_up(&mut sitting, draws)? {
         return Err(SettleFault::VersionEnd(stopped(sitting, at)));
     }
-    if let Some(at) = sitting.settled.world.ring() {
+    if let Some(at) = sitting.settled.world.find_ring() {
         return Err(SettleFault::Ring(stopped(sitting, at)));
     }
     come_to_rest(&mut sitting, draws)?;

@@ -2,9 +2,9 @@ use Rattle.std.proofs.Common.{◌≡◌, ℕ, List, ◌∙◌, ap, refl, subst, 
 use Rattle.mc_box.specs.declared.event.Turn.{Turn}
 use Rattle.mc_world.specs.declared.settled.Settled.{Settled}
 use Rattle.mc_model.specs.Rings.{IsFirstOnRing, IsLeastOnRing}
-use Rattle.mc_model.specs.Worlds.{place}
+use Rattle.mc_model.specs.Worlds.{WorldState, place}
 use Rattle.mc_seq.specs.Commands.{commands_left}
-use Rattle.mc_seq.specs.Drawing.{RanOut, Sight, UsedUp, sight_of}
+use Rattle.mc_seq.specs.Drawing.{CameToRest, RanOut, Sight, UsedUp, sight_of}
 use Rattle.mc_seq.specs.Draws.{SettlesByDraws, StopsAtRing, StopsAtVersion}
 use Rattle.mc_laws.proofs.ShapesKept.{run_keeps_shape}
 use Rattle.mc_seq.specs.Retries.{retries_by_box}
@@ -34,21 +34,22 @@ returns-in-Some-clause-stops c =
           ∙ ap (place c.args.world) (sym c.stopped.ensures.at)),
     )
 
-pub returns-in-Some-ring-clause-stops : goal.returns-in-Some-ring-clause-stops
-returns-in-Some-ring-clause-stops c =
+pub returns-in-Some-find_ring-clause-stops : goal.returns-in-Some-find_ring-clause-stops
+returns-in-Some-find_ring-clause-stops c =
     let start : Sight = record { standing = first_standing c.args.world (commands_left c.in_ok-left.left) c.args.draws.now.state; turns = c.new-turns.result.items } in
     let begins : start.standing ≡ first_standing c.args.world c.args.batch.now c.args.draws.now.state = ap (λ (l : List Turn). first_standing c.args.world l c.args.draws.now.state) c.in_ok-left.ensures.left in
     let used : Sight = sight_of c.use_up.new.sitting c.use_up.new.draws.state in
     let first = subst (UsedUp start used) c.in_default.is c.in_ok-at.ensures.drew in
-    let least : IsFirstOnRing used.standing.world c.in-Some-ring.at = subst (IsLeastOnRing used.standing.world) c.in-Some-ring.is c.ring.ensures.least in
-    let stops : StopsAtRing c.args.world c.args.batch.now c.args.draws.now.state used.turns used.standing.draws c.in-Some-ring.at =
-    ring_is c.args.world c.args.batch.now c.args.draws.now.state c.in-Some-ring.at start used
+    let least : IsFirstOnRing used.standing.world c.in-Some-find_ring.at = subst (IsLeastOnRing used.standing.world) c.in-Some-find_ring.is (subst (λ (w : WorldState). IsLeastOnRing w c.find_ring.result) c.find_ring.ensures.same c.find_ring.ensures.least) in
+    let stops : StopsAtRing c.args.world c.args.batch.now c.args.draws.now.state used.turns used.standing.draws c.in-Some-find_ring.at =
+    ring_is c.args.world c.args.batch.now c.args.draws.now.state c.in-Some-find_ring.at start used
     begins c.new-turns.ensures.items c.requires.allowed first.0 first.1 least in (
-      subst (λ (at : ℕ). StopsAtRing c.args.world c.args.batch.now c.args.draws.now.state c.stopped-in-Some-ring.result.turns.items used.standing.draws at) (sym c.stopped-in-Some-ring.ensures.at)
-          (subst (λ (turns : List Turn). StopsAtRing c.args.world c.args.batch.now c.args.draws.now.state turns used.standing.draws c.in-Some-ring.at) (sym c.stopped-in-Some-ring.ensures.turns) stops),
-      c.stopped-in-Some-ring.ensures.place
-          ∙ (ring_placed c.args.world c.args.batch.now c.args.draws.now.state c.in-Some-ring.at start used begins c.new-turns.ensures.items c.keeps.ensures.sound first.0
-          ∙ ap (place c.args.world) (sym c.stopped-in-Some-ring.ensures.at)),
+      subst (λ (at : ℕ). StopsAtRing c.args.world c.args.batch.now c.args.draws.now.state c.stopped-in-Some-find_ring.result.turns.items used.standing.draws at) (sym c.stopped-in-Some-find_ring.ensures.at)
+          (subst (λ (turns : List Turn). StopsAtRing c.args.world c.args.batch.now c.args.draws.now.state turns used.standing.draws c.in-Some-find_ring.at) (sym c.stopped-in-Some-find_ring.ensures.turns) stops),
+      c.stopped-in-Some-find_ring.ensures.place
+          ∙ (ap (λ (w : WorldState). place w c.in-Some-find_ring.at) c.find_ring.ensures.same
+          ∙ ring_placed c.args.world c.args.batch.now c.args.draws.now.state c.in-Some-find_ring.at start used begins c.new-turns.ensures.items c.keeps.ensures.sound first.0
+          ∙ ap (place c.args.world) (sym c.stopped-in-Some-find_ring.ensures.at)),
     )
 
 pub come_to_rest-requires-2-clause-kept : goal.come_to_rest-requires-2-clause-kept
@@ -65,12 +66,14 @@ done_is c =
     let used : Sight = sight_of c.use_up.new.sitting c.use_up.new.draws.state in
     let first = subst (UsedUp start used) c.in_default.is c.in_ok-at.ensures.drew in
     let rested : Sight = sight_of c.come_to_rest.new.sitting c.come_to_rest.new.draws.state in
+    let rests : CameToRest used rested =
+    subst (λ (w : WorldState). CameToRest (record used { standing = record used.standing { world = w } }) rested) c.find_ring.ensures.same c.in_ok-come_to_rest.ensures.rests in
     let again : Sight = record { standing = record rested.standing { world = c.retry_by_box.new.settled.world }; turns = c.retry_by_box.new.settled.turns.items } in
     let ended : Sight = sight_of c.come_to_rest-2.new.sitting c.come_to_rest-2.new.draws.state in
     let scheduled : SettlesByDraws c.args.world c.args.batch.now c.args.draws.now.state ended.standing.draws c.come_to_rest-2.new.sitting.settled =
     scheduled_is c.args.world c.retry_by_box.new.settled.world c.args.batch.now c.args.draws.now.state start used rested again ended
     (ap (λ (l : List Turn). first_standing c.args.world l c.args.draws.now.state) c.in_ok-left.ensures.left) c.new-turns.ensures.items
-    first.0 c.in_ok-come_to_rest.ensures.rests refl c.in_ok-retry_by_box.ensures.made.ran c.in_ok-retry_by_box.ensures.made.logged c.in_ok-come_to_rest-2.ensures.rests in
+    first.0 rests refl c.in_ok-retry_by_box.ensures.made.ran c.in_ok-retry_by_box.ensures.made.logged c.in_ok-come_to_rest-2.ensures.rests in
     subst (λ (done : Settled). SettlesByDraws c.args.world c.args.batch.now c.args.draws.now.state ended.standing.draws done) (sym c.settled_by.ensures) scheduled
 
 pub returns-clause-scheduled : goal.returns-clause-scheduled
