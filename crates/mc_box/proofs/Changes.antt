@@ -112,7 +112,7 @@ same_medium_by Audio Video is = absurd (cc)
 same_medium_by Video Audio is = absurd (cc)
 
 -- what may be linked
-pub record Fits (box : BoxState) (first second : ℕ) : Type 0 where
+pub record MayLink (box : BoxState) (first second : ℕ) : Type 0 where
   pub feature : box.kind ≡ Feature
   pub first_in : first < length box.slots
   pub second_in : second < length box.slots
@@ -125,7 +125,7 @@ slot_inside box local is = grind (arith, common_steps)
 not_eq : (a b : ℕ) → not (a == b) ≡ true → a ≢ b
 not_eq a b is = λ same. let test : (a == b) ≡ true = eq-eqb a b same in cc
 
-pub fits : (box : BoxState) (first second : ℕ) → may_link box first second ≡ true → Fits box first second
+pub fits : (box : BoxState) (first second : ℕ) → may_link box first second ≡ true → MayLink box first second
 fits box first second is =
     let five = and_parts (is_feature box.kind && is_slot box first && is_slot box second && not (first == second)) (is_same_medium (slot_at box first).medium (slot_at box second).medium) is in
     let four = and_parts (is_feature box.kind && is_slot box first && is_slot box second) (not (first == second)) five.0 in

@@ -28,7 +28,7 @@ use Rattle.mc_box.specs.declared.limit.TheConstants.{LAST_VERSION}
 use Rattle.mc_box.specs.declared.setup.SlotMedia.{SlotMedia}
 use Rattle.mc_box.proofs.Changes.{change_wired, slot_inside}
 use Rattle.mc_box.proofs.Folds.{goals_settle}
-use Rattle.mc_box.proofs.Held.{elsewhere_rests, held, Lacks, lacks_first, own_put, RestsBut, rests_same, sender_put, wired_slot, with_slots}
+use Rattle.mc_box.proofs.Held.{elsewhere_rests, held, Lacks, lacks_first, own_put, RestsBut, rests_same, sender_put, wired_slot, box_with}
 use Rattle.mc_box.proofs.Options.{else_some, if_some, map_some, then_some}
 use Rattle.mc_box.proofs.Sums.{changed_twice}
 use Rattle.mc_box.proofs.GoalTurns.{turned}
@@ -45,7 +45,7 @@ pub turn_sound : (box : BoxState) (local : ℕ) (cause : Cause) (turn : BoxStep)
     → RestsBut box (held (goal_at box local) local) → goal_step box local cause ≡ Some turn → IsSoundBox turn.after
 turn_sound box local cause turn wired inside but goes =
     let made = turned box local cause turn wired inside goes in
-    let rests : RestsBut (with_slots box made.slots) [] = made.rests [] (λ k lacks. but k (lacks_first k (held (goal_at box local) local) [] lacks)) in
+    let rests : RestsBut (box_with box made.slots) [] = made.rests [] (λ k lacks. but k (lacks_first k (held (goal_at box local) local) [] lacks)) in
     subst (λ (b : BoxState). IsSoundBox b) (sym made.is) (record { wired = made.wired; rests = λ k. rests k tt })
 
 -- a turn sends at most two signals for each slot that its goal holds

@@ -11,7 +11,7 @@ use Rattle.mc_box.specs.BoxSound.{IsSoundBox, IsWired}
 use Rattle.mc_box.specs.Boxes.{BoxState, goal_at, with_goals}
 use Rattle.mc_box.specs.Goals.{changed_from, changed_slots, has_turn, most_signals}
 use Rattle.mc_box.proofs.Changes.{start_rests, todo_of}
-use Rattle.mc_box.proofs.Held.{RestsBut, with_slots}
+use Rattle.mc_box.proofs.Held.{RestsBut, box_with}
 use Rattle.mc_box.proofs.Options.{map_some, then_some}
 use Rattle.mc_box.proofs.GoalTurns.{turned}
 use Rattle.mc_slot.specs.declared.Cause.TheVariants.{Push}
@@ -46,7 +46,7 @@ turns_end box step wired but is =
     subst (λ (s : BoxStep). Settled box [] s) is (record { sound = record { wired = wired; rests = λ k. but k tt }; few = omega arith })
 
 turns_next : (box : BoxState) (local : ℕ) (locals : List ℕ) (slots : List Slot) (turn more step : BoxStep) → length turn.sent ≤ most_signals (goal_at box local)
-    → Settled (with_slots box slots) locals more → sends_first turn.sent more ≡ step → Settled box (local ∷ locals) step
+    → Settled (box_with box slots) locals more → sends_first turn.sent more ≡ step → Settled box (local ∷ locals) step
 turns_next box local locals slots turn more step few rest is =
     subst (λ (s : BoxStep). Settled box (local ∷ locals) s) is
     (record { sound = rest.sound; few = omega (arith, length-append turn.sent more.sent, few, rest.few) })
@@ -59,7 +59,7 @@ turns_settle (local ∷ locals) box step wired inside but goes =
     let two = map_some (sends_first one.0.sent) (goal_steps one.0.after locals) step one.2 in
     let made = turned box local Push one.0 wired inside.0 one.1 in
     turns_next box local locals made.slots one.0 two.0 step made.few
-    (turns_settle locals (with_slots box made.slots) two.0 made.wired (subst (λ (n : ℕ). AreInside n locals) (sym made.size) inside.1)
+    (turns_settle locals (box_with box made.slots) two.0 made.wired (subst (λ (n : ℕ). AreInside n locals) (sym made.size) inside.1)
     (made.rests (todo_of box.goals locals) but)
     (subst (λ (b : BoxState). goal_steps b locals ≡ Some two.0) made.is two.1))
     two.2

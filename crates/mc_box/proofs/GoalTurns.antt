@@ -24,7 +24,7 @@ use Rattle.mc_box.specs.BoxEvents.{BoxStep, end_step, goal_step, pair_step, side
 use Rattle.mc_box.specs.BoxSound.{IsWired, RestsAt}
 use Rattle.mc_box.specs.Goals.{most_signals}
 use Rattle.mc_box.specs.Boxes.{BoxState, no_slot, slot_at, goal_at, media_at, own, sender, with_slot}
-use Rattle.mc_box.proofs.Held.{at_max, at_min, elsewhere_rests, held, Lacks, own_put, put_all, RestsBut, rests_there, rests_turned, sender_put, wired_slot, wired_slots, with_slots}
+use Rattle.mc_box.proofs.Held.{at_max, at_min, elsewhere_rests, held, Lacks, own_put, put_all, RestsBut, rests_there, rests_turned, sender_put, wired_slot, wired_slots, box_with}
 use Rattle.mc_box.proofs.Options.{map_some, then_some}
 
 -- ---- what sending leaves
@@ -110,10 +110,10 @@ turn_is (Link partner) box local cause step goes =
 -- the slots that the goal holds come to rest, and all else stays as it was
 pub record Turned (goal : SlotGoal) (box : BoxState) (local : ℕ) (step : BoxStep) : Type 0 where
   pub slots : List Slot
-  pub is : step.after ≡ with_slots box slots
+  pub is : step.after ≡ box_with box slots
   pub size : length slots ≡ length box.slots
-  pub wired : IsWired (with_slots box slots)
-  pub rests : (todo : List ℕ) → RestsBut box (held goal local ++ todo) → RestsBut (with_slots box slots) todo
+  pub wired : IsWired (box_with box slots)
+  pub rests : (todo : List ℕ) → RestsBut box (held goal local ++ todo) → RestsBut (box_with box slots) todo
   pub few : length step.sent ≤ most_signals goal
 
 -- an end, when it has sent
@@ -179,17 +179,17 @@ pair_rests box low high closed first second wired order inside one two =
 
 link_slot_rests : (box : BoxState) (local partner k : ℕ) (slots : List Slot) (todo : List ℕ) → IsWired box → goal_at box local ≡ Link partner
     → ((j : ℕ) → Lacks j (local ∷ partner ∷ []) → get_or slots j no_slot ≡ slot_at box j)
-    → RestsAt (Link partner) (with_slots box slots) local
-    → RestsBut box (local ∷ partner ∷ todo) → Lacks k todo → RestsAt (goal_at box k) (with_slots box slots) k
+    → RestsAt (Link partner) (box_with box slots) local
+    → RestsBut box (local ∷ partner ∷ todo) → Lacks k todo → RestsAt (goal_at box k) (box_with box slots) k
 link_slot_rests box local partner k slots todo wired is same rest but lacks = elim (cases_eq k local) [
   | inl here ↦
-      subst (λ (j : ℕ). RestsAt (goal_at box j) (with_slots box slots) j) (sym here)
-      (subst (λ (g : SlotGoal). RestsAt g (with_slots box slots) local) (sym is) rest)
+      subst (λ (j : ℕ). RestsAt (goal_at box j) (box_with box slots) j) (sym here)
+      (subst (λ (g : SlotGoal). RestsAt g (box_with box slots) local) (sym is) rest)
   | inr apart ↦ elim (cases_eq k partner) [
     | inl there ↦
-        subst (λ (j : ℕ). RestsAt (goal_at box j) (with_slots box slots) j) (sym there)
-        (subst (λ (g : SlotGoal). RestsAt g (with_slots box slots) partner) (sym (wired.links local partner is).back)
-        (rests_turned (with_slots box slots) local partner rest))
+        subst (λ (j : ℕ). RestsAt (goal_at box j) (box_with box slots) j) (sym there)
+        (subst (λ (g : SlotGoal). RestsAt g (box_with box slots) partner) (sym (wired.links local partner is).back)
+        (rests_turned (box_with box slots) local partner rest))
     | inr beyond ↦
         elsewhere_rests (Link partner) box slots local k wired is same (apart, (beyond, tt)) (but k (apart, (beyond, lacks)))
   ]
@@ -207,7 +207,7 @@ pair_turned box local partner low high closed step wired is low_is high_is order
     let medium_high = all_medium (sent_by_second (link_turn (slot_at box low) (slot_at box high) closed)) (slot_at box high) form.second form.second_goes in
     let size : length (set (set box.slots low form.first) high form.second) ≡ length box.slots =
     length-set (set box.slots low form.first) high form.second ∙ length-set box.slots low form.first in
-    let rest : RestsAt (Link partner) (with_slots box (set (set box.slots low form.first) high form.second)) local =
+    let rest : RestsAt (Link partner) (box_with box (set (set box.slots low form.first) high form.second)) local =
     subst (λ (i : ℕ). IsLinkAtRest (get_or (set (set box.slots low form.first) high form.second) i no_slot) (get_or (set (set box.slots low form.first) high form.second) (max local partner) no_slot)) low_is
     (subst (λ (j : ℕ). IsLinkAtRest (get_or (set (set box.slots low form.first) high form.second) low no_slot) (get_or (set (set box.slots low form.first) high form.second) j no_slot)) high_is
     (pair_rests box low high closed form.first form.second wired order inside form.first_goes form.second_goes)) in

@@ -43,8 +43,8 @@ max_turned a b = omega arith
 
 -- ---- a box with other slots
 
-abbrev pub with_slots : BoxState → List Slot → BoxState
-with_slots box slots = record box { slots = slots }
+abbrev pub box_with : BoxState → List Slot → BoxState
+box_with box slots = record box { slots = slots }
 
 -- the own descriptor reads neither slots nor goals, and one slot's media alone
 pub own_put : (kind : Kind) (box : BoxState) (slots : List Slot) (goals : List SlotGoal) (list : List SlotMedia) (media : SlotMedia) (local : ℕ)
@@ -70,7 +70,7 @@ put_all P slots local slot inside here there k = elim (cases_eq k local) [
 
 -- slots of the same media that keep what their states allow leave a box wired
 pub wired_slots : (box : BoxState) (slots : List Slot) → IsWired box → length slots ≡ length box.slots
-    → ((k : ℕ) → Kept (get_or slots k no_slot) × ((get_or slots k no_slot).medium ≡ (slot_at box k).medium)) → IsWired (with_slots box slots)
+    → ((k : ℕ) → Kept (get_or slots k no_slot) × ((get_or slots k no_slot).medium ≡ (slot_at box k).medium)) → IsWired (box_with box slots)
 wired_slots box slots wired size each = record {
   whole = record { goals = wired.whole.goals ∙ sym size; media = wired.whole.media ∙ sym size };
   few = subst (λ (n : ℕ). n ≤ SLOT_LIMIT) (sym size) wired.few;
@@ -168,9 +168,9 @@ held_apart (Link other) box local k partner wired is linked lacks =
 -- a goal that doesn't hold the slots that change rests as before
 pub elsewhere_rests : (goal : SlotGoal) (box : BoxState) (slots : List Slot) (local k : ℕ) → IsWired box → goal_at box local ≡ goal
     → ((j : ℕ) → Lacks j (held goal local) → get_or slots j no_slot ≡ slot_at box j) → Lacks k (held goal local)
-    → RestsAt (goal_at box k) box k → RestsAt (goal_at box k) (with_slots box slots) k
+    → RestsAt (goal_at box k) box k → RestsAt (goal_at box k) (box_with box slots) k
 elsewhere_rests goal box slots local k wired is same lacks rests =
-    rests_same (goal_at box k) box (with_slots box slots) k
+    rests_same (goal_at box k) box (box_with box slots) k
     (record {
       slot = same k lacks;
       mine = own_put box.kind box slots box.goals box.media (media_at box k) k;

@@ -9,7 +9,7 @@ use Rattle.mc_slot.specs.Moves.{slot_send_all}
 use Rattle.mc_slot.specs.declared.Slot.{Slot}
 use Rattle.mc_box.specs.BoxEvents.{Appends, pair_step}
 use Rattle.mc_box.specs.Boxes.{BoxState, no_slot, slot_at}
-use Rattle.mc_box.proofs.Held.{with_slots}
+use Rattle.mc_box.proofs.Held.{box_with}
 
 -- the first of the rest is the one at the seam
 set_seam : (xs : List Slot) (at : ℕ) (x : Slot) → at < length xs → take at xs ++ set (drop at xs) 0 x ≡ set xs at x
@@ -44,7 +44,7 @@ pub pair_made : (box : BoxState) (low high : ℕ) (closed : Option Side) (a b fi
     → a ≡ slot_at box low → b ≡ slot_at box high → after ≡ set (set box.slots low first) high second
     → slot_send_all a (sent_by_first (link_turn a b closed)) ≡ Some first → slot_send_all b (sent_by_second (link_turn a b closed)) ≡ Some second
     → items ≡ before ++ map (with_number low high) (link_turn a b closed)
-    → Appends (pair_step box low high closed) (with_slots box after) before items
+    → Appends (pair_step box low high closed) (box_with box after) before items
 pair_made box low high closed a b first second after before items a_is b_is after_is first_goes second_goes sends =
     let one : slot_send_all (slot_at box low) (sent_by_first (link_turn (slot_at box low) (slot_at box high) closed)) ≡ Some first =
     subst (λ (t : Slot). slot_send_all (slot_at box low) (sent_by_first (link_turn (slot_at box low) t closed)) ≡ Some first) b_is

@@ -22,7 +22,7 @@ use Rattle.mc_box.specs.BoxSound.{IsWired}
 use Rattle.mc_box.specs.Boxes.{BoxState, no_slot, slot_at, goal_at, own, sender, with_slot}
 use Rattle.mc_box.proofs.Folds.{AreInside}
 use Rattle.mc_box.proofs.GoalTurns.{end_form, pair_form, pair_else, pair_high, pair_low, turned}
-use Rattle.mc_box.proofs.Held.{at_max, with_slots}
+use Rattle.mc_box.proofs.Held.{at_max, box_with}
 use Rattle.mc_box.proofs.Options.{map_some, then_some}
 use Rattle.mc_box.proofs.SentBy.{sent_by-append, sent_by_own, sent_by_other, sent_by_low, sent_by_high, sent_by_neither}
 
@@ -46,7 +46,7 @@ make_more first second third one two = record {
 }
 
 -- other slots make no other make
-pub make_slots : (box : BoxState) (slots : List Slot) → length slots ≡ length box.slots → IsSameMake (with_slots box slots) box
+pub make_slots : (box : BoxState) (slots : List Slot) → length slots ≡ length box.slots → IsSameMake (box_with box slots) box
 make_slots box slots size =
     record { alike = record { kind = refl; number = refl; receives = refl; sends = refl; slots = size }; goals = refl; media = refl; origins = λ local. refl }
 

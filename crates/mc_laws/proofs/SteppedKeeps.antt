@@ -16,10 +16,10 @@ use Rattle.mc_laws.proofs.Numbers.{far_back}
 use Rattle.mc_laws.proofs.SentOut.{served_append}
 
 -- the world after a step has the channels of the one before
-abbrev after : WorldState → List BoxState → List (List Tagged) → WorldState
-after world boxes lanes = record world { boxes = boxes; lanes = lanes }
+abbrev moved_on : WorldState → List BoxState → List (List Tagged) → WorldState
+moved_on world boxes lanes = record world { boxes = boxes; lanes = lanes }
 
-pub after_is : (old new : WorldState) (who : ℕ) → Stepped old new who → new ≡ after old new.boxes new.lanes
+pub after_is : (old new : WorldState) (who : ℕ) → Stepped old new who → new ≡ moved_on old new.boxes new.lanes
 after_is old new who stepped = ap (λ (channels : List ChannelState). record new { channels = channels }) stepped.channels
 
 -- ---- tunnels
@@ -50,7 +50,7 @@ tunnel_kept old new who s step sound inside =
 pub tunnels_stay : (old new : WorldState) (who : ℕ) → Stepped old new who → TunnelsSound old → TunnelsSound new
 tunnels_stay old new who step sound =
     subst (λ (w : WorldState). TunnelsSound w) (sym (after_is old new who step))
-    (λ s inside. tunnel_kept old (after old new.boxes new.lanes) who s (subst (λ (w : WorldState). Stepped old w who) (after_is old new who step) step) sound inside)
+    (λ s inside. tunnel_kept old (moved_on old new.boxes new.lanes) who s (subst (λ (w : WorldState). Stepped old w who) (after_is old new who step) step) sound inside)
 
 -- each slot keeps its medium and its side, since its tunnel is sound with it before and after
 pub slot_stays : (old new : WorldState) (who s : ℕ) → Stepped old new who → TunnelsSound old → s < slot_count old
@@ -68,18 +68,18 @@ box_stays new old make whole = record {
   media = make.media ∙ (whole.media ∙ sym make.alike.slots);
 }
 
-numbered_after : (old : WorldState) (boxes : List BoxState) (lanes : List (List Tagged)) (who : ℕ) → Stepped old (after old boxes lanes) who → TunnelsSound old → IsNumbered old → IsNumbered (after old boxes lanes)
+numbered_after : (old : WorldState) (boxes : List BoxState) (lanes : List (List Tagged)) (who : ℕ) → Stepped old (moved_on old boxes lanes) who → TunnelsSound old → IsNumbered old → IsNumbered (moved_on old boxes lanes)
 numbered_after old boxes lanes who step sound numbered = record {
   boxes = λ box below. (step.makes box).alike.number ∙ numbered.boxes box (subst (λ (n : ℕ). box < n) step.count below);
-  whole = λ box below. box_stays (box_at (after old boxes lanes) box) (box_at old box) (step.makes box) (numbered.whole box (subst (λ (n : ℕ). box < n) step.count below));
+  whole = λ box below. box_stays (box_at (moved_on old boxes lanes) box) (box_at old box) (step.makes box) (numbered.whole box (subst (λ (n : ℕ). box < n) step.count below));
   lanes = step.lane_count ∙ numbered.lanes;
   placed = λ s inside. subst (λ (n : ℕ). (place old s).0 < n) (sym step.count) (numbered.placed s inside);
   slots = λ s inside. subst (λ (n : ℕ). (place old s).1 < n) (sym (step.makes (place old s).0).alike.slots) (numbered.slots s inside);
   once = numbered.once;
   all = λ box local below within. numbered.all box local (subst (λ (n : ℕ). box < n) step.count below) (subst (λ (n : ℕ). local < n) (step.makes box).alike.slots within);
   origins = λ s inside. (step.makes (place old s).0).origins (place old s).1 ∙ numbered.origins s inside;
-  media = λ s inside. (slot_stays old (after old boxes lanes) who s step sound inside).0 ∙ numbered.media s inside;
-  sides = λ s inside. (slot_stays old (after old boxes lanes) who s step sound inside).1 ∙ numbered.sides s inside;
+  media = λ s inside. (slot_stays old (moved_on old boxes lanes) who s step sound inside).0 ∙ numbered.media s inside;
+  sides = λ s inside. (slot_stays old (moved_on old boxes lanes) who s step sound inside).1 ∙ numbered.sides s inside;
 }
 
 -- all stays numbered
@@ -96,7 +96,7 @@ shape_stays old new who step = record { channels = step.channels; boxes = step.c
 
 -- other boxes and lanes don't matter
 served_put : (world : WorldState) (boxes : List BoxState) (lanes : List (List Tagged)) (lane : ℕ) (signals : List Tagged)
-    → AllServed world lane signals → AllServed (after world boxes lanes) lane signals
+    → AllServed world lane signals → AllServed (moved_on world boxes lanes) lane signals
 served_put world boxes lanes lane [] served = tt
 served_put world boxes lanes lane (tagged ∷ rest) served =
     ((served.0.0, record { inside = served.0.1.inside; leads = served.0.1.leads; within = served.0.1.within }), served_put world boxes lanes lane rest served.1)

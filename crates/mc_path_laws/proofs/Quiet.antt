@@ -61,7 +61,7 @@ then_flowing world s t (inl closed) never = absurd (never closed)
 then_flowing world s t (inr flowing) never = flowing.0
 
 -- the ends are alike, and the slots that a walk within so many tunnels goes over are as they are
-record IsAlike (world : WorldState) (most s t : ℕ) : Type 0 where
+record IsAlikeAlong (world : WorldState) (most s t : ℕ) : Type 0 where
   ends : Alike world s t
   along : (state : State) → (slot_of world s).state ≡ state → AllIn world state (both_sides (walk world (Some s) most))
 
@@ -70,7 +70,7 @@ alike_by : (world : WorldState) (most s t : ℕ) (slots : List (Slot × Slot)) �
     → ((state : State) → AllAre state ((slot_of world s, slot_of world (far s)) ∷ slots) → AllIn world state (both_sides (walk world (Some s) most)))
     → AllAre Closed ((slot_of world s, slot_of world (far s)) ∷ slots)
     ⊎ FlowingChain (slot_of world s) (slot_of world (far s)) slots (own_descriptor world s) (own_descriptor world t) (own_sender world s) (own_sender world t)
-    → IsAlike world most s t
+    → IsAlikeAlong world most s t
 alike_by world most s t slots last all (inl closed) = record {
   ends = inl (record { low = closed.0; high = ap (λ (a : Slot). a.state) (sym last) ∙ end_is Closed slots (slot_of world (far s)) closed.1 closed.2 });
   along = λ state is. subst (λ (st : State). AllIn world st (both_sides (walk world (Some s) most))) (sym closed.0 ∙ is) (all Closed closed);
@@ -88,7 +88,7 @@ alike_by world most s t slots last all (inr flows) = record {
 
 -- from a tunnel on, by what is beyond it
 alike_beyond : (world : WorldState) (most s t : ℕ) → IsSound world → IsTrue (is_quiet world) → s < slot_count world → goal_of world s ≡ End (end_goal world s)
-    → Beyond world most (far s) t → IsAlike world (suc most) s t
+    → Beyond world most (far s) t → IsAlikeAlong world (suc most) s t
 alike_beyond world most s t sound quiet inside aims more =
     alike_by world (suc most) s t more.slots more.last (λ state are. both_and world most s state are.0 are.1 (more.all state are.2))
     (quiet_chain (end_goal world s) (end_goal world t) (own_descriptor world s) (own_descriptor world t) (own_sender world s) (own_sender world t) (slot_of world s) (slot_of world (far s)) more.slots
@@ -97,7 +97,7 @@ alike_beyond world most s t sound quiet inside aims more =
 
 -- what a walk from an end leads to: slots that are alike, and an end
 record Leads (world : WorldState) (most s t : ℕ) : Type 0 where
-  alike : IsAlike world most s t
+  alike : IsAlikeAlong world most s t
   inside : t < slot_count world
   aims : goal_of world t ≡ End (end_goal world t)
 
@@ -112,7 +112,7 @@ walk_leads (suc most) world s t sound quiet inside aims walk =
 -- ---- a path
 
 -- what holds of a path whose ends are alike and at rest
-path_by : (world : WorldState) (s t : ℕ) → Rests world s (end_goal world s) → Rests world t (end_goal world t) → IsAlike world (length (all_tunnels world)) s t → IsQuietPath world (record { low = s; high = t })
+path_by : (world : WorldState) (s t : ℕ) → Rests world s (end_goal world s) → Rests world t (end_goal world t) → IsAlikeAlong world (length (all_tunnels world)) s t → IsQuietPath world (record { low = s; high = t })
 path_by world s t rest_low rest_high alike = record {
   alike = alike.ends;
   along = λ state are. alike.along state are.low;

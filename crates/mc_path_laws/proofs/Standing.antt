@@ -22,20 +22,20 @@ use Rattle.mc_laws.proofs.Numbers.{some_same}
 -- ---- slots of a list
 
 -- whether a slot is one of these
-abbrev has : ℕ → List ℕ → Bool
-has n slots = list_any (λ k. k == n) slots
+abbrev is_among : ℕ → List ℕ → Bool
+is_among n slots = list_any (λ k. k == n) slots
 
-has_first : (n : ℕ) (slots : List ℕ) → has n (n ∷ slots) ≡ true
+has_first : (n : ℕ) (slots : List ℕ) → is_among n (n ∷ slots) ≡ true
 has_first n slots = grind (arith, common_steps)
 
-has_reverse : (n : ℕ) (slots : List ℕ) → has n (reverse slots) ≡ has n slots
+has_reverse : (n : ℕ) (slots : List ℕ) → is_among n (reverse slots) ≡ is_among n slots
 has_reverse n slots = sym (list_any-IsPermutation (λ (k : ℕ). k == n) slots (reverse slots) (IsPermutation-reverse slots))
 
 true_or : (a b : Bool) → a ≡ true → (a || b) ≡ true
 true_or a b is = rw (is) refl
 
-has_before : (n : ℕ) (slots beyond : List ℕ) → has n slots ≡ true → has n (slots ++ beyond) ≡ true
-has_before n slots beyond is = list_any-append (λ (k : ℕ). k == n) slots beyond ∙ true_or (has n slots) (has n beyond) is
+has_before : (n : ℕ) (slots beyond : List ℕ) → is_among n slots ≡ true → is_among n (slots ++ beyond) ≡ true
+has_before n slots beyond is = list_any-append (λ (k : ℕ). k == n) slots beyond ∙ true_or (is_among n slots) (is_among n beyond) is
 
 -- it is the first, or one of the others
 or_else : (a n : ℕ) (rest : Bool) → (a == n || rest) ≡ true → (a ≡ n) ⊎ (rest ≡ true)
@@ -64,22 +64,22 @@ further : (most : ℕ) (world : WorldState) (s u : ℕ) → end_after world (wal
 further most world s u comes = ap (end_after world) (walk_stays most world s u comes) ∙ comes
 
 -- from whichever slot that it goes over
-on_walk : (most : ℕ) (world : WorldState) (s t u : ℕ) → IsSound world → s < slot_count world → end_after world (walk world (Some s) most) ≡ Some u → has t (both_sides (walk world (Some s) most)) ≡ true
+on_walk : (most : ℕ) (world : WorldState) (s t u : ℕ) → IsSound world → s < slot_count world → end_after world (walk world (Some s) most) ≡ Some u → is_among t (both_sides (walk world (Some s) most)) ≡ true
     → Either world most s t u
 on_walk zero world s t u sound inside comes is = absurd (cc)
 on_walk (suc most) world s t u sound inside comes is =
-    let beyond : Bool = has t (both_sides (walk world (next_slot world s) most)) in
+    let beyond : Bool = is_among t (both_sides (walk world (next_slot world s) most)) in
     elim (or_else s t (far s == t || beyond) is) [
       | inl same ↦ inl (subst (λ (n : ℕ). end_after world (walk world (Some n) (suc most)) ≡ Some u) same comes)
       | inr others ↦ elim (or_else (far s) t beyond others) [
         | inl same ↦ inr (subst (λ (n : ℕ). Returns world (suc most) s n) same (back_once world most s))
         | inr more ↦ elim (end_parts world most (far s) u comes) [
           | inl here ↦
-              let never : false ≡ true = sym (ap (λ (o : Option ℕ). has t (both_sides (walk world o most))) (end_alone world (far s) here.0)) ∙ more in
+              let never : false ≡ true = sym (ap (λ (o : Option ℕ). is_among t (both_sides (walk world o most))) (end_alone world (far s) here.0)) ∙ more in
               absurd (cc)
           | inr on ↦
               let next = next_is world s on.0 sound inside on.1 in
-              let there : has t (both_sides (walk world (Some on.0) most)) ≡ true = sym (ap (λ (o : Option ℕ). has t (both_sides (walk world o most))) on.1) ∙ more in
+              let there : is_among t (both_sides (walk world (Some on.0) most)) ≡ true = sym (ap (λ (o : Option ℕ). is_among t (both_sides (walk world o most))) on.1) ∙ more in
               elim (on_walk most world on.0 t u sound next.inside on.2 there) [
                 | inl goes ↦ inl (further most world t u goes)
                 | inr returns ↦ inr (back_on world most s on.0 t next.back returns)
@@ -95,22 +95,22 @@ on_path : (world : WorldState) (i s : ℕ) (path : PathEnds) → IsSound world �
     → (other_end world s ≡ Some path.high) ⊎ (other_end world s ≡ Some path.low)
 on_path world i s path sound inside is on =
     let parts = parts_of world i path is in
-    let here : has s (both_sides (whole_walk world i)) ≡ true = subst (λ (n : ℕ). has s (both_sides (whole_walk world n)) ≡ true) parts.low_is on in
+    let here : is_among s (both_sides (whole_walk world i)) ≡ true = subst (λ (n : ℕ). is_among s (both_sides (whole_walk world n)) ≡ true) parts.low_is on in
     elim (on_walk (length (all_tunnels world)) world i s path.high sound inside parts.leads here) [
       | inl goes ↦ inl goes
       | inr returns ↦ inr (comes_back world i s parts.aims returns ∙ ap (λ (n : ℕ). Some n) (sym parts.low_is))
     ]
 
 -- a walk goes over the slot that it begins from
-over_own : (most : ℕ) (world : WorldState) (s u : ℕ) → end_after world (walk world (Some s) most) ≡ Some u → has s (both_sides (walk world (Some s) most)) ≡ true
+over_own : (most : ℕ) (world : WorldState) (s u : ℕ) → end_after world (walk world (Some s) most) ≡ Some u → is_among s (both_sides (walk world (Some s) most)) ≡ true
 over_own zero world s u comes = absurd (cc)
 over_own (suc most) world s u comes = has_first s (far s ∷ both_sides (walk world (next_slot world s) most))
 
 -- and so does the walk back from its end
-end_over : (world : WorldState) (s u : ℕ) → IsSound world → s < slot_count world → other_end world s ≡ Some u → has s (both_sides (whole_walk world u)) ≡ true
+end_over : (world : WorldState) (s u : ℕ) → IsSound world → s < slot_count world → other_end world s ≡ Some u → is_among s (both_sides (whole_walk world u)) ≡ true
 end_over world s u sound inside comes =
     let back = slots_beyond world s u sound inside comes in
-    ap (has s) back.1
+    ap (is_among s) back.1
     ∙ has_before s (reverse (both_sides (whole_walk world s))) (both_sides (walk world (partner_of world s) back.0))
     (has_reverse s (both_sides (whole_walk world s)) ∙ over_own (length (all_tunnels world)) world s u comes)
 
@@ -126,14 +126,14 @@ over_slot : (world : WorldState) (i s t : ℕ) (path : PathEnds) → IsSound wor
     → is_end_of t path ≡ true → is_on world s path ≡ true
 over_slot world i s t path sound inside within is walk ends =
     let parts = parts_of world i path is in
-    let here : has s (both_sides (whole_walk world t)) ≡ true = end_over world s t sound within walk in
+    let here : is_among s (both_sides (whole_walk world t)) ≡ true = end_over world s t sound within walk in
     elim (which_end path.low path.high t ends) [
-      | inl low ↦ subst (λ (n : ℕ). has s (both_sides (whole_walk world n)) ≡ true) (sym low) here
+      | inl low ↦ subst (λ (n : ℕ). is_among s (both_sides (whole_walk world n)) ≡ true) (sym low) here
       | inr high ↦
           let back : both_sides (whole_walk world path.high) ≡ reverse (both_sides (whole_walk world i)) = slots_back world i path.high sound inside parts.aims parts.leads in
-          let there : has s (both_sides (whole_walk world path.high)) ≡ true = subst (λ (n : ℕ). has s (both_sides (whole_walk world n)) ≡ true) (sym high) here in
-          let first : has s (both_sides (whole_walk world i)) ≡ true = sym (has_reverse s (both_sides (whole_walk world i))) ∙ (sym (ap (has s) back) ∙ there) in
-          subst (λ (n : ℕ). has s (both_sides (whole_walk world n)) ≡ true) (sym parts.low_is) first
+          let there : is_among s (both_sides (whole_walk world path.high)) ≡ true = subst (λ (n : ℕ). is_among s (both_sides (whole_walk world n)) ≡ true) (sym high) here in
+          let first : is_among s (both_sides (whole_walk world i)) ≡ true = sym (has_reverse s (both_sides (whole_walk world i))) ∙ (sym (ap (is_among s) back) ∙ there) in
+          subst (λ (n : ℕ). is_among s (both_sides (whole_walk world n)) ≡ true) (sym parts.low_is) first
     ]
 
 -- so a path goes over a slot where it has the slot's end

@@ -14,20 +14,20 @@ use Rattle.mc_seq.specs.Schedule.{AreDrawn, Standing, left_by, standing_after, s
 use Rattle.mc_seq.proofs.Candidates.{drawn_listed, take_same}
 use Rattle.mc_seq.proofs.AllowedCommands.{all_kept, left_pass}
 use Rattle.mc_seq.proofs.Scheduled.{drawn_takes}
-use Rattle.mc_seq.proofs.Sittings.{drawn_take, empty_is, listed_lowers, take_left, to_come}
+use Rattle.mc_seq.proofs.Sittings.{drawn_take, empty_is, listed_lowers, take_left, turns_to_come}
 
 -- each turn lowers what may still come while commands are left
 few_draws : (turns : List Turn) (now last : Standing) → IsSound now.world → AreAllowed now.world now.left → length last.left ≢ 0 → AreDrawn now turns last
-    → length turns + to_come last.left last.since ≤ to_come now.left now.since
+    → length turns + turns_to_come last.left last.since ≤ turns_to_come now.left now.since
 few_draws [] now last sound allowed some draws =
-    let same : to_come last.left last.since ≡ to_come now.left now.since = ap (λ (s : Standing). to_come s.left s.since) (sym draws) in
+    let same : turns_to_come last.left last.since ≡ turns_to_come now.left now.since = ap (λ (s : Standing). turns_to_come s.left s.since) (sym draws) in
     omega arith
 few_draws (turn ∷ turns) now last sound allowed some draws =
     let here : length now.left ≢ 0 = λ none. some (ap length (drawn_takes (turn ∷ turns) now last (empty_is now.left none) draws).left) in
     let after = step_keeps_sound now.world draws.0 turn sound draws.3 in
     let still = all_kept (left_by turn now.left) now.world draws.0 sound after (step_keeps_shape now.world draws.0 turn sound draws.3) (left_pass (is_allowed now.world) turn now.left allowed) in
-    let lower : to_come (left_by turn now.left) (since_by turn now.since) < to_come now.left now.since = listed_lowers now.world turn now.left now.since allowed here (drawn_listed now turn draws.2) in
-    let rest : length turns + to_come last.left last.since ≤ to_come (left_by turn now.left) (since_by turn now.since) = few_draws turns (standing_after now turn draws.0) last after still some draws.4 in
+    let lower : turns_to_come (left_by turn now.left) (since_by turn now.since) < turns_to_come now.left now.since = listed_lowers now.world turn now.left now.since allowed here (drawn_listed now turn draws.2) in
+    let rest : length turns + turns_to_come last.left last.since ≤ turns_to_come (left_by turn now.left) (since_by turn now.since) = few_draws turns (standing_after now turn draws.0) last after still some draws.4 in
     omega arith
 
 -- at the beginning that is at most 64 for each command and 63

@@ -58,8 +58,8 @@ made_allowed now next made sound allowed =
     (left_pass (is_allowed now.standing.world) made.turn now.standing.left allowed))
 
 -- how many turns may come until the batch is used up
-abbrev pub to_come : List Turn → ℕ → ℕ
-to_come left since = 64 * length left + (63 - since)
+abbrev pub turns_to_come : List Turn → ℕ → ℕ
+turns_to_come left since = 64 * length left + (63 - since)
 
 -- a command lowers it by 64, and gives back 63 at most
 lower_command : (less all since : ℕ) → less + 1 ≡ all → 64 * less + (63 - 0) < 64 * all + (63 - since)
@@ -78,9 +78,9 @@ few_by : (a b : ℕ) → nat_lt a b ≡ true → a < b
 few_by a b is = grind (arith, common_steps)
 
 -- so a drawn command lowers it
-command_lowers : (turn : Turn) (left : List Turn) (since : ℕ) → is_command turn.event ≡ true → next_of turn.who left ≡ Some turn → to_come (left_by turn left) (since_by turn since) < to_come left since
+command_lowers : (turn : Turn) (left : List Turn) (since : ℕ) → is_command turn.event ≡ true → next_of turn.who left ≡ Some turn → turns_to_come (left_by turn left) (since_by turn since) < turns_to_come left since
 command_lowers turn left since is next =
-    subst (λ (b : Bool). to_come (if b then without_next turn.who left else left) (if b then 0 else (if nat_lt since 63 then since + 1 else since)) < to_come left since) (sym is)
+    subst (λ (b : Bool). turns_to_come (if b then without_next turn.who left else left) (if b then 0 else (if nat_lt since 63 then since + 1 else since)) < turns_to_come left since) (sym is)
     (lower_command (length (without_next turn.who left)) (length left) since (without_less turn.who left turn next))
 
 -- a Take is no command
@@ -88,14 +88,14 @@ pub take_none : (turn : Turn) (local : ℕ) → turn.event ≡ Take local → is
 take_none turn local is = ap is_command is
 
 -- and so does a Take
-take_down : (turn : Turn) (left : List Turn) (since : ℕ) → is_command turn.event ≡ false → nat_lt since 63 ≡ true → to_come (left_by turn left) (since_by turn since) < to_come left since
+take_down : (turn : Turn) (left : List Turn) (since : ℕ) → is_command turn.event ≡ false → nat_lt since 63 ≡ true → turns_to_come (left_by turn left) (since_by turn since) < turns_to_come left since
 take_down turn left since is few =
-    subst (λ (b : Bool). to_come (if b then without_next turn.who left else left) (if b then 0 else (if nat_lt since 63 then since + 1 else since)) < to_come left since) (sym is)
-    (subst (λ (b : Bool). to_come left (if b then since + 1 else since) < to_come left since) (sym few) (lower_take (length left) since (few_by since 63 few)))
+    subst (λ (b : Bool). turns_to_come (if b then without_next turn.who left else left) (if b then 0 else (if nat_lt since 63 then since + 1 else since)) < turns_to_come left since) (sym is)
+    (subst (λ (b : Bool). turns_to_come left (if b then since + 1 else since) < turns_to_come left since) (sym few) (lower_take (length left) since (few_by since 63 few)))
 
 -- each listed turn is one of the two
 pub listed_lowers : (world : WorldState) (turn : Turn) (left : List Turn) (since : ℕ) → AreAllowed world left → length left ≢ 0 → IsListed world left (is_urgent left since) turn
-    → to_come (left_by turn left) (since_by turn since) < to_come left since
+    → turns_to_come (left_by turn left) (since_by turn since) < turns_to_come left since
 listed_lowers world turn left since allowed some is = elim is [
   | inl next ↦ command_lowers turn left since (allowed_parts world turn (next_pass (is_allowed world) turn.who left turn allowed next)).command next
   | inr take ↦ take_down turn left since (take_none turn take.1.local take.1.event) (not_urgent (length left) since some take.0)
@@ -103,9 +103,9 @@ listed_lowers world turn left since allowed some is = elim is [
 
 -- each drawn turn lowers it, whether links make a ring or not
 pub made_lowers : (now next : Sight) → DrewTurn now next → AreAllowed now.standing.world now.standing.left → length now.standing.left ≢ 0
-    → to_come next.standing.left next.standing.since < to_come now.standing.left now.standing.since
+    → turns_to_come next.standing.left next.standing.since < turns_to_come now.standing.left now.standing.since
 made_lowers now next made allowed some =
-    subst (λ (s : Standing). to_come s.left s.since < to_come now.standing.left now.standing.since) (sym made.moves)
+    subst (λ (s : Standing). turns_to_come s.left s.since < turns_to_come now.standing.left now.standing.since) (sym made.moves)
     (listed_lowers now.standing.world made.turn now.standing.left now.standing.since allowed some (made_listed now next made))
 
 -- where commands are left, something is listed

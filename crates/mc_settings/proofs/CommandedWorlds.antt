@@ -39,11 +39,11 @@ each_count f (box ∷ boxes) first = ap suc (each_count f boxes (first + 1))
 -- ---- what commands make of a box
 
 -- where nothing is
-abbrev nothing : Settings
-nothing = record { goals = []; media = [] }
+abbrev no_settings : Settings
+no_settings = record { goals = []; media = [] }
 
 -- events make nothing of it
-nothing_set : (event : Event) → set_by event nothing ≡ nothing
+nothing_set : (event : Event) → set_by event no_settings ≡ no_settings
 nothing_set (Take local) = refl
 nothing_set (Set change) = refl
 nothing_set (Media (Hear local on)) = refl
@@ -52,7 +52,7 @@ nothing_set (Tell word) = refl
 nothing_set (Retry local) = refl
 nothing_set Shift = refl
 
-nothing_stays : (turns : List Turn) → set_by_all turns nothing ≡ nothing
+nothing_stays : (turns : List Turn) → set_by_all turns no_settings ≡ no_settings
 nothing_stays [] = refl
 nothing_stays (turn ∷ turns) = ap (set_by_all turns) (nothing_set turn.event) ∙ nothing_stays turns
 

@@ -63,13 +63,13 @@ module _ (p : ℕ → Bool) where
       (here, sym (pieces-spaces line) ∙ rw (← is) (pieces-first (drop start line) here))
 
 -- the first word behind `from` stands from `start` to `end`
-pub record IsFound (p : ℕ → Bool) (line : List ℕ) (from start end : ℕ) : Type 0 where
+pub record IsFirstWord (p : ℕ → Bool) (line : List ℕ) (from start end : ℕ) : Type 0 where
   pub some : start < end
   pub within : end ≤ length line
   pub next : pieces p (drop from line) ≡ slice_range line start end ∷ pieces p (drop end line)
 
 -- places in what stands behind `from` are places in the line
-pub found_at : (p : ℕ → Bool) (line : List ℕ) (from start len : ℕ) → from ≤ length line → position (λ byte. not (p byte)) (drop from line) ≡ Some start → len ≡ first_len p (drop start (drop from line)) → len ≤ length (drop start (drop from line)) → IsFound p line from (from + start) (from + start + len)
+pub found_at : (p : ℕ → Bool) (line : List ℕ) (from start len : ℕ) → from ≤ length line → position (λ byte. not (p byte)) (drop from line) ≡ Some start → len ≡ first_len p (drop start (drop from line)) → len ≤ length (drop start (drop from line)) → IsFirstWord p line from (from + start) (from + start + len)
 found_at p line from start len inside found is short =
     let f = first_piece p (drop from line) start found in
     let joined : drop start (drop from line) ≡ drop (from + start) line = grind (arith, common_steps) in

@@ -144,22 +144,22 @@ counted_passed topology old new s t numbers counted below there home is none fla
 -- ---- what code reads and writes
 
 -- the place of a slot
-pub record IsRead (topology : Topology) (waiting : Waiting) (s : ℕ) (place : ℕ × ℕ) : Type 0 where
+pub record HasPlace (topology : Topology) (waiting : Waiting) (s : ℕ) (place : ℕ × ℕ) : Type 0 where
   pub numbers : HasNumbers topology
   pub counted : AreFlagsCounted topology waiting
   pub below : s < length topology.places.items
   pub place_is : place ≡ get_or topology.places.items s place
 
-place_read : (topology : Topology) (waiting : Waiting) (s : ℕ) (place : ℕ × ℕ) → IsRead topology waiting s place → place ≡ place_by topology s
+place_read : (topology : Topology) (waiting : Waiting) (s : ℕ) (place : ℕ × ℕ) → HasPlace topology waiting s place → place ≡ place_by topology s
 place_read topology waiting s place read = get_or_read topology.places.items s place read.below read.place_is (0, 0)
 
 -- its box has a count
-pub home_read : (topology : Topology) (waiting : Waiting) (s : ℕ) (place : ℕ × ℕ) → IsRead topology waiting s place → place.0 < length waiting.takes
+pub home_read : (topology : Topology) (waiting : Waiting) (s : ℕ) (place : ℕ × ℕ) → HasPlace topology waiting s place → place.0 < length waiting.takes
 home_read topology waiting s place read =
     subst (λ (p : ℕ × ℕ). p.0 < length waiting.takes) (sym (place_read topology waiting s place read)) (omega (arith, home_there topology s read.numbers read.below, read.counted.takes))
 
 -- one more slot has a flag, so before there were fewer than slots
-pub one_more_fits : (topology : Topology) (waiting : Waiting) (s : ℕ) (place : ℕ × ℕ) → IsRead topology waiting s place → get_or waiting.flags.items s false ≡ false → get_or waiting.takes place.0 0 < SLOT_LIMIT
+pub one_more_fits : (topology : Topology) (waiting : Waiting) (s : ℕ) (place : ℕ × ℕ) → HasPlace topology waiting s place → get_or waiting.flags.items s false ≡ false → get_or waiting.takes place.0 0 < SLOT_LIMIT
 one_more_fits topology waiting s place read unset =
     let who : ℕ = (place_by topology s).0 in
     let before : get_or waiting.takes who 0 ≡ flag_count topology waiting.flags.items who (length (numbers_of topology who)) = read.counted.each who (home_there topology s read.numbers read.below) in
@@ -175,7 +175,7 @@ one_more_fits topology waiting s place read unset =
     )
 
 -- a slot has a flag, so there is one
-pub one_there : (topology : Topology) (waiting : Waiting) (s : ℕ) (place : ℕ × ℕ) → IsRead topology waiting s place → get_or waiting.flags.items s false ≡ true → 0 < get_or waiting.takes place.0 0
+pub one_there : (topology : Topology) (waiting : Waiting) (s : ℕ) (place : ℕ × ℕ) → HasPlace topology waiting s place → get_or waiting.flags.items s false ≡ true → 0 < get_or waiting.takes place.0 0
 one_there topology waiting s place read is =
     let who : ℕ = (place_by topology s).0 in
     let before : get_or waiting.takes who 0 ≡ flag_count topology waiting.flags.items who (length (numbers_of topology who)) = read.counted.each who (home_there topology s read.numbers read.below) in
@@ -189,7 +189,7 @@ one_there topology waiting s place read is =
     )
 
 -- what is written is counted
-pub counted_by : (topology : Topology) (old new : Waiting) (s : ℕ) (place : ℕ × ℕ) (made : ℕ) (b : Bool) → IsRead topology old s place → new.flags.items ≡ set old.flags.items s b
+pub counted_by : (topology : Topology) (old new : Waiting) (s : ℕ) (place : ℕ × ℕ) (made : ℕ) (b : Bool) → HasPlace topology old s place → new.flags.items ≡ set old.flags.items s b
     → new.takes ≡ set old.takes place.0 made → made + bit (get_or old.flags.items s false) ≡ get_or old.takes place.0 0 + bit b → AreFlagsCounted topology new
 counted_by topology old new s place made b read flags takes sum =
     counted_set topology old new s made b read.numbers read.counted read.below flags (takes ∙ ap (λ (p : ℕ × ℕ). set old.takes p.0 made) (place_read topology old s place read))

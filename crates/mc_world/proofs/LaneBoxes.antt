@@ -9,17 +9,17 @@ use Rattle.mc_model.specs.declared.channel.Tunnel.{Tunnel}
 use Rattle.mc_laws.proofs.TunnelPlaces.{channel_in, two_each, within_slots}
 
 -- the box on a slot's side of a channel
-abbrev side_of : ChannelState → ℕ → ℕ
-side_of ends s = if s % 2 == 0 then ends.from else ends.to
+abbrev box_by_side : ChannelState → ℕ → ℕ
+box_by_side ends s = if s % 2 == 0 then ends.from else ends.to
 
 -- two further on is the same side
-side_more : (ends : ChannelState) (s : ℕ) → side_of ends s ≡ side_of ends (suc (suc s))
+side_more : (ends : ChannelState) (s : ℕ) → box_by_side ends s ≡ box_by_side ends (suc (suc s))
 side_more ends s = ap (λ (n : ℕ). if n == 0 then ends.from else ends.to) (let e : s % 2 ≡ suc (suc s) % 2 = omega arith in e)
 
 -- ---- one channel
 
 -- its slots are of the box on their side
-within_box : (ends : ChannelState) (tunnels : List Tunnel) (s : ℕ) → s < 2 * length tunnels → (get_or (flat_map (places_of ends) tunnels) s (0, 0)).0 ≡ side_of ends s
+within_box : (ends : ChannelState) (tunnels : List Tunnel) (s : ℕ) → s < 2 * length tunnels → (get_or (flat_map (places_of ends) tunnels) s (0, 0)).0 ≡ box_by_side ends s
 within_box ends [] s inside = absurd (omega arith)
 within_box ends (tunnel ∷ tunnels) zero inside = refl
 within_box ends (tunnel ∷ tunnels) (suc zero) inside = refl
@@ -44,7 +44,7 @@ within_number (tunnel ∷ tunnels) channel within (suc i) inside = omega (arith,
 
 -- where a slot stands: in the first channel, or in one after it
 record Here (ends : ChannelState) (channels : List ChannelState) (first s : ℕ) : Type 0 where
-  box : (get_or (places_among (ends ∷ channels)) s (0, 0)).0 ≡ side_of ends s
+  box : (get_or (places_among (ends ∷ channels)) s (0, 0)).0 ≡ box_by_side ends s
   channel : (get_or (tunnels_from first (ends ∷ channels)) (s / 2) no_tunnel).channel ≡ first
   within : (get_or (tunnels_from first (ends ∷ channels)) (s / 2) no_tunnel).within ≡ s / 2
 

@@ -18,7 +18,7 @@ use Rattle.mc_world.proofs.TopologyLanes.{lane_there}
 -- ---- a front that goes
 
 -- slot s takes the front of its lane k, and the lane is new then
-pub record Takes (topology : Topology) (lanes : List Lane) (waiting : Waiting) (s k : ℕ) (d new : Lane) : Type 0 where
+pub record TakesFront (topology : Topology) (lanes : List Lane) (waiting : Waiting) (s k : ℕ) (d new : Lane) : Type 0 where
   pub laid : IsLaid topology (length lanes)
   pub table : IsWaiting topology (signals_of lanes) waiting
   pub here : s < length topology.places.items
@@ -26,14 +26,14 @@ pub record Takes (topology : Topology) (lanes : List Lane) (waiting : Waiting) (
   pub lane : k ≡ lane_by topology s
   pub left : new.items ≡ drop 1 (get_or lanes k d).items
 
-pub taken_signals : (topology : Topology) (lanes : List Lane) (waiting : Waiting) (s k : ℕ) (d new : Lane) → Takes topology lanes waiting s k d new
+pub taken_signals : (topology : Topology) (lanes : List Lane) (waiting : Waiting) (s k : ℕ) (d new : Lane) → TakesFront topology lanes waiting s k d new
     → signals_of (set lanes k new) ≡ without_front (signals_of lanes) (lane_by topology s)
 taken_signals topology lanes waiting s k d new takes =
     signals_popped lanes k d new (subst (λ (j : ℕ). j < length lanes) (sym takes.lane) (lane_there topology (length lanes) s takes.laid takes.here)) takes.left
     ∙ ap (without_front (signals_of lanes)) takes.lane
 
 -- what is left in the lane
-left_is : (topology : Topology) (lanes : List Lane) (waiting : Waiting) (s k : ℕ) (d new : Lane) → Takes topology lanes waiting s k d new → new.items ≡ drop 1 (get_or (signals_of lanes) (lane_by topology s) [])
+left_is : (topology : Topology) (lanes : List Lane) (waiting : Waiting) (s k : ℕ) (d new : Lane) → TakesFront topology lanes waiting s k d new → new.items ≡ drop 1 (get_or (signals_of lanes) (lane_by topology s) [])
 left_is topology lanes waiting s k d new takes =
     takes.left
     ∙ (ap (λ (l : List Tagged). drop 1 l) (sym (signals_at lanes k d (subst (λ (j : ℕ). j < length lanes) (sym takes.lane) (lane_there topology (length lanes) s takes.laid takes.here))))
@@ -47,7 +47,7 @@ none_left [] front is none = refl
 none_left (tagged ∷ rest) front is none = absurd (cc)
 
 -- nothing is behind it
-pub taken_last : (topology : Topology) (lanes : List Lane) (waiting after : Waiting) (s k : ℕ) (d new : Lane) (front : Option Tagged) → Takes topology lanes waiting s k d new
+pub taken_last : (topology : Topology) (lanes : List Lane) (waiting after : Waiting) (s k : ℕ) (d new : Lane) (front : Option Tagged) → TakesFront topology lanes waiting s k d new
     → front ≡ slice_get new.items 0 → front ≡ None → after.flags.items ≡ set waiting.flags.items s false → AreFlagsCounted topology after → IsWaiting topology (signals_of (set lanes k new)) after
 taken_last topology lanes waiting after s k d new front takes front_is none flags counted = record {
   counted = counted;
@@ -58,7 +58,7 @@ taken_last topology lanes waiting after s k d new front takes front_is none flag
 }
 
 -- another signal is, for a slot that gets the flag
-pub taken_next : (topology : Topology) (lanes : List Lane) (waiting after : Waiting) (s k next : ℕ) (d new : Lane) (front : Option Tagged) (tagged : Tagged) → Takes topology lanes waiting s k d new
+pub taken_next : (topology : Topology) (lanes : List Lane) (waiting after : Waiting) (s k next : ℕ) (d new : Lane) (front : Option Tagged) (tagged : Tagged) → TakesFront topology lanes waiting s k d new
     → FirstServed topology (lane_by topology s) (drop 1 (get_or (signals_of lanes) (lane_by topology s) [])) → front ≡ slice_get new.items 0 → front ≡ Some tagged
     → next ≡ s + 2 * tagged.tunnel - 2 * tunnel_by topology s → after.flags.items ≡ set (set waiting.flags.items s false) next true → after.takes ≡ waiting.takes → IsWaiting topology (signals_of (set lanes k new)) after
 taken_next topology lanes waiting after s k next d new front tagged takes served front_is some next_here flags same =

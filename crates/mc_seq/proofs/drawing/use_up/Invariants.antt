@@ -2,7 +2,7 @@ use Rattle.mc_model.specs.Sound.{IsSound}
 use Rattle.mc_model.specs.Shapes.{AreAllowed}
 use Rattle.mc_seq.specs.Commands.{AreKeptFor, commands_left}
 use Rattle.mc_seq.specs.Drawing.{sight_of}
-use Rattle.mc_seq.proofs.Sittings.{GoesOn, to_come}
+use Rattle.mc_seq.proofs.Sittings.{GoesOn, turns_to_come}
 use Rattle.mc_seq.proofs.drawing.use_up.Given as goal
 
 -- whatever is drawn, it goes on from here
@@ -15,4 +15,4 @@ invariant-commands l = record {
 }
 
 abbrev pub decreases-commands : goal.decreases-commands
-decreases-commands l = to_come (commands_left l.sitting.left) l.sitting.since
+decreases-commands l = turns_to_come (commands_left l.sitting.left) l.sitting.since

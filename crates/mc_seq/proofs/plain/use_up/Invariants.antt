@@ -1,7 +1,7 @@
 use Rattle.mc_model.specs.Sound.{IsSound}
 use Rattle.mc_model.specs.Shapes.{AreAllowed}
 use Rattle.mc_seq.specs.Drawing.{plain_sight}
-use Rattle.mc_seq.proofs.Sittings.{GoesOn, to_come}
+use Rattle.mc_seq.proofs.Sittings.{GoesOn, turns_to_come}
 use Rattle.mc_seq.proofs.plain.use_up.Given as goal
 
 -- whatever is drawn, it goes on from here
@@ -13,4 +13,4 @@ invariant-commands l = record {
 }
 
 abbrev pub decreases-commands : goal.decreases-commands
-decreases-commands l = to_come l.sitting.left.items l.sitting.since
+decreases-commands l = turns_to_come l.sitting.left.items l.sitting.since

@@ -1,10 +1,10 @@
 use Rattle.std.proofs.Common.{◌+◌, drop, sym, arith}
 use Rattle.mc_text.specs.Lines.{is_space}
-use Rattle.mc_text.proofs.FirstWord.{no_pieces, found_at, IsFound}
+use Rattle.mc_text.proofs.FirstWord.{no_pieces, found_at, IsFirstWord}
 use Rattle.mc_text.proofs.lines.next_word.Goals as goal
 
 -- the place that is answered
-found : (c : goal.After-len_before-len) → IsFound is_space c.args.line.now c.args.from (c.args.from + c.in_ok-start.start) (c.args.from + c.in_ok-start.start + c.len_before-len.result)
+found : (c : goal.After-len_before-len) → IsFirstWord is_space c.args.line.now c.args.from (c.args.from + c.in_ok-start.start) (c.args.from + c.in_ok-start.start + c.len_before-len.result)
 found c = found_at is_space c.args.line.now c.args.from c.in_ok-start.start c.len_before-len.result c.requires
     (rw (← c.rest_of-rest.ensures) (sym c.in_ok-start.ensures)) (rw (← c.rest_of-rest.ensures, ← c.rest_of.ensures) c.len_before-len.ensures.first) (rw (← c.rest_of-rest.ensures, ← c.rest_of.ensures) c.len_before-len.ensures.within)
 

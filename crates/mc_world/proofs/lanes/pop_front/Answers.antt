@@ -1,10 +1,10 @@
 use Rattle.std.proofs.Common.{◌+◌, ◌-◌, ◌*◌, ap, ℕ}
 use Rattle.mc_world.proofs.LaneChanges.{popped_is}
-use Rattle.mc_world.proofs.LaneFlags.{Takes, taken_last, taken_next, taken_signals}
+use Rattle.mc_world.proofs.LaneFlags.{TakesFront, taken_last, taken_next, taken_signals}
 use Rattle.mc_world.proofs.lanes.pop_front.Goals as goal
 
 -- the front is taken, and another is there
-takes_one : (c : goal.After-pass) → Takes c.args.topology.now c.args.lanes.now c.args.waiting.now c.args.slot c.args.toward.0 c.index-lanes-lane.result c.pop-front.new.self
+takes_one : (c : goal.After-pass) → TakesFront c.args.topology.now c.args.lanes.now c.args.waiting.now c.args.slot c.args.toward.0 c.index-lanes-lane.result c.pop-front.new.self
 takes_one c = record {
   laid = c.requires.laid;
   table = c.requires.waiting;
@@ -15,7 +15,7 @@ takes_one c = record {
 }
 
 -- or none is
-takes_last : (c : goal.After-clear) → Takes c.args.topology.now c.args.lanes.now c.args.waiting.now c.args.slot c.args.toward.0 c.index-lanes-lane.result c.pop-front.new.self
+takes_last : (c : goal.After-clear) → TakesFront c.args.topology.now c.args.lanes.now c.args.waiting.now c.args.slot c.args.toward.0 c.index-lanes-lane.result c.pop-front.new.self
 takes_last c = record {
   laid = c.requires.laid;
   table = c.requires.waiting;
