@@ -5,7 +5,7 @@ use Rattle.std.proofs.lemmas.List.{drop-take, take-take}
 use Rattle.std.proofs.lemmas.List.Sums.{sum_by-cons, sum_by-take-drop, sum_by-take-le}
 use Rattle.std.proofs.lemmas.Slice.Chunks.{sum_by_chunks}
 use Rattle.std.specs.Fork.{slice_chunk}
-use Rattle.mc_sums.specs.Sums.{AreGroupSums, AreSmallSums, AreSums, IsFound, level_at}
+use Rattle.mc_sums.specs.Sums.{AreGroupSums, AreSmallSums, AreSums, IsKth, level_at}
 use Rattle.mc_sums.specs.declared.levels.TheConstants.{FAN}
 use Rattle.mc_sums.specs.declared.limit.TheConstants.{COUNT_LIMIT}
 
@@ -31,6 +31,33 @@ take_one (x ∷ xs) (suc i) =
     let two : sum (x ∷ take i xs) ≡ x + sum (take i xs) = sum_cons x (take i xs) in
     let rest : sum (take (suc i) xs) ≡ sum (take i xs) + get_or xs i 0 = take_one xs i in
     omega arith
+
+-- a number and what stands before it are no more than what stands before a later one
+take_later : (xs : List ℕ) (i j : ℕ) → i < j → sum (take i xs) + get_or xs i 0 ≤ sum (take j xs)
+take_later xs i j before =
+    let one : sum (take (suc i) xs) ≡ sum (take i xs) + get_or xs i 0 = take_one xs i in
+    let same : sum (take (suc i) (take j xs)) ≡ sum (take (suc i) xs) = ap sum (take-take (suc i) j xs (omega arith)) in
+    let low : sum (take (suc i) (take j xs)) ≤ sum (take j xs) = sum_by-take-le (λ (n : ℕ). n) (take j xs) (suc i) in
+    omega arith
+
+-- where two numbers are the whole sum, nothing stands before the first, and the first alone before the second
+two_are_all : (xs : List ℕ) (i j : ℕ) → i < j → get_or xs i 0 + get_or xs j 0 ≡ sum xs → (sum (take i xs) ≡ 0) × (sum (take j xs) ≡ get_or xs i 0)
+two_are_all xs i j before are_all =
+    let one : sum (take i xs) + get_or xs i 0 ≤ sum (take j xs) = take_later xs i j before in
+    let two : sum (take (suc j) xs) ≡ sum (take j xs) + get_or xs j 0 = take_one xs j in
+    let all : sum (take (suc j) xs) ≤ sum xs = sum_by-take-le (λ (n : ℕ). n) xs (suc j) in
+    (omega arith, omega arith)
+
+-- so one that is searched for stands at the first of them, or else at the second
+pub at_first : (xs : List ℕ) (i j k : ℕ) → i < j → get_or xs i 0 + get_or xs j 0 ≡ sum xs → k < get_or xs i 0 → IsKth xs 0 k i k
+at_first xs i j k before are_all low =
+    let none : sum (take i xs) ≡ 0 = (two_are_all xs i j before are_all).0 in
+    record { before = omega arith; within = low }
+
+pub at_second : (xs : List ℕ) (i j k : ℕ) → i < j → get_or xs i 0 + get_or xs j 0 ≡ sum xs → get_or xs i 0 ≤ k → k < sum xs → IsKth xs 0 k j (k - get_or xs i 0)
+at_second xs i j k before are_all high inside =
+    let first : sum (take j xs) ≡ get_or xs i 0 = (two_are_all xs i j before are_all).1 in
+    record { before = omega arith; within = omega arith }
 
 -- so many more
 take_several : (xs : List ℕ) (i n : ℕ) → sum (take (i + n) xs) ≡ sum (take i xs) + sum (take n (drop i xs))
@@ -138,7 +165,7 @@ group_has levels k depth place rest sums some at =
 
 -- and where it is found the search goes on
 pub goes_down : (levels : List (List ℕ)) (k depth place rest next left : ℕ) → AreSums levels → 0 < depth → IsAt levels k depth place rest
-    → IsFound (level_at levels (depth - 1)) (place * FAN) rest next left → IsAt levels k (depth - 1) next left
+    → IsKth (level_at levels (depth - 1)) (place * FAN) rest next left → IsAt levels k (depth - 1) next left
 goes_down levels k depth place rest next left sums some at found =
     let same : sum (take place (level_at levels depth)) ≡ sum (take (place * FAN) (level_at levels (depth - 1)))
     = grouped_before (level_at levels (depth - 1)) (level_at levels depth) place (step_down levels depth sums some at.inside) in

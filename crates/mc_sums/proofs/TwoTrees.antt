@@ -4,14 +4,14 @@ use Rattle.std.proofs.Math.ListN.{get_or}
 use Rattle.std.proofs.lemmas.Bool.{cases_lt}
 use Rattle.std.proofs.lemmas.List.{get_or_past}
 use Rattle.std.specs.Int.{div_ceil}
-use Rattle.mc_sums.specs.Sums.{AreFound, AreGroupSums, ArePair, AreSums, level_at}
+use Rattle.mc_sums.specs.Sums.{AreKth, AreGroupSums, ArePair, AreSums, level_at}
 use Rattle.mc_sums.specs.declared.levels.TheConstants.{FAN}
 use Rattle.mc_sums.proofs.TreeSums.{group_fits, grouped_before, level_sum, step_down, top_is}
 
 -- ---- their levels
 
 -- level by level they are as long
-record AreAlike (levels others : List (List ℕ)) (depth : ℕ) : Type 0 where
+record AreAsLong (levels others : List (List ℕ)) (depth : ℕ) : Type 0 where
   pub inside : depth < length others
   pub long : length (level_at levels depth) ≡ length (level_at others depth)
 
@@ -28,10 +28,10 @@ not_last levels others depth several top last long =
     let one : length (level_at others depth) ≤ 1 = subst (λ (n : ℕ). length (level_at others n) ≤ 1) same top in
     omega arith
 
-alike_at : (levels others : List (List ℕ)) (depth : ℕ) → AreSums levels → AreSums others → length (level_at levels 0) ≡ length (level_at others 0) → depth < length levels → AreAlike levels others depth
+alike_at : (levels others : List (List ℕ)) (depth : ℕ) → AreSums levels → AreSums others → length (level_at levels 0) ≡ length (level_at others 0) → depth < length levels → AreAsLong levels others depth
 alike_at levels others zero sums other_sums long inside = record { inside = other_sums.some; long = long }
 alike_at levels others (suc depth) sums other_sums long inside =
-    let so_far : AreAlike levels others depth = alike_at levels others depth sums other_sums long (omega arith) in
+    let so_far : AreAsLong levels others depth = alike_at levels others depth sums other_sums long (omega arith) in
     elim (cases_lt (depth + 1) (length others)) [
       | inl below ↦ record { inside = omega arith; long = longer levels others depth (sums.groups depth (omega arith)) (other_sums.groups depth below) so_far.long }
       | inr high ↦ absurd (not_last levels others depth (sums.many depth (omega arith)) other_sums.top (let low = so_far.inside in omega arith) so_far.long)
@@ -88,7 +88,7 @@ both_have levels others k depth place rest pair some at =
 
 -- and where it is found the search goes on
 pub both_go_down : (levels others : List (List ℕ)) (k depth place rest next left : ℕ) → ArePair levels others → 0 < depth → IsAtBoth levels others k depth place rest
-    → AreFound (level_at levels (depth - 1)) (level_at others (depth - 1)) (place * FAN) rest next left → IsAtBoth levels others k (depth - 1) next left
+    → AreKth (level_at levels (depth - 1)) (level_at others (depth - 1)) (place * FAN) rest next left → IsAtBoth levels others k (depth - 1) next left
 both_go_down levels others k depth place rest next left pair some at found =
     let one : sum (take place (level_at levels depth)) ≡ sum (take (place * FAN) (level_at levels (depth - 1))) =
     grouped_before (level_at levels (depth - 1)) (level_at levels depth) place (step_down levels depth pair.sums some at.inside) in

@@ -58,7 +58,7 @@ abbrev pub LiesBehind : List ℕ → (first k : ℕ) → Type 0
 LiesBehind level first k = sum (take first level) + k < sum level
 
 -- which stands at another place, with so many of that place's before it
-pub record IsFound (level : List ℕ) (first k place rest : ℕ) : Type 0 where
+pub record IsKth (level : List ℕ) (first k place rest : ℕ) : Type 0 where
   pub before : sum (take place level) + rest ≡ sum (take first level) + k
   pub within : rest < slice_index_or level place 0
 
@@ -66,6 +66,6 @@ pub record IsFound (level : List ℕ) (first k place rest : ℕ) : Type 0 where
 abbrev pub LieBehind : (level other : List ℕ) → (first k : ℕ) → Type 0
 LieBehind level other first k = sum (take first level) + sum (take first other) + k < sum level + sum other
 
-pub record AreFound (level other : List ℕ) (first k place rest : ℕ) : Type 0 where
+pub record AreKth (level other : List ℕ) (first k place rest : ℕ) : Type 0 where
   pub before : sum (take place level) + sum (take place other) + rest ≡ sum (take first level) + sum (take first other) + k
   pub within : rest < slice_index_or level place 0 + slice_index_or other place 0

@@ -1,5 +1,6 @@
 // Counts, and a tree of their sums.
 ghost use Rattle.std.specs.Prelude.{◌≡◌, ◌<◌, ◌≤◌, ◌+◌, ◌-◌, ◌^◌, ℕ, length, slice_index_or, slice_set, sum, take, IfOk};
+ghost use Rattle.mc_sums.specs.Sums.{AreSums, levels_of};
 ghost use Rattle.mc_sums.specs.declared.limit.TheConstants.{COUNT_LIMIT};
 
 use crate::{finding, levels};
@@ -13,6 +14,9 @@ use std::marker::Model;
 pub struct Sums {
     // The counts, and above each level the sums of its groups.
     levels: Vec<Vec<u64>>,
+    // The two places whose counts rose last, the lower one first. Where little is counted they have all of it as a
+    // rule; whether they do is asked each time.
+    recent: (usize, usize),
 }
 
 impl Model for Sums {
@@ -34,7 +38,10 @@ impl Sums {
         ensures { IfOk result (λ sums. sums ≡ counts.items) }
     {
         let levels = levels::build(alloc, counts)?;
-        Ok(Sums { levels })
+        Ok(Sums {
+            levels,
+            recent: (0, 1),
+        })
     }
 
     /// What every Sums keeps.
@@ -70,7 +77,10 @@ impl Sums {
         ensures within { result.1 < slice_index_or self.now result.0 0 }
         ensures place { result.0 < length self.now }
     {
-        finding::find(&self.levels, k)
+        match finding::find_among_two(&self.levels, self.recent, k) {
+            Some(found) => found,
+            None => finding::find(&self.levels, k),
+        }
     }
 
     /// The same over the sums of two counts at each place.
@@ -91,6 +101,7 @@ impl Sums {
         requires room { slice_index_or self.old place 0 < COUNT_LIMIT }
         ensures { self.new ≡ slice_set self.old place (slice_index_or self.old place 0 + 1) }
     {
+        self.recent = with_place(&self.levels, self.recent, place);
         levels::change(&mut self.levels, place, 0, 1);
     }
 
@@ -102,4 +113,17 @@ impl Sums {
     {
         levels::change(&mut self.levels, place, 1, 0);
     }
+}
+
+// The two places with this one among them, in place of one that has nothing, if there is such a one.
+fn with_place(levels: &[Vec<u64>], places: (usize, usize), place: usize) -> (usize, usize)
+    requires { AreSums (levels_of levels.now) }
+{
+    let (low, high) = places;
+    let other = if low == place || levels::number(levels, 0, low) == 0 {
+        high
+    } else {
+        low
+    };
+    (other.min(place), other.max(place))
 }
