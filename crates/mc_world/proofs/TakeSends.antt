@@ -1,5 +1,5 @@
 -- By which slots a Take sends: by its own, and over a link by its partner.
-use Rattle.std.proofs.Common.{◌≡◌, ◌<◌, ◌==◌, ◌⊎◌, inl, inr, if◌then◌else◌, ℕ, zero, suc, Bool, true, false, Option, Some, None, IfSome, List, [], ◌∷◌, length, get_or, ap, sym, ◌∙◌, subst, arith}
+use Rattle.std.proofs.Common.{◌≡◌, ◌<◌, ◌==◌, ◌⊎◌, inl, inr, if◌then◌else◌, ℕ, zero, suc, Bool, true, false, Option, Some, None, IfSome, List, [], ◌∷◌, length, get_or, ap, refl, sym, ◌∙◌, subst, arith}
 use Rattle.std.specs.List.{slice_get}
 use Rattle.std.proofs.lemmas.Bool.{cases_eq}
 use Rattle.std.proofs.lemmas.Grind.{common_steps}
@@ -69,6 +69,11 @@ linked_is world who local other slot is goal =
 room_at : (lanes : List Lane) (topology : Topology) (most s : ℕ) (partner : Option ℕ) → partner ≡ Some s → IfSome partner (λ p. HasRoom lanes (lane_by topology (far p)) most) → HasRoom lanes (lane_by topology (far s)) most
 room_at lanes topology most s None is room = absurd (cc)
 room_at lanes topology most s (Some p) is room = let same : p ≡ s = cc in subst (λ (t : ℕ). HasRoom lanes (lane_by topology (far t)) most) same room
+
+-- what has room where there is a partner
+pub room_beside : (lanes : List Lane) (topology : Topology) (most beside : ℕ) (partner : Option ℕ) → ((p : ℕ) → partner ≡ Some p → beside ≡ p) → HasRoom lanes (lane_by topology (far beside)) most → IfSome partner (λ p. HasRoom lanes (lane_by topology (far p)) most)
+room_beside lanes topology most beside None is room = tt
+room_beside lanes topology most beside (Some p) is room = subst (λ (t : ℕ). HasRoom lanes (lane_by topology (far t)) most) (is p refl) room
 
 -- so room in the two lanes away from these is room for all that a Take sends
 pub take_room : (world : WorldState) (topology : Topology) (lanes : List Lane) (who local slot most : ℕ) (partner : Option ℕ) (signal : Signal) (step : BoxStep) → IsSoundBox (box_at world who)

@@ -1,8 +1,10 @@
 // Lanes as they change, each given by its place among all lanes.
 
-ghost use Rattle.std.specs.Prelude.{◌≡◌, ℕ, ◌+◌, ◌<◌, true, length, IfSome, OnOk};
+ghost use Rattle.std.specs.Prelude.{◌≡◌, ℕ, ◌+◌, ◌<◌, true, length, OnOk};
 ghost use Rattle.mc_slot.specs.Sending.{sends_of};
-ghost use Rattle.mc_world.specs.Lanes.{signals_of, lane_by, tunnel_by, without_front, one_sent, all_sent, relay, with_sending, IsLaid, HasRoom, HasRoomAway, HasRoomFor, HasRoomFrom};
+ghost use Rattle.std.specs.List.{slice_get};
+ghost use Rattle.mc_world.specs.Lanes.{signals_of, lane_by, numbers_of, tunnel_by, without_front, one_sent, all_sent, relay, with_sending, IsLaid, HasRoom, HasRoomAway, HasRoomFor, HasRoomFrom};
+ghost use Rattle.mc_world.specs.Senders.{AreSenders};
 ghost use Rattle.mc_world.specs.Fronts.{NextServed};
 ghost use Rattle.mc_world.specs.Waiting.{waits_by, IsWaiting};
 
@@ -12,6 +14,30 @@ use mc_lane::Lane;
 use mc_signal::{Signal, Tagged};
 use mc_slot::Sends;
 use std::alloc::AllocError;
+
+/// The slots by which a Take sends, each by its local number and its number: the one that takes, and the one that it is
+/// linked with; where it is linked with none, itself again.
+#[derive(Clone, Copy)]
+pub struct Senders {
+    pub own: (u8, u32),
+    pub partner: (u8, u32),
+}
+
+impl Senders {
+    // The number of a box's slot, which most of the time is one of these.
+    fn number(&self, topology: &Topology, who: u32, local: u8) -> Option<u32>
+        requires { AreSenders topology.now who self.now }
+        ensures { result ≡ slice_get (numbers_of topology.now who) local }
+    {
+        if local == self.partner.0 {
+            Some(self.partner.1)
+        } else if local == self.own.0 {
+            Some(self.own.1)
+        } else {
+            topology.number(who, local)
+        }
+    }
+}
 
 /// Makes room in each lane that leads away from a slot of the box, for as much as one event may send in all.
 pub fn make_room(
@@ -31,29 +57,24 @@ pub fn make_room(
     Ok(())
 }
 
-/// Makes room in the lane that leads away from a slot, and in the one away from the slot that it is linked with: a
-/// Take sends by no other.
+/// Makes room in the two lanes that lead away from these slots: a Take sends by no other.
 pub fn make_room_by(
     lanes: &mut [Lane<Tagged>],
     topology: &Topology,
-    slot: u32,
-    partner: Option<u32>,
+    senders: &Senders,
     most: usize,
 ) -> Result<(), AllocError>
     requires laid { IsLaid topology.now (length lanes.old) }
-    requires here { slot < length topology.now.places.items }
-    requires partner { IfSome partner (λ partner. partner < length topology.now.places.items) }
+    requires own { senders.now.own.1 < length topology.now.places.items }
+    requires partner { senders.now.partner.1 < length topology.now.places.items }
     ensures same { signals_of lanes.new ≡ signals_of lanes.old }
-    ensures own { OnOk result (HasRoomAway lanes.new topology.now slot most) }
-    ensures linked { OnOk result (IfSome partner (λ partner. HasRoomAway lanes.new topology.now partner most)) }
+    ensures own { OnOk result (HasRoomAway lanes.new topology.now senders.now.own.1 most) }
+    ensures partner { OnOk result (HasRoomAway lanes.new topology.now senders.now.partner.1 most) }
 {
-    let (lane, _) = topology.toward(far(slot));
+    let (lane, _) = topology.toward(far(senders.own.1));
     reserve(lanes, lane, most)?;
-    if let Some(partner) = partner {
-        let (lane, _) = topology.toward(far(partner));
-        reserve(lanes, lane, most)?;
-    }
-    Ok(())
+    let (lane, _) = topology.toward(far(senders.partner.1));
+    reserve(lanes, lane, most)
 }
 
 /// What a box sends goes away, each sending in its order to the end of the lane that leads to the far slot of its
@@ -63,16 +84,19 @@ pub fn send_all(
     waiting: &mut Waiting,
     topology: &Topology,
     who: u32,
+    senders: &Senders,
     sends: &Sends,
 )
     requires laid { IsLaid topology.now (length lanes.old) }
     requires waiting { IsWaiting topology.now (signals_of lanes.old) waiting.old }
+    requires senders { AreSenders topology.now who senders.now }
     requires room { HasRoomFrom lanes.old topology.now who (sends_of sends.now) sends.now.len }
     ensures sent { signals_of lanes.new ≡ all_sent topology.now who (signals_of lanes.old) (sends_of sends.now) }
     ensures waiting { IsWaiting topology.now (signals_of lanes.new) waiting.new }
 {
     for sending in sends.as_slice() {
-        send(lanes, waiting, topology, who, sending);
+        let slot = senders.number(topology, who, sending.0);
+        send(lanes, waiting, topology, who, slot, sending);
     }
 }
 
@@ -92,33 +116,35 @@ pub fn send_lane(
 {
     for i in 0..sends.len() {
         let sending = sends.get(i);
-        send(lanes, waiting, topology, who, &sending);
+        let slot = topology.number(who, sending.0);
+        send(lanes, waiting, topology, who, slot, &sending);
     }
 }
 
-/// A slot takes the front of the lane toward it, and then what its box sends goes away.
+/// The first of these slots takes the front of the lane toward it, and then what its box sends goes away.
 pub fn relay(
     lanes: &mut [Lane<Tagged>],
     waiting: &mut Waiting,
     topology: &Topology,
     who: u32,
-    slot: u32,
+    senders: &Senders,
     toward: (usize, u8),
     sends: &Sends,
 )
     requires laid { IsLaid topology.now (length lanes.old) }
     requires waiting { IsWaiting topology.now (signals_of lanes.old) waiting.old }
-    requires here { slot < length topology.now.places.items }
-    requires some { waits_by topology.now (signals_of lanes.old) slot ≡ true }
-    requires served { NextServed topology.now (signals_of lanes.old) slot }
-    requires lane { toward.0 ≡ lane_by topology.now slot }
-    requires tunnel { toward.1 ≡ tunnel_by topology.now slot }
+    requires senders { AreSenders topology.now who senders.now }
+    requires here { senders.now.own.1 < length topology.now.places.items }
+    requires some { waits_by topology.now (signals_of lanes.old) senders.now.own.1 ≡ true }
+    requires served { NextServed topology.now (signals_of lanes.old) senders.now.own.1 }
+    requires lane { toward.0 ≡ lane_by topology.now senders.now.own.1 }
+    requires tunnel { toward.1 ≡ tunnel_by topology.now senders.now.own.1 }
     requires room { HasRoomFrom lanes.old topology.now who (sends_of sends.now) sends.now.len }
-    ensures sent { signals_of lanes.new ≡ relay topology.now who (signals_of lanes.old) slot (sends_of sends.now) }
+    ensures sent { signals_of lanes.new ≡ relay topology.now who (signals_of lanes.old) senders.now.own.1 (sends_of sends.now) }
     ensures waiting { IsWaiting topology.now (signals_of lanes.new) waiting.new }
 {
-    pop_front(lanes, waiting, topology, slot, toward);
-    send_all(lanes, waiting, topology, who, sends);
+    pop_front(lanes, waiting, topology, senders.own.1, toward);
+    send_all(lanes, waiting, topology, who, senders, sends);
 }
 
 // The front of its lane leaves for a slot, and another slot may be next. The room in each lane stays.
@@ -171,16 +197,18 @@ fn send(
     waiting: &mut Waiting,
     topology: &Topology,
     who: u32,
+    slot: Option<u32>,
     sending: &(u8, Signal),
 )
     requires laid { IsLaid topology.now (length lanes.old) }
     requires waiting { IsWaiting topology.now (signals_of lanes.old) waiting.old }
+    requires number { slot ≡ slice_get (numbers_of topology.now who) sending.now.0 }
     requires room { HasRoomFor lanes.old topology.now who sending.now.0 1 }
     ensures sent { signals_of lanes.new ≡ one_sent topology.now who (signals_of lanes.old) sending.now }
     ensures waiting { IsWaiting topology.now (signals_of lanes.new) waiting.new }
     ensures room { (k count : ℕ) → HasRoom lanes.old k (count + 1) → HasRoom lanes.new k count }
 {
-    if let Some(slot) = topology.number(who, sending.0) {
+    if let Some(slot) = slot {
         push_last(lanes, waiting, topology, far(slot), &sending.1);
     }
 }

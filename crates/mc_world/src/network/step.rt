@@ -1,19 +1,21 @@
 // One step of a world.
 
-ghost use Rattle.std.specs.Prelude.{◌≡◌, ◌↔◌, ◌<◌, ◌&&◌, not, Some, None, false, length, IsFalse, IsTrue, OnOk, OnErr};
+ghost use Rattle.std.specs.Prelude.{◌≡◌, ◌↔◌, ◌<◌, ◌&&◌, ℕ, not, Some, None, false, length, IsFalse, IsTrue, OnOk, OnErr};
 ghost use Rattle.mc_box.specs.BoxEvents.{is_enabled, is_take, is_version_end, turn_of};
 ghost use Rattle.mc_box.specs.LinkFree.{is_linking};
+ghost use Rattle.mc_model.specs.Paths.{partner_of};
 ghost use Rattle.mc_model.specs.Sound.{IsSound};
+ghost use Rattle.mc_model.specs.Worlds.{box_at, number};
 ghost use Rattle.mc_world.specs.StepAnswers.{Answers, CannotHappen, LacksVersion};
 ghost use Rattle.mc_model.specs.Steps.{ends_version_at, step, step_by};
 ghost use Rattle.mc_world.specs.declared.network.step.StepFault.TheVariants.{NoMemory};
 
 use super::World;
-use crate::lanes::{make_room, make_room_by, relay, send_lane};
+use crate::lanes::{Senders, make_room, make_room_by, relay, send_lane};
 use mc_box::limit::LAST_VERSION;
 use mc_box::{Change, Event, MediaBox, MediaChange};
 use mc_lane::Lane;
-use mc_slot::{SENDS_LIMIT, Sends};
+use mc_slot::{SENDS_LIMIT, Sends, SlotGoal};
 use std::alloc::AllocError;
 
 /// Why a step isn't made.
@@ -78,8 +80,11 @@ impl World {
         let Some(signal) = self.front_in(toward) else {
             return Err(StepFault::NotEnabled);
         };
-        let partner = self.partner_at(who, local);
-        make_room_by(&mut self.lanes, &self.topology, slot, partner, SENDS_LIMIT)?;
+        let senders = Senders {
+            own: (local, slot),
+            partner: self.sender_beside(who, local, slot),
+        };
+        make_room_by(&mut self.lanes, &self.topology, &senders, SENDS_LIMIT)?;
         let actor = &mut self.boxes[who as usize];
         let mut sends = Sends::none();
         actor.send_take(local, signal, &mut sends);
@@ -88,11 +93,29 @@ impl World {
             &mut self.waiting,
             &self.topology,
             who,
-            slot,
+            &senders,
             toward,
             &sends,
         );
         Ok(())
+    }
+
+    // The slot that a box's slot is linked with, by its local number and its number; the slot itself where its goal is
+    // an end's.
+    fn sender_beside(&self, who: u32, local: u8, slot: u32) -> (u8, u32)
+        requires here { who < length self.now.boxes }
+        requires number { number self.now who local ≡ Some slot }
+        requires inside { local < length (box_at self.now who).slots }
+        ensures number { number self.now who result.0 ≡ Some result.1 }
+        ensures partner { (partner : ℕ) → partner_of self.now slot ≡ Some partner → result.1 ≡ partner }
+    {
+        match self.boxes[who as usize].goal(local) {
+            SlotGoal::End(_) => (local, slot),
+            SlotGoal::Link(partner) => match self.number(who, partner) {
+                Some(number) => (partner, number),
+                None => (local, slot),
+            },
+        }
     }
 
     // An event that takes no signal happens to a box.

@@ -1,4 +1,4 @@
-use Rattle.std.proofs.Common.{◌≡◌, ◌≤◌, ◌∙◌, ap, refl, subst, sym, ℕ, length, drop, get_or, position, List, [], Some, arith, rules}
+use Rattle.std.proofs.Common.{◌≡◌, ◌<◌, ◌≤◌, ◌∙◌, ap, refl, subst, sym, ℕ, length, drop, get_or, position, List, [], Some, arith, rules}
 use Rattle.std.proofs.lemmas.Result.{err_from_is_err_and}
 use Rattle.std.proofs.lemmas.List.{length-set}
 use Rattle.std.specs.Vec.{with_item, with_items}
@@ -9,9 +9,10 @@ use Rattle.mc_slot.specs.declared.sends.TheConstants.{SENDS_LIMIT}
 use Rattle.mc_box.specs.BoxEvents.{box_event}
 use Rattle.mc_box.specs.Boxes.{BoxState}
 use Rattle.mc_world.specs.Lanes.{IsLaid, all_sent, lane_by, signals_of, without_front}
+use Rattle.mc_model.specs.Paths.{partner_of}
 use Rattle.mc_model.specs.Steps.{step_by}
 use Rattle.mc_world.specs.Tables.{world_state}
-use Rattle.mc_model.specs.Worlds.{WorldState, box_at, far, is_place, lane_of, number, tunnel_of}
+use Rattle.mc_model.specs.Worlds.{WorldState, box_at, far, is_place, lane_of, number, slot_count, tunnel_of}
 use Rattle.mc_box.specs.declared.event.Event.TheVariants.{Take}
 use Rattle.mc_world.proofs.LaneChanges.{Lane, length_kept, room_kept, signals_kept, signals_written, twice_refilled}
 use Rattle.mc_box.proofs.Taking.{adds_all, sends_length}
@@ -20,12 +21,12 @@ use Rattle.mc_laws.proofs.StepKeeps.{front_is_taken}
 use Rattle.mc_world.proofs.Tables.{box_read}
 use Rattle.mc_world.proofs.TopologyLanes.{lane_same, tables_laid, tunnel_same}
 use Rattle.mc_world.proofs.WorldSteps.{front_found, number_inside, number_slot, lanes_tables, step_tables, take_enabled, take_made}
-use Rattle.mc_world.proofs.TakeSends.{take_room}
+use Rattle.mc_world.proofs.TakeSends.{room_beside, take_room}
 use Rattle.mc_world.proofs.Waits.{behind_served}
 use Rattle.mc_world.proofs.network.World.take.Goals as goal
 
-pub partner_at-partner-requires-clause-inside : goal.partner_at-partner-requires-clause-inside
-partner_at-partner-requires-clause-inside c = number_inside c.args.self.now c.args.who c.args.local c.in-Some.slot c.requires.sound.numbered (sym c.number.ensures ∙ c.in-Some.is)
+pub sender_beside-requires-clause-inside : goal.sender_beside-requires-clause-inside
+sender_beside-requires-clause-inside c = number_inside c.args.self.now c.args.who c.args.local c.in-Some.slot c.requires.sound.numbered (sym c.number.ensures ∙ c.in-Some.is)
 
 pub make_room_by-requires-clause-laid : goal.make_room_by-requires-clause-laid
 make_room_by-requires-clause-laid c =
@@ -82,10 +83,24 @@ relay-requires-clause-room c k d below s is =
     (adds_all _ _ c.none-sends.result c.send_take.new.sends c.none-sends.ensures c.send_take.ensures.event) in
     room_kept c.self.inside.lanes c.deref_mut.result.now c.make_room_by.new.lanes c.deref_mut-2.result.now (lane_by c.self.inside.topology (far s)) SENDS_LIMIT c.send_take.new.sends.len
     c.deref_mut.ensures.value c.make_room_by.auto.lanes c.deref_mut-2.ensures.value c.send_take.new.sends.short
-    (take_room c.args.self.now c.self.inside.topology c.make_room_by.new.lanes c.args.who c.args.local c.in-Some.slot SENDS_LIMIT c.partner_at-partner.result c.in-Some-front_in.signal _ (c.requires.sound.boxes c.args.who c.requires.here) goes
-    (sym c.number.ensures ∙ c.in-Some.is) (c.partner_at-partner.ensures.partner c.in-Some.slot (sym c.number.ensures ∙ c.in-Some.is))
+    (take_room c.args.self.now c.self.inside.topology c.make_room_by.new.lanes c.args.who c.args.local c.in-Some.slot SENDS_LIMIT (partner_of c.args.self.now c.in-Some.slot) c.in-Some-front_in.signal _ (c.requires.sound.boxes c.args.who c.requires.here) goes
+    (sym c.number.ensures ∙ c.in-Some.is) refl
     (λ other. c.self.invariant.found c.args.who other ∙ (ap (position (is_place (c.args.who, other))) c.self.invariant.places ∙ ap (λ (w : WorldState). number w c.args.who other) c.self.view_is))
-    c.in_ok-make_room_by.ensures.own c.in_ok-make_room_by.ensures.linked k d below s is)
+    c.in_ok-make_room_by.ensures.own
+    (room_beside c.make_room_by.new.lanes c.self.inside.topology SENDS_LIMIT c.sender_beside.result.1 (partner_of c.args.self.now c.in-Some.slot) c.sender_beside.ensures.partner c.in_ok-make_room_by.ensures.partner) k d below s is)
+
+pub relay-requires-clause-senders : goal.relay-requires-clause-senders
+relay-requires-clause-senders c =
+    let found = λ (other : ℕ). c.self.invariant.found c.args.who other ∙ (ap (position (is_place (c.args.who, other))) c.self.invariant.places ∙ ap (λ (w : WorldState). number w c.args.who other) c.self.view_is) in
+    record {
+      own = found c.args.local ∙ (sym c.number.ensures ∙ c.in-Some.is);
+      partner = found c.sender_beside.result.0 ∙ c.sender_beside.ensures.number;
+    }
+
+pub relay-requires-clause-here : goal.relay-requires-clause-here
+relay-requires-clause-here c =
+    subst (λ (l : List (ℕ × ℕ)). c.in-Some.slot < length l) (sym c.self.invariant.places)
+    (subst (λ (w : WorldState). c.in-Some.slot < slot_count w) (sym c.self.view_is) ((number_is c.args.self.now c.args.who c.args.local c.in-Some.slot (sym c.number.ensures ∙ c.in-Some.is)).0))
 
 -- the world that was left is the next one
 stepped : (c : goal.After-self-3-1) → step_by c.args.self.now c.args.who (Take c.args.local)
