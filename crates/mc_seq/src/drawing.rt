@@ -160,19 +160,30 @@ fn pick(sitting: &Sitting, draws: &mut Draws) -> Option<Turn>
     Some(kth(&sitting.settled.world, &sitting.left, urgent, k))
 }
 
-// A draw modulo a count, by a short division at most.
+// A draw modulo a count. Few are counted as a rule, and a remainder by a constant takes no division.
 fn modulo(draw: u32, count: u64) -> u64
     requires { 0 < count }
     ensures { result ≡ draw % count }
 {
-    if count == 1 {
-        return 0;
+    match count {
+        1 => 0,
+        2 => u64::from(draw % 2),
+        3 => u64::from(draw % 3),
+        4 => u64::from(draw % 4),
+        _ => short_modulo(draw, count),
     }
-    let draw = u64::from(draw);
-    if draw < count {
-        return draw;
+}
+
+// The same by a division of 32 bits at most, which takes half the time of one of 64.
+fn short_modulo(draw: u32, count: u64) -> u64
+    requires { 0 < count }
+    ensures { result ≡ draw % count }
+{
+    let wide = u64::from(draw);
+    if wide < count {
+        return wide;
     }
-    u64::from(draw as u32 % count as u32)
+    u64::from(draw % count as u32)
 }
 
 // Whether commands alone are listed.
