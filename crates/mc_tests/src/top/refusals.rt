@@ -338,7 +338,7 @@ const LEAST_ROWS: [Row; 21] = [
 ];
 
 // Short texts, and the number and the line of the fault. The end of a text is one more line.
-const SHORT: [(&str, u8, u32); 14] = [
+const SHORT: [(&str, u8, u32); 15] = [
     ("", 17, 1),
     ("\n", 17, 2),
     ("   \n# none", 17, 3),
@@ -349,6 +349,8 @@ const SHORT: [(&str, u8, u32); 14] = [
     ("media 1\nsettle\n", 16, 3),
     ("media 1\nsettle\nbegin\n", 5, 3),
     ("media 1\nfly", 5, 2),
+    // no channel is declared yet
+    ("media 1\ncodec g711\ndev a g711\nalso audio a f\n", 5, 4),
     ("media 1\n\n  # none\n  \nfly", 5, 5),
     ("media 1\nfeat f\nprog f s\n", 15, 4),
     ("media 1\nfeat f\nprog f s\nfly\n", 5, 4),
