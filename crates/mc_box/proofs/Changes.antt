@@ -140,7 +140,7 @@ fits box first second is =
     }
 
 -- a slot that is linked is there
-link_inside : (goals : List SlotGoal) (local partner : ℕ) → get_or goals local (End ToClose) ≡ Link partner → local < length goals
+pub link_inside : (goals : List SlotGoal) (local partner : ℕ) → get_or goals local (End ToClose) ≡ Link partner → local < length goals
 link_inside goals local partner is = elim (cases_lt local (length goals)) [
   | inl inside ↦ inside
   | inr past ↦ let end : get_or goals local (End ToClose) ≡ End ToClose = get_or_past goals local (End ToClose) past in absurd (cc)
@@ -210,6 +210,7 @@ change_wired box change wired enabled = record {
   links = λ local partner is.
       let inside = after_inside box change local partner wired is in
       new_links change box local partner wired enabled inside (sym (after_is box change local wired inside) ∙ is);
+  program = wired.program;
 }
 
 -- ---- goals that have no turn

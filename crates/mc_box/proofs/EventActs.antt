@@ -1,5 +1,5 @@
 -- What each slot of a sound box does in an event.
-use Rattle.std.proofs.Common.{◌≡◌, ◌≢◌, ◌==◌, ℕ, ◌<◌, true, Option, Some, None, List, ◌∷◌, ◌++◌, map, inl, inr, length, refl, ap, sym, ◌∙◌, subst, arith}
+use Rattle.std.proofs.Common.{◌≡◌, ◌≢◌, ◌==◌, ℕ, ◌<◌, true, Option, Some, None, List, [], ◌∷◌, ◌++◌, map, inl, inr, length, refl, ap, sym, ◌∙◌, subst, arith}
 use Rattle.std.specs.Option.{option_map}
 use Rattle.std.proofs.Math.ListN.{get_or, set, length-set}
 use Rattle.std.proofs.lemmas.Bool.{and_parts, cases_eq}
@@ -12,9 +12,9 @@ use Rattle.mc_slot.specs.declared.Cause.TheVariants.{Other, Push}
 use Rattle.mc_slot.specs.declared.Slot.{Slot}
 use Rattle.mc_slot.specs.declared.SlotGoal.{SlotGoal}
 use Rattle.mc_box.specs.Acting.{Acted, sends, takes, sent_by, BoxActs, IsSameMake}
-use Rattle.mc_box.specs.BoxEvents.{BoxStep, with_answer, goal_step, event_step, with_hearing, is_enabled, media_step, set_step, take_step, with_talking}
+use Rattle.mc_box.specs.BoxEvents.{BoxStep, with_answer, enabled_shift, goal_step, goals_step, event_step, with_hearing, is_enabled, media_step, set_step, shift_by, shift_goals, shift_step, take_step, tell_step, with_shift, with_talking}
 use Rattle.mc_box.specs.BoxShapes.{is_device}
-use Rattle.mc_box.specs.BoxSound.{IsSoundBox}
+use Rattle.mc_box.specs.BoxSound.{IsSoundBox, IsWired}
 use Rattle.mc_box.specs.Boxes.{BoxState, is_slot, media_at, no_media, no_slot, box_owes, slot_at, with_goals, with_media, with_slot}
 use Rattle.mc_box.specs.EventLaws.{EventActs, TakeActs}
 use Rattle.mc_box.specs.Goals.{changed_slots, change_goals}
@@ -25,12 +25,13 @@ use Rattle.mc_box.specs.declared.event.MediaChange.{MediaChange}
 use Rattle.mc_box.specs.declared.event.MediaChange.TheVariants.{Hear, Talk}
 use Rattle.mc_box.specs.declared.limit.TheConstants.{LAST_VERSION}
 use Rattle.mc_box.specs.declared.setup.SlotMedia.{SlotMedia}
-use Rattle.mc_box.proofs.Changes.{change_wired, length_goals_from, slot_inside}
+use Rattle.mc_box.proofs.Changes.{change_wired, slot_inside}
 use Rattle.mc_box.proofs.Events.{event_goes, event_keeps_sound, media_wired, took_wired}
 use Rattle.mc_box.proofs.Folds.{changed_inside}
 use Rattle.mc_box.proofs.Options.{else_some, if_some, map_some, then_some}
+use Rattle.mc_box.proofs.Shifting.{make_placed, shifted_sound, shifted_wired}
 use Rattle.mc_box.proofs.SentBy.{sent_by-append, sent_by_own, sent_by_other}
-use Rattle.mc_box.proofs.TurnActs.{make_more, make_slots, turn_acts, turns_act, SendsEach, TurnActs}
+use Rattle.mc_box.proofs.TurnActs.{make_more, make_slots, none_each, turn_acts, turns_act, SendsEach, TurnActs}
 
 -- ---- a slot acts
 
@@ -116,7 +117,7 @@ sends_from box start step same make turn = record {
 -- other goals, as many, make no other make
 make_goals : (box : BoxState) (goals : List SlotGoal) → length goals ≡ length box.goals → IsSameMake (with_goals box goals) box
 make_goals box goals size =
-    record { alike = record { kind = refl; number = refl; receives = refl; sends = refl; slots = refl }; goals = size; media = refl; origins = λ local. refl }
+    record { alike = record { kind = refl; number = refl; receives = refl; sends = refl; slots = refl; program = refl }; goals = size; media = refl; origins = λ local. refl }
 
 origin_by : (box : BoxState) (local : ℕ) (media : SlotMedia) (k : ℕ) → local < length box.media → media.origin ≡ (media_at box local).origin
     → (media_at (with_media box local media) k).origin ≡ (media_at box k).origin
@@ -130,17 +131,31 @@ origin_by box local media k here same = elim (cases_eq k local) [
 -- nor do other media of the same slot
 make_media : (box : BoxState) (local : ℕ) (media : SlotMedia) → local < length box.media → media.origin ≡ (media_at box local).origin → IsSameMake (with_media box local media) box
 make_media box local media here same = record {
-  alike = record { kind = refl; number = refl; receives = refl; sends = refl; slots = refl };
+  alike = record { kind = refl; number = refl; receives = refl; sends = refl; slots = refl; program = refl };
   goals = refl;
   media = length-set box.media local media;
   origins = λ k. origin_by box local media k here same;
 }
 
+-- goals change, to any that leave the box wired
+goals_sends : (box : BoxState) (news : List SlotGoal) (step : BoxStep) → IsSoundBox box → IsWired (with_goals box news) → goals_step box news ≡ Some step → Sends box step
+goals_sends box news step sound wired goes =
+    sends_from box (with_goals box news) step refl (make_goals box news (wired.whole.goals ∙ sym sound.wired.whole.goals))
+    (turns_act (changed_slots box.goals news) (with_goals box news) step wired (changed_inside box.goals news 0 (length box.slots) (omega (arith, sound.wired.whole.goals))) goes)
+
 set_sends : (box : BoxState) (change : Change) (step : BoxStep) → IsSoundBox box → is_enabled box (Set change) ≡ true → set_step box change ≡ Some step → Sends box step
-set_sends box change step sound enabled goes =
-    sends_from box (with_goals box (change_goals box.goals change)) step refl (make_goals box (change_goals box.goals change) (length_goals_from change 0 box.goals))
-    (turns_act (changed_slots box.goals (change_goals box.goals change)) (with_goals box (change_goals box.goals change)) step (change_wired box change sound.wired enabled)
-    (changed_inside box.goals (change_goals box.goals change) 0 (length box.slots) (omega (arith, sound.wired.whole.goals))) goes)
+set_sends box change step sound enabled goes = goals_sends box (change_goals box.goals change) step sound (change_wired box change sound.wired enabled) goes
+
+tell_sends : (box : BoxState) (word : ℕ) (step : BoxStep) → tell_step box word ≡ Some step → Sends box step
+tell_sends box word step goes =
+    let same : record { sent = []; after = record box { told = Some word } } ≡ step = cc in
+    subst (λ (s : BoxStep). Sends box s) same (record { each = none_each box; make = make_placed box box.at (Some word) })
+
+shift_sends : (box : BoxState) (step : BoxStep) → IsSoundBox box → shift_step box ≡ Some step → Sends box step
+shift_sends box step sound goes =
+    let one = then_some (shift_by box) (enabled_shift box) step goes in
+    let sent = goals_sends (with_shift box one.0) (shift_goals box one.0) step (shifted_sound box one.0 sound one.1) (shifted_wired box one.0 sound one.1) one.2 in
+    record { each = sent.each; make = make_more box (with_shift box one.0) step.after (make_placed box (with_shift box one.0).at (with_shift box one.0).told) sent.make }
 
 changed_sends : (box : BoxState) (local : ℕ) (media : SlotMedia) (step : BoxStep) → IsSoundBox box → local < length box.slots → media.origin ≡ (media_at box local).origin
     → goal_step (with_media box local media) local Other ≡ Some step → Sends box step
@@ -161,12 +176,12 @@ event_sends : (event : Event) (box : BoxState) (step : BoxStep) → IsSoundBox b
 event_sends (Take local) box step sound enabled goes = absurd (cc)
 event_sends (Set change) box step sound enabled goes = set_sends box change step sound enabled goes
 event_sends (Media change) box step sound enabled goes = media_sends change box step sound enabled goes
-event_sends (Tell word) box step sound enabled goes = absurd (cc)
+event_sends (Tell word) box step sound enabled goes = tell_sends box word step goes
 event_sends (Retry local) box step sound enabled goes =
     let here = and_parts (is_slot box local) (box_owes box local) enabled in
     let turn = turn_acts box local Push step sound.wired (slot_inside box local here.0) goes in
     record { each = turn.each; make = turn.make }
-event_sends Shift box step sound enabled goes = absurd (cc)
+event_sends Shift box step sound enabled goes = shift_sends box step sound goes
 
 pub event_acts : EventActs
 event_acts box event step to left sound goes others =

@@ -1,13 +1,15 @@
 -- When an event of a sound box can happen.
-use Rattle.std.proofs.Common.{◌≡◌, ◌==◌, ℕ, Bool, true, false, if◌then◌else◌, Option, Some, None, IsSome, IsTrue, length, refl, sym, subst, arith}
+use Rattle.std.proofs.Common.{◌≡◌, ◌==◌, ℕ, Bool, true, false, if◌then◌else◌, Option, Some, None, IsSome, IsTrue, List, length, refl, sym, subst, arith}
 use Rattle.std.specs.Option.{option_map}
 use Rattle.std.proofs.lemmas.Bool.{lt-ltb}
 use Rattle.mc_signal.specs.declared.Signal.{Signal}
 use Rattle.mc_slot.specs.EndTurn.{cause_of}
 use Rattle.mc_slot.specs.Moves.{slot_take, Took}
 use Rattle.mc_slot.specs.declared.Cause.TheVariants.{Other, Push}
-use Rattle.mc_box.specs.BoxEvents.{BoxStep, with_answer, box_event, goal_step, event_step, with_hearing, is_enabled, is_take, is_version_end, take_step, with_talking}
-use Rattle.mc_box.specs.BoxSound.{IsSoundBox}
+use Rattle.mc_box.specs.BoxEvents.{BoxStep, with_answer, box_event, goal_step, event_step, with_hearing, enabled_shift, goals_step, is_enabled, is_take, is_version_end, shift_by, shift_goals, shift_step, take_step, with_shift, with_talking}
+use Rattle.mc_rule.specs.declared.Shifted.{Shifted}
+use Rattle.mc_slot.specs.declared.SlotGoal.{SlotGoal}
+use Rattle.mc_box.specs.BoxSound.{IsSoundBox, IsWired}
 use Rattle.mc_box.specs.Boxes.{BoxState, is_slot, media_at, slot_at, with_goals, with_media, with_slot}
 use Rattle.mc_box.specs.EventLaws.{EventGoes, EventWasEnabled, TakeGoes, TakeWasLawful, VersionEndStops}
 use Rattle.mc_box.specs.Goals.{changed_slots, change_goals}
@@ -20,6 +22,7 @@ use Rattle.mc_box.proofs.Changes.{change_wired, slot_inside}
 use Rattle.mc_box.proofs.Events.{event_goes as was_enabled, media_wired, took_wired}
 use Rattle.mc_box.proofs.Folds.{changed_inside}
 use Rattle.mc_box.proofs.Options.{if_some, then_some}
+use Rattle.mc_box.proofs.Shifting.{shifted_sound, shifted_wired}
 use Rattle.mc_box.proofs.TurnGoes.{some_is, some_of, turn_goes, turns_go}
 
 -- ---- a signal is taken
@@ -65,15 +68,26 @@ media_goes (Hear local on) box sound newer =
 media_goes (Talk local on) box sound newer =
     turn_goes (with_media box local (with_talking on (media_at box local))) local Other (media_wired box local (with_talking on (media_at box local)) sound.wired)
 
+-- goals change, to any that leave the box wired
+goals_go : (box : BoxState) (news : List SlotGoal) → IsSoundBox box → IsWired (with_goals box news) → IsSome (goals_step box news)
+goals_go box news sound wired =
+    turns_go (changed_slots box.goals news) (with_goals box news) wired (changed_inside box.goals news 0 (length box.slots) (omega (arith, sound.wired.whole.goals)))
+
+shift_made : (box : BoxState) (shift : Shifted) → enabled_shift box ≡ Some shift → IsSome (shift_by box shift) → IsSome (shift_step box)
+shift_made box shift is some = rw is some
+
+shift_goes : (box : BoxState) → IsSoundBox box → IsSome (enabled_shift box) → IsSome (shift_step box)
+shift_goes box sound enabled =
+    let shift = some_of (enabled_shift box) enabled in
+    shift_made box shift.0 shift.1 (goals_go (with_shift box shift.0) (shift_goals box shift.0) (shifted_sound box shift.0 sound shift.1) (shifted_wired box shift.0 sound shift.1))
+
 happens : (event : Event) (box : BoxState) → IsSoundBox box → is_enabled box event ≡ true → is_take event ≡ false → is_version_end box event ≡ false → IsSome (event_step box event)
 happens (Take local) box sound enabled untaken newer = absurd (cc)
-happens (Set change) box sound enabled untaken newer =
-    turns_go (changed_slots box.goals (change_goals box.goals change)) (with_goals box (change_goals box.goals change)) (change_wired box change sound.wired enabled)
-    (changed_inside box.goals (change_goals box.goals change) 0 (length box.slots) (omega (arith, sound.wired.whole.goals)))
+happens (Set change) box sound enabled untaken newer = goals_go box (change_goals box.goals change) sound (change_wired box change sound.wired enabled)
 happens (Media change) box sound enabled untaken newer = media_goes change box sound newer
-happens (Tell word) box sound enabled untaken newer = absurd (cc)
+happens (Tell word) box sound enabled untaken newer = refl
 happens (Retry local) box sound enabled untaken newer = turn_goes box local Push sound.wired
-happens Shift box sound enabled untaken newer = absurd (cc)
+happens Shift box sound enabled untaken newer = shift_goes box sound enabled
 
 -- the event of a box is what happens, where it is enabled
 pub event_is : (event : Event) (box : BoxState) → box_event box event None ≡ (if is_enabled box event then event_step box event else None)

@@ -1,5 +1,5 @@
 -- Each event of a sound box leaves it sound, and sends few signals.
-use Rattle.std.proofs.Common.{◌≡◌, ◌≢◌, ◌==◌, ℕ, ◌*◌, ◌<◌, ◌≤◌, true, Some, None, [], length, refl, ap, sym, ◌∙◌, subst, arith}
+use Rattle.std.proofs.Common.{◌≡◌, ◌≢◌, ◌==◌, ℕ, ◌*◌, ◌<◌, ◌≤◌, true, is_some, Some, None, List, [], length, refl, ap, sym, ◌∙◌, subst, arith}
 use Rattle.std.specs.Option.{option_map}
 use Rattle.std.proofs.Math.ListN.{set, length-set}
 use Rattle.std.proofs.lemmas.List.{get_or-set_other}
@@ -13,7 +13,7 @@ use Rattle.mc_slot.specs.declared.Slot.{Slot}
 use Rattle.mc_slot.specs.declared.SlotGoal.{SlotGoal}
 use Rattle.mc_slot.specs.declared.SlotGoal.TheVariants.{End, Link}
 use Rattle.mc_tunnel.proofs.Steps.{took_kept, took_medium}
-use Rattle.mc_box.specs.BoxEvents.{BoxStep, with_answer, box_event, goal_step, event_step, with_hearing, is_enabled, media_step, set_step, take_step, with_talking}
+use Rattle.mc_box.specs.BoxEvents.{BoxStep, with_answer, box_event, enabled_shift, goal_step, goals_step, event_step, with_hearing, is_enabled, media_step, set_step, shift_by, shift_goals, shift_step, take_step, tell_step, with_shift, with_talking}
 use Rattle.mc_box.specs.BoxShapes.{is_device}
 use Rattle.mc_box.specs.BoxSound.{IsSoundBox, IsWired}
 use Rattle.mc_box.specs.Boxes.{BoxState, is_slot, no_media, no_slot, slot_at, goal_at, media_at, own_of, box_owes, sender_of, with_goals, with_media, with_slot}
@@ -30,6 +30,7 @@ use Rattle.mc_box.proofs.Changes.{change_wired, slot_inside}
 use Rattle.mc_box.proofs.Folds.{goals_settle}
 use Rattle.mc_box.proofs.Held.{elsewhere_rests, held, Lacks, lacks_first, own_put, RestsBut, rests_same, sender_put, wired_slot, box_with}
 use Rattle.mc_box.proofs.Options.{else_some, if_some, map_some, then_some}
+use Rattle.mc_box.proofs.Shifting.{placed_sound, shifted_sound, shifted_wired, told_fits}
 use Rattle.mc_box.proofs.Sums.{changed_twice}
 use Rattle.mc_box.proofs.GoalTurns.{turned}
 
@@ -101,6 +102,7 @@ media_wired box local media wired = record {
     feature = (wired.links k partner is).feature;
     medium = (wired.links k partner is).medium;
   };
+  program = wired.program;
 }
 
 media_rests : (box : BoxState) (local : ℕ) (media : SlotMedia) → IsSoundBox box → RestsBut (with_media box local media) (held (goal_at box local) local)
@@ -123,12 +125,30 @@ record Done (box : BoxState) (step : BoxStep) : Type 0 where
   sound : IsSoundBox step.after
   few : length step.sent ≤ 2 * length box.slots
 
-set_done : (box : BoxState) (change : Change) (step : BoxStep) → IsSoundBox box → is_enabled box (Set change) ≡ true → set_step box change ≡ Some step → Done box step
-set_done box change step sound enabled goes =
-    let wired = change_wired box change sound.wired enabled in
-    let made = goals_settle box (change_goals box.goals change) step sound wired goes in
-    let twice = changed_twice (with_goals box (change_goals box.goals change)) box.goals wired in
+-- goals change, to any that leave the box wired
+goals_done : (box : BoxState) (news : List SlotGoal) (step : BoxStep) → IsSoundBox box → IsWired (with_goals box news) → goals_step box news ≡ Some step → Done box step
+goals_done box news step sound wired goes =
+    let made = goals_settle box news step sound wired goes in
+    let twice = changed_twice (with_goals box news) box.goals wired in
     record { sound = made.sound; few = omega (arith, made.few, twice) }
+
+set_done : (box : BoxState) (change : Change) (step : BoxStep) → IsSoundBox box → is_enabled box (Set change) ≡ true → set_step box change ≡ Some step → Done box step
+set_done box change step sound enabled goes = goals_done box (change_goals box.goals change) step sound (change_wired box change sound.wired enabled) goes
+
+tell_done : (box : BoxState) (word : ℕ) (step : BoxStep) → IsSoundBox box → is_some box.program ≡ true → tell_step box word ≡ Some step → Done box step
+tell_done box word step sound enabled goes =
+    let same : record { sent = []; after = record box { told = Some word } } ≡ step = cc in
+    subst (λ (s : BoxStep). Done box s) same
+    (record {
+      sound = placed_sound box box.at (Some word) sound (told_fits box.program box.kind box.slots box.at box.told word enabled sound.wired.program);
+      few = omega arith;
+    })
+
+shift_done : (box : BoxState) (step : BoxStep) → IsSoundBox box → shift_step box ≡ Some step → Done box step
+shift_done box step sound goes =
+    let one = then_some (shift_by box) (enabled_shift box) step goes in
+    let made = goals_done (with_shift box one.0) (shift_goals box one.0) step (shifted_sound box one.0 sound one.1) (shifted_wired box one.0 sound one.1) one.2 in
+    record { sound = made.sound; few = made.few }
 
 changed_done : (box : BoxState) (local : ℕ) (media : SlotMedia) (step : BoxStep) → IsSoundBox box → local < length box.slots
     → goal_step (with_media box local media) local Other ≡ Some step → Done box step
@@ -150,14 +170,14 @@ event_done : (event : Event) (box : BoxState) (step : BoxStep) → IsSoundBox bo
 event_done (Take local) box step sound enabled goes = absurd (cc)
 event_done (Set change) box step sound enabled goes = set_done box change step sound enabled goes
 event_done (Media change) box step sound enabled goes = media_done change box step sound enabled goes
-event_done (Tell word) box step sound enabled goes = absurd (cc)
+event_done (Tell word) box step sound enabled goes = tell_done box word step sound enabled goes
 event_done (Retry local) box step sound enabled goes =
     let here = and_parts (is_slot box local) (box_owes box local) enabled in
     record {
       sound = turn_sound box local Push step sound.wired (slot_inside box local here.0) (λ k lacks. sound.rests k) goes;
       few = turn_twice box local Push step sound.wired (slot_inside box local here.0) goes;
     }
-event_done Shift box step sound enabled goes = absurd (cc)
+event_done Shift box step sound enabled goes = shift_done box step sound goes
 
 -- ---- any event
 

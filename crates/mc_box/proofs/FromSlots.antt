@@ -15,7 +15,7 @@ use Rattle.mc_slot.specs.declared.Cause.{Cause}
 use Rattle.mc_slot.specs.declared.Cause.TheVariants.{Other, Push}
 use Rattle.mc_slot.specs.declared.SlotGoal.{SlotGoal}
 use Rattle.mc_slot.specs.declared.SlotGoal.TheVariants.{End, Link}
-use Rattle.mc_box.specs.BoxEvents.{BoxStep, with_answer, sends_first, goal_step, event_step, with_hearing, is_enabled, media_step, set_step, side_of, take_step, with_talking, goal_step_by, goal_steps}
+use Rattle.mc_box.specs.BoxEvents.{BoxStep, with_answer, sends_first, enabled_shift, goal_step, goals_step, event_step, with_hearing, is_enabled, media_step, set_step, shift_by, shift_goals, shift_step, side_of, take_step, tell_step, with_shift, with_talking, goal_step_by, goal_steps}
 use Rattle.mc_box.specs.BoxShapes.{is_device}
 use Rattle.mc_box.specs.BoxSound.{IsSoundBox, IsWired}
 use Rattle.mc_box.specs.Boxes.{BoxState, goal_at, is_slot, media_at, own, box_owes, sender, slot_at, with_goals, with_media, with_slot}
@@ -34,6 +34,7 @@ use Rattle.mc_box.proofs.Folds.{changed_inside, AreInside}
 use Rattle.mc_box.proofs.GoalTurns.{end_form, pair_form, turned}
 use Rattle.mc_box.proofs.Held.{at_max, at_min}
 use Rattle.mc_box.proofs.Options.{else_some, map_some, then_some}
+use Rattle.mc_box.proofs.Shifting.{shifted_sound, shifted_wired}
 
 -- each sending has a number below this one
 abbrev AreBelow : ℕ → List (ℕ × Signal) → Type 0
@@ -108,12 +109,26 @@ take_below box local signal step sound here goes =
     (turn_below (with_slot box local one.0.after) local (cause_of signal one.0.after.state) two.0
     (took_wired box local signal one.0 sound.wired here one.1) (subst (λ (n : ℕ). local < n) (sym size) here) two.1)))
 
+-- goals change, to any that leave the box wired
+goals_below : (box : BoxState) (news : List SlotGoal) (step : BoxStep) → IsSoundBox box → IsWired (with_goals box news) → goals_step box news ≡ Some step
+    → AreBelow (length box.slots) step.sent
+goals_below box news step sound wired goes =
+    turns_below (changed_slots box.goals news) (with_goals box news) step (length box.slots) wired refl
+    (changed_inside box.goals news 0 (length box.slots) (omega (arith, sound.wired.whole.goals))) goes
+
 set_below : (box : BoxState) (change : Change) (step : BoxStep) → IsSoundBox box → is_enabled box (Set change) ≡ true → set_step box change ≡ Some step
     → AreBelow (length box.slots) step.sent
-set_below box change step sound enabled goes =
-    turns_below (changed_slots box.goals (change_goals box.goals change)) (with_goals box (change_goals box.goals change)) step (length box.slots)
-    (change_wired box change sound.wired enabled) refl
-    (changed_inside box.goals (change_goals box.goals change) 0 (length box.slots) (omega (arith, sound.wired.whole.goals))) goes
+set_below box change step sound enabled goes = goals_below box (change_goals box.goals change) step sound (change_wired box change sound.wired enabled) goes
+
+tell_below : (box : BoxState) (word : ℕ) (step : BoxStep) → tell_step box word ≡ Some step → AreBelow (length box.slots) step.sent
+tell_below box word step goes =
+    let none : step.sent ≡ [] = cc in
+    subst (λ (l : List (ℕ × Signal)). AreBelow (length box.slots) l) (sym none) (All-nil (λ (sending : ℕ × Signal). sending.0 < length box.slots))
+
+shift_below : (box : BoxState) (step : BoxStep) → IsSoundBox box → shift_step box ≡ Some step → AreBelow (length box.slots) step.sent
+shift_below box step sound goes =
+    let one = then_some (shift_by box) (enabled_shift box) step goes in
+    goals_below (with_shift box one.0) (shift_goals box one.0) step (shifted_sound box one.0 sound one.1) (shifted_wired box one.0 sound one.1) one.2
 
 changed_below : (box : BoxState) (local : ℕ) (media : SlotMedia) (step : BoxStep) → IsSoundBox box → local < length box.slots
     → goal_step (with_media box local media) local Other ≡ Some step → AreBelow (length box.slots) step.sent
@@ -135,11 +150,11 @@ event_below : (event : Event) (box : BoxState) (step : BoxStep) → IsSoundBox b
 event_below (Take local) box step sound enabled goes = absurd (cc)
 event_below (Set change) box step sound enabled goes = set_below box change step sound enabled goes
 event_below (Media change) box step sound enabled goes = media_below change box step sound enabled goes
-event_below (Tell word) box step sound enabled goes = absurd (cc)
+event_below (Tell word) box step sound enabled goes = tell_below box word step goes
 event_below (Retry local) box step sound enabled goes =
     let here = and_parts (is_slot box local) (box_owes box local) enabled in
     turn_below box local Push step sound.wired (slot_inside box local here.0) goes
-event_below Shift box step sound enabled goes = absurd (cc)
+event_below Shift box step sound enabled goes = shift_below box step sound goes
 
 pub event_sends_from_slots : EventSendsFromSlots
 event_sends_from_slots box event None step sound goes =

@@ -1,5 +1,5 @@
 -- What a goal's rest reads, and which slots a goal holds.
-use Rattle.std.proofs.Common.{◌≡◌, ◌≢◌, ℕ, ◌<◌, ◌≤◌, List, [], ◌∷◌, ◌++◌, inl, inr, length, max, min, refl, ap, sym, ◌∙◌, subst, arith}
+use Rattle.std.proofs.Common.{◌≡◌, ◌≢◌, ℕ, ◌<◌, ◌≤◌, Option, Some, None, List, [], ◌∷◌, ◌++◌, inl, inr, length, max, min, refl, ap, sym, ◌∙◌, subst, arith}
 use Rattle.std.proofs.Math.ListN.{get_or, set, length-set}
 use Rattle.std.proofs.lemmas.Bool.{cases_eq, cases_lt}
 use Rattle.std.proofs.lemmas.List.{get_or-set_same, get_or-set_other}
@@ -12,8 +12,9 @@ use Rattle.mc_slot.specs.declared.Goal.{Goal}
 use Rattle.mc_slot.specs.declared.Slot.{Slot}
 use Rattle.mc_slot.specs.declared.SlotGoal.{SlotGoal}
 use Rattle.mc_slot.specs.declared.SlotGoal.TheVariants.{End, Link}
-use Rattle.mc_box.specs.BoxSound.{IsWired, RestsAt}
-use Rattle.mc_box.specs.Boxes.{BoxState, no_slot, slot_at, goal_at, media_at, own, own_of, sender, sender_of, with_slot}
+use Rattle.mc_rule.specs.Programs.{ProgStateState}
+use Rattle.mc_box.specs.BoxSound.{FitsProgram, IsWired, RestsAt}
+use Rattle.mc_box.specs.Boxes.{BoxState, FitsSlots, no_slot, slot_at, goal_at, media_at, own, own_of, sender, sender_of, with_slot}
 use Rattle.mc_box.specs.declared.event.Kind.{Kind}
 use Rattle.mc_box.specs.declared.event.Kind.TheVariants.{Device, Feature}
 use Rattle.mc_box.specs.declared.setup.SlotMedia.{SlotMedia}
@@ -68,6 +69,22 @@ put_all P slots local slot inside here there k = elim (cases_eq k local) [
   | inr other ↦ subst (λ (s : Slot). P k s) (sym (get_or-set_other slots local k slot no_slot other)) (there k)
 ]
 
+-- a program fits other slots, as many and of the same media
+same_slots_fit : (states : List ProgStateState) (kind : Kind) (slots others : List Slot) → length others ≡ length slots
+    → ((k : ℕ) → (get_or others k no_slot).medium ≡ (get_or slots k no_slot).medium) → FitsSlots kind slots states → FitsSlots kind others states
+same_slots_fit states kind slots others size each fits = record {
+  feature = fits.feature;
+  program = fits.program;
+  goals = λ at here. fits.goals at here ∙ sym size;
+  media = λ at local partner is. each partner ∙ (fits.media at local partner is ∙ sym (each local));
+}
+
+fits_slots : (program : Option (List ProgStateState)) (kind : Kind) (slots others : List Slot) (at told : Option ℕ) → length others ≡ length slots
+    → ((k : ℕ) → (get_or others k no_slot).medium ≡ (get_or slots k no_slot).medium) → FitsProgram kind slots program at told → FitsProgram kind others program at told
+fits_slots None kind slots others at told size each fits = record { states = tt; here = fits.here; word = fits.word }
+fits_slots (Some states) kind slots others at told size each fits =
+    record { states = same_slots_fit states kind slots others size each fits.states; here = fits.here; word = fits.word }
+
 -- slots of the same media that keep what their states allow leave a box wired
 pub wired_slots : (box : BoxState) (slots : List Slot) → IsWired box → length slots ≡ length box.slots
     → ((k : ℕ) → Kept (get_or slots k no_slot) × ((get_or slots k no_slot).medium ≡ (slot_at box k).medium)) → IsWired (box_with box slots)
@@ -83,6 +100,7 @@ wired_slots box slots wired size each = record {
     feature = (wired.links local partner is).feature;
     medium = (each partner).1 ∙ ((wired.links local partner is).medium ∙ sym (each local).1);
   };
+  program = fits_slots box.program box.kind box.slots slots box.at box.told size (λ k. (each k).1) wired.program;
 }
 
 -- one such slot

@@ -14,6 +14,7 @@ pub mod Options
 pub mod Pairs
 pub mod SentBy
 pub mod ShapeEnables
+pub mod Shifting
 pub mod Sums
 pub mod TakeThree
 pub mod TakeTurns

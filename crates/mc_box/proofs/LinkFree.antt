@@ -105,7 +105,9 @@ happens_free (Set (NewEnd local goal)) box step free other goes =
     (turns_goals (changed_slots box.goals (change_goals box.goals (NewEnd local goal))) (with_goals box (change_goals box.goals (NewEnd local goal))) step ends goes) ends
 happens_free (Set (NewLink first second)) box step free other goes = absurd (cc)
 happens_free (Media change) box step free other goes = media_free change box step free goes
-happens_free (Tell word) box step free other goes = absurd (cc)
+happens_free (Tell word) box step free other goes =
+    let same : record { sent = []; after = record box { told = Some word } } ≡ step = cc in
+    free_same box step.after (ap (λ (s : BoxStep). s.after.goals) (sym same)) free
 happens_free (Retry local) box step free other goes = free_same box step.after (turn_goals box local Push step free goes) free
 happens_free Shift box step free other goes = absurd (cc)
 

@@ -1,9 +1,11 @@
 -- One event of one box: what it sends, and what it is after that. An event that has no case can't happen.
-use Rattle.std.specs.Prelude.{◌≡◌, ℕ, ◌+◌, ◌==◌, ◌&&◌, Bool, true, false, if◌then◌else◌, not, List, [], ◌∷◌, ◌++◌, length, map, max, min, nat_lt, Option, Some, None}
+use Rattle.std.specs.Prelude.{◌≡◌, ℕ, ◌+◌, ◌==◌, ◌&&◌, Bool, true, false, if◌then◌else◌, not, List, [], ◌∷◌, ◌++◌, length, map, max, min, nat_lt, is_some, Option, Some, None}
 use Rattle.std.specs.Option.{option_map, option_and_then}
 use Rattle.mc_link.specs.LinkTurn.{link_turn, with_number, sent_by_first, sent_by_second, closed_side}
 use Rattle.mc_link.specs.declared.Side.{Side}
 use Rattle.mc_link.specs.declared.Side.TheVariants.{First, Second}
+use Rattle.mc_rule.specs.Programs.{enabled}
+use Rattle.mc_rule.specs.declared.Shifted.{Shifted}
 use Rattle.mc_signal.specs.declared.Signal.{Signal}
 use Rattle.mc_slot.specs.EndTurn.{end_turn, cause_of, is_push}
 use Rattle.mc_slot.specs.Moves.{slot_take, slot_send_all, answer_signals, is_same_medium}
@@ -15,12 +17,12 @@ use Rattle.mc_slot.specs.declared.SlotGoal.{SlotGoal}
 use Rattle.mc_slot.specs.declared.SlotGoal.TheVariants.{End, Link}
 use Rattle.mc_slot.specs.declared.sends.Sends.{Sends}
 use Rattle.mc_box.specs.BoxShapes.{is_device, is_feature}
-use Rattle.mc_box.specs.Boxes.{BoxState, is_slot, slot_at, goal_at, media_at, with_goals, with_media, with_slot, own, sender, box_owes}
+use Rattle.mc_box.specs.Boxes.{BoxState, is_slot, slot_at, goal_at, goals_in, media_at, states_of, with_goals, with_media, with_slot, own, sender, box_owes}
 use Rattle.mc_box.specs.Goals.{changed_slots, change_goals}
 use Rattle.mc_box.specs.declared.event.Change.{Change}
 use Rattle.mc_box.specs.declared.event.Change.TheVariants.{End as NewEnd, Link as NewLink}
 use Rattle.mc_box.specs.declared.event.Event.{Event}
-use Rattle.mc_box.specs.declared.event.Event.TheVariants.{Take, Set, Media, Tell, Retry}
+use Rattle.mc_box.specs.declared.event.Event.TheVariants.{Take, Set, Media, Tell, Retry, Shift}
 use Rattle.mc_box.specs.declared.event.MediaChange.{MediaChange}
 use Rattle.mc_box.specs.declared.event.Turn.{Turn}
 use Rattle.mc_box.specs.declared.event.MediaChange.TheVariants.{Hear, Talk}
@@ -144,6 +146,36 @@ abbrev pub media_step : BoxState → MediaChange → Option BoxStep
 media_step box (Hear local on) = hear_step box local on
 media_step box (Talk local on) = talk_step box local on
 
+-- ---- a box's program
+
+-- the box keeps a told word, over an earlier one
+abbrev pub tell_step : BoxState → ℕ → Option BoxStep
+tell_step box word = Some (record { sent = []; after = record box { told = Some word } })
+
+-- the enabled transition of the box's program
+abbrev pub enabled_shift : BoxState → Option Shifted
+enabled_shift box = option_and_then (λ states. enabled states box.at box.slots box.told) box.program
+
+-- a transition that uses up the told word leaves none
+abbrev pub kept_word : Option ℕ → Bool → Option ℕ
+kept_word told spends = if spends then None else told
+
+-- the box is at the state that a transition leads to
+abbrev pub with_shift : BoxState → Shifted → BoxState
+with_shift box shift = record box { at = Some shift.target; told = kept_word box.told shift.spends }
+
+-- the goals of the state that a transition leads to
+abbrev pub shift_goals : BoxState → Shifted → List SlotGoal
+shift_goals box shift = goals_in (states_of box.program) shift.target
+
+-- the box goes to that state and gets its goals
+abbrev pub shift_by : BoxState → Shifted → Option BoxStep
+shift_by box shift = goals_step (with_shift box shift) (shift_goals box shift)
+
+-- by the enabled transition
+abbrev pub shift_step : BoxState → Option BoxStep
+shift_step box = option_and_then (shift_by box) (enabled_shift box)
+
 -- ---- an event
 
 -- two different slots of one medium, on a feature
@@ -159,14 +191,17 @@ is_enabled box (Set (NewEnd local goal)) = is_slot box local
 is_enabled box (Set (NewLink first second)) = may_link box first second
 is_enabled box (Media (Hear local on)) = is_device box.kind && is_slot box local
 is_enabled box (Media (Talk local on)) = is_device box.kind && is_slot box local
+is_enabled box (Tell word) = is_some box.program
 is_enabled box (Retry local) = is_slot box local && box_owes box local
-is_enabled box event = false
+is_enabled box Shift = is_some (enabled_shift box)
 
 -- what an event that takes nothing does
 abbrev pub event_step : BoxState → Event → Option BoxStep
 event_step box (Set change) = set_step box change
 event_step box (Media change) = media_step box change
+event_step box (Tell word) = tell_step box word
 event_step box (Retry local) = goal_step box local Push
+event_step box Shift = shift_step box
 event_step box event = None
 
 -- an event of a box, with the signal that it takes; a Take alone takes one

@@ -1,5 +1,5 @@
 -- The shapes of boxes: what commands need to know of them, and which commands they can have by that.
-use Rattle.std.specs.Prelude.{ℕ, ◌==◌, ◌&&◌, Bool, true, false, not, List, [], length, map, nat_lt, slice_index_or}
+use Rattle.std.specs.Prelude.{ℕ, ◌==◌, ◌&&◌, Bool, true, false, is_some, not, List, [], length, map, nat_lt, slice_index_or}
 use Rattle.mc_signal.specs.declared.Medium.{Medium}
 use Rattle.mc_signal.specs.declared.Medium.TheVariants.{Audio}
 use Rattle.mc_slot.specs.Moves.{is_same_medium}
@@ -17,9 +17,9 @@ pub record BoxShapeState : Type 0 where
   pub media : List Medium
   pub programmed : Bool
 
--- the shape of a box. No box has a program yet
+-- the shape of a box
 abbrev pub box_shape : BoxState → BoxShapeState
-box_shape box = record { kind = box.kind; media = map (λ slot. slot.medium) box.slots; programmed = false }
+box_shape box = record { kind = box.kind; media = map (λ slot. slot.medium) box.slots; programmed = is_some box.program }
 
 -- what stands where no box is
 abbrev pub no_shape : BoxShapeState

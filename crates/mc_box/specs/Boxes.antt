@@ -1,5 +1,6 @@
 -- A box as clauses see it, and what it is as new.
-use Rattle.std.specs.Prelude.{◌≡◌, ◌<◌, ◌≤◌, ◌^◌, ℕ, Bool, true, false, List, [], map, length, nat_lt, slice_index_or, slice_set}
+use Rattle.std.specs.Prelude.{◌≡◌, ◌<◌, ◌≤◌, ◌^◌, ℕ, Bool, true, false, List, [], map, length, nat_lt, slice_index_or, slice_set, Option, Some, None, IfSome}
+use Rattle.mc_rule.specs.Programs.{IsProgram, ProgStateState, no_state}
 use Rattle.mc_signal.specs.Empty.{no_codecs}
 use Rattle.mc_signal.specs.Own.{address_of, device_descriptor, device_sender, feature_descriptor, feature_sender}
 use Rattle.mc_signal.specs.declared.codec_list.CodecList.{CodecList}
@@ -19,7 +20,7 @@ use Rattle.mc_box.specs.declared.setup.Setup.{Setup}
 use Rattle.mc_box.specs.declared.setup.SlotMedia.{SlotMedia}
 use Rattle.mc_box.specs.declared.setup.SlotSetup.{SlotSetup}
 
--- a box: its kind and number, the lists that it receives and sends, and for each slot the slot, its goal, and what its descriptors are made of
+-- a box: its kind and number, the lists that it receives and sends, for each slot the slot, its goal, and what its descriptors are made of, and its program, with the state that it is at and the told word that it keeps
 pub record BoxState : Type 0 where
   pub kind : Kind
   pub number : ℕ
@@ -28,6 +29,9 @@ pub record BoxState : Type 0 where
   pub slots : List Slot
   pub goals : List SlotGoal
   pub media : List SlotMedia
+  pub program : Option (List ProgStateState)
+  pub at : Option ℕ
+  pub told : Option ℕ
 
 -- each slot has its goal and its media
 pub record IsBox (box : BoxState) : Type 0 where
@@ -87,6 +91,25 @@ slot_owes (Link partner) slot = false
 abbrev pub box_owes : BoxState → ℕ → Bool
 box_owes box local = slot_owes (goal_at box local) (slot_at box local)
 
+-- ---- programs
+
+-- the states of a program, and none where there is no program
+abbrev pub states_of : Option (List ProgStateState) → List ProgStateState
+states_of None = []
+states_of (Some states) = states
+
+-- the goals of one of them
+abbrev pub goals_in : List ProgStateState → ℕ → List SlotGoal
+goals_in states at = (slice_index_or states at no_state).goals
+
+-- the states of a program for these slots of a feature: each has a goal for each slot, and links slots of one medium
+pub record FitsSlots (kind : Kind) (slots : List Slot) (states : List ProgStateState) : Type 0 where
+  pub feature : kind ≡ Feature
+  pub program : IsProgram states
+  pub goals : (at : ℕ) → at < length states → length (goals_in states at) ≡ length slots
+  pub media : (at local partner : ℕ) → slice_index_or (goals_in states at) local (End ToClose) ≡ Link partner
+      → (slice_index_or slots partner no_slot).medium ≡ (slice_index_or slots local no_slot).medium
+
 -- ---- a box as new
 
 abbrev pub first_slot : SlotSetup → Slot
@@ -99,9 +122,9 @@ first_media version setup = record { origin = setup.origin; version = version; h
 abbrev pub first_goal : SlotSetup → SlotGoal
 first_goal setup = End ToClose
 
--- a new box: all its slots are closed, and all its goals are close
-abbrev pub first_box : Kind → (number : ℕ) → CodecList → CodecList → (version : ℕ) → List SlotSetup → BoxState
-first_box kind number receives sends version setups = record {
+-- a new box: all its slots are closed, all its goals are close, and its program is at no state
+abbrev pub first_box : Kind → (number : ℕ) → CodecList → CodecList → (version : ℕ) → List SlotSetup → Option (List ProgStateState) → BoxState
+first_box kind number receives sends version setups program = record {
   kind = kind;
   number = number;
   receives = receives;
@@ -109,20 +132,24 @@ first_box kind number receives sends version setups = record {
   slots = map first_slot setups;
   goals = map first_goal setups;
   media = map (first_media version) setups;
+  program = program;
+  at = None;
+  told = None;
 }
 
 -- the new box of a setup
 abbrev pub set_up : Setup → BoxState
-set_up setup = first_box setup.kind setup.number setup.codecs setup.sends setup.first_version setup.slots.items
+set_up setup = first_box setup.kind setup.number setup.codecs setup.sends setup.first_version setup.slots.items setup.program
 
--- a box is new, within the limits: some version and slots give it
+-- a box is new, within the limits: some version and slots give it, which its program fits
 pub record IsNewBox (box : BoxState) : Type 0 where
   pub version : ℕ
   pub setups : List SlotSetup
   pub few : length setups ≤ SLOT_LIMIT
   pub address : address_of box.number < 2 ^ 32
-  pub is : box ≡ first_box box.kind box.number box.receives box.sends version setups
+  pub program : IfSome box.program (FitsSlots box.kind box.slots)
+  pub is : box ≡ first_box box.kind box.number box.receives box.sends version setups box.program
 
 -- what stands where no box is
 abbrev pub no_box : BoxState
-no_box = first_box Feature 0 no_codecs no_codecs 0 []
+no_box = first_box Feature 0 no_codecs no_codecs 0 [] None

@@ -1,7 +1,7 @@
 // The events of a box that take no signal.
 
-ghost use Rattle.std.specs.Prelude.{◌≡◌, ◌≢◌, ◌+◌, ◌*◌, ◌-◌, ◌^◌, ◌<◌, ◌≤◌, ◌++◌, length, true, false, is_err, IsTrue, IsFalse, OnErr, OnOk};
-ghost use Rattle.mc_box.specs.BoxEvents.{box_event, changed_steps, goal_step, hear_step, is_enabled, is_take, is_version_end, change_media, set_step, talk_step};
+ghost use Rattle.std.specs.Prelude.{[], ◌≡◌, ◌≢◌, ◌+◌, ◌*◌, ◌-◌, ◌^◌, ◌<◌, ◌≤◌, ◌++◌, length, true, false, is_err, Some, IsTrue, IsFalse, OnErr, OnOk};
+ghost use Rattle.mc_box.specs.BoxEvents.{box_event, changed_steps, enabled_shift, goal_step, hear_step, is_enabled, is_take, is_version_end, change_media, set_step, shift_by, shift_step, talk_step, tell_step};
 ghost use Rattle.mc_box.specs.BoxSound.{box_state, AppendsTo, IsSoundBox, IsWired};
 ghost use Rattle.mc_box.specs.Boxes.{media_at, with_media};
 ghost use Rattle.mc_box.specs.Goals.{changed_slots};
@@ -13,6 +13,7 @@ use crate::media_box::VersionEnd;
 use crate::parts::BoxParts;
 use crate::setup::SlotMedia;
 use mc_lane::Lane;
+use mc_rule::Shifted;
 use mc_signal::Signal;
 use mc_slot::{Cause, Goal, SlotGoal};
 
@@ -121,6 +122,43 @@ impl BoxParts {
         self.change_media(local, talking, out);
     }
 
+    // The box goes to the state that a transition leads to, and each goal that changes so has its turn.
+    fn shift_by(&mut self, shift: Shifted, out: &mut Lane<(u8, Signal)>)
+        requires sound { IsSoundBox (box_state self.old) }
+        requires enabled { enabled_shift (box_state self.old) ≡ Some shift }
+        requires space { 2 * length self.old.slots.items ≤ out.old.spare }
+        ensures sent { AppendsTo (shift_by (box_state self.old) shift) self.new out.old out.new }
+        ensures room { out.new.spare + length out.new.items ≡ out.old.spare + length out.old.items }
+    {
+        let count = self.goals.len();
+        let mut former = [SlotGoal::End(Goal::Close); SLOT_LIMIT];
+        let old = &mut former[..count];
+        old.copy_from_slice(&self.goals);
+        self.shift(shift);
+        self.changed_steps(old, out);
+    }
+
+    // The box's program makes its enabled transition.
+    fn shift_step(&mut self, out: &mut Lane<(u8, Signal)>)
+        requires sound { IsSoundBox (box_state self.old) }
+        requires enabled { IsTrue (is_enabled (box_state self.old) Event.Shift) }
+        requires space { 2 * length self.old.slots.items ≤ out.old.spare }
+        ensures sent { AppendsTo (shift_step (box_state self.old)) self.new out.old out.new }
+        ensures room { out.new.spare + length out.new.items ≡ out.old.spare + length out.old.items }
+    {
+        match self.enabled_shift() {
+            Some(shift) => self.shift_by(shift, out),
+            None => unreachable!(),
+        }
+    }
+
+    // The box keeps a told word, over an earlier one.
+    fn tell(&mut self, word: u8)
+        ensures { tell_step (box_state self.old) word ≡ Some (record { sent = []; after = box_state self.new }) }
+    {
+        self.told = Some(word);
+    }
+
     /// An enabled event that takes no signal happens.
     pub fn act(&mut self, e: Event, out: &mut Lane<(u8, Signal)>) -> Result<(), VersionEnd>
         requires sound { IsSoundBox (box_state self.old) }
@@ -146,7 +184,15 @@ impl BoxParts {
                 self.send_turn(local, Cause::Push, out);
                 Ok(())
             }
-            Event::Take(_) | Event::Tell(_) | Event::Shift => unreachable!(),
+            Event::Tell(word) => {
+                self.tell(word);
+                Ok(())
+            }
+            Event::Shift => {
+                self.shift_step(out);
+                Ok(())
+            }
+            Event::Take(_) => unreachable!(),
         }
     }
 }

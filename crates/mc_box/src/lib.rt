@@ -9,6 +9,7 @@ pub mod limit;
 mod media_box;
 mod parts;
 mod setup;
+mod shifts;
 mod turns;
 
 pub use event::{BoxShape, Change, Event, Kind, MediaChange, Shape, Turn};

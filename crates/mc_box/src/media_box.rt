@@ -1,12 +1,12 @@
 // A box: its slots, and the goal of each.
 
-ghost use Rattle.std.specs.Prelude.{◌≡◌, ◌+◌, ◌*◌, ◌^◌, ◌<◌, ◌≤◌, length, is_err, IfOk, IsFalse, IsSome, IsTrue, None, OnErr, OnOk, Some};
+ghost use Rattle.std.specs.Prelude.{◌≡◌, ◌+◌, ◌*◌, ◌^◌, ◌<◌, ◌≤◌, length, is_err, is_some, map, IfOk, IfSome, IsFalse, IsSome, IsTrue, None, OnErr, OnOk, Some};
 ghost use Rattle.mc_signal.specs.Own.{address_of};
 ghost use Rattle.mc_slot.specs.Moves.{slot_take};
 ghost use Rattle.mc_slot.specs.Sending.{HasPlaces};
 ghost use Rattle.mc_box.specs.BoxEvents.{box_event, is_enabled, is_take, is_version_end, may_link, step_of, AddsStep, Appends};
 ghost use Rattle.mc_box.specs.BoxSound.{IsSoundBox};
-ghost use Rattle.mc_box.specs.Boxes.{goal_at, is_slot, box_owes, own, sender, set_up, slot_at};
+ghost use Rattle.mc_box.specs.Boxes.{first_slot, goal_at, is_slot, box_owes, own, sender, set_up, slot_at, FitsSlots};
 ghost use Rattle.mc_box.specs.declared.limit.TheConstants.{SLOT_LIMIT};
 
 use crate::event::{Change, Event, Kind, MediaChange};
@@ -42,10 +42,12 @@ impl Model for MediaBox {
 }
 
 impl MediaBox {
-    /// A new box: its slots are closed, its goals are close, and it hears and talks on every slot.
+    /// A new box: its slots are closed, its goals are close, it hears and talks on every slot, and its program is at no
+    /// state.
     pub fn new(alloc: Global, setup: Setup) -> Result<MediaBox, AllocError>
         requires few { length setup.slots.items ≤ SLOT_LIMIT }
         requires address { address_of setup.number < 2 ^ 32 }
+        requires program { IfSome setup.program (FitsSlots setup.kind (map first_slot setup.slots.items)) }
         ensures { IfOk result (λ made. made ≡ set_up setup) }
     {
         Ok(MediaBox {
@@ -107,18 +109,25 @@ impl MediaBox {
         self.parts.sender(local)
     }
 
-    /// The state that the box's program is at. No box has a program yet, so that it is at none.
-    pub fn at(&self) -> Option<u32>
-        ensures { result ≡ None }
+    /// Whether the box has a program.
+    pub fn has_program(&self) -> bool
+        ensures { result ≡ is_some self.now.program }
     {
-        None
+        self.parts.program.is_some()
     }
 
-    /// The word that the box was told and its program hasn't used. No box has a program yet, so that it keeps none.
-    pub fn told(&self) -> Option<u8>
-        ensures { result ≡ None }
+    /// The state that the box's program is at. A new box is at none.
+    pub fn at(&self) -> Option<u32>
+        ensures { result ≡ self.now.at }
     {
-        None
+        self.parts.at
+    }
+
+    /// The word that the box was told and its program hasn't used.
+    pub fn told(&self) -> Option<u8>
+        ensures { result ≡ self.now.told }
+    {
+        self.parts.told
     }
 
     /// Whether an event can happen now. A Take also needs a lawful signal that comes to its slot, and a Hear a
@@ -134,7 +143,8 @@ impl MediaBox {
                 device && self.has(local)
             }
             Event::Retry(local) => self.has(local) && self.owes(local),
-            Event::Tell(_) | Event::Shift => false,
+            Event::Tell(_) => self.has_program(),
+            Event::Shift => self.parts.enabled_shift().is_some(),
         }
     }
 

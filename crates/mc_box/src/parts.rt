@@ -8,6 +8,7 @@ ghost use Rattle.mc_box.specs.Boxes.{first_slot, first_goal, first_media, own, s
 
 use crate::event::Kind;
 use crate::setup::{Setup, SlotMedia, SlotSetup};
+use mc_rule::Program;
 use mc_signal::{CodecList, Descriptor, Sender};
 use mc_slot::{Goal, Slot, SlotGoal};
 use std::alloc::{AllocError, Global};
@@ -22,6 +23,9 @@ pub struct BoxParts {
     pub slots: Vec<Slot>,
     pub goals: Vec<SlotGoal>,
     pub media: Vec<SlotMedia>,
+    pub program: Option<Program>,
+    pub at: Option<u32>,
+    pub told: Option<u8>,
 }
 
 impl BoxParts {
@@ -29,14 +33,26 @@ impl BoxParts {
     pub fn new(alloc: Global, setup: Setup) -> Result<BoxParts, AllocError>
         ensures { IfOk result (λ made. box_state made ≡ set_up setup) }
     {
+        let Setup {
+            kind,
+            number,
+            codecs,
+            sends,
+            first_version,
+            slots,
+            program,
+        } = setup;
         Ok(BoxParts {
-            kind: setup.kind,
-            number: setup.number,
-            codecs: setup.codecs,
-            sends: setup.sends,
-            slots: first_slots(alloc, &setup.slots)?,
-            goals: first_goals(alloc, &setup.slots)?,
-            media: first_media_of(alloc, setup.first_version, &setup.slots)?,
+            kind,
+            number,
+            codecs,
+            sends,
+            slots: first_slots(alloc, &slots)?,
+            goals: first_goals(alloc, &slots)?,
+            media: first_media_of(alloc, first_version, &slots)?,
+            program,
+            at: None,
+            told: None,
         })
     }
 

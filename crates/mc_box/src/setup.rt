@@ -1,6 +1,7 @@
 // What a box is made of.
 
 use crate::event::Kind;
+use mc_rule::Program;
 use mc_signal::{CodecList, Medium};
 
 /// A slot of a box that is to be made: its number among all slots, its medium, and whether it is on the
@@ -22,7 +23,7 @@ pub struct SlotMedia {
     pub talks: bool,
 }
 
-/// A box that is to be made. `codecs` is what it receives and `sends` what it sends.
+/// A box that is to be made. `codecs` is what it receives and `sends` what it sends. A feature may have a program.
 #[derive(Debug, Drop)]
 pub struct Setup {
     pub kind: Kind,
@@ -31,4 +32,5 @@ pub struct Setup {
     pub sends: CodecList,
     pub first_version: u32,
     pub slots: Vec<SlotSetup>,
+    pub program: Option<Program>,
 }
