@@ -43,6 +43,7 @@ fn made(alloc: Global, kind: Kind, first_version: u32) -> Result<MediaBox, Alloc
         sends: CodecList::none(),
         first_version,
         slots,
+        program: None,
     };
     MediaBox::new(alloc, setup)
 }
