@@ -17,7 +17,7 @@ pub record IsLinkFree (world : WorldState) : Type 0 where
   pub sound : IsSound world
   pub free : HasNoLinks world
 
--- none of these turns sets a link
+-- none of these turns may link slots: none sets a link, and none is a Shift
 abbrev pub LinkNone : List Turn → Type 0
 LinkNone turns = IsFalse (list_any (λ turn. is_linking turn.event) turns)
 
@@ -25,6 +25,6 @@ LinkNone turns = IsFalse (list_any (λ turn. is_linking turn.event) turns)
 abbrev pub AllLinkNone : List (List Turn) → Type 0
 AllLinkNone batches = All LinkNone batches
 
--- a run of turns that set no link leaves a world without links so
+-- a run of such turns leaves a world without links so
 abbrev pub RunKeepsLinkFree : Type 0
 RunKeepsLinkFree = (world next : WorldState) (turns : List Turn) → IsLinkFree world → LinkNone turns → run world turns ≡ Some next → IsLinkFree next

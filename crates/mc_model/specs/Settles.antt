@@ -1,9 +1,8 @@
 -- What a settle is: a run that uses up a batch of commands and comes to rest.
-use Rattle.std.specs.Prelude.{◌≡◌, ℕ, ◌≤◌, ◌==◌, ◌&&◌, not, Bool, true, false, if◌then◌else◌, List, [], ◌∷◌, filter, length, take, drop, count_by, nat_lt, slice_get, IsTrue, Option, Some, None}
+use Rattle.std.specs.Prelude.{◌≡◌, ℕ, ◌≤◌, ◌==◌, ◌&&◌, not, Bool, true, false, if◌then◌else◌, List, [], ◌∷◌, filter, length, take, drop, count_by, nat_lt, slice_get, IsTrue, Option, Some}
 use Rattle.std.specs.List.{list_all, list_any, sum_by}
-use Rattle.std.specs.Option.{is_some}
 use Rattle.mc_signal.specs.declared.Tagged.{Tagged}
-use Rattle.mc_box.specs.BoxEvents.{box_event, is_command}
+use Rattle.mc_box.specs.BoxEvents.{is_command, is_enabled}
 use Rattle.mc_box.specs.Boxes.{is_slot, box_owes}
 use Rattle.mc_model.specs.Paths.{has_ring}
 use Rattle.mc_model.specs.Steps.{after, ends_version, heard_slot, run}
@@ -21,9 +20,9 @@ is_empty (tagged ∷ rest) = false
 abbrev pub is_quiet : WorldState → Bool
 is_quiet world = list_all is_empty world.lanes
 
--- some box's program can go to another state
+-- some box's program has an enabled transition
 abbrev pub can_shift : WorldState → Bool
-can_shift world = list_any (λ box. is_some (box_event box Shift None)) world.boxes
+can_shift world = list_any (λ box. is_enabled box Shift) world.boxes
 
 -- nothing is under way, and no program can go on
 abbrev pub rests : WorldState → Bool
