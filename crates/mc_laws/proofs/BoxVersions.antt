@@ -11,7 +11,7 @@ use Rattle.mc_slot.specs.declared.Cause.{Cause}
 use Rattle.mc_slot.specs.declared.Cause.TheVariants.{Other, Push}
 use Rattle.mc_slot.specs.declared.SlotGoal.{SlotGoal}
 use Rattle.mc_slot.specs.declared.SlotGoal.TheVariants.{End, Link}
-use Rattle.mc_box.specs.BoxEvents.{BoxStep, box_event, event_step, goal_step, goal_step_by, goal_steps, is_enabled, sends_first, side_of, take_step, with_answer, with_hearing, with_talking}
+use Rattle.mc_box.specs.BoxEvents.{BoxStep, box_event, enabled_shift, event_step, goal_step, goal_step_by, goal_steps, goals_step, is_enabled, sends_first, shift_by, shift_goals, shift_step, side_of, take_step, with_answer, with_shift, with_hearing, with_talking}
 use Rattle.mc_box.specs.BoxShapes.{is_device}
 use Rattle.mc_box.specs.Boxes.{BoxState, IsBox, goal_at, is_slot, media_at, no_media, slot_at, with_goals, with_media, with_slot}
 use Rattle.mc_box.specs.Goals.{changed_slots, change_goals}
@@ -50,6 +50,15 @@ take_media box local signal step goes =
     (goal_step (with_slot box local took.after) local (cause_of signal took.after.state))) (slot_take (slot_at box local) signal) step goes in
     let two = map_some (with_answer local one.0.answer) (goal_step (with_slot box local one.0.after) local (cause_of signal one.0.after.state)) step one.2 in
     ap (λ (s : BoxStep). s.after.media) (sym two.2) ∙ turn_media (with_slot box local one.0.after) local (cause_of signal one.0.after.state) two.0 two.1
+
+-- goals that change, to any others
+goals_media : (box : BoxState) (news : List SlotGoal) (step : BoxStep) → goals_step box news ≡ Some step → step.after.media ≡ box.media
+goals_media box news step goes = turns_media (changed_slots box.goals news) (with_goals box news) step goes
+
+shift_media : (box : BoxState) (step : BoxStep) → shift_step box ≡ Some step → step.after.media ≡ box.media
+shift_media box step goes =
+    let one = then_some (shift_by box) (enabled_shift box) step goes in
+    goals_media (with_shift box one.0) (shift_goals box one.0) step one.2
 
 -- ---- versions
 
@@ -93,7 +102,7 @@ acts : (event : Event) (box : BoxState) (step : BoxStep) (k : ℕ) → IsBox box
     → (media_at step.after k).version ≡ (media_at box k).version + added k event
 acts (Take local) box step k whole enabled goes = absurd cc
 acts (Set change) box step k whole enabled goes =
-    stays box (Set change) step k refl (turns_media (changed_slots box.goals (change_goals box.goals change)) (with_goals box (change_goals box.goals change)) step goes)
+    stays box (Set change) step k refl (goals_media box (change_goals box.goals change) step goes)
 acts (Media (Hear local on)) box step k whole enabled goes =
     let here = and_parts (is_device box.kind) (is_slot box local) enabled in
     let turns = else_some ((media_at box local).version == LAST_VERSION) (goal_step (with_media box local (with_hearing on (media_at box local))) local Other) step goes in
@@ -103,9 +112,11 @@ acts (Media (Talk local on)) box step k whole enabled goes =
     let here = and_parts (is_device box.kind) (is_slot box local) enabled in
     replaced box (Media (Talk local on)) local 0 (with_talking on (media_at box local)) step k (subst (λ (n : ℕ). local < n) (sym whole.media) (slot_inside box local here.1))
     (turn_media (with_media box local (with_talking on (media_at box local))) local Other step goes) (omega arith) (λ at. refl) (λ other. refl)
-acts (Tell word) box step k whole enabled goes = absurd cc
+acts (Tell word) box step k whole enabled goes =
+    let same : record { sent = []; after = record box { told = Some word } } ≡ step = cc in
+    stays box (Tell word) step k refl (ap (λ (s : BoxStep). s.after.media) (sym same))
 acts (Retry local) box step k whole enabled goes = stays box (Retry local) step k refl (turn_media box local Push step goes)
-acts Shift box step k whole enabled goes = absurd cc
+acts Shift box step k whole enabled goes = stays box Shift step k refl (shift_media box step goes)
 
 -- an event adds one to the version of the slot whose Hear it is, and nothing to others
 pub event_versions : (box : BoxState) (event : Event) (signal : Option Signal) (step : BoxStep) (k : ℕ) → IsBox box → box_event box event signal ≡ Some step

@@ -19,6 +19,7 @@ pub mod Partners
 pub mod Parts
 pub mod Reaches
 pub mod Repeats
+pub mod Resting
 pub mod RingChains
 pub mod RingWalks
 pub mod RunVersions

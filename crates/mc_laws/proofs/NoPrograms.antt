@@ -1,17 +1,29 @@
--- No box has a program yet.
-use Rattle.std.proofs.Common.{◌≡◌, false, None, List, [], ◌∷◌, refl, arith}
+-- A world without programs rests where nothing is under way, and each run of it leaves one without.
+use Rattle.std.proofs.Common.{◌≡◌, ℕ, suc, Bool, false, None, List, [], ◌∷◌, refl, ◌∙◌, arith, ◌||◌}
 use Rattle.std.specs.List.{list_any}
-use Rattle.std.specs.Option.{is_some}
-use Rattle.mc_box.specs.BoxEvents.{box_event}
-use Rattle.mc_box.specs.Boxes.{BoxState}
-use Rattle.mc_model.specs.Settles.{is_quiet, rests}
-use Rattle.mc_model.specs.Worlds.{WorldState}
+use Rattle.std.proofs.Math.ListN.{get_or}
+use Rattle.mc_box.specs.BoxEvents.{is_enabled}
+use Rattle.mc_box.specs.Boxes.{BoxState, no_box}
 use Rattle.mc_box.specs.declared.event.Event.TheVariants.{Shift}
+use Rattle.mc_model.specs.Shapes.{HasShape}
+use Rattle.mc_model.specs.Unprogrammed.{HasNoPrograms, QuietRests}
+use Rattle.mc_model.specs.Worlds.{WorldState}
 
-none_shifts : (boxes : List BoxState) → list_any (λ box. is_some (box_event box Shift None)) boxes ≡ false
-none_shifts [] = refl
-none_shifts (box ∷ boxes) = none_shifts boxes
+-- a box without a program has no Shift
+none_shifts : (box : BoxState) → box.program ≡ None → is_enabled box Shift ≡ false
+none_shifts box none = rw none refl
 
--- so a world rests where nothing is under way
-pub quiet_rests : (world : WorldState) → is_quiet world ≡ rests world
-quiet_rests world = rw (none_shifts world.boxes) (grind arith)
+both_false : (a b : Bool) → a ≡ false → b ≡ false → a || b ≡ false
+both_false a b one two = rw (one, two) refl
+
+no_shifts : (boxes : List BoxState) → ((who : ℕ) → (get_or boxes who no_box).program ≡ None) → list_any (λ box. is_enabled box Shift) boxes ≡ false
+no_shifts [] none = refl
+no_shifts (box ∷ boxes) none =
+    both_false (is_enabled box Shift) (list_any (λ (b : BoxState). is_enabled b Shift) boxes) (none_shifts box (none 0)) (no_shifts boxes (λ who. none (suc who)))
+
+pub quiet_rests : QuietRests
+quiet_rests world none = rw (no_shifts world.boxes none) (grind arith)
+
+-- programs stay, and so does that there are none
+pub still_none : (new old : WorldState) → HasShape new old → HasNoPrograms old → HasNoPrograms new
+still_none new old shape none who = (shape.alike who).program ∙ none who

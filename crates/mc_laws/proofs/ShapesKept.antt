@@ -13,7 +13,7 @@ use Rattle.mc_laws.proofs.StepKeeps.{step_keeps_sound}
 use Rattle.mc_laws.proofs.SteppedKeeps.{shape_stays}
 
 alike_same : (new old : BoxState) → new ≡ old → IsAlike new old
-alike_same new old same = rw same (record { kind = refl; number = refl; receives = refl; sends = refl; slots = refl })
+alike_same new old same = rw same (record { kind = refl; number = refl; receives = refl; sends = refl; slots = refl; program = refl })
 
 pub same_shape : (world : WorldState) → HasShape world world
 same_shape world = record { channels = refl; boxes = refl; alike = λ who. alike_same (box_at world who) (box_at world who) refl }
@@ -28,6 +28,7 @@ alike_both last next first two one = record {
   receives = two.receives ∙ one.receives;
   sends = two.sends ∙ one.sends;
   slots = two.slots ∙ one.slots;
+  program = two.program ∙ one.program;
 }
 
 -- one shape after another

@@ -59,8 +59,8 @@ one_codec = record { len = 1; at = one_entries; short = one_short; known = one_k
 
 abbrev pub two_phones : WorldState
 two_phones = first_world
-    (first_box Device 0 both_codecs both_codecs 1 (record { origin = 0; medium = Audio; initiator = true } ∷ [])
-    ∷ first_box Device 1 one_codec one_codec 1 (record { origin = 1; medium = Audio; initiator = false } ∷ [])
+    (first_box Device 0 both_codecs both_codecs 1 (record { origin = 0; medium = Audio; initiator = true } ∷ []) None
+    ∷ first_box Device 1 one_codec one_codec 1 (record { origin = 1; medium = Audio; initiator = false } ∷ []) None
     ∷ [])
     (record { from = 0; to = 1; tunnels = record { medium = Audio; from = 0; to = 0 } ∷ [] } ∷ [])
 

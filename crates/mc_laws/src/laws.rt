@@ -10,6 +10,7 @@ ghost use Rattle.mc_model.specs.LinkFree.{RunKeepsLinkFree};
 ghost use Rattle.mc_model.specs.Rings.{RingsMeetNoEnd, WalksNeverReturn, RestKeepsRings};
 ghost use Rattle.mc_model.specs.Settles.{SettledMakesItsBatch};
 ghost use Rattle.mc_model.specs.Shapes.{StepKeepsShape, RunKeepsShape, CommandGoes, RetryGoes};
+ghost use Rattle.mc_model.specs.Unprogrammed.{QuietRests};
 
 /// The definitions give the worked exchanges of two phones what a telephony engineer expects of them.
 pub fn worked_exchanges()
@@ -92,9 +93,14 @@ pub fn takes_bound()
     ensures { TakesBound }
 {}
 
-/// A run of turns that set no link leaves a sound world without links so.
+/// A run without Shifts of turns that set no link leaves a sound world without links so.
 pub fn run_keeps_link_free()
     ensures { RunKeepsLinkFree }
+{}
+
+/// A world whose boxes have no programs rests where nothing is under way.
+pub fn quiet_rests()
+    ensures { QuietRests }
 {}
 
 /// A turn changes neither the channels nor the shapes of the boxes.

@@ -7,4 +7,5 @@ pub mod Settles
 pub mod Shapes
 pub mod Sound
 pub mod Steps
+pub mod Unprogrammed
 pub mod Worlds

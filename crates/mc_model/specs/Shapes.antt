@@ -16,7 +16,7 @@ pub record HasShape (new old : WorldState) : Type 0 where
   pub boxes : length new.boxes ≡ length old.boxes
   pub alike : (who : ℕ) → IsAlike (box_at new who) (box_at old who)
 
--- a turn changes no shape
+-- a turn changes no shape, and no program
 abbrev pub StepKeepsShape : Type 0
 StepKeepsShape = (world next : WorldState) (turn : Turn) → IsSound world → step world turn ≡ Some next → HasShape next world
 
