@@ -21,7 +21,7 @@ use Rattle.mc_model.specs.Steps.{after, run, step}
 use Rattle.mc_model.specs.Worlds.{ChannelState, WorldState, box_at, goal_of, all_tunnels, place, places, slot_count, slot_of}
 use Rattle.mc_box.specs.declared.event.Turn.{Turn}
 use Rattle.mc_laws.proofs.GoalsKept.{Stay, run_stays}
-use Rattle.mc_laws.proofs.NoPrograms.{quiet_rests}
+use Rattle.mc_laws.proofs.Resting.{rests_quiet}
 use Rattle.mc_laws.proofs.StepKeeps.{run_keeps_sound}
 use Rattle.mc_box.proofs.Options.{then_some}
 use Rattle.mc_laws.proofs.StepGoes.{below_test}
@@ -164,7 +164,7 @@ settled_paths_hold world last batch turns sound settled =
     let halves = run_halves (take settled.moment turns) (drop settled.moment turns) world last (ap (run world) (take-append-drop settled.moment turns) ∙ settled.runs) in
     rested_paths_hold (after world (take settled.moment turns)) last (drop settled.moment turns)
     (run_keeps_sound world (after world (take settled.moment turns)) (take settled.moment turns) sound halves.0)
-    (quiet_rests (after world (take settled.moment turns)) ∙ rest.at_rest) rest.besides halves.1
+    (rests_quiet (after world (take settled.moment turns)) rest.at_rest) rest.besides halves.1
     (λ who local owes.
     some_retry (world_owes (after world (take settled.moment turns)) who local) (count_by (is_retry_of who local) (drop settled.moment turns)) (rest.retries who local) owes)
-    (quiet_rests last ∙ settled.at_rest)
+    (rests_quiet last settled.at_rest)
