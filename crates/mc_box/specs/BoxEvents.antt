@@ -219,6 +219,10 @@ abbrev pub is_take : Event → Bool
 is_take (Take local) = true
 is_take event = false
 
+abbrev pub is_shift : Event → Bool
+is_shift Shift = true
+is_shift event = false
+
 -- events that come from commands
 abbrev pub is_command : Event → Bool
 is_command (Set change) = true

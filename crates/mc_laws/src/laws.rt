@@ -10,7 +10,7 @@ ghost use Rattle.mc_model.specs.LinkFree.{RunKeepsLinkFree};
 ghost use Rattle.mc_model.specs.Rings.{RingsMeetNoEnd, WalksNeverReturn, RestKeepsRings};
 ghost use Rattle.mc_model.specs.Settles.{SettledMakesItsBatch};
 ghost use Rattle.mc_model.specs.Shapes.{StepKeepsShape, RunKeepsShape, CommandGoes, RetryGoes};
-ghost use Rattle.mc_model.specs.Unprogrammed.{QuietRests};
+ghost use Rattle.mc_model.specs.Unprogrammed.{QuietRests, RunMakesNoShift};
 
 /// The definitions give the worked exchanges of two phones what a telephony engineer expects of them.
 pub fn worked_exchanges()
@@ -101,6 +101,11 @@ pub fn run_keeps_link_free()
 /// A world whose boxes have no programs rests where nothing is under way.
 pub fn quiet_rests()
     ensures { QuietRests }
+{}
+
+/// A run of such a world has no Shift.
+pub fn run_makes_no_shift()
+    ensures { RunMakesNoShift }
 {}
 
 /// A turn changes neither the channels nor the shapes of the boxes.

@@ -1,12 +1,15 @@
 -- What batches leave is as their commands make it: rings and paths of hold against hold are there where commands make them.
 use Rattle.std.proofs.Common.{◌≡◌, ℕ, zero, suc, None, List, [], ◌∷◌, length, slice_get, take, refl, ap, sym, ◌∙◌, subst, arith}
 use Rattle.mc_box.specs.declared.event.Turn.{Turn}
+use Rattle.mc_laws.proofs.NoPrograms.{run_makes_no_shift, still_none}
 use Rattle.mc_laws.proofs.Reaches.{comes_to_end}
 use Rattle.mc_laws.proofs.RingWalks.{rings_meet_no_end}
+use Rattle.mc_laws.proofs.ShapesKept.{run_keeps_shape}
 use Rattle.mc_laws.proofs.StepKeeps.{run_keeps_sound}
 use Rattle.mc_model.specs.Rings.{IsLeastOnRing}
 use Rattle.mc_model.specs.Settles.{IsSettled, commands_of, next_command}
 use Rattle.mc_model.specs.Sound.{IsSound}
+use Rattle.mc_model.specs.Unprogrammed.{HasNoPrograms}
 use Rattle.mc_model.specs.Worlds.{WorldState}
 use Rattle.mc_settings.specs.Alike.{AreAlike}
 use Rattle.mc_settings.specs.Batches.{AreDecided, HasNoRing, EachLeaves, SettleAll, RunsThrough, commanded_by}
@@ -46,21 +49,21 @@ stopped_uses_up world last batch turns stopped = (none_next, uses)
 -- ---- one batch
 
 pub batch_is_left : BatchIsLeft
-batch_is_left world last batch turns sound used =
-    subst (λ (w : WorldState). AreAlike last w) (commands_alone world turns batch used.commands) (runs_follow_commands world last turns sound used.runs)
+batch_is_left world last batch turns sound none used =
+    subst (λ (w : WorldState). AreAlike last w) (commands_alone world turns batch used.commands) (runs_follow_commands world last turns sound (run_makes_no_shift world last turns sound none used.runs) used.runs)
 
 -- a settled segment uses its batch up
 pub settled_used : (world last : WorldState) (batch turns : List Turn) → IsSettled world batch turns last → RunsThrough world batch turns last
 settled_used world last batch turns settled = record { runs = settled.runs; commands = settled.commands }
 
-settled_left : (world last : WorldState) (batch turns : List Turn) → IsSound world → IsSettled world batch turns last → AreAlike last (commanded world batch)
-settled_left world last batch turns sound settled = batch_is_left world last batch turns sound (settled_used world last batch turns settled)
+settled_left : (world last : WorldState) (batch turns : List Turn) → IsSound world → HasNoPrograms world → IsSettled world batch turns last → AreAlike last (commanded world batch)
+settled_left world last batch turns sound none settled = batch_is_left world last batch turns sound none (settled_used world last batch turns settled)
 
 pub settles_are_alike : SettlesAreAlike
-settles_are_alike world other last end batch turns others sound other_sound alike one two =
-    alike_both last (commanded world batch) end (settled_left world last batch turns sound one)
+settles_are_alike world other last end batch turns others sound other_sound none alike one two =
+    alike_both last (commanded world batch) end (settled_left world last batch turns sound none one)
     (alike_both (commanded world batch) (commanded other batch) end (commands_keep_alike world other batch alike)
-    (alike_back end (commanded other batch) (settled_left other end batch others other_sound two)))
+    (alike_back end (commanded other batch) (settled_left other end batch others other_sound (still_none other world (alike_back world other alike).shape none) two)))
 
 -- ---- several
 
@@ -69,16 +72,17 @@ pub batches_keep_alike : (batches : List (List Turn)) (world other : WorldState)
 batches_keep_alike [] world other alike = alike
 batches_keep_alike (batch ∷ batches) world other alike = batches_keep_alike batches (commanded world batch) (commanded other batch) (commands_keep_alike world other batch alike)
 
-left_by : (batches : List (List Turn)) (world last : WorldState) → IsSound world → SettleAll world batches last → AreAlike last (commanded_by world batches)
-left_by [] world last sound same = subst (λ (w : WorldState). AreAlike w world) same (alike_self world)
-left_by (batch ∷ batches) world last sound all =
+left_by : (batches : List (List Turn)) (world last : WorldState) → IsSound world → HasNoPrograms world → SettleAll world batches last → AreAlike last (commanded_by world batches)
+left_by [] world last sound none same = subst (λ (w : WorldState). AreAlike w world) same (alike_self world)
+left_by (batch ∷ batches) world last sound none all =
     let settled = all.2 in
     let next_sound = run_keeps_sound world all.1 all.0 sound settled.runs in
-    alike_both last (commanded_by all.1 batches) (commanded_by (commanded world batch) batches) (left_by batches all.1 last next_sound all.3)
-    (batches_keep_alike batches all.1 (commanded world batch) (settled_left world all.1 batch all.0 sound settled))
+    let next_none = still_none all.1 world (run_keeps_shape world all.1 all.0 sound settled.runs) none in
+    alike_both last (commanded_by all.1 batches) (commanded_by (commanded world batch) batches) (left_by batches all.1 last next_sound next_none all.3)
+    (batches_keep_alike batches all.1 (commanded world batch) (settled_left world all.1 batch all.0 sound none settled))
 
 pub batches_are_left : BatchesAreLeft
-batches_are_left world last batches sound all = left_by batches world last sound all
+batches_are_left world last batches sound none all = left_by batches world last sound none all
 
 -- ---- what all of them leave
 
@@ -87,23 +91,23 @@ abbrev pub Passes : (WorldState → Type 0) → Type 0
 Passes P = (world other : WorldState) → AreAlike world other → P world → P other
 
 -- the next batch leaves such a world
-pub first_leaves : (P : WorldState → Type 0) (world last : WorldState) (batch turns : List Turn) (batches : List (List Turn)) → Passes P → IsSound world → EachLeaves P world (batch ∷ batches)
+pub first_leaves : (P : WorldState → Type 0) (world last : WorldState) (batch turns : List Turn) (batches : List (List Turn)) → Passes P → IsSound world → HasNoPrograms world → EachLeaves P world (batch ∷ batches)
     → RunsThrough world batch turns last → P last
-first_leaves P world last batch turns batches passes sound leave used =
-    passes (commanded world batch) last (alike_back last (commanded world batch) (batch_is_left world last batch turns sound used)) (leave 0 (omega arith))
+first_leaves P world last batch turns batches passes sound none leave used =
+    passes (commanded world batch) last (alike_back last (commanded world batch) (batch_is_left world last batch turns sound none used)) (leave 0 (omega arith))
 
 -- and so do those behind it
-pub rest_leave : (P : WorldState → Type 0) (world last : WorldState) (batch turns : List Turn) (batches : List (List Turn)) → Passes P → IsSound world → EachLeaves P world (batch ∷ batches)
+pub rest_leave : (P : WorldState → Type 0) (world last : WorldState) (batch turns : List Turn) (batches : List (List Turn)) → Passes P → IsSound world → HasNoPrograms world → EachLeaves P world (batch ∷ batches)
     → IsSettled world batch turns last → EachLeaves P last batches
-rest_leave P world last batch turns batches passes sound leave settled k below =
+rest_leave P world last batch turns batches passes sound none leave settled k below =
     passes (commanded_by (commanded world batch) (take (suc k) batches)) (commanded_by last (take (suc k) batches))
-    (batches_keep_alike (take (suc k) batches) (commanded world batch) last (alike_back last (commanded world batch) (settled_left world last batch turns sound settled)))
+    (batches_keep_alike (take (suc k) batches) (commanded world batch) last (alike_back last (commanded world batch) (settled_left world last batch turns sound none settled)))
     (leave (suc k) (omega (arith, below)))
 
 -- ---- rings
 
 pub rings_are_left : RingsAreLeft
-rings_are_left world last batch turns sound used = (alike_have_same_paths last (commanded world batch) (batch_is_left world last batch turns sound used)).ring
+rings_are_left world last batch turns sound none used = (alike_have_same_paths last (commanded world batch) (batch_is_left world last batch turns sound none used)).ring
 
 ring_passes : Passes HasNoRing
 ring_passes world other alike none = sym (alike_have_same_paths world other alike).ring ∙ none
@@ -116,17 +120,17 @@ no_least world sound free t inside on =
     absurd (cc)
 
 pub no_ring_is_met : NoRingIsMet
-no_ring_is_met world last batch turns batches sound leaves used =
-    let free : HasNoRing last = first_leaves HasNoRing world last batch turns batches ring_passes sound leaves used in
+no_ring_is_met world last batch turns batches sound none leaves used =
+    let free : HasNoRing last = first_leaves HasNoRing world last batch turns batches ring_passes sound none leaves used in
     (free, no_least last (run_keeps_sound world last turns sound used.runs) free)
 
 pub no_ring_stays : NoRingStays
-no_ring_stays world last batch turns batches sound leaves settled = rest_leave HasNoRing world last batch turns batches ring_passes sound leaves settled
+no_ring_stays world last batch turns batches sound none leaves settled = rest_leave HasNoRing world last batch turns batches ring_passes sound none leaves settled
 
 -- ---- hold against hold
 
 pub decided_is_left : DecidedIsLeft
-decided_is_left world last batch turns batches sound leaves used = first_leaves AreDecided world last batch turns batches decided_passes sound leaves used
+decided_is_left world last batch turns batches sound none leaves used = first_leaves AreDecided world last batch turns batches decided_passes sound none leaves used
 
 pub decided_stays : DecidedStays
-decided_stays world last batch turns batches sound leaves settled = rest_leave AreDecided world last batch turns batches decided_passes sound leaves settled
+decided_stays world last batch turns batches sound none leaves settled = rest_leave AreDecided world last batch turns batches decided_passes sound none leaves settled

@@ -1,5 +1,5 @@
 -- What an event of a box does to its settings.
-use Rattle.std.proofs.Common.{◌≡◌, ◌==◌, List, [], ◌∷◌, Option, Some, None, ap, sym, ◌∙◌, subst, ℕ, max, min}
+use Rattle.std.proofs.Common.{◌≡◌, ◌==◌, false, List, [], ◌∷◌, Option, Some, None, ap, sym, ◌∙◌, subst, ℕ, max, min}
 use Rattle.std.specs.Option.{option_map}
 use Rattle.mc_link.specs.LinkTurn.{closed_side}
 use Rattle.mc_signal.specs.declared.Signal.{Signal}
@@ -9,7 +9,7 @@ use Rattle.mc_slot.specs.declared.Cause.{Cause}
 use Rattle.mc_slot.specs.declared.Cause.TheVariants.{Other, Push}
 use Rattle.mc_slot.specs.declared.SlotGoal.{SlotGoal}
 use Rattle.mc_slot.specs.declared.SlotGoal.TheVariants.{End, Link}
-use Rattle.mc_box.specs.BoxEvents.{BoxStep, box_event, event_step, goal_step, goal_step_by, goal_steps, sends_first, side_of, take_step, with_answer, with_hearing, with_talking}
+use Rattle.mc_box.specs.BoxEvents.{BoxStep, box_event, event_step, goal_step, goal_step_by, goal_steps, is_shift, sends_first, side_of, take_step, with_answer, with_hearing, with_talking}
 use Rattle.mc_box.specs.Boxes.{BoxState, goal_at, media_at, slot_at, with_goals, with_media, with_slot}
 use Rattle.mc_box.specs.Goals.{changed_slots, change_goals}
 use Rattle.mc_box.specs.declared.event.Event.{Event}
@@ -47,20 +47,21 @@ take_leaves box local signal step goes =
 
 -- ---- events
 
-acts : (event : Event) (box : BoxState) (step : BoxStep) → event_step box event ≡ Some step → settings_of step.after ≡ set_by event (settings_of box)
-acts (Take local) box step goes = absurd cc
-acts (Set change) box step goes = turns_leave (changed_slots box.goals (change_goals box.goals change)) (with_goals box (change_goals box.goals change)) step goes
-acts (Media (Hear local on)) box step goes =
+acts : (event : Event) (box : BoxState) (step : BoxStep) → is_shift event ≡ false → event_step box event ≡ Some step → settings_of step.after ≡ set_by event (settings_of box)
+acts (Take local) box step unshifted goes = absurd cc
+acts (Set change) box step unshifted goes = turns_leave (changed_slots box.goals (change_goals box.goals change)) (with_goals box (change_goals box.goals change)) step goes
+acts (Media (Hear local on)) box step unshifted goes =
     let turns = else_some ((media_at box local).version == LAST_VERSION) (goal_step (with_media box local (with_hearing on (media_at box local))) local Other) step goes in
     turn_leaves (with_media box local (with_hearing on (media_at box local))) local Other step turns.1
-acts (Media (Talk local on)) box step goes = turn_leaves (with_media box local (with_talking on (media_at box local))) local Other step goes
-acts (Tell word) box step goes = absurd cc
-acts (Retry local) box step goes = turn_leaves box local Push step goes
-acts Shift box step goes = absurd cc
+acts (Media (Talk local on)) box step unshifted goes = turn_leaves (with_media box local (with_talking on (media_at box local))) local Other step goes
+acts (Tell word) box step unshifted goes =
+    let same : record { sent = []; after = record box { told = Some word } } ≡ step = cc in ap (λ (s : BoxStep). settings_of s.after) (sym same)
+acts (Retry local) box step unshifted goes = turn_leaves box local Push step goes
+acts Shift box step unshifted goes = absurd cc
 
--- after an event a box has the settings that the event makes of those before
-pub event_sets : (box : BoxState) (event : Event) (signal : Option Signal) (step : BoxStep) → box_event box event signal ≡ Some step → settings_of step.after ≡ set_by event (settings_of box)
-event_sets box event None step goes = acts event box step (event_goes event box step goes).1
-event_sets box event (Some signal) step goes =
+-- after an event that isn't a Shift a box has the settings that the event makes of those before
+pub event_sets : (box : BoxState) (event : Event) (signal : Option Signal) (step : BoxStep) → is_shift event ≡ false → box_event box event signal ≡ Some step → settings_of step.after ≡ set_by event (settings_of box)
+event_sets box event None step unshifted goes = acts event box step unshifted (event_goes event box step goes).1
+event_sets box event (Some signal) step unshifted goes =
     let one = taking_is event box signal step goes in
     subst (λ (e : Event). settings_of step.after ≡ set_by e (settings_of box)) (sym one.1) (take_leaves box one.0 signal step one.3)

@@ -1,9 +1,11 @@
 -- A run leaves a world as its commands make it, but for what signals change.
-use Rattle.std.proofs.Common.{◌≡◌, ◌==◌, ◌<◌, ◌≤◌, ℕ, Bool, true, false, inl, inr, List, [], ◌∷◌, length, Some, ap, sym, ◌∙◌, subst, arith}
+use Rattle.std.proofs.Common.{◌≡◌, ◌==◌, ◌||◌, ◌<◌, ◌≤◌, ℕ, Bool, true, false, inl, inr, List, [], ◌∷◌, length, Some, refl, ap, sym, ◌∙◌, subst, arith}
+use Rattle.std.specs.List.{list_any}
 use Rattle.std.proofs.Math.ListN.{get_or-eq_default}
 use Rattle.std.proofs.lemmas.Bool.{cases_eq, cases_lt, eq-eqb, ne_eqb}
 use Rattle.mc_signal.specs.declared.Tagged.{Tagged}
 use Rattle.mc_slot.specs.declared.Slot.{Slot}
+use Rattle.mc_box.specs.BoxEvents.{is_shift}
 use Rattle.mc_box.specs.Boxes.{BoxState, no_box, no_slot, slot_at}
 use Rattle.mc_box.specs.declared.event.Turn.{Turn}
 use Rattle.mc_box.proofs.Options.{then_some}
@@ -11,6 +13,7 @@ use Rattle.mc_model.specs.Settles.{commands_of}
 use Rattle.mc_model.specs.Shapes.{HasShape}
 use Rattle.mc_model.specs.Sound.{IsSound}
 use Rattle.mc_model.specs.Steps.{run, step}
+use Rattle.mc_model.specs.Unprogrammed.{ShiftNone}
 use Rattle.mc_model.specs.Worlds.{ChannelState, WorldState, box_at, slot_count, slot_of}
 use Rattle.mc_laws.proofs.Reaches.{with_boxes}
 use Rattle.mc_laws.proofs.ShapesKept.{run_keeps_shape, shape_both}
@@ -24,15 +27,19 @@ use Rattle.mc_settings.proofs.CommandedWorlds.{more_commands, set_if, settings_a
 
 -- ---- settings
 
--- a turn sets what its event says, at its box alone
-turn_sets : (world next : WorldState) (turn : Turn) (who : ℕ) → Turned world next turn.who turn.event
+neither : (a b : Bool) → (a || b) ≡ false → (a ≡ false) × (b ≡ false)
+neither true b is = absurd (cc)
+neither false b is = (refl, is)
+
+-- a turn that isn't a Shift sets what its event says, at its box alone
+turn_sets : (world next : WorldState) (turn : Turn) (who : ℕ) → is_shift turn.event ≡ false → Turned world next turn.who turn.event
     → settings_of (box_at next who) ≡ set_if (turn.who == who) turn.event (settings_of (box_at world who))
-turn_sets world next turn who turned = elim (cases_eq who turn.who) [
+turn_sets world next turn who unshifted turned = elim (cases_eq who turn.who) [
   | inl same ↦
       let test : (turn.who == who) ≡ true = eq-eqb turn.who who (sym same) in
       ap (λ (w : ℕ). settings_of (box_at next w)) same
       ∙ (ap settings_of turned.after
-      ∙ (event_sets (box_at world turn.who) turn.event turned.signal turned.step turned.goes
+      ∙ (event_sets (box_at world turn.who) turn.event turned.signal turned.step unshifted turned.goes
       ∙ (ap (λ (w : ℕ). set_by turn.event (settings_of (box_at world w))) (sym same)
       ∙ ap (λ (b : Bool). set_if b turn.event (settings_of (box_at world who))) (sym test))))
   | inr other ↦
@@ -40,13 +47,14 @@ turn_sets world next turn who turned = elim (cases_eq who turn.who) [
       ap settings_of (turned.stepped.boxes who other) ∙ ap (λ (b : Bool). set_if b turn.event (settings_of (box_at world who))) (sym test)
 ]
 
-run_sets : (turns : List Turn) (world last : WorldState) (who : ℕ) → IsSound world → run world turns ≡ Some last
+run_sets : (turns : List Turn) (world last : WorldState) (who : ℕ) → IsSound world → ShiftNone turns → run world turns ≡ Some last
     → settings_of (box_at last who) ≡ set_by_all (commands_of who turns) (settings_of (box_at world who))
-run_sets [] world last who sound goes = let same : world ≡ last = cc in ap (λ (w : WorldState). settings_of (box_at w who)) (sym same)
-run_sets (turn ∷ turns) world last who sound goes =
+run_sets [] world last who sound none goes = let same : world ≡ last = cc in ap (λ (w : WorldState). settings_of (box_at w who)) (sym same)
+run_sets (turn ∷ turns) world last who sound none goes =
+    let parts = neither (is_shift turn.event) (list_any (λ (turn : Turn). is_shift turn.event) turns) none in
     let one = then_some (λ (w : WorldState). run w turns) (step world turn) last goes in
-    run_sets turns one.0 last who (step_keeps_sound world one.0 turn sound one.1) one.2
-    ∙ (ap (set_by_all (commands_of who turns)) (turn_sets world one.0 turn who (step_turns world one.0 turn sound one.1))
+    run_sets turns one.0 last who (step_keeps_sound world one.0 turn sound one.1) parts.1 one.2
+    ∙ (ap (set_by_all (commands_of who turns)) (turn_sets world one.0 turn who parts.0 (step_turns world one.0 turn sound one.1))
     ∙ sym (more_commands who turn turns (settings_of (box_at world who))))
 
 -- ---- media and sides
@@ -98,12 +106,12 @@ same_sorts new world who local one two shape =
 -- ---- a run
 
 pub runs_follow_commands : RunsFollowCommands
-runs_follow_commands world last turns sound goes =
+runs_follow_commands world last turns sound none goes =
     let shape = run_keeps_shape world last turns sound goes in
     let end = run_keeps_sound world last turns sound goes in
     record {
       shape = shape_both last world (commanded world turns) shape (shape_back (commanded world turns) world (shape_stays world turns));
-      settings = λ who. run_sets turns world last who sound goes ∙ sym (settings_are world turns who);
+      settings = λ who. run_sets turns world last who sound none goes ∙ sym (settings_are world turns who);
       media = λ who local. (same_sorts last world who local end sound shape).medium ∙ ap (λ (slot : Slot). slot.medium) (sym (slot_stays world turns who local));
       sides = λ who local. (same_sorts last world who local end sound shape).side ∙ ap (λ (slot : Slot). slot.initiator) (sym (slot_stays world turns who local));
     }

@@ -5,7 +5,7 @@ ghost use Rattle.mc_settings.specs.SettingLaws.{BatchIsLeft, BatchesAreLeft, Run
 ghost use Rattle.mc_settings.specs.SettingLaws.{LinkFreeLeavesNoRing, NoRingIsMet, NoRingStays, RingsAreLeft};
 ghost use Rattle.mc_settings.specs.SettingLaws.{DecidedIsLeft, DecidedPathsAgree, DecidedStays, HeldPathsAgree};
 
-/// After any run of a sound world each box has the goals and the media that its own commands, in their order, make of
+/// After any run of a sound world without Shifts each box has the goals and the media that its own commands, in their order, make of
 /// those before, and is else as it was, but for what signals change: the states and kept values of its slots.
 pub fn runs_follow_commands()
     ensures { RunsFollowCommands }
@@ -27,8 +27,8 @@ pub fn commands_keep_alike()
     ensures { CommandsKeepAlike }
 {}
 
-/// Two settled segments of one batch, whatever the order of their turns, lead from worlds that are alike to worlds that
-/// are.
+/// Two settled segments of one batch, whatever the order of their turns, lead from worlds that are alike, and have no
+/// programs, to worlds that are alike.
 pub fn settles_are_alike()
     ensures { SettlesAreAlike }
 {}
@@ -44,22 +44,23 @@ pub fn stopped_uses_up()
     ensures { StoppedUsesUp }
 {}
 
-/// A run of a sound world that uses a batch up leaves a world that is as the commands of the batch make it.
+/// A run that uses a batch up, of a sound world without programs, leaves a world that is as the commands of the batch
+/// make it.
 pub fn batch_is_left()
     ensures { BatchIsLeft }
 {}
 
-/// After settled segments of several batches a sound world is as the commands of all of them make it.
+/// After settled segments of several batches a sound world without programs is as the commands of all of them make it.
 pub fn batches_are_left()
     ensures { BatchesAreLeft }
 {}
 
-/// When a batch is used up there is a ring exactly where its commands make one.
+/// When a batch is used up there is a ring exactly where its commands make one, if no box has a program.
 pub fn rings_are_left()
     ensures { RingsAreLeft }
 {}
 
-/// Where the commands of no batch leave a ring, no slot stands on one when the next batch is used up: no settle stops
+/// Where no box has a program and the commands of no batch leave a ring, no slot stands on one when the next batch is used up: no settle stops
 /// there.
 pub fn no_ring_is_met()
     ensures { NoRingIsMet }
@@ -87,7 +88,7 @@ pub fn held_paths_agree()
     ensures { HeldPathsAgree }
 {}
 
-/// Where the commands of no batch leave a path of hold against hold, none is there when the next batch is used up.
+/// Where no box has a program and the commands of no batch leave a path of hold against hold, none is there when the next batch is used up.
 pub fn decided_is_left()
     ensures { DecidedIsLeft }
 {}
