@@ -1,5 +1,5 @@
 -- Worlds without rings: a world as new is one, and a step that links no slots leaves one so.
-use Rattle.std.proofs.Common.{◌≡◌, ◌==◌, ◌<◌, ◌+◌, if◌then◌else◌, ℕ, zero, suc, Bool, true, false, inl, inr, List, [], ◌∷◌, length, get_or, Option, Some, None, ap, sym, ◌∙◌, subst}
+use Rattle.std.proofs.Common.{◌≡◌, ◌==◌, ◌<◌, ◌+◌, if◌then◌else◌, ℕ, zero, suc, Bool, true, false, inl, inr, List, [], ◌∷◌, length, get_or, Option, Some, None, refl, ap, sym, ◌∙◌, subst}
 use Rattle.std.specs.Option.{option_and_then}
 use Rattle.std.proofs.lemmas.Bool.{cases_eq}
 use Rattle.mc_signal.specs.declared.Signal.{Signal}
@@ -8,7 +8,7 @@ use Rattle.mc_slot.specs.declared.Goal.{Goal}
 use Rattle.mc_slot.specs.declared.Goal.TheVariants.{Close as ToClose, Hold as ToHold}
 use Rattle.mc_slot.specs.declared.SlotGoal.{SlotGoal}
 use Rattle.mc_slot.specs.declared.SlotGoal.TheVariants.{End, Link}
-use Rattle.mc_box.specs.BoxEvents.{BoxStep, box_event}
+use Rattle.mc_box.specs.BoxEvents.{BoxStep, box_event, is_shift}
 use Rattle.mc_box.specs.Boxes.{BoxState, IsNewBox, goal_at, no_box}
 use Rattle.mc_box.specs.Goals.{goals_from, without_link}
 use Rattle.mc_box.specs.LinkFree.{is_linking}
@@ -62,7 +62,15 @@ was_set (Media change) settings local partner none is = is
 was_set (Take slot) settings local partner none is = is
 was_set (Tell word) settings local partner none is = is
 was_set (Retry slot) settings local partner none is = is
-was_set Shift settings local partner none is = is
+was_set Shift settings local partner none is = absurd (cc)
+
+unshifted : (event : Event) → is_linking event ≡ false → is_shift event ≡ false
+unshifted (Take local) none = refl
+unshifted (Set change) none = refl
+unshifted (Media change) none = refl
+unshifted (Tell word) none = refl
+unshifted (Retry local) none = refl
+unshifted Shift none = absurd (cc)
 
 -- each link of a box was one before
 abbrev LinksWere : BoxState → BoxState → Type 0
@@ -71,7 +79,7 @@ LinksWere new old = (local partner : ℕ) → goal_at new local ≡ Link partner
 box_links : (box : BoxState) (event : Event) (signal : Option Signal) (step : BoxStep) → is_linking event ≡ false → box_event box event signal ≡ Some step → LinksWere step.after box
 box_links box event signal step none goes local partner is =
     was_set event (settings_of box) local partner none
-    (subst (λ (s : Settings). get_or s.goals local (End ToClose) ≡ Link partner) (event_sets box event signal step goes) is)
+    (subst (λ (s : Settings). get_or s.goals local (End ToClose) ≡ Link partner) (event_sets box event signal step (unshifted event none) goes) is)
 
 -- the box that acted has no new link, and the others stay
 links_after : (world next : WorldState) (who box : ℕ) (event : Event) → is_linking event ≡ false → Turned world next who event → LinksWere (box_at next box) (box_at world box)

@@ -1,9 +1,10 @@
 // The world that channels join.
 
 ghost use Rattle.std.specs.Prelude.{◌≡◌, ℕ, ◌+◌, ◌<◌, ◌≤◌, ◌*◌, ◌^◌, ◌++◌, if◌then◌else◌, [], map, length, replicate, slice_index_or, ◌==◌, true, IfOk, IfSome, OnOk, Some};
-ghost use Rattle.std.specs.List.{list_all};
+ghost use Rattle.std.specs.List.{list_all, list_any};
+ghost use Rattle.mc_box.specs.BoxEvents.{is_enabled};
 ghost use Rattle.mc_model.specs.Paths.{partner_of};
-ghost use Rattle.mc_model.specs.Settles.{is_quiet, rests};
+ghost use Rattle.mc_model.specs.Settles.{can_shift, is_quiet, rests};
 ghost use Rattle.mc_model.specs.Sound.{AreNew, IsNumbered, IsSound};
 ghost use Rattle.mc_world.specs.Lanes.{lane_number};
 ghost use Rattle.mc_world.specs.Tables.{channel_of, tunnels_by};
@@ -16,7 +17,7 @@ mod step;
 
 use crate::topology::{Topology, far, numbers_among};
 use crate::waiting::Waiting;
-use mc_box::MediaBox;
+use mc_box::{Event, MediaBox};
 use mc_lane::Lane;
 use mc_model::{Channel, Tunnel};
 use mc_signal::{Signal, Tagged};
@@ -251,9 +252,22 @@ impl World {
     pub fn rests(&self) -> bool
         ensures { result ≡ rests self.now }
     {
-        // no box has a program yet
-        self.quiet()
+        self.quiet() && !self.can_shift()
     }
+
+    // Whether some box's program has an enabled transition.
+    fn can_shift(&self) -> bool
+        ensures { result ≡ can_shift self.now }
+    {
+        can_shift(&self.boxes)
+    }
+}
+
+// Whether the program of some of these boxes has an enabled transition.
+fn can_shift(boxes: &[MediaBox]) -> bool
+    ensures { result ≡ list_any (λ one. is_enabled one Event.Shift) boxes.now }
+{
+    boxes.iter().any(|one| one.enabled(&Event::Shift))
 }
 
 // The front of a lane, where that is for the tunnel.

@@ -152,11 +152,11 @@ impl World {
     }
 }
 
-// Whether it stays remembered that there is no ring: an event that links two slots may make one, and no other does.
+// Whether it stays remembered that there is no ring: an event that links slots may make one, and no other does.
 fn stays_ringless(ringless: bool, event: Event) -> bool
     ensures { result ≡ (ringless && not (is_linking event)) }
 {
-    ringless && !matches!(event, Event::Set(Change::Link(..)))
+    ringless && !matches!(event, Event::Set(Change::Link(..)) | Event::Shift)
 }
 
 // Whether an event is a Hear of a slot whose descriptor has the last version.
