@@ -1,5 +1,5 @@
 -- The world that a plan lays out is numbered, and its boxes are new.
-use Rattle.std.proofs.Common.{◌≡◌, ◌+◌, ◌*◌, ◌/◌, ◌%◌, ◌<◌, ◌≤◌, ◌==◌, ℕ, zero, suc, true, List, [], ◌∷◌, ◌++◌, length, map, take, refl, ap, sym, ◌∙◌, subst, arith, zero-add}
+use Rattle.std.proofs.Common.{◌≡◌, ◌+◌, ◌*◌, ◌/◌, ◌%◌, ◌<◌, ◌≤◌, ◌==◌, ℕ, zero, suc, true, None, List, [], ◌∷◌, ◌++◌, length, map, take, refl, ap, sym, ◌∙◌, subst, arith, zero-add}
 use Rattle.std.proofs.Math.ListN.{get_or}
 use Rattle.std.proofs.lemmas.List.{get_or-map, length-map, length-replicate}
 use Rattle.mc_signal.specs.declared.Medium.TheVariants.{Audio}
@@ -11,7 +11,7 @@ use Rattle.mc_model.specs.Sound.{AreNew, IsNumbered}
 use Rattle.mc_model.specs.Worlds.{ChannelState, TunnelPlace, WorldState, box_at, tunnel_of, tunnels_from, no_tunnel, place, places_among, slot_count}
 use Rattle.mc_box.proofs.NewBoxes.{first_is_new}
 use Rattle.mc_plan.specs.LaidOut.{IsLaidOut, place_at}
-use Rattle.mc_plan.specs.PlanLaws.{PlansAreNumbered, PlansStaySound}
+use Rattle.mc_plan.specs.PlanLaws.{PlansAreNumbered, PlansAreUnprogrammed, PlansStaySound}
 use Rattle.mc_plan.specs.Plans.{PlanState, box_from, boxes_from, slots_of, world_of}
 use Rattle.mc_plan.specs.Setups.{setups_of}
 use Rattle.mc_plan.specs.declared.plan.BoxPlan.{BoxPlan}
@@ -74,8 +74,8 @@ slots_from channels who planned = length-map (setups_of channels who) first_slot
 -- it is new, within the limits
 new_from : (channels : List ChannelState) (who : ℕ) (planned : BoxPlan) → slots_of channels who ≤ 64 → who < 256 → IsNewBox (box_from channels who planned)
 new_from channels who planned few below =
-    first_is_new planned.kind who planned.codecs planned.sends planned.first_version (setups_of channels who)
-    (subst (λ (n : ℕ). n ≤ 64) (sym (length_setups channels who)) few) (omega arith)
+    first_is_new planned.kind who planned.codecs planned.sends planned.first_version (setups_of channels who) None
+    (subst (λ (n : ℕ). n ≤ 64) (sym (length_setups channels who)) few) (omega arith) tt
 
 -- ---- the slots
 
@@ -179,6 +179,15 @@ new_boxes plan who laid below =
 -- all of them are
 pub laid_out_is_new : (plan : PlanState) → IsLaidOut plan → AreNew (world_of plan).boxes
 laid_out_is_new plan laid = λ who below. new_boxes plan who laid (there_are plan who below)
+
+-- none has a program
+unprogrammed_from : (channels : List ChannelState) (plans : List BoxPlan) (first who : ℕ) → (get_or (boxes_from channels first plans) who no_box).program ≡ None
+unprogrammed_from channels [] first who = refl
+unprogrammed_from channels (planned ∷ plans) first zero = refl
+unprogrammed_from channels (planned ∷ plans) first (suc who) = unprogrammed_from channels plans (first + 1) who
+
+pub plans_are_unprogrammed : PlansAreUnprogrammed
+plans_are_unprogrammed plan who = unprogrammed_from plan.channels plan.boxes 0 who
 
 -- the law
 pub plans_are_numbered : PlansAreNumbered

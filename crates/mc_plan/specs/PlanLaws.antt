@@ -2,6 +2,7 @@
 use Rattle.std.specs.Prelude.{◌≡◌, List, Some}
 use Rattle.mc_model.specs.Sound.{AreNew, IsNumbered, IsSound}
 use Rattle.mc_model.specs.Steps.{run}
+use Rattle.mc_model.specs.Unprogrammed.{HasNoPrograms}
 use Rattle.mc_model.specs.Worlds.{WorldState}
 use Rattle.mc_box.specs.declared.event.Turn.{Turn}
 use Rattle.mc_plan.specs.LaidOut.{IsLaidOut}
@@ -10,6 +11,10 @@ use Rattle.mc_plan.specs.Plans.{PlanState, world_of}
 -- the boxes of a plan's world are new, and tunnels join each of their slots once, with the numbers of the rules
 abbrev pub PlansAreNumbered : Type 0
 PlansAreNumbered = (plan : PlanState) → IsLaidOut plan → AreNew (world_of plan).boxes × IsNumbered (world_of plan)
+
+-- no box of it has a program yet
+abbrev pub PlansAreUnprogrammed : Type 0
+PlansAreUnprogrammed = (plan : PlanState) → HasNoPrograms (world_of plan)
 
 -- each world that a run reaches from there is sound
 abbrev pub PlansStaySound : Type 0

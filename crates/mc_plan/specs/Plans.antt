@@ -1,5 +1,5 @@
 -- A plan as clauses see it, what boxes and channels add to it, and its first world.
-use Rattle.std.specs.Prelude.{ℕ, ◌+◌, ◌-◌, ◌==◌, Bool, List, [], ◌∷◌, ◌++◌, count_by, length, slice_index_or, slice_set}
+use Rattle.std.specs.Prelude.{ℕ, ◌+◌, ◌-◌, ◌==◌, Bool, List, [], ◌∷◌, ◌++◌, count_by, length, slice_index_or, slice_set, None}
 use Rattle.mc_signal.specs.Empty.{no_codecs}
 use Rattle.mc_signal.specs.declared.Medium.{Medium}
 use Rattle.mc_signal.specs.declared.codec_list.CodecList.{CodecList}
@@ -89,7 +89,7 @@ with_tunnel plan medium = record plan { channels = widened plan.channels medium 
 
 -- a planned box as new, with a slot for each tunnel that leads to it
 abbrev pub box_from : List ChannelState → (who : ℕ) → BoxPlan → BoxState
-box_from channels who planned = first_box planned.kind who planned.codecs planned.sends planned.first_version (setups_of channels who)
+box_from channels who planned = first_box planned.kind who planned.codecs planned.sends planned.first_version (setups_of channels who) None
 
 -- these boxes, numbered from a number on
 abbrev pub boxes_from : List ChannelState → (who : ℕ) → List BoxPlan → List BoxState

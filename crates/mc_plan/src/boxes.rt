@@ -51,6 +51,7 @@ fn box_from(
         sends: planned.sends,
         first_version: planned.first_version,
         slots,
+        program: None,
     };
     MediaBox::new(alloc, setup)
 }

@@ -1,11 +1,16 @@
 //! Laws of plans, over their definitions alone: each function's contract is the law's sentence.
 
-ghost use Rattle.mc_plan.specs.PlanLaws.{PlansAreNumbered, PlansStaySound};
+ghost use Rattle.mc_plan.specs.PlanLaws.{PlansAreNumbered, PlansAreUnprogrammed, PlansStaySound};
 
 /// Whatever network is laid out, its boxes are new, and the tunnels of its channels join each of their slots once,
 /// with the numbers of the rules: so its first world is sound.
 pub fn plans_are_numbered()
     ensures { PlansAreNumbered }
+{}
+
+/// Whatever network is laid out, no box of it has a program: a plan has no place for one yet.
+pub fn plans_are_unprogrammed()
+    ensures { PlansAreUnprogrammed }
 {}
 
 /// Whatever network is laid out, and whatever its boxes do by turns, each world that they reach is sound: each signal
