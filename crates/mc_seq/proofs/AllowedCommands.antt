@@ -1,5 +1,5 @@
 -- Commands that a world allows: each later world allows them too, and each can happen, unless it is a Hear at the last version.
-use Rattle.std.proofs.Common.{◌≡◌, ◌<◌, ◌==◌, ◌&&◌, inl, inr, if◌then◌else◌, nat_lt, ℕ, Bool, true, false, List, [], ◌∷◌, map, length, Option, Some, cond, refl, ap, sym, ◌∙◌, subst}
+use Rattle.std.proofs.Common.{◌≡◌, ◌<◌, ◌==◌, ◌&&◌, inl, inr, if◌then◌else◌, nat_lt, ℕ, Bool, true, false, is_some, List, [], ◌∷◌, map, length, Option, Some, cond, refl, ap, sym, ◌∙◌, subst}
 use Rattle.std.specs.List.{list_all}
 use Rattle.std.proofs.lemmas.Bool.{and_parts}
 use Rattle.std.proofs.lemmas.List.{ext_get_or, length-map}
@@ -54,8 +54,10 @@ shape_kept start now who before sound shape below =
     (λ local inside.
     let here : local < length old = subst (λ (n : ℕ). local < n) (length-map new (λ (s : Slot). s.medium) ∙ count) inside in
     medium_of new local ∙ (medium_kept start now who local before sound shape below here ∙ sym (medium_of old local))) in
-    ap (λ (kind : Kind). record { kind = kind; media = map (λ (s : Slot). s.medium) new; programmed = false }) (shape.alike who).kind
-    ∙ ap (λ (media : List Medium). record { kind = (box_at start who).kind; media = media; programmed = false }) media
+    let programmed : is_some (box_at now who).program ≡ is_some (box_at start who).program = ap is_some (shape.alike who).program in
+    ap (λ (kind : Kind). record { kind = kind; media = map (λ (s : Slot). s.medium) new; programmed = is_some (box_at now who).program }) (shape.alike who).kind
+    ∙ (ap (λ (media : List Medium). record { kind = (box_at start who).kind; media = media; programmed = is_some (box_at now who).program }) media
+    ∙ ap (λ (programmed : Bool). record { kind = (box_at start who).kind; media = map (λ (s : Slot). s.medium) old; programmed = programmed }) programmed)
 
 -- a world allows what one of its shape allowed
 allowed_kept : (start now : WorldState) (turn : Turn) → IsSound start → IsSound now → HasShape now start → is_allowed start turn ≡ true → is_allowed now turn ≡ true

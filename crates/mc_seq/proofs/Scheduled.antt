@@ -17,10 +17,12 @@ use Rattle.mc_model.specs.Rings.{IsFirstOnRing}
 use Rattle.mc_model.specs.Settles.{IsSettled, IsStopped, commands_of, is_quiet, is_retry_of, world_owes, takes_or_retries, next_command}
 use Rattle.mc_model.specs.Sound.{IsSound}
 use Rattle.mc_model.specs.Steps.{ends_version, ends_version_at, run, heard_local, heard_slot}
+use Rattle.mc_model.specs.Unprogrammed.{HasNoPrograms}
 use Rattle.mc_model.specs.Worlds.{ChannelState, WorldState, number, place, places_among, slot_count}
 use Rattle.mc_box.proofs.Options.{then_some}
 use Rattle.mc_laws.proofs.GoalsKept.{rest_keeps_rings}
 use Rattle.mc_laws.proofs.Numbers.{number_is}
+use Rattle.mc_laws.proofs.NoPrograms.{still_none}
 use Rattle.mc_laws.proofs.ShapesKept.{run_keeps_shape}
 use Rattle.mc_laws.proofs.StepKeeps.{run_keeps_sound}
 use Rattle.mc_seq.specs.Draws.{IsScheduled, ScheduleSettles, StopsAtRing, StopsAtVersion}
@@ -153,26 +155,29 @@ counted world others who local none =
     sum ∙ once_by_box world who local
 
 -- with the round and the Takes behind it they are a settled segment
-settled_by : (world retried : WorldState) (batch first others : List Turn) (rested ended : Standing) → First world batch first rested → has_ring rested.world ≡ false
+settled_by : (world retried : WorldState) (batch first others : List Turn) (rested ended : Standing) → First world batch first rested → HasNoPrograms rested.world → has_ring rested.world ≡ false
     → run rested.world (retries_by_box rested.world) ≡ Some retried → AreDrawn (record rested { world = retried }) others ended → candidates ended ≡ []
     → IsSettled world batch (first ++ (retries_by_box rested.world ++ others)) ended.world
-settled_by world retried batch first others rested ended begins free retries draws none =
+settled_by world retried batch first others rested ended begins unprogrammed free retries draws none =
     let takes = drawn_takes others (record rested { world = retried }) ended begins.left draws in
     let goes : run rested.world (retries_by_box rested.world ++ others) ≡ Some ended.world = run-append (retries_by_box rested.world) others rested.world retried retries ∙ drawn_run others (record rested { world = retried }) ended draws in
     let besides = besides_both (retries_by_box rested.world) others (boxes_besides rested.world (length rested.world.boxes)) takes.besides in
     let kept = run_keeps_sound rested.world ended.world (retries_by_box rested.world ++ others) begins.sound goes in
-    settled_at world rested.world ended.world batch first (retries_by_box rested.world ++ others)
+    settled_at world rested.world ended.world batch first (retries_by_box rested.world ++ others) unprogrammed
+    (still_none ended.world rested.world (run_keeps_shape rested.world ended.world (retries_by_box rested.world ++ others) begins.sound goes) unprogrammed)
     (rest_keeps_rings rested.world ended.world (retries_by_box rested.world ++ others) begins.sound besides goes ∙ free)
     begins.ran goes begins.quiet (rested_quiet ended kept takes.left none) begins.used
     (λ who local. counted rested.world others who local (takes.count who local)) besides
 
 -- so turns by the schedule settle their batch
 pub schedule_settles : ScheduleSettles
-schedule_settles world last batch turns state end sound allowed scheduled =
+schedule_settles world last batch turns state end sound unprogrammed allowed scheduled =
+    let begins = first_is world batch scheduled.first state scheduled.rested sound allowed scheduled.draws scheduled.none in
+    let still = still_none scheduled.rested.world world (run_keeps_shape world scheduled.rested.world scheduled.first sound begins.ran) unprogrammed in
     subst (λ (t : List Turn). IsSettled world batch t last) (sym scheduled.are)
     (subst (λ (w : WorldState). IsSettled world batch (scheduled.first ++ (retries_by_box scheduled.rested.world ++ scheduled.others)) w) scheduled.to_last
     (settled_by world scheduled.retried batch scheduled.first scheduled.others scheduled.rested scheduled.ended
-    (first_is world batch scheduled.first state scheduled.rested sound allowed scheduled.draws scheduled.none) scheduled.no_ring scheduled.retries scheduled.more scheduled.nothing))
+    begins still scheduled.no_ring scheduled.retries scheduled.more scheduled.nothing))
 
 -- ---- a settle
 

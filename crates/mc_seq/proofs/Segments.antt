@@ -12,6 +12,7 @@ use Rattle.mc_box.specs.declared.event.Turn.{Turn}
 use Rattle.mc_model.specs.Paths.{has_ring}
 use Rattle.mc_model.specs.Settles.{IsSettled, commands_of, is_quiet, is_retry_of, world_owes, takes_or_retries}
 use Rattle.mc_model.specs.Steps.{after, run}
+use Rattle.mc_model.specs.Unprogrammed.{HasNoPrograms}
 use Rattle.mc_model.specs.Worlds.{WorldState}
 use Rattle.mc_laws.proofs.CommandsGo.{both_true}
 use Rattle.mc_laws.proofs.NoPrograms.{quiet_rests}
@@ -56,22 +57,22 @@ commands_before one two who all =
 -- ---- the segment
 
 -- from the turns before the moment at which the world rests, and those behind it
-pub settled_at : (world rested last : WorldState) (batch begun rest : List Turn) → has_ring last ≡ false → run world begun ≡ Some rested → run rested rest ≡ Some last
+pub settled_at : (world rested last : WorldState) (batch begun rest : List Turn) → HasNoPrograms rested → HasNoPrograms last → has_ring last ≡ false → run world begun ≡ Some rested → run rested rest ≡ Some last
     → IsTrue (is_quiet rested) → IsTrue (is_quiet last) → ((who : ℕ) → commands_of who begun ≡ commands_of who batch)
     → ((who local : ℕ) → count_by (is_retry_of who local) rest ≡ (if world_owes rested who local then 1 else 0)) → all_besides rest ≡ true
     → IsSettled world batch (begun ++ rest) last
-settled_at world rested last batch begun rest free ran goes quiet_then quiet used counts besides =
+settled_at world rested last batch begun rest unprogrammed still free ran goes quiet_then quiet used counts besides =
     let runs : run world (begun ++ rest) ≡ Some last = run-append begun rest world rested ran ∙ goes in
     let at : after world (take (length begun) (begun ++ rest)) ≡ rested = ap (after world) (take-append_seam begun rest) ∙ ap (λ (o : Option WorldState). unwrap_or o world) ran in
     record {
       runs = runs;
       commands = λ who. commands_before begun rest who besides ∙ used who;
-      at_rest = sym (quiet_rests last) ∙ quiet;
+      at_rest = sym (quiet_rests last still) ∙ quiet;
       no_ring = free;
       moment = length begun;
       last_rest = record {
         within = rw (length-append begun rest) (omega arith);
-        at_rest = rw at (sym (quiet_rests rested) ∙ quiet_then);
+        at_rest = rw at (sym (quiet_rests rested unprogrammed) ∙ quiet_then);
         used_up = λ who. ap (commands_of who) (take-append_seam begun rest) ∙ used who;
         retries = λ who local. ap (count_by (is_retry_of who local)) (drop-append_seam begun rest) ∙ (counts who local ∙ ap (λ (w : WorldState). if world_owes w who local then 1 else 0) (sym at));
         besides = ap all_besides (drop-append_seam begun rest) ∙ besides;

@@ -9,6 +9,7 @@ use Rattle.mc_model.specs.Rings.{IsFirstOnRing}
 use Rattle.mc_model.specs.Settles.{IsSettled, IsStopped, MeetsLast}
 use Rattle.mc_model.specs.Sound.{IsSound}
 use Rattle.mc_model.specs.Steps.{run}
+use Rattle.mc_model.specs.Unprogrammed.{HasNoPrograms}
 use Rattle.mc_model.specs.Worlds.{WorldState}
 use Rattle.mc_world.specs.declared.settled.Settled.{Settled}
 use Rattle.mc_seq.specs.Places.{IsPlaced}
@@ -62,9 +63,9 @@ StopsByDraws world batch state end (Ring stop) = StopsAtRing world batch state s
 StopsByDraws world batch state end (VersionEnd stop) = StopsAtVersion world batch state stop.turns.items end stop.at × IsPlaced world stop
 StopsByDraws world batch state end (NoMemory e) = Unit {0}
 
--- turns by the schedule are a settled segment
+-- turns by the schedule, which has no Shift, are a settled segment of a world without programs
 abbrev pub ScheduleSettles : Type 0
-ScheduleSettles = (world last : WorldState) (batch turns : List Turn) (state end : ℕ) → IsSound world → AreAllowed world batch → IsScheduled world batch state turns last end → IsSettled world batch turns last
+ScheduleSettles = (world last : WorldState) (batch turns : List Turn) (state end : ℕ) → IsSound world → HasNoPrograms world → AreAllowed world batch → IsScheduled world batch state turns last end → IsSettled world batch turns last
 
 -- and the schedule leaves no choice: there is one such list of turns, with one world and one state of the draws after it
 pub record IsSame (turns more : List Turn) (last other : WorldState) (end until : ℕ) : Type 0 where

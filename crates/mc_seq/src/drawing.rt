@@ -4,6 +4,7 @@ ghost use Rattle.std.specs.Prelude.{◌≡◌, ◌<◌, ◌%◌, [], false, leng
 ghost use Rattle.mc_model.specs.Shapes.{AreAllowed};
 ghost use Rattle.mc_model.specs.Paths.{has_ring};
 ghost use Rattle.mc_model.specs.Settles.{IsSettled};
+ghost use Rattle.mc_model.specs.Unprogrammed.{HasNoPrograms};
 ghost use Rattle.mc_model.specs.Worlds.{place, slot_count};
 ghost use Rattle.mc_seq.specs.Commands.{AreKept, AreKeptFor, commands_left};
 ghost use Rattle.mc_seq.specs.Draws.{SettlesByDraws, StopsByDraws};
@@ -36,7 +37,7 @@ struct Sitting {
 /// Where the batch is used up and nothing can come, each retry that is owed is made, once in a settle, and turns are
 /// drawn again.
 ///
-/// The world allows each command. It always ends: at rest, at a ring of links that the batch left,
+/// The world allows each command, and no box of it has a program: no Shift is made yet. It always ends: at rest, at a ring of links that the batch left,
 /// or at a Hear of a descriptor that has the last version; or for want of memory.
 ///
 /// The world and the commands that are left keep how many candidates each box has, in trees of sums. So the time of a
@@ -48,6 +49,7 @@ pub fn settle_one(
     draws: &mut Draws,
 ) -> Result<Settled, SettleFault>
     requires allowed { AreAllowed world batch.now }
+    requires unprogrammed { HasNoPrograms world }
     ensures scheduled { IfOk result (SettlesByDraws world batch.now draws.old.state draws.new.state) }
     ensures settled { IfOk result (λ done. IsSettled world batch.now done.turns.items done.world) }
     ensures stops { IfErr result (StopsByDraws world batch.now draws.old.state draws.new.state) }

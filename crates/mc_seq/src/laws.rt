@@ -3,7 +3,7 @@
 ghost use Rattle.mc_seq.specs.Draws.{DrawsEnd, ScheduleIsOne, ScheduleSettles, TakesEndDraws};
 ghost use Rattle.mc_seq.specs.Ready.{CountIsSum, KthIsFound};
 
-/// Turns by the schedule of draws are a settled segment for their batch.
+/// Turns by the schedule of draws are a settled segment for their batch, where no box has a program.
 pub fn schedule_settles()
     ensures { ScheduleSettles }
 {}

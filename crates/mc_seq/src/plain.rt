@@ -6,6 +6,7 @@ ghost use Rattle.mc_text.specs.Draws.{next_state};
 ghost use Rattle.mc_model.specs.Shapes.{AreAllowed};
 ghost use Rattle.mc_model.specs.Paths.{has_ring};
 ghost use Rattle.mc_model.specs.Settles.{IsSettled};
+ghost use Rattle.mc_model.specs.Unprogrammed.{HasNoPrograms};
 ghost use Rattle.mc_model.specs.Worlds.{place, slot_count};
 ghost use Rattle.mc_seq.specs.Draws.{SettlesByDraws, StopsByDraws};
 ghost use Rattle.mc_seq.specs.Drawing.{CameToRest, DrewOnce, MayCome, TriedTurn, UsedUp, plain_moment, plain_sight};
@@ -38,6 +39,7 @@ pub fn settle_plainly(
     draws: &mut Draws,
 ) -> Result<Settled, SettleFault>
     requires allowed { AreAllowed world batch.now }
+    requires unprogrammed { HasNoPrograms world }
     ensures scheduled { IfOk result (SettlesByDraws world batch.now draws.old.state draws.new.state) }
     ensures settled { IfOk result (λ done. IsSettled world batch.now done.turns.items done.world) }
     ensures stops { IfErr result (StopsByDraws world batch.now draws.old.state draws.new.state) }

@@ -68,4 +68,4 @@ returns-clause-scheduled c = done_is c
 
 pub returns-clause-settled : goal.returns-clause-settled
 returns-clause-settled c =
-    schedule_settles c.args.world c.settled_by.result.world c.args.batch.now c.settled_by.result.turns.items c.args.draws.now.state c.come_to_rest-2.new.draws.state c.keeps.ensures.sound c.requires.allowed (done_is c)
+    schedule_settles c.args.world c.settled_by.result.world c.args.batch.now c.settled_by.result.turns.items c.args.draws.now.state c.come_to_rest-2.new.draws.state c.keeps.ensures.sound c.requires.unprogrammed c.requires.allowed (done_is c)
