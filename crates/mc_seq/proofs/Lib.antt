@@ -17,3 +17,4 @@ mod Runs
 mod Scheduled
 mod Segments
 mod Sittings
+mod Unprogrammed

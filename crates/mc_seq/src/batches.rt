@@ -1,11 +1,12 @@
-// Batches of commands that a world allows.
+// What a settle asks of a world and a batch of commands.
 
-ghost use Rattle.std.specs.Prelude.{◌≡◌};
-ghost use Rattle.std.specs.List.{list_all};
+ghost use Rattle.std.specs.Prelude.{◌≡◌, ◌↔◌, false, is_some};
+ghost use Rattle.std.specs.List.{list_all, list_any};
 ghost use Rattle.mc_box.specs.BoxEvents.{is_command};
 ghost use Rattle.mc_model.specs.Shapes.{is_allowed};
+ghost use Rattle.mc_model.specs.Unprogrammed.{HasNoPrograms};
 
-use mc_box::{Event, Turn};
+use mc_box::{Event, MediaBox, Turn};
 use mc_world::World;
 
 /// Whether the world allows each command, so that the batch can be settled.
@@ -31,4 +32,18 @@ pub fn is_command(event: Event) -> bool
     ensures { result ≡ is_command event }
 {
     matches!(event, Event::Set(_) | Event::Media(_) | Event::Tell(_))
+}
+
+/// Whether some box of a world has a program.
+pub fn has_programs(world: &World) -> bool
+    ensures { (result ≡ false) ↔ HasNoPrograms world.now }
+{
+    some_has_program(world.boxes())
+}
+
+// Whether one of these boxes has a program.
+fn some_has_program(boxes: &[MediaBox]) -> bool
+    ensures { result ≡ list_any (λ one. is_some one.program) boxes.now }
+{
+    boxes.iter().any(|one| one.has_program())
 }

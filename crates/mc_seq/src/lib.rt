@@ -13,7 +13,7 @@ mod retrying;
 mod stopping;
 mod turns;
 
-pub use batches::fits;
+pub use batches::{fits, has_programs};
 pub use drawing::settle_one;
 pub use fault::{SettleFault, Stopped};
 pub use plain::settle_plainly;
