@@ -2,6 +2,7 @@
 use Rattle.std.proofs.Common.{List, Option, None, Some, ℕ, map, ap, sym, ◌∙◌, subst}
 use Rattle.mc_box.specs.declared.event.Turn.{Turn}
 use Rattle.mc_model.specs.Sound.{IsSound}
+use Rattle.mc_model.specs.Unprogrammed.{HasNoPrograms}
 use Rattle.mc_model.specs.Worlds.{WorldState}
 use Rattle.mc_net.specs.Nets.{DeclaresNet, IsFirstWorld, batch_turns, batches_of}
 use Rattle.mc_lines.specs.SoFar.{Declared}
@@ -18,10 +19,10 @@ use Rattle.mc_top.proofs.LastVersions.{none_passes, same_says, stopped_passes}
 use Rattle.mc_top.proofs.LeftRings.{stopped_leaves}
 
 -- whatever the stop is
-pub ran_shows : (stop : Option Stop) (batches : List (List Turn)) (world : WorldState) (journal : List JournalLine) → IsSound world → IsJournalTo stop world batches journal → ShowsCause stop world batches
-ran_shows None batches world journal sound ran = tt
-ran_shows (Some (VersionEnd at)) batches world journal sound ran = stopped_passes batches world at journal sound ran
-ran_shows (Some (Ring at)) batches world journal sound ran = stopped_leaves batches world at journal sound ran
+pub ran_shows : (stop : Option Stop) (batches : List (List Turn)) (world : WorldState) (journal : List JournalLine) → IsSound world → HasNoPrograms world → IsJournalTo stop world batches journal → ShowsCause stop world batches
+ran_shows None batches world journal sound unprogrammed ran = tt
+ran_shows (Some (VersionEnd at)) batches world journal sound unprogrammed ran = stopped_passes batches world at journal sound ran
+ran_shows (Some (Ring at)) batches world journal sound unprogrammed ran = stopped_leaves batches world at journal sound unprogrammed ran
 
 -- no stop shows its cause in the network of such a text
 pub never_stops : (stop : Stop) (text : List ℕ) (d : Declared) (net : Net) → Says text d → MeetsNoLast d → MakesNoRing d → DeclaresNet text net

@@ -22,6 +22,7 @@ use Rattle.mc_model.specs.PathTable.{heard_codec, high_hears, low_hears, path_st
 use Rattle.mc_model.specs.Paths.{PathEnds, end_goal, paths}
 use Rattle.mc_model.specs.Settles.{IsSettled, commands_of}
 use Rattle.mc_model.specs.Sound.{IsSound}
+use Rattle.mc_model.specs.Unprogrammed.{HasNoPrograms}
 use Rattle.mc_model.specs.Worlds.{ChannelState, WorldState, box_at, own_descriptor, own_sender, place, slot_of, tunnel_of}
 use Rattle.mc_settings.proofs.BatchesLeft.{batch_is_left, settled_used}
 use Rattle.mc_settings.proofs.CommandedWorlds.{settings_are, shape_stays}
@@ -95,12 +96,12 @@ commanded_seen world other turns seen = record {
 }
 
 -- so do settled segments of one batch
-pub settles_are_seen_alike : (world other last end : WorldState) (batch turns others : List Turn) → IsSound world → IsSound other → AreSeenAlike world other
+pub settles_are_seen_alike : (world other last end : WorldState) (batch turns others : List Turn) → IsSound world → IsSound other → HasNoPrograms world → HasNoPrograms other → AreSeenAlike world other
     → IsSettled world batch turns last → IsSettled other batch others end → AreSeenAlike last end
-settles_are_seen_alike world other last end batch turns others sound other_sound seen one two =
-    seen_both last (commanded world batch) end (alike_seen last (commanded world batch) (batch_is_left world last batch turns sound (settled_used world last batch turns one)))
+settles_are_seen_alike world other last end batch turns others sound other_sound unprogrammed other_unprogrammed seen one two =
+    seen_both last (commanded world batch) end (alike_seen last (commanded world batch) (batch_is_left world last batch turns sound unprogrammed (settled_used world last batch turns one)))
     (seen_both (commanded world batch) (commanded other batch) end (commanded_seen world other batch seen)
-    (seen_back end (commanded other batch) (alike_seen end (commanded other batch) (batch_is_left other end batch others other_sound (settled_used other end batch others two)))))
+    (seen_back end (commanded other batch) (alike_seen end (commanded other batch) (batch_is_left other end batch others other_sound other_unprogrammed (settled_used other end batch others two)))))
 
 -- ---- what is heard
 

@@ -3,10 +3,14 @@ use Rattle.std.proofs.Common.{◌≡◌, ◌+◌, ◌++◌, ℕ, zero, suc, List
 use Rattle.std.proofs.Math.ListN.{get_or}
 use Rattle.mc_box.specs.Boxes.{first_goal, first_media, no_box}
 use Rattle.mc_box.specs.declared.event.Turn.{Turn}
+use Rattle.mc_laws.proofs.NoPrograms.{still_none}
+use Rattle.mc_laws.proofs.ShapesKept.{run_keeps_shape}
 use Rattle.mc_laws.proofs.StepKeeps.{run_keeps_sound}
 use Rattle.mc_model.specs.Sound.{IsSound}
 use Rattle.mc_model.specs.Steps.{run}
+use Rattle.mc_model.specs.Unprogrammed.{HasNoPrograms}
 use Rattle.mc_model.specs.Worlds.{ChannelState, WorldState}
+use Rattle.mc_plan.proofs.Numbered.{plans_are_unprogrammed}
 use Rattle.mc_plan.specs.Plans.{PlanState, box_from, boxes_from, world_of}
 use Rattle.mc_plan.specs.Setups.{setups_of}
 use Rattle.mc_plan.specs.declared.plan.BoxPlan.{BoxPlan}
@@ -40,18 +44,19 @@ segment_text names number world last turns journal rest goes is =
     ∙ printed_after turns names number world last (Settled ∷ rest) goes
 
 -- from worlds that are seen alike
-journals_same : (batches : List (List Turn)) (names : NameLists) (number : ℕ) (world other : WorldState) (first second : List JournalLine) → IsSound world → IsSound other → AreSeenAlike world other
+journals_same : (batches : List (List Turn)) (names : NameLists) (number : ℕ) (world other : WorldState) (first second : List JournalLine) → IsSound world → IsSound other → HasNoPrograms world → HasNoPrograms other → AreSeenAlike world other
     → LeavesDecided world batches → IsJournal world batches first → IsJournal other batches second → journal_text names number world first ≡ journal_text names number other second
-journals_same [] names number world other first second sound other_sound seen decided one two =
+journals_same [] names number world other first second sound other_sound unprogrammed other_unprogrammed seen decided one two =
     ap (λ (lines : List JournalLine). journal_text names number world lines) one ∙ sym (ap (λ (lines : List JournalLine). journal_text names number other lines) two)
-journals_same (batch ∷ batches) names number world other first second sound other_sound seen decided (turns, last, rest, is, settled, later) (others, end, more, are, ended, behind) =
-    let lasts : AreSeenAlike last end = settles_are_seen_alike world other last end batch turns others sound other_sound seen settled ended in
+journals_same (batch ∷ batches) names number world other first second sound other_sound unprogrammed other_unprogrammed seen decided (turns, last, rest, is, settled, later) (others, end, more, are, ended, behind) =
+    let lasts : AreSeenAlike last end = settles_are_seen_alike world other last end batch turns others sound other_sound unprogrammed other_unprogrammed seen settled ended in
     segment_text names number world last turns first rest settled.runs is
     ∙ (ap (λ (text : List ℕ). text ++ journal_text names (number + 1) last rest)
-    (settle_same names number last end lasts (decided_is_left world last batch turns batches sound decided (settled_used world last batch turns settled)))
+    (settle_same names number last end lasts (decided_is_left world last batch turns batches sound unprogrammed decided (settled_used world last batch turns settled)))
     ∙ (ap (λ (text : List ℕ). settle_text names number end ++ text)
-    (journals_same batches names (number + 1) last end rest more (run_keeps_sound world last turns sound settled.runs) (run_keeps_sound other end others other_sound ended.runs) lasts
-    (decided_stays world last batch turns batches sound decided settled) later behind)
+    (journals_same batches names (number + 1) last end rest more (run_keeps_sound world last turns sound settled.runs) (run_keeps_sound other end others other_sound ended.runs)
+    (still_none last world (run_keeps_shape world last turns sound settled.runs) unprogrammed) (still_none end other (run_keeps_shape other end others other_sound ended.runs) other_unprogrammed) lasts
+    (decided_stays world last batch turns batches sound unprogrammed decided settled) later behind)
     ∙ sym (segment_text names number other end others second more ended.runs are)))
 
 -- ---- first worlds
@@ -93,6 +98,10 @@ first_worlds_seen d world other one two =
     (subst (λ (w : WorldState). AreSeenAlike (world_of one.plan) w) (sym two.world)
     (plans_seen one.plan two.plan (one.channels ∙ sym two.channels) (one.boxes ∙ sym two.boxes)))
 
+-- and have no programs
+pub first_unprogrammed : (d : Declared) (world : WorldState) → IsFirstWorld d world → HasNoPrograms world
+first_unprogrammed d world first = subst (λ (w : WorldState). HasNoPrograms w) (sym first.world) (plans_are_unprogrammed first.plan)
+
 -- ---- texts
 
 -- each mode prints the settles of the journal
@@ -109,7 +118,8 @@ text_alone_decides text net other first second mode instead one two decided =
     let seen : AreSeenAlike net.world other.world =
     first_worlds_seen one.declares.declared net.world other.world one.declares.world (subst (λ (d : Declared). IsFirstWorld d other.world) same two.declares.world) in
     output_is mode net first
-    ∙ (journals_same (map batch_turns net.batches.items) net.names 1 net.world other.world first second one.sound two.sound seen decided one.settles
+    ∙ (journals_same (map batch_turns net.batches.items) net.names 1 net.world other.world first second one.sound two.sound
+    (first_unprogrammed one.declares.declared net.world one.declares.world) (first_unprogrammed two.declares.declared other.world two.declares.world) seen decided one.settles
     (subst (λ (list : List (List Turn)). IsJournal other.world list second) batches two.settles)
     ∙ (ap (λ (n : NameLists). journal_text n 1 other.world second) names ∙ sym (output_is instead other second)))
 

@@ -1,6 +1,7 @@
 // A script, settle by settle.
 ghost use Rattle.std.specs.Prelude.{◌≡◌, ◌++◌, ◌∷◌, ◌<◌, ◌≤◌, [], length, map, Some, IfOk, OnOk};
 ghost use Rattle.mc_model.specs.Shapes.{AreAllAllowed, AreAllowed};
+ghost use Rattle.mc_model.specs.Unprogrammed.{HasNoPrograms};
 ghost use Rattle.mc_net.specs.Nets.{NamesAll, batch_turns};
 ghost use Rattle.mc_lines.specs.declared.limit.TheConstants.{COMMAND_LIMIT};
 ghost use Rattle.mc_script.specs.declared.command.JournalLine.TheVariants.{Turn as Made};
@@ -82,6 +83,7 @@ impl Progress {
         batch: &[Turn],
     ) -> Result<Outcome, AllocError>
         requires allowed { AreAllowed self.world batch.now }
+        requires unprogrammed { HasNoPrograms self.world }
         requires named { NamesAll names.now self.world }
         ensures { IfOk result (λ outcome. CameOf names.now number batch.now self outcome) }
     {
@@ -167,8 +169,8 @@ fn log(turns: &[Turn], journal: &mut Vec<JournalLine>) -> Result<(), AllocError>
 /// Runs a script: settles its batches one after the other by draws, which go on from settle to settle, and prints the
 /// paths after each. It ends before that where a batch stops, and then the line of the stop is all that it prints.
 ///
-/// All that the world has is named, the world allows each command, and there are no more batches than a text may have
-/// commands.
+/// All that the world has is named, the world allows each command, no box has a program, and there are no more batches
+/// than a text may have commands.
 pub fn run_script(
     alloc: Global,
     names: &Names,
@@ -178,6 +180,7 @@ pub fn run_script(
 ) -> Result<Run, AllocError>
     requires named { NamesAll names.now world }
     requires allowed { AreAllAllowed world (map batch_turns batches.now) }
+    requires unprogrammed { HasNoPrograms world }
     requires few { length batches.now ≤ COMMAND_LIMIT }
     ensures ran { IfOk result (λ run. IsJournalTo run.stop world (map batch_turns batches.now) run.journal.items) }
     ensures drawn { IfOk result (λ run.
