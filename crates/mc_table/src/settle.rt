@@ -1,6 +1,6 @@
 // The lines of a settle.
 ghost use Rattle.std.specs.Prelude.{◌≡◌, ◌++◌, All, IfOk, OnOk};
-ghost use Rattle.mc_table.specs.Shown.{end_word, hearing_line, print_settle, view_line, view_text};
+ghost use Rattle.mc_table.specs.Shown.{end_word, hearing_line, print_settle, view_text};
 ghost use Rattle.mc_table.specs.Shown.{IsNamedEnd, IsNamedView};
 
 use crate::line::put_line;
@@ -20,15 +20,24 @@ fn end_word(alloc: Global, names: &Names, end: &EndView) -> Result<Vec<u8>, Allo
     Ok(word)
 }
 
-// Appends the line of a path: its two ends, their goals, its state and its medium.
-fn put_path(
+// Appends what an end hears, behind the word for it.
+fn put_hears(names: &Names, word: &[u8], end: &EndView, out: &mut Vec<u8>) -> Result<(), AllocError>
+    requires named { IsNamedEnd names.now end.now }
+    requires word { word.now ≡ end_word names.now end.now }
+    ensures { OnOk result (out.new.items ≡ out.old.items ++ hearing_line names.now end.now) }
+{
+    put_line(b"hears", &[word, codec_word(names, end.hears)], out)
+}
+
+// Appends the lines of a path: its two ends, their goals, its state and its medium, and where it flows who hears what.
+fn put_view(
     alloc: Global,
     names: &Names,
     view: &PathView,
     out: &mut Vec<u8>,
 ) -> Result<(), AllocError>
     requires { IsNamedView names.now view.now }
-    ensures { OnOk result (out.new.items ≡ out.old.items ++ view_line names.now view.now) }
+    ensures { OnOk result (out.new.items ≡ out.old.items ++ view_text names.now view.now) }
 {
     let low = end_word(alloc, names, &view.low)?;
     let high = end_word(alloc, names, &view.high)?;
@@ -40,39 +49,12 @@ fn put_path(
         flow_word(view.flowing),
         medium_word(view.medium),
     ];
-    put_line(b"path", &words, out)
-}
-
-// Appends what an end hears.
-fn put_hears(
-    alloc: Global,
-    names: &Names,
-    end: &EndView,
-    out: &mut Vec<u8>,
-) -> Result<(), AllocError>
-    requires { IsNamedEnd names.now end.now }
-    ensures { OnOk result (out.new.items ≡ out.old.items ++ hearing_line names.now end.now) }
-{
-    let word = end_word(alloc, names, end)?;
-    put_line(b"hears", &[&word, codec_word(names, end.hears)], out)
-}
-
-// Appends the lines of a path: its own, and where it flows who hears what.
-fn put_view(
-    alloc: Global,
-    names: &Names,
-    view: &PathView,
-    out: &mut Vec<u8>,
-) -> Result<(), AllocError>
-    requires { IsNamedView names.now view.now }
-    ensures { OnOk result (out.new.items ≡ out.old.items ++ view_text names.now view.now) }
-{
-    put_path(alloc, names, view, out)?;
+    put_line(b"path", &words, out)?;
     if !view.flowing {
         return Ok(());
     }
-    put_hears(alloc, names, &view.low, out)?;
-    put_hears(alloc, names, &view.high, out)
+    put_hears(names, &low, &view.low, out)?;
+    put_hears(names, &high, &view.high, out)
 }
 
 /// The lines of a settle: its number, and then each path that is shown, in their order. Boxes, slots and heard
