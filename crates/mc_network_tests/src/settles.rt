@@ -7,7 +7,7 @@ use crate::networks::{device, feature, two_devices, two_features};
 use mc_box::limit::LAST_VERSION;
 use mc_box::{Change, Event, MediaChange, Turn};
 use mc_plan::{BoxPlan, Plan};
-use mc_seq::{SettleFault, fits, settle_one, settle_plainly};
+use mc_seq::{SettleFault, fits, has_programs, settle_one, settle_plainly};
 use mc_signal::Medium;
 use mc_slot::Goal;
 use mc_text::Draws;
@@ -17,6 +17,18 @@ use std::process::Abort;
 
 const fn turn(who: u32, event: Event) -> Turn {
     Turn { who, event }
+}
+
+// A settle by draws, of a batch that may be settled.
+fn settle<R: Abort + AllocGlobal>(
+    rt: &R,
+    world: World,
+    batch: &[Turn],
+    draws: &mut Draws,
+) -> Result<Settled, SettleFault> {
+    assert!(rt; fits(&world, batch));
+    assert!(rt; !has_programs(&world));
+    settle_one(rt.alloc(), world, batch, draws)
 }
 
 // A settle by draws makes just these turns, and leaves the draws at this state.
@@ -29,8 +41,7 @@ fn settles_by<R: Abort + AllocGlobal>(
     after: u32,
 ) -> Result<(), TestFault> {
     let mut draws = Draws { state };
-    assert!(rt; fits(&world, batch));
-    match settle_one(rt.alloc(), world, batch, &mut draws) {
+    match settle(rt, world, batch, &mut draws) {
         Ok(done) => {
             assert_eq!(rt; done.turns.as_slice(), want);
             assert_eq!(rt; draws.state, after);
@@ -88,8 +99,7 @@ fn draws_stop_at_a_ring(rt: HostRuntime) -> Result<(), TestFault> {
     let mut draws = Draws { state: 1 };
     let world = two_features(rt.alloc())?;
     let batch = [link, back];
-    assert!(rt; fits(&world, &batch));
-    let outcome = settle_one(rt.alloc(), world, &batch, &mut draws);
+    let outcome = settle(&rt, world, &batch, &mut draws);
     match &outcome {
         Err(SettleFault::Ring(stop)) => {
             assert_eq!(rt; stop.at, 0);
@@ -152,7 +162,7 @@ fn ended(alloc: Global, ending: Ending, draws: u32) -> Outcome {
 
 fn by_counts(alloc: Global, world: World, batch: &[Turn], state: u32) -> Outcome {
     let mut draws = Draws { state };
-    if !fits(&world, batch) {
+    if !fits(&world, batch) || has_programs(&world) {
         return ended(alloc, Ending::Refused, state);
     }
     let settled = settle_one(alloc, world, batch, &mut draws);
@@ -161,7 +171,7 @@ fn by_counts(alloc: Global, world: World, batch: &[Turn], state: u32) -> Outcome
 
 fn by_lists(alloc: Global, world: World, batch: &[Turn], state: u32) -> Outcome {
     let mut draws = Draws { state };
-    if !fits(&world, batch) {
+    if !fits(&world, batch) || has_programs(&world) {
         return ended(alloc, Ending::Refused, state);
     }
     let settled = settle_plainly(alloc, world, batch, &mut draws);
