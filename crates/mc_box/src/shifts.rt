@@ -25,7 +25,8 @@ impl BoxParts {
     pub fn shift(&mut self, shift: Shifted)
         requires wired { IsWired (box_state self.old) }
         requires enabled { enabled_shift (box_state self.old) ≡ Some shift }
-        ensures { box_state self.new ≡ with_goals (with_shift (box_state self.old) shift) (shift_goals (box_state self.old) shift) }
+        ensures { box_state self.new
+            ≡ with_goals (with_shift (box_state self.old) shift) (shift_goals (box_state self.old) shift) }
     {
         self.at = Some(shift.target);
         self.told = kept_word(self.told, shift.spends);

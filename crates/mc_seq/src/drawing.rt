@@ -37,8 +37,8 @@ struct Sitting {
 /// Where the batch is used up and nothing can come, each retry that is owed is made, once in a settle, and turns are
 /// drawn again.
 ///
-/// The world allows each command, and no box of it has a program: no Shift is made yet. It always ends: at rest, at a ring of links that the batch left,
-/// or at a Hear of a descriptor that has the last version; or for want of memory.
+/// The world allows each command, and no box of it has a program: no Shift is made yet. It always ends: at rest, at a
+/// ring of links that the batch left, or at a Hear of a descriptor that has the last version; or for want of memory.
 ///
 /// The world and the commands that are left keep how many candidates each box has, in trees of sums. So the time of a
 /// turn hangs on its box, and beside that on the network's size by its logarithm alone.

@@ -5,8 +5,9 @@ ghost use Rattle.mc_settings.specs.SettingLaws.{BatchIsLeft, BatchesAreLeft, Run
 ghost use Rattle.mc_settings.specs.SettingLaws.{LinkFreeLeavesNoRing, NoRingIsMet, NoRingStays, RingsAreLeft};
 ghost use Rattle.mc_settings.specs.SettingLaws.{DecidedIsLeft, DecidedPathsAgree, DecidedStays, HeldPathsAgree};
 
-/// After any run of a sound world without Shifts each box has the goals and the media that its own commands, in their order, make of
-/// those before, and is else as it was, but for what signals change: the states and kept values of its slots.
+/// After any run of a sound world without Shifts each box has the goals and the media that its own commands, in their
+/// order, make of those before, and is else as it was, but for what signals change: the states and kept values of its
+/// slots.
 pub fn runs_follow_commands()
     ensures { RunsFollowCommands }
 {}
@@ -60,8 +61,8 @@ pub fn rings_are_left()
     ensures { RingsAreLeft }
 {}
 
-/// Where no box has a program and the commands of no batch leave a ring, no slot stands on one when the next batch is used up: no settle stops
-/// there.
+/// Where no box has a program and the commands of no batch leave a ring, no slot stands on one when the next batch is
+/// used up: no settle stops there.
 pub fn no_ring_is_met()
     ensures { NoRingIsMet }
 {}
@@ -88,7 +89,8 @@ pub fn held_paths_agree()
     ensures { HeldPathsAgree }
 {}
 
-/// Where no box has a program and the commands of no batch leave a path of hold against hold, none is there when the next batch is used up.
+/// Where no box has a program and the commands of no batch leave a path of hold against hold, none is there when the
+/// next batch is used up.
 pub fn decided_is_left()
     ensures { DecidedIsLeft }
 {}

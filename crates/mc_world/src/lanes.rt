@@ -140,7 +140,8 @@ pub fn relay(
     requires lane { toward.0 ≡ lane_by topology.now senders.now.own.1 }
     requires tunnel { toward.1 ≡ tunnel_by topology.now senders.now.own.1 }
     requires room { HasRoomFrom lanes.old topology.now who (sends_of sends.now) sends.now.len }
-    ensures sent { signals_of lanes.new ≡ relay topology.now who (signals_of lanes.old) senders.now.own.1 (sends_of sends.now) }
+    ensures sent { signals_of lanes.new
+        ≡ relay topology.now who (signals_of lanes.old) senders.now.own.1 (sends_of sends.now) }
     ensures waiting { IsWaiting topology.now (signals_of lanes.new) waiting.new }
 {
     pop_front(lanes, waiting, topology, senders.own.1, toward);
