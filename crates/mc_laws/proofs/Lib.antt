@@ -2,6 +2,7 @@ pub mod ActedWorlds
 pub mod Acting
 pub mod BatchMade
 pub mod BothWays
+pub mod BoxStays
 pub mod BoxVersions
 pub mod CommandsGo
 pub mod Exchanges
@@ -34,3 +35,4 @@ pub mod Sums
 pub mod TakeParts
 pub mod TunnelPlaces
 pub mod Walks
+pub mod Words

@@ -4,3 +4,4 @@ pub mod Sendings
 pub mod StepLaws
 pub mod Stepped
 pub mod Versions
+pub mod Words

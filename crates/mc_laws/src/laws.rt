@@ -6,6 +6,7 @@ ghost use Rattle.mc_laws.specs.Measures.{TakeLowers, TakesEnd, MeasureBound, Tak
 ghost use Rattle.mc_laws.specs.Sendings.{StepIsMade, StepAppends};
 ghost use Rattle.mc_laws.specs.StepLaws.{StepActs, StepKeepsSound, RunKeepsSound, FrontIsTaken, FrontStepGoes, UnderWayGoes, FirstIsSound};
 ghost use Rattle.mc_laws.specs.Stepped.{SteppedStays};
+ghost use Rattle.mc_laws.specs.Words.{RestAwaitsWords, RunKeepsWords, WordsBoundShifts};
 ghost use Rattle.mc_model.specs.LinkFree.{RunKeepsLinkFree};
 ghost use Rattle.mc_model.specs.Rings.{RingsMeetNoEnd, WalksNeverReturn, RestKeepsRings};
 ghost use Rattle.mc_model.specs.Settles.{SettledMakesItsBatch};
@@ -166,4 +167,20 @@ pub fn settles_count_hears()
 /// version of a slot before them and its Hears in the batch are more than the last version together.
 pub fn last_is_passed()
     ensures { LastIsPassed }
+{}
+
+/// A run of a sound world has at most as many Shifts of a box whose program goes by told words alone as it has Tells of
+/// the box, and as were still to come before it, less those that are still to come after it.
+pub fn words_bound_shifts()
+    ensures { WordsBoundShifts }
+{}
+
+/// A run leaves each program by told words alone so.
+pub fn run_keeps_words()
+    ensures { RunKeepsWords }
+{}
+
+/// In a world that rests no Shift is still to come.
+pub fn rest_awaits_words()
+    ensures { RestAwaitsWords }
 {}

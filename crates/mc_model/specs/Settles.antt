@@ -2,7 +2,7 @@
 use Rattle.std.specs.Prelude.{◌≡◌, ℕ, ◌≤◌, ◌==◌, ◌&&◌, not, Bool, true, false, if◌then◌else◌, List, [], ◌∷◌, filter, length, take, drop, count_by, nat_lt, slice_get, IsTrue, Option, Some}
 use Rattle.std.specs.List.{list_all, list_any, sum_by}
 use Rattle.mc_signal.specs.declared.Tagged.{Tagged}
-use Rattle.mc_box.specs.BoxEvents.{is_command, is_enabled}
+use Rattle.mc_box.specs.BoxEvents.{is_command, is_enabled, is_shift}
 use Rattle.mc_box.specs.Boxes.{is_slot, box_owes}
 use Rattle.mc_model.specs.Paths.{has_ring}
 use Rattle.mc_model.specs.Steps.{after, ends_version, heard_slot, run}
@@ -39,6 +39,10 @@ is_retry_at local event = false
 -- the turn is the retry of this slot of this box
 abbrev pub is_retry_of : ℕ → ℕ → Turn → Bool
 is_retry_of who local turn = is_retry_at local turn.event && turn.who == who
+
+-- the turn is a Shift of this box
+abbrev pub is_shift_of : ℕ → Turn → Bool
+is_shift_of who turn = is_shift turn.event && turn.who == who
 
 abbrev pub is_hear_at : ℕ → Event → Bool
 is_hear_at local (Media (Hear slot on)) = slot == local
@@ -110,6 +114,10 @@ is_media event = false
 abbrev pub is_tell : Event → Bool
 is_tell (Tell word) = true
 is_tell event = false
+
+-- the turn is a Tell of this box
+abbrev pub is_tell_of : ℕ → Turn → Bool
+is_tell_of who turn = is_tell turn.event && turn.who == who
 
 -- the turns of one box among turns whose events are of a kind, in order
 abbrev pub of_kind : (Event → Bool) → ℕ → List Turn → List Turn
