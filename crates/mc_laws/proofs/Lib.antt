@@ -4,6 +4,7 @@ pub mod BatchMade
 pub mod BothWays
 pub mod BoxStays
 pub mod BoxVersions
+pub mod Chains
 pub mod CommandsGo
 pub mod Exchanges
 pub mod GoalsKept

@@ -1,5 +1,6 @@
 //! Laws of steps and runs, over the definitions alone: each function's contract is the law's sentence.
 
+ghost use Rattle.mc_laws.specs.Chains.{NamedLinksCloseNone, NamedLinksMakeRings, RingsAreNamed, RunKeepsNamed, StepKeepsNamed};
 ghost use Rattle.mc_laws.specs.Versions.{LastIsPassed, SettlesCountHears, VersionsCountHears};
 ghost use Rattle.mc_laws.specs.Exchanges.{WorkedExchanges};
 ghost use Rattle.mc_laws.specs.Measures.{TakeLowers, TakesEnd, MeasureBound, TakesBound};
@@ -183,4 +184,31 @@ pub fn run_keeps_words()
 /// In a world that rests no Shift is still to come.
 pub fn rest_awaits_words()
     ensures { RestAwaitsWords }
+{}
+
+/// A turn of a sound world leaves its links such as the first world, programs or commands name, if the turn is no
+/// command or is one of them.
+pub fn step_keeps_named()
+    ensures { StepKeepsNamed }
+{}
+
+/// And so does a run of such turns.
+pub fn run_keeps_named()
+    ensures { RunKeepsNamed }
+{}
+
+/// Where all links of a sound world are named, a ring is a closed chain of tunnels and named links.
+pub fn rings_are_named()
+    ensures { RingsAreNamed }
+{}
+
+/// So where tunnels and named links close no chain there is no ring.
+pub fn named_links_close_none()
+    ensures { NamedLinksCloseNone }
+{}
+
+/// Rings come only from named links: where the links that a sound world has, and that its programs and the commands of
+/// batches name, close no chain with its tunnels, no run of it with such commands leaves a ring.
+pub fn named_links_make_rings()
+    ensures { NamedLinksMakeRings }
 {}
