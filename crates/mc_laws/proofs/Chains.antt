@@ -196,6 +196,11 @@ pub rings_are_named : RingsAreNamed
 rings_are_named world now batches s sound links inside ring =
     (ring.count, ring.some, chain_leads ring.count world now batches s s sound links inside ring.back)
 
+-- where no link is named, none closes a chain
+pub unnamed_close_none : (world : WorldState) (batches : List (List Turn)) → ((who first second : ℕ) → NamesLink world batches who first second → ⊥) → ClosesNoChain world batches
+unnamed_close_none world batches none s zero some leads = absurd (omega (arith, some))
+unnamed_close_none world batches none s (suc count) some leads = none leads.1.who leads.1.first leads.1.second leads.1.named
+
 -- where named links close no chain
 pub no_ring_closes : (world now : WorldState) (batches : List (List Turn)) (s : ℕ) → IsSound now → LinksAreNamed world batches now → ClosesNoChain world batches → s < slot_count now → IsOnRing now s → ⊥
 no_ring_closes world now batches s sound links closes inside ring =
