@@ -5,6 +5,7 @@ mod draws;
 mod limits;
 mod media;
 mod networks;
+mod programs;
 mod refusals;
 
 use mc_io::{MemSink, MemSource, OpenGate};

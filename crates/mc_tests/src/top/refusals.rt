@@ -21,7 +21,7 @@ const PHONES: &str = "media 1\n\
     set bob a hold\n\
     settle\n";
 
-const PHONE_ROWS: [Row; 38] = [
+const PHONE_ROWS: [Row; 36] = [
     // A tunnel more, of the last channel.
     ("chan audio alice a bob a", "also video v v", 5, 6),
     ("set bob a hold", "also video v v", 5, 9),
@@ -73,20 +73,7 @@ const PHONE_ROWS: [Row; 38] = [
     ("codec g729", "# caf\u{e9}\ncodec g729", 3, 3),
     ("settle", "settle now\u{7f}", 3, 10),
     ("settle", "settle\n\0", 3, 11),
-    // The first line that can't be run yet.
-    (
-        "chan audio alice a bob a\nbegin",
-        "feat f\nchan audio alice a bob a\nprog f s\nstate s\nbegin",
-        19,
-        8,
-    ),
-    (
-        "chan audio alice a bob a\nbegin",
-        "feat f\nfeat g\nchan audio alice a bob a\nprog g s\nstate s\nprog f s\nstate s\nbegin",
-        19,
-        9,
-    ),
-    // Each other fault comes before that, on a later line too.
+    // A fault on a later line, behind lines that break no rule.
     ("dev bob g729", "dev bob 1 g729\nfeat f\nfeat f", 9, 7),
     ("settle", "hear alice a off\nsettle now", 7, 11),
     ("begin", "chan video alice v bob v", 16, 11),
@@ -242,7 +229,7 @@ const PROGRAM_ROWS: [Row; 51] = [
 ];
 
 // Commands. Any program's word may be told to each box that has a program.
-const COMMAND_ROWS: [Row; 42] = [
+const COMMAND_ROWS: [Row; 39] = [
     ("tell f swap", "tell h swap", 4, 24),
     ("tell f swap", "tell f talk", 4, 24),
     ("hear alice v off", "hear carol v off", 4, 25),
@@ -282,14 +269,6 @@ const COMMAND_ROWS: [Row; 42] = [
     ("link g p q", "link g p w", 11, 27),
     ("link g p q", "link f w w", 12, 27),
     ("link g p q", "link f w v", 13, 27),
-    ("settle", "settle", 19, 12),
-    (
-        "begin\nset alice a open\ntell f swap",
-        "prog g on\nstate on\nlink p q\nbegin\ntell g swap",
-        19,
-        12,
-    ),
-    ("begin", "\n   # begin\n begin  ", 19, 12),
 ];
 
 // Lines that break several rules, and several such lines.
@@ -447,6 +426,33 @@ const RUN: [(&str, &str); 7] = [
     ),
 ];
 
+const OVER_THE_SWITCH: &str = "settle 1\n\
+    path alice/a bob/a open hold flowing audio\n\
+    hears alice/a g729\n\
+    hears bob/a g729\n\
+    path f/v alice/v close close closed video\n";
+
+const ALL_CLOSED: &str = "settle 1\n\
+    path alice/a bob/a close close closed audio\n\
+    path f/v alice/v close close closed video\n";
+
+// The switch with other lines in place of some, and what is written for it.
+const SWITCHED: [(&str, &str, &str); 4] = [
+    ("settle\n", "", ""),
+    ("tell f swap", "set bob a hold", OVER_THE_SWITCH),
+    (
+        "begin\nset alice a open\ntell f swap",
+        "\n   # begin\n begin  \nset alice a open\nset bob a hold",
+        OVER_THE_SWITCH,
+    ),
+    // A word is told that another box's program has.
+    (
+        "begin\nset alice a open\ntell f swap",
+        "prog g on\nstate on\nlink p q\nbegin\ntell g swap",
+        ALL_CLOSED,
+    ),
+];
+
 // A call with this text writes this and ends with this status.
 pub fn is_written<R: Threads + Sync + Abort>(
     rt: &R,
@@ -512,6 +518,16 @@ fn the_end_of_a_text_is_one_more_line(rt: HostRuntime) -> Result<(), Fail> {
 fn skipped_lines_and_spare_spaces_change_nothing(rt: HostRuntime) -> Result<(), Fail> {
     for (text, printed) in RUN {
         is_written(&rt, rt.alloc(), text, 0, printed, text)?;
+    }
+    Ok(())
+}
+
+#[test]
+fn a_text_with_programs_is_run(rt: HostRuntime) -> Result<(), Fail> {
+    let alloc = rt.alloc();
+    for (line, instead, printed) in SWITCHED {
+        let text = SWITCH.replacen(alloc, line, instead, 1)?;
+        is_written(&rt, alloc, text.as_str(), 0, printed, instead)?;
     }
     Ok(())
 }
