@@ -1,5 +1,6 @@
 pub mod Counts
 pub mod Joined
+pub mod Layouts
 pub mod Numbered
 pub mod Orders
 pub mod Picks

@@ -1,4 +1,5 @@
 pub mod LaidOut
+pub mod Layouts
 pub mod PlanLaws
 pub mod Plans
 pub mod Refusals

@@ -10,7 +10,7 @@ use Rattle.mc_plan.specs.declared.limit.TheConstants.{BOX_LIMIT, CHANNEL_LIMIT}
 use Rattle.mc_plan.specs.declared.fault.PlanFault.TheVariants.{NoBox, NoChannel, SameBox, NoTunnels, TooManyTunnels, BoxesFull, ChannelsFull, SlotsFull, NoMemory}
 
 -- this fault where a rule is broken, and else the first of the others
-abbrev pub fault_if : Bool → PlanFault → Option PlanFault → Option PlanFault
+abbrev pub fault_if : {F : Type 0} → Bool → F → Option F → Option F
 fault_if broken fault others = if broken then Some fault else others
 
 -- why a box isn't added
@@ -42,7 +42,7 @@ abbrev pub widen_fault : PlanState → Option PlanFault
 widen_fault plan = fault_if (length plan.channels == 0) NoChannel (widen_fault_at plan (last_channel plan.channels))
 
 -- a fault, or nothing to say
-abbrev pub unless_fault : Option PlanFault → Result (Unit {0}) PlanFault
+abbrev pub unless_fault : {F : Type 0} → Option F → Result (Unit {0}) F
 unless_fault None = Ok tt
 unless_fault (Some fault) = Err fault
 

@@ -1,59 +1,69 @@
 // The new boxes that a plan gives: a slot for each tunnel that leads to a box.
 
-ghost use Rattle.std.specs.Prelude.{◌≡◌, ◌+◌, ◌<◌, ◌≤◌, ◌++◌, ◌^◌, All, IfOk, OnOk, length};
+ghost use Rattle.std.specs.Prelude.{◌≡◌, ◌+◌, ◌<◌, ◌≤◌, ◌++◌, ◌^◌, All, IfOk, OnOk, length, map};
 ghost use Rattle.mc_plan.specs.Setups.{setup_if, setups_at, setups_of};
 ghost use Rattle.mc_model.specs.Worlds.{HasTunnels};
 ghost use Rattle.mc_plan.specs.LaidOut.{IsLaidOut};
-ghost use Rattle.mc_plan.specs.Plans.{box_from, boxes_from, slots_of};
-ghost use Rattle.mc_box.specs.declared.limit.TheConstants.{SLOT_LIMIT};
-ghost use Rattle.mc_plan.specs.declared.limit.TheConstants.{BOX_LIMIT, CHANNEL_LIMIT};
+ghost use Rattle.mc_plan.specs.Plans.{box_from, boxes_from};
+ghost use Rattle.mc_model.specs.Sound.{AreNew};
+ghost use Rattle.mc_box.specs.Boxes.{set_up};
+ghost use Rattle.mc_plan.specs.declared.limit.TheConstants.{CHANNEL_LIMIT};
 
 use crate::plan::BoxPlan;
 use mc_box::{MediaBox, Setup, SlotSetup};
 use mc_world::Channel;
 use std::alloc::{AllocError, Global};
 
-// The boxes of these plans, in the order of their numbers.
-pub fn boxes_from(
+// What the boxes of these plans are made of, in the order of their numbers.
+pub fn setups_from(
     alloc: Global,
     plans: &[BoxPlan],
     channels: &[Channel],
-) -> Result<Vec<MediaBox>, AllocError>
+) -> Result<Vec<Setup>, AllocError>
     requires { IsLaidOut (record { boxes = plans.now; channels = channels.now }) }
-    ensures { IfOk result (λ boxes. boxes.items ≡ boxes_from channels.now 0 plans.now) }
+    ensures { IfOk result (λ setups. map set_up setups.items ≡ boxes_from channels.now 0 plans.now) }
 {
-    let mut boxes = Vec::new(alloc);
+    let mut setups = Vec::new(alloc);
     for who in 0..plans.len() {
-        let made = box_from(alloc, channels, who as u32, plans[who])?;
-        boxes.push(made)?;
+        let setup = setup_from(alloc, channels, who as u32, plans[who])?;
+        setups.push(setup)?;
     }
-    Ok(boxes)
+    Ok(setups)
 }
 
-// A planned box as new.
-fn box_from(
+// What a planned box is made of.
+fn setup_from(
     alloc: Global,
     channels: &[Channel],
     who: u32,
     planned: BoxPlan,
-) -> Result<MediaBox, AllocError>
+) -> Result<Setup, AllocError>
     requires channels { length channels.now ≤ CHANNEL_LIMIT }
     requires tunnels { All HasTunnels channels.now }
-    requires slots { slots_of channels.now who ≤ SLOT_LIMIT }
-    requires number { who < BOX_LIMIT }
-    ensures { IfOk result (λ made. made ≡ box_from channels.now who planned) }
+    ensures { IfOk result (λ setup. set_up setup ≡ box_from channels.now who planned) }
 {
-    let slots = setups_of(alloc, channels, who)?;
-    let setup = Setup {
+    Ok(Setup {
         kind: planned.kind,
         number: who,
         codecs: planned.codecs,
         sends: planned.sends,
         first_version: planned.first_version,
-        slots,
+        slots: setups_of(alloc, channels, who)?,
         program: None,
-    };
-    MediaBox::new(alloc, setup)
+    })
+}
+
+// The boxes that are made of these.
+pub fn boxes_of(alloc: Global, mut setups: Vec<Setup>) -> Result<Vec<MediaBox>, AllocError>
+    requires { AreNew (map set_up setups.items) }
+    ensures { IfOk result (λ boxes. boxes.items ≡ map set_up setups.items) }
+{
+    let mut boxes = Vec::new(alloc);
+    while !setups.is_empty() {
+        let setup = setups.remove(0);
+        boxes.push(MediaBox::new(alloc, setup)?)?;
+    }
+    Ok(boxes)
 }
 
 // The slots of a box, in the order of their local numbers.

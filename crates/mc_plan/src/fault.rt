@@ -1,4 +1,4 @@
-// Why a plan refuses a box or a channel.
+// Why a plan refuses a box or a channel, and a box a program.
 
 ghost use Rattle.std.specs.Prelude.{◌≡◌, alloc_error};
 ghost use Rattle.mc_plan.specs.declared.fault.PlanFault.TheVariants.{NoMemory};
@@ -43,4 +43,19 @@ impl<T: Drop> From<AllocFailed<T>> for PlanFault {
     fn from(e: AllocFailed<T>) -> Self {
         PlanFault::NoMemory(AllocError::from(e))
     }
+}
+
+/// Why a box of a layout doesn't get a program: the first of these rules that this would break.
+#[derive(Clone, Copy, PartialEq, Eq, Debug)]
+pub enum ProgramFault {
+    /// The box isn't there.
+    NoBox,
+    /// The box is a device.
+    NoFeature,
+    /// The box has a program.
+    HasProgram,
+    /// Some state hasn't one goal for each slot of the box.
+    WrongGoals,
+    /// Some state links two slots of different media.
+    TwoMedia,
 }

@@ -4,11 +4,14 @@
 mod boxes;
 mod fault;
 pub mod laws;
+mod layout;
 pub mod limit;
 mod plan;
+mod programs;
 #[cfg(test)]
 mod tests;
 mod tunnels;
 
-pub use fault::PlanFault;
+pub use fault::{PlanFault, ProgramFault};
+pub use layout::Layout;
 pub use plan::{BoxPlan, Plan};

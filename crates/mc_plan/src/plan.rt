@@ -7,8 +7,9 @@ ghost use Rattle.mc_plan.specs.Refusals.{add_fault, join_fault, may_join, may_wi
 ghost use Rattle.mc_box.specs.declared.limit.TheConstants.{SLOT_LIMIT};
 ghost use Rattle.mc_model.specs.declared.channel.TheConstants.{TUNNEL_LIMIT};
 
-use crate::boxes::boxes_from;
+use crate::boxes::setups_from;
 use crate::fault::PlanFault;
+use crate::layout::Layout;
 use crate::limit::{BOX_LIMIT, CHANNEL_LIMIT};
 use crate::tunnels::{add_tunnel, last_channel, next_tunnel, slots_of, tunnels_between};
 use mc_box::Kind;
@@ -146,12 +147,23 @@ impl Plan {
         Ok(number as u32)
     }
 
+    /// What the first world of the plan is, for programs to be laid into it.
+    pub fn layout(self) -> Result<Layout, AllocError>
+        ensures { IfOk result (λ layout. layout ≡ world_of self) }
+    {
+        let setups = setups_from(self.alloc, &self.boxes, &self.channels)?;
+        Ok(Layout {
+            setups,
+            channels: self.channels,
+            alloc: self.alloc,
+        })
+    }
+
     /// The first world of the plan: its boxes are new, and nothing is under way.
     pub fn world(self) -> Result<World, AllocError>
         ensures { IfOk result (λ world. world ≡ world_of self) }
     {
-        let boxes = boxes_from(self.alloc, &self.boxes, &self.channels)?;
-        World::new(self.alloc, boxes, self.channels)
+        self.layout()?.world()
     }
 
     /// Whether two boxes may be joined by a channel with a tunnel for each of these media: else the first rule that

@@ -1,7 +1,7 @@
 use Rattle.std.proofs.Common.{arith}
 use Rattle.std.proofs.lemmas.Grind.{common_steps}
 use Rattle.mc_plan.proofs.Numbered.{boxes_more}
-use Rattle.mc_plan.proofs.boxes.boxes_from.Goals as goal
+use Rattle.mc_plan.proofs.boxes.setups_from.Goals as goal
 
 pub loop-who-preserved : goal.loop-who-preserved
 loop-who-preserved c =
