@@ -1,3 +1,5 @@
+pub mod BlockLaws
+pub mod Finished
 pub mod LineReadings
 pub mod Programs
 pub mod Readings

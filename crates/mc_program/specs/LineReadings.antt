@@ -1,5 +1,5 @@
 -- What reading a line of a program answers, by the kind of line: the program is as the line says, or the line is refused by the least number of the rules that it breaks. The words are those behind the first.
-use Rattle.std.specs.Prelude.{ℕ, ◌≡◌, Bool, List, Option, Some, None, Result}
+use Rattle.std.specs.Prelude.{ℕ, ◌≡◌, Bool, List, Option, Some, Result}
 use Rattle.std.specs.List.{slice_get}
 use Rattle.std.specs.Option.{option_map}
 use Rattle.mc_text.specs.NameLists.{NameLists}
@@ -11,7 +11,7 @@ use Rattle.mc_script.specs.declared.command.LineFault.{LineFault}
 use Rattle.mc_program.specs.Programs.{BlockState, PartState, block_goal_after, block_goal_rules, block_link_after, block_link_rules, block_when_after, block_when_rules, goal_rules, is_transition, is_unfinished_block, new_part_rules, new_program_rules, part_goal_after, part_link_after, part_link_rules, part_when_after, told_after, when_is_rules, when_rules, when_told_rules, with_transition}
 use Rattle.mc_program.specs.Readings.{Declares, Makes}
 use Rattle.mc_program.specs.declared.fault.ReadFault.{ReadFault}
-use Rattle.mc_program.specs.declared.part.Transition.{Transition}
+use Rattle.mc_rule.specs.declared.Rule.{Rule}
 
 -- ---- the lines of a part, in a program of a box
 
@@ -37,7 +37,7 @@ abbrev pub ReadsWhenTold : NameLists → List (List ℕ) → PartState → List 
 ReadsWhenTold names states old words result new = Declares result new (least_broken (when_told_rules names states old words)) (told_after names states old words)
 
 -- the transition of `when is ..`, behind `is`
-abbrev pub SpellsTransition : NameLists → ℕ → List (List ℕ) → PartState → List (List ℕ) → Result Transition LineFault → Type 0
+abbrev pub SpellsTransition : NameLists → ℕ → List (List ℕ) → PartState → List (List ℕ) → Result Rule LineFault → Type 0
 SpellsTransition names who states part words result = ReadsAs result (least_broken (when_is_rules names who states part words)) (is_transition names who states words)
 
 -- the least rule that `when told ..` breaks, behind `told`

@@ -16,8 +16,8 @@ use Rattle.mc_script.specs.Places.{are_same, box_named, is_misspelt, is_no, is_o
 use Rattle.mc_script.specs.Rules.{differ_in_medium, spelt_goal, is_no_feature, least_broken}
 use Rattle.mc_script.specs.declared.rule.TheConstants.{EXTRA_WORD, GIVEN_TWICE, LIMIT_PASSED, MISSING_WORD, NAME_TOO_LONG, NO_SUCH_SLOT, SAME_SLOT, TWO_MEDIA, UNDECLARED, UNFINISHED, WRONG_WORD}
 use Rattle.mc_program.specs.WordLists.{has_repeat}
-use Rattle.mc_program.specs.declared.part.Guard.TheVariants.{SlotIs, Told}
-use Rattle.mc_program.specs.declared.part.Transition.{Transition}
+use Rattle.mc_rule.specs.declared.Guard.TheVariants.{SlotIs, Told}
+use Rattle.mc_rule.specs.declared.Rule.{Rule}
 use Rattle.mc_program.specs.declared.part.WaitWord.{WaitWord}
 use Rattle.mc_program.specs.declared.part.WaitWord.TheVariants as waits
 use Rattle.mc_program.specs.declared.limit.TheConstants.{STATE_LIMIT, TRANSITION_LIMIT}
@@ -36,7 +36,7 @@ words_of owned = map (λ word. word.items) owned
 -- a state's part: the goals that it gave so far, by slot, and its transitions
 pub record PartState : Type 0 where
   pub goals : List (Option SlotGoal)
-  pub transitions : List Transition
+  pub transitions : List Rule
 
 -- a program: its box, the names of its states, and the parts of those that were begun, the last of them still open
 pub record BlockState : Type 0 where
@@ -221,11 +221,11 @@ abbrev pub when_rules : NameLists → ℕ → List (List ℕ) → PartState → 
 when_rules names who states part [] = (MISSING_WORD, true) ∷ []
 when_rules names who states part (first ∷ others) = when_kind_rules names who states part (waits_for first) others
 
-abbrev pub with_transition : PartState → Transition → PartState
+abbrev pub with_transition : PartState → Rule → PartState
 with_transition part transition = record part { transitions = part.transitions ++ transition ∷ [] }
 
 -- the transition of `is SLOT STATE TARGET`
-abbrev pub is_transition : NameLists → ℕ → List (List ℕ) → List (List ℕ) → Option Transition
+abbrev pub is_transition : NameLists → ℕ → List (List ℕ) → List (List ℕ) → Option Rule
 is_transition names who states words = do
   local ← slot_named names (Some who) (slice_get words 0)
   state ← spelt_value spelt_state (slice_get words 1)

@@ -2,11 +2,13 @@
 #![tactic(auto)]
 
 mod fault;
+mod finished;
+pub mod laws;
 pub mod limit;
 mod part;
 mod program;
 pub mod word_list;
 
 pub use fault::ReadFault;
-pub use part::{Guard, StatePart, Transition, WaitWord};
+pub use part::{StatePart, WaitWord};
 pub use program::{Block, is_unfinished, program_line, state_line};

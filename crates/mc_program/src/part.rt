@@ -13,6 +13,7 @@ ghost use Rattle.mc_program.specs.LineReadings.{BreaksWhenTold, ReadsGoal, Reads
 use crate::fault::ReadFault;
 use crate::limit::{STATE_LIMIT, TRANSITION_LIMIT};
 use mc_box::Shape;
+use mc_rule::{Guard, Rule};
 use mc_script::LineFault;
 use mc_script::places::{fixed_goal, is_misspelt, is_overlong, known_slot};
 use mc_script::rule::{
@@ -34,25 +35,11 @@ pub enum WaitWord {
     Told,
 }
 
-/// What a transition waits for: a slot that is in a state, or a told word.
-#[derive(Clone, Copy, PartialEq, Eq, Debug)]
-pub enum Guard {
-    SlotIs(u8, State),
-    Told(u8),
-}
-
-/// A way out of a state: what it waits for, and the state that it leads to.
-#[derive(Clone, Copy, PartialEq, Eq, Debug)]
-pub struct Transition {
-    pub guard: Guard,
-    pub target: u32,
-}
-
 /// A state's part: the goals that its lines gave so far, by slot, and its transitions in their order.
 #[derive(Debug, Drop)]
 pub struct StatePart {
     pub goals: Vec<Option<SlotGoal>>,
-    pub transitions: Vec<Transition>,
+    pub transitions: Vec<Rule>,
 }
 
 impl Model for StatePart {
@@ -173,7 +160,7 @@ impl StatePart {
     }
 
     // Adds a transition as the last.
-    fn push(&mut self, transition: Transition) -> Result<(), AllocError>
+    fn push(&mut self, transition: Rule) -> Result<(), AllocError>
         ensures added { OnOk result (self.new ≡ with_transition self.old transition) }
         ensures unchanged { OnErr result (self.new ≡ self.old) }
     {
@@ -242,7 +229,7 @@ impl StatePart {
         let Ok(word) = names.add_told(line.word) else {
             return Err(ReadFault::NoMemory(AllocError));
         };
-        self.push(Transition {
+        self.push(Rule {
             guard: Guard::Told(word),
             target: line.target,
         })?;
@@ -256,7 +243,7 @@ impl StatePart {
         who: u32,
         states: &[Vec<u8>],
         words: Words<'a>,
-    ) -> Result<Transition, LineFault>
+    ) -> Result<Rule, LineFault>
         requires who { who < length names.now.boxes }
         requires states { length states.now ≤ STATE_LIMIT }
         ensures { SpellsTransition names.now who (words_of states.now) self.now words.entry result }
@@ -278,7 +265,7 @@ impl StatePart {
                 number: LIMIT_PASSED,
             });
         }
-        Ok(Transition {
+        Ok(Rule {
             guard: Guard::SlotIs(local, state),
             target,
         })
