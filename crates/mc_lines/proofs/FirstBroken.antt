@@ -1,12 +1,12 @@
 -- The first broken rule of two lists of rules.
-use Rattle.std.proofs.Common.{◌≡◌, ℕ, zero, suc, Bool, true, false, List, [], ◌∷◌, ◌++◌, Some, None, length, nat_le, ◌≤◌, ◌∙◌, refl, arith}
-use Rattle.std.specs.List.{slice_get}
+use Rattle.std.proofs.Common.{◌≡◌, ℕ, Bool, true, false, List, [], ◌∷◌, ◌++◌, Some, None, length, nat_le, ◌≤◌, ◌∙◌, refl, arith}
 use Rattle.mc_text.specs.Lines.{words}
 use Rattle.mc_script.specs.Rules.{byte_rules, kind_rules, least_broken}
 use Rattle.mc_script.specs.declared.keyword.CommandWord.{CommandWord}
 use Rattle.mc_script.specs.declared.rule.TheConstants.{LIMIT_PASSED, UNFINISHED}
 use Rattle.mc_lines.specs.Rules.{command_line_rules, entry_fault, is_skipped, is_unfinished, line_fault, line_words_rules, passes_limit}
 use Rattle.mc_lines.specs.SoFar.{Declared}
+use Rattle.mc_program.proofs.KeptRules.{first_kept, others_kept}
 use Rattle.mc_lines.specs.declared.limit.TheConstants.{COMMAND_LIMIT}
 
 -- where a rule of the first list is broken, the others don't count
@@ -47,18 +47,8 @@ unfinished_before d kind words kept room unfinished =
 
 -- ---- no rule is broken
 
--- where no rule is broken, neither is the first
-pub first_kept : (number : ℕ) (broken : Bool) (others : List (ℕ × Bool)) → least_broken ((number, broken) ∷ others) ≡ None → broken ≡ false
-first_kept number true others kept = absurd (let clash : Some number ≡ None = kept in cc)
-first_kept number false others kept = refl
-
--- where no rule is broken, none behind the first is
-pub others_kept : (number : ℕ) (broken : Bool) (others : List (ℕ × Bool)) → least_broken ((number, broken) ∷ others) ≡ None → least_broken others ≡ None
-others_kept number true others kept = absurd (let clash : Some number ≡ None = kept in cc)
-others_kept number false others kept = kept
-
 -- of two lists, none of the second is
-all_behind : (rules others : List (ℕ × Bool)) → least_broken (rules ++ others) ≡ None → least_broken others ≡ None
+pub all_behind : (rules others : List (ℕ × Bool)) → least_broken (rules ++ others) ≡ None → least_broken others ≡ None
 all_behind [] others kept = kept
 all_behind (rule ∷ rules) others kept = all_behind rules others (others_kept rule.0 rule.1 (rules ++ others) kept)
 
@@ -76,14 +66,6 @@ pub has_room : (d : Declared) (kind : CommandWord) (words : List (List ℕ)) →
 has_room d kind words kept =
     let behind = (LIMIT_PASSED, nat_le COMMAND_LIMIT (length d.commands)) ∷ (UNFINISHED, is_unfinished d) ∷ [] in
     first_kept LIMIT_PASSED (nat_le COMMAND_LIMIT (length d.commands)) ((UNFINISHED, is_unfinished d) ∷ []) (all_behind (kind_rules d.names d.shape (Some kind) words) behind kept)
-
--- where no rule is broken, the one at a place is kept
-pub kept_at : (rules : List (ℕ × Bool)) (k : ℕ) (rule : ℕ × Bool) → least_broken rules ≡ None → slice_get rules k ≡ Some rule → rule.1 ≡ false
-kept_at [] k rule kept at = absurd cc
-kept_at (first ∷ others) zero rule kept at =
-    let same : first ≡ rule = cc in
-    rw (← same) (first_kept first.0 first.1 others kept)
-kept_at (first ∷ others) (suc k) rule kept at = kept_at others k rule (others_kept first.0 first.1 others kept) at
 
 -- a line that doesn't pass the limit, and whose bytes break no rule, breaks those of its words
 pub of_words : (total before : ℕ) (d : Declared) (line : List ℕ) → passes_limit total before line ≡ false → least_broken (byte_rules line) ≡ None → line_fault total before d line ≡ entry_fault d (words line)

@@ -5,4 +5,3 @@ pub mod Listing
 pub mod Meaning
 pub mod Rules
 pub mod SoFar
-pub mod Unbuilt

@@ -11,10 +11,9 @@ use Rattle.mc_script.specs.declared.rule.TheConstants.{GIVEN_TWICE, LIMIT_PASSED
 use Rattle.mc_script.specs.declared.command.LineFault.{LineFault}
 use Rattle.mc_script.specs.declared.keyword.CommandWord.{CommandWord}
 use Rattle.mc_lines.specs.BoxLines.{also_seen, channel_seen, device_seen, joining_rules, send_seen, widening_rules}
-use Rattle.mc_lines.specs.Meaning.{after_by, command_after, program_link_after, send_after, with_new_box, with_new_codec, words_after}
+use Rattle.mc_lines.specs.Meaning.{after_by, command_after, entry_after, line_after, program_link_after, send_after, with_new_box, with_new_codec, words_after}
 use Rattle.mc_lines.specs.Rules.{command_line_rules, entry_fault, line_fault, program_link_rules, rules_by, send_rules, words_rules}
 use Rattle.mc_lines.specs.SoFar.{Declared, DeclaredBox}
-use Rattle.mc_lines.specs.Unbuilt.{after_entry, after_line, after_words}
 use Rattle.mc_lines.specs.declared.reader.boxes.DeviceLine.{DeviceLine}
 use Rattle.mc_lines.specs.declared.reader.channels.ChannelLine.{ChannelLine}
 use Rattle.mc_lines.specs.declared.reader.sends.SendLine.{SendLine}
@@ -90,14 +89,14 @@ ReadsCommandLine d kind words result now = Declares result now (least_broken (co
 abbrev pub ReadsVersion : Declared → List (List ℕ) → Result (Unit {0}) ReadFault → Declared → Type 0
 ReadsVersion d words result now = Declares result now (least_broken (words_rules false d words)) (words_after false d words)
 
--- a line of words behind it is, by its number
-abbrev pub ReadsWords : Declared → ℕ → List (List ℕ) → Result (Unit {0}) ReadFault → Declared → Type 0
-ReadsWords d number words result now = Declares result now (least_broken (words_rules true d words)) (after_words d number words)
+-- a line of words behind it is
+abbrev pub ReadsWords : Declared → List (List ℕ) → Result (Unit {0}) ReadFault → Declared → Type 0
+ReadsWords d words result now = Declares result now (least_broken (words_rules true d words)) (words_after true d words)
 
 -- a line of words is, wherever it stands
-abbrev pub ReadsEntry : Declared → ℕ → List (List ℕ) → Result (Unit {0}) ReadFault → Declared → Type 0
-ReadsEntry d number words result now = Declares result now (entry_fault d words) (after_entry d number words)
+abbrev pub ReadsEntry : Declared → List (List ℕ) → Result (Unit {0}) ReadFault → Declared → Type 0
+ReadsEntry d words result now = Declares result now (entry_fault d words) (entry_after d words)
 
 -- a line of a text of `total` bytes is, with so many bytes before it
-abbrev pub ReadsLine : (total before : ℕ) → Declared → ℕ → List ℕ → Result (Unit {0}) ReadFault → Declared → Type 0
-ReadsLine total before d number line result now = Declares result now (line_fault total before d line) (after_line d number line)
+abbrev pub ReadsLine : (total before : ℕ) → Declared → List ℕ → Result (Unit {0}) ReadFault → Declared → Type 0
+ReadsLine total before d line result now = Declares result now (line_fault total before d line) (line_after d line)

@@ -1,5 +1,5 @@
 -- What the lines of a text so far have declared.
-use Rattle.std.specs.Prelude.{ℕ, Bool, false, List, [], Option, None}
+use Rattle.std.specs.Prelude.{ℕ, Bool, false, List, []}
 use Rattle.mc_text.specs.NameLists.{NameLists, no_names}
 use Rattle.mc_box.specs.BoxShapes.{BoxShapeState}
 use Rattle.mc_box.specs.declared.event.Kind.{Kind}
@@ -16,7 +16,7 @@ pub record DeclaredBox : Type 0 where
   pub receives : List ℕ
   pub sends : List ℕ
 
--- The section of the last line, whether the version line and `begin` came, the names, for each box its shape and what its lines say, the channels, the programs with the last one still open, and the commands. Where send lists stand apart, which is so in version 2, they may have lines of their own, and `senders` are the boxes that had one. `unbuilt` is the first line that the program can't run yet.
+-- The section of the last line, whether the version line and `begin` came, the names, for each box its shape and what its lines say, the channels, the programs with the last one still open, and the commands. Where send lists stand apart, which is so in version 2, they may have lines of their own, and `senders` are the boxes that had one.
 pub record Declared : Type 0 where
   pub section : Section
   pub versioned : Bool
@@ -29,7 +29,6 @@ pub record Declared : Type 0 where
   pub channels : List ChannelState
   pub blocks : List BlockState
   pub commands : List Command
-  pub unbuilt : Option ℕ
 
 abbrev pub nothing : Declared
 nothing = record {
@@ -44,5 +43,4 @@ nothing = record {
   channels = [];
   blocks = [];
   commands = [];
-  unbuilt = None;
 }

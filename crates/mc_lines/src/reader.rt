@@ -1,13 +1,12 @@
 //! The lines of a text, one after the other, and what they declare.
 
-ghost use Rattle.std.specs.Prelude.{◌≡◌, ◌+◌, ◌<◌, ◌^◌, length, OnOk, Some, map};
+ghost use Rattle.std.specs.Prelude.{◌≡◌, ◌+◌, ◌<◌, ◌^◌, length, OnOk, map};
 ghost use Rattle.std.specs.Option.{option_copied};
 ghost use Rattle.mc_lines.specs.BoxLines.{box_seen};
 ghost use Rattle.mc_lines.specs.Forms.{IsInForm};
 ghost use Rattle.mc_lines.specs.LineReadings.{ReadsEntry, ReadsKind, ReadsLine, ReadsVersion, ReadsWords};
 ghost use Rattle.mc_lines.specs.Rules.{end_fault, is_late, is_unfinished, open_block};
 ghost use Rattle.mc_lines.specs.SoFar.{nothing};
-ghost use Rattle.mc_lines.specs.Unbuilt.{first_unbuilt, unbuilt_by};
 
 mod boxes;
 mod channels;
@@ -29,12 +28,13 @@ use mc_text::{Names, Words};
 use std::alloc::Global;
 use std::marker::Model;
 
-/// What a text declares: names, the shapes of the boxes, the plan of boxes and channels, and commands.
+/// What a text declares: names, the shapes of the boxes, the plan of boxes and channels, programs, and commands.
 #[derive(Drop)]
 pub struct Parts {
     pub names: Names,
     pub shape: Shape,
     pub plan: Plan,
+    pub blocks: Vec<Block>,
     pub commands: Vec<Command>,
 }
 
@@ -52,7 +52,6 @@ pub struct Reader {
     senders: Vec<u32>,
     blocks: Vec<Block>,
     commands: Vec<Command>,
-    unbuilt: Option<u32>,
 }
 
 impl Model for Reader {
@@ -62,7 +61,7 @@ impl Model for Reader {
 
     ghost Value = { Declared };
 
-    ghost view = { λ r. record { section = r.section; versioned = r.versioned; sends_apart = r.sends_apart; begun = r.begun; names = r.names; shape = r.shape; boxes = map box_seen r.plan.boxes; senders = r.senders.items; channels = r.plan.channels; blocks = r.blocks.items; commands = r.commands.items; unbuilt = r.unbuilt } };
+    ghost view = { λ r. record { section = r.section; versioned = r.versioned; sends_apart = r.sends_apart; begun = r.begun; names = r.names; shape = r.shape; boxes = map box_seen r.plan.boxes; senders = r.senders.items; channels = r.plan.channels; blocks = r.blocks.items; commands = r.commands.items } };
 }
 
 impl Reader {
@@ -85,7 +84,6 @@ impl Reader {
             senders: Vec::new(alloc),
             blocks: Vec::new(alloc),
             commands: Vec::new(alloc),
-            unbuilt: None,
         }
     }
 
@@ -113,19 +111,6 @@ impl Reader {
         is_unfinished(self.open_block())
     }
 
-    // The first line that the program can't run yet: one before, or this one of this kind.
-    fn first_unbuilt(&self, number: u32, kind: Keyword) -> Option<u32>
-        ensures { result ≡ first_unbuilt self.now number (unbuilt_by (Some kind)) }
-    {
-        if self.unbuilt.is_some() {
-            return self.unbuilt;
-        }
-        if is_unbuilt(kind) {
-            return Some(number);
-        }
-        None
-    }
-
     // Reads a line of this kind. The words are those behind the first.
     fn read_kind<'a>(&mut self, kind: Keyword, words: Words<'a>) -> Result<(), ReadFault>
         requires { IsInForm self.old }
@@ -149,10 +134,10 @@ impl Reader {
         }
     }
 
-    // Reads a line of words, by its number, behind the version line.
-    fn read_words<'a>(&mut self, number: u32, mut words: Words<'a>) -> Result<(), ReadFault>
+    // Reads a line of words behind the version line.
+    fn read_words<'a>(&mut self, mut words: Words<'a>) -> Result<(), ReadFault>
         requires { IsInForm self.old }
-        ensures declared { ReadsWords self.old number words.entry result self.new }
+        ensures declared { ReadsWords self.old words.entry result self.new }
         ensures in_form { OnOk result (IsInForm self.new) }
     {
         let unknown = Err(ReadFault::Line(LineFault { number: WRONG_WORD }));
@@ -162,10 +147,7 @@ impl Reader {
         let Some(kind) = keyword_of(first) else {
             return unknown;
         };
-        let unbuilt = self.first_unbuilt(number, kind);
-        self.read_kind(kind, words)?;
-        self.unbuilt = unbuilt;
-        Ok(())
+        self.read_kind(kind, words)
     }
 
     // Reads the first line of words, which must be the version line.
@@ -184,33 +166,27 @@ impl Reader {
         Ok(())
     }
 
-    // Reads the words of a line, by its number, if it isn't skipped.
-    #[tactic(auto, using(crate::proofs::Unbuilt::after_skipped, crate::proofs::Unbuilt::after_version))]
-    fn read_entry<'a>(&mut self, number: u32, words: Words<'a>) -> Result<(), ReadFault>
+    // Reads the words of a line, if it isn't skipped.
+    #[tactic(auto, using(crate::proofs::Entries::after_skipped, crate::proofs::Entries::after_version))]
+    fn read_entry<'a>(&mut self, words: Words<'a>) -> Result<(), ReadFault>
         requires { IsInForm self.old }
-        ensures declared { ReadsEntry self.old number words.entry result self.new }
+        ensures declared { ReadsEntry self.old words.entry result self.new }
         ensures in_form { OnOk result (IsInForm self.new) }
     {
         if is_skipped(words.again()) {
             return Ok(());
         }
         if self.versioned {
-            return self.read_words(number, words);
+            return self.read_words(words);
         }
         self.read_version(words)
     }
 
-    /// Reads the next line of a text of `total` bytes, by its number, with so many bytes before it.
-    pub fn read_line(
-        &mut self,
-        total: usize,
-        before: usize,
-        number: u32,
-        line: &[u8],
-    ) -> Result<(), ReadFault>
+    /// Reads the next line of a text of `total` bytes, with so many bytes before it.
+    pub fn read_line(&mut self, total: usize, before: usize, line: &[u8]) -> Result<(), ReadFault>
         requires small { before + length line.now < 2 ^ 64 }
         requires in_form { IsInForm self.old }
-        ensures declared { ReadsLine total before self.old number line.now result self.new }
+        ensures declared { ReadsLine total before self.old line.now result self.new }
         ensures in_form { OnOk result (IsInForm self.new) }
     {
         if TEXT_LIMIT < total && before <= TEXT_LIMIT && TEXT_LIMIT <= before + line.len() {
@@ -219,7 +195,7 @@ impl Reader {
             }));
         }
         check_bytes(line)?;
-        self.read_entry(number, Words::new(line))
+        self.read_entry(Words::new(line))
     }
 
     /// The number of the rule that the end of the text breaks, if it breaks one.
@@ -244,27 +220,15 @@ impl Reader {
         ensures shape { result.shape ≡ self.shape }
         ensures boxes { map box_seen result.plan.boxes ≡ self.boxes }
         ensures channels { result.plan.channels ≡ self.channels }
+        ensures blocks { result.blocks.items ≡ self.blocks }
         ensures commands { result.commands.items ≡ self.commands }
     {
         Parts {
             names: self.names,
             shape: self.shape,
             plan: self.plan,
+            blocks: self.blocks,
             commands: self.commands,
         }
     }
-
-    /// The first line that the program can't run yet.
-    pub fn unbuilt(&self) -> Option<u32>
-        ensures { result ≡ self.now.unbuilt }
-    {
-        self.unbuilt
-    }
-}
-
-// Whether a line of this kind can't be run yet: it begins a box's program.
-fn is_unbuilt(kind: Keyword) -> bool
-    ensures { result ≡ unbuilt_by (Some kind) }
-{
-    matches!(kind, Keyword::Prog)
 }

@@ -1,7 +1,8 @@
 -- What was declared makes the network that the text declares.
-use Rattle.std.proofs.Common.{◌≡◌, ℕ, List, length, map, ◌∙◌}
+use Rattle.std.proofs.Common.{◌≡◌, ℕ, List, length, map, ap, ◌∙◌}
 use Rattle.mc_lines.specs.BoxLines.{box_seen}
-use Rattle.mc_net.specs.Nets.{DeclaresNet, IsMadeOf}
+use Rattle.mc_plan.specs.Plans.{world_of}
+use Rattle.mc_net.specs.Nets.{DeclaresNet, IsMadeOf, with_programs}
 use Rattle.mc_lines.specs.SoFar.{Declared}
 use Rattle.mc_net.specs.Texts.{Says}
 use Rattle.mc_net.specs.declared.net.Net.{Net}
@@ -13,6 +14,7 @@ pub record AreOf (d : Declared) (parts : Parts) : Type 0 where
   pub shape : parts.shape ≡ d.shape
   pub boxes : map box_seen parts.plan.boxes ≡ d.boxes
   pub channels : parts.plan.channels ≡ d.channels
+  pub blocks : parts.blocks.items ≡ d.blocks
   pub commands : parts.commands.items ≡ d.commands
 
 pub net_declares : (text : List ℕ) (d : Declared) (parts : Parts) (net : Net) → Says text d → AreOf d parts → IsMadeOf parts (length text) net → DeclaresNet text net
@@ -21,7 +23,7 @@ net_declares text d parts net says are made = record {
   says = says;
   names = made.names ∙ are.names;
   shape = made.shape ∙ are.shape;
-  world = record { plan = parts.plan; boxes = are.boxes; channels = are.channels; world = made.world };
+  world = record { plan = parts.plan; boxes = are.boxes; channels = are.channels; world = made.world ∙ ap (with_programs (world_of parts.plan)) are.blocks };
   batches = rw (← are.commands) made.batches;
   rest = made.rest;
 }

@@ -20,8 +20,8 @@ use Rattle.mc_script.specs.declared.command.Command.TheVariants.{Stimulus, Settl
 use Rattle.mc_script.specs.declared.keyword.CommandWord.{CommandWord}
 use Rattle.mc_script.specs.declared.keyword.CommandWord.TheVariants as command
 use Rattle.mc_script.specs.declared.rule.TheConstants.{SAME_SLOT, TWO_MEDIA, WRONG_WORD}
-use Rattle.mc_lines.proofs.FirstBroken.{kept_at}
-use Rattle.mc_net.proofs.Named.{named_within}
+use Rattle.mc_program.proofs.KeptRules.{kept_at}
+use Rattle.mc_program.proofs.Found.{named_within}
 
 -- the command's box is there, and its shape enables the event
 abbrev pub IsEnabled : NameLists → List BoxShapeState → Command → Type 0

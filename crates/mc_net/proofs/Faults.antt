@@ -5,7 +5,7 @@ use Rattle.mc_text.specs.Lines.{lines}
 use Rattle.mc_lines.specs.Rules.{end_fault}
 use Rattle.mc_lines.specs.SoFar.{Declared}
 use Rattle.mc_net.specs.TextLaws.{DeclaresOrFaults, OneFault, OneOrTheOther}
-use Rattle.mc_net.specs.Texts.{AreSound, IsFault, at_line, at_end, unbuilt, Says, declared_by, fault_at}
+use Rattle.mc_net.specs.Texts.{AreSound, IsFault, at_line, at_end, Says, declared_by, fault_at}
 
 -- an option isn't both
 pub not_both : {A : Type 0} (o : Option A) (x : A) → o ≡ None → o ≡ Some x → ⊥
@@ -19,9 +19,6 @@ same_value o x y one other = cc
 pub declares_or_faults : DeclaresOrFaults
 declares_or_faults text d number line says (at_line k within sound broken) = not_both (fault_at (length text) (lines text) k) number (says.sound k within) broken
 declares_or_faults text d number line says (at_end sound broken) = not_both (end_fault (declared_by (lines text) (length (lines text)))) number says.ended broken
-declares_or_faults text d number line says (unbuilt sound ended found) =
-    let none : (declared_by (lines text) (length (lines text))).unbuilt ≡ None = subst (λ (x : Declared). x.unbuilt ≡ None) says.declared says.built in
-    not_both (declared_by (lines text) (length (lines text))).unbuilt line none found
 
 -- ---- one fault
 
@@ -41,13 +38,8 @@ two_firsts at k j number other before here earlier there = by (cases_lt k j) (ca
 pub one_fault : OneFault
 one_fault text number line other_number other_line (at_line k within sound broken) (at_line j inside clear found) = two_firsts (fault_at (length text) (lines text)) k j number other_number sound broken clear found
 one_fault text number line other_number other_line (at_line k within sound broken) (at_end clear found) = absurd (not_both (fault_at (length text) (lines text) k) number (clear k within) broken)
-one_fault text number line other_number other_line (at_line k within sound broken) (unbuilt clear ended found) = absurd (not_both (fault_at (length text) (lines text) k) number (clear k within) broken)
 one_fault text number line other_number other_line (at_end sound broken) (at_line j inside clear found) = absurd (not_both (fault_at (length text) (lines text) j) other_number (sound j inside) found)
 one_fault text number line other_number other_line (at_end sound broken) (at_end clear found) = (same_value (end_fault (declared_by (lines text) (length (lines text)))) number other_number broken found, refl)
-one_fault text number line other_number other_line (at_end sound broken) (unbuilt clear ended found) = absurd (not_both (end_fault (declared_by (lines text) (length (lines text)))) number ended broken)
-one_fault text number line other_number other_line (unbuilt sound ended broken) (at_line j inside clear found) = absurd (not_both (fault_at (length text) (lines text) j) other_number (sound j inside) found)
-one_fault text number line other_number other_line (unbuilt sound ended broken) (at_end clear found) = absurd (not_both (end_fault (declared_by (lines text) (length (lines text)))) other_number ended found)
-one_fault text number line other_number other_line (unbuilt sound ended broken) (unbuilt clear end found) = (refl, same_value (declared_by (lines text) (length (lines text))).unbuilt line other_line broken found)
 
 -- ---- one or the other
 
@@ -82,12 +74,8 @@ declared_of text = declared_by (lines text) (length (lines text))
 abbrev SaysOrFaults : List ℕ → Type 0
 SaysOrFaults text = ((d : Declared) × Says text d) ⊎ ((number : ℕ) × (line : ℕ) × IsFault text number line)
 
-built_or_not : (text : List ℕ) → AreSound (length text) (lines text) (length (lines text)) → end_fault (declared_of text) ≡ None → (o : Option ℕ) → (declared_of text).unbuilt ≡ o → SaysOrFaults text
-built_or_not text sound ended None e = inl (declared_of text, record { sound = sound; ended = ended; built = e; declared = refl })
-built_or_not text sound ended (Some line) e = inr (19, line, unbuilt sound ended e)
-
 ended_or_not : (text : List ℕ) → AreSound (length text) (lines text) (length (lines text)) → (o : Option ℕ) → end_fault (declared_of text) ≡ o → SaysOrFaults text
-ended_or_not text sound None e = built_or_not text sound e (declared_of text).unbuilt refl
+ended_or_not text sound None e = inl (declared_of text, record { sound = sound; ended = e; declared = refl })
 ended_or_not text sound (Some number) e = inr (number, length (lines text) + 1, at_end sound e)
 
 pub one_or_the_other : OneOrTheOther

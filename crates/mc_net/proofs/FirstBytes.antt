@@ -8,7 +8,7 @@ use Rattle.mc_text.proofs.Cuts.{some_pieces}
 use Rattle.mc_lines.specs.Rules.{line_fault, passes_limit}
 use Rattle.mc_lines.specs.SoFar.{Declared}
 use Rattle.mc_net.specs.TextLaws.{FaultsOfTheFirstBytes, SaysTheWhole, first_bytes}
-use Rattle.mc_net.specs.Texts.{IsFault, at_line, at_end, unbuilt, Says, bytes_before, declared_by, fault_at}
+use Rattle.mc_net.specs.Texts.{IsFault, at_line, at_end, Says, bytes_before, declared_by, fault_at}
 use Rattle.mc_net.proofs.Faults.{not_both, same_value}
 use Rattle.mc_lines.specs.declared.limit.TheConstants.{TEXT_LIMIT}
 
@@ -221,7 +221,6 @@ module _ (short long : List ℕ) (small : TEXT_LIMIT < length short) (large : TE
           let inside = long_within in
           at_line k (omega arith) (sound_before k (omega arith) sound) found
   same_for_long number line (at_end sound broken) = absurd (not_both (fault_at (length short) (lines short) (length at.before)) 1 (sound (length at.before) short_within) short_fault)
-  same_for_long number line (unbuilt sound ended found) = absurd (not_both (fault_at (length short) (lines short) (length at.before)) 1 (sound (length at.before) short_within) short_fault)
 
   -- and it says nothing
   says_nothing : (d : Declared) → Says short d → ⊥

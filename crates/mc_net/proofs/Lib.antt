@@ -3,8 +3,12 @@ pub mod Declaring
 pub mod Enabled
 pub mod Faults
 pub mod FirstBytes
+pub mod FirstPrograms
+pub mod Laid
 pub mod MadeNets
 pub mod Named
+pub mod OpenBlocks
+pub mod Programmed
 pub mod Reading
 pub mod Runnable
 pub mod Shaped

@@ -18,7 +18,7 @@ use Rattle.mc_script.specs.declared.command.Command.{Command}
 use Rattle.mc_script.specs.declared.command.Command.TheVariants.{Stimulus, Settle}
 use Rattle.mc_lines.specs.BoxLines.{box_seen}
 use Rattle.mc_lines.specs.Forms.{IsInForm, NamesEach}
-use Rattle.mc_net.specs.Nets.{IsMadeOf, NamesAll, batch_turns, batches_of, before_next}
+use Rattle.mc_net.specs.Nets.{IsMadeOf, MayHavePrograms, NamesAll, batch_turns, batches_of, before_next}
 use Rattle.mc_lines.specs.SoFar.{Declared}
 use Rattle.mc_net.specs.Texts.{Says}
 use Rattle.mc_lines.specs.declared.limit.TheConstants.{COMMAND_LIMIT}
@@ -28,8 +28,10 @@ use Rattle.mc_net.proofs.Batches.{few_batches}
 use Rattle.mc_net.proofs.Declaring.{AreOf}
 use Rattle.mc_net.proofs.Enabled.{IsEnabled, IsOfLine, line_enabled}
 use Rattle.mc_net.proofs.Named.{HasCodecs}
-use Rattle.mc_net.proofs.Runnable.{IsRunnable, says_runnable}
-use Rattle.mc_net.proofs.Shaped.{AreShapes, plan_shaped}
+use Rattle.mc_net.proofs.FirstPrograms.{programs_may, programs_named, programs_shaped}
+use Rattle.mc_net.proofs.Laid.{AllFinished, AreLaid, owners}
+use Rattle.mc_net.proofs.Runnable.{IsRunnable, says_finished, says_runnable}
+use Rattle.mc_net.proofs.Shaped.{AreShapes}
 
 -- ---- names
 
@@ -55,7 +57,7 @@ pub net_named : (text : List ℕ) (d : Declared) (parts : Parts) (net : Net) (pl
 net_named text d parts net place says form are made =
     let runs : IsRunnable d = says_runnable text d says in
     rw (made.names, made.world, are.names)
-    (plan_named d.names parts.plan (rw (are.boxes, are.channels) form.named) (rw are.boxes runs.known))
+    (programs_named d.names (world_of parts.plan) parts.blocks.items (plan_named d.names parts.plan (rw (are.boxes, are.channels) form.named) (rw are.boxes runs.known)))
 
 -- ---- commands
 
@@ -97,9 +99,11 @@ pub net_allowed : (text : List ℕ) (d : Declared) (parts : Parts) (net : Net) (
 net_allowed text d parts net place says form are made =
     let named : NamesAll net.names net.world = net_named text d parts net place says form are made in
     let runs : IsRunnable d = says_runnable text d says in
-    let shaped : AreShapes d.shape (map box_seen parts.plan.boxes) parts.plan.channels = rw (are.boxes, are.channels) runs.shaped in
+    let shaped : AreShapes d.shape (map box_seen parts.plan.boxes) parts.plan.channels (owners parts.blocks.items) = rw (are.boxes, are.channels, are.blocks) runs.shaped in
+    let laid : AreLaid d.shape d.section parts.blocks.items = rw are.blocks runs.laid in
+    let finished : AllFinished parts.blocks.items = rw are.blocks (says_finished text d says) in
     let same : length d.names.boxes ≡ length net.world.boxes = rw (← are.names, ← made.names) named.boxes in
-    let alike : (who : ℕ) → who < length net.world.boxes → box_shape (box_at net.world who) ≡ shape_of d.shape who = rw made.world (λ who below. plan_shaped d.shape parts.plan who shaped (subst (λ (n : ℕ). who < n) (length_boxes parts.plan.channels parts.plan.boxes 0) below)) in
+    let alike : (who : ℕ) → who < length net.world.boxes → box_shape (box_at net.world who) ≡ shape_of d.shape who = rw made.world (programs_shaped d.shape parts.plan d.section parts.blocks.items shaped laid finished) in
     let each : All (All (λ turn. IsTrue (is_allowed net.world turn))) (batches_of parts.commands.items) =
     all_batches (λ turn. IsTrue (is_allowed net.world turn)) parts.commands.items (rw are.commands (All-weaker (IsOfLine d.names d.shape) (OfTurn (λ turn. IsTrue (is_allowed net.world turn))) (λ it line. by same alike it (line_enabled d.names d.shape form.fits it line)) d.commands runs.of_lines)) in
     rw made.batches (All-weaker (All (λ turn. IsTrue (is_allowed net.world turn))) (AreAllowed net.world) (λ batch. all_pass (is_allowed net.world) batch) (batches_of parts.commands.items) each)
@@ -107,6 +111,15 @@ net_allowed text d parts net place says form are made =
     by : length d.names.boxes ≡ length net.world.boxes → ((who : ℕ) → who < length net.world.boxes → box_shape (box_at net.world who) ≡ shape_of d.shape who) → (it : Command) → IsEnabled d.names d.shape it → OfTurn (λ turn. IsTrue (is_allowed net.world turn)) it
     by same alike (Stimulus turn) enabled = enabled_is_allowed d.names d.shape net.world turn same alike enabled
     by same alike Settle enabled = tt
+
+-- the programs of a text may be laid out
+pub net_programs : (text : List ℕ) (d : Declared) (parts : Parts) → Says text d → AreOf d parts → MayHavePrograms (world_of parts.plan) parts.blocks.items
+net_programs text d parts says are =
+    let runs : IsRunnable d = says_runnable text d says in
+    let shaped : AreShapes d.shape (map box_seen parts.plan.boxes) parts.plan.channels (owners parts.blocks.items) = rw (are.boxes, are.channels, are.blocks) runs.shaped in
+    let laid : AreLaid d.shape d.section parts.blocks.items = rw are.blocks runs.laid in
+    let finished : AllFinished parts.blocks.items = rw are.blocks (says_finished text d says) in
+    programs_may d.shape parts.plan d.section parts.blocks.items shaped laid finished
 
 -- so a network has no more than commands may be
 pub net_has_few : (text : List ℕ) (d : Declared) (parts : Parts) (net : Net) (place : ℕ) → Says text d → AreOf d parts → IsMadeOf parts place net → length net.batches.items ≤ COMMAND_LIMIT

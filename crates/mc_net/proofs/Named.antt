@@ -5,6 +5,7 @@ use Rattle.std.specs.List.{All, position_or_len}
 use Rattle.std.specs.Option.{is_none, option_and_then, option_map, unwrap_or}
 use Rattle.std.specs.Str.{bytes_eq}
 use Rattle.mc_text.specs.NameLists.{NameLists, place_of}
+use Rattle.mc_program.proofs.Found.{found_within}
 use Rattle.mc_lines.specs.Meaning.{codec_number}
 use Rattle.mc_lines.specs.Rules.{lists_undeclared}
 use Rattle.mc_lines.specs.SoFar.{DeclaredBox}
@@ -12,24 +13,6 @@ use Rattle.mc_lines.specs.SoFar.{DeclaredBox}
 -- the codecs that a box receives are declared
 abbrev pub HasCodecs : NameLists → DeclaredBox → Type 0
 HasCodecs names declared = All (λ codec. codec < length names.codecs) declared.receives
-
--- ---- options and places
-
--- a value that was mapped is a value
-pub mapped : {A B : Type 0} (f : A → B) (o : Option A) (y : B) → option_map f o ≡ Some y → (x : A) × (o ≡ Some x) × (y ≡ f x)
-mapped f None y e = absurd cc
-mapped f (Some x) y e = (x, refl, cc)
-
--- a name that is found is one of those that there are
-pub found_within : (names : List (List ℕ)) (name : List ℕ) (place : ℕ) → place_of names name ≡ Some place → place < length names
-found_within names name place found =
-    let is : place ≡ position_or_len (bytes_eq name) names = grind arith in
-    let within : position_or_len (bytes_eq name) names < length names = grind arith in
-    rw is within
-
-pub named_within : (names : List (List ℕ)) (word : Option (List ℕ)) (place : ℕ) → option_and_then (place_of names) word ≡ Some place → place < length names
-named_within names None place found = absurd cc
-named_within names (Some word) place found = found_within names word place found
 
 -- ---- codecs
 

@@ -3,18 +3,16 @@ use Rattle.std.proofs.Common.{◌≡◌, ◌⊎◌, inl, inr, ℕ, zero, suc, �
 use Rattle.std.proofs.lemmas.Bool.{cases_lt}
 use Rattle.mc_text.specs.Lines.{lines, words}
 use Rattle.mc_script.specs.Rules.{byte_rules}
-use Rattle.mc_script.specs.declared.rule.TheConstants.{UNBUILT}
 use Rattle.mc_lines.specs.Meaning.{line_after}
 use Rattle.mc_lines.specs.Rules.{end_fault, is_skipped, line_fault, line_words_rules, passes_limit}
 use Rattle.mc_lines.specs.SoFar.{Declared}
-use Rattle.mc_lines.specs.Unbuilt.{after_line, first_unbuilt, is_unbuilt, with_unbuilt}
-use Rattle.mc_lines.proofs.FirstBroken.{first_kept}
+use Rattle.mc_program.proofs.KeptRules.{first_kept}
 use Rattle.mc_net.specs.Reading.{ReadsHere, fault_behind, last_fault}
 use Rattle.mc_net.specs.declared.fault.NetFault.{NetFault}
 use Rattle.mc_net.specs.declared.fault.NetFault.TheVariants.{Line, NoMemory}
 use Rattle.mc_net.specs.declared.fault.TextFault.{TextFault}
 use Rattle.mc_net.specs.declared.text.Place.{Place}
-use Rattle.mc_net.specs.Texts.{AreSound, IsFault, at_line, at_end, unbuilt, RefusesText, Says, bytes_before, declared_after, declared_by, fault_at}
+use Rattle.mc_net.specs.Texts.{AreSound, IsFault, at_line, at_end, RefusesText, Says, bytes_before, declared_after, declared_by, fault_at}
 use Rattle.mc_lines.specs.declared.limit.TheConstants.{TEXT_LIMIT}
 
 -- so many lines were read, and broke no rule; these are left. The next line has the number `number`, and `before` bytes stand before it
@@ -57,14 +55,14 @@ all_read [] (suc k) none within = absurd (omega arith)
 all_read (y ∷ ys) zero none within = absurd cc
 all_read (y ∷ ys) (suc k) none within = ap suc (all_read ys k none (omega arith))
 
-after_is : (d after : Declared) (number : ℕ) (line : List ℕ) → after_line d number line ≡ Some after → after ≡ declared_after d number line
-after_is d after number line read = by (line_after d line) refl
+after_is : (d after : Declared) (line : List ℕ) → line_after d line ≡ Some after → after ≡ declared_after d line
+after_is d after line read = by (line_after d line) refl
   where
-    by : (o : Option Declared) → line_after d line ≡ o → after ≡ declared_after d number line
+    by : (o : Option Declared) → line_after d line ≡ o → after ≡ declared_after d line
     by None e = absurd (let none : None ≡ Some after = rw e at read in cc)
     by (Some next) e =
-        let some : Some (with_unbuilt (first_unbuilt d number (is_unbuilt d (words line))) next) ≡ Some after = rw e at read in
-        let same : after ≡ with_unbuilt (first_unbuilt d number (is_unbuilt d (words line))) next = cc in
+        let some : Some next ≡ Some after = rw e at read in
+        let same : after ≡ next = cc in
         rw e same
 
 -- the next line's fault, by its place
@@ -92,12 +90,12 @@ at_most total next small long = by (cases_lt TEXT_LIMIT total)
 
 -- the line breaks no rule
 pub one_more : (text : List ℕ) (number before next : ℕ) (d after : Declared) (line : List ℕ) (others : List (List ℕ)) → HasRead text number before d (line ∷ others)
-    → line_fault (length text) before d line ≡ None → after_line d number line ≡ Some after → next ≡ before + (length line + 1) → next ≤ length text + 1 → HasRead text (number + 1) next after others
+    → line_fault (length text) before d line ≡ None → line_after d line ≡ Some after → next ≡ before + (length line + 1) → next ≤ length text + 1 → HasRead text (number + 1) next after others
 one_more text number before next d after line others read sound means behind small = record {
   count = suc read.count;
   numbered = let e = read.numbered in omega arith;
   counted = rw (place, ← read.counted) behind;
-  declared = rw (place, ← read.declared, ← read.numbered) (after_is d after number line means);
+  declared = rw (place, ← read.declared) (after_is d after line means);
   rest = behind_place (lines text) line others read.count read.rest;
   so_far = within_place (lines text) line others read.count read.rest;
   sound = λ k within. by k (cases_lt k read.count) within;
@@ -143,41 +141,30 @@ refused_at_end text number before d broken read found =
     subst (λ (n : ℕ). IsFault text broken n) counted
     (at_end (subst (λ (n : ℕ). AreSound (length text) (lines text) n) all read.sound) (rw (← all, ← read.declared) found))
 
--- a line can't be run yet
-refused_unbuilt : (text : List ℕ) (number before : ℕ) (d : Declared) (line : ℕ) → HasRead text number before d [] → end_fault d ≡ None → d.unbuilt ≡ Some line → IsFault text UNBUILT line
-refused_unbuilt text number before d line read ended found =
-    let all : read.count ≡ length (lines text) = all_read (lines text) read.count read.rest read.so_far in
-    unbuilt (subst (λ (n : ℕ). AreSound (length text) (lines text) n) all read.sound) (rw (← all, ← read.declared) ended) (rw (← all, ← read.declared) found)
-
 -- the fault behind the last line is that of the text
 pub refused_behind : (text : List ℕ) (number before : ℕ) (d : Declared) (fault : TextFault) → HasRead text number before d [] → last_fault d number ≡ Some fault → IsFault text fault.number fault.line
-refused_behind text number before d fault read found = by (end_fault d) refl d.unbuilt refl found
+refused_behind text number before d fault read found = by (end_fault d) refl found
   where
-    by : (ended : Option ℕ) → end_fault d ≡ ended → (line : Option ℕ) → d.unbuilt ≡ line → fault_behind number ended line ≡ Some fault → IsFault text fault.number fault.line
-    by (Some broken) e line f found =
+    by : (ended : Option ℕ) → end_fault d ≡ ended → fault_behind number ended ≡ Some fault → IsFault text fault.number fault.line
+    by (Some broken) e found =
         let is : record { number = broken; line = number } ≡ fault = cc in
         subst (λ (it : TextFault). IsFault text it.number it.line) is (refused_at_end text number before d broken read e)
-    by None e (Some line) f found =
-        let is : record { number = UNBUILT; line = line } ≡ fault = cc in
-        subst (λ (it : TextFault). IsFault text it.number it.line) is (refused_unbuilt text number before d line read e f)
-    by None e None f found = absurd cc
+    by None e found = absurd cc
 
--- the text is in the grammar, and all of it can be run
-says_it : (text : List ℕ) (number before : ℕ) (d : Declared) → HasRead text number before d [] → end_fault d ≡ None → d.unbuilt ≡ None → Says text d
-says_it text number before d read ended built =
+-- the text is in the grammar
+says_it : (text : List ℕ) (number before : ℕ) (d : Declared) → HasRead text number before d [] → end_fault d ≡ None → Says text d
+says_it text number before d read ended =
     let all : read.count ≡ length (lines text) = all_read (lines text) read.count read.rest read.so_far in
     record {
       sound = subst (λ (n : ℕ). AreSound (length text) (lines text) n) all read.sound;
       ended = rw (← all, ← read.declared) ended;
-      built = built;
       declared = rw (← all) read.declared;
     }
 
 -- where there is none behind the last line, that is so
 pub says_all : (text : List ℕ) (number before : ℕ) (d : Declared) → HasRead text number before d [] → last_fault d number ≡ None → Says text d
-says_all text number before d read none = by (end_fault d) refl d.unbuilt refl none
+says_all text number before d read none = by (end_fault d) refl none
   where
-    by : (ended : Option ℕ) → end_fault d ≡ ended → (line : Option ℕ) → d.unbuilt ≡ line → fault_behind number ended line ≡ None → Says text d
-    by (Some broken) e line f none = absurd cc
-    by None e (Some line) f none = absurd cc
-    by None e None f none = says_it text number before d read e f
+    by : (ended : Option ℕ) → end_fault d ≡ ended → fault_behind number ended ≡ None → Says text d
+    by (Some broken) e none = absurd cc
+    by None e none = says_it text number before d read e

@@ -1,7 +1,7 @@
--- As long as no box has a program, the shapes that lines leave are those of the boxes of the first world.
-use Rattle.std.proofs.Common.{◌≡◌, ℕ, zero, suc, ◌+◌, ◌*◌, ◌<◌, ◌==◌, Bool, true, false, if◌then◌else◌, List, [], ◌∷◌, ◌++◌, length, map, slice_index_or, refl, sym, ap, ◌∙◌, subst, arith, append_assoc, length-append, zero-add}
+-- The shapes that lines leave are those of the boxes of the first world.
+use Rattle.std.proofs.Common.{◌≡◌, ◌≢◌, ◌||◌, ℕ, zero, suc, ◌+◌, ◌*◌, ◌<◌, ◌==◌, Bool, true, false, if◌then◌else◌, List, [], ◌∷◌, ◌++◌, length, map, slice_index_or, refl, sym, ap, ◌∙◌, subst, arith, append_assoc, length-append, zero-add}
 use Rattle.std.proofs.lemmas.Grind.{common_steps}
-use Rattle.std.proofs.lemmas.List.{append-nil, length-set, map-append}
+use Rattle.std.proofs.lemmas.List.{append-nil, get_or-set_other, get_or-set_same, length-set, map-append}
 use Rattle.mc_signal.specs.declared.Medium.{Medium}
 use Rattle.mc_slot.specs.declared.Slot.{Slot}
 use Rattle.mc_box.specs.BoxShapes.{BoxShapeState, box_shape, no_shape, shape_of}
@@ -14,7 +14,8 @@ use Rattle.mc_plan.proofs.Widened.{setups_widened}
 use Rattle.mc_plan.specs.Setups.{setup_if, setups_at, setups_from, setups_of}
 use Rattle.mc_plan.specs.declared.plan.BoxPlan.{BoxPlan}
 use Rattle.mc_lines.specs.BoxLines.{box_seen}
-use Rattle.mc_lines.specs.Meaning.{declared_at, new_shape, with_medium, with_send_list}
+use Rattle.mc_net.proofs.Laid.{has_owner, owner_push}
+use Rattle.mc_lines.specs.Meaning.{declared_at, new_shape, with_medium, with_program, with_send_list}
 use Rattle.mc_lines.specs.SoFar.{DeclaredBox}
 
 -- the media of the slots that channels give a box
@@ -25,27 +26,27 @@ media_of channels who = map (λ (setup : SlotSetup). setup.medium) (setups_of ch
 abbrev pub plain_shape : Kind → List Medium → BoxShapeState
 plain_shape kind media = record { kind = kind; media = media; programmed = false }
 
--- the shape of a declared box: it has a slot for each tunnel that leads to it
-abbrev pub declared_shape : List DeclaredBox → List ChannelState → ℕ → BoxShapeState
-declared_shape boxes channels who = plain_shape (declared_at boxes who).kind (media_of channels who)
+-- the shape of a declared box, where these have programs: it has a slot for each tunnel that leads to it
+abbrev pub declared_shape : List DeclaredBox → List ChannelState → List ℕ → ℕ → BoxShapeState
+declared_shape boxes channels whos who = record { kind = (declared_at boxes who).kind; media = media_of channels who; programmed = has_owner whos who }
 
 -- the shapes are those of the declared boxes
-pub record AreShapes (shape : List BoxShapeState) (boxes : List DeclaredBox) (channels : List ChannelState) : Type 0 where
+pub record AreShapes (shape : List BoxShapeState) (boxes : List DeclaredBox) (channels : List ChannelState) (whos : List ℕ) : Type 0 where
   pub count : length shape ≡ length boxes
-  pub each : (who : ℕ) → shape_of shape who ≡ declared_shape boxes channels who
+  pub each : (who : ℕ) → shape_of shape who ≡ declared_shape boxes channels whos who
 
-pub none_shaped : AreShapes [] [] []
+pub none_shaped : AreShapes [] [] [] []
 none_shaped = record { count = refl; each = λ who. refl }
 
 -- ---- a box more
 
-pub box_shaped : (shape : List BoxShapeState) (boxes : List DeclaredBox) (channels : List ChannelState) (declared : DeclaredBox) → AreShapes shape boxes channels → AreShapes (shape ++ new_shape declared.kind ∷ []) (boxes ++ declared ∷ []) channels
+pub box_shaped : (shape : List BoxShapeState) (boxes : List DeclaredBox) (channels : List ChannelState) (declared : DeclaredBox) → AreShapes shape boxes channels [] → AreShapes (shape ++ new_shape declared.kind ∷ []) (boxes ++ declared ∷ []) channels []
 box_shaped shape boxes channels declared are = record {
   count = let same = are.count in omega (arith, length-append shape (new_shape declared.kind ∷ []), length-append boxes (declared ∷ []));
   each = λ who. by who (who == length shape) refl;
 }
   where
-    by : (who : ℕ) (last : Bool) → (who == length shape) ≡ last → shape_of (shape ++ new_shape declared.kind ∷ []) who ≡ declared_shape (boxes ++ declared ∷ []) channels who
+    by : (who : ℕ) (last : Bool) → (who == length shape) ≡ last → shape_of (shape ++ new_shape declared.kind ∷ []) who ≡ declared_shape (boxes ++ declared ∷ []) channels [] who
     by who true e =
         let same = are.count in
         let new : shape_of (shape ++ new_shape declared.kind ∷ []) who ≡ new_shape declared.kind = grind (arith, common_steps) in
@@ -68,7 +69,7 @@ same_kind (box ∷ boxes) zero (suc k) sends = refl
 same_kind (box ∷ boxes) (suc who) zero sends = refl
 same_kind (box ∷ boxes) (suc who) (suc k) sends = same_kind boxes who k sends
 
-pub send_shaped : (shape : List BoxShapeState) (boxes : List DeclaredBox) (channels : List ChannelState) (who : ℕ) (sends : List ℕ) → AreShapes shape boxes channels → AreShapes shape (with_send_list boxes who sends) channels
+pub send_shaped : (shape : List BoxShapeState) (boxes : List DeclaredBox) (channels : List ChannelState) (who : ℕ) (sends : List ℕ) → AreShapes shape boxes channels [] → AreShapes shape (with_send_list boxes who sends) channels []
 send_shaped shape boxes channels who sends are = record {
   count = are.count ∙ sym (length-set boxes who (record (declared_at boxes who) { sends = sends }));
   each = λ k. rw (same_kind boxes who k sends) (are.each k);
@@ -126,8 +127,8 @@ media_grow (ends ∷ channels) from to near far medium who count =
     ∙ regrouped (map medium_in here) (map medium_in rest) (medium_if (from == who) medium) (medium_if (to == who) medium)
     ∙ ap (λ (media : List Medium). media ++ medium_if (from == who) medium ++ medium_if (to == who) medium) (sym (map-append medium_in here rest))
 
-pub channel_shaped : (shape : List BoxShapeState) (boxes : List DeclaredBox) (channels : List ChannelState) (from to : ℕ) (medium : Medium) → from < length shape → to < length shape → AreShapes shape boxes channels
-    → AreShapes (with_medium (with_medium shape from medium) to medium) boxes (channels ++ channel_between channels from to (medium ∷ []) ∷ [])
+pub channel_shaped : (shape : List BoxShapeState) (boxes : List DeclaredBox) (channels : List ChannelState) (from to : ℕ) (medium : Medium) → from < length shape → to < length shape → AreShapes shape boxes channels []
+    → AreShapes (with_medium (with_medium shape from medium) to medium) boxes (channels ++ channel_between channels from to (medium ∷ []) ∷ []) []
 channel_shaped shape boxes channels from to medium near far are = record {
   count = as_many to (with_medium shape from medium) ∙ as_many from shape ∙ are.count;
   each = λ who.
@@ -142,14 +143,43 @@ channel_shaped shape boxes channels from to medium near far are = record {
 
 -- a tunnel more of the last channel
 pub tunnel_shaped : (shape : List BoxShapeState) (boxes : List DeclaredBox) (channels : List ChannelState) (medium : Medium) → 0 < length channels
-    → (last_channel channels).from < length shape → (last_channel channels).to < length shape → AreShapes shape boxes channels
-    → AreShapes (with_medium (with_medium shape (last_channel channels).from medium) (last_channel channels).to medium) boxes (widened channels medium)
+    → (last_channel channels).from < length shape → (last_channel channels).to < length shape → AreShapes shape boxes channels []
+    → AreShapes (with_medium (with_medium shape (last_channel channels).from medium) (last_channel channels).to medium) boxes (widened channels medium) []
 tunnel_shaped shape boxes channels medium some near far are =
     let joined = channel_shaped shape boxes channels (last_channel channels).from (last_channel channels).to medium near far are in
     record {
       count = joined.count;
       each = λ who. joined.each who ∙ ap (λ (setups : List SlotSetup). plain_shape (declared_at boxes who).kind (map (λ (setup : SlotSetup). setup.medium) setups)) (sym (setups_widened channels medium who some));
     }
+
+-- ---- a program more
+
+pub program_shaped : (shape : List BoxShapeState) (boxes : List DeclaredBox) (channels : List ChannelState) (whos : List ℕ) (who : ℕ) → who < length shape → AreShapes shape boxes channels whos
+    → AreShapes (with_program shape who) boxes channels (whos ++ who ∷ [])
+program_shaped shape boxes channels whos who below are = record {
+  count = length-set shape who (record (shape_of shape who) { programmed = true }) ∙ are.count;
+  each = λ k. rw (owner_push whos who k) (by k (who == k) refl);
+}
+  where
+    always : (b : Bool) → true ≡ (b || true)
+    always true = refl
+    always false = refl
+
+    never : (b : Bool) → b ≡ (b || false)
+    never true = refl
+    never false = refl
+
+    by : (k : ℕ) (here : Bool) → (who == k) ≡ here → shape_of (with_program shape who) k ≡ record { kind = (declared_at boxes k).kind; media = media_of channels k; programmed = has_owner whos k || who == k }
+    by k true e =
+        let same : who ≡ k = grind arith in
+        let new : shape_of (with_program shape who) who ≡ record (shape_of shape who) { programmed = true } = get_or-set_same shape who (record (shape_of shape who) { programmed = true }) no_shape below in
+        let here : shape_of (with_program shape who) k ≡ record (shape_of shape k) { programmed = true } = subst (λ (n : ℕ). shape_of (with_program shape who) n ≡ record (shape_of shape n) { programmed = true }) same new in
+        here ∙ ap (λ (s : BoxShapeState). record s { programmed = true }) (are.each k)
+        ∙ ap (λ (b : Bool). record { kind = (declared_at boxes k).kind; media = media_of channels k; programmed = b }) (always (has_owner whos k) ∙ ap (λ (b : Bool). has_owner whos k || b) (sym e))
+    by k false e =
+        let apart : k ≢ who = grind arith in
+        get_or-set_other shape who k (record (shape_of shape who) { programmed = true }) no_shape apart ∙ are.each k
+        ∙ ap (λ (b : Bool). record { kind = (declared_at boxes k).kind; media = media_of channels k; programmed = b }) (never (has_owner whos k) ∙ ap (λ (b : Bool). has_owner whos k || b) (sym e))
 
 -- ---- the first world
 
@@ -168,9 +198,8 @@ shape_from channels (planned ∷ plans) first (suc who) below =
     let next : first + 1 + who ≡ first + suc who = omega arith in
     rw (← next) (shape_from channels plans (first + 1) who (omega arith))
 
--- each box of a plan's world has its shape
-pub plan_shaped : (shape : List BoxShapeState) (plan : PlanState) (who : ℕ) → AreShapes shape (map box_seen plan.boxes) plan.channels → who < length plan.boxes → box_shape (box_at (world_of plan) who) ≡ shape_of shape who
-plan_shaped shape plan who are below =
+-- each box of a plan's world has its shape, without a program
+pub plan_shaped : (plan : PlanState) (who : ℕ) → who < length plan.boxes → box_shape (box_at (world_of plan) who) ≡ declared_shape (map box_seen plan.boxes) plan.channels [] who
+plan_shaped plan who below =
     shape_from plan.channels plan.boxes 0 who below
     ∙ ap (λ (n : ℕ). plain_shape (declared_at (map box_seen plan.boxes) who).kind (media_of plan.channels n)) (zero-add who)
-    ∙ sym (are.each who)

@@ -2,7 +2,7 @@
 use Rattle.std.proofs.Common.{◌≡◌, ℕ, zero, suc, ◌+◌, ◌<◌, List, [], ◌∷◌, true, length, map, slice_index_or, ap, sym, subst, arith}
 use Rattle.std.proofs.lemmas.List.{get_or-map, length-map}
 use Rattle.mc_signal.specs.declared.Medium.TheVariants.{Audio}
-use Rattle.mc_box.specs.Boxes.{first_media, first_slot, media_at, no_box, no_media}
+use Rattle.mc_box.specs.Boxes.{BoxState, first_media, first_slot, media_at, no_box, no_media}
 use Rattle.mc_box.specs.declared.setup.SlotMedia.{SlotMedia}
 use Rattle.mc_box.specs.declared.setup.SlotSetup.{SlotSetup}
 use Rattle.mc_model.specs.Worlds.{ChannelState, WorldState, box_at}
@@ -13,6 +13,9 @@ use Rattle.mc_plan.proofs.Numbered.{length_boxes}
 use Rattle.mc_lines.specs.BoxLines.{box_seen}
 use Rattle.mc_lines.specs.SoFar.{DeclaredBox}
 use Rattle.mc_lines.specs.Meaning.{declared_at}
+use Rattle.mc_plan.proofs.Layouts.{IsButFor}
+use Rattle.mc_net.proofs.Programmed.{boxes_are, many_are}
+use Rattle.mc_net.specs.Nets.{with_programs}
 use Rattle.mc_net.specs.Versions.{FirstVersions}
 
 -- what stands where no setup is
@@ -39,4 +42,9 @@ plan_versions plan boxes who local seen below inside =
 pub first_versions : FirstVersions
 first_versions d world who local first below inside =
     subst (λ (w : WorldState). who < length w.boxes → local < length (box_at w who).slots → (media_at (box_at w who) local).version ≡ (declared_at d.boxes who).version) (sym first.world)
-    (λ below inside. plan_versions first.plan d.boxes who local first.boxes below inside) below inside
+    (λ below inside. by (boxes_are (world_of first.plan) d.blocks who) (subst (λ (n : ℕ). who < n) (many_are (world_of first.plan) d.blocks) below) inside) below inside
+  where
+    by : IsButFor (box_at (world_of first.plan) who) (box_at (with_programs (world_of first.plan) d.blocks) who) → who < length (world_of first.plan).boxes → local < length (box_at (with_programs (world_of first.plan) d.blocks) who).slots
+        → (media_at (box_at (with_programs (world_of first.plan) d.blocks) who) local).version ≡ (declared_at d.boxes who).version
+    by same below inside =
+        rw same.is (plan_versions first.plan d.boxes who local first.boxes below (subst (λ (b : BoxState). local < length b.slots) same.is inside))

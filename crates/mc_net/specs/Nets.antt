@@ -1,10 +1,14 @@
 -- The network that a text declares.
-use Rattle.std.specs.Prelude.{◌≡◌, ◌<◌, ℕ, List, [], ◌∷◌, length, map}
+use Rattle.std.specs.Prelude.{◌≡◌, ◌<◌, ℕ, List, [], ◌∷◌, None, length, map}
 use Rattle.std.specs.List.{All}
 use Rattle.mc_signal.specs.Choice.{codecs_of}
 use Rattle.mc_text.specs.NameLists.{NameLists, slot_names}
 use Rattle.mc_model.specs.Worlds.{WorldState, box_at}
+use Rattle.mc_rule.specs.Programs.{IsProgram}
+use Rattle.mc_plan.specs.Layouts.{program_fault, with_program}
 use Rattle.mc_plan.specs.Plans.{PlanState, world_of}
+use Rattle.mc_program.specs.Finished.{program_of}
+use Rattle.mc_program.specs.Programs.{BlockState}
 use Rattle.mc_box.specs.declared.event.Turn.{Turn}
 use Rattle.mc_script.specs.declared.command.Batch.{Batch}
 use Rattle.mc_script.specs.declared.command.Command.{Command}
@@ -34,20 +38,34 @@ batch_turns batch = batch.turns.items
 
 -- ---- the first world
 
--- the network is of these parts: its world is the first one of the plan
+-- each of these blocks gives its box its program
+abbrev pub with_programs : WorldState → List BlockState → WorldState
+with_programs first [] = first
+with_programs first (block ∷ blocks) = with_programs (with_program first block.who (program_of block)) blocks
+
+-- one after the other, each of these blocks may
+abbrev pub MayHavePrograms : WorldState → List BlockState → Type 0
+MayHavePrograms first [] = Unit {0}
+MayHavePrograms first (block ∷ blocks) = IsProgram (program_of block) × (program_fault first block.who (program_of block) ≡ None) × MayHavePrograms (with_program first block.who (program_of block)) blocks
+
+-- the network is of these parts: its world is the first one of the plan, with their programs
 pub record IsMadeOf (parts : Parts) (place : ℕ) (net : Net) : Type 0 where
-  pub world : net.world ≡ world_of parts.plan
+  pub world : net.world ≡ with_programs (world_of parts.plan) parts.blocks.items
   pub names : net.names ≡ parts.names
   pub shape : net.shape ≡ parts.shape
   pub batches : map batch_turns net.batches.items ≡ batches_of parts.commands.items
   pub rest : net.rest ≡ place
 
--- the first world of what was declared: that of a plan with the declared boxes and channels
+-- the first world of what was declared: that of a plan with the declared boxes and channels, in which each program is the declared one
 pub record IsFirstWorld (d : Declared) (first : WorldState) : Type 0 where
   pub plan : PlanState
   pub boxes : map box_seen plan.boxes ≡ d.boxes
   pub channels : plan.channels ≡ d.channels
-  pub world : first ≡ world_of plan
+  pub world : first ≡ with_programs (world_of plan) d.blocks
+
+-- no program was declared
+abbrev pub IsUnprogrammed : Declared → Type 0
+IsUnprogrammed d = d.blocks ≡ []
 
 -- the text is in the grammar, and this is the network that it declares
 pub record DeclaresNet (text : List ℕ) (net : Net) : Type 0 where

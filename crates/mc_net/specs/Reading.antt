@@ -1,10 +1,9 @@
 -- Reading a text: what the line at a place answers, and the fault of a text whose lines break no rule.
 use Rattle.std.specs.Prelude.{ℕ, ◌≡◌, List, Option, Some, None, Result, Ok, Err}
-use Rattle.mc_script.specs.declared.rule.TheConstants.{UNBUILT}
 use Rattle.mc_lines.specs.Forms.{IsInForm}
 use Rattle.mc_lines.specs.Rules.{end_fault, line_fault}
 use Rattle.mc_lines.specs.SoFar.{Declared}
-use Rattle.mc_lines.specs.Unbuilt.{after_line}
+use Rattle.mc_lines.specs.Meaning.{line_after}
 use Rattle.mc_net.specs.declared.fault.NetFault.{NetFault}
 use Rattle.mc_net.specs.declared.fault.NetFault.TheVariants.{Line, NoMemory}
 use Rattle.mc_net.specs.declared.fault.TextFault.{TextFault}
@@ -12,19 +11,14 @@ use Rattle.mc_net.specs.declared.text.Place.{Place}
 
 -- of a text of `total` bytes, the line at a place breaks no rule, and this is what is declared after it; or it breaks one
 abbrev pub ReadsHere : ℕ → Place → Declared → List ℕ → Result (Unit {0}) NetFault → Declared → Type 0
-ReadsHere total place d line (Ok done) now = (line_fault total place.before d line ≡ None) × (after_line d place.line line ≡ Some now) × IsInForm now
+ReadsHere total place d line (Ok done) now = (line_fault total place.before d line ≡ None) × (line_after d line ≡ Some now) × IsInForm now
 ReadsHere total place d line (Err (Line fault)) now = (line_fault total place.before d line ≡ Some fault.number) × (fault.line ≡ place.line)
 ReadsHere total place d line (Err (NoMemory e)) now = Unit {0}
 
--- the first line that can't be run yet, if there is one
-abbrev pub unbuilt_fault : Option ℕ → Option TextFault
-unbuilt_fault None = None
-unbuilt_fault (Some line) = Some (record { number = UNBUILT; line = line })
-
--- the fault of the end, which counts as a line of this number, and else that of the first line that can't be run yet
-abbrev pub fault_behind : ℕ → Option ℕ → Option ℕ → Option TextFault
-fault_behind number None unbuilt = unbuilt_fault unbuilt
-fault_behind number (Some broken) unbuilt = Some (record { number = broken; line = number })
+-- the fault of the end, which counts as a line of this number
+abbrev pub fault_behind : ℕ → Option ℕ → Option TextFault
+fault_behind number None = None
+fault_behind number (Some broken) = Some (record { number = broken; line = number })
 
 abbrev pub last_fault : Declared → ℕ → Option TextFault
-last_fault d number = fault_behind number (end_fault d) d.unbuilt
+last_fault d number = fault_behind number (end_fault d)

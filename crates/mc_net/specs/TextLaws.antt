@@ -1,7 +1,10 @@
--- Laws of texts: each says something or has a fault, and never both, nor two faults. The first bytes of a long text show its fault.
+-- Laws of texts: each says something or has a fault, and never both, nor two faults. The first bytes of a long text show its fault. A text says which boxes have programs.
 use Rattle.std.specs.Prelude.{ℕ, ◌≡◌, ◌⊎◌, List, take}
 use Rattle.mc_lines.specs.Rules.{read_limit}
 use Rattle.mc_lines.specs.SoFar.{Declared}
+use Rattle.mc_model.specs.Unprogrammed.{HasNoPrograms}
+use Rattle.mc_model.specs.Worlds.{WorldState}
+use Rattle.mc_net.specs.Nets.{IsFirstWorld, IsUnprogrammed}
 use Rattle.mc_net.specs.Texts.{IsFault, Says}
 
 -- a text that says something has no fault
@@ -27,3 +30,7 @@ FaultsOfTheFirstBytes = (text : List ℕ) (number line : ℕ) → IsFault (first
 -- first bytes that say something are the whole text
 abbrev pub SaysTheWhole : Type 0
 SaysTheWhole = (text : List ℕ) (d : Declared) → Says (first_bytes text) d → first_bytes text ≡ text
+
+-- where no program was declared, no box of the first world has one
+abbrev pub UnprogrammedTexts : Type 0
+UnprogrammedTexts = (d : Declared) (world : WorldState) → IsFirstWorld d world → IsUnprogrammed d → HasNoPrograms world

@@ -6,10 +6,8 @@ ghost use Rattle.mc_net.specs.declared.fault.NetFault.TheVariants as net;
 use std::alloc::AllocError;
 use thiserror::Error;
 
-/// The first line of a text that breaks a rule, counted from 1, and the least number of the rules that it breaks.
-///
-/// The end of the text is one more line. Number 19 means that the text is in the grammar, and that this line is the
-/// first that can't be run yet.
+/// The first line of a text that breaks a rule, counted from 1, and the least number of the rules that it breaks. The
+/// end of the text is one more line.
 #[derive(Clone, Copy, PartialEq, Eq, Debug)]
 pub struct TextFault {
     pub number: u8,
@@ -19,8 +17,8 @@ pub struct TextFault {
 /// Why a text declares no network. What is displayed of it tells no number and no line: these are in the fault.
 #[derive(Debug, Drop, Error)]
 pub enum NetFault {
-    /// The text isn't in the grammar, or can't be run yet.
-    #[error("the text has a fault, or can't be run yet")]
+    /// The text isn't in the grammar.
+    #[error("the text has a fault")]
     Line(TextFault),
     /// Memory ran out.
     #[error("out of memory")]

@@ -1,6 +1,6 @@
 //! Laws of texts and of their first worlds, over the definitions alone: each function's contract is the law's sentence.
 
-ghost use Rattle.mc_net.specs.TextLaws.{DeclaresOrFaults, FaultsOfTheFirstBytes, OneFault, OneOrTheOther, SaysTheWhole};
+ghost use Rattle.mc_net.specs.TextLaws.{DeclaresOrFaults, FaultsOfTheFirstBytes, OneFault, OneOrTheOther, SaysTheWhole, UnprogrammedTexts};
 ghost use Rattle.mc_net.specs.Versions.{FirstVersions};
 
 /// A text that says something has no fault.
@@ -28,4 +28,9 @@ pub fn faults_of_the_first_bytes()
 /// Each slot of a text's first world has the version that the line of its box says.
 pub fn first_versions()
     ensures { FirstVersions }
+{}
+
+/// In the first world of a text that declares no program, no box has one.
+pub fn unprogrammed_texts()
+    ensures { UnprogrammedTexts }
 {}

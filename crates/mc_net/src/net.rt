@@ -1,9 +1,12 @@
 //! The network that a text declares.
 
-ghost use Rattle.std.specs.Prelude.{◌≡◌, ◌≤◌, IfErr, IfOk, length, map};
+ghost use Rattle.std.specs.Prelude.{◌≡◌, ◌≤◌, IfErr, IfOk, None, OnOk, length, map};
 ghost use Rattle.mc_model.specs.Shapes.{AreAllAllowed};
 ghost use Rattle.mc_plan.specs.Plans.{world_of};
-ghost use Rattle.mc_net.specs.Nets.{DeclaresNet, IsMadeOf, NamesAll, batches_of, batch_turns};
+ghost use Rattle.mc_net.specs.Nets.{DeclaresNet, IsMadeOf, MayHavePrograms, NamesAll, batches_of, batch_turns, with_programs}
+ghost use Rattle.mc_plan.specs.Layouts.{program_fault, with_program};
+ghost use Rattle.mc_program.specs.Finished.{program_of};
+ghost use Rattle.mc_rule.specs.Programs.{IsProgram};
 ghost use Rattle.mc_net.specs.Texts.{RefusesText};
 
 use crate::fault::NetFault;
@@ -11,7 +14,8 @@ use crate::text::read_text;
 use mc_box::Shape;
 use mc_lines::Parts;
 use mc_lines::limit::COMMAND_LIMIT;
-use mc_plan::Plan;
+use mc_plan::{Layout, Plan};
+use mc_program::Block;
 use mc_script::{Batch, Command};
 use mc_text::Names;
 use mc_world::World;
@@ -52,9 +56,10 @@ pub fn read_net(alloc: Global, text: &[u8], tail: Tail) -> Result<Net, NetFault>
 
 // The network of what a text declares.
 fn make_net(alloc: Global, parts: Parts, rest: usize) -> Result<Net, AllocError>
+    requires { MayHavePrograms (world_of parts.plan) parts.blocks.items }
     ensures { IfOk result (IsMadeOf parts rest) }
 {
-    let (world, batches) = world_and_batches(alloc, parts.plan, &parts.commands)?;
+    let (world, batches) = world_and_batches(alloc, parts.plan, &parts.blocks, &parts.commands)?;
     Ok(Net {
         world,
         names: parts.names,
@@ -64,16 +69,45 @@ fn make_net(alloc: Global, parts: Parts, rest: usize) -> Result<Net, AllocError>
     })
 }
 
-// The first world of a plan, and the batches of commands.
+// The first world of a plan with these programs, and the batches of commands.
 fn world_and_batches(
     alloc: Global,
     plan: Plan,
+    blocks: &[Block],
     commands: &[Command],
 ) -> Result<(World, Vec<Batch>), AllocError>
-    ensures { IfOk result (λ both. (both.0 ≡ world_of plan) × (map batch_turns both.1.items ≡ batches_of commands.now)) }
+    requires { MayHavePrograms (world_of plan) blocks.now }
+    ensures world { IfOk result (λ both. both.0 ≡ with_programs (world_of plan) blocks.now) }
+    ensures batches { IfOk result (λ both. map batch_turns both.1.items ≡ batches_of commands.now) }
 {
     let batches = batches_of(alloc, commands)?;
-    Ok((plan.world()?, batches))
+    let mut layout = plan.layout()?;
+    lay_programs(alloc, &mut layout, blocks)?;
+    Ok((layout.world()?, batches))
+}
+
+// Each block gives its box its program.
+fn lay_programs(alloc: Global, layout: &mut Layout, blocks: &[Block]) -> Result<(), AllocError>
+    requires { MayHavePrograms layout.old blocks.now }
+    ensures { OnOk result (layout.new ≡ with_programs layout.old blocks.now) }
+{
+    for block in blocks {
+        lay_program(alloc, layout, block)?;
+    }
+    Ok(())
+}
+
+// A block does.
+fn lay_program(alloc: Global, layout: &mut Layout, block: &Block) -> Result<(), AllocError>
+    requires program { IsProgram (program_of block.now) }
+    requires kept { program_fault layout.old block.now.who (program_of block.now) ≡ None }
+    ensures { OnOk result (layout.new ≡ with_program layout.old block.now.who (program_of block.now)) }
+{
+    let program = block.program(alloc)?;
+    match layout.program(block.who, program) {
+        Ok(()) => Ok(()),
+        Err(_) => unreachable!(),
+    }
 }
 
 // One batch for each settle, with the commands before it.

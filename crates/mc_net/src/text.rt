@@ -9,7 +9,6 @@ ghost use Rattle.mc_net.specs.Texts.{Says, RefusesText};
 use crate::fault::{NetFault, TextFault};
 use mc_lines::Reader;
 use mc_program::ReadFault;
-use mc_script::rule::UNBUILT;
 use mc_text::next_line;
 use std::alloc::Global;
 
@@ -34,7 +33,7 @@ impl Place {
     }
 }
 
-/// Reads a whole text, which must be in the grammar, and one that can be run.
+/// Reads a whole text, which must be in the grammar.
 pub fn read_text(alloc: Global, text: &[u8]) -> Result<Reader, NetFault>
     ensures says { IfOk result (Says text.now) }
     ensures in_form { IfOk result (λ reader. IsInForm reader) }
@@ -73,7 +72,7 @@ fn read_here(reader: &mut Reader, total: usize, place: Place, line: &[u8]) -> Re
     requires in_form { IsInForm reader.old }
     ensures { ReadsHere total place reader.old line.now result reader.new }
 {
-    match reader.read_line(total, place.before, place.line, line) {
+    match reader.read_line(total, place.before, line) {
         Ok(()) => Ok(()),
         Err(ReadFault::NoMemory(wanting)) => Err(NetFault::NoMemory(wanting)),
         Err(ReadFault::Line(fault)) => Err(NetFault::Line(TextFault {
@@ -83,19 +82,12 @@ fn read_here(reader: &mut Reader, total: usize, place: Place, line: &[u8]) -> Re
     }
 }
 
-// The fault of a text whose lines break no rule: that of its end, by the number of the line behind the last, or that of
-// the first line that can't be run yet.
+// The fault of a text whose lines break no rule: that of its end, by the number of the line behind the last.
 fn last_fault(reader: &Reader, end: u32) -> Option<TextFault>
     ensures { result ≡ last_fault reader.now end }
 {
-    if let Some(number) = reader.end_fault() {
-        return Some(TextFault { number, line: end });
-    }
-    match reader.unbuilt() {
-        Some(line) => Some(TextFault {
-            number: UNBUILT,
-            line,
-        }),
+    match reader.end_fault() {
+        Some(number) => Some(TextFault { number, line: end }),
         None => None,
     }
 }

@@ -53,6 +53,3 @@ pub const NO_VERSION_LINE: u8 = 17;
 
 /// A name has at most 16 bytes.
 pub const NAME_TOO_LONG: u8 = 18;
-
-/// The line can be run. It is asked last: only where a text breaks none of the others.
-pub const UNBUILT: u8 = 19;

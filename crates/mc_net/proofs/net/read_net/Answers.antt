@@ -1,5 +1,5 @@
 use Rattle.mc_net.proofs.Declaring.{AreOf, net_declares}
-use Rattle.mc_net.proofs.MadeNets.{net_allowed, net_has_few, net_named}
+use Rattle.mc_net.proofs.MadeNets.{net_allowed, net_has_few, net_named, net_programs}
 use Rattle.mc_net.proofs.net.read_net.Goals as goal
 
 -- the parts are those that the text declares
@@ -9,6 +9,7 @@ are_of c = record {
   shape = c.into_parts-parts.ensures.shape;
   boxes = c.into_parts-parts.ensures.boxes;
   channels = c.into_parts-parts.ensures.channels;
+  blocks = c.into_parts-parts.ensures.blocks;
   commands = c.into_parts-parts.ensures.commands;
 }
 
@@ -27,3 +28,14 @@ returns-clause-allowed c =
 pub returns-clause-few : goal.returns-clause-few
 returns-clause-few c =
     net_has_few c.args.text.now c.in_ok-read_text.field-0 c.into_parts-parts.result c.in_ok-make_net.field-0 _ c.in_ok-read_text.ensures.says (are_of c) c.in_ok-make_net.ensures
+
+pub make_net-requires : goal.make_net-requires
+make_net-requires c =
+    net_programs c.args.text.now c.in_ok-read_text.field-0 c.into_parts-parts.result c.in_ok-read_text.ensures.says (record {
+      names = c.into_parts-parts.ensures.names;
+      shape = c.into_parts-parts.ensures.shape;
+      boxes = c.into_parts-parts.ensures.boxes;
+      channels = c.into_parts-parts.ensures.channels;
+      blocks = c.into_parts-parts.ensures.blocks;
+      commands = c.into_parts-parts.ensures.commands;
+    })
