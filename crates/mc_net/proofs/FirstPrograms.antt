@@ -1,5 +1,5 @@
 -- The programs that a text declares may be laid into the first world of its plan, whose boxes then have the shapes that lines left.
-use Rattle.std.proofs.Common.{◌≡◌, ℕ, ◌<◌, ◌||◌, true, List, None, length, map, slice_index_or, refl, sym, ap, ◌∙◌, subst, arith}
+use Rattle.std.proofs.Common.{◌≡◌, ℕ, ◌<◌, ◌||◌, true, List, length, map, slice_index_or, sym, ap, ◌∙◌, subst, arith}
 use Rattle.std.proofs.lemmas.List.{get_or-map, length-map}
 use Rattle.std.proofs.lemmas.List.Elements.{All-from_get_or}
 use Rattle.std.specs.List.{All}
@@ -13,7 +13,6 @@ use Rattle.mc_model.specs.Unprogrammed.{HasNoPrograms}
 use Rattle.mc_model.specs.Worlds.{WorldState, box_at}
 use Rattle.mc_plan.specs.Plans.{PlanState, world_of}
 use Rattle.mc_plan.proofs.Numbered.{length_boxes, plans_are_unprogrammed}
-use Rattle.mc_program.specs.BlockLaws.{FitsIn}
 use Rattle.mc_program.specs.Finished.{IsProgramFor, program_of}
 use Rattle.mc_program.specs.Programs.{BlockState}
 use Rattle.mc_program.proofs.FinishedBlocks.{finished_blocks_fit}
@@ -23,7 +22,7 @@ use Rattle.mc_net.specs.Nets.{MayHavePrograms, NamesAll, with_programs}
 use Rattle.mc_net.specs.TextLaws.{UnprogrammedTexts}
 use Rattle.mc_net.proofs.Laid.{AllFinished, AreLaid, has_owner, no_block, owners}
 use Rattle.mc_net.proofs.Programmed.{CanHave, all_may, boxes_are, many_are, shape_by, shapes_are}
-use Rattle.mc_net.proofs.Shaped.{AreShapes, declared_shape, plan_shaped}
+use Rattle.mc_net.proofs.Shaped.{AreShapes, plan_shaped}
 
 -- ---- they may be laid out
 

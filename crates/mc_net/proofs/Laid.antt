@@ -1,12 +1,11 @@
 -- The programs that lines declared: each fits the slots of its box, which is a feature, no two are of one box, and all but one that is open are finished. They come behind the channels.
-use Rattle.std.proofs.Common.{◌≡◌, ◌≢◌, ◌⊎◌, inl, inr, ℕ, zero, suc, ◌+◌, ◌-◌, ◌<◌, ◌≤◌, ◌==◌, ◌||◌, Bool, true, false, List, [], ◌∷◌, ◌++◌, length, map, slice_index_or, slice_set, Option, Some, None, refl, sym, ap, ◌∙◌, subst, arith, length-append}
+use Rattle.std.proofs.Common.{◌≡◌, ◌≢◌, ◌⊎◌, inl, inr, ℕ, zero, suc, ◌+◌, ◌-◌, ◌<◌, ◌≤◌, ◌==◌, ◌||◌, Bool, true, false, List, [], ◌∷◌, ◌++◌, length, map, slice_index_or, slice_set, Option, Some, refl, sym, ap, ◌∙◌, subst, arith, length-append}
 use Rattle.std.proofs.lemmas.Bool.{cases_lt, or_parts}
 use Rattle.std.proofs.lemmas.List.{get_or_append_left, get_or-set_other, length-set, map-append}
-use Rattle.std.proofs.lemmas.List.Elements.{All-cons, All-head, All-nil, All-push, All-set, All-tail, All-weaker}
+use Rattle.std.proofs.lemmas.List.Elements.{All-head, All-nil, All-push, All-set, All-tail, All-weaker}
 use Rattle.std.specs.List.{All, list_any, slice_get}
 use Rattle.mc_box.specs.BoxShapes.{BoxShapeState, is_feature, shape_of}
 use Rattle.mc_program.specs.BlockLaws.{FitsIn}
-use Rattle.mc_program.specs.Finished.{FitsMedia}
 use Rattle.mc_program.specs.Programs.{BlockState, is_unfinished_block, new_block}
 use Rattle.mc_lines.specs.Meaning.{with_program}
 use Rattle.mc_lines.specs.Rules.{block_in, rank}
@@ -45,7 +44,7 @@ owner_push [] who k = by (who == k)
     by false = refl
 owner_push (one ∷ whos) who k = ap (λ (b : Bool). one == k || b) (owner_push whos who k) ∙ by (one == k) (has_owner whos k) (who == k)
   where
-    by : (a b c : Bool) → (a || b || c) ≡ ((a || b) || c)
+    by : (a b c : Bool) → (a || (b || c)) ≡ ((a || b) || c)
     by true b c = refl
     by false b c = refl
 

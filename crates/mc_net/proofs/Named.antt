@@ -1,9 +1,8 @@
 -- What has a name: the codecs of the boxes, and what a word names.
 use Rattle.std.proofs.Common.{◌≡◌, ℕ, ◌<◌, false, List, [], ◌∷◌, length, map, Option, Some, None, refl, arith}
 use Rattle.std.proofs.lemmas.List.Elements.{All-cons, All-nil}
-use Rattle.std.specs.List.{All, position_or_len}
-use Rattle.std.specs.Option.{is_none, option_and_then, option_map, unwrap_or}
-use Rattle.std.specs.Str.{bytes_eq}
+use Rattle.std.specs.List.{All}
+use Rattle.std.specs.Option.{is_none, unwrap_or}
 use Rattle.mc_text.specs.NameLists.{NameLists, place_of}
 use Rattle.mc_program.proofs.Found.{found_within}
 use Rattle.mc_lines.specs.Meaning.{codec_number}

@@ -1,7 +1,6 @@
 -- The first world with the declared programs: each box may have its program, and else is as the plan has it.
-use Rattle.std.proofs.Common.{◌≡◌, ◌≢◌, ◌⊎◌, inl, inr, ℕ, zero, suc, ◌+◌, ◌<◌, ◌≤◌, ◌==◌, ◌||◌, not, Bool, true, false, nat_le, List, [], ◌∷◌, length, map, slice_index_or, slice_set, Option, Some, None, refl, sym, ap, ◌∙◌, subst, arith}
+use Rattle.std.proofs.Common.{◌≡◌, ◌≢◌, ℕ, zero, suc, ◌+◌, ◌<◌, ◌==◌, ◌||◌, not, Bool, true, false, nat_le, List, [], ◌∷◌, length, slice_index_or, None, refl, sym, ap, ◌∙◌, subst, arith}
 use Rattle.std.specs.Prelude.{is_some}
-use Rattle.std.proofs.lemmas.Grind.{common_steps}
 use Rattle.std.proofs.lemmas.List.{get_or-map, get_or-set_other, get_or-set_same, length-map, length-set}
 use Rattle.std.proofs.lemmas.List.Elements.{All-head, All-tail}
 use Rattle.std.specs.List.{All, list_any}
@@ -34,8 +33,8 @@ none_crosses : (media : List Medium) (first : ℕ) (goals : List SlotGoal) → (
 none_crosses media first [] alike = refl
 none_crosses media first (goal ∷ goals) alike =
     let rest : some_crosses media (first + 1) goals ≡ false = none_crosses media (first + 1) goals (λ local partner is.
-        let next : first + suc local ≡ first + 1 + local = omega arith in
-        subst (λ (n : ℕ). medium_of media partner ≡ medium_of media n) next (alike (suc local) partner is)) in
+    let next : first + suc local ≡ first + 1 + local = omega arith in
+    subst (λ (n : ℕ). medium_of media partner ≡ medium_of media n) next (alike (suc local) partner is)) in
     rw (here goal refl, rest) refl
   where
     here : (g : SlotGoal) → goal ≡ g → crosses media first g ≡ false
@@ -49,8 +48,8 @@ none_linked : (media : List Medium) (states : List ProgStateState) → ((at loca
 none_linked media [] alike = refl
 none_linked media (one ∷ states) alike =
     let here : links_two_media media one ≡ false = none_crosses media 0 one.goals (λ local partner is.
-        let place : local ≡ 0 + local = omega arith in
-        subst (λ (n : ℕ). medium_of media partner ≡ medium_of media n) place (alike zero local partner is)) in
+    let place : local ≡ 0 + local = omega arith in
+    subst (λ (n : ℕ). medium_of media partner ≡ medium_of media n) place (alike zero local partner is)) in
     let rest : list_any (links_two_media media) states ≡ false = none_linked media states (λ at local partner is. alike (suc at) local partner is) in
     rw (here, rest) refl
 
@@ -176,6 +175,6 @@ shapes_are first (block ∷ blocks) k below =
     ∙ ap (λ (s : BoxShapeState). shape_by s (s.programmed || has_owner (owners blocks) k)) one
     ∙ ap (λ (b : Bool). shape_by (box_shape (box_at first k)) b) (grouped (is_some (box_at first k).program) (block.who == k) (has_owner (owners blocks) k))
   where
-    grouped : (a b c : Bool) → ((a || b) || c) ≡ (a || b || c)
+    grouped : (a b c : Bool) → ((a || b) || c) ≡ (a || (b || c))
     grouped true b c = refl
     grouped false b c = refl

@@ -12,7 +12,7 @@ use Rattle.mc_text.specs.NameLists.{NameLists, with_codec_name}
 use Rattle.mc_box.specs.BoxShapes.{BoxShapeState, is_feature, shape_of}
 use Rattle.mc_model.specs.Worlds.{ChannelState}
 use Rattle.mc_plan.specs.Plans.{channel_between, last_channel, next_tunnel, no_channel, with_one_more}
-use Rattle.mc_program.specs.Programs.{BlockState, block_goal_after, block_goal_rules, block_link_after, block_link_rules, block_when_after, block_when_rules, has_program, in_block, new_block, new_part_rules, new_program_rules, with_new_part}
+use Rattle.mc_program.specs.Programs.{BlockState, block_goal_after, block_goal_rules, block_link_after, block_link_rules, block_when_after, block_when_rules, has_program, in_block, new_block, new_part_rules, with_new_part}
 use Rattle.mc_program.specs.WordLists.{has_repeat}
 use Rattle.mc_text.specs.Spelling.{is_spelt}
 use Rattle.mc_script.specs.Meaning.{command_by}
@@ -22,7 +22,7 @@ use Rattle.mc_script.specs.declared.command.Command.{Command}
 use Rattle.mc_script.specs.declared.keyword.CommandWord.{CommandWord}
 use Rattle.mc_script.specs.declared.rule.TheConstants.{GIVEN_TWICE, LIMIT_PASSED, UNDECLARED, UNFINISHED, WRONG_WORD}
 use Rattle.mc_lines.specs.Meaning.{after_by, also_after, begin_after, channel_after, codec_after, codec_number, command_after, device_after, device_in, feature_after, declared_at, line_after, new_feature, program_after, program_link_after, send_after, state_after, when_after, with_block, with_program, with_send_list, unless_skipped, with_joined, with_new_box, with_new_codec, with_new_feature, with_send_line, with_widened, words_after}
-use Rattle.mc_lines.specs.Rules.{also_rules, begin_rules, program_rules, shapes, state_rules, channel_rules, codec_rules, codec_words, command_line_rules, device_rules, feature_rules, end_fault, is_late, is_program_link, is_second, is_skipped, is_unfinished, kind_of, line_fault, line_words_rules, lists_undeclared, open_block, passes_limit, program_link_rules, rank, rules_by, send_line_rules, send_rules, spelt_medium, words_rules}
+use Rattle.mc_lines.specs.Rules.{also_rules, begin_rules, program_rules, shapes, state_rules, channel_rules, codec_rules, codec_words, command_line_rules, device_rules, feature_rules, end_fault, end_rules, is_late, is_program_link, is_second, is_skipped, is_unfinished, kind_of, line_fault, line_words_rules, lists_undeclared, open_block, passes_limit, program_link_rules, rank, rules_by, send_line_rules, send_rules, spelt_medium, words_rules}
 use Rattle.mc_lines.specs.SoFar.{Declared, DeclaredBox, nothing}
 use Rattle.mc_net.specs.Texts.{AreSound, Says, bytes_before, declared_by}
 use Rattle.mc_lines.specs.declared.limit.TheConstants.{COMMAND_LIMIT}
@@ -32,7 +32,7 @@ use Rattle.mc_lines.specs.declared.section.Section.{Section}
 use Rattle.mc_lines.specs.declared.section.Section.TheVariants as section
 use Rattle.mc_net.proofs.Enabled.{IsOfLine}
 use Rattle.mc_lines.proofs.FirstBroken.{all_before, all_behind, has_room}
-use Rattle.mc_program.proofs.KeptRules.{first_kept, kept_at, others_kept}
+use Rattle.mc_program.proofs.KeptRules.{kept_at, others_kept}
 use Rattle.mc_net.proofs.Unfinished.{none_open}
 use Rattle.mc_lines.specs.Forms.{IsInForm, NamesEach}
 use Rattle.mc_lines.proofs.Blocks.{fits_program}
@@ -587,4 +587,4 @@ pub says_finished : (text : List ℕ) (d : Declared) → Says text d → AllFini
 says_finished text d says =
     let runs : IsRunnable d = says_runnable text d says in
     let ended : end_fault d ≡ None = subst (λ (x : Declared). end_fault x ≡ None) (sym says.declared) says.ended in
-    all_finished d.shape d.section d.blocks runs.laid (first_kept UNFINISHED (is_unfinished d) _ ended)
+    all_finished d.shape d.section d.blocks runs.laid (kept_at (end_rules d) 0 (UNFINISHED, is_unfinished d) ended refl)

@@ -3,7 +3,7 @@
 ghost use Rattle.std.specs.Prelude.{◌≡◌, ◌≤◌, IfErr, IfOk, None, OnOk, length, map};
 ghost use Rattle.mc_model.specs.Shapes.{AreAllAllowed};
 ghost use Rattle.mc_plan.specs.Plans.{world_of};
-ghost use Rattle.mc_net.specs.Nets.{DeclaresNet, IsMadeOf, MayHavePrograms, NamesAll, batches_of, batch_turns, with_programs}
+ghost use Rattle.mc_net.specs.Nets.{DeclaresNet, IsMadeOf, MayHavePrograms, NamesAll, batches_of, batch_turns, with_programs};
 ghost use Rattle.mc_plan.specs.Layouts.{program_fault, with_program};
 ghost use Rattle.mc_program.specs.Finished.{program_of};
 ghost use Rattle.mc_rule.specs.Programs.{IsProgram};
