@@ -19,7 +19,7 @@ use Rattle.mc_laws.proofs.CommandsGo.{allowed_parts, command_goes}
 use Rattle.mc_laws.proofs.Numbers.{box_inside}
 use Rattle.mc_seq.specs.Drawing.{MayCome}
 use Rattle.mc_seq.specs.Schedule.{left_by, next_of, without_next}
-use Rattle.mc_seq.proofs.Candidates.{IsListed, take_goes}
+use Rattle.mc_seq.proofs.Candidates.{IsListed, shift_goes, take_goes}
 use Rattle.mc_seq.proofs.Segments.{both_there}
 
 -- ---- in a later world
@@ -109,8 +109,11 @@ next_pass p who (t ∷ left) turn all found =
     next_pass_by (t.who == who) p t turn (next_of who left) parts.0 (next_pass p who left turn parts.1) found
 
 -- what is listed can happen, or is a Hear at the last version
-pub listed_comes : (world : WorldState) (left : List Turn) (urgent : Bool) (turn : Turn) → IsSound world → AreAllowed world left → IsListed world left urgent turn → MayCome world turn
-listed_comes world left urgent turn sound allowed is = elim is [
+pub listed_comes : (world : WorldState) (left : List Turn) (shifts : List ℕ) (urgent : Bool) (turn : Turn) → IsSound world → AreAllowed world left → IsListed world left shifts urgent turn → MayCome world turn
+listed_comes world left shifts urgent turn sound allowed is = elim is [
   | inl next ↦ command_goes world turn sound (next_pass (is_allowed world) turn.who left turn allowed next)
-  | inr take ↦ inl (take_goes world turn sound take.1)
+  | inr other ↦ elim other.1 [
+    | inl take ↦ inl (take_goes world turn sound take)
+    | inr shift ↦ inl (shift_goes world shifts turn sound shift)
+  ]
 ]

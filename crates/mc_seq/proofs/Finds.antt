@@ -7,8 +7,8 @@ use Rattle.mc_box.specs.declared.event.Turn.{Turn}
 use Rattle.mc_model.specs.Worlds.{WorldState, box_at}
 use Rattle.mc_seq.specs.Commands.{AreKept, AreKeptFor, commands_left}
 use Rattle.mc_seq.specs.ForEach.{for_each}
-use Rattle.mc_seq.specs.Ready.{CountsEach, all_takes, next_commands}
-use Rattle.mc_seq.specs.Schedule.{all_candidates, candidates_of, command_candidates, next_of, take_turn, waiting_take, takes_of}
+use Rattle.mc_seq.specs.Ready.{CountsEach, all_of_two, all_takes, next_commands, two_candidates}
+use Rattle.mc_seq.specs.Schedule.{command_candidates, next_of, take_turn, waiting_take, takes_of}
 use Rattle.mc_world.specs.Waiting.{CountsTakes, bit, take_waits, waiting_count}
 use Rattle.mc_seq.specs.declared.commands.Commands.{Commands}
 use Rattle.mc_seq.proofs.ForEach.{each_same}
@@ -58,22 +58,22 @@ still_got k x same got = ap (λ (l : List Turn). slice_get l k) same ∙ got
 
 -- next commands alone
 pub urgent_is : (world : WorldState) (commands : Commands) (urgent : Bool) → AreKeptFor world commands → urgent ≡ true
-    → all_candidates world (commands_left commands) urgent ≡ next_commands (commands_left commands) (length commands.queues.items)
+    → all_of_two world (commands_left commands) urgent ≡ next_commands (commands_left commands) (length commands.queues.items)
 urgent_is world commands urgent kept is =
-    ap (all_candidates world (commands_left commands)) is
-    ∙ (each_same (candidates_of world (commands_left commands) true) (command_candidates (commands_left commands)) (length world.boxes) (λ who. append-nil (command_candidates (commands_left commands) who))
+    ap (all_of_two world (commands_left commands)) is
+    ∙ (each_same (two_candidates world (commands_left commands) true) (command_candidates (commands_left commands)) (length world.boxes) (λ who. append-nil (command_candidates (commands_left commands) who))
     ∙ ap (next_commands (commands_left commands)) (sym kept.boxes))
 
 -- Takes alone, where no command is left
-pub used_up_is : (world : WorldState) (commands : Commands) (urgent : Bool) → AreKeptFor world commands → urgent ≡ false → commands.count ≡ 0 → all_candidates world (commands_left commands) urgent ≡ all_takes world
+pub used_up_is : (world : WorldState) (commands : Commands) (urgent : Bool) → AreKeptFor world commands → urgent ≡ false → commands.count ≡ 0 → all_of_two world (commands_left commands) urgent ≡ all_takes world
 used_up_is world commands urgent kept is none =
-    ap (all_candidates world (commands_left commands)) is
-    ∙ (ap (λ (left : List Turn). all_candidates world left false) (empty_is (commands_left commands) (sym kept.kept.counted ∙ none))
-    ∙ each_same (candidates_of world [] false) (takes_of world) (length world.boxes) (λ who. refl))
+    ap (all_of_two world (commands_left commands)) is
+    ∙ (ap (λ (left : List Turn). all_of_two world left false) (empty_is (commands_left commands) (sym kept.kept.counted ∙ none))
+    ∙ each_same (two_candidates world [] false) (takes_of world) (length world.boxes) (λ who. refl))
 
 -- or both
-pub calm_is : (world : WorldState) (left : List Turn) (urgent : Bool) → urgent ≡ false → all_candidates world left urgent ≡ all_candidates world left false
-calm_is world left urgent is = ap (all_candidates world left) is
+pub calm_is : (world : WorldState) (left : List Turn) (urgent : Bool) → urgent ≡ false → all_of_two world left urgent ≡ all_of_two world left false
+calm_is world left urgent is = ap (all_of_two world left) is
 
 -- ---- how many there are
 
@@ -88,11 +88,11 @@ pub takes_sum : (world : WorldState) (counts : List ℕ) → CountsTakes world c
 takes_sum world counts takes = count_is (takes_of world) counts (length world.boxes) (takes_each world counts takes)
 
 pub both_sum : (world : WorldState) (commands : Commands) (counts : List ℕ) → AreKeptFor world commands → CountsTakes world counts
-    → sum commands.next + sum counts ≡ length (all_candidates world (commands_left commands) false)
+    → sum commands.next + sum counts ≡ length (all_of_two world (commands_left commands) false)
 both_sum world commands counts kept takes =
     let one : sum commands.next ≡ length (for_each (command_candidates (commands_left commands)) (length world.boxes)) = count_is (command_candidates (commands_left commands)) commands.next (length world.boxes) (next_each world commands kept) in
     let two : sum counts ≡ length (for_each (takes_of world) (length world.boxes)) = takes_sum world counts takes in
-    let all : length (for_each (candidates_of world (commands_left commands) false) (length world.boxes))
+    let all : length (for_each (two_candidates world (commands_left commands) false) (length world.boxes))
     ≡ length (for_each (command_candidates (commands_left commands)) (length world.boxes)) + length (for_each (takes_of world) (length world.boxes))
     = both_count (command_candidates (commands_left commands)) (takes_of world) (length world.boxes) in
     omega arith
@@ -133,7 +133,7 @@ take_at_box world counts k who rest takes inside before within = kth_is (takes_o
 
 -- both
 pub both_within : (world : WorldState) (commands : Commands) (counts : List ℕ) (who rest : ℕ) → AreKeptFor world commands → CountsTakes world counts → who < length counts
-    → rest < slice_index_or counts who 0 + slice_index_or commands.next who 0 → rest < length (candidates_of world (commands_left commands) false who)
+    → rest < slice_index_or counts who 0 + slice_index_or commands.next who 0 → rest < length (two_candidates world (commands_left commands) false who)
 both_within world commands counts who rest kept takes inside within =
     let below : who < length world.boxes = subst (λ (n : ℕ). who < n) takes.long inside in
     let one : slice_index_or commands.next who 0 ≡ length (command_candidates (commands_left commands) who) = (next_each world commands kept).counts who below in
@@ -144,7 +144,7 @@ both_within world commands counts who rest kept takes inside within =
 
 pub both_at_box : (world : WorldState) (commands : Commands) (counts : List ℕ) (k who rest : ℕ) → AreKeptFor world commands → CountsTakes world counts → who < length counts
     → sum (take who counts) + sum (take who commands.next) + rest ≡ k → rest < slice_index_or counts who 0 + slice_index_or commands.next who 0
-    → slice_get (all_candidates world (commands_left commands) false) k ≡ slice_get (candidates_of world (commands_left commands) false who) rest
+    → slice_get (all_of_two world (commands_left commands) false) k ≡ slice_get (two_candidates world (commands_left commands) false who) rest
 both_at_box world commands counts k who rest kept takes inside before within =
     kth_of_both (command_candidates (commands_left commands)) (takes_of world) commands.next counts (length world.boxes) k who rest (next_each world commands kept) (takes_each world counts takes)
     (subst (λ (n : ℕ). who < n) takes.long inside) before within

@@ -97,3 +97,33 @@ kth_of_both f g xs ys n k place rest one two below before within =
     let of_one : get_or xs place 0 ≡ length (f place) = one.counts place below in
     let of_two : get_or ys place 0 ≡ length (g place) = two.counts place below in
     found_is (λ (t : ℕ). f t ++ g t) n k place rest below (omega arith) (omega arith)
+
+-- ---- the same for a function whose lists are as long as both
+
+pub mixed_count : (h f g : ℕ → List Turn) (n : ℕ) → ((t : ℕ) → length (h t) ≡ length (f t) + length (g t)) → length (for_each h n) ≡ length (for_each f n) + length (for_each g n)
+mixed_count h f g zero long = refl
+mixed_count h f g (suc n) long =
+    let rest = mixed_count h f g n long in
+    let here : length (h n) ≡ length (f n) + length (g n) = long n in
+    let all : length (for_each h n ++ h n) ≡ length (for_each h n) + length (h n) = length-append (for_each h n) (h n) in
+    let one : length (for_each f n ++ f n) ≡ length (for_each f n) + length (f n) = length-append (for_each f n) (f n) in
+    let two : length (for_each g n ++ g n) ≡ length (for_each g n) + length (g n) = length-append (for_each g n) (g n) in
+    omega arith
+
+pub kth_of_mixed : (h f g : ℕ → List Turn) (xs ys : List ℕ) (n k place rest : ℕ) → ((t : ℕ) → length (h t) ≡ length (f t) + length (g t)) → CountsEach f xs n → CountsEach g ys n → place < n
+    → sum (take place ys) + sum (take place xs) + rest ≡ k → rest < get_or ys place 0 + get_or xs place 0 → slice_get (for_each h n) k ≡ slice_get (h place) rest
+kth_of_mixed h f g xs ys n k place rest long one two below before within =
+    let first : sum (take place xs) ≡ length (for_each f place) = counted f xs n place one (omega arith) in
+    let second : sum (take place ys) ≡ length (for_each g place) = counted g ys n place two (omega arith) in
+    let all : length (for_each h place) ≡ length (for_each f place) + length (for_each g place) = mixed_count h f g place long in
+    let here : length (h place) ≡ length (f place) + length (g place) = long place in
+    let of_one : get_or xs place 0 ≡ length (f place) = one.counts place below in
+    let of_two : get_or ys place 0 ≡ length (g place) = two.counts place below in
+    found_is h n k place rest below (omega arith) (omega arith)
+
+-- a place within the first of two lists, and behind it
+pub got_first : (xs ys : List Turn) (k : ℕ) (x : Turn) → slice_get xs k ≡ Some x → slice_get (xs ++ ys) k ≡ Some x
+got_first xs ys k x got = got_before xs ys k x got
+
+pub got_second : (xs ys : List Turn) (k j : ℕ) → j ≡ length xs + k → slice_get (xs ++ ys) j ≡ slice_get ys k
+got_second xs ys k j is = got_behind xs ys k j is

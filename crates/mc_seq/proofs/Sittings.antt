@@ -1,12 +1,12 @@
 -- Turns drawn one after another, while a settle goes on.
-use Rattle.std.proofs.Common.{◌≡◌, ◌≢◌, ◌<◌, ◌+◌, ◌-◌, ◌*◌, ◌/◌, ◌%◌, ◌++◌, ◌==◌, ◌&&◌, inl, inr, if◌then◌else◌, nat_lt, not, ℕ, Bool, true, false, List, [], ◌∷◌, length, slice_get, Some, IsTrue, append_assoc, append-nil, refl, ap, sym, ◌∙◌, subst, arith}
+use Rattle.std.proofs.Common.{◌≡◌, ◌≢◌, ◌<◌, ◌+◌, ◌-◌, ◌*◌, ◌/◌, ◌%◌, ◌++◌, ◌==◌, ◌&&◌, ◌⊎◌, inl, inr, if◌then◌else◌, nat_lt, not, ℕ, Bool, true, false, List, [], ◌∷◌, length, slice_get, Some, IsTrue, append_assoc, append-nil, refl, ap, sym, ◌∙◌, subst, arith}
 use Rattle.std.proofs.lemmas.Bool.{and_parts}
 use Rattle.std.proofs.lemmas.Grind.{common_steps}
 use Rattle.mc_text.specs.Draws.{next_state}
 use Rattle.mc_box.specs.declared.event.Event.{Event}
-use Rattle.mc_box.specs.declared.event.Event.TheVariants.{Take}
+use Rattle.mc_box.specs.declared.event.Event.TheVariants.{Shift, Take}
 use Rattle.mc_box.specs.declared.event.Turn.{Turn}
-use Rattle.mc_box.specs.BoxEvents.{is_command}
+use Rattle.mc_box.specs.BoxEvents.{is_command, is_shift}
 use Rattle.mc_laws.proofs.CommandsGo.{allowed_parts}
 use Rattle.mc_model.specs.Shapes.{is_allowed, AreAllowed}
 use Rattle.mc_laws.specs.Measures.{IsRingFree, measure}
@@ -17,10 +17,11 @@ use Rattle.mc_model.specs.Worlds.{WorldState}
 use Rattle.mc_laws.proofs.Lowers.{take_lowers, take_stays_free}
 use Rattle.mc_laws.proofs.ShapesKept.{step_keeps_shape}
 use Rattle.mc_laws.proofs.StepKeeps.{step_keeps_sound}
-use Rattle.mc_seq.specs.Drawing.{CameToRest, DrewAll, DrewOnce, DrewTurn, DrewVersionEnd, RanOut, Sight}
+use Rattle.mc_seq.specs.Drawing.{CameToRest, DrewAll, DrewOnce, DrewTurn, DrewVersionEnd, IsDrawOf, Moment, RanOut, Sight, TriedTurn, TurnMade, sight_at}
 use Rattle.mc_seq.specs.Schedule.{AreDrawn, MayGo, Standing, candidates, drawn_turn, drawn_place, is_urgent, left_by, all_candidates, next_of, since_by, without_next}
-use Rattle.mc_seq.specs.declared.stopping.Draw.TheVariants.{Nothing}
-use Rattle.mc_seq.proofs.Candidates.{IsListed, IsTake, drawn_listed, none_left, take_same}
+use Rattle.mc_seq.specs.declared.stopping.Draw.{Draw}
+use Rattle.mc_seq.specs.declared.stopping.Draw.TheVariants.{Drawn, Nothing, Shifted, VersionEnd}
+use Rattle.mc_seq.proofs.Candidates.{IsListed, IsTake, IsTakeOrShift, drawn_listed, none_left, take_same}
 use Rattle.mc_seq.proofs.AllowedCommands.{all_kept, left_pass, next_pass}
 use Rattle.mc_seq.proofs.Nexts.{without_less}
 
@@ -40,10 +41,69 @@ goes_more start now next may made so_far more last draws =
 pub goes_last : (start last : Sight) → GoesOn start last → DrewAll start last
 goes_last start last so_far = subst (λ (turns : List Turn). DrewAll start (record { standing = last.standing; turns = turns })) (append-nil last.turns) (so_far [] last.standing refl)
 
+-- ---- one draw
+
+-- two standings of the same parts
+pub standing_is : {world next : WorldState} {left less : List Turn} {since counted : ℕ} {draws state : ℕ} {shifts spare : List ℕ} {due owed : Bool} → next ≡ world → less ≡ left → counted ≡ since → state ≡ draws → spare ≡ shifts → owed ≡ due
+    → (let s : Standing = record { world = next; left = less; since = counted; draws = state; shifts = spare; due = owed } in s)
+    ≡ (let s : Standing = record { world = world; left = left; since = since; draws = draws; shifts = shifts; due = due } in s)
+standing_is {world} {next} {left} {less} {since} {counted} {draws} {state} {shifts} {spare} {due} {owed} one two three four five six =
+    ap (λ (w : WorldState). let s : Standing = record { world = w; left = less; since = counted; draws = state; shifts = spare; due = owed } in s) one
+    ∙ (ap (λ (l : List Turn). let s : Standing = record { world = world; left = l; since = counted; draws = state; shifts = spare; due = owed } in s) two
+    ∙ (ap (λ (n : ℕ). let s : Standing = record { world = world; left = left; since = n; draws = state; shifts = spare; due = owed } in s) three
+    ∙ (ap (λ (n : ℕ). let s : Standing = record { world = world; left = left; since = since; draws = n; shifts = spare; due = owed } in s) four
+    ∙ (ap (λ (l : List ℕ). let s : Standing = record { world = world; left = left; since = since; draws = draws; shifts = l; due = owed } in s) five
+    ∙ ap (λ (b : Bool). let s : Standing = record { world = world; left = left; since = since; draws = draws; shifts = shifts; due = b } in s) six))))
+
+-- a turn that was made is called as it is
+pub tried_is : (d : Draw) (old new : Moment) (turn : Turn) → IsDrawOf turn d → TurnMade old new turn → TriedTurn old new turn d
+tried_is Drawn old new turn is made = (made, is)
+tried_is Shifted old new turn is made = (made, is)
+tried_is Nothing old new turn is made = absurd (is)
+tried_is (VersionEnd at) old new turn is made = absurd (is)
+
+-- a drawn turn that was tried
+drew_turn : (old new : Moment) (draws state : ℕ) (turn : Turn) → drawn_turn (sight_at old draws).standing ≡ Some turn → state ≡ next_state draws → TurnMade old new turn → DrewTurn (sight_at old draws) (sight_at new state)
+drew_turn old new draws state turn is moved made = record {
+  turn = turn;
+  is_drawn = is;
+  goes = made.goes;
+  moves = standing_is refl made.left made.since moved made.shifts made.due;
+  logged = made.logged;
+}
+
+pub drew_by : (d : Draw) (old new : Moment) (draws state : ℕ) (turn : Turn) → drawn_turn (sight_at old draws).standing ≡ Some turn → state ≡ next_state draws → TriedTurn old new turn d
+    → DrewOnce (sight_at old draws) (sight_at new state) d
+unfolding drew_turn
+drew_by Drawn old new draws state turn is moved tried = (drew_turn old new draws state turn is moved tried.0, tried.1)
+drew_by Shifted old new draws state turn is moved tried = (drew_turn old new draws state turn is moved tried.0, tried.1)
+drew_by Nothing old new draws state turn is moved tried = absurd (tried)
+drew_by (VersionEnd at) old new draws state turn is moved tried = record {
+  turn = turn;
+  is_drawn = is;
+  version = tried.version;
+  slot = tried.slot;
+  stays = standing_is tried.world tried.left tried.since moved tried.shifts tried.due;
+  logged = tried.logged;
+}
+
+-- a turn that was made was drawn, whatever it is
+pub made_by : (d : Draw) (now next : Sight) → (d ≡ Drawn) ⊎ (d ≡ Shifted) → DrewOnce now next d → DrewTurn now next
+made_by Drawn now next is drew = drew.0
+made_by Shifted now next is drew = drew.0
+made_by Nothing now next is drew = elim is [
+  | inl one ↦ absurd (cc)
+  | inr two ↦ absurd (cc)
+]
+made_by (VersionEnd at) now next is drew = elim is [
+  | inl one ↦ absurd (cc)
+  | inr two ↦ absurd (cc)
+]
+
 -- ---- while commands are left
 
 -- what a drawn turn is
-pub made_listed : (now next : Sight) → (made : DrewTurn now next) → IsListed now.standing.world now.standing.left (is_urgent now.standing.left now.standing.since) made.turn
+pub made_listed : (now next : Sight) → (made : DrewTurn now next) → IsListed now.standing.world now.standing.left now.standing.shifts (is_urgent now.standing.left now.standing.since) made.turn
 made_listed now next made = drawn_listed now.standing made.turn made.is_drawn
 
 -- a drawn turn leaves a sound world
@@ -87,18 +147,29 @@ command_lowers turn left since is next =
 pub take_none : (turn : Turn) (local : ℕ) → turn.event ≡ Take local → is_command turn.event ≡ false
 take_none turn local is = ap is_command is
 
--- and so does a Take
+-- neither is a Shift
+shift_none : (turn : Turn) → turn.event ≡ Shift → is_command turn.event ≡ false
+shift_none turn is = ap is_command is
+
+-- so none of the two is one
+pub other_none : (world : WorldState) (shifts : List ℕ) (turn : Turn) → IsTakeOrShift world shifts turn → is_command turn.event ≡ false
+other_none world shifts turn is = elim is [
+  | inl take ↦ take_none turn take.local take.event
+  | inr shift ↦ shift_none turn shift.event
+]
+
+-- and so does a turn that is none
 take_down : (turn : Turn) (left : List Turn) (since : ℕ) → is_command turn.event ≡ false → nat_lt since 63 ≡ true → turns_to_come (left_by turn left) (since_by turn since) < turns_to_come left since
 take_down turn left since is few =
     subst (λ (b : Bool). turns_to_come (if b then without_next turn.who left else left) (if b then 0 else (if nat_lt since 63 then since + 1 else since)) < turns_to_come left since) (sym is)
     (subst (λ (b : Bool). turns_to_come left (if b then since + 1 else since) < turns_to_come left since) (sym few) (lower_take (length left) since (few_by since 63 few)))
 
--- each listed turn is one of the two
-pub listed_lowers : (world : WorldState) (turn : Turn) (left : List Turn) (since : ℕ) → AreAllowed world left → length left ≢ 0 → IsListed world left (is_urgent left since) turn
+-- each listed turn is a command or none
+pub listed_lowers : (world : WorldState) (turn : Turn) (left : List Turn) (shifts : List ℕ) (since : ℕ) → AreAllowed world left → length left ≢ 0 → IsListed world left shifts (is_urgent left since) turn
     → turns_to_come (left_by turn left) (since_by turn since) < turns_to_come left since
-listed_lowers world turn left since allowed some is = elim is [
+listed_lowers world turn left shifts since allowed some is = elim is [
   | inl next ↦ command_lowers turn left since (allowed_parts world turn (next_pass (is_allowed world) turn.who left turn allowed next)).command next
-  | inr take ↦ take_down turn left since (take_none turn take.1.local take.1.event) (not_urgent (length left) since some take.0)
+  | inr other ↦ take_down turn left since (other_none world shifts turn other.1) (not_urgent (length left) since some other.0)
 ]
 
 -- each drawn turn lowers it, whether links make a ring or not
@@ -106,11 +177,11 @@ pub made_lowers : (now next : Sight) → DrewTurn now next → AreAllowed now.st
     → turns_to_come next.standing.left next.standing.since < turns_to_come now.standing.left now.standing.since
 made_lowers now next made allowed some =
     subst (λ (s : Standing). turns_to_come s.left s.since < turns_to_come now.standing.left now.standing.since) (sym made.moves)
-    (listed_lowers now.standing.world made.turn now.standing.left now.standing.since allowed some (made_listed now next made))
+    (listed_lowers now.standing.world made.turn now.standing.left now.standing.shifts now.standing.since allowed some (made_listed now next made))
 
 -- where commands are left, something is listed
 pub some_listed : (now : Standing) → AreAllowed now.world now.left → length now.left ≢ 0 → candidates now ≡ [] → ⊥
-some_listed now allowed some none = some (ap length (none_left now.world now.left (is_urgent now.left now.since) allowed none))
+some_listed now allowed some none = some (ap length (none_left now.world now.left now.shifts (is_urgent now.left now.since) allowed none))
 
 -- while commands are left a ring stops nothing
 pub left_goes : (now : Standing) → length now.left ≢ 0 → MayGo now
@@ -123,31 +194,42 @@ empty_is (x ∷ xs) is = absurd (omega arith)
 
 -- ---- where the batch is used up
 
--- what is listed there is a Take that waits
-take_by : (world : WorldState) (left : List Turn) (urgent : Bool) (turn : Turn) → left ≡ [] → IsListed world left urgent turn → IsTake world turn
-take_by world left urgent turn none is = elim is [
+-- what is listed there is a Take that waits, or a Shift
+other_by : (world : WorldState) (left : List Turn) (shifts : List ℕ) (urgent : Bool) (turn : Turn) → left ≡ [] → IsListed world left shifts urgent turn → IsTakeOrShift world shifts turn
+other_by world left shifts urgent turn none is = elim is [
   | inl next ↦ absurd (let there : next_of turn.who [] ≡ Some turn = subst (λ (l : List Turn). next_of turn.who l ≡ Some turn) none next in cc (there))
-  | inr take ↦ take.1
+  | inr other ↦ other.1
 ]
 
--- only Takes are drawn
-pub drawn_take : (now : Standing) (turn : Turn) → now.left ≡ [] → drawn_turn now ≡ Some turn → IsTake now.world turn
-drawn_take now turn none is = take_by now.world now.left (is_urgent now.left now.since) turn none (drawn_listed now turn is)
+-- so is what is drawn
+pub drawn_other : (now : Standing) (turn : Turn) → now.left ≡ [] → drawn_turn now ≡ Some turn → IsTakeOrShift now.world now.shifts turn
+drawn_other now turn none is = other_by now.world now.left now.shifts (is_urgent now.left now.since) turn none (drawn_listed now turn is)
+
+-- what is no Shift of the two is a Take
+no_shift : (world : WorldState) (shifts : List ℕ) (turn : Turn) → IsTakeOrShift world shifts turn → is_shift turn.event ≡ false → IsTake world turn
+no_shift world shifts turn is apart = elim is [
+  | inl take ↦ take
+  | inr shift ↦ absurd (let one : is_shift turn.event ≡ true = ap is_shift shift.event in cc (one, apart))
+]
+
+-- so but for Shifts only Takes are drawn
+pub drawn_take : (now : Standing) (turn : Turn) → now.left ≡ [] → is_shift turn.event ≡ false → drawn_turn now ≡ Some turn → IsTake now.world turn
+drawn_take now turn none apart is = no_shift now.world now.shifts turn (drawn_other now turn none is) apart
 
 -- the drawn turn is a step, as a Take
 made_step : (now next : Sight) (made : DrewTurn now next) (take : IsTake now.standing.world made.turn) → step now.standing.world (record { who = made.turn.who; event = Take take.local }) ≡ Some next.standing.world
 made_step now next made take = ap (step now.standing.world) (take_same made.turn take.local take.event) ∙ made.goes
 
 -- it lowers the measure
-pub take_lower : (now next : Sight) → DrewTurn now next → now.standing.left ≡ [] → IsRingFree now.standing.world → measure next.standing.world < measure now.standing.world
-take_lower now next made none free =
-    let take = drawn_take now.standing made.turn none made.is_drawn in
+pub take_lower : (now next : Sight) (made : DrewTurn now next) → is_shift made.turn.event ≡ false → now.standing.left ≡ [] → IsRingFree now.standing.world → measure next.standing.world < measure now.standing.world
+take_lower now next made apart none free =
+    let take = drawn_take now.standing made.turn none apart made.is_drawn in
     take_lowers now.standing.world next.standing.world made.turn.who take.local free (made_step now next made take)
 
 -- and leaves the world without a ring
-pub take_free : (now next : Sight) → DrewTurn now next → now.standing.left ≡ [] → IsRingFree now.standing.world → IsRingFree next.standing.world
-take_free now next made none free =
-    let take = drawn_take now.standing made.turn none made.is_drawn in
+pub take_free : (now next : Sight) (made : DrewTurn now next) → is_shift made.turn.event ≡ false → now.standing.left ≡ [] → IsRingFree now.standing.world → IsRingFree next.standing.world
+take_free now next made apart none free =
+    let take = drawn_take now.standing made.turn none apart made.is_drawn in
     take_stays_free now.standing.world next.standing.world made.turn.who take.local free (made_step now next made take)
 
 -- no command is taken from those that are left by a turn that is none
@@ -155,21 +237,24 @@ left_none : (b : Bool) (who : ℕ) (left : List Turn) → b ≡ false → (if b 
 left_none true who left is = absurd (cc)
 left_none false who left is = refl
 
--- a Take leaves the commands that are left
-pub take_left : (turn : Turn) (left : List Turn) (world : WorldState) → IsTake world turn → left_by turn left ≡ left
-take_left turn left world take = left_none (is_command turn.event) turn.who left (take_none turn take.local take.event)
+-- a Take and a Shift leave the commands that are left
+pub other_left : (turn : Turn) (left : List Turn) (world : WorldState) (shifts : List ℕ) → IsTakeOrShift world shifts turn → left_by turn left ≡ left
+other_left turn left world shifts is = left_none (is_command turn.event) turn.who left (other_none world shifts turn is)
 
 -- so none are left after it
 pub made_none : (now next : Sight) → DrewTurn now next → now.standing.left ≡ [] → next.standing.left ≡ []
 made_none now next made none =
-    ap (λ (s : Standing). s.left) made.moves ∙ (take_left made.turn now.standing.left now.standing.world (drawn_take now.standing made.turn none made.is_drawn) ∙ none)
+    ap (λ (s : Standing). s.left) made.moves ∙ (other_left made.turn now.standing.left now.standing.world now.standing.shifts (drawn_other now.standing made.turn none made.is_drawn) ∙ none)
 
 -- ---- what is picked
 
 -- a list that code looked at is the list of candidates
-pub list_is : (now : Standing) (list seen looked : List Turn) (urgent : Bool) → list ≡ all_candidates now.world seen urgent → seen ≡ now.left → urgent ≡ is_urgent looked now.since → looked ≡ now.left → list ≡ candidates now
-list_is now list seen looked urgent is left by looks =
-    is ∙ (ap (λ (l : List Turn). all_candidates now.world l urgent) left ∙ ap (all_candidates now.world now.left) (by ∙ ap (λ (l : List Turn). is_urgent l now.since) looks))
+pub list_is : (now : Standing) (list seen looked : List Turn) (spare : List ℕ) (urgent : Bool) → list ≡ all_candidates now.world seen spare urgent → seen ≡ now.left → spare ≡ now.shifts → urgent ≡ is_urgent looked now.since → looked ≡ now.left → list ≡ candidates now
+list_is now list seen looked spare urgent is left shifts by looks =
+    is
+    ∙ (ap (λ (l : List Turn). all_candidates now.world l spare urgent) left
+    ∙ (ap (λ (l : List ℕ). all_candidates now.world now.left l urgent) shifts
+    ∙ ap (all_candidates now.world now.left now.shifts) (by ∙ ap (λ (l : List Turn). is_urgent l now.since) looks)))
 
 -- what was picked of it is drawn
 pub picked : (now : Standing) (shown : List Turn) (turn : Turn) → shown ≡ candidates now → slice_get shown (drawn_place now.draws (length shown)) ≡ Some turn → drawn_turn now ≡ Some turn
@@ -190,18 +275,24 @@ some_by b n is other same = grind (arith, common_steps)
 
 -- ---- the last version
 
--- a Take ends no version
-version_apart : (turn : Turn) (local : ℕ) (world : WorldState) → turn.event ≡ Take local → IsTrue (ends_version world turn) → ⊥
-version_apart turn local world is ends =
-    let same : ends_version world turn ≡ (nat_lt turn.who (length world.boxes) && ends_version_at world turn.who (Take local)) = ap (λ (e : Event). nat_lt turn.who (length world.boxes) && ends_version_at world turn.who e) is in
-    let parts = and_parts (nat_lt turn.who (length world.boxes)) false (sym same ∙ ends) in
-    cc (parts.1)
+-- an event that is no Hear ends no version
+version_apart : (event : Event) (turn : Turn) (world : WorldState) → turn.event ≡ event → ends_version_at world turn.who event ≡ false → IsTrue (ends_version world turn) → ⊥
+version_apart event turn world is apart ends =
+    let same : ends_version world turn ≡ (nat_lt turn.who (length world.boxes) && ends_version_at world turn.who event) = ap (λ (e : Event). nat_lt turn.who (length world.boxes) && ends_version_at world turn.who e) is in
+    let parts = and_parts (nat_lt turn.who (length world.boxes)) (ends_version_at world turn.who event) (sym same ∙ ends) in
+    let here = parts.1 in
+    cc (here, apart)
+
+-- so neither a Take nor a Shift does
+pub other_ends_none : (world : WorldState) (shifts : List ℕ) (turn : Turn) → IsTakeOrShift world shifts turn → IsTrue (ends_version world turn) → ⊥
+other_ends_none world shifts turn is ends = elim is [
+  | inl take ↦ version_apart (Take take.local) turn world take.event refl ends
+  | inr shift ↦ version_apart Shift turn world shift.event refl ends
+]
 
 -- no version ends there
 pub never_ends : (now next : Sight) (at : ℕ) → now.standing.left ≡ [] → DrewVersionEnd now next at → ⊥
-never_ends now next at none ends =
-    let take = drawn_take now.standing ends.turn none ends.is_drawn in
-    version_apart ends.turn take.local now.standing.world take.event ends.version
+never_ends now next at none ends = other_ends_none now.standing.world now.standing.shifts ends.turn (drawn_other now.standing ends.turn none ends.is_drawn) ends.version
 
 -- ---- the ends
 

@@ -4,6 +4,8 @@ pub mod Draws
 pub mod ForEach
 pub mod Places
 pub mod Ready
+pub mod Restless
 pub mod Retries
 pub mod Schedule
+pub mod Spare
 pub mod Turns

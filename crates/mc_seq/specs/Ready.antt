@@ -1,5 +1,5 @@
 -- What a search for the k-th candidate rests on: counts by box.
-use Rattle.std.specs.Prelude.{◌≡◌, ◌<◌, ◌+◌, ℕ, List, length, sum, take, slice_get, slice_index_or}
+use Rattle.std.specs.Prelude.{◌≡◌, ◌<◌, ◌+◌, ◌++◌, ℕ, Bool, if◌then◌else◌, List, [], length, sum, take, slice_get, slice_index_or}
 use Rattle.mc_box.specs.declared.event.Turn.{Turn}
 use Rattle.mc_model.specs.Worlds.{WorldState}
 use Rattle.mc_seq.specs.ForEach.{for_each}
@@ -26,3 +26,11 @@ next_commands left boxes = for_each (command_candidates left) boxes
 -- the Takes of all boxes, box by box
 abbrev pub all_takes : WorldState → List Turn
 all_takes world = for_each (takes_of world) (length world.boxes)
+
+-- the candidates of a box without a program: its next command, and then its Takes
+abbrev pub two_candidates : WorldState → List Turn → Bool → ℕ → List Turn
+two_candidates world left urgent who = command_candidates left who ++ (if urgent then [] else takes_of world who)
+
+-- of all boxes, where none has a program
+abbrev pub all_of_two : WorldState → List Turn → Bool → List Turn
+all_of_two world left urgent = for_each (two_candidates world left urgent) (length world.boxes)

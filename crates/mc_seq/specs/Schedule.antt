@@ -1,27 +1,32 @@
 -- The schedule of a settle by draws: what can come next, and which of that is drawn.
-use Rattle.std.specs.Prelude.{◌≡◌, ℕ, ◌+◌, ◌/◌, ◌%◌, ◌==◌, ◌&&◌, not, if◌then◌else◌, Bool, false, List, [], ◌∷◌, ◌++◌, length, nat_lt, slice_get, Option, Some}
+use Rattle.std.specs.Prelude.{◌≡◌, ℕ, zero, suc, ◌+◌, ◌-◌, ◌/◌, ◌%◌, ◌==◌, ◌&&◌, ◌||◌, not, if◌then◌else◌, Bool, true, false, List, [], ◌∷◌, ◌++◌, length, nat_lt, replicate, slice_get, slice_index_or, slice_set, Option, Some}
 use Rattle.std.specs.List.{find}
 use Rattle.std.specs.Option.{option_to_list}
 use Rattle.mc_text.specs.Draws.{next_state}
-use Rattle.mc_box.specs.BoxEvents.{is_command}
-use Rattle.mc_box.specs.declared.event.Event.TheVariants.{Take}
+use Rattle.mc_box.specs.BoxEvents.{is_command, is_enabled, is_shift}
+use Rattle.mc_box.specs.declared.event.Event.TheVariants.{Shift, Take}
 use Rattle.mc_box.specs.declared.event.Turn.{Turn}
 use Rattle.mc_model.specs.Paths.{has_ring}
-use Rattle.mc_model.specs.Steps.{step}
+use Rattle.mc_model.specs.Settles.{can_shift}
+use Rattle.mc_model.specs.Steps.{run, step}
 use Rattle.mc_model.specs.Worlds.{WorldState, box_at}
 use Rattle.mc_world.specs.Waiting.{take_waits}
 use Rattle.mc_seq.specs.ForEach.{for_each}
+use Rattle.mc_seq.specs.Retries.{retries_by_box}
+use Rattle.mc_seq.specs.declared.limit.TheConstants.{SHIFT_LIMIT}
 
--- where a settle stands: its world, the commands that are left, how many turns came since its last command or its beginning, counted to 63, and the state of the draws
+-- where a settle stands: its world, the commands that are left, how many turns came since its last command or its beginning, counted to 63, the state of the draws, how many Shifts each box may still make, and whether a round of retries is due: none was made yet, or a Shift came since the last one
 pub record Standing : Type 0 where
   pub world : WorldState
   pub left : List Turn
   pub since : ℕ
   pub draws : ℕ
+  pub shifts : List ℕ
+  pub due : Bool
 
--- at the beginning all commands are left
+-- at the beginning all commands are left, and each box may make all its Shifts
 abbrev pub first_standing : WorldState → List Turn → ℕ → Standing
-first_standing world batch draws = record { world = world; left = batch; since = 0; draws = draws }
+first_standing world batch draws = record { world = world; left = batch; since = 0; draws = draws; shifts = replicate (length world.boxes) SHIFT_LIMIT; due = true }
 
 -- ---- the candidates
 
@@ -44,20 +49,31 @@ waiting_take world who local = if take_waits world who local then take_turn who 
 abbrev pub takes_of : WorldState → ℕ → List Turn
 takes_of world who = for_each (waiting_take world who) (length (box_at world who).slots)
 
+-- whether a box's program has an enabled transition, and the box may make one Shift more
+abbrev pub may_shift : WorldState → List ℕ → ℕ → Bool
+may_shift world shifts who = nat_lt 0 (slice_index_or shifts who 0) && is_enabled (box_at world who) Shift
+
+abbrev pub shift_turn : ℕ → Turn
+shift_turn who = record { who = who; event = Shift }
+
+-- that Shift, if the box may make it
+abbrev pub shift_of : WorldState → List ℕ → ℕ → List Turn
+shift_of world shifts who = if may_shift world shifts who then shift_turn who ∷ [] else []
+
 -- whether commands alone are listed: some are left, and the last 63 turns were none
 abbrev pub is_urgent : List Turn → ℕ → Bool
 is_urgent left since = not (length left == 0) && not (nat_lt since 63)
 
--- the candidates of a box: its next command; then its Takes, unless commands alone are listed. The Shift of its program would stand behind them
-abbrev pub candidates_of : WorldState → List Turn → Bool → ℕ → List Turn
-candidates_of world left urgent who = command_candidates left who ++ (if urgent then [] else takes_of world who)
+-- the candidates of a box: its next command; then its Takes and its Shift, unless commands alone are listed
+abbrev pub candidates_of : WorldState → List Turn → (shifts : List ℕ) → Bool → ℕ → List Turn
+candidates_of world left shifts urgent who = command_candidates left who ++ (if urgent then [] else takes_of world who ++ shift_of world shifts who)
 
 -- the candidates of all boxes, box by box
-abbrev pub all_candidates : WorldState → List Turn → Bool → List Turn
-all_candidates world left urgent = for_each (candidates_of world left urgent) (length world.boxes)
+abbrev pub all_candidates : WorldState → List Turn → (shifts : List ℕ) → Bool → List Turn
+all_candidates world left shifts urgent = for_each (candidates_of world left shifts urgent) (length world.boxes)
 
 abbrev pub candidates : Standing → List Turn
-candidates now = all_candidates now.world now.left (is_urgent now.left now.since)
+candidates now = all_candidates now.world now.left now.shifts (is_urgent now.left now.since)
 
 -- ---- a turn
 
@@ -80,9 +96,17 @@ left_by turn left = if is_command turn.event then without_next turn.who left els
 abbrev pub since_by : Turn → ℕ → ℕ
 since_by turn since = if is_command turn.event then 0 else (if nat_lt since 63 then since + 1 else since)
 
+-- a Shift is one of those that its box may make
+abbrev pub shifts_by : Turn → List ℕ → List ℕ
+shifts_by turn shifts = if is_shift turn.event then slice_set shifts turn.who (slice_index_or shifts turn.who 0 - 1) else shifts
+
+-- and makes a round of retries due
+abbrev pub due_by : Turn → Bool → Bool
+due_by turn due = is_shift turn.event || due
+
 -- the standing after a drawn turn that led to this world
 abbrev pub standing_after : Standing → Turn → WorldState → Standing
-standing_after now turn next = record { world = next; left = left_by turn now.left; since = since_by turn now.since; draws = next_state now.draws }
+standing_after now turn next = record { world = next; left = left_by turn now.left; since = since_by turn now.since; draws = next_state now.draws; shifts = shifts_by turn now.shifts; due = due_by turn now.due }
 
 -- where the batch is used up there is no ring
 abbrev pub MayGo : Standing → Type 0
@@ -92,3 +116,24 @@ MayGo now = now.left ≡ [] → has_ring now.world ≡ false
 abbrev pub AreDrawn : Standing → List Turn → Standing → Type 0
 AreDrawn now [] last = now ≡ last
 AreDrawn now (turn ∷ turns) last = (next : WorldState) × MayGo now × (drawn_turn now ≡ Some turn) × (step now.world turn ≡ Some next) × AreDrawn (standing_after now turn next) turns last
+
+-- ---- rounds of retries
+
+-- nothing can come: nothing is listed, no box's program has an enabled transition, and there is no ring
+pub record IsStill (now : Standing) : Type 0 where
+  pub none : candidates now ≡ []
+  pub no_shift : can_shift now.world ≡ false
+  pub no_ring : has_ring now.world ≡ false
+
+-- where a round is due, each owed retry is made, without draws, and then no round is due
+pub record MakesRound (now next : Standing) : Type 0 where
+  pub still : IsStill now
+  pub was_due : now.due ≡ true
+  pub retries : run now.world (retries_by_box now.world) ≡ Some next.world
+  pub then_not : next ≡ record now { world = next.world; due = false }
+
+-- so many rounds, with drawn turns before each of them and behind the last, lead from one standing to another
+abbrev pub Goes : (rounds : ℕ) → Standing → List Turn → Standing → Type 0
+Goes zero now turns last = AreDrawn now turns last
+Goes (suc rounds) now turns last = (first : List Turn) × (rest : List Turn) × (still : Standing) × (next : Standing)
+    × (turns ≡ first ++ (retries_by_box still.world ++ rest)) × AreDrawn now first still × MakesRound still next × Goes rounds next rest last

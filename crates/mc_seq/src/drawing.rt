@@ -1,44 +1,50 @@
 // A settle by draws, of which a turn takes no longer in a larger network.
 
-ghost use Rattle.std.specs.Prelude.{◌≡◌, ◌<◌, ◌%◌, [], false, length, IfOk, IfErr, OnOk};
+ghost use Rattle.std.specs.Prelude.{◌≡◌, ℕ, ◌<◌, ◌%◌, [], false, is_some, length, IfOk, IfErr, OnOk};
 ghost use Rattle.mc_model.specs.Shapes.{AreAllowed};
 ghost use Rattle.mc_model.specs.Paths.{has_ring};
+ghost use Rattle.mc_model.specs.Rings.{IsLeastOnRing};
 ghost use Rattle.mc_model.specs.Settles.{IsSettled};
-ghost use Rattle.mc_model.specs.Unprogrammed.{HasNoPrograms};
-ghost use Rattle.mc_model.specs.Worlds.{place, slot_count};
 ghost use Rattle.mc_seq.specs.Commands.{AreKept, AreKeptFor, commands_left};
 ghost use Rattle.mc_seq.specs.Draws.{SettlesByDraws, StopsByDraws};
-ghost use Rattle.mc_seq.specs.Drawing.{CameToRest, DrewOnce, MayCome, Picks, TriedTurn, UsedUp, moment_of, sight_of};
+ghost use Rattle.mc_seq.specs.Drawing.{CameTo, DrewOn, DrewOnce, Ended, IsKept, MayCome, Picks, RoundMade, TriedTurn, UsedUp};
+ghost use Rattle.mc_seq.specs.Drawing.{first_sight, moment_of, sight_of};
+ghost use Rattle.mc_seq.specs.Restless.{IsFirstShifterOr};
 ghost use Rattle.mc_seq.specs.Schedule.{is_urgent, left_by, since_by};
 
 use crate::batches::is_command;
 use crate::commands::{Commands, all_commands, drop_command};
-use crate::fault::{SettleFault, Stopped};
+use crate::fault::SettleFault;
 use crate::finding::{candidate_count, kth};
 use crate::retrying::retry_by_box;
-use crate::stopping::{Draw, heard_slot, stop_at};
+use crate::shifting::{Shifts, all_shifts, count_programmed, recount_all};
+use crate::stopping::{Draw, Ending, answer, first_shifter, heard_slot};
 use mc_box::Turn;
 use mc_text::Draws;
 use mc_world::{Settled, StepFault, World};
 use std::alloc::{AllocError, Global};
 
-// Where a settle stands: its world and its turns so far, the commands that are left, and how many turns came since
-// the last command or the beginning, counted to 63.
+// Where a settle stands: its world and its turns so far, the commands that are left, how many turns came since the
+// last command or the beginning, counted to 63, the Shifts that boxes may still make, where some box has a program, and
+// whether a round of retries is due.
 #[derive(Debug, Drop)]
 struct Sitting {
     settled: Settled,
     left: Commands,
     since: u8,
+    shifts: Option<Shifts>,
+    due: bool,
 }
 
-/// Settles a batch by draws. Each turn is drawn among those that can come: the next command of each box, and a Take of
-/// each slot for which a signal waits. After 63 turns that were no commands only commands are drawn, while any are
-/// left.
-/// Where the batch is used up and nothing can come, each retry that is owed is made, once in a settle, and turns are
-/// drawn again.
+/// Settles a batch by draws. Each turn is drawn among those that can come: the next command of each box, a Take of each
+/// slot for which a signal waits, and the Shift of each box whose program has an enabled transition and that has made
+/// fewer than `SHIFT_LIMIT` of them. After 63 turns that were no commands only commands are drawn, while any are left.
+/// Where the batch is used up and nothing can come, each retry that is owed is made, once and again whenever a Shift
+/// came since, and turns are drawn again.
 ///
-/// The world allows each command, and no box of it has a program: no Shift is made yet. It always ends: at rest, at a
-/// ring of links that the batch left, or at a Hear of a descriptor that has the last version; or for want of memory.
+/// The world allows each command. It always ends: at rest, at a ring of links that the batch or a Shift left, at a box
+/// that has made all its Shifts and has one more enabled, or at a Hear of a descriptor that has the last version; or for
+/// want of memory.
 ///
 /// The world and the commands that are left keep how many candidates each box has, in trees of sums. So the time of a
 /// turn hangs on its box, and beside that on the network's size by its logarithm alone.
@@ -48,32 +54,34 @@ pub fn settle_one(
     batch: &[Turn],
     draws: &mut Draws,
 ) -> Result<Settled, SettleFault>
-    requires allowed { AreAllowed world batch.now }
-    requires unprogrammed { HasNoPrograms world }
+    requires { AreAllowed world batch.now }
     ensures scheduled { IfOk result (SettlesByDraws world batch.now draws.old.state draws.new.state) }
     ensures settled { IfOk result (λ done. IsSettled world batch.now done.turns.items done.world) }
     ensures stops { IfErr result (StopsByDraws world batch.now draws.old.state draws.new.state) }
 {
     world.keeps();
+    let mut sitting = sit(alloc, world, batch)?;
+    let ending = settle(&mut sitting, draws)?;
+    answer(settled_by(sitting), ending)
+}
+
+// Where a settle begins.
+fn sit(alloc: Global, world: World, batch: &[Turn]) -> Result<Sitting, AllocError>
+    requires { AreAllowed world batch.now }
+    ensures kept { IfOk result IsKept }
+    ensures begins { IfOk result (λ sitting. (draws : ℕ) → sight_of sitting draws ≡ first_sight world batch.now draws) }
+{
     let left = all_commands(alloc, &world, batch)?;
+    let shifts = all_shifts(alloc, &world, &left)?;
     let turns = Vec::new(alloc);
     let settled = Settled { world, turns };
-    let mut sitting = Sitting {
+    Ok(Sitting {
         settled,
         left,
         since: 0,
-    };
-    if let Some(at) = use_up(&mut sitting, draws)? {
-        return Err(SettleFault::VersionEnd(stopped(sitting, at)));
-    }
-    if let Some(at) = sitting.settled.world.find_ring() {
-        return Err(SettleFault::Ring(stopped(sitting, at)));
-    }
-    come_to_rest(&mut sitting, draws)?;
-    sitting.settled.world.keeps();
-    retry_by_box(&mut sitting.settled)?;
-    come_to_rest(&mut sitting, draws)?;
-    Ok(settled_by(sitting))
+        shifts,
+        due: true,
+    })
 }
 
 // The world and the turns of a settle.
@@ -84,31 +92,35 @@ fn settled_by(sitting: Sitting) -> Settled
         settled,
         left: _,
         since: _,
+        shifts: _,
+        due: _,
     } = sitting;
     settled
 }
 
-// The turns of a settle that stops at a slot.
-fn stopped(sitting: Sitting, at: u32) -> Stopped
-    requires { at < slot_count sitting.settled.world }
-    ensures at { result.at ≡ at }
-    ensures place { result.place ≡ place sitting.settled.world at }
-    ensures turns { result.turns.items ≡ sitting.settled.turns.items }
+// Makes all the turns of a settle.
+fn settle(sitting: &mut Sitting, draws: &mut Draws) -> Result<Ending, AllocError>
+    requires allowed { AreAllowed sitting.old.settled.world (commands_left sitting.old.left) }
+    requires kept { IsKept sitting.old }
+    ensures { IfOk result (Ended (sight_of sitting.old draws.old.state) (sight_of sitting.new draws.new.state)) }
 {
-    stop_at(settled_by(sitting), at)
+    if let Some(at) = use_up(sitting, draws)? {
+        return Ok(Ending::LastVersion(at));
+    }
+    finish(sitting, draws)
 }
 
 // Draws until the batch is used up, or to the last version of a slot.
 fn use_up(sitting: &mut Sitting, draws: &mut Draws) -> Result<Option<u32>, AllocError>
     requires allowed { AreAllowed sitting.old.settled.world (commands_left sitting.old.left) }
-    requires kept { AreKeptFor sitting.old.settled.world sitting.old.left }
+    requires kept { IsKept sitting.old }
     ensures drew { IfOk result (UsedUp (sight_of sitting.old draws.old.state) (sight_of sitting.new draws.new.state)) }
-    ensures kept { OnOk result (AreKeptFor sitting.new.settled.world sitting.new.left) }
+    ensures kept { OnOk result (IsKept sitting.new) }
 {
     sitting.settled.world.keeps();
     'commands: while sitting.left.count > 0 {
         match draw_once(sitting, draws)? {
-            Draw::Drawn => {}
+            Draw::Drawn | Draw::Shifted => {}
             Draw::Nothing => unreachable!(),
             Draw::VersionEnd(at) => return Ok(Some(at)),
         }
@@ -116,19 +128,91 @@ fn use_up(sitting: &mut Sitting, draws: &mut Draws) -> Result<Option<u32>, Alloc
     Ok(None)
 }
 
-// Draws until nothing is listed, where the batch is used up. Where there is no ring, that ends.
-fn come_to_rest(sitting: &mut Sitting, draws: &mut Draws) -> Result<(), AllocError>
+// Behind the batch: comes to rest again and again, with a round of retries between.
+fn finish(sitting: &mut Sitting, draws: &mut Draws) -> Result<Ending, AllocError>
+    requires used_up { commands_left sitting.old.left ≡ [] }
+    requires kept { IsKept sitting.old }
+    ensures { IfOk result (Ended (sight_of sitting.old draws.old.state) (sight_of sitting.new draws.new.state)) }
+{
+    'rounds: loop {
+        if let Some(at) = come_to_rest(sitting, draws)? {
+            return Ok(Ending::Ring(at));
+        }
+        if let Some(at) = shifter(sitting) {
+            return Ok(Ending::Restless(at));
+        }
+        if !sitting.due {
+            return Ok(Ending::Rest);
+        }
+        make_round(sitting)?;
+    }
+}
+
+// The first box whose program has an enabled transition.
+fn shifter(sitting: &Sitting) -> Option<u32>
+    requires { IsKept sitting.now }
+    ensures { IsFirstShifterOr sitting.now.settled.world result }
+{
+    match sitting.shifts {
+        None => None,
+        Some(_) => first_shifter(&sitting.settled.world),
+    }
+}
+
+// Makes each retry that is owed.
+fn make_round(sitting: &mut Sitting) -> Result<(), AllocError>
+    requires { IsKept sitting.old }
+    ensures made { OnOk result (RoundMade (moment_of sitting.old) (moment_of sitting.new)) }
+    ensures kept { OnOk result (IsKept sitting.new) }
+{
+    sitting.settled.world.keeps();
+    retry_by_box(&mut sitting.settled)?;
+    recount_all(&mut sitting.shifts, &sitting.settled.world, &sitting.left);
+    sitting.due = false;
+    Ok(())
+}
+
+// Draws until nothing is listed, or there is a ring, where the batch is used up. Only a Shift can make one.
+fn come_to_rest(sitting: &mut Sitting, draws: &mut Draws) -> Result<Option<u32>, AllocError>
+    requires used_up { commands_left sitting.old.left ≡ [] }
+    requires kept { IsKept sitting.old }
+    ensures came { IfOk result (CameTo (sight_of sitting.old draws.old.state) (sight_of sitting.new draws.new.state)) }
+    ensures kept { OnOk result (IsKept sitting.new) }
+{
+    'stretches: loop {
+        if let Some(at) = find_ring(sitting) {
+            return Ok(Some(at));
+        }
+        if !draw_on(sitting, draws)? {
+            return Ok(None);
+        }
+    }
+}
+
+// The least slot on a ring, if there is one.
+fn find_ring(sitting: &mut Sitting) -> Option<u32>
+    ensures same { sitting.new ≡ sitting.old }
+    ensures least { IsLeastOnRing sitting.old.settled.world result }
+    ensures has { has_ring sitting.old.settled.world ≡ is_some result }
+{
+    sitting.settled.world.find_ring()
+}
+
+// Draws until nothing is listed, or a Shift was made, where the batch is used up and there is no ring. Tells whether
+// one was.
+fn draw_on(sitting: &mut Sitting, draws: &mut Draws) -> Result<bool, AllocError>
     requires used_up { commands_left sitting.old.left ≡ [] }
     requires free { has_ring sitting.old.settled.world ≡ false }
-    requires kept { AreKeptFor sitting.old.settled.world sitting.old.left }
-    ensures rests { OnOk result (CameToRest (sight_of sitting.old draws.old.state) (sight_of sitting.new draws.new.state)) }
-    ensures kept { OnOk result (AreKeptFor sitting.new.settled.world sitting.new.left) }
+    requires kept { IsKept sitting.old }
+    ensures drew { IfOk result (DrewOn (sight_of sitting.old draws.old.state) (sight_of sitting.new draws.new.state)) }
+    ensures kept { OnOk result (IsKept sitting.new) }
 {
     sitting.settled.world.keeps();
     'takes: loop {
         match draw_once(sitting, draws)? {
             Draw::Drawn => {}
-            Draw::Nothing => return Ok(()),
+            Draw::Shifted => return Ok(true),
+            Draw::Nothing => return Ok(false),
             Draw::VersionEnd(_) => unreachable!(),
         }
     }
@@ -137,9 +221,9 @@ fn come_to_rest(sitting: &mut Sitting, draws: &mut Draws) -> Result<(), AllocErr
 // Draws once, where anything is listed, and makes the turn that is drawn.
 fn draw_once(sitting: &mut Sitting, draws: &mut Draws) -> Result<Draw, AllocError>
     requires allowed { AreAllowed sitting.old.settled.world (commands_left sitting.old.left) }
-    requires kept { AreKeptFor sitting.old.settled.world sitting.old.left }
+    requires kept { IsKept sitting.old }
     ensures drew { IfOk result (DrewOnce (sight_of sitting.old draws.old.state) (sight_of sitting.new draws.new.state)) }
-    ensures kept { OnOk result (AreKeptFor sitting.new.settled.world sitting.new.left) }
+    ensures kept { OnOk result (IsKept sitting.new) }
 {
     sitting.settled.world.keeps();
     match pick(sitting, draws) {
@@ -150,16 +234,27 @@ fn draw_once(sitting: &mut Sitting, draws: &mut Draws) -> Result<Draw, AllocErro
 
 // The candidate that is drawn; none where there is none, and then nothing is drawn.
 fn pick(sitting: &Sitting, draws: &mut Draws) -> Option<Turn>
-    requires { AreKeptFor sitting.now.settled.world sitting.now.left }
+    requires { IsKept sitting.now }
     ensures { Picks (sight_of sitting.now draws.old.state).standing draws.new.state result }
 {
     let urgent = is_urgent(&sitting.left, sitting.since);
-    let count = candidate_count(&sitting.settled.world, &sitting.left, urgent);
+    let count = candidate_count(
+        &sitting.settled.world,
+        &sitting.left,
+        &sitting.shifts,
+        urgent,
+    );
     if count == 0 {
         return None;
     }
     let k = modulo(draws.draw(), count);
-    Some(kth(&sitting.settled.world, &sitting.left, urgent, k))
+    Some(kth(
+        &sitting.settled.world,
+        &sitting.left,
+        &sitting.shifts,
+        urgent,
+        k,
+    ))
 }
 
 // A draw modulo a count. Few are counted as a rule, and a remainder by a constant takes no division.
@@ -199,16 +294,22 @@ fn is_urgent(left: &Commands, since: u8) -> bool
 // Makes a turn, unless it ends a version.
 fn try_turn(sitting: &mut Sitting, turn: Turn) -> Result<Draw, AllocError>
     requires comes { MayCome sitting.old.settled.world turn }
-    requires kept { AreKeptFor sitting.old.settled.world sitting.old.left }
+    requires kept { IsKept sitting.old }
     ensures tried { IfOk result (TriedTurn (moment_of sitting.old) (moment_of sitting.new) turn) }
-    ensures kept { OnOk result (AreKeptFor sitting.new.settled.world sitting.new.left) }
+    ensures kept { OnOk result (IsKept sitting.new) }
 {
     sitting.settled.world.keeps();
     match sitting.settled.world.step(turn.who, turn.event) {
         Ok(()) => {
             sitting.settled.turns.push(turn)?;
             count(&mut sitting.left, &mut sitting.since, turn);
-            Ok(Draw::Drawn)
+            Ok(count_programmed(
+                &mut sitting.shifts,
+                &mut sitting.due,
+                &sitting.settled.world,
+                &sitting.left,
+                turn,
+            ))
         }
         Err(StepFault::VersionEnd) => {
             Ok(Draw::VersionEnd(heard_slot(&sitting.settled.world, turn)))

@@ -14,13 +14,23 @@ pub struct Stopped {
     pub turns: Vec<Turn>,
 }
 
+/// The box at which a settle stopped, and the turns until then.
+#[derive(Debug, Drop)]
+pub struct StoppedBox {
+    pub at: u32,
+    pub turns: Vec<Turn>,
+}
+
 /// Why a batch isn't settled.
 #[derive(Debug, Drop)]
 pub enum SettleFault {
     /// The next command of a box is a Hear of a slot whose descriptor has the last version.
     VersionEnd(Stopped),
-    /// The batch is used up, and this is the least slot on a ring then.
+    /// The batch is used up, and this is the least slot on a ring then; a Shift may have made the ring, too.
     Ring(Stopped),
+    /// The batch is used up and nothing is under way, but programs don't come to rest: this is the least box that has
+    /// made all its Shifts of this settle and has one more enabled.
+    Restless(StoppedBox),
     NoMemory(AllocError),
 }
 

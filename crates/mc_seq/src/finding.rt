@@ -1,18 +1,50 @@
 // How many candidates there are, and the k-th of them, without a list of them.
 
-ghost use Rattle.std.specs.Prelude.{◌≡◌, ◌<◌, false, Some, length, slice_get};
+ghost use Rattle.std.specs.Prelude.{◌≡◌, ◌<◌, ◌++◌, false, Some, length, slice_get};
 ghost use Rattle.mc_seq.specs.Commands.{AreKept, AreKeptFor, commands_left};
-ghost use Rattle.mc_seq.specs.Ready.{all_takes, next_commands};
-ghost use Rattle.mc_seq.specs.Schedule.{all_candidates, candidates_of, takes_of};
+ghost use Rattle.mc_seq.specs.Ready.{all_of_two, all_takes, next_commands, two_candidates};
+ghost use Rattle.mc_seq.specs.Schedule.{all_candidates, candidates_of, shift_of, takes_of};
+ghost use Rattle.mc_seq.specs.Spare.{AreShiftsCounted, AreShiftsKept, spare_of};
 
 use crate::commands::{Commands, next_command};
+use crate::shifting::Shifts;
 use mc_box::{Event, Turn};
 use mc_world::World;
 
 /// How many candidates there are.
-pub fn candidate_count(world: &World, left: &Commands, urgent: bool) -> u64
+#[inline]
+pub fn candidate_count(world: &World, left: &Commands, shifts: &Option<Shifts>, urgent: bool) -> u64
+    requires kept { AreKeptFor world.now left.now }
+    requires shifts { AreShiftsKept world.now (commands_left left.now) shifts.now }
+    ensures { result ≡ length (all_candidates world.now (commands_left left.now) (spare_of world.now shifts.now) urgent) }
+{
+    match shifts {
+        None => count_of_two(world, left, urgent),
+        Some(counted) => count_of_three(world, left, counted, urgent),
+    }
+}
+
+/// The k-th candidate.
+#[inline]
+pub fn kth(world: &World, left: &Commands, shifts: &Option<Shifts>, urgent: bool, k: u64) -> Turn
+    requires kept { AreKeptFor world.now left.now }
+    requires shifts { AreShiftsKept world.now (commands_left left.now) shifts.now }
+    requires inside { k < length (all_candidates world.now (commands_left left.now) (spare_of world.now shifts.now) urgent) }
+    ensures { slice_get (all_candidates world.now (commands_left left.now) (spare_of world.now shifts.now) urgent) k
+        ≡ Some result }
+{
+    match shifts {
+        None => kth_of_two(world, left, urgent, k),
+        Some(counted) => kth_of_three(world, left, counted, urgent, k),
+    }
+}
+
+// ---- where no box has a program
+
+// How many next commands and Takes there are.
+fn count_of_two(world: &World, left: &Commands, urgent: bool) -> u64
     requires { AreKeptFor world.now left.now }
-    ensures { result ≡ length (all_candidates world.now (commands_left left.now) urgent) }
+    ensures { result ≡ length (all_of_two world.now (commands_left left.now) urgent) }
 {
     if urgent {
         return left.next.total();
@@ -26,11 +58,11 @@ pub fn candidate_count(world: &World, left: &Commands, urgent: bool) -> u64
     left.next.total() + takes.total()
 }
 
-/// The k-th candidate.
-pub fn kth(world: &World, left: &Commands, urgent: bool, k: u64) -> Turn
+// The k-th of them.
+fn kth_of_two(world: &World, left: &Commands, urgent: bool, k: u64) -> Turn
     requires kept { AreKeptFor world.now left.now }
-    requires inside { k < length (all_candidates world.now (commands_left left.now) urgent) }
-    ensures { slice_get (all_candidates world.now (commands_left left.now) urgent) k ≡ Some result }
+    requires inside { k < length (all_of_two world.now (commands_left left.now) urgent) }
+    ensures { slice_get (all_of_two world.now (commands_left left.now) urgent) k ≡ Some result }
 {
     if urgent {
         return kth_command(left, k);
@@ -68,8 +100,8 @@ fn kth_take(world: &World, k: u64) -> Turn
 // The k-th among next commands and Takes.
 fn kth_of_both(world: &World, left: &Commands, k: u64) -> Turn
     requires kept { AreKeptFor world.now left.now }
-    requires inside { k < length (all_candidates world.now (commands_left left.now) false) }
-    ensures { slice_get (all_candidates world.now (commands_left left.now) false) k ≡ Some result }
+    requires inside { k < length (all_of_two world.now (commands_left left.now) false) }
+    ensures { slice_get (all_of_two world.now (commands_left left.now) false) k ≡ Some result }
 {
     world.keeps();
     let (who, rest) = world.takes().find_in_both(&left.next, k);
@@ -79,8 +111,8 @@ fn kth_of_both(world: &World, left: &Commands, k: u64) -> Turn
 // The k-th of a box: its next command comes first.
 fn kth_of_box(world: &World, left: &Commands, who: u32, k: u64) -> Turn
     requires kept { AreKept left.now }
-    requires inside { k < length (candidates_of world.now (commands_left left.now) false who) }
-    ensures { slice_get (candidates_of world.now (commands_left left.now) false who) k ≡ Some result }
+    requires inside { k < length (two_candidates world.now (commands_left left.now) false who) }
+    ensures { slice_get (two_candidates world.now (commands_left left.now) false who) k ≡ Some result }
 {
     match next_command(left, who) {
         Some(turn) => {
@@ -101,4 +133,70 @@ fn kth_take_of(world: &World, who: u32, k: u64) -> Turn
 {
     let event = Event::Take(world.kth_take(who, k));
     Turn { who, event }
+}
+
+// ---- where some box has a program
+
+// How many next commands, Takes and Shifts there are.
+fn count_of_three(world: &World, left: &Commands, shifts: &Shifts, urgent: bool) -> u64
+    requires kept { AreKeptFor world.now left.now }
+    requires shifts { AreShiftsCounted world.now (commands_left left.now) shifts.now }
+    ensures { result ≡ length (all_candidates world.now (commands_left left.now) shifts.now.spare.items urgent) }
+{
+    if urgent {
+        return left.next.total();
+    }
+    let takes = world.takes();
+    shifts.others.keeps();
+    takes.keeps();
+    shifts.others.total() + takes.total()
+}
+
+// The k-th of them.
+fn kth_of_three(world: &World, left: &Commands, shifts: &Shifts, urgent: bool, k: u64) -> Turn
+    requires kept { AreKeptFor world.now left.now }
+    requires shifts { AreShiftsCounted world.now (commands_left left.now) shifts.now }
+    requires inside { k < length (all_candidates world.now (commands_left left.now) shifts.now.spare.items urgent) }
+    ensures { slice_get (all_candidates world.now (commands_left left.now) shifts.now.spare.items urgent) k
+        ≡ Some result }
+{
+    if urgent {
+        return kth_command(left, k);
+    }
+    world.keeps();
+    let (who, rest) = world.takes().find_in_both(&shifts.others, k);
+    kth_at_box(world, left, &shifts.spare, who as u32, rest)
+}
+
+// The k-th of a box: its next command comes first.
+fn kth_at_box(world: &World, left: &Commands, spare: &[u16], who: u32, k: u64) -> Turn
+    requires kept { AreKept left.now }
+    requires there { who < length world.now.boxes }
+    requires inside { k < length (candidates_of world.now (commands_left left.now) spare.now false who) }
+    ensures { slice_get (candidates_of world.now (commands_left left.now) spare.now false who) k ≡ Some result }
+{
+    match next_command(left, who) {
+        Some(turn) => {
+            if k == 0 {
+                turn
+            } else {
+                kth_behind(world, spare, who, k - 1)
+            }
+        }
+        None => kth_behind(world, spare, who, k),
+    }
+}
+
+// The k-th behind it: the Shift comes last.
+fn kth_behind(world: &World, spare: &[u16], who: u32, k: u64) -> Turn
+    requires there { who < length world.now.boxes }
+    requires inside { k < length (takes_of world.now who ++ shift_of world.now spare.now who) }
+    ensures { slice_get (takes_of world.now who ++ shift_of world.now spare.now who) k ≡ Some result }
+{
+    if k < world.takes().get(who as usize) {
+        kth_take_of(world, who, k)
+    } else {
+        let event = Event::Shift;
+        Turn { who, event }
+    }
 }

@@ -1,9 +1,9 @@
 //! Laws of settles on one thread, over the definitions alone.
 
-ghost use Rattle.mc_seq.specs.Draws.{DrawsEnd, ScheduleIsOne, ScheduleSettles, TakesEndDraws};
+ghost use Rattle.mc_seq.specs.Draws.{DrawsEnd, RoundsAreFew, ScheduleIsOne, ScheduleSettles, ShiftsAreFew, TakesEndDraws};
 ghost use Rattle.mc_seq.specs.Ready.{CountIsSum, KthIsFound};
 
-/// Turns by the schedule of draws are a settled segment for their batch, where no box has a program.
+/// Turns by the schedule of draws are a settled segment for their batch.
 pub fn schedule_settles()
     ensures { ScheduleSettles }
 {}
@@ -28,7 +28,17 @@ pub fn draws_end()
     ensures { DrawsEnd }
 {}
 
-/// Where none are left, and there is no ring, each drawn turn lowers the measure of Takes.
+/// Where none are left, and there is no ring, each drawn turn that is no Shift lowers the measure of Takes.
 pub fn takes_end_draws()
     ensures { TakesEndDraws }
+{}
+
+/// Each box makes few Shifts in a settle.
+pub fn shifts_are_few()
+    ensures { ShiftsAreFew }
+{}
+
+/// There is at most one round of retries more than there are Shifts.
+pub fn rounds_are_few()
+    ensures { RoundsAreFew }
 {}

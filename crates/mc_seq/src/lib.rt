@@ -7,13 +7,16 @@ mod drawing;
 mod fault;
 mod finding;
 pub mod laws;
+mod limit;
 mod listing;
 mod plain;
 mod retrying;
+mod shifting;
 mod stopping;
 mod turns;
 
 pub use batches::{fits, has_programs};
 pub use drawing::settle_one;
-pub use fault::{SettleFault, Stopped};
+pub use fault::{SettleFault, Stopped, StoppedBox};
+pub use limit::SHIFT_LIMIT;
 pub use plain::settle_plainly;

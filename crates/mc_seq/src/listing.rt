@@ -1,9 +1,10 @@
 // What can come next in a settle by draws.
 
 ghost use Rattle.std.specs.Prelude.{◌≡◌, ◌<◌, ◌++◌, length, OnOk, IfOk};
-ghost use Rattle.mc_seq.specs.Schedule.{all_candidates, candidates_of, is_urgent, next_of, takes_of, waiting_take};
+ghost use Rattle.mc_seq.specs.Schedule.{all_candidates, candidates_of, is_urgent, next_of, shift_of, takes_of, waiting_take};
 ghost use Rattle.mc_world.specs.Waiting.{take_waits};
 
+use crate::shifting::may_shift;
 use mc_box::{Event, Turn};
 use mc_world::World;
 use std::alloc::{AllocError, Global};
@@ -41,6 +42,23 @@ fn list_takes(world: &World, who: u32, list: &mut Vec<Turn>) -> Result<(), Alloc
     Ok(())
 }
 
+// Lists the Shift of a box, if it may make one.
+fn list_shift(
+    world: &World,
+    spare: &[u16],
+    who: u32,
+    list: &mut Vec<Turn>,
+) -> Result<(), AllocError>
+    requires { who < length world.now.boxes }
+    ensures { OnOk result (list.new.items ≡ list.old.items ++ shift_of world.now spare.now who) }
+{
+    if may_shift(world, spare, who) {
+        let event = Event::Shift;
+        list.push(Turn { who, event })?;
+    }
+    Ok(())
+}
+
 // The next command of a box.
 fn next_of(who: u32, left: &[Turn]) -> Option<Turn>
     ensures { result ≡ next_of who left.now }
@@ -52,12 +70,13 @@ fn next_of(who: u32, left: &[Turn]) -> Option<Turn>
 fn list_box(
     world: &World,
     left: &[Turn],
+    spare: &[u16],
     urgent: bool,
     who: u32,
     list: &mut Vec<Turn>,
 ) -> Result<(), AllocError>
     requires { who < length world.now.boxes }
-    ensures { OnOk result (list.new.items ≡ list.old.items ++ candidates_of world.now left.now urgent who) }
+    ensures { OnOk result (list.new.items ≡ list.old.items ++ candidates_of world.now left.now spare.now urgent who) }
 {
     if let Some(turn) = next_of(who, left) {
         list.push(turn)?;
@@ -65,7 +84,8 @@ fn list_box(
     if urgent {
         return Ok(());
     }
-    list_takes(world, who, list)
+    list_takes(world, who, list)?;
+    list_shift(world, spare, who, list)
 }
 
 // The candidates of all boxes, box by box.
@@ -73,14 +93,15 @@ pub fn all_candidates(
     alloc: Global,
     world: &World,
     left: &[Turn],
+    spare: &[u16],
     urgent: bool,
 ) -> Result<Vec<Turn>, AllocError>
-    ensures { IfOk result (λ list. list.items ≡ all_candidates world.now left.now urgent) }
+    ensures { IfOk result (λ list. list.items ≡ all_candidates world.now left.now spare.now urgent) }
 {
     world.keeps();
     let mut list = Vec::new(alloc);
     for who in 0..world.boxes().len() {
-        list_box(world, left, urgent, who as u32, &mut list)?;
+        list_box(world, left, spare, urgent, who as u32, &mut list)?;
     }
     Ok(list)
 }

@@ -1,34 +1,38 @@
 // A settle by draws that lists all candidates at each turn, as the schedule is told. Tests compare it with the one that
 // programs make.
 
-ghost use Rattle.std.specs.Prelude.{◌≡◌, ◌==◌, ◌<◌, [], false, length, position, Some, IfOk, IfErr, OnOk, slice_get};
+ghost use Rattle.std.specs.Prelude.{◌≡◌, ℕ, ◌==◌, ◌<◌, [], false, length, position, Some, IfOk, IfErr, OnOk, slice_get};
 ghost use Rattle.mc_text.specs.Draws.{next_state};
 ghost use Rattle.mc_model.specs.Shapes.{AreAllowed};
 ghost use Rattle.mc_model.specs.Paths.{has_ring};
 ghost use Rattle.mc_model.specs.Settles.{IsSettled};
-ghost use Rattle.mc_model.specs.Unprogrammed.{HasNoPrograms};
-ghost use Rattle.mc_model.specs.Worlds.{place, slot_count};
 ghost use Rattle.mc_seq.specs.Draws.{SettlesByDraws, StopsByDraws};
-ghost use Rattle.mc_seq.specs.Drawing.{CameToRest, DrewOnce, MayCome, TriedTurn, UsedUp, plain_moment, plain_sight};
+ghost use Rattle.mc_seq.specs.Drawing.{CameTo, DrewOn, DrewOnce, Ended, MayCome, RoundMade, TriedTurn, UsedUp};
+ghost use Rattle.mc_seq.specs.Drawing.{first_sight, plain_moment, plain_sight};
 ghost use Rattle.mc_seq.specs.Schedule.{drawn_place, left_by, since_by, without_next};
 
 use crate::batches::is_command;
-use crate::fault::{SettleFault, Stopped};
+use crate::fault::SettleFault;
+use crate::limit::SHIFT_LIMIT;
 use crate::listing::{all_candidates, is_urgent};
 use crate::retrying::retry_by_box;
-use crate::stopping::{Draw, heard_slot, stop_at};
+use crate::shifting::count_shift;
+use crate::stopping::{Draw, Ending, answer, first_shifter, heard_slot};
 use mc_box::Turn;
 use mc_text::Draws;
 use mc_world::{Settled, StepFault, World};
 use std::alloc::{AllocError, Global};
 
-// Where a settle stands: its world and its turns so far, the commands that are left, and how many turns came since
-// the last command or the beginning, counted to 63.
+// Where a settle stands: its world and its turns so far, the commands that are left, how many turns came since the
+// last command or the beginning, counted to 63, how many Shifts each box may still make, and whether a round of retries
+// is due.
 #[derive(Debug, Drop)]
 struct Sitting {
     settled: Settled,
     left: Vec<Turn>,
     since: u8,
+    spare: Vec<u16>,
+    due: bool,
 }
 
 /// The same as `settle_one`, by lists of all candidates.
@@ -38,31 +42,32 @@ pub fn settle_plainly(
     batch: &[Turn],
     draws: &mut Draws,
 ) -> Result<Settled, SettleFault>
-    requires allowed { AreAllowed world batch.now }
-    requires unprogrammed { HasNoPrograms world }
+    requires { AreAllowed world batch.now }
     ensures scheduled { IfOk result (SettlesByDraws world batch.now draws.old.state draws.new.state) }
     ensures settled { IfOk result (λ done. IsSettled world batch.now done.turns.items done.world) }
     ensures stops { IfErr result (StopsByDraws world batch.now draws.old.state draws.new.state) }
 {
     world.keeps();
+    let mut sitting = sit(alloc, world, batch)?;
+    let ending = settle(alloc, &mut sitting, draws)?;
+    answer(settled_by(sitting), ending)
+}
+
+// Where a settle begins.
+fn sit(alloc: Global, world: World, batch: &[Turn]) -> Result<Sitting, AllocError>
+    ensures { IfOk result (λ sitting. (draws : ℕ) → plain_sight sitting draws ≡ first_sight world batch.now draws) }
+{
     let left = copied(alloc, batch)?;
+    let spare = vec![in alloc; SHIFT_LIMIT; world.boxes().len()]?;
     let turns = Vec::new(alloc);
     let settled = Settled { world, turns };
-    let mut sitting = Sitting {
+    Ok(Sitting {
         settled,
         left,
         since: 0,
-    };
-    if let Some(at) = use_up(alloc, &mut sitting, draws)? {
-        return Err(SettleFault::VersionEnd(stopped(sitting, at)));
-    }
-    if let Some(at) = sitting.settled.world.ring() {
-        return Err(SettleFault::Ring(stopped(sitting, at)));
-    }
-    come_to_rest(alloc, &mut sitting, draws)?;
-    retry_by_box(&mut sitting.settled)?;
-    come_to_rest(alloc, &mut sitting, draws)?;
-    Ok(settled_by(sitting))
+        spare,
+        due: true,
+    })
 }
 
 // The commands of a batch, to take them from.
@@ -80,18 +85,21 @@ fn settled_by(sitting: Sitting) -> Settled
         settled,
         left: _,
         since: _,
+        spare: _,
+        due: _,
     } = sitting;
     settled
 }
 
-// The turns of a settle that stops at a slot.
-fn stopped(sitting: Sitting, at: u32) -> Stopped
-    requires { at < slot_count sitting.settled.world }
-    ensures at { result.at ≡ at }
-    ensures place { result.place ≡ place sitting.settled.world at }
-    ensures turns { result.turns.items ≡ sitting.settled.turns.items }
+// Makes all the turns of a settle.
+fn settle(alloc: Global, sitting: &mut Sitting, draws: &mut Draws) -> Result<Ending, AllocError>
+    requires { AreAllowed sitting.old.settled.world sitting.old.left.items }
+    ensures { IfOk result (Ended (plain_sight sitting.old draws.old.state) (plain_sight sitting.new draws.new.state)) }
 {
-    stop_at(settled_by(sitting), at)
+    if let Some(at) = use_up(alloc, sitting, draws)? {
+        return Ok(Ending::LastVersion(at));
+    }
+    finish(alloc, sitting, draws)
 }
 
 // Draws until the batch is used up, or to the last version of a slot.
@@ -106,7 +114,7 @@ fn use_up(
     sitting.settled.world.keeps();
     'commands: while !is_used_up(&sitting.left) {
         match draw_once(alloc, sitting, draws)? {
-            Draw::Drawn => {}
+            Draw::Drawn | Draw::Shifted => {}
             Draw::Nothing => unreachable!(),
             Draw::VersionEnd(at) => return Ok(Some(at)),
         }
@@ -121,17 +129,66 @@ fn is_used_up(left: &[Turn]) -> bool
     left.is_empty()
 }
 
-// Draws until nothing is listed, where the batch is used up. Where there is no ring, that ends.
-fn come_to_rest(alloc: Global, sitting: &mut Sitting, draws: &mut Draws) -> Result<(), AllocError>
+// Behind the batch: comes to rest again and again, with a round of retries between.
+fn finish(alloc: Global, sitting: &mut Sitting, draws: &mut Draws) -> Result<Ending, AllocError>
+    requires { sitting.old.left.items ≡ [] }
+    ensures { IfOk result (Ended (plain_sight sitting.old draws.old.state) (plain_sight sitting.new draws.new.state)) }
+{
+    'rounds: loop {
+        if let Some(at) = come_to_rest(alloc, sitting, draws)? {
+            return Ok(Ending::Ring(at));
+        }
+        if let Some(at) = first_shifter(&sitting.settled.world) {
+            return Ok(Ending::Restless(at));
+        }
+        if !sitting.due {
+            return Ok(Ending::Rest);
+        }
+        make_round(sitting)?;
+    }
+}
+
+// Makes each retry that is owed.
+fn make_round(sitting: &mut Sitting) -> Result<(), AllocError>
+    ensures { OnOk result (RoundMade (plain_moment sitting.old) (plain_moment sitting.new)) }
+{
+    retry_by_box(&mut sitting.settled)?;
+    sitting.due = false;
+    Ok(())
+}
+
+// Draws until nothing is listed, or there is a ring, where the batch is used up. Only a Shift can make one.
+fn come_to_rest(
+    alloc: Global,
+    sitting: &mut Sitting,
+    draws: &mut Draws,
+) -> Result<Option<u32>, AllocError>
+    requires { sitting.old.left.items ≡ [] }
+    ensures { IfOk result (CameTo (plain_sight sitting.old draws.old.state) (plain_sight sitting.new draws.new.state)) }
+{
+    'stretches: loop {
+        if let Some(at) = sitting.settled.world.ring() {
+            return Ok(Some(at));
+        }
+        if !draw_on(alloc, sitting, draws)? {
+            return Ok(None);
+        }
+    }
+}
+
+// Draws until nothing is listed, or a Shift was made, where the batch is used up and there is no ring. Tells whether
+// one was.
+fn draw_on(alloc: Global, sitting: &mut Sitting, draws: &mut Draws) -> Result<bool, AllocError>
     requires used_up { sitting.old.left.items ≡ [] }
     requires free { has_ring sitting.old.settled.world ≡ false }
-    ensures { OnOk result (CameToRest (plain_sight sitting.old draws.old.state) (plain_sight sitting.new draws.new.state)) }
+    ensures { IfOk result (DrewOn (plain_sight sitting.old draws.old.state) (plain_sight sitting.new draws.new.state)) }
 {
     sitting.settled.world.keeps();
     'takes: loop {
         match draw_once(alloc, sitting, draws)? {
             Draw::Drawn => {}
-            Draw::Nothing => return Ok(()),
+            Draw::Shifted => return Ok(true),
+            Draw::Nothing => return Ok(false),
             Draw::VersionEnd(_) => unreachable!(),
         }
     }
@@ -144,7 +201,13 @@ fn draw_once(alloc: Global, sitting: &mut Sitting, draws: &mut Draws) -> Result<
 {
     sitting.settled.world.keeps();
     let urgent = is_urgent(&sitting.left, sitting.since);
-    let list = all_candidates(alloc, &sitting.settled.world, &sitting.left, urgent)?;
+    let list = all_candidates(
+        alloc,
+        &sitting.settled.world,
+        &sitting.left,
+        &sitting.spare,
+        urgent,
+    )?;
     if list.is_empty() {
         return Ok(Draw::Nothing);
     }
@@ -171,7 +234,7 @@ fn try_turn(sitting: &mut Sitting, turn: Turn) -> Result<Draw, AllocError>
         Ok(()) => {
             sitting.settled.turns.push(turn)?;
             count(&mut sitting.left, &mut sitting.since, turn);
-            Ok(Draw::Drawn)
+            Ok(count_shift(&mut sitting.spare, &mut sitting.due, turn))
         }
         Err(StepFault::VersionEnd) => {
             Ok(Draw::VersionEnd(heard_slot(&sitting.settled.world, turn)))

@@ -1,18 +1,16 @@
 use Rattle.std.proofs.Common.{◌≡◌, []}
-use Rattle.mc_laws.specs.Measures.{IsRingFree, measure}
-use Rattle.mc_seq.specs.Commands.{AreKeptFor, commands_left}
-use Rattle.mc_seq.specs.Drawing.{sight_of}
-use Rattle.mc_seq.proofs.Sittings.{GoesOn}
+use Rattle.mc_seq.specs.Commands.{commands_left}
+use Rattle.mc_seq.specs.Drawing.{DrewAll, IsKept, sight_of, turns_of_programs}
 use Rattle.mc_seq.proofs.drawing.come_to_rest.Given as goal
 
--- whatever is drawn, it goes on from here
-abbrev pub invariant-takes : goal.invariant-takes
-invariant-takes l = record {
-  kept : AreKeptFor l.sitting.settled.world l.sitting.left;
-  free : IsRingFree l.sitting.settled.world;
+-- drawn turns led here
+abbrev pub invariant-stretches : goal.invariant-stretches
+invariant-stretches l = record {
+  kept : IsKept l.sitting;
   left : commands_left l.sitting.left ≡ [];
-  drew : GoesOn (sight_of l.initial.sitting l.initial.draws.state) (sight_of l.sitting l.draws.state);
+  drew : DrewAll (sight_of l.initial.sitting l.initial.draws.state) (sight_of l.sitting l.draws.state);
 }
 
-abbrev pub decreases-takes : goal.decreases-takes
-decreases-takes l = measure l.sitting.settled.world
+-- and each Shift leaves fewer to come
+abbrev pub decreases-stretches : goal.decreases-stretches
+decreases-stretches l = turns_of_programs (sight_of l.sitting l.draws.state).standing

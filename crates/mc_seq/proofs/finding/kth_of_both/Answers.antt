@@ -1,6 +1,6 @@
 use Rattle.std.proofs.Common.{◌≡◌, ◌+◌, ◌<◌, ◌∙◌, false, length, sum, sym, arith}
 use Rattle.mc_seq.specs.Commands.{commands_left}
-use Rattle.mc_seq.specs.Schedule.{all_candidates}
+use Rattle.mc_seq.specs.Ready.{all_of_two}
 use Rattle.mc_seq.proofs.Finds.{both_at_box, both_sum, both_within}
 use Rattle.mc_seq.proofs.finding.kth_of_both.Goals as goal
 
@@ -9,8 +9,8 @@ find_in_both-who-requires-clause-long c = c.takes.ensures.long ∙ (sym c.requir
 
 pub find_in_both-who-requires-clause-inside : goal.find_in_both-who-requires-clause-inside
 find_in_both-who-requires-clause-inside c =
-    let all : sum c.args.left.now.next + sum c.takes.result.now ≡ length (all_candidates c.args.world.now (commands_left c.args.left.now) false) = both_sum c.args.world.now c.args.left.now c.takes.result.now c.requires.kept c.takes.ensures in
-    let low : c.args.k < length (all_candidates c.args.world.now (commands_left c.args.left.now) false) = c.requires.inside in
+    let all : sum c.args.left.now.next + sum c.takes.result.now ≡ length (all_of_two c.args.world.now (commands_left c.args.left.now) false) = both_sum c.args.world.now c.args.left.now c.takes.result.now c.requires.kept c.takes.ensures in
+    let low : c.args.k < length (all_of_two c.args.world.now (commands_left c.args.left.now) false) = c.requires.inside in
     omega arith
 
 pub kth_of_box-requires-clause-inside : goal.kth_of_box-requires-clause-inside

@@ -1,4 +1,4 @@
-use Rattle.mc_seq.proofs.Scheduled.{schedule_settles}
+use Rattle.mc_seq.proofs.Rounds.{schedule_settles}
 use Rattle.mc_seq.proofs.laws.schedule_settles.Goals as goal
 
 pub returns : goal.returns

@@ -1,34 +1,21 @@
 use Rattle.std.proofs.Common.{subst}
-use Rattle.mc_seq.specs.Drawing.{DrewOnce, DrewTurn, Sight, plain_sight}
-use Rattle.mc_seq.proofs.Sittings.{goes_more, made_none, never_ends, rested_is, take_free, take_lower}
+use Rattle.mc_seq.specs.Drawing.{CameToRest, CameToShift, DrewOn, Sight, plain_sight}
+use Rattle.mc_seq.proofs.Endings.{drew_more, rest_more}
 use Rattle.mc_seq.proofs.plain.come_to_rest.Goals as goal
 
-pub takes-preserved : goal.takes-preserved
-takes-preserved c =
-    let now : Sight = plain_sight c.takes.sitting c.takes.draws.state in
-    let next : Sight = plain_sight c.draw_once.new.sitting c.draw_once.new.draws.state in
-    let made : DrewTurn now next = subst (DrewOnce now next) c.in-Drawn.is c.in_ok-draw_once.ensures in
+pub returns-then-not-branch : goal.returns-then-not-branch
+returns-then-not-branch c =
+    let now : Sight = plain_sight c.stretches.sitting c.stretches.draws.state in
+    let next : Sight = plain_sight c.draw_on.new.sitting c.draw_on.new.draws.state in
+    let came : CameToRest now next = subst (DrewOn now next) c.if-not-branch.true (c.in_ok-draw_on.ensures) in
+    rest_more (plain_sight c.args.sitting.now c.args.draws.now.state) now next c.stretches.invariant.drew came
+
+pub stretches-preserved : goal.stretches-preserved
+stretches-preserved c =
+    let now : Sight = plain_sight c.stretches.sitting c.stretches.draws.state in
+    let next : Sight = plain_sight c.draw_on.new.sitting c.draw_on.new.draws.state in
+    let came : CameToShift now next = subst (DrewOn now next) c.if-not-branch.false (c.in_ok-draw_on.ensures) in
     record {
-      free = take_free now next made c.takes.invariant.left c.takes.invariant.free;
-      left = made_none now next made c.takes.invariant.left;
-      drew = goes_more (plain_sight c.args.sitting.now c.args.draws.now.state) now next (λ none. c.takes.invariant.free.free) made c.takes.invariant.drew;
+      left = came.left;
+      drew = drew_more (plain_sight c.args.sitting.now c.args.draws.now.state) now next c.stretches.invariant.drew came.drew;
     }
-
-pub takes-smaller : goal.takes-smaller
-takes-smaller c =
-    let now : Sight = plain_sight c.takes.sitting c.takes.draws.state in
-    let next : Sight = plain_sight c.draw_once.new.sitting c.draw_once.new.draws.state in
-    take_lower now next (subst (DrewOnce now next) c.in-Drawn.is c.in_ok-draw_once.ensures) c.takes.invariant.left c.takes.invariant.free
-
-pub unreachable-requires : goal.unreachable-requires
-unreachable-requires c =
-    let now : Sight = plain_sight c.takes.sitting c.takes.draws.state in
-    let next : Sight = plain_sight c.draw_once.new.sitting c.draw_once.new.draws.state in
-    never_ends now next c.in-VersionEnd.field-0 c.takes.invariant.left (subst (DrewOnce now next) c.in-VersionEnd.is c.in_ok-draw_once.ensures)
-
-pub returns-in-Nothing : goal.returns-in-Nothing
-returns-in-Nothing c =
-    let now : Sight = plain_sight c.takes.sitting c.takes.draws.state in
-    let next : Sight = plain_sight c.draw_once.new.sitting c.draw_once.new.draws.state in
-    rested_is (plain_sight c.args.sitting.now c.args.draws.now.state) now next c.takes.invariant.drew c.takes.invariant.left c.takes.invariant.free
-    (subst (DrewOnce now next) c.in-Nothing.is c.in_ok-draw_once.ensures)

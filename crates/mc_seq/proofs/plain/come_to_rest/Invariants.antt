@@ -1,16 +1,14 @@
 use Rattle.std.proofs.Common.{◌≡◌, []}
-use Rattle.mc_laws.specs.Measures.{IsRingFree, measure}
-use Rattle.mc_seq.specs.Drawing.{plain_sight}
-use Rattle.mc_seq.proofs.Sittings.{GoesOn}
+use Rattle.mc_seq.specs.Drawing.{DrewAll, plain_sight, turns_of_programs}
 use Rattle.mc_seq.proofs.plain.come_to_rest.Given as goal
 
--- whatever is drawn, it goes on from here
-abbrev pub invariant-takes : goal.invariant-takes
-invariant-takes l = record {
-  free : IsRingFree l.sitting.settled.world;
+-- drawn turns led here
+abbrev pub invariant-stretches : goal.invariant-stretches
+invariant-stretches l = record {
   left : l.sitting.left.items ≡ [];
-  drew : GoesOn (plain_sight l.initial.sitting l.initial.draws.state) (plain_sight l.sitting l.draws.state);
+  drew : DrewAll (plain_sight l.initial.sitting l.initial.draws.state) (plain_sight l.sitting l.draws.state);
 }
 
-abbrev pub decreases-takes : goal.decreases-takes
-decreases-takes l = measure l.sitting.settled.world
+-- and each Shift leaves fewer to come
+abbrev pub decreases-stretches : goal.decreases-stretches
+decreases-stretches l = turns_of_programs (plain_sight l.sitting l.draws.state).standing

@@ -1,14 +1,14 @@
 use Rattle.std.proofs.Common.{◌==◌, List, length, subst, ap, ◌∙◌}
 use Rattle.mc_box.specs.declared.event.Turn.{Turn}
 use Rattle.mc_seq.specs.Drawing.{DrewOnce, DrewTurn, Sight, plain_sight}
-use Rattle.mc_seq.proofs.Sittings.{goes_last, goes_more, left_goes, made_allowed, made_lowers, made_sound, none_by, ran_out, some_by, some_listed}
+use Rattle.mc_seq.proofs.Sittings.{goes_last, goes_more, left_goes, made_allowed, made_by, made_lowers, made_sound, none_by, ran_out, some_by, some_listed}
 use Rattle.mc_seq.proofs.plain.use_up.Goals as goal
 
 pub commands-preserved : goal.commands-preserved
 commands-preserved c =
     let now : Sight = plain_sight c.commands.sitting c.commands.draws.state in
     let next : Sight = plain_sight c.draw_once.new.sitting c.draw_once.new.draws.state in
-    let made : DrewTurn now next = subst (DrewOnce now next) c.in-Drawn.is c.in_ok-draw_once.ensures in
+    let made : DrewTurn now next = made_by c.in_ok-draw_once.field-0 now next c.in-Drawn.is c.in_ok-draw_once.ensures in
     record {
       sound = made_sound now next made c.commands.invariant.sound;
       allowed = made_allowed now next made c.commands.invariant.sound c.commands.invariant.allowed;
@@ -21,7 +21,7 @@ pub commands-smaller : goal.commands-smaller
 commands-smaller c =
     let now : Sight = plain_sight c.commands.sitting c.commands.draws.state in
     let next : Sight = plain_sight c.draw_once.new.sitting c.draw_once.new.draws.state in
-    made_lowers now next (subst (DrewOnce now next) c.in-Drawn.is c.in_ok-draw_once.ensures) c.commands.invariant.allowed
+    made_lowers now next (made_by c.in_ok-draw_once.field-0 now next c.in-Drawn.is c.in_ok-draw_once.ensures) c.commands.invariant.allowed
     (some_by c.is_used_up.result (length c.commands.sitting.left.items) (c.is_used_up.ensures ∙ ap (λ (turns : List Turn). length turns == 0) c.deref.ensures.value) c.commands-test.true)
 
 pub unreachable-requires : goal.unreachable-requires
