@@ -14,7 +14,7 @@ use Rattle.mc_top.specs.Statuses.{due_by, keeps_journal, stop_status}
 use Rattle.mc_top.specs.Top.{Delivers, Ends, StopsScript}
 use Rattle.mc_script.specs.declared.command.JournalLine.{JournalLine}
 use Rattle.mc_top.specs.declared.stop.Stop.{Stop}
-use Rattle.mc_top.specs.declared.stop.Stop.TheVariants.{Ring, VersionEnd}
+use Rattle.mc_top.specs.declared.stop.Stop.TheVariants.{Restless, Ring, VersionEnd}
 use Rattle.mc_top.specs.declared.words.Mode.{Mode}
 use Rattle.mc_top.specs.declared.words.Mode.TheVariants.{One, Run}
 
@@ -35,7 +35,7 @@ ends_worked mode text net old new status due journal output declared sound settl
     delivered = rw (is, printed_by mode net journal) at delivered;
   };
   refused = λ one. absurd (omega arith);
-  at_ring = λ seven. absurd (omega arith);
+  at_stop = λ either. absurd (grind (arith, either));
   gave_up = λ ended. elim ended [ inl three ↦ absurd (omega arith) | inr four ↦ absurd (omega arith) ];
   no_journal = λ some. absurd (kept_zero due none some);
 }
@@ -60,23 +60,25 @@ stops_script mode text net stop old new status due journal output declared sound
   delivered = subst (λ (n : ℕ). Delivers status n old new (stop_line net.names net.world stop)) (sym due_is) (rw is at delivered);
 }
 
--- the status of a stop is that of a fault or of a ring, and both keep the journal
-stop_by : (stop : Stop) (due : ℕ) → due ≡ stop_status stop → (due ≡ 1) ⊎ (due ≡ 7)
+-- the status of a stop is that of a fault, of a restless box or of a ring, and each keeps the journal
+stop_by : (stop : Stop) (due : ℕ) → due ≡ stop_status stop → (due ≡ 1) ⊎ (due ≡ 6) ⊎ (due ≡ 7)
 stop_by (VersionEnd at) due is = inl is
-stop_by (Ring at) due is = inr is
+stop_by (Restless at) due is = inr (inl is)
+stop_by (Ring at) due is = inr (inr is)
 
 stop_keeps : (stop : Stop) (due : ℕ) → due ≡ stop_status stop → keeps_journal due ≡ false → ⊥
 stop_keeps (VersionEnd at) due is some = let here : keeps_journal 1 ≡ false = subst (λ (n : ℕ). keeps_journal n ≡ false) is some in cc
+stop_keeps (Restless at) due is some = let here : keeps_journal 6 ≡ false = subst (λ (n : ℕ). keeps_journal n ≡ false) is some in cc
 stop_keeps (Ring at) due is some = let here : keeps_journal 7 ≡ false = subst (λ (n : ℕ). keeps_journal n ≡ false) is some in cc
 
 ends_at_stop : (mode : Mode) (text : List ℕ) (stop : Stop) (old new : Option (List ℕ)) (status due : ℕ) (journal : List JournalLine) → due ≡ stop_status stop
     → StopsScript mode (Some text) old new status due journal → Ends mode (Some text) old new status due journal
 ends_at_stop mode text stop old new status due journal is stops =
-    let either : (due ≡ 1) ⊎ (due ≡ 7) = stop_by stop due is in
+    let either : (due ≡ 1) ⊎ (due ≡ 6) ⊎ (due ≡ 7) = stop_by stop due is in
     record {
       worked = λ zero. absurd (grind (arith, either));
       refused = λ one. inr stops;
-      at_ring = λ seven. stops;
+      at_stop = λ either. stops;
       gave_up = λ ended. absurd (grind (arith, either, ended));
       no_journal = λ some. absurd (stop_keeps stop due is some);
     }
@@ -102,7 +104,7 @@ pub ends_gave_up : (mode : Mode) (text : List ℕ) (old : Option (List ℕ)) (st
 ends_gave_up mode text old status due journal three due_three none = record {
   worked = λ zero. absurd (omega arith);
   refused = λ one. absurd (omega arith);
-  at_ring = λ seven. absurd (omega arith);
+  at_stop = λ either. absurd (grind (arith, either));
   gave_up = λ ended. (omega arith, keeps_same old);
   no_journal = λ some. none;
 }
@@ -113,7 +115,7 @@ pub ends_refused : (mode : Mode) (text : List ℕ) (number line : ℕ) (old new 
 ends_refused mode text number line old new status due journal output fault is one delivered none = record {
   worked = λ zero. absurd (omega arith);
   refused = λ due_one. inl (record { number = number; line = line; fault = fault; delivered = rw is at delivered; no_journal = none });
-  at_ring = λ seven. absurd (omega arith);
+  at_stop = λ either. absurd (grind (arith, either));
   gave_up = λ ended. elim ended [ inl three ↦ absurd (omega arith) | inr four ↦ absurd (omega arith) ];
   no_journal = λ some. none;
 }

@@ -1,5 +1,5 @@
--- Where a settle by draws can't go on: nothing is listed, or the batch has left a ring, or the drawn Hear has no newer version. From one standing one list of turns leads to such a standing.
-use Rattle.std.proofs.Common.{◌≡◌, if◌then◌else◌, nat_lt, Bool, true, false, ℕ, List, [], ◌∷◌, length, slice_get, Option, Some, None, IsTrue, refl, ap, sym, ◌∙◌, subst}
+-- Where a settle by draws can't go on: nothing is listed and no round is due or may be made, or the batch has left a ring, or the drawn Hear has no newer version. From one standing one list of turns leads to such a standing.
+use Rattle.std.proofs.Common.{◌≡◌, if◌then◌else◌, nat_lt, Bool, true, false, ℕ, zero, suc, List, [], ◌∷◌, ◌++◌, length, slice_get, Option, Some, None, IsTrue, refl, ap, sym, ◌∙◌, subst}
 use Rattle.std.specs.Option.{option_map}
 use Rattle.std.proofs.lemmas.Bool.{and_parts}
 use Rattle.mc_box.specs.BoxEvents.{BoxStep, is_enabled, is_version_end}
@@ -8,9 +8,11 @@ use Rattle.mc_box.specs.declared.event.Event.TheVariants.{Take, Set, Media, Tell
 use Rattle.mc_box.specs.declared.event.MediaChange.TheVariants.{Hear, Talk}
 use Rattle.mc_box.specs.declared.event.Turn.{Turn}
 use Rattle.mc_model.specs.Paths.{has_ring}
-use Rattle.mc_model.specs.Steps.{ends_version, ends_version_at, step, step_by}
+use Rattle.mc_model.specs.Settles.{can_shift}
+use Rattle.mc_model.specs.Steps.{ends_version, ends_version_at, run, step, step_by}
 use Rattle.mc_model.specs.Worlds.{WorldState, box_at}
-use Rattle.mc_seq.specs.Schedule.{AreDrawn, MayGo, Standing, candidates, drawn_place, drawn_turn, standing_after}
+use Rattle.mc_seq.specs.Retries.{retries_by_box}
+use Rattle.mc_seq.specs.Schedule.{AreDrawn, Goes, IsStill, MakesRound, MayGo, Standing, candidates, drawn_place, drawn_turn, standing_after}
 
 -- no turn is drawn and made from here
 abbrev pub Halts : Standing → Type 0
@@ -93,3 +95,64 @@ drawn_one (s ∷ one) (t ∷ two) now last other first halts second ends =
     subst (λ (w : WorldState). AreDrawn (standing_after now s w) two other) (sym world) (subst (λ (x : Turn). AreDrawn (standing_after now x second.0) two other) (sym same) second.4) in
     let later = drawn_one one two (standing_after now s first.0) last other first.4 halts rest ends in
     record { turns = ap (λ (x : Turn). x ∷ one) same ∙ ap (λ (l : List Turn). t ∷ l) later.turns; stands = later.stands }
+
+-- ---- rounds between
+
+-- a round leads to one standing
+next_by : (still next other : Standing) (w v : WorldState) → next ≡ record still { world = w; due = false } → other ≡ record still { world = v; due = false } → w ≡ v → next ≡ other
+next_by still next other w v one two same = one ∙ (ap (λ (x : WorldState). record still { world = x; due = false }) same ∙ sym two)
+
+same_retried : (o : Option WorldState) (w v : WorldState) → o ≡ Some w → o ≡ Some v → w ≡ v
+same_retried o w v one two = cc
+
+round_one : (still next other : Standing) → MakesRound still next → MakesRound still other → next ≡ other
+round_one still next other one two =
+    next_by still next other next.world other.world one.then_not two.then_not (same_retried (run still.world (retries_by_box still.world)) next.world other.world one.retries two.retries)
+
+-- no round is made from here
+abbrev pub NoRound : Standing → Type 0
+NoRound now = (next : Standing) → MakesRound now next → ⊥
+
+-- nothing goes on from here
+pub record IsOver (now : Standing) : Type 0 where
+  pub halts : Halts now
+  pub no_round : NoRound now
+
+both_some : (b : Bool) → b ≡ true → b ≡ false → ⊥
+both_some b some none = cc
+
+-- nothing can come, and no round is due
+pub ended_over : (now : Standing) → IsStill now → now.due ≡ false → IsOver now
+ended_over now still not_due = record { halts = halts_at_rest now still.none; no_round = λ next round. both_some now.due round.was_due not_due }
+
+-- the batch is used up, and there is a ring
+pub ring_over : (now : Standing) → now.left ≡ [] → has_ring now.world ≡ true → IsOver now
+ring_over now left ring = record { halts = halts_at_ring now left ring; no_round = λ next round. both_some (has_ring now.world) ring round.still.no_ring }
+
+-- nothing is listed, and a program can go on
+pub restless_over : (now : Standing) → candidates now ≡ [] → can_shift now.world ≡ true → IsOver now
+restless_over now none can = record { halts = halts_at_rest now none; no_round = λ next round. both_some (can_shift now.world) can round.still.no_shift }
+
+-- the drawn turn ends a version
+pub version_over : (now : Standing) (turn : Turn) → drawn_turn now ≡ Some turn → IsTrue (ends_version now.world turn) → IsOver now
+version_over now turn drawn ends = record { halts = halts_at_version now turn drawn ends; no_round = λ next round. none_drawn now turn round.still.none drawn }
+
+-- from one standing one list of turns leads to where nothing goes on
+pub goes_one : (rounds count : ℕ) (now last other : Standing) (one two : List Turn) → Goes rounds now one last → IsOver last → Goes count now two other → IsOver other → AreOne one two last other
+goes_one zero zero now last other one two first over second ends = drawn_one one two now last other first over.halts second ends.halts
+goes_one zero (suc count) now last other one two first over (drawn, rest, still, next, is, draws, round, later) ends =
+    let same = drawn_one one drawn now last still first over.halts draws (halts_at_rest still round.still.none) in
+    absurd (over.no_round next (subst (λ (s : Standing). MakesRound s next) (sym same.stands) round))
+goes_one (suc rounds) zero now last other one two (drawn, rest, still, next, is, draws, round, later) over second ends =
+    let same = drawn_one drawn two now still other draws (halts_at_rest still round.still.none) second ends.halts in
+    absurd (ends.no_round next (subst (λ (s : Standing). MakesRound s next) same.stands round))
+goes_one (suc rounds) (suc count) now last other one two (drawn, rest, still, next, is, draws, round, later) over (more, others, quiet, after, are, drew, again, behind) ends =
+    let same = drawn_one drawn more now still quiet draws (halts_at_rest still round.still.none) drew (halts_at_rest quiet again.still.none) in
+    let rounds_same : next ≡ after = round_one quiet next after (subst (λ (s : Standing). MakesRound s next) same.stands round) again in
+    let further = goes_one rounds count next last other rest others later over (subst (λ (s : Standing). Goes count s others other) (sym rounds_same) behind) ends in
+    record {
+      turns = is ∙ (ap (λ (l : List Turn). l ++ (retries_by_box still.world ++ rest)) same.turns
+          ∙ (ap (λ (s : Standing). more ++ (retries_by_box s.world ++ rest)) same.stands
+          ∙ (ap (λ (l : List Turn). more ++ (retries_by_box quiet.world ++ l)) further.turns ∙ sym are)));
+      stands = further.stands;
+    }

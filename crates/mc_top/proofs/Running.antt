@@ -8,11 +8,9 @@ use Rattle.mc_model.specs.Settles.{IsSettled, can_shift, is_quiet}
 use Rattle.mc_model.specs.Shapes.{AreAllAllowed, AreAllowed, HasShape}
 use Rattle.mc_model.specs.Sound.{IsSound}
 use Rattle.mc_model.specs.Steps.{run, step}
-use Rattle.mc_model.specs.Unprogrammed.{HasNoPrograms}
 use Rattle.mc_model.specs.Worlds.{WorldState}
 use Rattle.mc_box.specs.declared.event.Turn.{Turn}
 use Rattle.mc_laws.proofs.CommandsGo.{both_true}
-use Rattle.mc_laws.proofs.NoPrograms.{still_none}
 use Rattle.mc_laws.proofs.ShapesKept.{run_keeps_shape, same_shape, shape_both}
 use Rattle.mc_box.proofs.Options.{then_some}
 use Rattle.mc_laws.proofs.StepKeeps.{run_keeps_sound}
@@ -202,11 +200,6 @@ pub batch_allowed : (names : NameLists) (start : WorldState) (first : ℕ) (all 
     → AreAllAllowed start (map batch_turns all) → GoesOn names start first (map batch_turns all) rest i now → AreAllowed now.world (batch_turns (slice_index_or all i none))
 batch_allowed names start first all i none rest now within sound allowed on =
     all_kept (batch_turns (slice_index_or all i none)) start now.world sound on.sound on.shape (batch_at (AreAllowed start) all i none within allowed)
-
--- it has no program still
-pub still_unprogrammed : (names : NameLists) (start : WorldState) (first : ℕ) (all rest : List (List Turn)) (count : ℕ) (now : ScriptState) → HasNoPrograms start
-    → GoesOn names start first all rest count now → HasNoPrograms now.world
-still_unprogrammed names start first all rest count now unprogrammed on = still_none now.world start on.shape unprogrammed
 
 -- nothing was run yet
 pub goes_first : (names : NameLists) (start : WorldState) (first : ℕ) (all : List (List Turn)) → IsSound start → GoesOn names start first all all 0 (first_state start first)

@@ -1,5 +1,5 @@
--- A script that stops: the slot at which it does has a name, and its journal goes on from what was run.
-use Rattle.std.proofs.Common.{◌≡◌, ◌<◌, ◌++◌, ◌∷◌, [], ℕ, ◌+◌, Option, Some, List, drop, length, map, refl, ap, sym, ◌∙◌, subst, inl, slice_index_or}
+-- A script that stops: the slot or the box at which it does has a name, and its journal goes on from what was run.
+use Rattle.std.proofs.Common.{◌≡◌, ◌<◌, ◌++◌, ◌∷◌, [], ℕ, ◌+◌, Option, Some, List, codes, drop, length, map, refl, ap, sym, ◌∙◌, subst, inl, slice_index_or}
 use Rattle.mc_box.specs.declared.event.Turn.{Turn}
 use Rattle.mc_box.proofs.Options.{then_some}
 use Rattle.mc_laws.proofs.Numbers.{number_is}
@@ -13,18 +13,19 @@ use Rattle.mc_script.specs.declared.command.Batch.{Batch}
 use Rattle.mc_script.specs.declared.command.JournalLine.{JournalLine}
 use Rattle.mc_script.specs.declared.command.JournalLine.TheVariants.{Turn as Made}
 use Rattle.mc_seq.specs.Draws.{StopsByDraws}
-use Rattle.mc_seq.specs.declared.fault.SettleFault.TheVariants.{Ring as AtRing, VersionEnd as EndsVersion}
+use Rattle.mc_seq.specs.declared.fault.SettleFault.TheVariants.{Restless as NeverRests, Ring as AtRing, VersionEnd as EndsVersion}
 use Rattle.mc_seq.specs.declared.fault.Stopped.{Stopped}
+use Rattle.mc_seq.specs.declared.fault.StoppedBox.{StoppedBox}
 use Rattle.mc_table.specs.Words.{line_of}
 use Rattle.mc_text.specs.NameLists.{NameLists, slot_names, slot_word}
 use Rattle.mc_top.specs.Drawn.{IsDrawnJournal}
 use Rattle.mc_top.specs.Journals.{IsJournalTo, IsStoppedJournal}
 use Rattle.mc_top.specs.Outcomes.{Stopping}
-use Rattle.mc_top.specs.Printed.{run_text, stop_line, stop_slot, stop_word}
+use Rattle.mc_top.specs.Printed.{box_word, place_word, run_text, stop_line, stop_word}
 use Rattle.mc_top.specs.Scripts.{ScriptState}
 use Rattle.mc_top.specs.declared.run.Run.{Run}
 use Rattle.mc_top.specs.declared.stop.Stop.{Stop}
-use Rattle.mc_top.specs.declared.stop.Stop.TheVariants.{Ring, VersionEnd}
+use Rattle.mc_top.specs.declared.stop.Stop.TheVariants.{Restless, Ring, VersionEnd}
 use Rattle.mc_top.proofs.Running.{GoesOn, next_left}
 use Rattle.mc_top.proofs.UsedUp.{used_up}
 
@@ -60,11 +61,17 @@ ring_named names world batch state end stop sound all (stops, there) =
     let shape = run_keeps_shape world stops.last.world stop.turns.items sound stops.stopped.runs in
     subst (IsNamedPlace names) (sym there) (place_named names world stop.at sound all (slot_stays world stops.last.world stop.at shape stops.least.inside))
 
+-- the box of a settle that doesn't come to rest has a name
+pub restless_named : (names : NameLists) (world : WorldState) (batch : List Turn) (state end : ℕ) (stop : StoppedBox) → IsSound world → NamesAll names world → StopsByDraws world batch state end (NeverRests stop) → stop.at < length names.boxes
+restless_named names world batch state end stop sound all stops =
+    let shape = run_keeps_shape world stops.last.world stop.turns.items sound stops.stopped.runs in
+    subst (λ (n : ℕ). stop.at < n) (shape.boxes ∙ sym all.boxes) stops.restless.first.inside
+
 -- ---- what a settle stops with
 
--- the line of a stop by the slot's place
-line_at : (names : NameLists) (world : WorldState) (stop : Stop) (at : ℕ × ℕ) → at ≡ place world (stop_slot stop) → line_of (stop_word stop ∷ slot_word names at.0 at.1 ∷ []) ≡ stop_line names world stop
-line_at names world stop at there = ap (λ (p : ℕ × ℕ). line_of (stop_word stop ∷ slot_word names p.0 p.1 ∷ [])) there
+-- the line of a stop with this word, by the slot's place
+line_at : (names : NameLists) (world : WorldState) (word : List ℕ) (s : ℕ) (at : ℕ × ℕ) → at ≡ place world s → line_of (word ∷ slot_word names at.0 at.1 ∷ []) ≡ line_of (word ∷ place_word names world s ∷ [])
+line_at names world word s at there = ap (λ (p : ℕ × ℕ). line_of (word ∷ slot_word names p.0 p.1 ∷ [])) there
 
 -- at the last version
 pub stops_version : (names : NameLists) (batch : List Turn) (old : ScriptState) (end : ℕ) (stop : Stopped) (run : Run) → StopsByDraws old.world batch old.draws end (EndsVersion stop)
@@ -79,7 +86,7 @@ stops_version names batch old end stop run (stops, there) journal output is = re
   cause = stops.meets;
   scheduled = stops;
   journal = journal;
-  output = output ∙ line_at names old.world (VersionEnd stop.at) stop.place there;
+  output = output ∙ line_at names old.world (stop_word (VersionEnd stop.at)) stop.at stop.place there;
   is = is;
 }
 
@@ -93,19 +100,41 @@ stops_ring names batch old end stop run (stops, there) journal output is = recor
   end = end;
   stop = Ring stop.at;
   stopped = stops.stopped;
-  cause = (λ who. used_up old.world batch stop.turns.items old.draws stops.last stops.draws stops.used_up stops.stopped who, stops.least);
+  cause = (λ who. used_up old.world batch stop.turns.items old.draws stops.rounds stops.last stops.goes stops.used_up stops.stopped who, stops.least);
   scheduled = stops;
   journal = journal;
-  output = output ∙ line_at names old.world (Ring stop.at) stop.place there;
+  output = output ∙ line_at names old.world (stop_word (Ring stop.at)) stop.at stop.place there;
+  is = is;
+}
+
+-- at a box whose program doesn't come to rest
+pub stops_restless : (names : NameLists) (batch : List Turn) (old : ScriptState) (end : ℕ) (stop : StoppedBox) (run : Run) → StopsByDraws old.world batch old.draws end (NeverRests stop)
+    → run.journal.items ≡ old.journal ++ map Made stop.turns.items → run.output.items ≡ line_of (codes "restless" ∷ box_word names stop.at ∷ []) → run.stop ≡ Some (Restless stop.at)
+    → Stopping names batch old run
+stops_restless names batch old end stop run stops journal output is = record {
+  turns = stop.turns.items;
+  last = stops.last.world;
+  end = end;
+  stop = Restless stop.at;
+  stopped = stops.stopped;
+  cause = (λ who. used_up old.world batch stop.turns.items old.draws stops.rounds stops.last stops.goes stops.used_up stops.stopped who, stops.restless);
+  scheduled = stops;
+  journal = journal;
+  output = output;
   is = is;
 }
 
 -- ---- what a script ran to that stopped
 
 -- the places of slots are those of the beginning
+slot_line_same : (names : NameLists) (now start : WorldState) (word : List ℕ) (s : ℕ) → HasShape now start → line_of (word ∷ place_word names now s ∷ []) ≡ line_of (word ∷ place_word names start s ∷ [])
+slot_line_same names now start word s shape =
+    ap (λ (channels : List ChannelState). line_of (word ∷ slot_word names (slice_index_or (places_among channels) s (0, 0)).0 (slice_index_or (places_among channels) s (0, 0)).1 ∷ [])) shape.channels
+
 stop_line_same : (names : NameLists) (now start : WorldState) (stop : Stop) → HasShape now start → stop_line names now stop ≡ stop_line names start stop
-stop_line_same names now start stop shape =
-    ap (λ (channels : List ChannelState). line_of (stop_word stop ∷ slot_word names (slice_index_or (places_among channels) (stop_slot stop) (0, 0)).0 (slice_index_or (places_among channels) (stop_slot stop) (0, 0)).1 ∷ [])) shape.channels
+stop_line_same names now start (VersionEnd at) shape = slot_line_same names now start (stop_word (VersionEnd at)) at shape
+stop_line_same names now start (Ring at) shape = slot_line_same names now start (stop_word (Ring at)) at shape
+stop_line_same names now start (Restless at) shape = refl
 
 pub record EndsAtStop (names : NameLists) (start : WorldState) (first : ℕ) (all : List (List Turn)) (run : Run) : Type 0 where
   pub ran : IsJournalTo run.stop start all run.journal.items

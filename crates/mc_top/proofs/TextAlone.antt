@@ -110,7 +110,7 @@ output_is Run net journal = refl
 output_is (One state) net journal = refl
 
 pub text_alone_decides : TextAloneDecides
-text_alone_decides text net other first second mode instead one two decided =
+text_alone_decides text net other first second mode instead one two unprogrammed decided =
     let same : two.declares.declared ≡ one.declares.declared = two.declares.says.declared ∙ sym one.declares.says.declared in
     let names : net.names ≡ other.names = one.declares.names ∙ (sym (ap (λ (d : Declared). d.names) same) ∙ sym two.declares.names) in
     let batches : map batch_turns other.batches.items ≡ map batch_turns net.batches.items =
@@ -119,7 +119,7 @@ text_alone_decides text net other first second mode instead one two decided =
     first_worlds_seen one.declares.declared net.world other.world one.declares.world (subst (λ (d : Declared). IsFirstWorld d other.world) same two.declares.world) in
     output_is mode net first
     ∙ (journals_same (map batch_turns net.batches.items) net.names 1 net.world other.world first second one.sound two.sound
-    (first_unprogrammed one.declares.declared net.world one.declares.world) (first_unprogrammed two.declares.declared other.world two.declares.world) seen decided one.settles
+    unprogrammed (first_unprogrammed two.declares.declared other.world two.declares.world) seen decided one.settles
     (subst (λ (list : List (List Turn)). IsJournal other.world list second) batches two.settles)
     ∙ (ap (λ (n : NameLists). journal_text n 1 other.world second) names ∙ sym (output_is instead other second)))
 
@@ -129,5 +129,5 @@ settles_text : (text : List ℕ) (mode : Mode) (old new : Option (List ℕ)) (st
 settles_text text mode old new status journal worked = record { declares = worked.declared; sound = worked.settles.sound; settles = worked.settles.settled }
 
 pub calls_print_same : CallsPrintSame
-calls_print_same text first second mode instead old new from to status end one two decided =
-    text_alone_decides text one.net two.net first second mode instead (settles_text text mode old new status first one) (settles_text text instead from to end second two) decided
+calls_print_same text first second mode instead old new from to status end one two unprogrammed decided =
+    text_alone_decides text one.net two.net first second mode instead (settles_text text mode old new status first one) (settles_text text instead from to end second two) unprogrammed decided

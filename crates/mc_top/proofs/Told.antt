@@ -15,7 +15,7 @@ use Rattle.mc_top.specs.Journals.{ShowsCause}
 use Rattle.mc_top.specs.Top.{Ends, StopsScript, ToldDeclares, ToldFault}
 use Rattle.mc_top.specs.Modes.{CanRun, IsWorkable}
 use Rattle.mc_top.specs.declared.stop.Stop.{Stop}
-use Rattle.mc_top.specs.Rings.{MakesNoRing}
+use Rattle.mc_top.specs.Rings.{AlwaysRests}
 use Rattle.mc_top.proofs.Causes.{never_stops}
 use Rattle.mc_top.specs.declared.words.Mode.{Mode}
 use Rattle.mc_top.specs.declared.words.Mode.TheVariants.{One, Run}
@@ -58,7 +58,7 @@ ends_told mode told old new text status due journal read ends = record {
     | inl refused ↦ inl (record { number = refused.number; line = refused.line; fault = told_fault told text refused.number refused.line read refused.fault; delivered = refused.delivered; no_journal = refused.no_journal })
     | inr stops ↦ inr (stops_told mode told old new text status due journal read stops)
   ];
-  at_ring = λ seven. stops_told mode told old new text status due journal read (ends.at_ring seven);
+  at_stop = λ either. stops_told mode told old new text status due journal read (ends.at_stop either);
   gave_up = ends.gave_up;
   no_journal = ends.no_journal;
 }
@@ -76,12 +76,12 @@ fault_says (Some all) text d number line fault is says =
 fault_works : (mode : Mode) (told : Option (List ℕ)) (text : List ℕ) (number line : ℕ) → ToldFault told number line → told ≡ Some text → IsWorkable mode text → ⊥
 fault_works mode told text number line fault is works = let can = can_run mode text works in fault_says told text can.0 number line fault is can.1
 
-stop_says : (told : Option (List ℕ)) (text : List ℕ) (d : Declared) (net : Net) (stop : Stop) → ToldDeclares told net → told ≡ Some text → Says text d → MeetsNoLast d → MakesNoRing d
+stop_says : (told : Option (List ℕ)) (text : List ℕ) (d : Declared) (net : Net) (stop : Stop) → ToldDeclares told net → told ≡ Some text → Says text d → MeetsNoLast d → AlwaysRests d
     → ShowsCause (Some stop) net.world (map batch_turns net.batches.items) → ⊥
-stop_says None text d net stop declares is says none rings shows = cc
-stop_says (Some all) text d net stop declares is says none rings shows =
+stop_says None text d net stop declares is says none rests shows = cc
+stop_says (Some all) text d net stop declares is says none rests shows =
     let same : all ≡ text = cc in
-    never_stops stop text d net says none rings (subst (λ (t : List ℕ). DeclaresNet t net) same declares) shows
+    never_stops stop text d net says none rests (subst (λ (t : List ℕ). DeclaresNet t net) same declares) shows
 
 -- nor does its script stop
 stop_works : (mode : Mode) (told : Option (List ℕ)) (text : List ℕ) (net : Net) (stop : Stop) → ToldDeclares told net → told ≡ Some text → IsWorkable mode text
@@ -105,12 +105,14 @@ not_failed before now status fault counted unrisen is =
 
 -- a text on which the work can be done and no counted fault leave only two ends
 pub completes : (mode : Mode) (told old new : Option (List ℕ)) (text : List ℕ) (status due : ℕ) (journal : List JournalLine)
-    → (due ≡ 0) ⊎ (due ≡ 1) ⊎ (due ≡ 3) ⊎ (due ≡ 4) ⊎ (due ≡ 7) → (status ≡ due) ⊎ (status ≡ 5) → Ends mode told old new status due journal
+    → (due ≡ 0) ⊎ (due ≡ 1) ⊎ (due ≡ 3) ⊎ (due ≡ 4) ⊎ (due ≡ 6) ⊎ (due ≡ 7) → (status ≡ due) ⊎ (status ≡ 5) → Ends mode told old new status due journal
     → told ≡ Some text → IsWorkable mode text → (due ≡ 4 → ⊥) → (status ≡ 5 → ⊥) → (status ≡ 0) ⊎ (status ≡ 3)
 completes mode told old new text status due journal dues either ends is works not_four not_five =
     let not_one : due ≡ 1 → ⊥ = λ one. elim (ends.refused one) [
       | inl refused ↦ fault_works mode told text refused.number refused.line refused.fault is works
       | inr stops ↦ stop_works mode told text stops.net stops.stop stops.declared is works stops.shows
     ] in
-    let not_seven : due ≡ 7 → ⊥ = λ seven. let stops = ends.at_ring seven in stop_works mode told text stops.net stops.stop stops.declared is works stops.shows in
-    grind (arith, not_one, not_four, not_five, not_seven)
+    let not_stopped : (due ≡ 6) ⊎ (due ≡ 7) → ⊥ = λ either. let stops = ends.at_stop either in stop_works mode told text stops.net stops.stop stops.declared is works stops.shows in
+    let not_six : due ≡ 6 → ⊥ = λ six. not_stopped (inl six) in
+    let not_seven : due ≡ 7 → ⊥ = λ seven. not_stopped (inr seven) in
+    grind (arith, not_one, not_four, not_five, not_six, not_seven)

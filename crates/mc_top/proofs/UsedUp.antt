@@ -1,12 +1,13 @@
--- Drawn turns that leave no command make all commands of their batch.
-use Rattle.std.proofs.Common.{◌≡◌, ◌≤◌, ◌+◌, ◌==◌, ◌&&◌, if◌then◌else◌, ℕ, Bool, true, false, List, [], ◌∷◌, length, refl, ap, ◌∙◌, subst, arith}
+-- Turns by the schedule that leave no command make all commands of their batch.
+use Rattle.std.proofs.Common.{◌≡◌, ◌≤◌, ◌+◌, ◌==◌, ◌&&◌, ◌++◌, if◌then◌else◌, ℕ, zero, suc, Bool, true, false, List, [], ◌∷◌, length, refl, ap, sym, ◌∙◌, subst, arith}
 use Rattle.std.proofs.lemmas.Grind.{common_steps}
 use Rattle.std.proofs.lemmas.List.{take_all}
 use Rattle.mc_box.specs.BoxEvents.{is_command}
 use Rattle.mc_box.specs.declared.event.Turn.{Turn}
 use Rattle.mc_model.specs.Settles.{IsStopped, commands_of}
 use Rattle.mc_model.specs.Worlds.{WorldState}
-use Rattle.mc_seq.specs.Schedule.{AreDrawn, Standing, first_standing, standing_after, without_next}
+use Rattle.mc_seq.specs.Retries.{retries_by_box}
+use Rattle.mc_seq.specs.Schedule.{AreDrawn, Goes, MakesRound, Standing, first_standing, standing_after, without_next}
 
 -- how many of the turns are commands of a box
 abbrev count_of : ℕ → List Turn → ℕ
@@ -57,10 +58,34 @@ drawn_counts (turn ∷ turns) now last who draws =
     let apart = one_head (is_command turn.event && turn.who == who) turn (commands_of who turns) in
     omega arith
 
+-- those of two lists are those of each
+both_counts : (one two : List Turn) (who : ℕ) → count_of who (one ++ two) ≡ count_of who one + count_of who two
+both_counts [] two who = omega arith
+both_counts (turn ∷ one) two who =
+    let here = one_head (is_command turn.event && turn.who == who) turn (commands_of who one) in
+    let all = one_head (is_command turn.event && turn.who == who) turn (commands_of who (one ++ two)) in
+    let later = both_counts one two who in
+    omega arith
+
+-- a round lets none go
+round_counts : (still next : Standing) (who : ℕ) → MakesRound still next → count_of who still.left ≡ count_of who next.left
+round_counts still next who round = sym (ap (λ (s : Standing). count_of who s.left) round.then_not)
+
+-- nor do rounds with drawn turns before and behind them
+goes_counts : (rounds : ℕ) (turns : List Turn) (now last : Standing) (who : ℕ) → Goes rounds now turns last → count_of who now.left ≤ count_of who turns + count_of who last.left
+goes_counts zero turns now last who goes = drawn_counts turns now last who goes
+goes_counts (suc rounds) turns now last who (first, rest, still, next, is, draws, round, later) =
+    let before = drawn_counts first now still who draws in
+    let same = round_counts still next who round in
+    let behind = goes_counts rounds rest next last who later in
+    let all : count_of who turns ≡ count_of who first + count_of who (retries_by_box still.world ++ rest) = ap (count_of who) is ∙ both_counts first (retries_by_box still.world ++ rest) who in
+    let others = both_counts (retries_by_box still.world) rest who in
+    omega arith
+
 -- so where none is left all were made
-pub used_up : (world : WorldState) (batch turns : List Turn) (state : ℕ) (last : Standing) → AreDrawn (first_standing world batch state) turns last → last.left ≡ [] → IsStopped world batch turns last.world
+pub used_up : (world : WorldState) (batch turns : List Turn) (state rounds : ℕ) (last : Standing) → Goes rounds (first_standing world batch state) turns last → last.left ≡ [] → IsStopped world batch turns last.world
     → (who : ℕ) → commands_of who turns ≡ commands_of who batch
-used_up world batch turns state last draws none stopped who =
-    let counts = drawn_counts turns (first_standing world batch state) last who draws in
+used_up world batch turns state rounds last goes none stopped who =
+    let counts = goes_counts rounds turns (first_standing world batch state) last who goes in
     let empty : count_of who last.left ≡ 0 = ap (count_of who) none in
     stopped.commands who ∙ take_all (count_of who turns) (commands_of who batch) (omega arith)

@@ -5,15 +5,16 @@ use Rattle.mc_model.specs.Sound.{IsSound}
 use Rattle.mc_model.specs.Worlds.{WorldState}
 use Rattle.mc_script.specs.declared.command.JournalLine.{JournalLine}
 use Rattle.mc_script.specs.declared.command.JournalLine.TheVariants.{Turn as Made}
-use Rattle.mc_seq.specs.Draws.{IsScheduled, StopsAtRing, StopsAtVersion}
+use Rattle.mc_seq.specs.Draws.{IsScheduled, StopsAtRing, StopsAtVersion, StopsRestless}
 use Rattle.mc_top.specs.Journals.{lines_for}
 use Rattle.mc_top.specs.declared.stop.Stop.{Stop}
-use Rattle.mc_top.specs.declared.stop.Stop.TheVariants.{Ring, VersionEnd}
+use Rattle.mc_top.specs.declared.stop.Stop.TheVariants.{Restless, Ring, VersionEnd}
 
 -- the schedule stops so within a batch, behind these turns
 abbrev pub StopsBy : Stop → WorldState → (batch : List Turn) → (state : ℕ) → (turns : List Turn) → (end : ℕ) → Type 0
 StopsBy (VersionEnd at) world batch state turns end = StopsAtVersion world batch state turns end at
 StopsBy (Ring at) world batch state turns end = StopsAtRing world batch state turns end at
+StopsBy (Restless at) world batch state turns end = StopsRestless world batch state turns end at
 
 -- a journal ends within a batch, where it has a stop
 abbrev pub EndsWithin : Option Stop → (state : ℕ) → WorldState → (batch : List Turn) → List JournalLine → Type 0

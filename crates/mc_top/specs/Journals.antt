@@ -8,13 +8,17 @@ use Rattle.mc_laws.specs.Versions.{PassesLast}
 use Rattle.mc_model.specs.Rings.{IsFirstOnRing}
 use Rattle.mc_model.specs.Settles.{IsSettled, IsStopped, MeetsLast, hears_in}
 use Rattle.mc_model.specs.Steps.{step}
+use Rattle.mc_model.specs.Unprogrammed.{HasNoPrograms}
 use Rattle.mc_model.specs.Worlds.{WorldState}
+use Rattle.mc_seq.specs.Restless.{IsRestless}
 use Rattle.mc_box.specs.declared.event.Turn.{Turn}
 use Rattle.mc_settings.specs.Batches.{LeavesNoRing, UseUp}
 use Rattle.mc_script.specs.declared.command.JournalLine.{JournalLine}
 use Rattle.mc_script.specs.declared.command.JournalLine.TheVariants.{Turn as Made, Settled}
+use Rattle.mc_laws.specs.Chains.{ClosesNoChain}
+use Rattle.mc_top.specs.Words.{RestsByWords}
 use Rattle.mc_top.specs.declared.stop.Stop.{Stop}
-use Rattle.mc_top.specs.declared.stop.Stop.TheVariants.{Ring, VersionEnd}
+use Rattle.mc_top.specs.declared.stop.Stop.TheVariants.{Restless, Ring, VersionEnd}
 
 -- the turns of a settle, as lines
 abbrev pub lines_for : List Turn → List JournalLine
@@ -27,10 +31,11 @@ IsJournal world (batch ∷ batches) journal =
     (turns : List Turn) × (last : WorldState) × (rest : List JournalLine)
     × (journal ≡ lines_for turns ++ rest) × IsSettled world batch turns last × IsJournal last batches rest
 
--- why a script stops, behind turns of a batch that leave a world: at the last version, or at the least slot on a ring, where the batch is used up
+-- why a script stops, behind turns of a batch that leave a world: at the last version; or where the batch is used up, at the least slot on a ring, or at the first box whose program can still go on, and has made all its Shifts
 abbrev pub IsCause : Stop → (batch turns : List Turn) → WorldState → Type 0
 IsCause (VersionEnd at) batch turns last = MeetsLast batch turns last at
 IsCause (Ring at) batch turns last = UseUp batch turns × IsFirstOnRing last at
+IsCause (Restless at) batch turns last = UseUp batch turns × IsRestless turns last at
 
 -- turns that stopped within a batch, with their cause; they have no mark
 pub record StopsBatch (world : WorldState) (batch : List Turn) (stop : Stop) (journal : List JournalLine) : Type 0 where
@@ -52,11 +57,12 @@ abbrev pub IsJournalTo : Option Stop → WorldState → List (List Turn) → Lis
 IsJournalTo None world batches journal = IsJournal world batches journal
 IsJournalTo (Some stop) world batches journal = IsStoppedJournal stop world batches journal
 
--- what a stop shows of the batches: at the last version, that the version of some slot in the first world and its Hears are more than that together; at a ring, that the goals of some batch make one
+-- what a stop shows of the batches: at the last version, that the version of some slot in the first world and its Hears are more than that together; at a ring, that the goals of some batch make one, where no box has a program, and that a chain can be closed of the tunnels and of the links that are named, whatever the boxes have; at a restless box, that some box has a program, and that not all go by words, of which too few are told
 abbrev pub ShowsCause : Option Stop → WorldState → List (List Turn) → Type 0
 ShowsCause None world batches = Unit {0}
 ShowsCause (Some (VersionEnd at)) world batches = PassesLast world (λ who local. hears_in who local batches)
-ShowsCause (Some (Ring at)) world batches = LeavesNoRing world batches → ⊥
+ShowsCause (Some (Ring at)) world batches = (HasNoPrograms world → LeavesNoRing world batches → ⊥) × (ClosesNoChain world batches → ⊥)
+ShowsCause (Some (Restless at)) world batches = (HasNoPrograms world → ⊥) × (RestsByWords world batches → ⊥)
 
 -- the world after a turn of a journal
 abbrev pub next_world : WorldState → Turn → WorldState

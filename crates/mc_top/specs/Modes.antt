@@ -5,7 +5,7 @@ use Rattle.std.specs.declared.option.Option.{Option}
 use Rattle.std.specs.Option.{option_and_then}
 use Rattle.mc_text.specs.Spelling.{number_of}
 use Rattle.mc_top.specs.Printed.{journal_text}
-use Rattle.mc_top.specs.Rings.{MakesNoRing}
+use Rattle.mc_top.specs.Rings.{AlwaysRests}
 use Rattle.mc_lines.specs.SoFar.{Declared}
 use Rattle.mc_net.specs.Texts.{Says}
 use Rattle.mc_net.specs.Versions.{MeetsNoLast}
@@ -51,9 +51,9 @@ abbrev pub draws_from : Mode → ℕ
 draws_from Run = 0
 draws_from (One state) = state
 
--- a text declares a network, in whose script no Hear meets the last version and no batch leaves a ring of links
+-- a text declares a network, in whose script no Hear meets the last version and each batch comes to rest
 abbrev pub CanRun : List ℕ → Type 0
-CanRun text = (d : Declared) × Says text d × MeetsNoLast d × MakesNoRing d
+CanRun text = (d : Declared) × Says text d × MeetsNoLast d × AlwaysRests d
 
 -- a mode's work can be done on the text
 abbrev pub IsWorkable : Mode → List ℕ → Type 0

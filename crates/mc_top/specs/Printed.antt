@@ -1,5 +1,5 @@
 -- What is printed at the settles of a journal, and for a faulty text.
-use Rattle.std.specs.Prelude.{ℕ, ◌+◌, List, [], ◌∷◌, ◌++◌, codes, Option, Some, None}
+use Rattle.std.specs.Prelude.{ℕ, ◌+◌, List, [], ◌∷◌, ◌++◌, codes, slice_index_or, Option, Some, None}
 use Rattle.std.specs.Fmt.{decimal}
 use Rattle.std.specs.List.{flat_map}
 use Rattle.mc_slot.specs.declared.State.{State}
@@ -14,13 +14,17 @@ use Rattle.mc_top.specs.Journals.{next_world}
 use Rattle.mc_script.specs.declared.command.JournalLine.{JournalLine}
 use Rattle.mc_script.specs.declared.command.JournalLine.TheVariants.{Turn as Made, Settled}
 use Rattle.mc_top.specs.declared.stop.Stop.{Stop}
-use Rattle.mc_top.specs.declared.stop.Stop.TheVariants.{Ring, VersionEnd}
+use Rattle.mc_top.specs.declared.stop.Stop.TheVariants.{Restless, Ring, VersionEnd}
 
 -- ---- words
 
 abbrev pub state_word : State → List ℕ
 state_word Flowing = codes "flowing"
 state_word state = codes "closed"
+
+-- a box by its number
+abbrev pub box_word : NameLists → ℕ → List ℕ
+box_word names who = slice_index_or names.boxes who []
 
 -- a slot by its number, as `box/slot`
 abbrev pub place_word : NameLists → WorldState → ℕ → List ℕ
@@ -67,15 +71,17 @@ journal_text names number world (Settled ∷ journal) = settle_text names number
 abbrev pub stop_word : Stop → List ℕ
 stop_word (VersionEnd at) = codes "version"
 stop_word (Ring at) = codes "ring"
+stop_word (Restless at) = codes "restless"
 
--- the slot at which it stopped
-abbrev pub stop_slot : Stop → ℕ
-stop_slot (VersionEnd at) = at
-stop_slot (Ring at) = at
+-- where it stopped: a slot by its place in the first world, or a box
+abbrev pub stop_place : NameLists → WorldState → Stop → List ℕ
+stop_place names world (VersionEnd at) = place_word names world at
+stop_place names world (Ring at) = place_word names world at
+stop_place names world (Restless at) = box_word names at
 
--- the one line for a script that stopped, whose slot has its place in the first world
+-- the one line for a script that stopped
 abbrev pub stop_line : NameLists → WorldState → Stop → List ℕ
-stop_line names world stop = line_of (stop_word stop ∷ place_word names world (stop_slot stop) ∷ [])
+stop_line names world stop = line_of (stop_word stop ∷ stop_place names world stop ∷ [])
 
 -- what is printed for a journal from a world: its settles, or for a stop that line alone
 abbrev pub run_text : NameLists → WorldState → Option Stop → List JournalLine → List ℕ

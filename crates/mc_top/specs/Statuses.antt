@@ -1,33 +1,34 @@
 -- What is said of the statuses with which a call ends.
 use Rattle.std.specs.Prelude.{ℕ, ◌≡◌, ◌⊎◌, ◌==◌, ◌||◌, Bool, Option, Some, None}
-use Rattle.mc_top.specs.declared.status.TheConstants.{WORKED, FAULTY_TEXT, VERSION_END, USAGE, NO_MEMORY, READ_FAULT, RING}
+use Rattle.mc_top.specs.declared.status.TheConstants.{WORKED, FAULTY_TEXT, VERSION_END, USAGE, NO_MEMORY, READ_FAULT, RESTLESS, RING}
 use Rattle.mc_top.specs.declared.stop.Stop.{Stop}
-use Rattle.mc_top.specs.declared.stop.Stop.TheVariants.{Ring, VersionEnd}
+use Rattle.mc_top.specs.declared.stop.Stop.TheVariants.{Restless, Ring, VersionEnd}
 
 -- the status may be due: each may but that of a fault in writing
 abbrev pub IsDue : ℕ → Type 0
-IsDue due = (due ≡ WORKED) ⊎ (due ≡ FAULTY_TEXT) ⊎ (due ≡ USAGE) ⊎ (due ≡ NO_MEMORY) ⊎ (due ≡ READ_FAULT) ⊎ (due ≡ RING)
+IsDue due = (due ≡ WORKED) ⊎ (due ≡ FAULTY_TEXT) ⊎ (due ≡ USAGE) ⊎ (due ≡ NO_MEMORY) ⊎ (due ≡ READ_FAULT) ⊎ (due ≡ RESTLESS) ⊎ (due ≡ RING)
 
 -- the status may be due where the words are a mode's
 abbrev pub IsDueForMode : ℕ → Type 0
-IsDueForMode due = (due ≡ WORKED) ⊎ (due ≡ FAULTY_TEXT) ⊎ (due ≡ NO_MEMORY) ⊎ (due ≡ READ_FAULT) ⊎ (due ≡ RING)
+IsDueForMode due = (due ≡ WORKED) ⊎ (due ≡ FAULTY_TEXT) ⊎ (due ≡ NO_MEMORY) ⊎ (due ≡ READ_FAULT) ⊎ (due ≡ RESTLESS) ⊎ (due ≡ RING)
 
 -- the status may be due for a text that was read whole; that of a stop at the last version is that of a fault
 abbrev pub IsDueForText : ℕ → Type 0
-IsDueForText due = (due ≡ WORKED) ⊎ (due ≡ FAULTY_TEXT) ⊎ (due ≡ NO_MEMORY) ⊎ (due ≡ RING)
+IsDueForText due = (due ≡ WORKED) ⊎ (due ≡ FAULTY_TEXT) ⊎ (due ≡ NO_MEMORY) ⊎ (due ≡ RESTLESS) ⊎ (due ≡ RING)
 
 -- the text was read, and it was found to have a fault or none
 abbrev pub judges_text : ℕ → Bool
-judges_text due = due == WORKED || due == FAULTY_TEXT || due == RING
+judges_text due = due == WORKED || due == FAULTY_TEXT || due == RESTLESS || due == RING
 
 -- what was settled, and made up to a stop, is in the journal
 abbrev pub keeps_journal : ℕ → Bool
-keeps_journal due = due == WORKED || due == VERSION_END || due == RING
+keeps_journal due = due == WORKED || due == VERSION_END || due == RESTLESS || due == RING
 
 -- the status with which a call ends whose script stopped
 abbrev pub stop_status : Stop → ℕ
 stop_status (VersionEnd at) = VERSION_END
 stop_status (Ring at) = RING
+stop_status (Restless at) = RESTLESS
 
 -- the status that is due for a script that was run to its end, or to a stop
 abbrev pub due_by : Option Stop → ℕ

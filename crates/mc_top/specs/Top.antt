@@ -16,7 +16,7 @@ use Rattle.mc_top.specs.Modes.{draws_from, output_of, reads}
 use Rattle.mc_top.specs.Printed.{fault_line, stop_line}
 use Rattle.mc_top.specs.Statuses.{keeps_journal, stop_status}
 use Rattle.mc_script.specs.declared.command.JournalLine.{JournalLine}
-use Rattle.mc_top.specs.declared.status.TheConstants.{WORKED, FAULTY_TEXT, USAGE, NO_MEMORY, READ_FAULT, RING, WRITE_FAULT}
+use Rattle.mc_top.specs.declared.status.TheConstants.{WORKED, FAULTY_TEXT, USAGE, NO_MEMORY, READ_FAULT, RESTLESS, RING, WRITE_FAULT}
 use Rattle.mc_top.specs.declared.stop.Stop.{Stop}
 use Rattle.mc_top.specs.declared.top.Done.{Done}
 use Rattle.mc_top.specs.declared.words.Mode.{Mode}
@@ -96,7 +96,7 @@ pub record StopsScript (mode : Mode) (told old new : Option (List ℕ)) (status 
 pub record Ends (mode : Mode) (told old new : Option (List ℕ)) (status due : ℕ) (journal : List JournalLine) : Type 0 where
   pub worked : due ≡ WORKED → Worked mode told old new status journal
   pub refused : due ≡ FAULTY_TEXT → Refused told old new status journal ⊎ StopsScript mode told old new status due journal
-  pub at_ring : due ≡ RING → StopsScript mode told old new status due journal
+  pub at_stop : (due ≡ RESTLESS) ⊎ (due ≡ RING) → StopsScript mode told old new status due journal
   pub gave_up : (due ≡ NO_MEMORY) ⊎ (due ≡ READ_FAULT) → (status ≡ due) × Keeps old new
   pub no_journal : IsFalse (keeps_journal due) → journal ≡ []
 

@@ -13,12 +13,13 @@ pub fn drawn_journal_is_one()
 }
 
 /// Two runs of one text that settle all its batches print the same, however their boxes take turns and in whichever
-/// modes, if no batch leaves a path of hold against hold: then the text alone decides what is printed.
+/// modes, if no box has a program and no batch leaves a path of hold against hold: then the text alone decides what is
+/// printed.
 pub fn text_alone_decides()
     ensures { TextAloneDecides }
 {}
 
-/// So two calls that did their work on one text have the same to print, under the same premise.
+/// So two calls that did their work on one text have the same to print, under the same premises.
 pub fn calls_print_same()
     ensures { CallsPrintSame }
 {}

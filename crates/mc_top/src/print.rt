@@ -1,8 +1,8 @@
 // What is printed for a script that stopped, and for a faulty text.
-ghost use Rattle.std.specs.Prelude.{◌≡◌, ◌<◌, ◌∷◌, [], IfOk, length};
+ghost use Rattle.std.specs.Prelude.{◌≡◌, ◌<◌, ◌∷◌, [], IfOk, codes, length};
 ghost use Rattle.mc_table.specs.Words.{line_of};
 ghost use Rattle.mc_text.specs.NameLists.{slot_names, slot_word};
-ghost use Rattle.mc_top.specs.Printed.{fault_line, stop_word};
+ghost use Rattle.mc_top.specs.Printed.{box_word, fault_line, stop_word};
 
 use crate::stop::Stop;
 use mc_net::TextFault;
@@ -30,6 +30,16 @@ pub fn print_stop(
     Ok(out)
 }
 
+/// The line that is printed for a script that stopped at a box.
+pub fn print_restless(alloc: Global, names: &Names, who: u32) -> Result<Vec<u8>, AllocError>
+    requires { who < length names.now.boxes }
+    ensures { IfOk result (λ line. line.items ≡ line_of (codes "restless" ∷ box_word names.now who ∷ [])) }
+{
+    let mut out = Vec::new(alloc);
+    put_line(b"restless", &[names.box_name(who)], &mut out)?;
+    Ok(out)
+}
+
 // The word for why a script stopped.
 fn stop_word(stop: Stop) -> &'static [u8]
     ensures { result.now ≡ stop_word stop }
@@ -37,6 +47,7 @@ fn stop_word(stop: Stop) -> &'static [u8]
     match stop {
         Stop::VersionEnd(_) => b"version",
         Stop::Ring(_) => b"ring",
+        Stop::Restless(_) => b"restless",
     }
 }
 

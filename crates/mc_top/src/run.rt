@@ -1,7 +1,6 @@
 // A script, settle by settle.
-ghost use Rattle.std.specs.Prelude.{◌≡◌, ◌++◌, ◌∷◌, ◌<◌, ◌≤◌, [], length, map, Some, IfOk, OnOk};
+ghost use Rattle.std.specs.Prelude.{◌≡◌, ◌++◌, ◌∷◌, ◌<◌, ◌≤◌, [], codes, length, map, Some, IfOk, OnOk};
 ghost use Rattle.mc_model.specs.Shapes.{AreAllAllowed, AreAllowed};
-ghost use Rattle.mc_model.specs.Unprogrammed.{HasNoPrograms};
 ghost use Rattle.mc_net.specs.Nets.{NamesAll, batch_turns};
 ghost use Rattle.mc_lines.specs.declared.limit.TheConstants.{COMMAND_LIMIT};
 ghost use Rattle.mc_script.specs.declared.command.JournalLine.TheVariants.{Turn as Made};
@@ -10,15 +9,16 @@ ghost use Rattle.mc_text.specs.NameLists.{slot_names, slot_word};
 ghost use Rattle.mc_top.specs.Drawn.{IsDrawnJournal};
 ghost use Rattle.mc_top.specs.Journals.{HoldsAtSettles, IsJournalTo, ShowsCause, lines_for};
 ghost use Rattle.mc_top.specs.Outcomes.{CameOf};
-ghost use Rattle.mc_top.specs.Printed.{run_text, stop_word};
+ghost use Rattle.mc_top.specs.Printed.{box_word, run_text, stop_word};
 ghost use Rattle.mc_top.specs.Scripts.{first_state};
+ghost use Rattle.mc_top.specs.declared.stop.Stop.TheVariants.{Restless};
 
-use crate::print::print_stop;
+use crate::print::{print_restless, print_stop};
 use crate::stop::Stop;
 use mc_box::Turn;
 use mc_path::paths;
 use mc_script::{Batch, JournalLine};
-use mc_seq::{SettleFault, Stopped, settle_one};
+use mc_seq::{SettleFault, Stopped, StoppedBox, settle_one};
 use mc_table::print_settle;
 use mc_text::{Draws, Names};
 use mc_world::World;
@@ -83,7 +83,6 @@ impl Progress {
         batch: &[Turn],
     ) -> Result<Outcome, AllocError>
         requires allowed { AreAllowed self.world batch.now }
-        requires unprogrammed { HasNoPrograms self.world }
         requires named { NamesAll names.now self.world }
         ensures { IfOk result (λ outcome. CameOf names.now number batch.now self outcome) }
     {
@@ -118,6 +117,10 @@ impl Progress {
                 let run = stop_at(alloc, names, journal, stop, stopped)?;
                 Ok(Outcome::Stopped(run))
             }
+            Err(SettleFault::Restless(stopped)) => {
+                let run = stop_restless(alloc, names, journal, stopped)?;
+                Ok(Outcome::Stopped(run))
+            }
             Err(SettleFault::NoMemory(e)) => Err(e),
         }
     }
@@ -127,7 +130,7 @@ impl Progress {
 fn stop_at(
     alloc: Global,
     names: &Names,
-    mut journal: Vec<JournalLine>,
+    journal: Vec<JournalLine>,
     stop: Stop,
     stopped: Stopped,
 ) -> Result<Run, AllocError>
@@ -138,8 +141,39 @@ fn stop_at(
         ≡ line_of (stop_word stop ∷ slot_word names.now stopped.place.0 stopped.place.1 ∷ [])) }
     ensures stop { IfOk result (λ run. run.stop ≡ Some stop) }
 {
-    log_turns(&stopped.turns, &mut journal)?;
     let output = print_stop(alloc, names, stop, stopped.place)?;
+    end_at(stop, &stopped.turns, output, journal)
+}
+
+// A script that stopped at a box whose program doesn't come to rest, in the same way.
+fn stop_restless(
+    alloc: Global,
+    names: &Names,
+    journal: Vec<JournalLine>,
+    stopped: StoppedBox,
+) -> Result<Run, AllocError>
+    requires { stopped.at < length names.now.boxes }
+    ensures journal { IfOk result (λ run. run.journal.items ≡ journal.items ++ map Made stopped.turns.items) }
+    ensures output { IfOk result (λ run. run.output.items
+        ≡ line_of (codes "restless" ∷ box_word names.now stopped.at ∷ [])) }
+    ensures stop { IfOk result (λ run. run.stop ≡ Some (Restless stopped.at)) }
+{
+    let output = print_restless(alloc, names, stopped.at)?;
+    end_at(Stop::Restless(stopped.at), &stopped.turns, output, journal)
+}
+
+// Ends a script at a stop, behind these turns.
+fn end_at(
+    stop: Stop,
+    turns: &[Turn],
+    output: Vec<u8>,
+    mut journal: Vec<JournalLine>,
+) -> Result<Run, AllocError>
+    ensures journal { IfOk result (λ run. run.journal.items ≡ journal.items ++ map Made turns.now) }
+    ensures output { IfOk result (λ run. run.output ≡ output) }
+    ensures stop { IfOk result (λ run. run.stop ≡ Some stop) }
+{
+    log_turns(turns, &mut journal)?;
     Ok(Run {
         output,
         journal,
@@ -169,8 +203,8 @@ fn log(turns: &[Turn], journal: &mut Vec<JournalLine>) -> Result<(), AllocError>
 /// Runs a script: settles its batches one after the other by draws, which go on from settle to settle, and prints the
 /// paths after each. It ends before that where a batch stops, and then the line of the stop is all that it prints.
 ///
-/// All that the world has is named, the world allows each command, no box has a program, and there are no more batches
-/// than a text may have commands.
+/// All that the world has is named, the world allows each command, and there are no more batches than a text may have
+/// commands.
 pub fn run_script(
     alloc: Global,
     names: &Names,
@@ -180,7 +214,6 @@ pub fn run_script(
 ) -> Result<Run, AllocError>
     requires named { NamesAll names.now world }
     requires allowed { AreAllAllowed world (map batch_turns batches.now) }
-    requires unprogrammed { HasNoPrograms world }
     requires few { length batches.now ≤ COMMAND_LIMIT }
     ensures ran { IfOk result (λ run. IsJournalTo run.stop world (map batch_turns batches.now) run.journal.items) }
     ensures drawn { IfOk result (λ run.

@@ -21,5 +21,8 @@ pub const READ_FAULT: u8 = 4;
 /// The sink failed.
 pub const WRITE_FAULT: u8 = 5;
 
+/// A script stopped at a box whose program doesn't come to rest.
+pub const RESTLESS: u8 = 6;
+
 /// A script stopped at a ring of links.
 pub const RING: u8 = 7;

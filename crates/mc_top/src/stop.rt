@@ -3,7 +3,7 @@
 ghost use Rattle.std.specs.Prelude.{◌≡◌};
 ghost use Rattle.mc_top.specs.Statuses.{due_by};
 
-use crate::status::{RING, VERSION_END, WORKED};
+use crate::status::{RESTLESS, RING, VERSION_END, WORKED};
 
 /// Why a script stopped before its end.
 #[derive(Clone, Copy, Debug, PartialEq, Eq)]
@@ -12,6 +12,9 @@ pub enum Stop {
     VersionEnd(u32),
     /// The commands of a batch left a ring of links; of the slots on one this is the least, by its number.
     Ring(u32),
+    /// The program of this box, by its number, doesn't come to rest: nothing is under way, the box has made all Shifts that
+    /// it may make in a settle, and has one more enabled. It is the least box that can make a Shift.
+    Restless(u32),
 }
 
 /// The status that is due for a script that stopped so, or came to its end.
@@ -22,5 +25,6 @@ pub fn due_by(stop: Option<Stop>) -> u8
         None => WORKED,
         Some(Stop::VersionEnd(_)) => VERSION_END,
         Some(Stop::Ring(_)) => RING,
+        Some(Stop::Restless(_)) => RESTLESS,
     }
 }

@@ -5,7 +5,7 @@ use Rattle.mc_net.specs.Nets.{batch_turns}
 use Rattle.mc_top.specs.Outcomes.{CameOf, Stopping}
 use Rattle.mc_top.specs.Scripts.{Settling}
 use Rattle.mc_top.proofs.Causes.{ran_shows}
-use Rattle.mc_top.proofs.Running.{all_drawn, all_printed, all_settled, batch_allowed, goes_first, goes_next, goes_to_end, ran_holds, still_unprogrammed}
+use Rattle.mc_top.proofs.Running.{all_drawn, all_printed, all_settled, batch_allowed, goes_first, goes_next, goes_to_end, ran_holds}
 use Rattle.mc_top.proofs.Stopping.{EndsAtStop, stops_at}
 use Rattle.mc_top.proofs.run.run_script.Goals as goal
 
@@ -16,9 +16,6 @@ pub settle-requires-clause-allowed : goal.settle-requires-clause-allowed
 settle-requires-clause-allowed c =
     subst (AreAllowed c.loop-index.progress.world) (sym (c.deref.ensures.value ∙ ap batch_turns c.index-batches-index.is))
     (batch_allowed c.args.names.now c.args.world c.args.draws.state c.args.batches.now c.loop-index.index c.index-batches-index.result _ c.loop-index.progress (omega (arith, c.loop-index-test.true)) c.keeps.ensures.sound c.requires.allowed c.loop-index.invariant)
-
-pub settle-requires-clause-unprogrammed : goal.settle-requires-clause-unprogrammed
-settle-requires-clause-unprogrammed c = still_unprogrammed c.args.names.now c.args.world c.args.draws.state _ _ c.loop-index.index c.loop-index.progress c.requires.unprogrammed c.loop-index.invariant
 
 pub loop-index-preserved : goal.loop-index-preserved
 loop-index-preserved c =
@@ -48,7 +45,7 @@ returns-in-Stopped-clause-holds c = ran_holds c.in-Stopped.run'.stop (map batch_
 
 pub returns-in-Stopped-clause-shows : goal.returns-in-Stopped-clause-shows
 returns-in-Stopped-clause-shows c =
-    ran_shows c.in-Stopped.run'.stop (map batch_turns c.args.batches.now) c.args.world c.in-Stopped.run'.journal.items c.keeps.ensures.sound c.requires.unprogrammed (stops c).ran
+    ran_shows c.in-Stopped.run'.stop (map batch_turns c.args.batches.now) c.args.world c.in-Stopped.run'.journal.items c.keeps.ensures.sound (stops c).ran
 
 pub returns-clause-ran : goal.returns-clause-ran
 returns-clause-ran c =

@@ -1,9 +1,5 @@
 use Rattle.mc_top.proofs.Ending.{ends_ran}
-use Rattle.mc_top.proofs.TextAlone.{first_unprogrammed}
 use Rattle.mc_top.proofs.top.run_net.Goals as goal
-
-pub run_script-requires-clause-unprogrammed : goal.run_script-requires-clause-unprogrammed
-run_script-requires-clause-unprogrammed g c = first_unprogrammed c.requires.declares.declared c.args.net.world c.requires.declares.world
 
 pub returns-in-Ok-clause-ends : goal.returns-in-Ok-clause-ends
 returns-in-Ok-clause-ends g c =

@@ -2,12 +2,12 @@ use Rattle.std.proofs.Common.{ℕ, List, ◌++◌, ◌∙◌, ap, subst}
 use Rattle.mc_path_laws.proofs.SettledHold.{settled_paths_hold}
 use Rattle.mc_seq.specs.Draws.{StopsByDraws}
 use Rattle.mc_seq.specs.declared.fault.SettleFault.{SettleFault}
-use Rattle.mc_seq.specs.declared.fault.SettleFault.TheVariants.{Ring as AtRing, VersionEnd as EndsVersion}
+use Rattle.mc_seq.specs.declared.fault.SettleFault.TheVariants.{Restless as NeverRests, Ring as AtRing, VersionEnd as EndsVersion}
 use Rattle.mc_table.specs.Shown.{print_settle}
 use Rattle.mc_top.specs.Outcomes.{Stopping}
 use Rattle.mc_top.specs.Scripts.{ScriptState, Settling}
 use Rattle.mc_top.proofs.Running.{after_settle}
-use Rattle.mc_top.proofs.Stopping.{ring_named, stops_ring, stops_version, version_named}
+use Rattle.mc_top.proofs.Stopping.{restless_named, ring_named, stops_restless, stops_ring, stops_version, version_named}
 use Rattle.mc_top.proofs.Viewing.{settle_is, views_named}
 use Rattle.mc_top.proofs.run.Progress.settle.Goals as goal
 
@@ -75,3 +75,18 @@ returns-in_ok-run-in-Err-Ring c =
     (stops_ring c.args.names.now c.args.batch.now (record { world = c.self.inside.world; draws = c.self.inside.draws.state; journal = c.self.inside.journal.items; output = c.self.inside.output.items }) c.settle_one.new.draws.state c.in-Err-Ring.stopped c.in_ok-run-in-Err-Ring.run'
     (subst (λ (fault : SettleFault). StopsByDraws c.self.inside.world c.args.batch.now c.self.inside.draws.state c.settle_one.new.draws.state fault) c.in-Err-Ring.field-0-is c.in-Err-Ring.ensures.stops)
     (rw c.in-Err-Ring.field-0-is at c.in_ok-run-in-Err-Ring.ensures.journal) (rw c.in-Err-Ring.field-0-is at c.in_ok-run-in-Err-Ring.ensures.output) (rw c.in-Err-Ring.field-0-is at c.in_ok-run-in-Err-Ring.ensures.stop))
+
+-- how it doesn't come to rest
+restless : (c : goal.In-Err-Restless) → StopsByDraws c.self.inside.world c.args.batch.now c.self.inside.draws.state c.settle_one.new.draws.state (NeverRests c.in-Err-Restless.stopped)
+restless c = subst (λ (fault : SettleFault). StopsByDraws c.self.inside.world c.args.batch.now c.self.inside.draws.state c.settle_one.new.draws.state fault) c.in-Err-Restless.field-0-is c.in-Err-Restless.ensures.stops
+
+pub stop_restless-requires : goal.stop_restless-requires
+stop_restless-requires c =
+    rw c.in-Err-Restless.field-0-is (restless_named c.args.names.now c.self.inside.world c.args.batch.now _ _ c.in-Err-Restless.stopped c.keeps.ensures.sound (rw (← c.self.view_is) at c.requires.named) (restless c))
+
+pub returns-in_ok-run-in-Err-Restless : goal.returns-in_ok-run-in-Err-Restless
+returns-in_ok-run-in-Err-Restless c =
+    subst (λ (s : ScriptState). Stopping c.args.names.now c.args.batch.now s c.in_ok-run-in-Err-Restless.run') c.self.view_is
+    (stops_restless c.args.names.now c.args.batch.now (record { world = c.self.inside.world; draws = c.self.inside.draws.state; journal = c.self.inside.journal.items; output = c.self.inside.output.items }) c.settle_one.new.draws.state c.in-Err-Restless.stopped c.in_ok-run-in-Err-Restless.run'
+    (subst (λ (fault : SettleFault). StopsByDraws c.self.inside.world c.args.batch.now c.self.inside.draws.state c.settle_one.new.draws.state fault) c.in-Err-Restless.field-0-is c.in-Err-Restless.ensures.stops)
+    (rw c.in-Err-Restless.field-0-is at c.in_ok-run-in-Err-Restless.ensures.journal) (rw c.in-Err-Restless.field-0-is at c.in_ok-run-in-Err-Restless.ensures.output) (rw c.in-Err-Restless.field-0-is at c.in_ok-run-in-Err-Restless.ensures.stop))
