@@ -12,7 +12,7 @@ use Rattle.mc_box.proofs.Options.{then_some}
 use Rattle.mc_box.specs.declared.event.Turn.{Turn}
 use Rattle.mc_laws.proofs.Numbers.{number_is}
 use Rattle.mc_laws.proofs.ShapesKept.{run_keeps_shape}
-use Rattle.mc_model.specs.Settles.{IsSettled, can_shift}
+use Rattle.mc_model.specs.Settles.{IsSettled, can_shift, is_shift_of}
 use Rattle.mc_model.specs.Shapes.{AreAllowed}
 use Rattle.mc_model.specs.Sound.{IsSound}
 use Rattle.mc_model.specs.Steps.{heard_local, heard_slot, run}
@@ -21,7 +21,7 @@ use Rattle.mc_world.specs.declared.settled.Settled.{Settled}
 use Rattle.mc_seq.specs.Drawing.{CameToRest, CameToRing, CameToShift, DrewAll, DrewTurn, Ended, Moment, RanOut, RoundMade, Sight, WentOn, WentRestless, WentToRest, WentToRing, first_sight, sight_at, turns_of_programs}
 use Rattle.mc_seq.specs.Draws.{SettlesByDraws, StopsAtRing, StopsAtVersion, StopsByDraws, StopsRestless}
 use Rattle.mc_seq.specs.Places.{Answered, IsInside, IsPlaced, TellsSlot}
-use Rattle.mc_seq.specs.Restless.{IsFirstShifter, is_shift_of}
+use Rattle.mc_seq.specs.Restless.{IsFirstShifter}
 use Rattle.mc_seq.specs.Retries.{retries_by_box}
 use Rattle.mc_seq.specs.Schedule.{AreDrawn, Goes, IsStill, MakesRound, Standing, all_candidates, first_standing, is_urgent}
 use Rattle.mc_seq.specs.declared.fault.SettleFault.{SettleFault}

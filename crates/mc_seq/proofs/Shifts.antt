@@ -11,11 +11,10 @@ use Rattle.mc_box.specs.BoxEvents.{is_command, is_enabled, is_shift}
 use Rattle.mc_box.specs.declared.event.Event.{Event}
 use Rattle.mc_box.specs.declared.event.Event.TheVariants.{Take, Set, Media, Tell, Retry, Shift}
 use Rattle.mc_box.specs.declared.event.Turn.{Turn}
-use Rattle.mc_model.specs.Settles.{takes_or_retries}
+use Rattle.mc_model.specs.Settles.{takes_or_retries, is_shift_of}
 use Rattle.mc_model.specs.Worlds.{WorldState, box_at}
 use Rattle.mc_seq.specs.Drawing.{turns_of_programs}
 use Rattle.mc_seq.specs.Draws.{RoundsAreFew, ShiftsAreFew}
-use Rattle.mc_seq.specs.Restless.{is_shift_of}
 use Rattle.mc_seq.specs.Retries.{retries_by_box}
 use Rattle.mc_seq.specs.Schedule.{AreDrawn, Goes, Standing, drawn_turn, due_by, first_standing, shifts_by, standing_after}
 use Rattle.mc_seq.specs.declared.limit.TheConstants.{SHIFT_LIMIT}

@@ -6,13 +6,13 @@ use Rattle.mc_box.specs.declared.event.Turn.{Turn}
 use Rattle.mc_model.specs.Shapes.{AreAllowed}
 use Rattle.mc_laws.specs.Measures.{IsRingFree, measure}
 use Rattle.mc_model.specs.Rings.{IsFirstOnRing}
-use Rattle.mc_model.specs.Settles.{IsSettled, IsStopped, MeetsLast}
+use Rattle.mc_model.specs.Settles.{IsSettled, IsStopped, MeetsLast, is_shift_of}
 use Rattle.mc_model.specs.Sound.{IsSound}
 use Rattle.mc_model.specs.Unprogrammed.{ShiftNone}
 use Rattle.mc_model.specs.Worlds.{WorldState}
 use Rattle.mc_world.specs.declared.settled.Settled.{Settled}
 use Rattle.mc_seq.specs.Places.{IsPlaced}
-use Rattle.mc_seq.specs.Restless.{IsRestless, is_shift_of}
+use Rattle.mc_seq.specs.Restless.{IsRestless}
 use Rattle.mc_seq.specs.Schedule.{AreDrawn, Goes, IsStill, Standing, first_standing, candidates, drawn_turn}
 use Rattle.mc_seq.specs.declared.fault.SettleFault.{SettleFault}
 use Rattle.mc_seq.specs.declared.fault.SettleFault.TheVariants.{NoMemory, Restless, Ring, VersionEnd}

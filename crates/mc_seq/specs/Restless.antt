@@ -1,16 +1,12 @@
 -- Worlds whose programs don't come to rest.
-use Rattle.std.specs.Prelude.{◌≡◌, ◌<◌, ◌==◌, ◌&&◌, ℕ, Bool, true, false, IsTrue, List, count_by, length, Option, Some, None}
-use Rattle.mc_box.specs.BoxEvents.{is_enabled, is_shift}
+use Rattle.std.specs.Prelude.{◌≡◌, ◌<◌, ℕ, false, true, IsTrue, List, count_by, length, Option, Some, None}
+use Rattle.mc_box.specs.BoxEvents.{is_enabled}
 use Rattle.mc_box.specs.declared.event.Event.TheVariants.{Shift}
 use Rattle.mc_box.specs.declared.event.Turn.{Turn}
 use Rattle.mc_model.specs.Paths.{has_ring}
-use Rattle.mc_model.specs.Settles.{can_shift, is_quiet}
+use Rattle.mc_model.specs.Settles.{can_shift, is_quiet, is_shift_of}
 use Rattle.mc_model.specs.Worlds.{WorldState, box_at}
 use Rattle.mc_seq.specs.declared.limit.TheConstants.{SHIFT_LIMIT}
-
--- the turn is a Shift of this box
-abbrev pub is_shift_of : ℕ → Turn → Bool
-is_shift_of who turn = is_shift turn.event && turn.who == who
 
 -- the program of this box has an enabled transition, and that of no box before it
 pub record IsFirstShifter (world : WorldState) (who : ℕ) : Type 0 where
