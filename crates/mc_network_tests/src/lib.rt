@@ -7,6 +7,8 @@ mod fault;
 #[cfg(test)]
 mod networks;
 #[cfg(test)]
+mod programs;
+#[cfg(test)]
 mod settles;
 #[cfg(test)]
 mod steps;

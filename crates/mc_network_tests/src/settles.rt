@@ -4,12 +4,13 @@ ghost use Rattle.std.specs.Prelude.{◌<◌};
 
 use crate::fault::TestFault;
 use crate::networks::{device, feature, two_devices, two_features};
+use crate::programs::{drawn_program, flipping};
 use mc_box::limit::LAST_VERSION;
 use mc_box::{Change, Event, MediaChange, Turn};
 use mc_plan::{BoxPlan, Plan};
-use mc_seq::{SettleFault, fits, has_programs, settle_one, settle_plainly};
+use mc_seq::{SHIFT_LIMIT, SettleFault, fits, settle_one, settle_plainly};
 use mc_signal::Medium;
-use mc_slot::Goal;
+use mc_slot::{Goal, State};
 use mc_text::Draws;
 use mc_world::{Settled, World};
 use std::alloc::{AllocError, Global};
@@ -27,7 +28,6 @@ fn settle<R: Abort + AllocGlobal>(
     draws: &mut Draws,
 ) -> Result<Settled, SettleFault> {
     assert!(rt; fits(&world, batch));
-    assert!(rt; !has_programs(&world));
     settle_one(rt.alloc(), world, batch, draws)
 }
 
@@ -119,6 +119,7 @@ enum Ending {
     Rest,
     Ring(u32),
     VersionEnd(u32),
+    Restless(u32),
     NoMemory,
     Refused,
 }
@@ -148,6 +149,11 @@ fn outcome_of(alloc: Global, settled: Result<Settled, SettleFault>, draws: u32) 
             turns: stop.turns,
             draws,
         },
+        Err(SettleFault::Restless(stop)) => Outcome {
+            ending: Ending::Restless(stop.at),
+            turns: stop.turns,
+            draws,
+        },
         Err(SettleFault::NoMemory(_)) => ended(alloc, Ending::NoMemory, draws),
     }
 }
@@ -162,7 +168,7 @@ fn ended(alloc: Global, ending: Ending, draws: u32) -> Outcome {
 
 fn by_counts(alloc: Global, world: World, batch: &[Turn], state: u32) -> Outcome {
     let mut draws = Draws { state };
-    if !fits(&world, batch) || has_programs(&world) {
+    if !fits(&world, batch) {
         return ended(alloc, Ending::Refused, state);
     }
     let settled = settle_one(alloc, world, batch, &mut draws);
@@ -171,7 +177,7 @@ fn by_counts(alloc: Global, world: World, batch: &[Turn], state: u32) -> Outcome
 
 fn by_lists(alloc: Global, world: World, batch: &[Turn], state: u32) -> Outcome {
     let mut draws = Draws { state };
-    if !fits(&world, batch) || has_programs(&world) {
+    if !fits(&world, batch) {
         return ended(alloc, Ending::Refused, state);
     }
     let settled = settle_plainly(alloc, world, batch, &mut draws);
@@ -179,7 +185,7 @@ fn by_lists(alloc: Global, world: World, batch: &[Turn], state: u32) -> Outcome 
 }
 
 // A draw below a limit; 0 where that is 0.
-fn below(draws: &mut Draws, limit: u32) -> u32
+pub fn below(draws: &mut Draws, limit: u32) -> u32
     ensures { 0 < limit → result < limit }
 {
     if limit == 0 { 0 } else { draws.draw() % limit }
@@ -197,7 +203,7 @@ fn drawn_box(draws: &mut Draws) -> BoxPlan {
 }
 
 // A network of two to five boxes, at times of features alone, with up to six channels between them.
-fn drawn_world(alloc: Global, draws: &mut Draws) -> Result<World, TestFault> {
+fn drawn_plan(alloc: Global, draws: &mut Draws) -> Result<Plan, TestFault> {
     let mut plan = Plan::new(alloc);
     let features = below(draws, 3) == 0;
     let boxes = 2 + below(draws, if features { 2 } else { 4 });
@@ -219,7 +225,39 @@ fn drawn_world(alloc: Global, draws: &mut Draws) -> Result<World, TestFault> {
         // a channel from a box to itself is refused
         let _ = plan.join(from, to, media);
     }
-    Ok(plan.world()?)
+    Ok(plan)
+}
+
+fn drawn_world(alloc: Global, draws: &mut Draws) -> Result<World, TestFault> {
+    Ok(drawn_plan(alloc, draws)?.world()?)
+}
+
+// How many slots a box has; 0 for one that isn't there.
+fn slot_number(plan: &Plan, who: u32) -> u8 {
+    if (who as usize) < plan.boxes().len() {
+        plan.slots(who).min(64) as u8
+    } else {
+        0
+    }
+}
+
+// Such a network in which most features have a program.
+fn programmed_world(alloc: Global, draws: &mut Draws) -> Result<World, TestFault> {
+    let plan = drawn_plan(alloc, draws)?;
+    let mut slots = [0u8; 5];
+    for who in 0..5u8 {
+        slots[who as usize] = slot_number(&plan, u32::from(who));
+    }
+    let mut layout = plan.layout()?;
+    for who in 0..5u8 {
+        let count = slots[who as usize];
+        if 0 < count && below(draws, 4) != 0 {
+            let program = drawn_program(alloc, draws, count)?;
+            // a device gets none
+            let _ = layout.program(u32::from(who), program);
+        }
+    }
+    Ok(layout.world()?)
 }
 
 // A command for a network of that size, which may refuse it.
@@ -238,12 +276,33 @@ fn drawn_command(draws: &mut Draws) -> Turn {
     turn(who, event)
 }
 
+// The same, or a Tell of one of three words.
+fn drawn_order(draws: &mut Draws) -> Turn {
+    if below(draws, 3) == 0 {
+        let who = below(draws, 5);
+        return turn(who, Event::Tell(below(draws, 3) as u8));
+    }
+    drawn_command(draws)
+}
+
 // Commands that the world allows, at times far more than there are boxes.
 fn drawn_batch(alloc: Global, world: &World, draws: &mut Draws) -> Result<Vec<Turn>, TestFault> {
     let mut batch = Vec::new(alloc);
     let most = if below(draws, 8) == 0 { 240 } else { 40 };
     for _command in 0..below(draws, most) {
         let drawn = drawn_command(draws);
+        if fits(world, &[drawn]) && batch.push(drawn).is_err() {
+            return Err(TestFault::NoMemory(AllocError));
+        }
+    }
+    Ok(batch)
+}
+
+// Such commands for a world with programs.
+fn drawn_orders(alloc: Global, world: &World, draws: &mut Draws) -> Result<Vec<Turn>, TestFault> {
+    let mut batch = Vec::new(alloc);
+    for _command in 0..below(draws, 30) {
+        let drawn = drawn_order(draws);
         if fits(world, &[drawn]) && batch.push(drawn).is_err() {
             return Err(TestFault::NoMemory(AllocError));
         }
@@ -264,5 +323,66 @@ fn settles_are_the_plain_ones(rt: HostRuntime) -> Result<(), TestFault> {
         assert_eq!(rt; fast.turns.as_slice(), plain.turns.as_slice());
         assert_eq!(rt; fast.draws, plain.draws);
     }
+    Ok(())
+}
+
+#[test]
+fn settles_with_programs_are_the_plain_ones(rt: HostRuntime) -> Result<(), TestFault> {
+    let mut restless = 0u32;
+    let mut shifted = 0u32;
+    for seed in 0..1_500 {
+        let mut draws = Draws { state: seed };
+        let world = programmed_world(rt.alloc(), &mut draws)?;
+        let batch = drawn_orders(rt.alloc(), &world, &mut draws)?;
+        let again = programmed_world(rt.alloc(), &mut Draws { state: seed })?;
+        let fast = by_counts(rt.alloc(), world, &batch, draws.state);
+        let plain = by_lists(rt.alloc(), again, &batch, draws.state);
+        assert_eq!(rt; fast.ending, plain.ending);
+        assert_eq!(rt; fast.turns.as_slice(), plain.turns.as_slice());
+        assert_eq!(rt; fast.draws, plain.draws);
+        restless += u32::from(matches!(fast.ending, Ending::Restless(_)));
+        shifted += u32::from(has_shift(&fast.turns));
+    }
+    // both kinds of ends were tried
+    assert!(rt; 20 < restless);
+    assert!(rt; 500 < shifted);
+    Ok(())
+}
+
+fn has_shift(turns: &[Turn]) -> bool {
+    turns
+        .iter()
+        .any(|turn| matches!(turn.event, Event::Shift))
+}
+
+// A feature beside a device, with this program of two states that lead to each other.
+fn two_states(alloc: Global, waits: State) -> Result<World, TestFault> {
+    let mut plan = Plan::new(alloc);
+    plan.add(device())?;
+    plan.add(feature())?;
+    plan.join(0, 1, &[Medium::Audio])?;
+    let mut layout = plan.layout()?;
+    let program = flipping(alloc, waits)?;
+    let _ = layout.program(1, program);
+    Ok(layout.world()?)
+}
+
+#[test]
+fn a_program_makes_all_its_shifts(rt: HostRuntime) -> Result<(), TestFault> {
+    let world = two_states(rt.alloc(), State::Closed)?;
+    let done = by_counts(rt.alloc(), world, &[], 1);
+    assert_eq!(rt; done.ending, Ending::Restless(1));
+    assert_eq!(rt; done.turns.len(), SHIFT_LIMIT as usize);
+    assert_eq!(rt; done.draws, drawn_from(1, 256));
+    Ok(())
+}
+
+#[test]
+fn a_program_comes_to_rest(rt: HostRuntime) -> Result<(), TestFault> {
+    let world = two_states(rt.alloc(), State::Opened)?;
+    let done = by_counts(rt.alloc(), world, &[], 1);
+    assert_eq!(rt; done.ending, Ending::Rest);
+    assert_eq!(rt; done.turns.as_slice(), [turn(1, Event::Shift)].as_slice());
+    assert_eq!(rt; done.draws, drawn_from(1, 1));
     Ok(())
 }
