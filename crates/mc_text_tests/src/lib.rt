@@ -6,6 +6,8 @@ mod commands;
 #[cfg(test)]
 mod net;
 #[cfg(test)]
+mod programs;
+#[cfg(test)]
 mod table;
 #[cfg(test)]
 mod text;
