@@ -7,8 +7,14 @@ use mc_lane::Lane;
 use mc_signal::{CodecList, Descriptor, Medium, Sender, Signal, choose};
 use mc_slot::{Goal, Slot, SlotGoal, State};
 use std::alloc::{AllocError, Global};
+use std::fmt::Debug;
 use std::process::Abort;
 use std::test::Fail;
+
+// The values are compared, and both shown where they differ.
+fn is_equal<T: PartialEq + Debug>(rt: &impl Abort, got: &T, want: &T) {
+    assert_eq!(rt; *got, *want);
+}
 
 // A descriptor of another box.
 fn far() -> Descriptor {
@@ -91,11 +97,11 @@ fn acts(
     want: &[(u8, Signal)],
 ) -> Result<(), Fail> {
     let (ended, mut out) = outcome(rt, alloc, part, e)?;
-    assert_eq!(rt; ended, Ok(()));
+    is_equal(rt, &ended, &Ok(()));
     for sending in want {
-        assert_eq!(rt; out.pop(), Some(*sending));
+        is_equal(rt, &out.pop(), &Some(*sending));
     }
-    assert_eq!(rt; out.pop(), None);
+    is_equal(rt, &out.pop(), &None);
     Ok(())
 }
 
@@ -104,109 +110,147 @@ fn takes_signal(rt: &impl Abort, part: &mut MediaBox, slot: u8, s: Signal, want:
     assert!(rt; (slot as usize) < part.slots().len());
     assert!(rt; part.slots()[slot as usize].lawful(&s));
     let sends = part.take(slot, s);
-    assert_eq!(rt; sends.as_slice(), want);
+    is_equal(rt, &sends.as_slice(), &want);
+}
+
+// The slots are linked, and just this is sent then.
+fn links(
+    rt: &impl Abort,
+    alloc: Global,
+    part: &mut MediaBox,
+    slots: (u8, u8),
+    want: &[(u8, Signal)],
+) -> Result<(), Fail> {
+    acts(
+        rt,
+        alloc,
+        part,
+        Event::Set(Change::Link(slots.0, slots.1)),
+        want,
+    )
+}
+
+fn has_goal(rt: &impl Abort, part: &MediaBox, slot: u8, goal: SlotGoal) {
+    is_equal(rt, &shown(rt, part, slot).1, &goal);
+}
+
+fn has_state(rt: &impl Abort, part: &MediaBox, slot: u8, state: State) {
+    is_equal(rt, &shown(rt, part, slot).0.state, &state);
+}
+
+fn has_sent(rt: &impl Abort, part: &MediaBox, slot: u8, sent: Descriptor) {
+    is_equal(rt, &shown(rt, part, slot).0.sent, &Some(sent));
+}
+
+fn has_version(rt: &impl Abort, part: &MediaBox, slot: u8, version: u32) {
+    is_equal(rt, &shown(rt, part, slot).2.version, &version);
+}
+
+// Slot 0 is linked with slot 1, and takes an open, which is passed on.
+fn opens_through(rt: &impl Abort, alloc: Global, part: &mut MediaBox) -> Result<(), Fail> {
+    links(rt, alloc, part, (1, 0), &[])?;
+    has_goal(rt, part, 0, SlotGoal::Link(1));
+    has_goal(rt, part, 1, SlotGoal::Link(0));
+    let open = Signal::Open(Medium::Audio, far());
+    takes_signal(rt, part, 0, open, &[(1, open)]);
+    has_state(rt, part, 1, State::Opening);
+    has_sent(rt, part, 1, far());
+    // the same link again, in the other order
+    links(rt, alloc, part, (0, 1), &[])
+}
+
+fn closes_through(rt: &impl Abort, part: &mut MediaBox) {
+    let passed_on = [(0, Signal::Closeack), (1, Signal::Close)];
+    takes_signal(rt, part, 0, Signal::Close, &passed_on);
+    has_state(rt, part, 0, State::Closed);
+    has_state(rt, part, 1, State::Closing);
 }
 
 #[test]
 fn a_link_passes_on_what_its_slots_take(rt: HostRuntime) -> Result<(), Fail> {
     let mut part = made(rt.alloc(), Kind::Feature, 1)?;
-    acts(
-        &rt,
-        rt.alloc(),
-        &mut part,
-        Event::Set(Change::Link(1, 0)),
-        &[],
-    )?;
-    assert_eq!(rt; shown(&rt, &part, 0).1, SlotGoal::Link(1));
-    assert_eq!(rt; shown(&rt, &part, 1).1, SlotGoal::Link(0));
-
-    let open = Signal::Open(Medium::Audio, far());
-    takes_signal(&rt, &mut part, 0, open, &[(1, open)]);
-    assert_eq!(rt; shown(&rt, &part, 1).0.state, State::Opening);
-    assert_eq!(rt; shown(&rt, &part, 1).0.sent, Some(far()));
-
-    // the same link again, in the other order
-    acts(
-        &rt,
-        rt.alloc(),
-        &mut part,
-        Event::Set(Change::Link(0, 1)),
-        &[],
-    )?;
-
-    let passed_on = [(0, Signal::Closeack), (1, Signal::Close)];
-    takes_signal(&rt, &mut part, 0, Signal::Close, &passed_on);
-    assert_eq!(rt; shown(&rt, &part, 0).0.state, State::Closed);
-    assert_eq!(rt; shown(&rt, &part, 1).0.state, State::Closing);
+    opens_through(&rt, rt.alloc(), &mut part)?;
+    closes_through(&rt, &mut part);
     Ok(())
+}
+
+// Slot 2 is opened and holds from now on, and slot 0 still asks for media.
+fn links_elsewhere(rt: &impl Abort, alloc: Global, part: &mut MediaBox) -> Result<(), Fail> {
+    let (_, _, own, sender) = shown(rt, part, 2);
+    let answered = [
+        (2, Signal::Oack(own)),
+        (2, Signal::Select(choose(far(), &sender))),
+    ];
+    links(rt, alloc, part, (0, 1), &answered)
+}
+
+fn hands_over(rt: &impl Abort, alloc: Global, part: &mut MediaBox) -> Result<(), Fail> {
+    links(rt, alloc, part, (0, 2), &[])?;
+    let open = Signal::Open(Medium::Audio, far());
+    takes_signal(rt, part, 2, open, &[(0, open)]);
+    links_elsewhere(rt, alloc, part)
+}
+
+fn links_no_more(rt: &impl Abort, part: &MediaBox) {
+    for (first, second) in [(1, 1), (1, 3), (1, 4)] {
+        is_equal(
+            rt,
+            &part.enabled(&Event::Set(Change::Link(first, second))),
+            &false,
+        );
+    }
 }
 
 #[test]
 fn a_former_partner_holds(rt: HostRuntime) -> Result<(), Fail> {
     let mut part = made(rt.alloc(), Kind::Feature, 1)?;
-    acts(
-        &rt,
-        rt.alloc(),
-        &mut part,
-        Event::Set(Change::Link(0, 2)),
-        &[],
-    )?;
-    let open = Signal::Open(Medium::Audio, far());
-    takes_signal(&rt, &mut part, 2, open, &[(0, open)]);
-
-    // slot 2 is opened and holds from now on, and slot 0 still asks for media
-    let (_, _, own, sender) = shown(&rt, &part, 2);
-    let answered = [
-        (2, Signal::Oack(own)),
-        (2, Signal::Select(choose(far(), &sender))),
-    ];
-    acts(
-        &rt,
-        rt.alloc(),
-        &mut part,
-        Event::Set(Change::Link(0, 1)),
-        &answered,
-    )?;
-    assert_eq!(rt; shown(&rt, &part, 0).1, SlotGoal::Link(1));
-    assert_eq!(rt; shown(&rt, &part, 1).1, SlotGoal::Link(0));
-    assert_eq!(rt; shown(&rt, &part, 2).1, SlotGoal::End(Goal::Hold));
-    for (first, second) in [(1, 1), (1, 3), (1, 4)] {
-        assert_eq!(rt;
-            part.enabled(&Event::Set(Change::Link(first, second))),
-            false
-        );
-    }
+    hands_over(&rt, rt.alloc(), &mut part)?;
+    has_goal(&rt, &part, 0, SlotGoal::Link(1));
+    has_goal(&rt, &part, 1, SlotGoal::Link(0));
+    has_goal(&rt, &part, 2, SlotGoal::End(Goal::Hold));
+    links_no_more(&rt, &part);
     Ok(())
+}
+
+fn opens_and_asks_again(rt: &impl Abort, alloc: Global, part: &mut MediaBox) -> Result<(), Fail> {
+    let open = Signal::Open(Medium::Audio, shown(rt, part, 1).2);
+    let set = Event::Set(Change::End(1, Goal::Open));
+    acts(rt, alloc, part, set, &[(1, open)])?;
+    takes_signal(rt, part, 1, Signal::Close, &[(1, Signal::Closeack)]);
+    acts(rt, alloc, part, Event::Retry(1), &[(1, open)])
+}
+
+// A hear that leaves the flag raises the version, up to the last.
+fn hears_to_the_last(rt: &impl Abort, alloc: Global, part: &mut MediaBox) -> Result<(), Fail> {
+    let hear = Event::Media(MediaChange::Hear(1, true));
+    acts(rt, alloc, part, hear, &[])?;
+    has_version(rt, part, 1, 4294967295);
+    let count = part.slots().len();
+    let (ended, out) = outcome(rt, alloc, part, hear)?;
+    is_equal(rt, &ended, &Err(VersionEnd));
+    is_equal(rt, &out.len(), &0);
+    is_equal(rt, &part.slots().len(), &count);
+    has_version(rt, part, 1, 4294967295);
+    Ok(())
+}
+
+fn is_accepted(rt: &impl Abort, alloc: Global, part: &mut MediaBox) -> Result<(), Fail> {
+    let (_, _, own, sender) = shown(rt, part, 1);
+    let accepted = [
+        (1, Signal::Describe(own)),
+        (1, Signal::Select(choose(far(), &sender))),
+    ];
+    takes_signal(rt, part, 1, Signal::Oack(far()), &accepted);
+    let talk = Event::Media(MediaChange::Talk(1, false));
+    acts(rt, alloc, part, talk, &[])
 }
 
 #[test]
 fn a_device_opens_hears_and_asks_again(rt: HostRuntime) -> Result<(), Fail> {
     let mut part = made(rt.alloc(), Kind::Device, 4294967294)?;
-    let open = Signal::Open(Medium::Audio, shown(&rt, &part, 1).2);
-    let set = Event::Set(Change::End(1, Goal::Open));
-    acts(&rt, rt.alloc(), &mut part, set, &[(1, open)])?;
-    takes_signal(&rt, &mut part, 1, Signal::Close, &[(1, Signal::Closeack)]);
-    acts(&rt, rt.alloc(), &mut part, Event::Retry(1), &[(1, open)])?;
-
-    // a hear that leaves the flag raises the version, up to the last
-    let hear = Event::Media(MediaChange::Hear(1, true));
-    acts(&rt, rt.alloc(), &mut part, hear, &[])?;
-    assert_eq!(rt; shown(&rt, &part, 1).2.version, 4294967295);
-    let count = part.slots().len();
-    let (ended, out) = outcome(&rt, rt.alloc(), &mut part, hear)?;
-    assert_eq!(rt; ended, Err(VersionEnd));
-    assert_eq!(rt; out.len(), 0);
-    assert_eq!(rt; part.slots().len(), count);
-    assert_eq!(rt; shown(&rt, &part, 1).2.version, 4294967295);
-
-    let (_, _, own, sender) = shown(&rt, &part, 1);
-    let accepted = [
-        (1, Signal::Describe(own)),
-        (1, Signal::Select(choose(far(), &sender))),
-    ];
-    takes_signal(&rt, &mut part, 1, Signal::Oack(far()), &accepted);
-    let talk = Event::Media(MediaChange::Talk(1, false));
-    acts(&rt, rt.alloc(), &mut part, talk, &[])?;
-    assert_eq!(rt; (part.kind(), part.number()), (Kind::Device, 0));
+    opens_and_asks_again(&rt, rt.alloc(), &mut part)?;
+    hears_to_the_last(&rt, rt.alloc(), &mut part)?;
+    is_accepted(&rt, rt.alloc(), &mut part)?;
+    is_equal(&rt, &(part.kind(), part.number()), &(Kind::Device, 0));
     Ok(())
 }
