@@ -2,19 +2,14 @@
 ghost use Rattle.std.specs.Prelude.{◌≡◌};
 ghost use Rattle.mc_box.specs.BoxEvents.{is_take};
 
+use crate::equal::is_equal;
 use mc_box::{Change, Event, Kind, MediaBox, MediaChange, Setup, SlotSetup, VersionEnd};
 use mc_lane::Lane;
 use mc_signal::{CodecList, Descriptor, Medium, Sender, Signal, choose};
 use mc_slot::{Goal, Slot, SlotGoal, State};
 use std::alloc::{AllocError, Global};
-use std::fmt::Debug;
 use std::process::Abort;
 use std::test::Fail;
-
-// The values are compared, and both shown where they differ.
-fn is_equal<T: PartialEq + Debug>(rt: &impl Abort, got: &T, want: &T) {
-    assert_eq!(rt; *got, *want);
-}
 
 // A descriptor of another box.
 fn far() -> Descriptor {

@@ -9,9 +9,6 @@ ghost use Rattle.mc_slot.specs.Sending.{Adds, HasPlaces, sends_of, pair_of};
 use mc_signal::{Descriptor, Sender, Signal, choose};
 use mc_slot::{Goal, Sends, Slot, State};
 
-#[cfg(test)]
-mod tests;
-
 /// The turn of an end, pushed or not: sends what its goal lacks.
 pub fn end_turn(
     slot: &mut Slot,

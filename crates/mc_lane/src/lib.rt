@@ -4,6 +4,3 @@
 mod lane;
 
 pub use lane::Lane;
-
-#[cfg(test)]
-mod tests;

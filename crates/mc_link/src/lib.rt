@@ -13,8 +13,6 @@ use mc_signal::{Descriptor, Selector, Signal, answers};
 use mc_slot::{Sends, Slot, State};
 
 pub mod laws;
-#[cfg(test)]
-mod tests;
 
 /// One of the two slots of a link. The first is the one with the lower local number.
 #[derive(Clone, Copy, PartialEq, Eq, Debug)]

@@ -6,8 +6,6 @@ ghost use Rattle.mc_signal.specs.Choice.{answers, codecs_of, choose, shared_code
 
 mod codec_list;
 pub mod laws;
-#[cfg(test)]
-mod tests;
 
 pub use codec_list::{CodecList, ListFull};
 

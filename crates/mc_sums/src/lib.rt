@@ -7,6 +7,3 @@ pub mod limit;
 mod sums;
 
 pub use sums::Sums;
-
-#[cfg(test)]
-mod tests;

@@ -1,4 +1,6 @@
-use super::*;
+// Which codec a selector says, and how many a list has.
+use crate::equal::is_equal;
+use mc_signal::{CodecList, Descriptor, ListFull, Selector, Sender, answers, choose};
 
 // A list of these codecs, as far as they are new and fit.
 fn list_of(codecs: &[u8]) -> CodecList {
@@ -44,7 +46,7 @@ fn choose_takes_first_offered_that_can_be_sent(rt: HostRuntime) {
             port: 5002,
             codec: want,
         };
-        assert_eq!(rt; selector, expected, "{offered:?} for {able:?}");
+        is_equal(&rt, &selector, &expected);
     }
 }
 
@@ -57,10 +59,10 @@ fn selector_answers_one_version_of_one_descriptor(rt: HostRuntime) {
     };
     let selector = choose(descriptor(4, 6, &[1, 2]), &sender);
     for (origin, version, want) in [(4, 6, true), (4, 7, false), (5, 6, false)] {
-        assert_eq!(rt;
-            answers(&selector, &descriptor(origin, version, &[])),
-            want,
-            "{origin} {version}"
+        is_equal(
+            &rt,
+            &answers(&selector, &descriptor(origin, version, &[])),
+            &want,
         );
     }
 }
@@ -69,10 +71,10 @@ fn selector_answers_one_version_of_one_descriptor(rt: HostRuntime) {
 fn ninth_codec_does_not_fit(rt: HostRuntime) {
     let full = [10, 11, 12, 13, 14, 15, 16, 17];
     let mut list = list_of(&full);
-    assert_eq!(rt; list.as_slice(), &full[..]);
+    is_equal(&rt, &list.as_slice(), &&full[..]);
     if !list.has(18) {
-        assert_eq!(rt; list.add(18), Err(ListFull));
+        is_equal(&rt, &list.add(18), &Err(ListFull));
     }
-    assert_eq!(rt; list.as_slice(), &full[..]);
+    is_equal(&rt, &list.as_slice(), &&full[..]);
     assert!(rt; list.has(17) && !list.has(18));
 }

@@ -1,8 +1,11 @@
+// Turns of links by the states of their slots.
 ghost use Rattle.std.specs.Prelude.{◌≡◌, Some, IsSome, IsTrue};
 ghost use Rattle.mc_slot.specs.Moves.{is_live};
 
-use super::*;
-use mc_signal::{CodecList, Medium};
+use crate::equal::is_equal;
+use mc_link::{Side, link_turn};
+use mc_signal::{CodecList, Descriptor, Medium, Signal};
+use mc_slot::{Sends, Slot, State};
 
 fn descriptor() -> Descriptor {
     Descriptor {
@@ -74,6 +77,6 @@ fn turns_by_states(rt: HostRuntime) {
         ),
     ];
     for (got, want) in table {
-        assert_eq!(rt; got, want);
+        is_equal(&rt, &got, &want);
     }
 }

@@ -1,6 +1,6 @@
 use Rattle.std.proofs.Common.{◌≤◌, ◌-◌, ℕ, length}
 use Rattle.std.proofs.Math.ListN.{get_or}
-use Rattle.mc_sums.proofs.tests.ones.Given as goal
+use Rattle.mc_box_tests.proofs.sums.ones.Given as goal
 
 -- what is there so far
 abbrev pub invariant-loop-counts : goal.invariant-loop-counts

@@ -1,7 +1,8 @@
 // That memory is found where there is some, and each call once.
 ghost use Rattle.std.specs.Prelude.{◌≡◌, ◌≤◌, ℕ, length, slice_index_or, IfOk};
 
-use crate::Sums;
+use crate::equal::is_equal;
+use mc_sums::Sums;
 use std::alloc::{AllocError, Global};
 use std::test::Fail;
 
@@ -12,12 +13,12 @@ fn the_last_is_found(rt: HostRuntime) -> Result<(), Fail> {
         let sums = Sums::new(rt.alloc(), ones(rt.alloc(), places)?)?;
         let others = Sums::new(rt.alloc(), ones(rt.alloc(), places)?)?;
         let total = sums.total();
-        assert_eq!(rt; total, places as u64);
-        assert_eq!(rt; sums.get(last), 1);
+        is_equal(&rt, &total, &(places as u64));
+        is_equal(&rt, &sums.get(last), &1);
         if total > 0 && others.total() > 0 {
-            assert_eq!(rt; sums.find(total - 1), (last, 0));
+            is_equal(&rt, &sums.find(total - 1), &(last, 0));
             let middle = (places / 2, (places % 2) as u64);
-            assert_eq!(rt; sums.find_in_both(&others, total), middle);
+            is_equal(&rt, &sums.find_in_both(&others, total), &middle);
         }
     }
     Ok(())
@@ -29,11 +30,11 @@ fn a_count_goes_up_and_down(rt: HostRuntime) -> Result<(), Fail> {
         let mut sums = Sums::new(rt.alloc(), ones(rt.alloc(), places)?)?;
         if place < places {
             sums.raise(place);
-            assert_eq!(rt; sums.get(place), 2);
-            assert_eq!(rt; sums.total(), places as u64 + 1);
+            is_equal(&rt, &sums.get(place), &2);
+            is_equal(&rt, &sums.total(), &(places as u64 + 1));
             sums.lower(place);
         }
-        assert_eq!(rt; sums.total(), places as u64);
+        is_equal(&rt, &sums.total(), &(places as u64));
     }
     Ok(())
 }
@@ -41,8 +42,8 @@ fn a_count_goes_up_and_down(rt: HostRuntime) -> Result<(), Fail> {
 #[test]
 fn there_may_be_no_place(rt: HostRuntime) -> Result<(), Fail> {
     let sums = Sums::new(rt.alloc(), Vec::new(rt.alloc()))?;
-    assert_eq!(rt; sums.total(), 0);
-    assert_eq!(rt; sums.get(0), 0);
+    is_equal(&rt, &sums.total(), &0);
+    is_equal(&rt, &sums.get(0), &0);
     Ok(())
 }
 

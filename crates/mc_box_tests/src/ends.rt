@@ -1,6 +1,8 @@
 // An opened end that holds answers with its descriptor, and then chooses.
-use super::*;
-use mc_signal::{CodecList, Medium};
+use crate::equal::is_equal;
+use mc_goal::{end_turn, owes};
+use mc_signal::{CodecList, Descriptor, Medium, Sender, Signal, choose};
+use mc_slot::{Goal, Sends, Slot, State};
 
 fn descriptor(origin: u32) -> Descriptor {
     Descriptor {
@@ -27,15 +29,15 @@ fn hold_answers_and_chooses(rt: HostRuntime) {
     let mut want = Sends::none();
     want.push(3, Signal::Oack(descriptor(5)));
     want.push(3, Signal::Select(choice));
-    assert_eq!(rt; sends, want);
-    assert_eq!(rt; slot.state, State::Flowing);
-    assert_eq!(rt; slot.sent, Some(descriptor(5)));
-    assert_eq!(rt; slot.sel_out, Some(choice));
+    is_equal(&rt, &sends, &want);
+    is_equal(&rt, &slot.state, &State::Flowing);
+    is_equal(&rt, &slot.sent, &Some(descriptor(5)));
+    is_equal(&rt, &slot.sel_out, &Some(choice));
 }
 
 #[test]
 fn a_closed_end_that_opens_owes_a_retry(rt: HostRuntime) {
     let slot = Slot::new(Medium::Audio, true);
-    assert_eq!(rt; owes(&slot, Goal::Open), true);
-    assert_eq!(rt; owes(&slot, Goal::Hold), false);
+    is_equal(&rt, &owes(&slot, Goal::Open), &true);
+    is_equal(&rt, &owes(&slot, Goal::Hold), &false);
 }
