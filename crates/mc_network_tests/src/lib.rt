@@ -7,6 +7,8 @@ mod fault;
 #[cfg(test)]
 mod networks;
 #[cfg(test)]
+mod plans;
+#[cfg(test)]
 mod programs;
 #[cfg(test)]
 mod settles;

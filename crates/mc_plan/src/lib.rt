@@ -8,8 +8,6 @@ mod layout;
 pub mod limit;
 mod plan;
 mod programs;
-#[cfg(test)]
-mod tests;
 mod tunnels;
 
 pub use fault::{PlanFault, ProgramFault};
