@@ -18,6 +18,3 @@ pub use sink::Sink;
 pub use source::{Failed, Source};
 pub use standard::{StdSink, StdSource};
 pub use whole::{ReadFault, read_up_to, write_whole};
-
-#[cfg(test)]
-mod tests;

@@ -11,6 +11,8 @@ mod refusals;
 use mc_io::{MemSink, MemSource, OpenGate};
 use mc_top::{Done, media_top};
 use std::alloc::{AllocError, Global};
+use std::fmt::Debug;
+use std::process::Abort;
 use std::test::Fail;
 use std::thread::Threads;
 
@@ -36,6 +38,27 @@ fn words_of(alloc: Global, words: &[&str]) -> Result<Vec<String>, AllocError> {
     Ok(made)
 }
 
+/// The values are compared, and both shown where they differ.
+pub fn is_equal<T: PartialEq + Debug>(rt: &impl Abort, got: &T, want: &T) {
+    assert_eq!(rt; *got, *want);
+}
+
+/// The same, with the text that the values belong to.
+pub fn is_equal_at<T: PartialEq + Debug>(rt: &impl Abort, got: &T, want: &T, text: &str) {
+    assert_eq!(rt; *got, *want, "at {text}");
+}
+
+// The top call, of which nothing is said beforehand.
+fn top<R: Threads + Sync>(
+    rt: &R,
+    alloc: Global,
+    words: Vec<String>,
+    source: &mut MemSource,
+    sink: &mut MemSink,
+) -> Done {
+    media_top(rt, alloc, words, source, sink, &OpenGate)
+}
+
 // A call with these words, and what it wrote.
 fn call<R: Threads + Sync>(
     rt: &R,
@@ -49,7 +72,7 @@ fn call<R: Threads + Sync>(
 {
     let mut sink = MemSink::new(alloc, ROOM, write_per_call, failing)?;
     let words = words_of(alloc, words)?;
-    let done = media_top(rt, alloc, words, source, &mut sink, &OpenGate);
+    let done = top(rt, alloc, words, source, &mut sink);
     let written = Vec::from_slice(alloc, &sink.bytes)?;
     Ok((done, written))
 }
@@ -79,95 +102,118 @@ pub fn written<R: Threads + Sync>(
     Ok((done.status, written))
 }
 
+/// A call with this text writes this and ends with this status.
+pub fn is_written<R: Threads + Sync + Abort>(
+    rt: &R,
+    alloc: Global,
+    text: &str,
+    status: u8,
+    printed: &str,
+    name: &str,
+) -> Result<(), AllocError> {
+    let (ended, output) = written(rt, alloc, text)?;
+    is_equal_at(rt, &ended, &status, name);
+    is_equal_at(rt, &output.as_slice(), &printed.as_bytes(), name);
+    Ok(())
+}
+
+// The beginning of a text, its script, and what is written.
+const CALLS: [(&str, &str, &str); 13] = [
+    (PHONES, "", ""),
+    (PHONES, "set alice a open\n", ""),
+    (PHONES, "settle\n", CLOSED),
+    (PHONES, "settle", CLOSED),
+    (PHONES, "\n# nobody calls\n  settle  \n", CLOSED),
+    (
+        "media 1\ndev b\ndev a\nchan video a x b y\nbegin\n",
+        "settle\n",
+        "settle 1\npath a/x b/y close close closed video\n",
+    ),
+    (
+        PHONES,
+        "set alice a open\nset bob a hold\nsettle\n",
+        FLOWING,
+    ),
+    (PHONES, "set alice a open\nset bob a hold\nsettle", FLOWING),
+    (
+        ONE_CODEC,
+        "set alice a open\nset bob a open\nsettle\n",
+        "settle 1\npath alice/a bob/a open open flowing audio\nhears alice/a none\nhears bob/a none\n",
+    ),
+    (
+        PHONES,
+        "set alice a open\nsettle\n",
+        "settle 1\npath alice/a bob/a open close closed audio\n",
+    ),
+    (
+        PHONES,
+        "set alice a hold\nset bob a hold\nsettle\n",
+        "settle 1\npath alice/a bob/a hold hold closed audio\n",
+    ),
+    (
+        PHONES,
+        "set alice a open\nset alice a close\nset bob a hold\nsettle\n",
+        "settle 1\npath alice/a bob/a close hold closed audio\n",
+    ),
+    (
+        PHONES,
+        "set alice a open\nset bob a hold\nsettle\nset alice a hold\nsettle\n",
+        "settle 1\npath alice/a bob/a open hold flowing audio\nhears alice/a g729\nhears bob/a g729\nsettle 2\npath alice/a bob/a hold hold flowing audio\nhears alice/a g729\nhears bob/a g729\n",
+    ),
+];
+
 #[test]
 fn calls_and_what_they_print(rt: HostRuntime) -> Result<(), Fail> {
     let alloc = rt.alloc();
-    let table = [
-        (PHONES, "", ""),
-        (PHONES, "set alice a open\n", ""),
-        (PHONES, "settle\n", CLOSED),
-        (PHONES, "settle", CLOSED),
-        (PHONES, "\n# nobody calls\n  settle  \n", CLOSED),
-        (
-            "media 1\ndev b\ndev a\nchan video a x b y\nbegin\n",
-            "settle\n",
-            "settle 1\npath a/x b/y close close closed video\n",
-        ),
-        (
-            PHONES,
-            "set alice a open\nset bob a hold\nsettle\n",
-            FLOWING,
-        ),
-        (PHONES, "set alice a open\nset bob a hold\nsettle", FLOWING),
-        (
-            ONE_CODEC,
-            "set alice a open\nset bob a open\nsettle\n",
-            "settle 1\npath alice/a bob/a open open flowing audio\nhears alice/a none\nhears bob/a none\n",
-        ),
-        (
-            PHONES,
-            "set alice a open\nsettle\n",
-            "settle 1\npath alice/a bob/a open close closed audio\n",
-        ),
-        (
-            PHONES,
-            "set alice a hold\nset bob a hold\nsettle\n",
-            "settle 1\npath alice/a bob/a hold hold closed audio\n",
-        ),
-        (
-            PHONES,
-            "set alice a open\nset alice a close\nset bob a hold\nsettle\n",
-            "settle 1\npath alice/a bob/a close hold closed audio\n",
-        ),
-        (
-            PHONES,
-            "set alice a open\nset bob a hold\nsettle\nset alice a hold\nsettle\n",
-            "settle 1\npath alice/a bob/a open hold flowing audio\nhears alice/a g729\nhears bob/a g729\nsettle 2\npath alice/a bob/a hold hold flowing audio\nhears alice/a g729\nhears bob/a g729\n",
-        ),
-    ];
-    for (network, script, printed) in table {
+    for (network, script, printed) in CALLS {
         let text = format!(in alloc; "{network}{script}")?;
-        let (status, written) = written(&rt, alloc, &text)?;
-        assert_eq!(rt; status, 0, "at {text}");
-        assert_eq!(rt; written.as_slice(), printed.as_bytes(), "at {text}");
+        is_written(&rt, alloc, text.as_str(), 0, printed, text.as_str())?;
     }
+    Ok(())
+}
+
+const OTHER_WORDS: [&[&str]; 20] = [
+    &["fly"],
+    &[],
+    &["run", "x"],
+    &["one"],
+    &["one", "2147483648"],
+    &["one", "01"],
+    &["one", "-1"],
+    &["one", ""],
+    &["one", "1", "2"],
+    &["one", "--", "1"],
+    &["1", "one"],
+    &["run", "run"],
+    &["Run"],
+    &["--"],
+    &["--", "--"],
+    &["--", "--", "run"],
+    &["--", "run", "x"],
+    &["run", "--"],
+    &["--help"],
+    &["--version"],
+];
+
+// What is written for these words is how the program is called, and nothing is read.
+fn is_usage<R: Threads + Sync + Abort>(
+    rt: &R,
+    alloc: Global,
+    words: &[&str],
+) -> Result<(), AllocError> {
+    let bytes = Vec::from_slice(alloc, PHONES.as_bytes())?;
+    let mut source = MemSource::new(bytes, 64, Vec::new(alloc));
+    let (done, written) = call(rt, alloc, words, &mut source, 64, Vec::new(alloc))?;
+    is_equal(rt, &done.status, &2);
+    is_equal(rt, &written.as_slice(), &b"usage\n".as_slice());
+    is_equal(rt, &source.calls, &0);
     Ok(())
 }
 
 #[test]
 fn other_words_are_no_command(rt: HostRuntime) -> Result<(), Fail> {
-    let alloc = rt.alloc();
-    let table: [&[&str]; 20] = [
-        &["fly"],
-        &[],
-        &["run", "x"],
-        &["one"],
-        &["one", "2147483648"],
-        &["one", "01"],
-        &["one", "-1"],
-        &["one", ""],
-        &["one", "1", "2"],
-        &["one", "--", "1"],
-        &["1", "one"],
-        &["run", "run"],
-        &["Run"],
-        &["--"],
-        &["--", "--"],
-        &["--", "--", "run"],
-        &["--", "run", "x"],
-        &["run", "--"],
-        &["--help"],
-        &["--version"],
-    ];
-    for words in table {
-        let bytes = Vec::from_slice(alloc, PHONES.as_bytes())?;
-        let mut source = MemSource::new(bytes, 64, Vec::new(alloc));
-        let mut sink = MemSink::new(alloc, ROOM, 64, Vec::new(alloc))?;
-        let words = words_of(alloc, words)?;
-        let done = media_top(&rt, alloc, words, &mut source, &mut sink, &OpenGate);
-        assert_eq!(rt; done.status, 2);
-        assert_eq!(rt; sink.bytes.as_slice(), b"usage\n".as_slice());
-        assert_eq!(rt; source.calls, 0);
+    for words in OTHER_WORDS {
+        is_usage(&rt, rt.alloc(), words)?;
     }
     Ok(())
 }
@@ -178,11 +224,10 @@ fn a_first_pair_of_dashes_says_nothing(rt: HostRuntime) -> Result<(), Fail> {
     let mut bytes = Vec::from_slice(alloc, PHONES.as_bytes())?;
     bytes.extend_from_slice(b"settle\n")?;
     let mut source = MemSource::new(bytes, 64, Vec::new(alloc));
-    let mut sink = MemSink::new(alloc, ROOM, 64, Vec::new(alloc))?;
-    let words = words_of(alloc, &["--", "run"])?;
-    let done = media_top(&rt, alloc, words, &mut source, &mut sink, &OpenGate);
-    assert_eq!(rt; done.status, 0);
-    assert_eq!(rt; sink.bytes.as_slice(), CLOSED.as_bytes());
+    let words = ["--", "run"];
+    let (done, written) = call(&rt, alloc, &words, &mut source, 64, Vec::new(alloc))?;
+    is_equal(&rt, &done.status, &0);
+    is_equal(&rt, &written.as_slice(), &CLOSED.as_bytes());
     Ok(())
 }
 
@@ -192,7 +237,7 @@ fn the_second_read_fails(rt: HostRuntime) -> Result<(), Fail> {
     let bytes = Vec::from_slice(alloc, PHONES.as_bytes())?;
     let mut source = MemSource::new(bytes, 64, vec![in alloc; 2]?);
     let (done, written) = run(&rt, alloc, &mut source, 64, Vec::new(alloc))?;
-    assert_eq!(rt; done.status, 4);
+    is_equal(&rt, &done.status, &4);
     assert!(rt; written.is_empty());
     Ok(())
 }
@@ -204,10 +249,10 @@ fn the_second_write_fails(rt: HostRuntime) -> Result<(), Fail> {
     bytes.extend_from_slice(b"set alice a open\nset bob a hold\nsettle\n")?;
     let mut source = MemSource::new(bytes, 64, Vec::new(alloc));
     let (done, written) = run(&rt, alloc, &mut source, 10, vec![in alloc; 2]?)?;
-    assert_eq!(rt; done.status, 5);
-    assert_eq!(rt; done.due, 0);
-    assert_eq!(rt; done.journal.len(), 7);
-    assert_eq!(rt; written.as_slice(), b"settle 1\np".as_slice());
+    is_equal(&rt, &done.status, &5);
+    is_equal(&rt, &done.due, &0);
+    is_equal(&rt, &done.journal.len(), &7);
+    is_equal(&rt, &written.as_slice(), &b"settle 1\np".as_slice());
     Ok(())
 }
 
@@ -220,8 +265,12 @@ fn a_text_past_the_limit_is_not_read_on(rt: HostRuntime) -> Result<(), Fail> {
     }
     let mut source = MemSource::new(bytes, 4096, Vec::new(alloc));
     let (done, written) = run(&rt, alloc, &mut source, 64, Vec::new(alloc))?;
-    assert_eq!(rt; done.status, 1);
-    assert_eq!(rt; written.as_slice(), b"fault 14 line 4104\n".as_slice());
-    assert_eq!(rt; source.at, 1_048_577);
+    is_equal(&rt, &done.status, &1);
+    is_equal(
+        &rt,
+        &written.as_slice(),
+        &b"fault 14 line 4104\n".as_slice(),
+    );
+    is_equal(&rt, &source.at, &1_048_577);
     Ok(())
 }

@@ -1,6 +1,6 @@
 // Settles by draws that begin at a state that is told: which turns they make, in which order.
 
-use super::{ROOM, call};
+use super::{ROOM, call, is_equal_at};
 use mc_box::{Change, Event, Turn};
 use mc_io::MemSource;
 use mc_script::JournalLine;
@@ -56,9 +56,9 @@ fn is_kept<R: Threads + Sync + Abort>(
     let bytes = Vec::from_slice(alloc, text.as_bytes())?;
     let mut source = MemSource::new(bytes, 64, Vec::new(alloc));
     let (done, written) = call(rt, alloc, words, &mut source, ROOM, Vec::new(alloc))?;
-    assert_eq!(rt; done.status, 0, "at {script}");
-    assert_eq!(rt; &done.journal[..], journal, "at {script}");
-    assert_eq!(rt; written.as_slice(), printed.as_bytes(), "at {script}");
+    is_equal_at(rt, &done.status, &0, script);
+    is_equal_at(rt, &&done.journal[..], &journal, script);
+    is_equal_at(rt, &written.as_slice(), &printed.as_bytes(), script);
     Ok(())
 }
 

@@ -1,6 +1,6 @@
 // Each limit of a text, reached and passed.
 
-use super::refusals::is_written;
+use super::is_written;
 use std::alloc::{AllocError, Global};
 use std::test::Fail;
 

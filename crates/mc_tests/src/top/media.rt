@@ -1,7 +1,6 @@
 // Who hears what: muted and unmuted phones, send lists, and scripts that stop at a last version.
 
-use super::refusals::is_written;
-use super::{ROOM, run};
+use super::{ROOM, is_equal, is_written, run};
 use mc_box::{Change, Event, Turn};
 use mc_io::MemSource;
 use mc_script::JournalLine;
@@ -74,24 +73,25 @@ fn who_is_muted_is_not_heard(rt: HostRuntime) -> Result<(), Fail> {
     Ok(())
 }
 
+const SEND_LISTS: [(&str, &str); 3] = [
+    (
+        "send alice g729\ndev bob g729 g711\n",
+        "settle 1\npath alice/a bob/a open hold flowing audio\nhears alice/a g711\nhears bob/a g729\n",
+    ),
+    (
+        "send alice g729\ndev bob g729 g711\nsend bob\n",
+        "settle 1\npath alice/a bob/a open hold flowing audio\nhears alice/a none\nhears bob/a g729\n",
+    ),
+    (
+        "dev bob g729 g711\n",
+        "settle 1\npath alice/a bob/a open hold flowing audio\nhears alice/a g711\nhears bob/a g729\n",
+    ),
+];
+
 #[test]
 fn send_lists_stand_apart(rt: HostRuntime) -> Result<(), Fail> {
     let alloc = rt.alloc();
-    let table = [
-        (
-            "send alice g729\ndev bob g729 g711\n",
-            "settle 1\npath alice/a bob/a open hold flowing audio\nhears alice/a g711\nhears bob/a g729\n",
-        ),
-        (
-            "send alice g729\ndev bob g729 g711\nsend bob\n",
-            "settle 1\npath alice/a bob/a open hold flowing audio\nhears alice/a none\nhears bob/a g729\n",
-        ),
-        (
-            "dev bob g729 g711\n",
-            "settle 1\npath alice/a bob/a open hold flowing audio\nhears alice/a g711\nhears bob/a g729\n",
-        ),
-    ];
-    for (lines, printed) in table {
+    for (lines, printed) in SEND_LISTS {
         let text = format!(in alloc;
             "{SENDERS}{lines}chan audio alice a bob a\nbegin\n{CALL}settle\n"
         )?;
@@ -108,47 +108,48 @@ fn send_lists_stand_apart(rt: HostRuntime) -> Result<(), Fail> {
 }
 
 // Two phones with first versions, and a script.
+const LAST_VERSIONS: [(&str, &str, &str, u8, &str); 5] = [
+    (
+        "4294967295",
+        "1",
+        "hear alice a off\nsettle\n",
+        1,
+        "version alice/a\n",
+    ),
+    (
+        "1",
+        "4294967295",
+        "hear bob a on\nsettle\n",
+        1,
+        "version bob/a\n",
+    ),
+    (
+        "4294967294",
+        "1",
+        "settle\nhear alice a on\nsettle\nhear alice a on\nsettle\n",
+        1,
+        "version alice/a\n",
+    ),
+    (
+        "4294967294",
+        "1",
+        "hear alice a off\nsettle\nhear alice a off\n",
+        0,
+        "settle 1\npath alice/a bob/a close close closed audio\n",
+    ),
+    (
+        "4294967295",
+        "4294967295",
+        "talk alice a off\nsettle\n",
+        0,
+        "settle 1\npath alice/a bob/a close close closed audio\n",
+    ),
+];
+
 #[test]
 fn a_hear_at_the_last_version_stops_the_script(rt: HostRuntime) -> Result<(), Fail> {
     let alloc = rt.alloc();
-    let table = [
-        (
-            "4294967295",
-            "1",
-            "hear alice a off\nsettle\n",
-            1,
-            "version alice/a\n",
-        ),
-        (
-            "1",
-            "4294967295",
-            "hear bob a on\nsettle\n",
-            1,
-            "version bob/a\n",
-        ),
-        (
-            "4294967294",
-            "1",
-            "settle\nhear alice a on\nsettle\nhear alice a on\nsettle\n",
-            1,
-            "version alice/a\n",
-        ),
-        (
-            "4294967294",
-            "1",
-            "hear alice a off\nsettle\nhear alice a off\n",
-            0,
-            "settle 1\npath alice/a bob/a close close closed audio\n",
-        ),
-        (
-            "4294967295",
-            "4294967295",
-            "talk alice a off\nsettle\n",
-            0,
-            "settle 1\npath alice/a bob/a close close closed audio\n",
-        ),
-    ];
-    for (first, second, script, status, printed) in table {
+    for (first, second, script, status, printed) in LAST_VERSIONS {
         let text = format!(in alloc;
             "media 1\ndev alice {first}\ndev bob {second}\nchan audio alice a bob a\nbegin\n{script}"
         )?;
@@ -169,11 +170,12 @@ fn a_stopped_script_keeps_its_turns(rt: HostRuntime) -> Result<(), Fail> {
         who: 0,
         event: Event::Set(Change::End(0, Goal::Open)),
     };
-    assert_eq!(rt; done.due, 1);
-    assert_eq!(rt;
-        &done.journal[..],
-        &[JournalLine::Settled, JournalLine::Turn(set)][..]
+    is_equal(&rt, &done.due, &1);
+    is_equal(
+        &rt,
+        &&done.journal[..],
+        &&[JournalLine::Settled, JournalLine::Turn(set)][..],
     );
-    assert_eq!(rt; written.as_slice(), b"version alice/a\n".as_slice());
+    is_equal(&rt, &written.as_slice(), &b"version alice/a\n".as_slice());
     Ok(())
 }

@@ -1,12 +1,13 @@
 // Networks of devices and features: links, paths of several tunnels, and rings.
 
-use super::refusals::is_written;
-use super::{ROOM, call, run};
+use super::{ROOM, call, is_equal, is_equal_at, is_written, run};
 use mc_box::{Change, Event, Turn};
 use mc_io::MemSource;
 use mc_script::JournalLine;
 use std::alloc::{AllocError, Global};
+use std::process::Abort;
 use std::test::Fail;
+use std::thread::Threads;
 
 // A path of four tunnels: three features link their two slots each.
 const FOUR_TUNNELS: &str = "media 1\n\
@@ -179,22 +180,30 @@ fn links_make_paths_and_rings(rt: HostRuntime) -> Result<(), Fail> {
     Ok(())
 }
 
+// A call by draws from this state on prints this, and ends with this status.
+fn is_drawn<R: Threads + Sync + Abort>(
+    rt: &R,
+    alloc: Global,
+    state: &str,
+    text: &str,
+    status: u8,
+    printed: &str,
+) -> Result<(), AllocError> {
+    let bytes = Vec::from_slice(alloc, text.as_bytes())?;
+    let mut source = MemSource::new(bytes, 64, Vec::new(alloc));
+    let words = ["one", state];
+    let (done, written) = call(rt, alloc, &words, &mut source, ROOM, Vec::new(alloc))?;
+    is_equal_at(rt, &done.status, &status, text);
+    is_equal_at(rt, &written.as_slice(), &printed.as_bytes(), text);
+    Ok(())
+}
+
 // The commands alone decide what is printed of these texts, wherever the draws begin.
 #[test]
 fn other_draws_print_the_same(rt: HostRuntime) -> Result<(), Fail> {
-    let alloc = rt.alloc();
     for state in ["1", "2", "3", "1000000007", "2147483647"] {
         for (text, status, printed) in TABLE {
-            let bytes = Vec::from_slice(alloc, text.as_bytes())?;
-            let mut source = MemSource::new(bytes, 64, Vec::new(alloc));
-            let words = ["one", state];
-            let (done, written) = call(&rt, alloc, &words, &mut source, ROOM, Vec::new(alloc))?;
-            assert_eq!(rt; done.status, status, "at {state} of {text}");
-            assert_eq!(rt;
-                written.as_slice(),
-                printed.as_bytes(),
-                "at {state} of {text}"
-            );
+            is_drawn(&rt, rt.alloc(), state, text, status, printed)?;
         }
     }
     Ok(())
@@ -214,10 +223,10 @@ fn a_ring_keeps_the_turns_before_it(rt: HostRuntime) -> Result<(), Fail> {
     let bytes = Vec::from_slice(alloc, RING.as_bytes())?;
     let mut source = MemSource::new(bytes, 64, Vec::new(alloc));
     let (done, written) = run(&rt, alloc, &mut source, ROOM, Vec::new(alloc))?;
-    assert_eq!(rt; done.status, 7);
-    assert_eq!(rt; done.due, 7);
-    assert_eq!(rt; &done.journal[..], &[linked(0), linked(1)][..]);
-    assert_eq!(rt; written.as_slice(), b"ring x/a\n".as_slice());
+    is_equal(&rt, &done.status, &7);
+    is_equal(&rt, &done.due, &7);
+    is_equal(&rt, &&done.journal[..], &&[linked(0), linked(1)][..]);
+    is_equal(&rt, &written.as_slice(), &b"ring x/a\n".as_slice());
     Ok(())
 }
 

@@ -1,7 +1,6 @@
 // Programs of boxes: an exchange that swaps two calls, a prepaid box, and boxes that don't come to rest.
 
-use super::refusals::is_written;
-use super::{ROOM, run};
+use super::{ROOM, is_equal, is_written, run};
 use mc_box::{Event, Turn};
 use mc_io::MemSource;
 use mc_script::JournalLine;
@@ -262,7 +261,11 @@ const TABLE: [(&str, u8, &str); 7] = [
     (PAID_TOO_EARLY, 0, STILL_PROMPTED),
     (RING_BY_A_PROGRAM, 7, "ring x/a\n"),
     (RESTLESS, 6, "restless p\n"),
-    (GUARDED, 0, "settle 1\npath d/a p/a close close closed audio\n"),
+    (
+        GUARDED,
+        0,
+        "settle 1\npath d/a p/a close close closed audio\n",
+    ),
 ];
 
 #[test]
@@ -286,13 +289,13 @@ fn a_restless_box_makes_256_shifts(rt: HostRuntime) -> Result<(), Fail> {
     let bytes = Vec::from_slice(alloc, RESTLESS.as_bytes())?;
     let mut source = MemSource::new(bytes, 64, Vec::new(alloc));
     let (done, written) = run(&rt, alloc, &mut source, ROOM, Vec::new(alloc))?;
-    assert_eq!(rt; done.status, 6);
-    assert_eq!(rt; done.due, 6);
-    assert_eq!(rt; done.journal.len(), 256);
+    is_equal(&rt, &done.status, &6);
+    is_equal(&rt, &done.due, &6);
+    is_equal(&rt, &done.journal.len(), &256);
     for line in &done.journal {
-        assert_eq!(rt; *line, SHIFT);
+        is_equal(&rt, line, &SHIFT);
     }
-    assert_eq!(rt; written.as_slice(), b"restless p\n".as_slice());
+    is_equal(&rt, &written.as_slice(), &b"restless p\n".as_slice());
     Ok(())
 }
 
@@ -302,7 +305,7 @@ fn a_guarded_box_makes_one_shift(rt: HostRuntime) -> Result<(), Fail> {
     let bytes = Vec::from_slice(alloc, GUARDED.as_bytes())?;
     let mut source = MemSource::new(bytes, 64, Vec::new(alloc));
     let (done, _) = run(&rt, alloc, &mut source, ROOM, Vec::new(alloc))?;
-    assert_eq!(rt; &done.journal[..], &[SHIFT, JournalLine::Settled][..]);
+    is_equal(&rt, &&done.journal[..], &&[SHIFT, JournalLine::Settled][..]);
     Ok(())
 }
 
@@ -315,10 +318,7 @@ const STATES: [&str; 64] = [
 
 // The first part of a program of 64 states, with the line that lists them.
 fn listed_states(alloc: Global) -> Result<String, AllocError> {
-    let mut text = String::from_str(
-        alloc,
-        "media 1\ndev d\nfeat p\nchan audio d a p a\nprog p",
-    )?;
+    let mut text = String::from_str(alloc, "media 1\ndev d\nfeat p\nchan audio d a p a\nprog p")?;
     for state in STATES {
         text.push_str(" ")?;
         text.push_str(state)?;
@@ -368,13 +368,6 @@ fn a_program_goes_through_64_states(rt: HostRuntime) -> Result<(), Fail> {
     printed.push_str(
         "settle 64\npath d/a p/a open hold flowing audio\nhears d/a none\nhears p/a none\n",
     )?;
-    is_written(
-        &rt,
-        alloc,
-        text.as_str(),
-        0,
-        printed.as_str(),
-        "64 states",
-    )?;
+    is_written(&rt, alloc, text.as_str(), 0, printed.as_str(), "64 states")?;
     Ok(())
 }

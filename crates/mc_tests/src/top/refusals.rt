@@ -1,6 +1,6 @@
 // Texts that are refused: the number and the line that are written.
 
-use super::written;
+use super::is_written;
 use std::alloc::{AllocError, Global};
 use std::process::Abort;
 use std::test::Fail;
@@ -452,21 +452,6 @@ const SWITCHED: [(&str, &str, &str); 4] = [
         ALL_CLOSED,
     ),
 ];
-
-// A call with this text writes this and ends with this status.
-pub fn is_written<R: Threads + Sync + Abort>(
-    rt: &R,
-    alloc: Global,
-    text: &str,
-    status: u8,
-    printed: &str,
-    name: &str,
-) -> Result<(), AllocError> {
-    let (ended, output) = written(rt, alloc, text)?;
-    assert_eq!(rt; ended, status, "at {name}");
-    assert_eq!(rt; output.as_slice(), printed.as_bytes(), "at {name}");
-    Ok(())
-}
 
 // A call with this text is refused by this number and line.
 fn is_refused<R: Threads + Sync + Abort>(
