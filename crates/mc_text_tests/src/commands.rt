@@ -4,6 +4,7 @@ ghost use Rattle.mc_text.specs.NameLists.{slot_names};
 ghost use Rattle.mc_box.specs.BoxShapes.{shape_of};
 ghost use Rattle.mc_script.specs.Places.{Fits};
 
+use crate::equal::is_equal;
 use mc_box::{BoxShape, Change, Event, Kind, Shape, Turn};
 use mc_script::{Command, print_command, read_command};
 use mc_signal::Medium;
@@ -93,7 +94,7 @@ fn are_numbered(rt: &impl Abort, names: &Names, shape: &Shape, rows: &[(&[u8], u
     requires { Fits names.now shape.now }
 {
     for (line, number) in rows {
-        assert_eq!(rt; number_of(names, shape, *line), *number);
+        is_equal(rt, &number_of(names, shape, *line), number);
     }
 }
 

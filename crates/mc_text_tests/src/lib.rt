@@ -4,6 +4,8 @@
 #[cfg(test)]
 mod commands;
 #[cfg(test)]
+mod equal;
+#[cfg(test)]
 mod net;
 #[cfg(test)]
 mod programs;

@@ -1,3 +1,4 @@
+use crate::equal::is_equal;
 use mc_box::{Change, Event, Kind, MediaBox, Shape, Turn};
 use mc_net::{Net, NetFault, Tail, read_net};
 use mc_script::Batch;
@@ -22,134 +23,149 @@ const SENDS: &[u8] =
 const NINE: &[u8] =
     b"media 2\ncodec a\ncodec b\ncodec c\ncodec d\ncodec e\ncodec f\ncodec g\ncodec h\ncodec i\ndev d\n";
 
-// The number and the line of the fault of a text that is put together of two.
-fn fault_of(alloc: Global, first: &[u8], second: &[u8]) -> Option<(u8, u32)> {
-    let mut text = Vec::from_slice(alloc, first).ok()?;
-    text.extend_from_slice(second).ok()?;
-    match read_net(alloc, &text, Tail::Nothing) {
-        Err(NetFault::Line(fault)) => Some((fault.number, fault.line)),
+// The number and the line of a fault.
+type Place = (u8, u32);
+
+// The network that a text declares, of which nothing is said beforehand.
+fn net_of(alloc: Global, text: &[u8]) -> Result<Net, NetFault> {
+    read_net(alloc, text, Tail::Nothing)
+}
+
+// The number and the line of the fault of a text.
+fn fault_in(alloc: Global, text: &[u8]) -> Option<Place> {
+    match net_of(alloc, text).err()? {
+        NetFault::Line(fault) => Some((fault.number, fault.line)),
         _ => None,
     }
 }
 
-#[test]
-fn declarations_break_these_rules(rt: HostRuntime) {
-    let alloc = rt.alloc();
-    let rows: [(&[u8], (u8, u32)); 10] = [
-        (b"", (16, 4)),
-        (b"dev alice g723\n", (4, 4)),
-        (
-            b"dev alice g711\ndev bob\nchan sound alice a bob a\n",
-            (5, 6),
-        ),
-        (b"dev alice 01 g711\n", (8, 4)),
-        (b"codec g711\n", (9, 4)),
-        (b"dev alice\nchan audio alice a alice b\n", (10, 5)),
-        (b"feat abcdefghijklmnopq\n", (18, 4)),
-        (b"# none\n\nfly\n", (5, 6)),
-        (b"codec g723\t\n", (3, 4)),
-        (b"feat f\nprog f s\nbegin\n", (15, 6)),
-    ];
+// The number and the line of the fault of a text that is put together of two.
+fn fault_of(alloc: Global, first: &[u8], second: &[u8]) -> Option<Place> {
+    let mut text = Vec::from_slice(alloc, first).ok()?;
+    text.extend_from_slice(second).ok()?;
+    fault_in(alloc, &text)
+}
+
+// Behind the first lines, the lines of each row are refused by its number and line.
+fn are_refused(rt: &impl Abort, alloc: Global, first: &[u8], rows: &[(&[u8], Place)]) {
     for (lines, want) in rows {
-        assert_eq!(rt; fault_of(alloc, CODECS, lines), Some(want));
+        is_equal(rt, &fault_of(alloc, first, *lines), &Some(*want));
     }
 }
+
+const DECLARATIONS: [(&[u8], Place); 10] = [
+    (b"", (16, 4)),
+    (b"dev alice g723\n", (4, 4)),
+    (
+        b"dev alice g711\ndev bob\nchan sound alice a bob a\n",
+        (5, 6),
+    ),
+    (b"dev alice 01 g711\n", (8, 4)),
+    (b"codec g711\n", (9, 4)),
+    (b"dev alice\nchan audio alice a alice b\n", (10, 5)),
+    (b"feat abcdefghijklmnopq\n", (18, 4)),
+    (b"# none\n\nfly\n", (5, 6)),
+    (b"codec g723\t\n", (3, 4)),
+    (b"feat f\nprog f s\nbegin\n", (15, 6)),
+];
+
+#[test]
+fn declarations_break_these_rules(rt: HostRuntime) {
+    are_refused(&rt, rt.alloc(), CODECS, &DECLARATIONS);
+}
+
+const COMMANDS: [(&[u8], Place); 6] = [
+    (b"set alice a\n", (6, 8)),
+    (b"set bob a hold\nsettle now\n", (7, 9)),
+    (b"set alice z open\n", (11, 8)),
+    (b"settle\nsettle\nlink alice a a\n", (5, 10)),
+    (b"begin\n", (5, 8)),
+    // a word may be told only where a program has it
+    (b"tell alice swap\n", (4, 8)),
+];
 
 #[test]
 fn commands_break_these_rules(rt: HostRuntime) {
-    let alloc = rt.alloc();
-    let rows: [(&[u8], (u8, u32)); 6] = [
-        (b"set alice a\n", (6, 8)),
-        (b"set bob a hold\nsettle now\n", (7, 9)),
-        (b"set alice z open\n", (11, 8)),
-        (b"settle\nsettle\nlink alice a a\n", (5, 10)),
-        (b"begin\n", (5, 8)),
-        // a word may be told only where a program has it
-        (b"tell alice swap\n", (4, 8)),
-    ];
-    for (lines, want) in rows {
-        assert_eq!(rt; fault_of(alloc, PHONES, lines), Some(want));
-    }
+    are_refused(&rt, rt.alloc(), PHONES, &COMMANDS);
 }
 
-#[test]
-fn these_have_no_fault(rt: HostRuntime) {
-    let alloc = rt.alloc();
-    let rows: [(&[u8], &[u8]); 7] = [
-        (CODECS, b"feat f\nprog f s\nstate s\nwhen told go s\nbegin\ntell f go\n"),
-        (
-            PHONES,
-            b"hear alice a off\ntalk bob a on\nsettle\nset bob a hold\n",
-        ),
-        (
-            CODECS,
-            b"dev alice 7 g711\ndev bob 4294967295\nchan audio alice a bob a\nbegin\n",
-        ),
-        (PHONES, b""),
-        (CODECS, b"begin\nsettle\n"),
-        (
-            CODECS,
-            b"dev alice g711\ndev bob\ndev carol\nchan audio alice a bob a\nchan audio alice b carol a\nbegin\n",
-        ),
-        (
-            CODECS,
-            b"dev alice\nfeat f\ndev bob\nchan audio alice a f w\nchan audio f e bob a\nbegin\nlink f w e\nsettle\nlink f e w\n",
-        ),
-    ];
-    for (first, second) in rows {
-        assert_eq!(rt; fault_of(alloc, first, second), None);
-    }
-}
+const SEND_LINES: [(&[u8], Place); 9] = [
+    (b"send alice g723\n", (4, 5)),
+    (b"send carol g711\n", (4, 5)),
+    (b"feat pbx\nsend pbx g711\n", (5, 6)),
+    (
+        b"dev bob\nchan audio alice a bob a\nsend bob g711\n",
+        (5, 7),
+    ),
+    (b"send\n", (6, 5)),
+    (b"send alice g711 g711\n", (9, 5)),
+    (b"send alice\nsend alice g711\n", (9, 6)),
+    (
+        b"send alice g711 g729\ndev bob\nsend bob g729\nbegin\nend\n",
+        (5, 9),
+    ),
+    (b"send alice 2 g711\n", (4, 5)),
+];
 
 #[test]
 fn send_lines_break_these_rules(rt: HostRuntime) {
-    let alloc = rt.alloc();
-    let rows: [(&[u8], (u8, u32)); 9] = [
-        (b"send alice g723\n", (4, 5)),
-        (b"send carol g711\n", (4, 5)),
-        (b"feat pbx\nsend pbx g711\n", (5, 6)),
-        (
-            b"dev bob\nchan audio alice a bob a\nsend bob g711\n",
-            (5, 7),
-        ),
-        (b"send\n", (6, 5)),
-        (b"send alice g711 g711\n", (9, 5)),
-        (b"send alice\nsend alice g711\n", (9, 6)),
-        (
-            b"send alice g711 g729\ndev bob\nsend bob g729\nbegin\nend\n",
-            (5, 9),
-        ),
-        (b"send alice 2 g711\n", (4, 5)),
-    ];
-    for (lines, want) in rows {
-        assert_eq!(rt; fault_of(alloc, SENDERS, lines), Some(want));
-    }
+    are_refused(&rt, rt.alloc(), SENDERS, &SEND_LINES);
 }
 
-#[test]
-fn version_lines_say_whether_there_are_send_lines(rt: HostRuntime) {
-    let alloc = rt.alloc();
-    let rows: [(&[u8], Option<(u8, u32)>); 4] = [
-        (b"media 1\n", Some((5, 5))),
-        (b"media 2\n", None),
-        (b"media 3\n", Some((17, 1))),
-        (b"media 2 2\n", Some((17, 1))),
-    ];
-    for (first, want) in rows {
-        assert_eq!(rt; fault_of(alloc, first, SENDS), want);
-    }
-}
+const SENT_CODECS: [(&[u8], Place); 3] = [
+    (b"send d a b c d e f g h\n", (16, 13)),
+    (b"send d a b c d e f g h i\n", (14, 12)),
+    (b"send d a b c d e f g h h\n", (9, 12)),
+];
 
 #[test]
 fn at_most_eight_codecs_are_sent(rt: HostRuntime) {
-    let alloc = rt.alloc();
-    let rows: [(&[u8], (u8, u32)); 3] = [
-        (b"send d a b c d e f g h\n", (16, 13)),
-        (b"send d a b c d e f g h i\n", (14, 12)),
-        (b"send d a b c d e f g h h\n", (9, 12)),
-    ];
-    for (lines, want) in rows {
-        assert_eq!(rt; fault_of(alloc, NINE, lines), Some(want));
+    are_refused(&rt, rt.alloc(), NINE, &SENT_CODECS);
+}
+
+const WITHOUT_FAULTS: [(&[u8], &[u8]); 7] = [
+    (
+        CODECS,
+        b"feat f\nprog f s\nstate s\nwhen told go s\nbegin\ntell f go\n",
+    ),
+    (
+        PHONES,
+        b"hear alice a off\ntalk bob a on\nsettle\nset bob a hold\n",
+    ),
+    (
+        CODECS,
+        b"dev alice 7 g711\ndev bob 4294967295\nchan audio alice a bob a\nbegin\n",
+    ),
+    (PHONES, b""),
+    (CODECS, b"begin\nsettle\n"),
+    (
+        CODECS,
+        b"dev alice g711\ndev bob\ndev carol\nchan audio alice a bob a\nchan audio alice b carol a\nbegin\n",
+    ),
+    (
+        CODECS,
+        b"dev alice\nfeat f\ndev bob\nchan audio alice a f w\nchan audio f e bob a\nbegin\nlink f w e\nsettle\nlink f e w\n",
+    ),
+];
+
+#[test]
+fn these_have_no_fault(rt: HostRuntime) {
+    for (first, second) in WITHOUT_FAULTS {
+        is_equal(&rt, &fault_of(rt.alloc(), first, second), &None);
+    }
+}
+
+const VERSION_LINES: [(&[u8], Option<Place>); 4] = [
+    (b"media 1\n", Some((5, 5))),
+    (b"media 2\n", None),
+    (b"media 3\n", Some((17, 1))),
+    (b"media 2 2\n", Some((17, 1))),
+];
+
+#[test]
+fn version_lines_say_whether_there_are_send_lines(rt: HostRuntime) {
+    for (first, want) in VERSION_LINES {
+        is_equal(&rt, &fault_of(rt.alloc(), first, SENDS), &want);
     }
 }
 
@@ -166,23 +182,23 @@ fn list_of(codecs: &[u8]) -> CodecList {
 
 // A name of each codec, of each box and of each slot of the phones, and none of a told word.
 fn names_phones(rt: &impl Abort, names: &Names) {
-    assert_eq!(rt; names.codec_count(), 2);
-    assert_eq!(rt; names.codec_name(0), b"g711".as_slice());
-    assert_eq!(rt; names.codec_name(1), b"g729".as_slice());
-    assert_eq!(rt; names.box_count(), 2);
-    assert_eq!(rt; names.box_name(0), b"alice".as_slice());
-    assert_eq!(rt; names.box_name(1), b"bob".as_slice());
-    assert_eq!(rt; names.slot_count(0), 1);
-    assert_eq!(rt; names.slot_name(0, 0), b"a".as_slice());
-    assert_eq!(rt; names.slot_count(1), 1);
-    assert_eq!(rt; names.slot_name(1, 0), b"a".as_slice());
-    assert_eq!(rt; names.told_count(), 0);
+    assert!(rt; names.codec_count() == 2);
+    is_equal(rt, &names.codec_name(0), &b"g711".as_slice());
+    is_equal(rt, &names.codec_name(1), &b"g729".as_slice());
+    assert!(rt; names.box_count() == 2);
+    is_equal(rt, &names.box_name(0), &b"alice".as_slice());
+    is_equal(rt, &names.box_name(1), &b"bob".as_slice());
+    assert!(rt; names.slot_count(0) == 1);
+    is_equal(rt, &names.slot_name(0, 0), &b"a".as_slice());
+    assert!(rt; names.slot_count(1) == 1);
+    is_equal(rt, &names.slot_name(1, 0), &b"a".as_slice());
+    is_equal(rt, &names.told_count(), &0);
 }
 
 // A new device with one slot of audio, which offers this descriptor and sends the same codecs.
 fn is_phone(rt: &impl Abort, home: &MediaBox, number: u32, initiator: bool, own: Descriptor) {
-    assert_eq!(rt; home.kind(), Kind::Device);
-    assert_eq!(rt; home.number(), number);
+    is_equal(rt, &home.kind(), &Kind::Device);
+    is_equal(rt, &home.number(), &number);
     let slot = Slot {
         state: State::Closed,
         medium: Medium::Audio,
@@ -192,22 +208,22 @@ fn is_phone(rt: &impl Abort, home: &MediaBox, number: u32, initiator: bool, own:
         sel_out: None,
         sel_in: None,
     };
-    assert_eq!(rt; home.slots().len(), 1);
-    assert_eq!(rt; home.slots()[0], slot);
-    assert_eq!(rt; home.goal(0), SlotGoal::End(Goal::Close));
-    assert_eq!(rt; home.own(0), own);
+    assert!(rt; home.slots().len() == 1);
+    is_equal(rt, &home.slots()[0], &slot);
+    is_equal(rt, &home.goal(0), &SlotGoal::End(Goal::Close));
+    is_equal(rt, &home.own(0), &own);
     let sender = Sender {
         addr: own.addr,
         port: own.port,
         codecs: own.codecs,
     };
-    assert_eq!(rt; home.sender(0), sender);
+    is_equal(rt, &home.sender(0), &sender);
 }
 
 // The boxes of the world are the two phones.
 fn has_phones(rt: &impl Abort, world: &World) {
     let boxes = world.boxes();
-    assert_eq!(rt; boxes.len(), 2);
+    assert!(rt; boxes.len() == 2);
     let alice = Descriptor {
         origin: 0,
         version: 1,
@@ -228,11 +244,11 @@ fn has_phones(rt: &impl Abort, world: &World) {
 
 // One channel of one tunnel leads from the one phone to the other, and nothing is under way.
 fn has_channel(rt: &impl Abort, world: &World) {
-    assert_eq!(rt; world.slot_count(), 2);
-    assert_eq!(rt; world.place(0), (0, 0));
-    assert_eq!(rt; world.place(1), (1, 0));
-    assert_eq!(rt; world.channel(0), (0, 0));
-    assert_eq!(rt; world.channel(1), (0, 0));
+    assert!(rt; world.slot_count() == 2);
+    is_equal(rt, &world.place(0), &(0, 0));
+    is_equal(rt, &world.place(1), &(1, 0));
+    is_equal(rt, &world.channel(0), &(0, 0));
+    is_equal(rt, &world.channel(1), &(0, 0));
     assert!(rt; world.quiet());
 }
 
@@ -246,24 +262,19 @@ fn set(who: u32, goal: Goal) -> Turn {
 
 // The shapes of the two phones: devices with one slot of audio each, without programs.
 fn has_shapes(rt: &impl Abort, shape: &Shape) {
-    assert_eq!(rt; shape.boxes.len(), 2);
+    is_equal(rt, &shape.boxes.len(), &2);
     for shape in &shape.boxes {
-        assert_eq!(rt; shape.kind, Kind::Device);
-        assert_eq!(rt; &shape.media[..], &[Medium::Audio][..]);
+        is_equal(rt, &shape.kind, &Kind::Device);
+        is_equal(rt, &&shape.media[..], &&[Medium::Audio][..]);
         assert!(rt; !shape.programmed);
     }
 }
 
 // One batch of two commands.
 fn has_batch(rt: &impl Abort, batches: &[Batch]) {
-    assert_eq!(rt; batches.len(), 1);
+    assert!(rt; batches.len() == 1);
     let batch = [set(0, Goal::Open), set(1, Goal::Hold)];
-    assert_eq!(rt; &batches[0].turns[..], &batch[..]);
-}
-
-// The network that a text declares, of which nothing is said beforehand.
-fn net_of(alloc: Global, text: &[u8]) -> Result<Net, NetFault> {
-    read_net(alloc, text, Tail::Nothing)
+    is_equal(rt, &&batches[0].turns[..], &&batch[..]);
 }
 
 #[test]
@@ -277,6 +288,6 @@ fn two_phones_make_a_net(rt: HostRuntime) -> Result<(), NetFault> {
     has_channel(&rt, &net.world);
     has_shapes(&rt, &net.shape);
     has_batch(&rt, &net.batches);
-    assert_eq!(rt; net.rest, text.len());
+    is_equal(&rt, &net.rest, &text.len());
     Ok(())
 }

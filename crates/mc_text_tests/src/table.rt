@@ -1,5 +1,6 @@
 // What is printed after a settle.
 
+use crate::equal::is_equal;
 use mc_table::print_settle;
 use mc_text::Names;
 use std::alloc::AllocError;
@@ -8,6 +9,6 @@ use std::alloc::AllocError;
 fn a_settle_without_paths_is_its_line(rt: HostRuntime) -> Result<(), AllocError> {
     let names = Names::new(rt.alloc());
     let text = print_settle(rt.alloc(), &names, 12, &[])?;
-    assert_eq!(rt; text.as_slice(), b"settle 12\n".as_slice());
+    is_equal(&rt, &text.as_slice(), &b"settle 12\n".as_slice());
     Ok(())
 }

@@ -1,3 +1,4 @@
+use crate::equal::is_equal;
 use mc_text::{Draws, NameFault, Names};
 
 #[test]
@@ -8,7 +9,7 @@ fn draws_are_the_published_ones(rt: HostRuntime) {
         32225, 17543, 25089, 21183,
     ];
     for want in first {
-        assert_eq!(rt; draws.draw(), want);
+        is_equal(&rt, &draws.draw(), &want);
     }
 }
 
@@ -16,9 +17,9 @@ fn draws_are_the_published_ones(rt: HostRuntime) {
 fn codecs_and_words_get_numbers(rt: HostRuntime) -> Result<(), NameFault> {
     let mut names = Names::new(rt.alloc());
     let codec = names.add_codec(b"g711")?;
-    assert_eq!(rt; codec, 0);
+    is_equal(&rt, &codec, &0);
     let word = names.add_told(b"paid")?;
-    assert_eq!(rt; names.add_told(b"paid")?, word);
+    is_equal(&rt, &names.add_told(b"paid")?, &word);
     Ok(())
 }
 
