@@ -22,13 +22,13 @@ use Rattle.mc_model.specs.Worlds.{WorldState, box_at}
 use Rattle.mc_world.specs.Waiting.{CountsTakes}
 use Rattle.mc_signal.specs.Own.{address_of}
 use Rattle.mc_seq.specs.ForEach.{for_each}
-use Rattle.mc_seq.specs.Ready.{CountsEach, all_of_two, next_commands, two_candidates}
+use Rattle.mc_seq.specs.Ready.{CountsEach, all_of_two, all_takes, next_commands, two_candidates}
 use Rattle.mc_seq.specs.Schedule.{all_candidates, candidates_of, command_candidates, left_by, next_of, shift_of, shift_turn, shifts_by, takes_of, without_next}
 use Rattle.mc_seq.specs.Spare.{AreCountedBut, AreKeptBut, AreShiftsCounted, AreShiftsKept, AreShiftsLong, others_of, spare_of}
 use Rattle.mc_seq.specs.declared.limit.TheConstants.{SHIFT_LIMIT}
 use Rattle.mc_seq.specs.declared.shifting.Shifts.{Shifts}
 use Rattle.mc_seq.proofs.Finds.{takes_each}
-use Rattle.mc_seq.proofs.ForEach.{each_same}
+use Rattle.mc_seq.proofs.ForEach.{append_none, each_alike, each_none, each_same}
 use Rattle.mc_seq.proofs.Kth.{count_is, got_first, got_second, kth_of_mixed, mixed_count}
 
 -- ---- where no box has a program
@@ -275,3 +275,27 @@ small_more [] count most small low zero = low
 small_more [] count most small low (suc who) = omega arith
 small_more (x ∷ counts) count most small low zero = small 0
 small_more (x ∷ counts) count most small low (suc who) = small_more counts count most (λ w. small (suc w)) low who
+
+-- ---- where no command and no Shift is listed
+
+none_long : (xs : List Turn) → length xs ≡ 0 → xs ≡ []
+none_long [] is = refl
+none_long (x ∷ xs) is = absurd (omega arith)
+
+-- a box that lists nothing beside its Takes lists these
+takes_alone : (world : WorldState) (left : List Turn) (spare : List ℕ) (who : ℕ) → others_of world left spare who ≡ [] → candidates_of world left spare false who ≡ takes_of world who
+takes_alone world left spare who none =
+    let parts = append_none (command_candidates left who) (shift_of world spare who) none in
+    ap (λ (l : List Turn). l ++ (takes_of world who ++ shift_of world spare who)) parts.0
+    ∙ (ap (λ (l : List Turn). takes_of world who ++ l) parts.1 ∙ append-nil (takes_of world who))
+
+-- so where these are none in all, the candidates are the Takes
+pub only_takes : (world : WorldState) (left : List Turn) (shifts : Shifts) (urgent : Bool) → AreShiftsCounted world left shifts → urgent ≡ false → sum shifts.others ≡ 0
+    → all_candidates world left shifts.spare.items urgent ≡ all_takes world
+only_takes world left shifts urgent counted calm none =
+    let spare : List ℕ = shifts.spare.items in
+    let all : for_each (others_of world left spare) (length world.boxes) ≡ []
+    = none_long (for_each (others_of world left spare) (length world.boxes)) (sym (count_is (others_of world left spare) shifts.others (length world.boxes) counted.counted) ∙ none) in
+    calm_three world left spare urgent calm
+    ∙ each_alike (candidates_of world left spare false) (takes_of world) (length world.boxes)
+    (λ who below. takes_alone world left spare who (each_none (others_of world left spare) (length world.boxes) who all below))

@@ -49,6 +49,12 @@ pub each_same : (f g : ℕ → List Turn) (n : ℕ) → ((t : ℕ) → f t ≡ g
 each_same f g zero same = refl
 each_same f g (suc n) same = ap (λ (turns : List Turn). turns ++ f n) (each_same f g n same) ∙ ap (λ (turns : List Turn). for_each g n ++ turns) (same n)
 
+-- or that give the same for each number
+pub each_alike : (f g : ℕ → List Turn) (n : ℕ) → ((t : ℕ) → t < n → f t ≡ g t) → for_each f n ≡ for_each g n
+each_alike f g zero same = refl
+each_alike f g (suc n) same =
+    ap (λ (turns : List Turn). turns ++ f n) (each_alike f g n (λ t below. same t (omega arith))) ∙ ap (λ (turns : List Turn). for_each g n ++ turns) (same n (omega arith))
+
 -- what is counted is counted number by number
 pub each_count : (p : Turn → Bool) (f : ℕ → List Turn) (n : ℕ) → count_by p (for_each f n) ≡ total (λ (t : ℕ). count_by p (f t)) n
 each_count p f zero = refl

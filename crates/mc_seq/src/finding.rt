@@ -163,6 +163,10 @@ fn kth_of_three(world: &World, left: &Commands, shifts: &Shifts, urgent: bool, k
     if urgent {
         return kth_command(left, k);
     }
+    let others = shifts.others.total();
+    if others == 0 {
+        return kth_take(world, k);
+    }
     world.keeps();
     let (who, rest) = world.takes().find_in_both(&shifts.others, k);
     kth_at_box(world, left, &shifts.spare, who as u32, rest)

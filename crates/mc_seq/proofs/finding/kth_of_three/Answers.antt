@@ -1,7 +1,7 @@
 use Rattle.std.proofs.Common.{◌≡◌, ◌<◌, ◌∙◌, Some, ℕ, List, false, length, slice_get, sym, subst, arith}
 use Rattle.mc_seq.specs.Commands.{commands_left}
 use Rattle.mc_seq.specs.Schedule.{all_candidates, candidates_of}
-use Rattle.mc_seq.proofs.Counting.{calm_three, three_at_box, three_sum, three_within, urgent_three}
+use Rattle.mc_seq.proofs.Counting.{calm_three, only_takes, three_at_box, three_sum, three_within, urgent_three}
 use Rattle.mc_seq.proofs.Finds.{still_got, still_inside}
 use Rattle.mc_seq.proofs.finding.kth_of_three.Goals as goal
 
@@ -14,6 +14,16 @@ pub returns-then-urgent : goal.returns-then-urgent
 returns-then-urgent c =
     still_got c.args.k c.kth_command.result
     (urgent_three c.args.world.now (commands_left c.args.left.now) c.args.shifts.now.spare.items c.args.urgent (length c.args.left.now.queues.items) c.if-urgent.true c.requires.kept.boxes) c.kth_command.ensures
+
+pub kth_take-requires : goal.kth_take-requires
+kth_take-requires c =
+    still_inside c.args.k
+    (only_takes c.args.world.now (commands_left c.args.left.now) c.args.shifts.now c.args.urgent c.requires.shifts c.if-urgent.false (sym c.total-others.ensures ∙ c.if-others-eq0.true)) c.requires.inside
+
+pub returns-then-others-eq0 : goal.returns-then-others-eq0
+returns-then-others-eq0 c =
+    still_got c.args.k c.kth_take.result
+    (only_takes c.args.world.now (commands_left c.args.left.now) c.args.shifts.now c.args.urgent c.requires.shifts c.if-urgent.false (sym c.total-others.ensures ∙ c.if-others-eq0.true)) c.kth_take.ensures
 
 pub find_in_both-who-requires-clause-long : goal.find_in_both-who-requires-clause-long
 find_in_both-who-requires-clause-long c = c.takes.ensures.long ∙ sym c.requires.shifts.counted.long
