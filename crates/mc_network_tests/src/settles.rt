@@ -350,9 +350,7 @@ fn settles_with_programs_are_the_plain_ones(rt: HostRuntime) -> Result<(), TestF
 }
 
 fn has_shift(turns: &[Turn]) -> bool {
-    turns
-        .iter()
-        .any(|turn| matches!(turn.event, Event::Shift))
+    turns.iter().any(|turn| matches!(turn.event, Event::Shift))
 }
 
 // A feature beside a device, with this program of two states that lead to each other.

@@ -36,7 +36,11 @@ fn a_declared_program_runs(rt: HostRuntime) -> Result<(), NetFault> {
     let net = net_of(rt.alloc(), PROGRAM)?;
     let mut world = net.world;
     has_one_program(&rt, &world);
-    shifts(&rt, &mut world, [SlotGoal::End(Goal::Hold), SlotGoal::End(Goal::Close)]);
+    shifts(
+        &rt,
+        &mut world,
+        [SlotGoal::End(Goal::Hold), SlotGoal::End(Goal::Close)],
+    );
     shifts(&rt, &mut world, [SlotGoal::Link(1), SlotGoal::Link(0)]);
     Ok(())
 }
