@@ -92,7 +92,8 @@ fn drawn_rules(
     ensures guards { IfOk result (λ rules. All (λ rule. NamesSlot slots rule.guard) rules.items) }
 {
     let mut rules = Vec::new(alloc);
-    for _rule in 0..below(draws, 4) {
+    let most = below(draws, 4);
+    for _rule in 0..most {
         let guard = drawn_guard(draws, slots);
         let target = below(draws, count);
         rules.push(Rule { guard, target })?;

@@ -135,9 +135,10 @@ fn kth_take_of(world: &World, who: u32, k: u64) -> Turn
     Turn { who, event }
 }
 
-// ---- where some box has a program
+// ---- where some box has a program; these stand apart, so that a turn in a world without programs is short
 
 // How many next commands, Takes and Shifts there are.
+#[inline(never)]
 fn count_of_three(world: &World, left: &Commands, shifts: &Shifts, urgent: bool) -> u64
     requires kept { AreKeptFor world.now left.now }
     requires shifts { AreShiftsCounted world.now (commands_left left.now) shifts.now }
@@ -153,6 +154,7 @@ fn count_of_three(world: &World, left: &Commands, shifts: &Shifts, urgent: bool)
 }
 
 // The k-th of them.
+#[inline(never)]
 fn kth_of_three(world: &World, left: &Commands, shifts: &Shifts, urgent: bool, k: u64) -> Turn
     requires kept { AreKeptFor world.now left.now }
     requires shifts { AreShiftsCounted world.now (commands_left left.now) shifts.now }

@@ -6,7 +6,7 @@ ghost use Rattle.mc_seq.specs.Commands.{AreKept, AreKeptFor, commands_left};
 ghost use Rattle.mc_seq.specs.Drawing.{IsDrawOf};
 ghost use Rattle.mc_seq.specs.Ready.{CountsEach};
 ghost use Rattle.mc_seq.specs.Schedule.{due_by, may_shift, shifts_by};
-ghost use Rattle.mc_seq.specs.Spare.{AreKeptBut, AreShiftsCounted, AreShiftsKept, AreShiftsLong, all_spare, others_of, spare_of};
+ghost use Rattle.mc_seq.specs.Spare.{AreCountedBut, AreKeptBut, AreShiftsCounted, AreShiftsKept, AreShiftsLong, all_spare, others_of, spare_of};
 
 use crate::batches::has_programs;
 use crate::commands::{Commands, next_command};
@@ -96,6 +96,7 @@ fn spare_at(spare: &[u16], who: u32) -> u16
 }
 
 // Counts a turn that was made, where some box has a program.
+#[inline]
 pub fn count_programmed(
     shifts: &mut Option<Shifts>,
     due: &mut bool,
@@ -112,12 +113,29 @@ pub fn count_programmed(
 {
     match shifts {
         None => Draw::Drawn,
-        Some(counted) => {
-            let draw = count_shift(&mut counted.spare, due, turn);
-            recount(counted, world, left, turn.who);
-            draw
-        }
+        Some(counted) => count_among(counted, due, world, left, turn),
     }
+}
+
+// The same there. It stands apart, so that a turn in a world without programs is short.
+#[inline(never)]
+fn count_among(
+    shifts: &mut Shifts,
+    due: &mut bool,
+    world: &World,
+    left: &Commands,
+    turn: Turn,
+) -> Draw
+    requires kept { AreKeptFor world.now left.now }
+    requires but { AreCountedBut world.now (commands_left left.now) shifts.old turn.who }
+    ensures kept { AreShiftsCounted world.now (commands_left left.now) shifts.new }
+    ensures spare { shifts.new.spare.items ≡ shifts_by turn shifts.old.spare.items }
+    ensures due { due.new ≡ due_by turn due.old }
+    ensures draw { IsDrawOf turn result }
+{
+    let draw = count_shift(&mut shifts.spare, due, turn);
+    recount(shifts, world, left, turn.who);
+    draw
 }
 
 // A Shift is one of those that its box may make, and makes a round of retries due.
