@@ -59,9 +59,11 @@ struct Example {
 fn new_example(alloc: Global) -> Result<Example, NameFault>
     ensures { IfOk result (λ example. Fits example.names example.shape) }
 {
-    let names = example_names(alloc)?;
     match example_shape(alloc) {
-        Ok(shape) => Ok(Example { names, shape }),
+        Ok(shape) => Ok(Example {
+            names: example_names(alloc)?,
+            shape,
+        }),
         Err(wanting) => Err(NameFault::NoMemory(wanting)),
     }
 }

@@ -277,17 +277,22 @@ fn has_batch(rt: &impl Abort, batches: &[Batch]) {
     is_equal(rt, &&batches[0].turns[..], &&batch[..]);
 }
 
+// The parts of the network of the two phones, whose text is so long.
+fn has_parts(rt: &impl Abort, net: &Net, length: usize) {
+    names_phones(rt, &net.names);
+    has_phones(rt, &net.world);
+    has_channel(rt, &net.world);
+    has_shapes(rt, &net.shape);
+    has_batch(rt, &net.batches);
+    is_equal(rt, &net.rest, &length);
+}
+
 #[test]
 fn two_phones_make_a_net(rt: HostRuntime) -> Result<(), NetFault> {
     let alloc = rt.alloc();
     let mut text = Vec::from_slice(alloc, PHONES)?;
     text.extend_from_slice(b"set alice a open\nset bob a hold\nsettle\nset alice a close")?;
     let net = net_of(alloc, &text)?;
-    names_phones(&rt, &net.names);
-    has_phones(&rt, &net.world);
-    has_channel(&rt, &net.world);
-    has_shapes(&rt, &net.shape);
-    has_batch(&rt, &net.batches);
-    is_equal(&rt, &net.rest, &text.len());
+    has_parts(&rt, &net, text.len());
     Ok(())
 }

@@ -1,5 +1,7 @@
 use crate::equal::is_equal;
 use mc_text::{Draws, NameFault, Names};
+use std::alloc::Global;
+use std::process::Abort;
 
 #[test]
 fn draws_are_the_published_ones(rt: HostRuntime) {
@@ -13,25 +15,36 @@ fn draws_are_the_published_ones(rt: HostRuntime) {
     }
 }
 
+// The first codec has number 0, and a told word keeps its number.
+fn get_numbers(rt: &impl Abort, names: &mut Names) -> Result<(), NameFault> {
+    let codec = names.add_codec(b"g711")?;
+    is_equal(rt, &codec, &0);
+    let word = names.add_told(b"paid")?;
+    is_equal(rt, &names.add_told(b"paid")?, &word);
+    Ok(())
+}
+
 #[test]
 fn codecs_and_words_get_numbers(rt: HostRuntime) -> Result<(), NameFault> {
     let mut names = Names::new(rt.alloc());
-    let codec = names.add_codec(b"g711")?;
-    is_equal(&rt, &codec, &0);
-    let word = names.add_told(b"paid")?;
-    is_equal(&rt, &names.add_told(b"paid")?, &word);
-    Ok(())
+    get_numbers(&rt, &mut names)
+}
+
+// A slot that is added with its box, as it is printed.
+fn printed_slot(alloc: Global, names: &mut Names) -> Result<Vec<u8>, NameFault> {
+    let who = names.add_box(b"alice")?;
+    let slot = names.add_slot(who, b"a")?;
+    let mut out = Vec::new(alloc);
+    names
+        .print_slot(who, slot, &mut out)
+        .map_err(NameFault::NoMemory)?;
+    Ok(out)
 }
 
 #[test]
 fn a_slot_is_printed_with_its_box(rt: HostRuntime) -> Result<(), NameFault> {
     let mut names = Names::new(rt.alloc());
-    let who = names.add_box(b"alice")?;
-    let slot = names.add_slot(who, b"a")?;
-    let mut out = Vec::new(rt.alloc());
-    names
-        .print_slot(who, slot, &mut out)
-        .map_err(NameFault::NoMemory)?;
-    assert!(rt; out.as_slice() == b"alice/a".as_slice());
+    let out = printed_slot(rt.alloc(), &mut names)?;
+    is_equal(&rt, &out.as_slice(), &b"alice/a".as_slice());
     Ok(())
 }
