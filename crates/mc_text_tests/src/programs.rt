@@ -1,4 +1,4 @@
-use mc_box::Event;
+use mc_box::{Event, MediaBox};
 use mc_net::{Net, NetFault, Tail, read_net};
 use mc_slot::{Goal, SlotGoal};
 use mc_world::World;
@@ -14,12 +14,19 @@ fn net_of(alloc: Global, text: &[u8]) -> Result<Net, NetFault> {
     read_net(alloc, text, Tail::Nothing)
 }
 
+// The two slots of the feature have these goals.
+fn has_goals(rt: &impl Abort, feature: &MediaBox, first: SlotGoal, second: SlotGoal) {
+    assert_eq!(rt; feature.slots().len(), 2);
+    assert_eq!(rt; feature.goal(0), first);
+    assert_eq!(rt; feature.goal(1), second);
+}
+
 // The feature's program goes on, and gives its slots these goals.
-fn shifts(rt: &impl Abort, world: &mut World, goals: [SlotGoal; 2]) {
+fn shifts(rt: &impl Abort, world: &mut World, first: SlotGoal, second: SlotGoal) {
     assert!(rt; world.step(1, Event::Shift).is_ok());
-    let feature = &world.boxes()[1];
-    assert_eq!(rt; feature.goal(0), goals[0]);
-    assert_eq!(rt; feature.goal(1), goals[1]);
+    let boxes = world.boxes();
+    assert_eq!(rt; boxes.len(), 3);
+    has_goals(rt, &boxes[1], first, second);
 }
 
 // The feature alone has a program.
@@ -39,8 +46,9 @@ fn a_declared_program_runs(rt: HostRuntime) -> Result<(), NetFault> {
     shifts(
         &rt,
         &mut world,
-        [SlotGoal::End(Goal::Hold), SlotGoal::End(Goal::Close)],
+        SlotGoal::End(Goal::Hold),
+        SlotGoal::End(Goal::Close),
     );
-    shifts(&rt, &mut world, [SlotGoal::Link(1), SlotGoal::Link(0)]);
+    shifts(&rt, &mut world, SlotGoal::Link(1), SlotGoal::Link(0));
     Ok(())
 }
