@@ -21,7 +21,7 @@ last_pushed xs x =
     rw place (at_length xs x)
 
 -- the media of a box that gets a program stay, and so do the others
-same_media : (shape : List BoxShapeState) (who k : ℕ) → (shape_of (with_program shape who) k).media ≡ (shape_of shape k).media
+pub same_media : (shape : List BoxShapeState) (who k : ℕ) → (shape_of (with_program shape who) k).media ≡ (shape_of shape k).media
 same_media shape who k = go shape who k
   where
     go : (boxes : List BoxShapeState) (i j : ℕ) → (shape_of (slice_set boxes i (record (shape_of boxes i) { programmed = true })) j).media ≡ (shape_of boxes j).media

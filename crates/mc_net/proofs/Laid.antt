@@ -7,6 +7,7 @@ use Rattle.std.specs.List.{All, list_any, slice_get}
 use Rattle.mc_box.specs.BoxShapes.{BoxShapeState, is_feature, shape_of}
 use Rattle.mc_program.specs.BlockLaws.{FitsIn}
 use Rattle.mc_program.specs.Programs.{BlockState, is_unfinished_block, new_block}
+use Rattle.mc_lines.proofs.Blocks.{same_media}
 use Rattle.mc_lines.specs.Meaning.{with_program}
 use Rattle.mc_lines.specs.Rules.{block_in, rank}
 use Rattle.mc_lines.specs.declared.section.Section.{Section}
@@ -120,18 +121,8 @@ kind_stays shape who k = go shape who k
     go (box ∷ boxes) (suc i) zero = refl
     go (box ∷ boxes) (suc i) (suc j) = go boxes i j
 
-media_stay : (shape : List BoxShapeState) (who k : ℕ) → (shape_of (with_program shape who) k).media ≡ (shape_of shape k).media
-media_stay shape who k = go shape who k
-  where
-    go : (boxes : List BoxShapeState) (i j : ℕ) → (shape_of (slice_set boxes i (record (shape_of boxes i) { programmed = true })) j).media ≡ (shape_of boxes j).media
-    go [] i j = refl
-    go (box ∷ boxes) zero zero = refl
-    go (box ∷ boxes) zero (suc j) = refl
-    go (box ∷ boxes) (suc i) zero = refl
-    go (box ∷ boxes) (suc i) (suc j) = go boxes i j
-
 still_fits : (shape : List BoxShapeState) (who : ℕ) (block : BlockState) → FitsIn shape block → FitsIn (with_program shape who) block
-still_fits shape who block fits = rw (media_stay shape who block.who) fits
+still_fits shape who block fits = rw (same_media shape who block.who) fits
 
 pub laid_more : (shape : List BoxShapeState) (place : Section) (blocks : List BlockState) (who : ℕ) (states : List (List ℕ)) → AreLaid shape place blocks → AllFinished blocks → who < length shape → is_feature (shape_of shape who).kind ≡ true
     → has_owner (owners blocks) who ≡ false → FitsIn shape (new_block who states) → AreLaid (with_program shape who) section.Programs (blocks ++ new_block who states ∷ [])
