@@ -4,6 +4,7 @@ use Rattle.mc_box.specs.declared.event.Turn.{Turn}
 use Rattle.mc_model.specs.Sound.{IsSound}
 use Rattle.mc_model.specs.Unprogrammed.{HasNoPrograms}
 use Rattle.mc_model.specs.Worlds.{WorldState}
+use Rattle.mc_net.proofs.FirstPrograms.{unprogrammed_texts}
 use Rattle.mc_net.specs.Nets.{DeclaresNet, IsFirstWorld, batch_turns, batches_of}
 use Rattle.mc_lines.specs.SoFar.{Declared}
 use Rattle.mc_net.specs.Texts.{Says}
@@ -45,7 +46,7 @@ none_shown (Restless at) world batches below (inr (rests, chain)) shows = shows.
 -- the first world of a text whose batches come to rest is such a one
 first_rests : (d : Declared) (world : WorldState) → AlwaysRests d → IsFirstWorld d world
     → (HasNoPrograms world × LeavesNoRing world (batches_of d.commands)) ⊎ (RestsByWords world (batches_of d.commands) × ClosesNoChain world (batches_of d.commands))
-first_rests d world (inl (unprogrammed, none)) first = inl (unprogrammed world first, none world first)
+first_rests d world (inl (unprogrammed, none)) first = inl (unprogrammed_texts d world first unprogrammed, none world first)
 first_rests d world (inr by_names) first = inr (by_names world first)
 
 -- no stop shows its cause in the network of such a text

@@ -1,6 +1,6 @@
 mod Causes
 mod Ending
-mod Halts
+mod FirstWorlds
 mod LastVersions
 mod LeftRings
 mod NamedRings

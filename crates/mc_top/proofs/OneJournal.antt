@@ -13,15 +13,15 @@ use Rattle.mc_model.specs.Steps.{heard_slot}
 use Rattle.mc_model.specs.Worlds.{WorldState, box_at}
 use Rattle.mc_script.specs.declared.command.JournalLine.{JournalLine}
 use Rattle.mc_script.specs.declared.command.JournalLine.TheVariants.{Turn as Made}
+use Rattle.mc_seq.proofs.OneSchedule.{AreOne, IsOver, ended_over, goes_one, restless_over, ring_over, version_over}
 use Rattle.mc_seq.specs.Draws.{IsScheduled, ScheduleIsOne, StopsAtRing, StopsAtVersion, StopsRestless}
 use Rattle.mc_seq.specs.Restless.{IsFirstShifter}
 use Rattle.mc_seq.specs.Retries.{retries_by_box}
-use Rattle.mc_seq.specs.Schedule.{AreDrawn, Goes, Standing, first_standing, drawn_turn, standing_after}
+use Rattle.mc_seq.specs.Schedule.{AreDrawn, Goes, Standing, candidates, drawn_place, drawn_turn, first_standing, standing_after}
 use Rattle.mc_top.specs.Drawn.{DrawnJournalIsOne, EndsWithin, IsDrawnJournal, StopsBy}
 use Rattle.mc_top.specs.Journals.{lines_for}
 use Rattle.mc_top.specs.declared.stop.Stop.{Stop}
 use Rattle.mc_top.specs.declared.stop.Stop.TheVariants.{Restless, Ring, VersionEnd}
-use Rattle.mc_top.proofs.Halts.{AreOne, IsOver, ended_over, goes_one, none_drawn, restless_over, ring_over, version_over}
 use Rattle.mc_top.proofs.Shifters.{first_can}
 use Rattle.mc_top.proofs.UsedUp.{used_up}
 
@@ -49,7 +49,7 @@ record GoesToEnd (world : WorldState) (batch turns : List Turn) (state : ℕ) (l
   pub over : IsOver last
 
 one_end : (world : WorldState) (batch turns more : List Turn) (state : ℕ) (last other : Standing) → GoesToEnd world batch turns state last → GoesToEnd world batch more state other → AreOne turns more last other
-one_end world batch turns more state last other one two = goes_one one.rounds two.rounds (first_standing world batch state) last other turns more one.goes one.over two.goes two.over
+one_end world batch turns more state last other one two = goes_one one.rounds two.rounds turns more (first_standing world batch state) last other one.goes one.over two.goes two.over
 
 settled_end : (world last : WorldState) (batch turns : List Turn) (state end : ℕ) → (is : IsScheduled world batch state turns last end) → GoesToEnd world batch turns state is.ended
 settled_end world last batch turns state end is = record { rounds = is.rounds; goes = is.goes; over = ended_over is.ended is.still is.not_due }
@@ -73,6 +73,12 @@ restless_end world batch turns state end at stops = record {
   goes = stops.goes;
   over = restless_over stops.last stops.none (first_can stops.last.world at stops.restless.first);
 }
+
+-- where nothing is listed nothing is drawn
+none_drawn : (now : Standing) (turn : Turn) → candidates now ≡ [] → drawn_turn now ≡ Some turn → ⊥
+none_drawn now turn none is =
+    let nothing : drawn_turn now ≡ None = ap (λ (l : List Turn). slice_get l (drawn_place now.draws (length l))) none in
+    cc (nothing, is)
 
 -- ---- two stops
 

@@ -59,10 +59,10 @@ box_seen_both : (box other third : BoxState) → IsSeenAlike box other → IsSee
 box_seen_both box other third one two =
     record { kind = one.kind ∙ two.kind; receives = one.receives ∙ two.receives; sends = one.sends ∙ two.sends; settings = one.settings ∙ two.settings }
 
-seen_back : (world other : WorldState) → AreSeenAlike world other → AreSeenAlike other world
+pub seen_back : (world other : WorldState) → AreSeenAlike world other → AreSeenAlike other world
 seen_back world other seen = record { channels = sym seen.channels; boxes = λ who. box_seen_back (box_at world who) (box_at other who) (seen.boxes who) }
 
-seen_both : (world other third : WorldState) → AreSeenAlike world other → AreSeenAlike other third → AreSeenAlike world third
+pub seen_both : (world other third : WorldState) → AreSeenAlike world other → AreSeenAlike other third → AreSeenAlike world third
 seen_both world other third one two =
     record { channels = one.channels ∙ two.channels; boxes = λ who. box_seen_both (box_at world who) (box_at other who) (box_at third who) (one.boxes who) (two.boxes who) }
 

@@ -1,7 +1,5 @@
 -- Runs of one text print the same, where goals decide all paths.
-use Rattle.std.proofs.Common.{◌≡◌, ◌+◌, ◌++◌, ℕ, zero, suc, List, [], ◌∷◌, Option, Some, map, refl, ap, sym, ◌∙◌, subst, append_assoc}
-use Rattle.std.proofs.Math.ListN.{get_or}
-use Rattle.mc_box.specs.Boxes.{first_goal, first_media, no_box}
+use Rattle.std.proofs.Common.{◌≡◌, ◌+◌, ◌++◌, ℕ, List, [], ◌∷◌, Option, Some, map, refl, ap, sym, ◌∙◌, subst, append_assoc}
 use Rattle.mc_box.specs.declared.event.Turn.{Turn}
 use Rattle.mc_laws.proofs.NoPrograms.{still_none}
 use Rattle.mc_laws.proofs.ShapesKept.{run_keeps_shape}
@@ -9,18 +7,12 @@ use Rattle.mc_laws.proofs.StepKeeps.{run_keeps_sound}
 use Rattle.mc_model.specs.Sound.{IsSound}
 use Rattle.mc_model.specs.Steps.{run}
 use Rattle.mc_model.specs.Unprogrammed.{HasNoPrograms}
-use Rattle.mc_model.specs.Worlds.{ChannelState, WorldState}
-use Rattle.mc_plan.proofs.Numbered.{plans_are_unprogrammed}
-use Rattle.mc_plan.specs.Plans.{PlanState, box_from, boxes_from, world_of}
-use Rattle.mc_plan.specs.Setups.{setups_of}
-use Rattle.mc_plan.specs.declared.plan.BoxPlan.{BoxPlan}
-use Rattle.mc_lines.specs.BoxLines.{box_seen}
+use Rattle.mc_model.specs.Worlds.{WorldState}
 use Rattle.mc_net.specs.Nets.{IsFirstWorld, batch_turns, batches_of}
-use Rattle.mc_lines.specs.SoFar.{Declared, DeclaredBox}
+use Rattle.mc_lines.specs.SoFar.{Declared}
 use Rattle.mc_net.specs.declared.net.Net.{Net}
 use Rattle.mc_settings.proofs.BatchesLeft.{decided_is_left, decided_stays, settled_used}
 use Rattle.mc_settings.specs.Batches.{LeavesDecided}
-use Rattle.mc_settings.specs.Settings.{Settings}
 use Rattle.mc_script.specs.declared.command.JournalLine.{JournalLine}
 use Rattle.mc_script.specs.declared.command.JournalLine.TheVariants.{Turn as Made, Settled}
 use Rattle.mc_text.specs.NameLists.{NameLists}
@@ -31,8 +23,9 @@ use Rattle.mc_top.specs.TextAlone.{CallsPrintSame, SettlesText, TextAloneDecides
 use Rattle.mc_top.specs.Top.{Worked}
 use Rattle.mc_top.specs.declared.words.Mode.{Mode}
 use Rattle.mc_top.specs.declared.words.Mode.TheVariants.{One, Run}
+use Rattle.mc_top.proofs.FirstWorlds.{first_unprogrammed, first_worlds_seen}
 use Rattle.mc_top.proofs.Running.{printed_after}
-use Rattle.mc_top.proofs.SeenAlike.{AreSeenAlike, IsSeenAlike, box_seen_self, settle_same, settles_are_seen_alike}
+use Rattle.mc_top.proofs.SeenAlike.{AreSeenAlike, settle_same, settles_are_seen_alike}
 
 -- ---- journals
 
@@ -59,49 +52,6 @@ journals_same (batch ∷ batches) names number world other first second sound ot
     (decided_stays world last batch turns batches sound unprogrammed decided settled) later behind)
     ∙ sym (segment_text names number other end others second more ended.runs are)))
 
--- ---- first worlds
-
--- the new boxes of plans of which the same is declared
-box_from_seen : (channels : List ChannelState) (who : ℕ) (planned other : BoxPlan) → box_seen planned ≡ box_seen other → IsSeenAlike (box_from channels who planned) (box_from channels who other)
-box_from_seen channels who planned other same = record {
-  kind = ap (λ (d : DeclaredBox). d.kind) same;
-  receives = ap (λ (d : DeclaredBox). d.receives) same;
-  sends = ap (λ (d : DeclaredBox). d.sends) same;
-  settings = ap (λ (d : DeclaredBox). same_settings d.version) same;
-}
-  where
-    same_settings : ℕ → Settings
-    same_settings version = record { goals = map first_goal (setups_of channels who); media = map (first_media version) (setups_of channels who) }
-
-boxes_from_seen : (channels : List ChannelState) (plans others : List BoxPlan) (first who : ℕ) → map box_seen plans ≡ map box_seen others
-    → IsSeenAlike (get_or (boxes_from channels first plans) who no_box) (get_or (boxes_from channels first others) who no_box)
-boxes_from_seen channels [] [] first who same = box_seen_self no_box
-boxes_from_seen channels [] (other ∷ others) first who same = absurd (cc)
-boxes_from_seen channels (planned ∷ plans) [] first who same = absurd (cc)
-boxes_from_seen channels (planned ∷ plans) (other ∷ others) first zero same = let here : box_seen planned ≡ box_seen other = cc in box_from_seen channels first planned other here
-boxes_from_seen channels (planned ∷ plans) (other ∷ others) first (suc who) same =
-    let rest : map box_seen plans ≡ map box_seen others = cc in
-    boxes_from_seen channels plans others (first + 1) who rest
-
-plans_seen : (plan other : PlanState) → plan.channels ≡ other.channels → map box_seen plan.boxes ≡ map box_seen other.boxes → AreSeenAlike (world_of plan) (world_of other)
-plans_seen plan other channels same = record {
-  channels = channels;
-  boxes = λ who.
-      subst (λ (c : List ChannelState). IsSeenAlike (get_or (boxes_from plan.channels 0 plan.boxes) who no_box) (get_or (boxes_from c 0 other.boxes) who no_box)) channels
-      (boxes_from_seen plan.channels plan.boxes other.boxes 0 who same);
-}
-
--- first worlds of what was declared are seen alike
-first_worlds_seen : (d : Declared) (world other : WorldState) → IsFirstWorld d world → IsFirstWorld d other → AreSeenAlike world other
-first_worlds_seen d world other one two =
-    subst (λ (w : WorldState). AreSeenAlike w other) (sym one.world)
-    (subst (λ (w : WorldState). AreSeenAlike (world_of one.plan) w) (sym two.world)
-    (plans_seen one.plan two.plan (one.channels ∙ sym two.channels) (one.boxes ∙ sym two.boxes)))
-
--- and have no programs
-pub first_unprogrammed : (d : Declared) (world : WorldState) → IsFirstWorld d world → HasNoPrograms world
-first_unprogrammed d world first = subst (λ (w : WorldState). HasNoPrograms w) (sym first.world) (plans_are_unprogrammed first.plan)
-
 -- ---- texts
 
 -- each mode prints the settles of the journal
@@ -115,11 +65,11 @@ text_alone_decides text net other first second mode instead one two unprogrammed
     let names : net.names ≡ other.names = one.declares.names ∙ (sym (ap (λ (d : Declared). d.names) same) ∙ sym two.declares.names) in
     let batches : map batch_turns other.batches.items ≡ map batch_turns net.batches.items =
     two.declares.batches ∙ (ap (λ (d : Declared). batches_of d.commands) same ∙ sym one.declares.batches) in
-    let seen : AreSeenAlike net.world other.world =
-    first_worlds_seen one.declares.declared net.world other.world one.declares.world (subst (λ (d : Declared). IsFirstWorld d other.world) same two.declares.world) in
+    let first_other : IsFirstWorld one.declares.declared other.world = subst (λ (d : Declared). IsFirstWorld d other.world) same two.declares.world in
+    let seen : AreSeenAlike net.world other.world = first_worlds_seen one.declares.declared net.world other.world one.declares.world first_other in
     output_is mode net first
     ∙ (journals_same (map batch_turns net.batches.items) net.names 1 net.world other.world first second one.sound two.sound
-    unprogrammed (first_unprogrammed two.declares.declared other.world two.declares.world) seen decided one.settles
+    unprogrammed (first_unprogrammed one.declares.declared net.world other.world one.declares.world first_other unprogrammed) seen decided one.settles
     (subst (λ (list : List (List Turn)). IsJournal other.world list second) batches two.settles)
     ∙ (ap (λ (n : NameLists). journal_text n 1 other.world second) names ∙ sym (output_is instead other second)))
 
