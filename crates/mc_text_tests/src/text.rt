@@ -31,9 +31,10 @@ fn codecs_and_words_get_numbers(rt: HostRuntime) -> Result<(), NameFault> {
 }
 
 // A slot that is added with its box, as it is printed.
-fn printed_slot(alloc: Global, names: &mut Names) -> Result<Vec<u8>, NameFault> {
+fn printed_slot(rt: &impl Abort, alloc: Global, names: &mut Names) -> Result<Vec<u8>, NameFault> {
     let who = names.add_box(b"alice")?;
     let slot = names.add_slot(who, b"a")?;
+    assert!(rt; (slot as usize) < names.slot_count(who));
     let mut out = Vec::new(alloc);
     names
         .print_slot(who, slot, &mut out)
@@ -44,7 +45,7 @@ fn printed_slot(alloc: Global, names: &mut Names) -> Result<Vec<u8>, NameFault> 
 #[test]
 fn a_slot_is_printed_with_its_box(rt: HostRuntime) -> Result<(), NameFault> {
     let mut names = Names::new(rt.alloc());
-    let out = printed_slot(rt.alloc(), &mut names)?;
+    let out = printed_slot(&rt, rt.alloc(), &mut names)?;
     is_equal(&rt, &out.as_slice(), &b"alice/a".as_slice());
     Ok(())
 }
