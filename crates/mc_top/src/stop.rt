@@ -10,10 +10,10 @@ use crate::status::{RESTLESS, RING, VERSION_END, WORKED};
 pub enum Stop {
     /// The next command of a box was a Hear of this slot, by its number, whose descriptor has the last version.
     VersionEnd(u32),
-    /// The commands of a batch left a ring of links; of the slots on one this is the least, by its number.
+    /// A batch, or Shifts behind it, left a ring of links; of the slots on one this is the least, by its number.
     Ring(u32),
-    /// The program of this box, by its number, doesn't come to rest: nothing is under way, the box has made all Shifts that
-    /// it may make in a settle, and has one more enabled. It is the least box that can make a Shift.
+    /// The program of this box, by its number, doesn't come to rest: nothing is under way, and the box has made all the
+    /// Shifts that it may make in a settle and has one more enabled. It is the least box that has.
     Restless(u32),
 }
 
@@ -25,6 +25,6 @@ pub fn due_by(stop: Option<Stop>) -> u8
         None => WORKED,
         Some(Stop::VersionEnd(_)) => VERSION_END,
         Some(Stop::Ring(_)) => RING,
-        Some(Stop::Restless(_)) => RESTLESS,
+        Some(Stop::Restless(_)) => RING,
     }
 }
