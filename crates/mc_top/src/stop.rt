@@ -25,6 +25,6 @@ pub fn due_by(stop: Option<Stop>) -> u8
         None => WORKED,
         Some(Stop::VersionEnd(_)) => VERSION_END,
         Some(Stop::Ring(_)) => RING,
-        Some(Stop::Restless(_)) => RING,
+        Some(Stop::Restless(_)) => RESTLESS,
     }
 }
