@@ -1,5 +1,5 @@
--- First worlds of one text are seen alike, and have the same programs.
-use Rattle.std.proofs.Common.{◌≡◌, ◌+◌, ℕ, zero, suc, List, [], ◌∷◌, length, map, refl, ap, sym, ◌∙◌, subst}
+-- First worlds of one text are seen alike, and have the same programs; no word is told in them.
+use Rattle.std.proofs.Common.{◌≡◌, ◌+◌, ℕ, zero, suc, List, [], ◌∷◌, None, length, map, refl, ap, sym, ◌∙◌, subst}
 use Rattle.std.proofs.Math.ListN.{get_or, set}
 use Rattle.std.proofs.lemmas.List.{length-map, length-set}
 use Rattle.mc_rule.specs.Programs.{ProgStateState}
@@ -17,6 +17,7 @@ use Rattle.mc_lines.specs.BoxLines.{box_seen}
 use Rattle.mc_lines.specs.SoFar.{Declared, DeclaredBox}
 use Rattle.mc_net.specs.Nets.{IsFirstWorld, with_programs}
 use Rattle.mc_settings.specs.Settings.{Settings}
+use Rattle.mc_top.specs.Words.{FirstWorldsAwaitWords}
 use Rattle.mc_top.proofs.SeenAlike.{AreSeenAlike, IsSeenAlike, box_seen_self, seen_back, seen_both}
 
 -- ---- plans
@@ -129,3 +130,30 @@ pub first_unprogrammed : (d : Declared) (world other : WorldState) → IsFirstWo
 first_unprogrammed d world other one two unprogrammed who =
     let same = programs_same d.blocks (world_of one.plan) (world_of two.plan) (plans_same one.plan two.plan (one.boxes ∙ sym two.boxes)) in
     ap (λ (w : WorldState). (get_or w.boxes who no_box).program) two.world ∙ (sym (same.programs who) ∙ (sym (ap (λ (w : WorldState). (get_or w.boxes who no_box).program) one.world) ∙ unprogrammed who))
+
+-- ---- told words
+
+-- no box of a plan was told a word
+plan_untold : (channels : List ChannelState) (plans : List BoxPlan) (first who : ℕ) → (get_or (boxes_from channels first plans) who no_box).told ≡ None
+plan_untold channels [] first who = refl
+plan_untold channels (planned ∷ plans) first zero = refl
+plan_untold channels (planned ∷ plans) first (suc who) = plan_untold channels plans (first + 1) who
+
+-- nor is one told by another box in the place of one
+set_untold : (boxes : List BoxState) (who at : ℕ) (box : BoxState) → box.told ≡ None → ((i : ℕ) → (get_or boxes i no_box).told ≡ None) → (get_or (set boxes who box) at no_box).told ≡ None
+set_untold [] who at box none all = refl
+set_untold (first ∷ boxes) zero zero box none all = none
+set_untold (first ∷ boxes) zero (suc at) box none all = all (suc at)
+set_untold (first ∷ boxes) (suc who) zero box none all = all 0
+set_untold (first ∷ boxes) (suc who) (suc at) box none all = set_untold boxes who at box none (λ i. all (suc i))
+
+programs_untold : (blocks : List BlockState) (world : WorldState) → ((i : ℕ) → (get_or world.boxes i no_box).told ≡ None) → (who : ℕ) → (get_or (with_programs world blocks).boxes who no_box).told ≡ None
+programs_untold [] world all who = all who
+programs_untold (block ∷ blocks) world all who =
+    programs_untold blocks (with_program world block.who (program_of block))
+    (λ at. set_untold world.boxes block.who at (programmed (get_or world.boxes block.who no_box) (program_of block)) (all block.who) all) who
+
+pub first_worlds_await_words : FirstWorldsAwaitWords
+first_worlds_await_words d world first who =
+    ap (λ (w : WorldState). (get_or w.boxes who no_box).told) first.world
+    ∙ programs_untold d.blocks (world_of first.plan) (λ i. plan_untold first.plan.channels first.plan.boxes 0 i) who

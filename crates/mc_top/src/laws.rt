@@ -2,6 +2,7 @@
 
 ghost use Rattle.mc_top.specs.Drawn.{DrawnJournalIsOne};
 ghost use Rattle.mc_top.specs.TextAlone.{CallsPrintSame, TextAloneDecides};
+ghost use Rattle.mc_top.specs.Words.{FirstWorldsAwaitWords};
 
 use mc_seq::laws::schedule_is_one;
 
@@ -22,4 +23,10 @@ pub fn text_alone_decides()
 /// So two calls that did their work on one text have the same to print, under the same premises.
 pub fn calls_print_same()
     ensures { CallsPrintSame }
+{}
+
+/// In the first world of a text no box was told a word, so the words that its batches tell bound the Shifts of programs
+/// that go by words.
+pub fn first_worlds_await_words()
+    ensures { FirstWorldsAwaitWords }
 {}
