@@ -1,6 +1,6 @@
 use crate::equal::is_equal;
 use mc_text::{Draws, NameFault, Names};
-use std::alloc::Global;
+use std::alloc::{AllocError, Global};
 use std::process::Abort;
 
 #[test]
@@ -30,22 +30,33 @@ fn codecs_and_words_get_numbers(rt: HostRuntime) -> Result<(), NameFault> {
     get_numbers(&rt, &mut names)
 }
 
-// A slot that is added with its box, as it is printed.
-fn printed_slot(rt: &impl Abort, alloc: Global, names: &mut Names) -> Result<Vec<u8>, NameFault> {
+// A box and its slot, by their numbers.
+fn add_both(names: &mut Names) -> Result<(u32, u8), NameFault> {
     let who = names.add_box(b"alice")?;
     let slot = names.add_slot(who, b"a")?;
+    Ok((who, slot))
+}
+
+// A slot as it is printed.
+fn printed_slot(
+    rt: &impl Abort,
+    alloc: Global,
+    names: &Names,
+    who: u32,
+    slot: u8,
+) -> Result<Vec<u8>, AllocError> {
+    assert!(rt; (who as usize) < names.box_count());
     assert!(rt; (slot as usize) < names.slot_count(who));
     let mut out = Vec::new(alloc);
-    names
-        .print_slot(who, slot, &mut out)
-        .map_err(NameFault::NoMemory)?;
+    names.print_slot(who, slot, &mut out)?;
     Ok(out)
 }
 
 #[test]
 fn a_slot_is_printed_with_its_box(rt: HostRuntime) -> Result<(), NameFault> {
     let mut names = Names::new(rt.alloc());
-    let out = printed_slot(&rt, rt.alloc(), &mut names)?;
+    let (who, slot) = add_both(&mut names)?;
+    let out = printed_slot(&rt, rt.alloc(), &names, who, slot).map_err(NameFault::NoMemory)?;
     is_equal(&rt, &out.as_slice(), &b"alice/a".as_slice());
     Ok(())
 }
