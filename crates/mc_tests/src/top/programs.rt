@@ -1,4 +1,5 @@
 // Programs of boxes: an exchange that swaps two calls, a prepaid box, and boxes that don't come to rest.
+ghost use Rattle.std.specs.Prelude.{◌<◌};
 
 use super::{ROOM, is_equal, is_written, run};
 use mc_box::{Event, Turn};
