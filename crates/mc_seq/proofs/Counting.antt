@@ -1,12 +1,11 @@
 -- Shifts among the candidates, and their counts: where no box has a program, and where one has.
-use Rattle.std.proofs.Common.{◌≡◌, ◌≢◌, ◌<◌, ◌≤◌, ◌+◌, ◌-◌, ◌++◌, ◌==◌, ◌&&◌, ◌||◌, inl, inr, cond, if◌then◌else◌, nat_lt, ℕ, zero, suc, Bool, true, false, List, [], ◌∷◌, length, replicate, sum, take, slice_get, Option, Some, None, length-append, append-nil, refl, ap, sym, ◌∙◌, subst, arith}
+use Rattle.std.proofs.Common.{◌≡◌, ◌≢◌, ◌<◌, ◌≤◌, ◌+◌, ◌++◌, ◌==◌, ◌&&◌, ◌||◌, inl, inr, cond, if◌then◌else◌, nat_lt, ℕ, zero, suc, Bool, true, false, List, [], ◌∷◌, length, replicate, sum, take, slice_get, Option, Some, None, length-append, append-nil, refl, ap, sym, ◌∙◌, subst, arith}
 use Rattle.std.specs.Prelude.{slice_index_or}
 use Rattle.std.specs.List.{list_any}
 use Rattle.std.specs.Option.{option_and_then, option_to_list}
-use Rattle.std.proofs.Math.ListN.{get_or, set, length-set}
+use Rattle.std.proofs.Math.ListN.{get_or}
 use Rattle.std.proofs.lemmas.Bool.{cases_eq}
 use Rattle.std.proofs.lemmas.Grind.{common_steps}
-use Rattle.std.proofs.lemmas.List.{get_or-set_same, get_or-set_other}
 use Rattle.mc_box.specs.BoxEvents.{is_command, is_enabled, is_shift}
 use Rattle.mc_box.specs.Boxes.{BoxState, no_box}
 use Rattle.mc_box.specs.declared.event.Event.TheVariants.{Shift}
@@ -23,8 +22,8 @@ use Rattle.mc_world.specs.Waiting.{CountsTakes}
 use Rattle.mc_signal.specs.Own.{address_of}
 use Rattle.mc_seq.specs.ForEach.{for_each}
 use Rattle.mc_seq.specs.Ready.{CountsEach, all_of_two, all_takes, next_commands, two_candidates}
-use Rattle.mc_seq.specs.Schedule.{all_candidates, candidates_of, command_candidates, left_by, next_of, shift_of, shift_turn, shifts_by, takes_of, without_next}
-use Rattle.mc_seq.specs.Spare.{AreCountedBut, AreKeptBut, AreShiftsCounted, AreShiftsKept, AreShiftsLong, others_of, spare_of}
+use Rattle.mc_seq.specs.Schedule.{all_candidates, candidates_of, command_candidates, left_by, next_of, shift_of, shift_turn, takes_of, without_next}
+use Rattle.mc_seq.specs.Spare.{AreKeptBut, AreShiftsCounted, AreShiftsKept, AreShiftsLong, others_of, spare_of}
 use Rattle.mc_seq.specs.declared.limit.TheConstants.{SHIFT_LIMIT}
 use Rattle.mc_seq.specs.declared.shifting.Shifts.{Shifts}
 use Rattle.mc_seq.proofs.Finds.{takes_each}
@@ -130,42 +129,6 @@ pub behind_shift : (world : WorldState) (shifts : List ℕ) (who k : ℕ) → le
 behind_shift world shifts who k past inside = shift_by (nat_lt 0 (slice_index_or shifts who 0) && is_enabled (box_at world who) Shift) (takes_of world who) who k past inside
 
 -- ---- behind a turn
-
--- the number of Shifts of another box stays
-other_spare : (b : Bool) (who other : ℕ) (shifts : List ℕ) → other ≢ who → get_or (if b then set shifts who (get_or shifts who 0 - 1) else shifts) other 0 ≡ get_or shifts other 0
-other_spare true who other shifts apart = get_or-set_other shifts who other (get_or shifts who 0 - 1) 0 apart
-other_spare false who other shifts apart = refl
-
-same_long : (b : Bool) (who : ℕ) (shifts : List ℕ) → length (if b then set shifts who (get_or shifts who 0 - 1) else shifts) ≡ length shifts
-same_long true who shifts = length-set shifts who (get_or shifts who 0 - 1)
-same_long false who shifts = refl
-
-others_same : (world : WorldState) (left : List Turn) (shifts : List ℕ) (turn : Turn) (other : ℕ) → other ≢ turn.who → others_of world left shifts other ≡ others_of world left (shifts_by turn shifts) other
-others_same world left shifts turn other apart =
-    ap (λ (n : ℕ). command_candidates left other ++ (if nat_lt 0 n && is_enabled (box_at world other) Shift then shift_turn other ∷ [] else [])) (sym (other_spare (is_shift turn.event) turn.who other shifts apart))
-
--- with the count of its own box set anew all counts are right
-pub counted_again : (world : WorldState) (left : List Turn) (old new : Shifts) (turn : Turn) → AreCountedBut world left old turn.who → new.spare.items ≡ shifts_by turn old.spare.items
-    → new.others ≡ set old.others turn.who (length (others_of world left (shifts_by turn old.spare.items) turn.who)) → AreShiftsCounted world left new
-counted_again world left old new turn but spare others = record {
-  long = ap length spare ∙ (same_long (is_shift turn.event) turn.who old.spare.items ∙ but.long);
-  counted = record {
-    long = ap length others ∙ (length-set old.others turn.who (length (others_of world left (shifts_by turn old.spare.items) turn.who)) ∙ but.others_long);
-    counts = λ other below.
-        ap (λ (l : List ℕ). get_or l other 0) others
-        ∙ (counts_by other below ∙ ap (λ (l : List ℕ). length (others_of world left l other)) (sym spare));
-  };
-}
-  where
-    counts_by : (other : ℕ) → other < length world.boxes → get_or (set old.others turn.who (length (others_of world left (shifts_by turn old.spare.items) turn.who))) other 0 ≡ length (others_of world left (shifts_by turn old.spare.items) other)
-    counts_by other below = elim (cases_eq other turn.who) [
-      | inl same ↦
-          subst (λ (w : ℕ). get_or (set old.others turn.who (length (others_of world left (shifts_by turn old.spare.items) turn.who))) w 0 ≡ length (others_of world left (shifts_by turn old.spare.items) w)) (sym same)
-          (get_or-set_same old.others turn.who (length (others_of world left (shifts_by turn old.spare.items) turn.who)) 0 (subst (λ (n : ℕ). turn.who < n) (sym but.others_long) but.there))
-      | inr apart ↦
-          get_or-set_other old.others turn.who other (length (others_of world left (shifts_by turn old.spare.items) turn.who)) 0 apart
-          ∙ (but.counts other below apart ∙ ap length (others_same world left old.spare.items turn other apart))
-    ]
 
 -- a number passes its own test, and no other
 same_number : (a b : ℕ) → (a == b) ≡ true → a ≡ b

@@ -1,5 +1,5 @@
 -- A settle from its beginning to its end: what its loops did one behind another, and what it answers then.
-use Rattle.std.proofs.Common.{◌≡◌, ◌<◌, ◌≤◌, ◌+◌, ◌++◌, ℕ, zero, suc, true, false, List, [], length, count_by, replicate, Some, None, Result, Ok, Err, IfOk, IfErr, position, sum, append_assoc, append-nil, refl, ap, sym, ◌∙◌, subst, arith}
+use Rattle.std.proofs.Common.{◌≡◌, ◌<◌, ◌≤◌, ◌+◌, ◌++◌, ℕ, zero, suc, true, false, List, [], length, count_by, replicate, Some, None, Result, Ok, Err, IfOk, IfErr, position, sum, append_assoc, refl, ap, sym, ◌∙◌, subst, arith}
 use Rattle.std.specs.Prelude.{slice_index_or}
 use Rattle.std.specs.List.{list_all, list_any}
 use Rattle.std.proofs.lemmas.List.Quantifiers.{position-Some}
@@ -39,10 +39,6 @@ use Rattle.mc_seq.proofs.Sittings.{GoesOn, goes_last, goes_more, made_none, stan
 
 -- ---- one behind another
 
--- nothing drawn
-pub drew_none : (now : Sight) → DrewAll now now
-drew_none now = record { turns = []; draws = refl; logged = sym (append-nil now.turns) }
-
 -- drawn turns behind drawn turns
 pub drew_more : (start now next : Sight) → DrewAll start now → DrewAll now next → DrewAll start next
 drew_more start now next one two = record {
@@ -54,10 +50,6 @@ drew_more start now next one two = record {
 -- to a rest or a ring
 pub rest_more : (start now next : Sight) → DrewAll start now → CameToRest now next → CameToRest start next
 rest_more start now next one two = record { drew = drew_more start now next one two.drew; none = two.none; left = two.left; free = two.free }
-
--- rounds and drawn turns behind none
-pub went_none : (now : Sight) → WentOn now now
-went_none now = record { rounds = zero; turns = []; goes = refl; logged = sym (append-nil now.turns) }
 
 -- drawn turns behind rounds
 pub went_drew : (start now next : Sight) → WentOn start now → DrewAll now next → WentOn start next
