@@ -1,10 +1,10 @@
 -- A layout stays one when a box gets a program that breaks no rule.
-use Rattle.std.proofs.Common.{Ok, append_assoc, ◌++◌, inl, inr, ◌≡◌, ℕ, zero, suc, ◌+◌, ◌<◌, ◌==◌, not, Bool, true, false, nat_le, List, [], ◌∷◌, length, map, slice_set, slice_index_or, Option, Some, None, refl, sym, ap, ◌∙◌, subst, arith}
+use Rattle.std.proofs.Common.{Ok, ◌≤◌, append_assoc, ◌++◌, inl, inr, ◌≡◌, ℕ, zero, suc, ◌+◌, ◌<◌, ◌==◌, not, Bool, true, false, nat_le, List, [], ◌∷◌, length, map, slice_set, slice_index_or, Option, Some, None, refl, sym, ap, ◌∙◌, subst, arith}
 use Rattle.std.specs.Prelude.{is_some}
-use Rattle.std.specs.List.{list_any, remove}
+use Rattle.std.specs.List.{list_any}
 use Rattle.std.proofs.Math.ListN.{get_or}
 use Rattle.std.proofs.lemmas.Bool.{cases_eq, or_parts}
-use Rattle.std.proofs.lemmas.List.{get_or-set_other, get_or-set_same, length-set}
+use Rattle.std.proofs.lemmas.List.{get_or-set_other, get_or-set_same, length-map, length-set}
 use Rattle.mc_signal.specs.declared.Medium.{Medium}
 use Rattle.mc_signal.specs.declared.Medium.TheVariants.{Audio, Video}
 use Rattle.mc_slot.specs.Moves.{is_same_medium}
@@ -13,7 +13,8 @@ use Rattle.mc_slot.specs.declared.Slot.{Slot}
 use Rattle.mc_slot.specs.declared.SlotGoal.{SlotGoal}
 use Rattle.mc_slot.specs.declared.SlotGoal.TheVariants.{End, Link}
 use Rattle.mc_rule.specs.Programs.{IsProgram, ProgStateState, no_state}
-use Rattle.mc_box.specs.Boxes.{BoxState, FitsSlots, IsBox, IsNewBox, goals_in, no_box, no_slot, set_up}
+use Rattle.mc_box.specs.Boxes.{BoxState, FitsSlots, IsBox, IsNewBox, first_slot, goals_in, no_box, no_slot, set_up}
+use Rattle.mc_box.specs.declared.limit.TheConstants.{SLOT_LIMIT}
 use Rattle.mc_box.specs.declared.setup.Setup.{Setup}
 use Rattle.mc_box.specs.declared.setup.SlotSetup.{SlotSetup}
 use Rattle.mc_box.specs.BoxShapes.{box_shape, is_feature}
@@ -196,13 +197,23 @@ first_new box boxes new = new 0 (omega arith)
 pub others_new : (box : BoxState) (boxes : List BoxState) → AreNew (box ∷ boxes) → AreNew boxes
 others_new box boxes new who below = new (suc who) (omega arith)
 
+-- the box that is made next is new
+pub next_new : (rest left : List Setup) (setup : Setup) → rest ≡ setup ∷ left → AreNew (map set_up rest) → IsNewBox (set_up setup)
+next_new rest left setup is new = first_new (set_up setup) (map set_up left) (subst (λ (l : List Setup). AreNew (map set_up l)) is new)
+
+-- so it has few slots
+pub few_slots : (setup : Setup) → IsNewBox (set_up setup) → length setup.slots.items ≤ SLOT_LIMIT
+few_slots setup new =
+    let slots : map first_slot setup.slots.items ≡ map first_slot new.setups = ap (λ (b : BoxState). b.slots) new.is in
+    let as_many : length setup.slots.items ≡ length new.setups = sym (length-map setup.slots.items first_slot) ∙ (ap length slots ∙ length-map new.setups first_slot) in
+    subst (λ (n : ℕ). n ≤ SLOT_LIMIT) (sym as_many) new.few
+
 -- one box more is made
-pub made_one : (setups left : List Setup) (setup : Setup) (made : BoxState) (boxes more all : List BoxState) → setup ≡ slice_index_or setups 0 setup → left ≡ remove setups 0 → 0 < length setups → made ≡ set_up setup → more ≡ boxes ++ made ∷ []
-    → boxes ++ map set_up setups ≡ all → AreNew (map set_up setups) → (more ++ map set_up left ≡ all) × AreNew (map set_up left)
-made_one [] left setup made boxes more all first rest some is pushed whole new = absurd (omega arith)
-made_one (one ∷ others) left setup made boxes more all first rest some is pushed whole new =
-    let front : made ≡ set_up one = rw (← first) is in
-    rw (rest, pushed, front) (append_assoc boxes (set_up one ∷ []) (map set_up others) ∙ whole, others_new (set_up one) (map set_up others) new)
+pub made_one : (rest left : List Setup) (setup : Setup) (made : BoxState) (boxes more all : List BoxState) → rest ≡ setup ∷ left → made ≡ set_up setup → more ≡ boxes ++ made ∷ []
+    → boxes ++ map set_up rest ≡ all → AreNew (map set_up rest) → (more ++ map set_up left ≡ all) × AreNew (map set_up left)
+made_one rest left setup made boxes more all is front pushed whole new =
+    let seam : boxes ++ map set_up (setup ∷ left) ≡ all = ap (λ (l : List Setup). boxes ++ map set_up l) (sym is) ∙ whole in
+    rw (pushed, front) (append_assoc boxes (set_up setup ∷ []) (map set_up left) ∙ seam, others_new (set_up setup) (map set_up left) (subst (λ (l : List Setup). AreNew (map set_up l)) is new))
 
 -- where a rule would be broken the answer isn't that all is well
 pub none_refused : {F : Type 0} (fault : Option F) (done : Unit {0}) → Ok done ≡ unless_fault fault → fault ≡ None

@@ -54,13 +54,12 @@ fn setup_from(
 }
 
 // The boxes that are made of these.
-pub fn boxes_of(alloc: Global, mut setups: Vec<Setup>) -> Result<Vec<MediaBox>, AllocError>
+pub fn boxes_of(alloc: Global, setups: Vec<Setup>) -> Result<Vec<MediaBox>, AllocError>
     requires { AreNew (map set_up setups.items) }
     ensures { IfOk result (λ boxes. boxes.items ≡ map set_up setups.items) }
 {
     let mut boxes = Vec::new(alloc);
-    while !setups.is_empty() {
-        let setup = setups.remove(0);
+    for setup in setups {
         boxes.push(MediaBox::new(alloc, setup)?)?;
     }
     Ok(boxes)
