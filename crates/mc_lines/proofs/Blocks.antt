@@ -5,7 +5,7 @@ use Rattle.std.specs.List.{slice_get}
 use Rattle.mc_text.specs.NameLists.{NameLists}
 use Rattle.mc_box.specs.BoxShapes.{BoxShapeState, shape_of}
 use Rattle.mc_script.specs.Places.{Fits}
-use Rattle.mc_lines.specs.Meaning.{with_program}
+use Rattle.mc_lines.specs.Meaning.{programmed_shape}
 use Rattle.mc_lines.specs.Forms.{IsOpenIn}
 use Rattle.mc_program.specs.Programs.{BlockState, FitsBox}
 
@@ -21,7 +21,7 @@ last_pushed xs x =
     rw place (at_length xs x)
 
 -- the media of a box that gets a program stay, and so do the others
-pub same_media : (shape : List BoxShapeState) (who k : ℕ) → (shape_of (with_program shape who) k).media ≡ (shape_of shape k).media
+pub same_media : (shape : List BoxShapeState) (who k : ℕ) → (shape_of (programmed_shape shape who) k).media ≡ (shape_of shape k).media
 same_media shape who k = go shape who k
   where
     go : (boxes : List BoxShapeState) (i j : ℕ) → (shape_of (slice_set boxes i (record (shape_of boxes i) { programmed = true })) j).media ≡ (shape_of boxes j).media
@@ -31,9 +31,9 @@ same_media shape who k = go shape who k
     go (box ∷ boxes) (suc i) zero = refl
     go (box ∷ boxes) (suc i) (suc j) = go boxes i j
 
-pub fits_program : (names : NameLists) (shape : List BoxShapeState) (who : ℕ) → Fits names shape → Fits names (with_program shape who)
+pub fits_program : (names : NameLists) (shape : List BoxShapeState) (who : ℕ) → Fits names shape → Fits names (programmed_shape shape who)
 fits_program names shape who fits = record {
-  boxes = let same : length (with_program shape who) ≡ length shape = grind (arith, common_steps) in rw same fits.boxes;
+  boxes = let same : length (programmed_shape shape who) ≡ length shape = grind (arith, common_steps) in rw same fits.boxes;
   slots = λ k within. rw (same_media shape who k) (fits.slots k within);
 }
 

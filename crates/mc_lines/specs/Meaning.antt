@@ -133,13 +133,13 @@ also_after d words = do
 -- ---- programs
 
 -- a box has a program
-abbrev pub with_program : List BoxShapeState → ℕ → List BoxShapeState
-with_program shape who = slice_set shape who (record (shape_of shape who) { programmed = true })
+abbrev pub programmed_shape : List BoxShapeState → ℕ → List BoxShapeState
+programmed_shape shape who = slice_set shape who (record (shape_of shape who) { programmed = true })
 
 abbrev pub program_after : Declared → List (List ℕ) → Option Declared
 program_after d words = option_map (λ who. record d {
   section = section.Programs;
-  shape = with_program d.shape who;
+  shape = programmed_shape d.shape who;
   blocks = d.blocks ++ new_block who (drop 1 words) ∷ [];
 }) (box_named d.names (slice_get words 0))
 

@@ -8,7 +8,7 @@ use Rattle.mc_box.specs.BoxShapes.{BoxShapeState, is_feature, shape_of}
 use Rattle.mc_program.specs.BlockLaws.{FitsIn}
 use Rattle.mc_program.specs.Programs.{BlockState, is_unfinished_block, new_block}
 use Rattle.mc_lines.proofs.Blocks.{same_media}
-use Rattle.mc_lines.specs.Meaning.{with_program}
+use Rattle.mc_lines.specs.Meaning.{programmed_shape}
 use Rattle.mc_lines.specs.Rules.{block_in, rank}
 use Rattle.mc_lines.specs.declared.section.Section.{Section}
 use Rattle.mc_lines.specs.declared.section.Section.TheVariants as section
@@ -111,7 +111,7 @@ laid_behind shape place next blocks laid finished behind = record {
 -- ---- a program more
 
 -- a box that gets a program is else as it was
-kind_stays : (shape : List BoxShapeState) (who k : ℕ) → (shape_of (with_program shape who) k).kind ≡ (shape_of shape k).kind
+kind_stays : (shape : List BoxShapeState) (who k : ℕ) → (shape_of (programmed_shape shape who) k).kind ≡ (shape_of shape k).kind
 kind_stays shape who k = go shape who k
   where
     go : (boxes : List BoxShapeState) (i j : ℕ) → (shape_of (slice_set boxes i (record (shape_of boxes i) { programmed = true })) j).kind ≡ (shape_of boxes j).kind
@@ -121,23 +121,23 @@ kind_stays shape who k = go shape who k
     go (box ∷ boxes) (suc i) zero = refl
     go (box ∷ boxes) (suc i) (suc j) = go boxes i j
 
-still_fits : (shape : List BoxShapeState) (who : ℕ) (block : BlockState) → FitsIn shape block → FitsIn (with_program shape who) block
+still_fits : (shape : List BoxShapeState) (who : ℕ) (block : BlockState) → FitsIn shape block → FitsIn (programmed_shape shape who) block
 still_fits shape who block fits = rw (same_media shape who block.who) fits
 
 pub laid_more : (shape : List BoxShapeState) (place : Section) (blocks : List BlockState) (who : ℕ) (states : List (List ℕ)) → AreLaid shape place blocks → AllFinished blocks → who < length shape → is_feature (shape_of shape who).kind ≡ true
-    → has_owner (owners blocks) who ≡ false → FitsIn shape (new_block who states) → AreLaid (with_program shape who) section.Programs (blocks ++ new_block who states ∷ [])
+    → has_owner (owners blocks) who ≡ false → FitsIn shape (new_block who states) → AreLaid (programmed_shape shape who) section.Programs (blocks ++ new_block who states ∷ [])
 laid_more shape place blocks who states laid finished below feature new fits =
-    let count : length (with_program shape who) ≡ length shape = length-set shape who (record (shape_of shape who) { programmed = true }) in
+    let count : length (programmed_shape shape who) ≡ length shape = length-set shape who (record (shape_of shape who) { programmed = true }) in
     let more : owners (blocks ++ new_block who states ∷ []) ≡ owners blocks ++ who ∷ [] = map-append (λ (block : BlockState). block.who) blocks (new_block who states ∷ []) in
     record {
       placed = inr (omega arith);
-      known = subst (λ (whos : List ℕ). All (λ owner. owner < length (with_program shape who)) whos) (sym more) (subst (λ (n : ℕ). All (λ owner. owner < n) (owners blocks ++ who ∷ [])) (sym count)
+      known = subst (λ (whos : List ℕ). All (λ owner. owner < length (programmed_shape shape who)) whos) (sym more) (subst (λ (n : ℕ). All (λ owner. owner < n) (owners blocks ++ who ∷ [])) (sym count)
           (All-push (λ owner. owner < length shape) (owners blocks) who laid.known below));
-      features = subst (λ (whos : List ℕ). All (λ owner. is_feature (shape_of (with_program shape who) owner).kind ≡ true) whos) (sym more)
-          (All-weaker (λ owner. is_feature (shape_of shape owner).kind ≡ true) (λ owner. is_feature (shape_of (with_program shape who) owner).kind ≡ true) (λ owner is. rw (kind_stays shape who owner) is) (owners blocks ++ who ∷ [])
+      features = subst (λ (whos : List ℕ). All (λ owner. is_feature (shape_of (programmed_shape shape who) owner).kind ≡ true) whos) (sym more)
+          (All-weaker (λ owner. is_feature (shape_of shape owner).kind ≡ true) (λ owner. is_feature (shape_of (programmed_shape shape who) owner).kind ≡ true) (λ owner is. rw (kind_stays shape who owner) is) (owners blocks ++ who ∷ [])
           (All-push (λ owner. is_feature (shape_of shape owner).kind ≡ true) (owners blocks) who laid.features feature));
       apart = subst (λ (whos : List ℕ). AreApart whos) (sym more) (apart_push (owners blocks) who laid.apart new);
-      fitting = All-weaker (FitsIn shape) (FitsIn (with_program shape who)) (λ block fits. still_fits shape who block fits) (blocks ++ new_block who states ∷ []) (All-push (FitsIn shape) blocks (new_block who states) laid.fitting fits);
+      fitting = All-weaker (FitsIn shape) (FitsIn (programmed_shape shape who)) (λ block fits. still_fits shape who block fits) (blocks ++ new_block who states ∷ []) (All-push (FitsIn shape) blocks (new_block who states) laid.fitting fits);
       earlier = λ k before.
           let within : k < length blocks = omega (arith, length-append blocks (new_block who states ∷ [])) in
           subst (λ (block : BlockState). is_unfinished_block (Some block) ≡ false) (sym (get_or_append_left blocks (new_block who states ∷ []) no_block k within)) (finished k within);

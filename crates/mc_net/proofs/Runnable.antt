@@ -21,7 +21,7 @@ use Rattle.mc_script.specs.Rules.{byte_rules, is_no_device, is_no_feature, is_pl
 use Rattle.mc_script.specs.declared.command.Command.{Command}
 use Rattle.mc_script.specs.declared.keyword.CommandWord.{CommandWord}
 use Rattle.mc_script.specs.declared.rule.TheConstants.{GIVEN_TWICE, LIMIT_PASSED, UNDECLARED, UNFINISHED, WRONG_WORD}
-use Rattle.mc_lines.specs.Meaning.{after_by, also_after, begin_after, channel_after, codec_after, codec_number, command_after, device_after, device_in, feature_after, declared_at, line_after, new_feature, program_after, program_link_after, send_after, state_after, when_after, with_block, with_program, with_send_list, unless_skipped, with_joined, with_new_box, with_new_codec, with_new_feature, with_send_line, with_widened, words_after}
+use Rattle.mc_lines.specs.Meaning.{after_by, also_after, begin_after, channel_after, codec_after, codec_number, command_after, device_after, device_in, feature_after, declared_at, line_after, new_feature, program_after, program_link_after, send_after, state_after, when_after, with_block, programmed_shape, with_send_list, unless_skipped, with_joined, with_new_box, with_new_codec, with_new_feature, with_send_line, with_widened, words_after}
 use Rattle.mc_lines.specs.Rules.{also_rules, begin_rules, program_rules, shapes, state_rules, channel_rules, codec_rules, codec_words, command_line_rules, device_rules, feature_rules, end_fault, end_rules, is_late, is_program_link, is_second, is_skipped, is_unfinished, kind_of, line_fault, line_words_rules, lists_undeclared, open_block, passes_limit, program_link_rules, rank, rules_by, send_line_rules, send_rules, spelt_medium, words_rules}
 use Rattle.mc_lines.specs.SoFar.{Declared, DeclaredBox, nothing}
 use Rattle.mc_net.specs.Texts.{AreSound, Says, bytes_before, declared_by}
@@ -411,7 +411,7 @@ program_runs d after words runs kept means =
     let rules = program_rules d words in
     let box = box_named d.names (slice_get words 0) in
     let states = drop 1 words in
-    let m = mapped (λ who. record d { section = section.Programs; shape = with_program d.shape who; blocks = d.blocks ++ new_block who (drop 1 words) ∷ [] }) (box_named d.names (slice_get words 0)) after means in
+    let m = mapped (λ who. record d { section = section.Programs; shape = programmed_shape d.shape who; blocks = d.blocks ++ new_block who (drop 1 words) ∷ [] }) (box_named d.names (slice_get words 0)) after means in
     let late = is_late d section.Programs in
     let misspelt = list_any (λ word. not (is_spelt word)) states in
     let time = first_two_of_three late (is_no_feature d.shape box) misspelt (kept_at rules 1 (WRONG_WORD, late || is_no_feature d.shape box || misspelt) kept refl) in
@@ -431,10 +431,10 @@ program_runs d after words runs kept means =
       laid = laid_more d.shape d.section d.blocks m.0 (drop 1 words) runs.laid finished below feature (no_owner d m.0 runs plain) (new_programs_fit d.names d.shape late (is_unfinished d) words m.0 kept);
       known = runs.known;
       counted = runs.counted;
-      shaped = subst (λ (whos : List ℕ). AreShapes (with_program d.shape m.0) d.boxes d.channels whos) (sym more) (program_shaped d.shape d.boxes d.channels (owners d.blocks) m.0 below runs.shaped);
+      shaped = subst (λ (whos : List ℕ). AreShapes (programmed_shape d.shape m.0) d.boxes d.channels whos) (sym more) (program_shaped d.shape d.boxes d.channels (owners d.blocks) m.0 below runs.shaped);
       joined = runs.joined;
       last = inl none;
-      of_lines = of_none d.names (with_program d.shape m.0) d.commands none;
+      of_lines = of_none d.names (programmed_shape d.shape m.0) d.commands none;
       few = runs.few;
     })
   where

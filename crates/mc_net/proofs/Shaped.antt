@@ -15,7 +15,7 @@ use Rattle.mc_plan.specs.Setups.{setup_if, setups_at, setups_from, setups_of}
 use Rattle.mc_plan.specs.declared.plan.BoxPlan.{BoxPlan}
 use Rattle.mc_lines.specs.BoxLines.{box_seen}
 use Rattle.mc_net.proofs.Laid.{has_owner, owner_push}
-use Rattle.mc_lines.specs.Meaning.{declared_at, new_shape, with_medium, with_program, with_send_list}
+use Rattle.mc_lines.specs.Meaning.{declared_at, new_shape, with_medium, programmed_shape, with_send_list}
 use Rattle.mc_lines.specs.SoFar.{DeclaredBox}
 
 -- the media of the slots that channels give a box
@@ -155,7 +155,7 @@ tunnel_shaped shape boxes channels medium some near far are =
 -- ---- a program more
 
 pub program_shaped : (shape : List BoxShapeState) (boxes : List DeclaredBox) (channels : List ChannelState) (whos : List ℕ) (who : ℕ) → who < length shape → AreShapes shape boxes channels whos
-    → AreShapes (with_program shape who) boxes channels (whos ++ who ∷ [])
+    → AreShapes (programmed_shape shape who) boxes channels (whos ++ who ∷ [])
 program_shaped shape boxes channels whos who below are = record {
   count = length-set shape who (record (shape_of shape who) { programmed = true }) ∙ are.count;
   each = λ k. rw (owner_push whos who k) (by k (who == k) refl);
@@ -169,11 +169,11 @@ program_shaped shape boxes channels whos who below are = record {
     never true = refl
     never false = refl
 
-    by : (k : ℕ) (here : Bool) → (who == k) ≡ here → shape_of (with_program shape who) k ≡ record { kind = (declared_at boxes k).kind; media = media_of channels k; programmed = has_owner whos k || who == k }
+    by : (k : ℕ) (here : Bool) → (who == k) ≡ here → shape_of (programmed_shape shape who) k ≡ record { kind = (declared_at boxes k).kind; media = media_of channels k; programmed = has_owner whos k || who == k }
     by k true e =
         let same : who ≡ k = grind arith in
-        let new : shape_of (with_program shape who) who ≡ record (shape_of shape who) { programmed = true } = get_or-set_same shape who (record (shape_of shape who) { programmed = true }) no_shape below in
-        let here : shape_of (with_program shape who) k ≡ record (shape_of shape k) { programmed = true } = subst (λ (n : ℕ). shape_of (with_program shape who) n ≡ record (shape_of shape n) { programmed = true }) same new in
+        let new : shape_of (programmed_shape shape who) who ≡ record (shape_of shape who) { programmed = true } = get_or-set_same shape who (record (shape_of shape who) { programmed = true }) no_shape below in
+        let here : shape_of (programmed_shape shape who) k ≡ record (shape_of shape k) { programmed = true } = subst (λ (n : ℕ). shape_of (programmed_shape shape who) n ≡ record (shape_of shape n) { programmed = true }) same new in
         here ∙ ap (λ (s : BoxShapeState). record s { programmed = true }) (are.each k)
         ∙ ap (λ (b : Bool). record { kind = (declared_at boxes k).kind; media = media_of channels k; programmed = b }) (always (has_owner whos k) ∙ ap (λ (b : Bool). has_owner whos k || b) (sym e))
     by k false e =

@@ -13,47 +13,47 @@ use Rattle.mc_slot.specs.declared.SlotGoal.TheVariants.{End, Link}
 use Rattle.mc_rule.specs.Programs.{IsMutual, IsState, ProgStateState}
 use Rattle.mc_box.specs.Boxes.{goals_in}
 use Rattle.mc_program.specs.BlockLaws.{FinishedBlocksFit}
-use Rattle.mc_program.specs.Finished.{FitsPart, IsPaired, goal_of, state_of}
+use Rattle.mc_program.specs.Finished.{FitsPart, IsPaired, given_goal, state_of}
 use Rattle.mc_program.proofs.Blocks.{last_behind}
 use Rattle.mc_program.specs.Programs.{PartState, lacks_goal, new_part, open_part_of, part_lacks_goal}
 
 -- ---- the goals of a whole part
 
 -- a goal of a whole part was given
-was_given : (goals : List (Option SlotGoal)) (local : ℕ) (goal : SlotGoal) → list_any is_none goals ≡ false → slice_get (map goal_of goals) local ≡ Some goal → slice_index_or goals local None ≡ Some goal
+was_given : (goals : List (Option SlotGoal)) (local : ℕ) (goal : SlotGoal) → list_any is_none goals ≡ false → slice_get (map given_goal goals) local ≡ Some goal → slice_index_or goals local None ≡ Some goal
 was_given [] local goal whole is = absurd cc
 was_given (None ∷ goals) local goal whole is = absurd cc
 was_given (Some one ∷ goals) zero goal whole is = is
 was_given (Some one ∷ goals) (suc local) goal whole is = was_given goals local goal whole is
 
 -- and one that was given is there
-is_there : (goals : List (Option SlotGoal)) (local : ℕ) (goal : SlotGoal) → slice_index_or goals local None ≡ Some goal → slice_get (map goal_of goals) local ≡ Some goal
+is_there : (goals : List (Option SlotGoal)) (local : ℕ) (goal : SlotGoal) → slice_index_or goals local None ≡ Some goal → slice_get (map given_goal goals) local ≡ Some goal
 is_there [] local goal given = absurd cc
 is_there (None ∷ goals) zero goal given = absurd cc
 is_there (Some one ∷ goals) zero goal given = given
 is_there (one ∷ goals) (suc local) goal given = is_there goals local goal given
 
 -- a link was given, too
-link_given : (goals : List (Option SlotGoal)) (local partner : ℕ) → list_any is_none goals ≡ false → slice_index_or (map goal_of goals) local (End ToClose) ≡ Link partner → slice_index_or goals local None ≡ Some (Link partner)
+link_given : (goals : List (Option SlotGoal)) (local partner : ℕ) → list_any is_none goals ≡ false → slice_index_or (map given_goal goals) local (End ToClose) ≡ Link partner → slice_index_or goals local None ≡ Some (Link partner)
 link_given [] local partner whole is = absurd cc
 link_given (None ∷ goals) local partner whole is = absurd cc
 link_given (Some one ∷ goals) zero partner whole is = ap (λ (g : SlotGoal). Some g) is
 link_given (Some one ∷ goals) (suc local) partner whole is = link_given goals local partner whole is
 
-mutual_by : (media : List Medium) (goals : List (Option SlotGoal)) (local : ℕ) (goal : SlotGoal) → IsPaired media goals local goal → IsMutual (map goal_of goals) local goal
+mutual_by : (media : List Medium) (goals : List (Option SlotGoal)) (local : ℕ) (goal : SlotGoal) → IsPaired media goals local goal → IsMutual (map given_goal goals) local goal
 mutual_by media goals local (End goal) paired = tt
 mutual_by media goals local (Link partner) paired = (paired.0, is_there goals partner (Link local) paired.1)
 
 state_fits : (media : List Medium) (states : ℕ) (part : PartState) → FitsPart media states part → lacks_goal part ≡ false → IsState (length media) states (state_of part)
 state_fits media states part form whole = record {
-  goals = length-map part.goals goal_of ∙ form.goals;
+  goals = length-map part.goals given_goal ∙ form.goals;
   links = λ local goal is. mutual_by media part.goals local goal (form.links local goal (was_given part.goals local goal whole is));
   few = form.few;
   targets = form.targets;
   guards = form.guards;
 }
 
-state_links : (media : List Medium) (states : ℕ) (part : PartState) (local partner : ℕ) → FitsPart media states part → lacks_goal part ≡ false → slice_index_or (map goal_of part.goals) local (End ToClose) ≡ Link partner
+state_links : (media : List Medium) (states : ℕ) (part : PartState) (local partner : ℕ) → FitsPart media states part → lacks_goal part ≡ false → slice_index_or (map given_goal part.goals) local (End ToClose) ≡ Link partner
     → slice_index_or media partner Audio ≡ slice_index_or media local Audio
 state_links media states part local partner form whole is = (form.links local (Link partner) (link_given part.goals local partner whole is)).2
 
@@ -76,7 +76,7 @@ all_states : (media : List Medium) (states : ℕ) (parts : List PartState) → A
 all_states media states parts all = All-map (IsState (length media) states) state_of parts (λ k d within. let one = all k d within in state_fits media states (slice_index_or parts k d) one.0 one.1)
 
 all_counted : (media : List Medium) (states : ℕ) (parts : List PartState) → All (IsWhole media states) parts → All (λ one. length one.goals ≡ length media) (map state_of parts)
-all_counted media states parts all = All-map (λ (one : ProgStateState). length one.goals ≡ length media) state_of parts (λ k d within. let one = all k d within in length-map (slice_index_or parts k d).goals goal_of ∙ one.0.goals)
+all_counted media states parts all = All-map (λ (one : ProgStateState). length one.goals ≡ length media) state_of parts (λ k d within. let one = all k d within in length-map (slice_index_or parts k d).goals given_goal ∙ one.0.goals)
 
 all_linked : (media : List Medium) (states : ℕ) (parts : List PartState) → All (IsWhole media states) parts → (at local partner : ℕ) → slice_index_or (goals_in (map state_of parts) at) local (End ToClose) ≡ Link partner
     → slice_index_or media partner Audio ≡ slice_index_or media local Audio

@@ -14,12 +14,12 @@ use Rattle.mc_program.specs.declared.limit.TheConstants.{STATE_LIMIT, TRANSITION
 -- ---- the program of a block
 
 -- the goal that a part gives a slot, and close where it gives none
-abbrev pub goal_of : Option SlotGoal → SlotGoal
-goal_of goal = unwrap_or goal (End ToClose)
+abbrev pub given_goal : Option SlotGoal → SlotGoal
+given_goal goal = unwrap_or goal (End ToClose)
 
 -- the state of a part: its goals and its transitions, in their order
 abbrev pub state_of : PartState → ProgStateState
-state_of part = record { goals = map goal_of part.goals; rules = part.transitions }
+state_of part = record { goals = map given_goal part.goals; rules = part.transitions }
 
 -- the states of a block, by their numbers
 abbrev pub program_of : BlockState → List ProgStateState

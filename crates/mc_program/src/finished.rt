@@ -1,7 +1,7 @@
 // The program that finished lines declare.
 
 ghost use Rattle.std.specs.Prelude.{◌≡◌, IfOk, map};
-ghost use Rattle.mc_program.specs.Finished.{goal_of, program_of, state_of};
+ghost use Rattle.mc_program.specs.Finished.{given_goal, program_of, state_of};
 ghost use Rattle.mc_rule.specs.Programs.{IsProgram};
 
 use crate::part::StatePart;
@@ -38,7 +38,7 @@ impl StatePart {
 
 // The goals of all slots.
 fn goals_of(alloc: Global, given: &[Option<SlotGoal>]) -> Result<Vec<SlotGoal>, AllocError>
-    ensures { IfOk result (λ goals. goals.items ≡ map goal_of given.now) }
+    ensures { IfOk result (λ goals. goals.items ≡ map given_goal given.now) }
 {
     let mut goals = Vec::new(alloc);
     for goal in given {

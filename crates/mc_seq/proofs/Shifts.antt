@@ -16,7 +16,7 @@ use Rattle.mc_model.specs.Worlds.{WorldState, box_at}
 use Rattle.mc_seq.specs.Drawing.{turns_of_programs}
 use Rattle.mc_seq.specs.Draws.{RoundsAreFew, ShiftsAreFew}
 use Rattle.mc_seq.specs.Retries.{retries_by_box}
-use Rattle.mc_seq.specs.Schedule.{AreDrawn, Goes, Standing, drawn_turn, due_by, first_standing, shifts_by, standing_after}
+use Rattle.mc_seq.specs.Schedule.{AreDrawn, Goes, Standing, drawn_turn, due_after, first_standing, shifts_by, standing_after}
 use Rattle.mc_seq.specs.declared.limit.TheConstants.{SHIFT_LIMIT}
 use Rattle.mc_seq.proofs.AllowedCommands.{left_pass, next_pass}
 use Rattle.mc_seq.proofs.Candidates.{IsTakeOrShift, drawn_listed}
@@ -237,7 +237,7 @@ drawn_due : (turns : List Turn) (now last : Standing) → AreDrawn now turns las
 drawn_due [] now last draws = let same : owed now.due ≡ owed last.due = ap (λ (s : Standing). owed s.due) draws in omega arith
 drawn_due (turn ∷ turns) now last draws =
     let rest = drawn_due turns (standing_after now turn draws.0) last draws.4 in
-    let one : owed (due_by turn now.due) ≤ owed now.due + cond (is_shift turn.event) 1 0 = due_once (is_shift turn.event) now.due in
+    let one : owed (due_after turn now.due) ≤ owed now.due + cond (is_shift turn.event) 1 0 = due_once (is_shift turn.event) now.due in
     let more = count_more any_shift turn turns in
     omega arith
 

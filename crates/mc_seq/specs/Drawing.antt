@@ -7,7 +7,7 @@ use Rattle.mc_model.specs.Paths.{has_ring}
 use Rattle.mc_model.specs.Rings.{IsFirstOnRing}
 use Rattle.mc_model.specs.Steps.{ends_version, run, step, heard_slot}
 use Rattle.mc_model.specs.Worlds.{WorldState}
-use Rattle.mc_seq.specs.Schedule.{AreDrawn, Goes, IsStill, Standing, candidates, drawn_turn, due_by, first_standing, left_by, shifts_by, standing_after, since_by}
+use Rattle.mc_seq.specs.Schedule.{AreDrawn, Goes, IsStill, Standing, candidates, drawn_turn, due_after, first_standing, left_by, shifts_by, standing_after, since_by}
 use Rattle.mc_world.specs.declared.settled.Settled.{Settled}
 use Rattle.mc_seq.specs.Commands.{AreKeptFor, commands_left}
 use Rattle.mc_seq.specs.Restless.{IsFirstShifter}
@@ -80,7 +80,7 @@ pub record TurnMade (old new : Moment) (turn : Turn) : Type 0 where
   pub left : new.left ≡ left_by turn old.left
   pub since : new.since ≡ since_by turn old.since
   pub shifts : new.shifts ≡ shifts_by turn old.shifts
-  pub due : new.due ≡ due_by turn old.due
+  pub due : new.due ≡ due_after turn old.due
   pub logged : new.settled.turns.items ≡ old.settled.turns.items ++ turn ∷ []
 
 -- or it ends a version

@@ -101,12 +101,12 @@ abbrev pub shifts_by : Turn → List ℕ → List ℕ
 shifts_by turn shifts = if is_shift turn.event then slice_set shifts turn.who (slice_index_or shifts turn.who 0 - 1) else shifts
 
 -- and makes a round of retries due
-abbrev pub due_by : Turn → Bool → Bool
-due_by turn due = is_shift turn.event || due
+abbrev pub due_after : Turn → Bool → Bool
+due_after turn due = is_shift turn.event || due
 
 -- the standing after a drawn turn that led to this world
 abbrev pub standing_after : Standing → Turn → WorldState → Standing
-standing_after now turn next = record { world = next; left = left_by turn now.left; since = since_by turn now.since; draws = next_state now.draws; shifts = shifts_by turn now.shifts; due = due_by turn now.due }
+standing_after now turn next = record { world = next; left = left_by turn now.left; since = since_by turn now.since; draws = next_state now.draws; shifts = shifts_by turn now.shifts; due = due_after turn now.due }
 
 -- where the batch is used up there is no ring
 abbrev pub MayGo : Standing → Type 0

@@ -5,7 +5,7 @@ ghost use Rattle.mc_box.specs.BoxEvents.{is_shift};
 ghost use Rattle.mc_seq.specs.Commands.{AreKept, AreKeptFor, commands_left};
 ghost use Rattle.mc_seq.specs.Drawing.{IsDrawOf};
 ghost use Rattle.mc_seq.specs.Ready.{CountsEach};
-ghost use Rattle.mc_seq.specs.Schedule.{due_by, may_shift, shifts_by};
+ghost use Rattle.mc_seq.specs.Schedule.{due_after, may_shift, shifts_by};
 ghost use Rattle.mc_seq.specs.Spare.{AreCountedBut, AreKeptBut, AreShiftsCounted, AreShiftsKept, AreShiftsLong, all_spare, others_of, spare_of};
 
 use crate::batches::has_programs;
@@ -108,7 +108,7 @@ pub fn count_programmed(
     requires but { AreKeptBut world.now (commands_left left.now) shifts.old turn }
     ensures kept { AreShiftsKept world.now (commands_left left.now) shifts.new }
     ensures spare { spare_of world.now shifts.new ≡ shifts_by turn (spare_of world.now shifts.old) }
-    ensures due { due.new ≡ due_by turn due.old }
+    ensures due { due.new ≡ due_after turn due.old }
     ensures draw { IsDrawOf turn result }
 {
     match shifts {
@@ -130,7 +130,7 @@ fn count_among(
     requires but { AreCountedBut world.now (commands_left left.now) shifts.old turn.who }
     ensures kept { AreShiftsCounted world.now (commands_left left.now) shifts.new }
     ensures spare { shifts.new.spare.items ≡ shifts_by turn shifts.old.spare.items }
-    ensures due { due.new ≡ due_by turn due.old }
+    ensures due { due.new ≡ due_after turn due.old }
     ensures draw { IsDrawOf turn result }
 {
     let draw = count_shift(&mut shifts.spare, due, turn);
@@ -141,7 +141,7 @@ fn count_among(
 // A Shift is one of those that its box may make, and makes a round of retries due.
 pub fn count_shift(spare: &mut Vec<u16>, due: &mut bool, turn: Turn) -> Draw
     ensures spare { spare.new.items ≡ shifts_by turn spare.old.items }
-    ensures due { due.new ≡ due_by turn due.old }
+    ensures due { due.new ≡ due_after turn due.old }
     ensures draw { IsDrawOf turn result }
 {
     if is_shift(turn.event) {

@@ -2,7 +2,7 @@
 
 ghost use Rattle.std.specs.Prelude.{◌≡◌, ◌<◌, OnOk, length};
 ghost use Rattle.mc_lines.specs.Forms.{IsInForm};
-ghost use Rattle.mc_lines.specs.Meaning.{with_program};
+ghost use Rattle.mc_lines.specs.Meaning.{programmed_shape};
 ghost use Rattle.mc_lines.specs.LineReadings.{ReadsKind, ReadsProgramLink};
 ghost use Rattle.mc_lines.specs.Rules.{is_program_link};
 
@@ -119,7 +119,7 @@ fn is_program_link(section: Section, kind: CommandWord) -> bool
 // A box has a program.
 fn set_programmed(shape: &mut Shape, who: u32)
     requires { who < length shape.old }
-    ensures { shape.new ≡ with_program shape.old who }
+    ensures { shape.new ≡ programmed_shape shape.old who }
 {
     let of_box = &mut shape.boxes[who as usize];
     of_box.programmed = true;
