@@ -241,13 +241,18 @@ fn slot_number(plan: &Plan, who: u32) -> u8 {
     }
 }
 
+fn slot_numbers(plan: &Plan) -> [u8; 5] {
+    let mut slots = [0u8; 5];
+    for who in 0..5u8 {
+        slots[who as usize] = slot_number(plan, u32::from(who));
+    }
+    slots
+}
+
 // Such a network in which most features have a program.
 fn programmed_world(alloc: Global, draws: &mut Draws) -> Result<World, TestFault> {
     let plan = drawn_plan(alloc, draws)?;
-    let mut slots = [0u8; 5];
-    for who in 0..5u8 {
-        slots[who as usize] = slot_number(&plan, u32::from(who));
-    }
+    let slots = slot_numbers(&plan);
     let mut layout = plan.layout()?;
     for who in 0..5u8 {
         let count = slots[who as usize];

@@ -7,8 +7,8 @@ ghost use Rattle.mc_model.specs.Rings.{IsLeastOnRing};
 ghost use Rattle.mc_model.specs.Settles.{IsSettled};
 ghost use Rattle.mc_seq.specs.Commands.{AreKept, AreKeptFor, commands_left};
 ghost use Rattle.mc_seq.specs.Draws.{SettlesByDraws, StopsByDraws};
-ghost use Rattle.mc_seq.specs.Drawing.{CameTo, DrewOn, DrewOnce, Ended, IsKept, MayCome, Picks, RoundMade, TriedTurn, UsedUp};
-ghost use Rattle.mc_seq.specs.Drawing.{first_sight, moment_of, sight_of};
+ghost use Rattle.mc_seq.specs.Drawing.{CameTo, DrewOn, DrewOnce, Ended, IsKept, MayCome, Picks, RoundMade, TriedTurn};
+ghost use Rattle.mc_seq.specs.Drawing.{UsedUp, first_sight, moment_of, sight_of};
 ghost use Rattle.mc_seq.specs.Restless.{IsFirstShifterOr};
 ghost use Rattle.mc_seq.specs.Schedule.{is_urgent, left_by, since_by};
 
@@ -43,8 +43,8 @@ struct Sitting {
 /// came since, and turns are drawn again.
 ///
 /// The world allows each command. It always ends: at rest, at a ring of links that the batch or a Shift left, at a box
-/// that has made all its Shifts and has one more enabled, or at a Hear of a descriptor that has the last version; or for
-/// want of memory.
+/// that has made all its Shifts and has one more enabled, or at a Hear of a descriptor that has the last version; or
+/// for want of memory.
 ///
 /// The world and the commands that are left keep how many candidates each box has, in trees of sums. So the time of a
 /// turn hangs on its box, and beside that on the network's size by its logarithm alone.

@@ -16,7 +16,8 @@ use mc_world::World;
 pub fn candidate_count(world: &World, left: &Commands, shifts: &Option<Shifts>, urgent: bool) -> u64
     requires kept { AreKeptFor world.now left.now }
     requires shifts { AreShiftsKept world.now (commands_left left.now) shifts.now }
-    ensures { result ≡ length (all_candidates world.now (commands_left left.now) (spare_of world.now shifts.now) urgent) }
+    ensures { result
+        ≡ length (all_candidates world.now (commands_left left.now) (spare_of world.now shifts.now) urgent) }
 {
     match shifts {
         None => count_of_two(world, left, urgent),
@@ -29,7 +30,8 @@ pub fn candidate_count(world: &World, left: &Commands, shifts: &Option<Shifts>, 
 pub fn kth(world: &World, left: &Commands, shifts: &Option<Shifts>, urgent: bool, k: u64) -> Turn
     requires kept { AreKeptFor world.now left.now }
     requires shifts { AreShiftsKept world.now (commands_left left.now) shifts.now }
-    requires inside { k < length (all_candidates world.now (commands_left left.now) (spare_of world.now shifts.now) urgent) }
+    requires inside { k
+        < length (all_candidates world.now (commands_left left.now) (spare_of world.now shifts.now) urgent) }
     ensures { slice_get (all_candidates world.now (commands_left left.now) (spare_of world.now shifts.now) urgent) k
         ≡ Some result }
 {

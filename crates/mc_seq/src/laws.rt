@@ -1,6 +1,7 @@
 //! Laws of settles on one thread, over the definitions alone.
 
-ghost use Rattle.mc_seq.specs.Draws.{DrawsEnd, RoundsAreFew, ScheduleIsOne, ScheduleSettles, ShiftsAreFew, TakesEndDraws};
+ghost use Rattle.mc_seq.specs.Draws.{DrawsEnd, RoundsAreFew, ScheduleIsOne, ScheduleSettles, ShiftsAreFew};
+ghost use Rattle.mc_seq.specs.Draws.{TakesEndDraws};
 ghost use Rattle.mc_seq.specs.Ready.{CountIsSum, KthIsFound};
 
 /// Turns by the schedule of draws are a settled segment for their batch.

@@ -1,7 +1,8 @@
 // What can come next in a settle by draws.
 
 ghost use Rattle.std.specs.Prelude.{◌≡◌, ◌<◌, ◌++◌, length, OnOk, IfOk};
-ghost use Rattle.mc_seq.specs.Schedule.{all_candidates, candidates_of, is_urgent, next_of, shift_of, takes_of, waiting_take};
+ghost use Rattle.mc_seq.specs.Schedule.{all_candidates, candidates_of, is_urgent, next_of};
+ghost use Rattle.mc_seq.specs.Schedule.{shift_of, takes_of, waiting_take};
 ghost use Rattle.mc_world.specs.Waiting.{take_waits};
 
 use crate::shifting::may_shift;

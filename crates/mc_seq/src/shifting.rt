@@ -6,7 +6,8 @@ ghost use Rattle.mc_seq.specs.Commands.{AreKept, AreKeptFor, commands_left};
 ghost use Rattle.mc_seq.specs.Drawing.{IsDrawOf};
 ghost use Rattle.mc_seq.specs.Ready.{CountsEach};
 ghost use Rattle.mc_seq.specs.Schedule.{due_after, may_shift, shifts_by};
-ghost use Rattle.mc_seq.specs.Spare.{AreCountedBut, AreKeptBut, AreShiftsCounted, AreShiftsKept, AreShiftsLong, all_spare, others_of, spare_of};
+ghost use Rattle.mc_seq.specs.Spare.{AreCountedBut, AreKeptBut, AreShiftsCounted, AreShiftsKept, AreShiftsLong};
+ghost use Rattle.mc_seq.specs.Spare.{all_spare, others_of, spare_of};
 
 use crate::batches::has_programs;
 use crate::commands::{Commands, next_command};
