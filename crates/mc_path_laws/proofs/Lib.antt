@@ -6,6 +6,7 @@ pub mod CleanSteps
 pub mod CleanWalks
 pub mod Ends
 pub mod OneMedium
+pub mod OwedSince
 pub mod Quiet
 pub mod QuietWalks
 pub mod Repeats

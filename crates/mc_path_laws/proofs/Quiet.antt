@@ -1,5 +1,5 @@
 -- What a path is where nothing is under way, over however many tunnels: closed, or flowing with ends that hear each other.
-use Rattle.std.proofs.Common.{◌≡◌, ◌<◌, ◌+◌, ◌⊎◌, inl, inr, ℕ, zero, suc, false, nat_lt, Option, Some, None, IsTrue, List, [], ◌∷◌, All, length, refl, ap, sym, ◌∙◌, subst, arith}
+use Rattle.std.proofs.Common.{◌≡◌, ◌<◌, ◌+◌, ◌⊎◌, inl, inr, ℕ, zero, suc, true, false, nat_lt, Option, Some, None, IsTrue, List, [], ◌∷◌, All, length, refl, ap, sym, ◌∙◌, subst, arith}
 use Rattle.std.specs.List.{cons_option, enumerate_from, filter_map}
 use Rattle.std.specs.Option.{option_and_then}
 use Rattle.std.proofs.lemmas.List.Elements.{All-nil, All-cons}
@@ -128,6 +128,13 @@ quiet_path : (world : WorldState) (s t : ℕ) → IsSound world → IsTrue (is_q
 quiet_path world s t sound quiet inside aims walk =
     path_by world s t (end_rests world s sound inside aims) (end_rests world t sound walk.inside walk.aims) walk.alike
 
+-- from an end to the end that its walk comes to, whichever of the two is the lower
+pub quiet_from : (world : WorldState) (s t : ℕ) → IsSound world → IsTrue (is_quiet world) → s < slot_count world → is_end_goal (goal_of world s) ≡ true → other_end world s ≡ Some t
+    → IsQuietPath world (record { low = s; high = t })
+quiet_from world s t sound quiet inside aims walk =
+    let end = end_of (goal_of world s) aims in
+    quiet_path world s t sound quiet inside end (walk_leads (length (all_tunnels world)) world s t sound quiet inside end walk)
+
 -- the path of which a slot is the lower end
 path_of : (world : WorldState) (s : ℕ) (path : PathEnds) → IsSound world → IsTrue (is_quiet world) → s < slot_count world → path_from world s ≡ Some path → IsQuietPath world path
 path_of world s path sound quiet inside is =
@@ -135,8 +142,7 @@ path_of world s path sound quiet inside is =
     let leads = then_some (from_low s) (other_end world s) path begins.1 in
     let lower = if_some (nat_lt s leads.0) (Some (record { low = s; high = leads.0 })) path leads.2 in
     let same : record { low = s; high = leads.0 } ≡ path = cc in
-    let aims = end_of (goal_of world s) begins.0 in
-    subst (λ (p : PathEnds). IsQuietPath world p) same (quiet_path world s leads.0 sound quiet inside aims (walk_leads (length (all_tunnels world)) world s leads.0 sound quiet inside aims leads.1))
+    subst (λ (p : PathEnds). IsQuietPath world p) same (quiet_from world s leads.0 sound quiet inside begins.0 leads.1)
 
 -- ---- all paths
 

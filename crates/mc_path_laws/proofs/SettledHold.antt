@@ -58,7 +58,7 @@ run_halves first second world last goes =
 -- ---- a slot that is to open
 
 -- an end that is to open owes a retry where it is closed
-owes_closed : (goal : SlotGoal) (slot : Slot) → end_goal_of goal ≡ ToOpen → slot.state ≡ Closed → slot_owes goal slot ≡ true
+pub owes_closed : (goal : SlotGoal) (slot : Slot) → end_goal_of goal ≡ ToOpen → slot.state ≡ Closed → slot_owes goal slot ≡ true
 owes_closed (End goal) slot aims is = grind (arith, common_steps)
 owes_closed (Link partner) slot aims is = absurd (cc)
 
@@ -68,7 +68,7 @@ owes_begun (End goal) slot begun = grind (arith, common_steps)
 owes_begun (Link partner) slot begun = refl
 
 -- a state is closed or another
-closed_or_not : (state : State) → (state ≢ Closed) ⊎ (state ≡ Closed)
+pub closed_or_not : (state : State) → (state ≢ Closed) ⊎ (state ≡ Closed)
 closed_or_not Closed = inr refl
 closed_or_not Opening = inl (λ is. cc)
 closed_or_not Opened = inl (λ is. cc)
@@ -76,7 +76,7 @@ closed_or_not Flowing = inl (λ is. cc)
 closed_or_not Closing = inl (λ is. cc)
 
 -- a slot that owes a retry owes it by its box and its local number
-owes_by_place : (world : WorldState) (t : ℕ) → IsSound world → t < slot_count world → owes_by_number world t ≡ true → world_owes world (place world t).0 (place world t).1 ≡ true
+pub owes_by_place : (world : WorldState) (t : ℕ) → IsSound world → t < slot_count world → owes_by_number world t ≡ true → world_owes world (place world t).0 (place world t).1 ≡ true
 owes_by_place world t sound within owed =
     rw (
       below_test (place world t).0 (length world.boxes) (sound.numbered.placed t within),
@@ -97,11 +97,11 @@ begun_or_retried world turns t sound within aims retries = elim (closed_or_not (
 to_open : (goal : Goal) → goal ≡ ToOpen → goal ≢ ToClose
 to_open goal opens closes = cc
 
--- the goal of an end at the end of the turns is that of the beginning
-goal_before : (world last : WorldState) (t : ℕ) → Stay world last → end_goal last t ≡ end_goal world t
+-- the goal of a slot at the end of the turns is that of the beginning
+pub goal_before : (world last : WorldState) (t : ℕ) → Stay world last → goal_of last t ≡ goal_of world t
 goal_before world last t stay =
     let at : place last t ≡ place world t = ap (λ (c : List ChannelState). place (record world { channels = c }) t) stay.channels in
-    ap end_goal_of (ap (λ (p : ℕ × ℕ). goal_at (box_at last p.0) p.1) at ∙ stay.goals (place world t).0 (place world t).1)
+    ap (λ (p : ℕ × ℕ). goal_at (box_at last p.0) p.1) at ∙ stay.goals (place world t).0 (place world t).1
 
 -- once each Retry has come that was owed when nothing was under way, an end that is to open owes none, unless the other end of its path closes
 owes_none : (world last : WorldState) (turns : List Turn) (s t : ℕ) → IsSound world → IsTrue (is_quiet world)
@@ -113,7 +113,7 @@ owes_none world last turns s t sound quiet all goes retries inside aims walk ope
     let between : IsBetween world s = between_before world last s stay.channels stay.goals
     (end_between last s t inside aims walk (to_open (end_goal last s) opens) far_stays) in
     owes_begun (goal_of last s) (slot_of last s)
-    (run_opens turns world last s sound between all goes (quiet_clean world quiet) (begun_or_retried world turns s sound between.inside (sym (goal_before world last s stay) ∙ opens) retries))
+    (run_opens turns world last s sound between all goes (quiet_clean world quiet) (begun_or_retried world turns s sound between.inside (ap end_goal_of (sym (goal_before world last s stay)) ∙ opens) retries))
 
 -- ---- paths
 

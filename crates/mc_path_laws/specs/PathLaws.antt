@@ -68,6 +68,12 @@ RestedPathsHold = (world last : WorldState) (turns : List Turn) → IsSound worl
 abbrev pub SettledPathsHold : Type 0
 SettledPathsHold = (world last : WorldState) (batch turns : List Turn) → IsSound world → IsSettled world batch turns last → All (PathHolds last) (paths last)
 
+-- behind a moment at which nothing was under way, while only Takes and Retries come: a slot that owes a retry owed it at that moment, too
+abbrev pub OwedSinceQuiet : Type 0
+OwedSinceQuiet = (world next : WorldState) (turns : List Turn) → IsSound world → IsTrue (is_quiet world)
+    → IsTrue (list_all (λ turn. takes_or_retries turn.event) turns) → run world turns ≡ Some next
+    → (who local : ℕ) → IsTrue (world_owes next who local) → IsTrue (world_owes world who local)
+
 -- whether a slot is an end of a path
 abbrev pub is_end_of : ℕ → PathEnds → Bool
 is_end_of s path = path.low == s || path.high == s

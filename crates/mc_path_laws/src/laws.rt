@@ -1,6 +1,6 @@
 //! Laws of paths, over the definitions alone: each function's contract is the law's sentence.
 
-ghost use Rattle.mc_path_laws.specs.PathLaws.{EachEndOnce, EachSlotOnce, PathsPassOnce, PathsOfOneMedium, QuietPaths, CleanPaths, RestedPathsHold, SettledPathsHold};
+ghost use Rattle.mc_path_laws.specs.PathLaws.{EachEndOnce, EachSlotOnce, PathsPassOnce, PathsOfOneMedium, QuietPaths, CleanPaths, RestedPathsHold, SettledPathsHold, OwedSinceQuiet};
 ghost use Rattle.mc_path_laws.specs.Rests.{EndsAtRest, LinksAtRest};
 
 /// Each end of a sound world is an end of exactly one of its paths: the walk from there comes to another end, and from
@@ -49,6 +49,12 @@ pub fn rested_paths_hold()
 /// where it flows its ends have each other's newest descriptor and the choice for their own.
 pub fn settled_paths_hold()
     ensures { SettledPathsHold }
+{}
+
+/// After a moment at which nothing was under way, while only Takes and Retries come, a slot that owes a retry owed it at
+/// that moment, too.
+pub fn owed_since_quiet()
+    ensures { OwedSinceQuiet }
 {}
 
 /// An end, whose slot keeps what its state allows, is at rest exactly where the table by its goal and its state has it:
