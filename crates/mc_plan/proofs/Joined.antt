@@ -41,6 +41,9 @@ kept_by_join plan from to media none = record {
   channels = grind (arith, common_steps);
 }
 
+pub gets_by_join : (plan : PlanState) (from to : ℕ) (media : List Medium) → join_fault plan from to media ≡ None → MayGet plan from to media
+gets_by_join plan from to media none = (kept_by_join plan from to media none).gets
+
 -- each box keeps to its slots
 fits_by : (from to who more : ℕ) (slots : ℕ → ℕ) → from ≢ to → slots from + more ≤ 64 → slots to + more ≤ 64 → slots who ≤ 64 → slots who + (part (from == who) more + part (to == who) more) ≤ 64
 fits_by from to who more slots apart one two three = grind (arith, common_steps)
@@ -49,21 +52,21 @@ fits_by from to who more slots apart one two three = grind (arith, common_steps)
 pub places_joined : (channels : List ChannelState) (ends : ChannelState) → places_among (channels ++ ends ∷ []) ≡ places_among channels ++ places_within ends
 places_joined channels ends = flat_map-append places_within channels (ends ∷ []) ∙ ap (λ (l : List (ℕ × ℕ)). places_among channels ++ l) (append-nil (places_within ends))
 
+-- what the new channel gives each box
+pub slots_joined : (channels : List ChannelState) (from to : ℕ) (media : List Medium) (who : ℕ)
+    → slots_of (channels ++ channel_between channels from to media ∷ []) who ≡ slots_of channels who + (part (from == who) (length media) + part (to == who) (length media))
+slots_joined channels from to media who =
+    let ends : ChannelState = channel_between channels from to media in
+    let near : ℕ = slots_of channels from in
+    let far : ℕ = slots_of channels to in
+    slots_append channels (ends ∷ []) who
+    ∙ ap (λ (n : ℕ). slots_of channels who + n) (slots_one ends who ∙ ap (λ (n : ℕ). part (from == who) n + part (to == who) n) (length_tunnels near far media))
+
 -- no box has too many slots then
 pub joined_slots : (plan : PlanState) (from to : ℕ) (media : List Medium) (who : ℕ) → IsLaidOut plan → MayGet plan from to media
     → slots_of (plan.channels ++ channel_between plan.channels from to media ∷ []) who ≤ 64
 joined_slots plan from to media who laid may =
-    let ends : ChannelState = channel_between plan.channels from to media in
-    let near : ℕ = slots_of plan.channels from in
-    let far : ℕ = slots_of plan.channels to in
-    let one : slots_of (channel_between plan.channels from to media ∷ []) who ≡ part (from == who) (length media) + part (to == who) (length media) =
-    slots_one ends who ∙ ap (λ (n : ℕ). part (from == who) n + part (to == who) n) (length_tunnels near far media) in
-    omega (
-      arith,
-      slots_append plan.channels (ends ∷ []) who,
-      one,
-      fits_by from to who (length media) (slots_of plan.channels) may.apart may.near_slots may.far_slots (laid.slots who),
-    )
+    omega (arith, slots_joined plan.channels from to media who, fits_by from to who (length media) (slots_of plan.channels) may.apart may.near_slots may.far_slots (laid.slots who))
 
 -- each slot's box is there
 pub joined_there : (plan : PlanState) (from to : ℕ) (media : List Medium) → IsLaidOut plan → MayGet plan from to media

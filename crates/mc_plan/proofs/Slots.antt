@@ -1,7 +1,6 @@
 -- How many slots the tunnels of channels give a box.
-use Rattle.std.proofs.Common.{◌≡◌, ◌+◌, ◌<◌, ◌≤◌, ◌==◌, ℕ, zero, suc, Bool, true, false, cond, List, [], ◌∷◌, ◌++◌, count_by, length, take, drop, refl, ap, sym, ◌∙◌, arith, flat_map}
+use Rattle.std.proofs.Common.{◌≡◌, ◌+◌, ◌<◌, ◌==◌, ℕ, zero, suc, Bool, true, false, cond, List, [], ◌∷◌, ◌++◌, count_by, length, take, refl, ap, ◌∙◌, arith, flat_map}
 use Rattle.std.proofs.Math.ListN.{get_or}
-use Rattle.std.proofs.lemmas.List.{take-append-drop, take_more}
 use Rattle.std.proofs.lemmas.List.Concat.{flat_map-append}
 use Rattle.mc_signal.specs.declared.Medium.{Medium}
 use Rattle.mc_model.specs.Worlds.{ChannelState, places_among, places_of, places_within}
@@ -45,28 +44,6 @@ slots_append before after who = ap (count_by (is_of who)) (flat_map-append place
 -- at one channel
 pub slots_one : (ends : ChannelState) (who : ℕ) → slots_of (ends ∷ []) who ≡ part (ends.from == who) (length ends.tunnels) + part (ends.to == who) (length ends.tunnels)
 slots_one ends who = omega (arith, count_append (is_of who) (places_within ends) [], slots_within ends ends.tunnels who)
-
--- one channel more
-pub slots_more : (channels : List ChannelState) (i : ℕ) (ends : ChannelState) (who : ℕ) → i < length channels → ends ≡ get_or channels i ends
-    → slots_of (take (i + 1) channels) who ≡ slots_of (take i channels) who + slots_of (ends ∷ []) who
-slots_more channels i ends who below is =
-    ap (λ (l : List ChannelState). slots_of l who) (take_more channels i ends below)
-    ∙ (ap (λ (e : ChannelState). slots_of (take i channels ++ e ∷ []) who) (sym is) ∙ slots_append (take i channels) (ends ∷ []) who)
-
--- some channels give no more slots than all
-pub slots_some : (channels : List ChannelState) (i : ℕ) (who : ℕ) → slots_of (take i channels) who ≤ slots_of channels who
-slots_some channels i who =
-    let whole : slots_of (take i channels ++ drop i channels) who ≡ slots_of channels who = ap (λ (l : List ChannelState). slots_of l who) (take-append-drop i channels) in
-    omega (arith, whole, slots_append (take i channels) (drop i channels) who)
-
--- nor do those so far with one more
-pub slots_fit : (channels : List ChannelState) (i : ℕ) (ends : ChannelState) (who : ℕ) → i < length channels → ends ≡ get_or channels i ends
-    → slots_of (take i channels) who + slots_of (ends ∷ []) who ≤ slots_of channels who
-slots_fit channels i ends who below is = omega (arith, slots_more channels i ends who below is, slots_some channels (i + 1) who)
-
--- what the tunnels of a channel give its two sides
-pub two_sides : (ends : ChannelState) (who near far : ℕ) → near ≡ part (ends.from == who) (length ends.tunnels) → far ≡ part (ends.to == who) (length ends.tunnels) → near + far ≡ slots_of (ends ∷ []) who
-two_sides ends who near far one two = omega (arith, slots_one ends who)
 
 -- ---- the tunnels of a new channel
 

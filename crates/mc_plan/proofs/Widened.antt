@@ -63,7 +63,7 @@ places_widened before ends medium =
     ∙ sym (places_joined all (channel_between all ends.from ends.to (medium ∷ [])))
 
 -- the boxes of two places that stand among others
-both_there : (boxes : ℕ) (xs : List (ℕ × ℕ)) (near far : ℕ × ℕ) (rest : List (ℕ × ℕ)) → AreThere boxes (xs ++ near ∷ far ∷ rest) → (near.0 < boxes) × (far.0 < boxes)
+pub both_there : (boxes : ℕ) (xs : List (ℕ × ℕ)) (near far : ℕ × ℕ) (rest : List (ℕ × ℕ)) → AreThere boxes (xs ++ near ∷ far ∷ rest) → (near.0 < boxes) × (far.0 < boxes)
 both_there boxes xs near far rest there =
     let ys : List (ℕ × ℕ) = near ∷ far ∷ rest in (
       subst (λ (place : ℕ × ℕ). place.0 < boxes) (get_or-append-add xs ys 0 (0, 0)) (there (length xs + 0) (omega (arith, length-append xs ys))),
@@ -79,12 +79,12 @@ ends_there boxes before ends some there = by ends.tunnels some (subst (AreThere 
     by (tunnel ∷ tunnels) some there = both_there boxes (places_among before) (ends.from, tunnel.from) (ends.to, tunnel.to) (flat_map (places_of ends) tunnels) there
 
 -- what is asked before the last channel gets a tunnel
-record MayWiden (plan : PlanState) (ends : ChannelState) : Type 0 where
-  tunnels : length ends.tunnels < 8
-  near_slots : slots_of plan.channels ends.from + 1 ≤ 64
-  far_slots : slots_of plan.channels ends.to + 1 ≤ 64
+pub record MayWiden (plan : PlanState) (ends : ChannelState) : Type 0 where
+  pub tunnels : length ends.tunnels < 8
+  pub near_slots : slots_of plan.channels ends.from + 1 ≤ 64
+  pub far_slots : slots_of plan.channels ends.to + 1 ≤ 64
 
-kept_by_widen : (plan : PlanState) → widen_fault plan ≡ None → (0 < length plan.channels) × MayWiden plan (last_channel plan.channels)
+pub kept_by_widen : (plan : PlanState) → widen_fault plan ≡ None → (0 < length plan.channels) × MayWiden plan (last_channel plan.channels)
 kept_by_widen plan none = (
   grind (arith, common_steps),
   record {
@@ -142,6 +142,20 @@ last_there plan laid some =
     let there : AreThere (length plan.boxes) (places_among (split.0 ++ last_channel plan.channels ∷ [])) = subst (λ (l : List ChannelState). AreThere (length plan.boxes) (places_among l)) split.1 laid.there in
     let has : HasTunnels (last_channel plan.channels) = of_last HasTunnels split.0 (last_channel plan.channels) tunnels in
     ends_there (length plan.boxes) split.0 (last_channel plan.channels) has.some there
+
+-- they may get the slots of a tunnel that breaks no rule
+pub gets_by_widen : (plan : PlanState) (medium : Medium) → IsLaidOut plan → widen_fault plan ≡ None → MayGet plan (last_channel plan.channels).from (last_channel plan.channels).to (medium ∷ [])
+gets_by_widen plan medium laid none =
+    let kept = kept_by_widen plan none in
+    let there = last_there plan laid kept.0 in
+    let split = last_of plan.channels no_channel kept.0 in
+    record {
+      near = there.0;
+      far = there.1;
+      apart = of_last (λ (e : ChannelState). e.from ≢ e.to) split.0 (last_channel plan.channels) (subst (All (λ (e : ChannelState). e.from ≢ e.to)) split.1 laid.apart);
+      near_slots = kept.1.near_slots;
+      far_slots = kept.1.far_slots;
+    }
 
 -- a tunnel more gives each of its boxes a slot
 pub slots_widened : (channels : List ChannelState) (medium : Medium) (who : ℕ) → 0 < length channels

@@ -1,6 +1,6 @@
 -- What a plan keeps: that its channels join its boxes slot by slot, within the limits.
-use Rattle.std.specs.Prelude.{◌≡◌, ◌≢◌, ℕ, ◌<◌, ◌≤◌, List, All, count_by, length, slice_index_or, take}
-use Rattle.mc_model.specs.Worlds.{HasTunnels, places_among}
+use Rattle.std.specs.Prelude.{◌≡◌, ◌≢◌, ℕ, ◌+◌, ◌<◌, ◌≤◌, List, All, count_by, length, slice_index_or, slice_set, take}
+use Rattle.mc_model.specs.Worlds.{ChannelState, HasTunnels, places_among}
 use Rattle.mc_plan.specs.Plans.{PlanState, is_of, slots_of}
 use Rattle.mc_box.specs.declared.limit.TheConstants.{SLOT_LIMIT}
 use Rattle.mc_plan.specs.declared.limit.TheConstants.{BOX_LIMIT, CHANNEL_LIMIT}
@@ -26,3 +26,29 @@ pub record IsLaidOut (plan : PlanState) : Type 0 where
   pub slots : (who : ℕ) → slots_of plan.channels who ≤ SLOT_LIMIT
   pub there : AreThere (length plan.boxes) (places_among plan.channels)
   pub ordered : AreInOrder (places_among plan.channels)
+
+-- the two boxes of a channel are among so many
+pub record HasBoxes (boxes : ℕ) (ends : ChannelState) : Type 0 where
+  pub near : ends.from < boxes
+  pub far : ends.to < boxes
+
+-- these are the numbers of slots of all boxes, and 0 where there is no box
+abbrev pub AreCounted : List ℕ → List ChannelState → Type 0
+AreCounted counts channels = (who : ℕ) → slice_index_or counts who 0 ≡ slots_of channels who
+
+-- a plan that is laid out, with the numbers of its boxes' slots
+pub record IsCountedPlan (plan : PlanState) (counts : List ℕ) : Type 0 where
+  pub laid : IsLaidOut plan
+  pub counted : AreCounted counts plan.channels
+
+-- a box has so many slots more, by these counts
+abbrev pub raised : List ℕ → (who more : ℕ) → List ℕ
+raised counts who more = slice_set counts who (slice_index_or counts who 0 + more)
+
+-- two boxes are counted, and may have so many slots more
+pub record MayCount (counts : List ℕ) (from to more : ℕ) : Type 0 where
+  pub near : from < length counts
+  pub far : to < length counts
+  pub apart : from ≢ to
+  pub near_few : slice_index_or counts from 0 + more ≤ SLOT_LIMIT
+  pub far_few : slice_index_or counts to 0 + more ≤ SLOT_LIMIT

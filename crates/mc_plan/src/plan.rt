@@ -2,7 +2,7 @@
 
 ghost use Rattle.std.specs.Prelude.{◌≡◌, ◌-◌, ◌<◌, ◌≤◌, length, IfOk, OnOk, OnErr};
 ghost use Rattle.mc_plan.specs.LaidOut.{IsLaidOut};
-ghost use Rattle.mc_plan.specs.Plans.{empty_plan, slots_of, with_channel, with_plan, with_sends, with_tunnel, world_of};
+ghost use Rattle.mc_plan.specs.Plans.{empty_plan, next_tunnel, slots_of, with_channel, with_plan, with_sends, with_tunnel, world_of};
 ghost use Rattle.mc_plan.specs.Refusals.{add_fault, join_fault, may_join, may_widen, overfills, unless_fault, widen_fault, widen_fault_at, Gives};
 ghost use Rattle.mc_box.specs.declared.limit.TheConstants.{SLOT_LIMIT};
 ghost use Rattle.mc_model.specs.declared.channel.TheConstants.{TUNNEL_LIMIT};
@@ -11,11 +11,11 @@ use crate::boxes::setups_from;
 use crate::fault::PlanFault;
 use crate::layout::Layout;
 use crate::limit::{BOX_LIMIT, CHANNEL_LIMIT};
-use crate::tunnels::{add_tunnel, last_channel, next_tunnel, slots_of, tunnels_between};
+use crate::tunnels::{add_tunnel, count_of, count_slots, last_channel, tunnels_between};
 use mc_box::Kind;
 use mc_box::limit::SLOT_LIMIT;
 use mc_signal::{CodecList, Medium};
-use mc_world::{Channel, TUNNEL_LIMIT, World};
+use mc_world::{Channel, TUNNEL_LIMIT, Tunnel, World};
 use std::alloc::{AllocError, Global};
 use std::marker::Model;
 
@@ -36,6 +36,8 @@ pub struct BoxPlan {
 pub struct Plan {
     boxes: Vec<BoxPlan>,
     channels: Vec<Channel>,
+    // How many slots each box has at these channels, and 0 where there is no box.
+    slot_counts: [u8; BOX_LIMIT],
     alloc: Global,
 }
 
@@ -44,11 +46,12 @@ impl Model for Plan {
 
     ghost Value = { PlanState };
 
-    ghost use Rattle.mc_plan.specs.LaidOut.{IsLaidOut};
+    ghost use Rattle.mc_plan.specs.LaidOut.{IsCountedPlan};
 
     ghost view = { λ plan. record { boxes = plan.boxes.items; channels = plan.channels.items } };
 
-    ghost invariant = { λ plan. IsLaidOut (record { boxes = plan.boxes.items; channels = plan.channels.items }) };
+    ghost invariant = { λ plan. IsCountedPlan (record { boxes = plan.boxes.items; channels = plan.channels.items })
+        plan.slot_counts };
 }
 
 impl Plan {
@@ -59,6 +62,7 @@ impl Plan {
         Plan {
             boxes: Vec::new(alloc),
             channels: Vec::new(alloc),
+            slot_counts: [0; BOX_LIMIT],
             alloc,
         }
     }
@@ -90,7 +94,7 @@ impl Plan {
         ensures slots { result ≡ slots_of self.now.channels who }
         ensures few { result ≤ SLOT_LIMIT }
     {
-        slots_of(&self.channels, who)
+        usize::from(count_of(&self.slot_counts, who))
     }
 
     /// Adds a box, and answers its number. It is refused where the plan has 256 boxes.
@@ -124,11 +128,12 @@ impl Plan {
         ensures unchanged { OnErr result (self.new ≡ self.old) }
     {
         self.may_join(from, to, media)?;
-        let near = slots_of(&self.channels, from) as u8;
-        let far = slots_of(&self.channels, to) as u8;
+        let near = self.slots(from) as u8;
+        let far = self.slots(to) as u8;
         let number = self.channels.len() as u32;
         let tunnels = tunnels_between(self.alloc, near, far, media)?;
         self.channels.push(Channel { from, to, tunnels })?;
+        count_slots(&mut self.slot_counts, from, to, media.len());
         Ok(number)
     }
 
@@ -142,8 +147,11 @@ impl Plan {
     {
         self.may_widen()?;
         let number = self.channels.len() - 1;
-        let tunnel = next_tunnel(&self.channels, last_channel(&self.channels), medium);
+        let channel = last_channel(&self.channels);
+        let (from, to) = (channel.from, channel.to);
+        let tunnel = self.next_tunnel(channel, medium);
         add_tunnel(&mut self.channels, number, tunnel)?;
+        count_slots(&mut self.slot_counts, from, to, 1);
         Ok(number as u32)
     }
 
@@ -215,6 +223,17 @@ impl Plan {
             return Err(PlanFault::SlotsFull);
         }
         Ok(())
+    }
+
+    // A tunnel of a channel that takes the next slot of both boxes.
+    fn next_tunnel(&self, channel: &Channel, medium: Medium) -> Tunnel
+        ensures { result ≡ next_tunnel self.now.channels channel.now medium }
+    {
+        Tunnel {
+            medium,
+            from: self.slots(channel.from) as u8,
+            to: self.slots(channel.to) as u8,
+        }
     }
 
     // Whether a box would have too many slots.

@@ -1,34 +1,13 @@
-// The tunnels of channels: how many slots they give a box, and those of a new channel.
+// The tunnels of a new channel and of the last one, and the counts of the slots that they take.
 
-ghost use Rattle.std.specs.Prelude.{◌≡◌, ℕ, ◌+◌, ◌<◌, ◌≤◌, ◌∷◌, [], length, IfOk, OnErr, OnOk};
-ghost use Rattle.mc_plan.specs.Plans.{last_channel, next_tunnel, slots_of, tunnels_between, with_tunnel_at};
+ghost use Rattle.std.specs.Prelude.{◌≡◌, ◌+◌, ◌<◌, ◌≤◌, length, slice_index_or, IfOk, OnErr, OnOk};
+ghost use Rattle.mc_plan.specs.LaidOut.{MayCount, raised};
+ghost use Rattle.mc_plan.specs.Plans.{last_channel, tunnels_between, with_tunnel_at};
 ghost use Rattle.mc_box.specs.declared.limit.TheConstants.{SLOT_LIMIT};
 
 use mc_signal::Medium;
 use mc_world::{Channel, Tunnel};
 use std::alloc::{AllocError, Global};
-
-// How many slots a box has at these channels.
-pub fn slots_of(channels: &[Channel], who: u32) -> usize
-    requires few { slots_of channels.now who ≤ SLOT_LIMIT }
-    ensures { result ≡ slots_of channels.now who }
-{
-    let mut count = 0;
-    for channel in channels {
-        count += slots_at(channel, who);
-    }
-    count
-}
-
-// How many slots a box has at a channel.
-fn slots_at(channel: &Channel, who: u32) -> usize
-    ensures { result ≡ slots_of (channel.now ∷ []) who }
-{
-    let tunnels = channel.tunnels.len();
-    let near = if channel.from == who { tunnels } else { 0 };
-    let far = if channel.to == who { tunnels } else { 0 };
-    near + far
-}
 
 // Tunnels of these media, whose slots have local numbers from `near` and from `far` on.
 pub fn tunnels_between(
@@ -62,18 +41,6 @@ pub fn last_channel(channels: &[Channel]) -> &Channel
     &channels[channels.len() - 1]
 }
 
-// A tunnel of a channel that takes the next slot of both boxes.
-pub fn next_tunnel(channels: &[Channel], channel: &Channel, medium: Medium) -> Tunnel
-    requires { (who : ℕ) → slots_of channels.now who ≤ SLOT_LIMIT }
-    ensures { result ≡ next_tunnel channels.now channel.now medium }
-{
-    Tunnel {
-        medium,
-        from: slots_of(channels, channel.from) as u8,
-        to: slots_of(channels, channel.to) as u8,
-    }
-}
-
 // A channel gets a tunnel, as its last.
 pub fn add_tunnel(
     channels: &mut Vec<Channel>,
@@ -87,4 +54,29 @@ pub fn add_tunnel(
     let channel = &mut channels[number];
     channel.tunnels.push(tunnel)?;
     Ok(())
+}
+
+// How many slots a box has by these counts, and 0 behind the last of them.
+pub fn count_of(counts: &[u8], who: u32) -> u8
+    ensures { result ≡ slice_index_or counts.now who 0 }
+{
+    counts.get(who as usize).copied().unwrap_or(0)
+}
+
+// Two boxes have so many slots more.
+pub fn count_slots(counts: &mut [u8], from: u32, to: u32, more: usize)
+    requires { MayCount counts.old from to more }
+    ensures { counts.new ≡ raised (raised counts.old from more) to more }
+{
+    count_more(counts, from, more);
+    count_more(counts, to, more);
+}
+
+// A box has so many slots more.
+fn count_more(counts: &mut [u8], who: u32, more: usize)
+    requires there { who < length counts.old }
+    requires few { slice_index_or counts.old who 0 + more ≤ SLOT_LIMIT }
+    ensures { counts.new ≡ raised counts.old who more }
+{
+    counts[who as usize] += more as u8;
 }

@@ -1,12 +1,13 @@
-use Rattle.std.proofs.Common.{◌≡◌, ◌≤◌, List, ap, arith, subst, sym}
-use Rattle.mc_model.specs.Worlds.{ChannelState}
-use Rattle.mc_plan.specs.Plans.{slots_of}
+use Rattle.std.proofs.Common.{◌≡◌, ◌∙◌, arith, subst}
+use Rattle.mc_plan.specs.Plans.{PlanState, slots_of}
 use Rattle.mc_plan.proofs.plan.Plan.slots.Goals as goal
 
-pub slots_of-requires : goal.slots_of-requires
-slots_of-requires c = record { few = subst (λ (l : List ChannelState). slots_of l c.args.who ≤ 64) (sym c.deref.ensures.value) (c.self.invariant.slots c.args.who) }
+-- the number that is kept is that of the channels
+kept : (c : goal.After-from) → c.from.result ≡ slots_of c.self.inside.channels.items c.args.who
+kept c = c.from.ensures ∙ (c.count_of.ensures ∙ c.self.invariant.counted c.args.who)
+
+pub returns-clause-slots : goal.returns-clause-slots
+returns-clause-slots c = subst (λ (plan : PlanState). c.from.result ≡ slots_of plan.channels c.args.who) c.self.view_is (kept c)
 
 pub returns-clause-few : goal.returns-clause-few
-returns-clause-few c =
-    let same : slots_of c.deref.result.now c.args.who ≡ slots_of c.self.inside.channels.items c.args.who = ap (λ (l : List ChannelState). slots_of l c.args.who) c.deref.ensures.value in
-    omega (arith, same, c.slots_of.ensures, c.self.invariant.slots c.args.who)
+returns-clause-few c = omega (arith, kept c, c.self.invariant.laid.slots c.args.who)

@@ -1,31 +1,34 @@
-use Rattle.std.proofs.Common.{rules, ◌≡◌, ◌≤◌, ◌-◌, ◌∙◌, ℕ, List, length, None, Ok, ap, subst, sym}
-use Rattle.mc_box.specs.declared.limit.TheConstants.{SLOT_LIMIT}
+use Rattle.std.proofs.Common.{rules, ◌≡◌, ◌-◌, ◌∙◌, ℕ, List, None, Ok, ap, length, subst, sym}
 use Rattle.mc_model.specs.Worlds.{ChannelState}
 use Rattle.mc_model.specs.declared.channel.Tunnel.{Tunnel}
-use Rattle.mc_plan.specs.LaidOut.{IsLaidOut}
-use Rattle.mc_plan.specs.Plans.{PlanState, last_channel, next_tunnel, slots_of, with_tunnel, with_tunnel_at}
+use Rattle.mc_plan.specs.LaidOut.{IsCountedPlan}
+use Rattle.mc_plan.specs.Plans.{PlanState, last_channel, next_tunnel, with_tunnel, with_tunnel_at}
 use Rattle.mc_plan.specs.Refusals.{unless_fault, widen_fault}
-use Rattle.mc_plan.proofs.Widened.{no_fault, widened_laid_out}
+use Rattle.mc_plan.proofs.Counted.{last_may_count, widened_counted}
+use Rattle.mc_plan.proofs.Widened.{no_fault}
 use Rattle.mc_plan.proofs.plan.Plan.widen.Goals as goal
 
-abbrev plan_of : goal.In_ok-add_tunnel → PlanState
-plan_of c = record { boxes = c.self.inside.boxes.items; channels = c.self.inside.channels.items }
-
--- the channels have the tunnel
-more : (c : goal.In_ok-add_tunnel) → c.add_tunnel.new.channels.items ≡ (with_tunnel (plan_of c) c.args.medium).channels
-more c =
-    let number : c.len-number.result ≡ length c.self.inside.channels.items = search rules in
-    c.in_ok-add_tunnel.ensures.added
-    ∙ ap (λ (length : ℕ). with_tunnel_at (plan_of c).channels (length - 1) c.next_tunnel-tunnel.result) number
-    ∙ ap (λ (tunnel : Tunnel). with_tunnel_at (plan_of c).channels (length (plan_of c).channels - 1) tunnel)
-    (c.next_tunnel-tunnel.ensures
-    ∙ ap (λ (channels : List ChannelState). next_tunnel channels c.last_channel.result.now c.args.medium) c.deref.ensures.value
-    ∙ ap (λ (ends : ChannelState). next_tunnel (plan_of c).channels ends c.args.medium) (c.last_channel.ensures ∙ ap last_channel c.deref-2.ensures.value))
+pub count_slots-requires : goal.count_slots-requires
+count_slots-requires c =
+    let plan : PlanState = record { boxes = c.self.inside.boxes.items; channels = c.self.inside.channels.items } in
+    let ends : ChannelState = record { from = c.channel.inside.from; to = c.channel.inside.to; tunnels = c.channel.inside.tunnels.items } in
+    let none : widen_fault plan ≡ None = no_fault (widen_fault plan) (subst (λ (p : PlanState). unless_fault (widen_fault p) ≡ Ok tt) (sym c.self.view_is) (sym c.may_widen.ensures ∙ c.in_ok-may_widen.was)) in
+    last_may_count plan c.self.inside.slot_counts c.args.medium ends c.self.invariant (search rules) none (c.channel.view_is ∙ (c.last_channel-channel.ensures ∙ ap last_channel c.deref.ensures.value))
 
 pub invariant_of-self-2 : goal.invariant_of-self-2
 invariant_of-self-2 c =
-    let none : widen_fault (plan_of c) ≡ None = no_fault (widen_fault (plan_of c)) (subst (λ (plan : PlanState). unless_fault (widen_fault plan) ≡ Ok tt) (sym c.self.view_is) (sym c.may_widen.ensures ∙ c.in_ok-may_widen.was)) in
-    subst (λ (l : List ChannelState). IsLaidOut (record { boxes = c.self.inside.boxes.items; channels = l })) (sym (more c)) (widened_laid_out (plan_of c) c.args.medium c.self.invariant none)
-
-pub next_tunnel-tunnel-requires : goal.next_tunnel-tunnel-requires
-next_tunnel-tunnel-requires c = subst (λ (channels : List ChannelState). (who : ℕ) → slots_of channels who ≤ SLOT_LIMIT) (sym c.deref.ensures.value) c.self.invariant.slots
+    let plan : PlanState = record { boxes = c.self.inside.boxes.items; channels = c.self.inside.channels.items } in
+    let ends : ChannelState = record { from = c.channel.inside.from; to = c.channel.inside.to; tunnels = c.channel.inside.tunnels.items } in
+    let none : widen_fault plan ≡ None = no_fault (widen_fault plan) (subst (λ (p : PlanState). unless_fault (widen_fault p) ≡ Ok tt) (sym c.self.view_is) (sym c.may_widen.ensures ∙ c.in_ok-may_widen.was)) in
+    let last : c.last_channel-channel.result.now ≡ last_channel plan.channels = c.last_channel-channel.ensures ∙ ap last_channel c.deref.ensures.value in
+    let number : c.len-number.result ≡ length c.self.inside.channels.items = search rules in
+    let more : c.add_tunnel.new.channels.items ≡ (with_tunnel plan c.args.medium).channels =
+    c.in_ok-add_tunnel.ensures.added
+    ∙ ap (λ (length : ℕ). with_tunnel_at plan.channels (length - 1) c.next_tunnel-tunnel.result) number
+    ∙ ap (λ (tunnel : Tunnel). with_tunnel_at plan.channels (length plan.channels - 1) tunnel)
+    (c.next_tunnel-tunnel.ensures
+    ∙ ap (λ (p : PlanState). next_tunnel p.channels c.last_channel-channel.result.now c.args.medium) (sym c.self.view_is)
+    ∙ ap (λ (e : ChannelState). next_tunnel plan.channels e c.args.medium) last) in
+    subst (λ (l : List ChannelState). IsCountedPlan (record { boxes = c.self.inside.boxes.items; channels = l }) c.count_slots.new.counts) (sym more)
+    (subst (λ (l : List ℕ). IsCountedPlan (with_tunnel plan c.args.medium) l) (sym c.count_slots.ensures)
+    (widened_counted plan c.self.inside.slot_counts c.args.medium ends c.self.invariant (search rules) none (c.channel.view_is ∙ last)))
