@@ -1,5 +1,6 @@
 pub mod Counted
 pub mod Counts
+pub mod Filled
 pub mod Joined
 pub mod Layouts
 pub mod Numbered

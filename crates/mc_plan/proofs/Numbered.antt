@@ -1,5 +1,5 @@
 -- The world that a plan lays out is numbered, and its boxes are new.
-use Rattle.std.proofs.Common.{◌≡◌, ◌+◌, ◌*◌, ◌/◌, ◌%◌, ◌<◌, ◌≤◌, ◌==◌, ℕ, zero, suc, true, None, List, [], ◌∷◌, ◌++◌, length, map, take, refl, ap, sym, ◌∙◌, subst, arith, zero-add}
+use Rattle.std.proofs.Common.{◌≡◌, ◌+◌, ◌*◌, ◌/◌, ◌%◌, ◌<◌, ◌≤◌, ◌==◌, ℕ, zero, suc, true, None, List, [], ◌∷◌, length, map, refl, ap, sym, ◌∙◌, subst, arith, zero-add}
 use Rattle.std.proofs.Math.ListN.{get_or}
 use Rattle.std.proofs.lemmas.List.{get_or-map, length-map, length-replicate}
 use Rattle.mc_signal.specs.declared.Medium.TheVariants.{Audio}
@@ -36,20 +36,6 @@ made_from channels (planned ∷ plans) first zero inside =
 made_from channels (planned ∷ plans) first (suc i) inside =
     let next : first + 1 + i ≡ first + suc i = omega arith in
     subst (λ (n : ℕ). Made channels n (get_or (boxes_from channels (first + 1) plans) i no_box)) next (made_from channels plans (first + 1) i (omega arith))
-
--- one box more
-pub boxes_more : (channels : List ChannelState) (plans : List BoxPlan) (first i : ℕ) (planned : BoxPlan) → i < length plans → planned ≡ get_or plans i planned
-    → boxes_from channels first (take (i + 1) plans) ≡ boxes_from channels first (take i plans) ++ box_from channels (first + i) planned ∷ []
-boxes_more channels [] first i planned inside is = absurd (omega arith)
-boxes_more channels (here ∷ plans) first zero planned inside is =
-    let same : first ≡ first + zero = omega arith in
-    ap (λ (n : ℕ). box_from channels n here ∷ []) same ∙ ap (λ (p : BoxPlan). box_from channels (first + zero) p ∷ []) (sym is)
-boxes_more channels (here ∷ plans) first (suc i) planned inside is =
-    let next : first + 1 + i ≡ first + suc i = omega arith in
-    let fits : suc i + 1 ≡ suc (i + 1) = omega arith in
-    ap (λ (n : ℕ). boxes_from channels first (take n (here ∷ plans))) fits
-    ∙ ap (λ (l : List BoxState). box_from channels first here ∷ l)
-    (boxes_more channels plans (first + 1) i planned (omega arith) is ∙ ap (λ (n : ℕ). boxes_from channels (first + 1) (take i plans) ++ box_from channels n planned ∷ []) next)
 
 -- one for each plan
 pub length_boxes : (channels : List ChannelState) (plans : List BoxPlan) (first : ℕ) → length (boxes_from channels first plans) ≡ length plans

@@ -5,6 +5,7 @@ use Rattle.mc_signal.specs.declared.Medium.{Medium}
 use Rattle.mc_signal.specs.declared.codec_list.CodecList.{CodecList}
 use Rattle.mc_box.specs.Boxes.{BoxState, first_box}
 use Rattle.mc_box.specs.declared.event.Kind.TheVariants.{Feature}
+use Rattle.mc_box.specs.declared.setup.SlotSetup.{SlotSetup}
 use Rattle.mc_plan.specs.Setups.{setups_of}
 use Rattle.mc_model.specs.Worlds.{ChannelState, WorldState, first_world, places_among}
 use Rattle.mc_model.specs.declared.channel.Tunnel.{Tunnel}
@@ -87,9 +88,19 @@ with_tunnel plan medium = record plan { channels = widened plan.channels medium 
 
 -- ---- the first world
 
+-- a planned box as new, given its slots
+abbrev pub box_given : List SlotSetup → (who : ℕ) → BoxPlan → BoxState
+box_given setups who planned = first_box planned.kind who planned.codecs planned.sends planned.first_version setups None
+
+-- boxes given these lists of slots, numbered from a number on
+abbrev pub boxes_given : (who : ℕ) → List (List SlotSetup) → List BoxPlan → List BoxState
+boxes_given who [] plans = []
+boxes_given who (setups ∷ lists) [] = []
+boxes_given who (setups ∷ lists) (planned ∷ plans) = box_given setups who planned ∷ boxes_given (who + 1) lists plans
+
 -- a planned box as new, with a slot for each tunnel that leads to it
 abbrev pub box_from : List ChannelState → (who : ℕ) → BoxPlan → BoxState
-box_from channels who planned = first_box planned.kind who planned.codecs planned.sends planned.first_version (setups_of channels who) None
+box_from channels who planned = box_given (setups_of channels who) who planned
 
 -- these boxes, numbered from a number on
 abbrev pub boxes_from : List ChannelState → (who : ℕ) → List BoxPlan → List BoxState

@@ -1,5 +1,6 @@
 -- The slots that channels give a box.
-use Rattle.std.specs.Prelude.{ℕ, ◌+◌, ◌*◌, ◌==◌, Bool, true, false, if◌then◌else◌, List, [], ◌∷◌, ◌++◌, length}
+use Rattle.std.specs.Prelude.{ℕ, ◌+◌, ◌*◌, ◌==◌, Bool, true, false, if◌then◌else◌, List, [], ◌∷◌, ◌++◌, length, map, Vec}
+use Rattle.std.specs.declared.alloc.Global.{Global}
 use Rattle.mc_model.specs.Worlds.{ChannelState}
 use Rattle.mc_box.specs.declared.setup.SlotSetup.{SlotSetup}
 use Rattle.mc_model.specs.declared.channel.Tunnel.{Tunnel}
@@ -28,3 +29,14 @@ setups_from who count (ends ∷ channels) = setups_at who count ends ++ setups_f
 -- all slots of a box
 abbrev pub setups_of : List ChannelState → ℕ → List SlotSetup
 setups_of channels who = setups_from who 0 channels
+
+-- ---- the slots of many boxes
+
+-- lists by box, as code keeps them
+abbrev pub lists_of : List (Vec SlotSetup Global) → List (List SlotSetup)
+lists_of lists = map (λ list. list.items) lists
+
+-- each of these boxes, numbered from a number on, has more slots, behind those that it has
+abbrev pub with_more : (ℕ → List SlotSetup) → (who : ℕ) → List (List SlotSetup) → List (List SlotSetup)
+with_more more who [] = []
+with_more more who (list ∷ lists) = (list ++ more who) ∷ with_more more (who + 1) lists

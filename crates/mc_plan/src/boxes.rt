@@ -1,13 +1,13 @@
 // The new boxes that a plan gives: a slot for each tunnel that leads to a box.
 
-ghost use Rattle.std.specs.Prelude.{◌≡◌, ◌+◌, ◌<◌, ◌≤◌, ◌++◌, ◌^◌, All, IfOk, OnOk, length, map};
-ghost use Rattle.mc_plan.specs.Setups.{setup_if, setups_at, setups_of};
+ghost use Rattle.std.specs.Prelude.{◌≡◌, ◌+◌, ◌==◌, ◌<◌, ◌≤◌, ◌^◌, [], All, IfOk, OnOk, length, map, replicate};
+ghost use Rattle.mc_plan.specs.Setups.{lists_of, setup_if, setups_at, setups_of, with_more};
 ghost use Rattle.mc_model.specs.Worlds.{HasTunnels};
-ghost use Rattle.mc_plan.specs.LaidOut.{IsLaidOut};
-ghost use Rattle.mc_plan.specs.Plans.{box_from, boxes_from};
+ghost use Rattle.mc_plan.specs.LaidOut.{HasBoxes, IsLaidOut};
+ghost use Rattle.mc_plan.specs.Plans.{box_given, boxes_from, boxes_given};
 ghost use Rattle.mc_model.specs.Sound.{AreNew};
 ghost use Rattle.mc_box.specs.Boxes.{set_up};
-ghost use Rattle.mc_plan.specs.declared.limit.TheConstants.{CHANNEL_LIMIT};
+ghost use Rattle.mc_plan.specs.declared.limit.TheConstants.{BOX_LIMIT, CHANNEL_LIMIT};
 
 use crate::plan::BoxPlan;
 use mc_box::{MediaBox, Setup, SlotSetup};
@@ -23,34 +23,41 @@ pub fn setups_from(
     requires { IsLaidOut (record { boxes = plans.now; channels = channels.now }) }
     ensures { IfOk result (λ setups. map set_up setups.items ≡ boxes_from channels.now 0 plans.now) }
 {
+    let lists = slots_by_box(alloc, channels, plans.len())?;
+    setups_with(alloc, plans, lists)
+}
+
+// What the boxes of these plans are made of, each with its slots.
+fn setups_with(
+    alloc: Global,
+    plans: &[BoxPlan],
+    lists: Vec<Vec<SlotSetup>>,
+) -> Result<Vec<Setup>, AllocError>
+    requires few { length plans.now ≤ BOX_LIMIT }
+    requires each { length lists.items ≡ length plans.now }
+    ensures { IfOk result (λ setups. map set_up setups.items ≡ boxes_given 0 (lists_of lists.items) plans.now) }
+{
     let mut setups = Vec::new(alloc);
-    for who in 0..plans.len() {
-        let setup = setup_from(alloc, channels, who as u32, plans[who])?;
-        setups.push(setup)?;
+    for slots in lists {
+        let who = setups.len();
+        setups.push(setup_from(who as u32, plans[who], slots))?;
     }
     Ok(setups)
 }
 
-// What a planned box is made of.
-fn setup_from(
-    alloc: Global,
-    channels: &[Channel],
-    who: u32,
-    planned: BoxPlan,
-) -> Result<Setup, AllocError>
-    requires channels { length channels.now ≤ CHANNEL_LIMIT }
-    requires tunnels { All HasTunnels channels.now }
-    ensures { IfOk result (λ setup. set_up setup ≡ box_from channels.now who planned) }
+// What a planned box with these slots is made of.
+fn setup_from(who: u32, planned: BoxPlan, slots: Vec<SlotSetup>) -> Setup
+    ensures { set_up result ≡ box_given slots.items who planned }
 {
-    Ok(Setup {
+    Setup {
         kind: planned.kind,
         number: who,
         codecs: planned.codecs,
         sends: planned.sends,
         first_version: planned.first_version,
-        slots: setups_of(alloc, channels, who)?,
+        slots,
         program: None,
-    })
+    }
 }
 
 // The boxes that are made of these.
@@ -65,30 +72,48 @@ pub fn boxes_of(alloc: Global, setups: Vec<Setup>) -> Result<Vec<MediaBox>, Allo
     Ok(boxes)
 }
 
-// The slots of a box, in the order of their local numbers.
-fn setups_of(alloc: Global, channels: &[Channel], who: u32) -> Result<Vec<SlotSetup>, AllocError>
+// The slots of each of so many boxes, in the order of their local numbers.
+fn slots_by_box(
+    alloc: Global,
+    channels: &[Channel],
+    boxes: usize,
+) -> Result<Vec<Vec<SlotSetup>>, AllocError>
     requires channels { length channels.now ≤ CHANNEL_LIMIT }
     requires tunnels { All HasTunnels channels.now }
-    ensures { IfOk result (λ setups. setups.items ≡ setups_of channels.now who) }
+    requires there { All (HasBoxes boxes) channels.now }
+    ensures { IfOk result (λ lists. lists_of lists.items ≡ with_more (setups_of channels.now) 0 (replicate boxes [])) }
 {
-    let mut setups = Vec::new(alloc);
+    let mut lists = empty_lists(alloc, boxes)?;
     let mut count = 0;
     for channel in channels {
-        add_setups(channel, who, count, &mut setups)?;
+        add_channel(channel, count, &mut lists)?;
         count += channel.tunnels.len() as u32;
     }
-    Ok(setups)
+    Ok(lists)
 }
 
-// Adds the slots of a box at a channel, whose tunnels are counted from `count` on.
-fn add_setups(
+// As many empty lists.
+fn empty_lists(alloc: Global, boxes: usize) -> Result<Vec<Vec<SlotSetup>>, AllocError>
+    ensures { IfOk result (λ lists. lists_of lists.items ≡ replicate boxes []) }
+{
+    let mut lists = Vec::with_capacity(alloc, boxes)?;
+    for _done in 0..boxes {
+        lists.push(Vec::new(alloc))?;
+    }
+    Ok(lists)
+}
+
+// Adds the slots of a channel, whose tunnels are counted from `count` on, to those of its boxes.
+fn add_channel(
     channel: &Channel,
-    who: u32,
     count: u32,
-    list: &mut Vec<SlotSetup>,
+    lists: &mut Vec<Vec<SlotSetup>>,
 ) -> Result<(), AllocError>
-    requires { count + length channel.now.tunnels ≤ 2 ^ 16 }
-    ensures { OnOk result (list.new.items ≡ list.old.items ++ setups_at who count channel.now) }
+    requires tunnels { count + length channel.now.tunnels ≤ 2 ^ 16 }
+    requires there { HasBoxes (length lists.old.items) channel.now }
+    ensures slots { OnOk result (lists_of lists.new.items
+        ≡ with_more (λ who. setups_at who count channel.now) 0 (lists_of lists.old.items)) }
+    ensures boxes { OnOk result (length lists.new.items ≡ length lists.old.items) }
 {
     for i in 0..channel.tunnels.len() {
         let medium = channel.tunnels[i].medium;
@@ -103,18 +128,20 @@ fn add_setups(
             medium,
             initiator: false,
         };
-        add_if(channel.from == who, near, list)?;
-        add_if(channel.to == who, far, list)?;
+        add_slot(channel.from, near, lists)?;
+        add_slot(channel.to, far, lists)?;
     }
     Ok(())
 }
 
-// Adds a slot, if it is of the box.
-fn add_if(here: bool, setup: SlotSetup, list: &mut Vec<SlotSetup>) -> Result<(), AllocError>
-    ensures { OnOk result (list.new.items ≡ list.old.items ++ setup_if here setup) }
+// Adds a slot to those of a box.
+fn add_slot(who: u32, setup: SlotSetup, lists: &mut Vec<Vec<SlotSetup>>) -> Result<(), AllocError>
+    requires { who < length lists.old.items }
+    ensures slots { OnOk result (lists_of lists.new.items
+        ≡ with_more (λ other. setup_if (who == other) setup) 0 (lists_of lists.old.items)) }
+    ensures boxes { OnOk result (length lists.new.items ≡ length lists.old.items) }
 {
-    if here {
-        list.push(setup)?;
-    }
+    let list = &mut lists[who as usize];
+    list.push(setup)?;
     Ok(())
 }
