@@ -1,4 +1,4 @@
--- A command whose line breaks no rule is enabled by the shape of its box.
+-- A command whose line breaks no rule is enabled by the shape of its box, and what it is about has names.
 use Rattle.std.proofs.Common.{◌≡◌, ℕ, ◌<◌, ◌==◌, ◌||◌, not, Bool, true, false, List, length, Option, Some, None, refl, arith}
 use Rattle.std.proofs.lemmas.Bool.{or_parts}
 use Rattle.std.specs.List.{slice_get}
@@ -13,7 +13,7 @@ use Rattle.mc_box.specs.declared.event.Event.TheVariants.{Set, Media, Tell}
 use Rattle.mc_box.specs.declared.event.MediaChange.TheVariants.{Hear, Talk}
 use Rattle.mc_script.specs.Meaning.{at_slot, command_by}
 use Rattle.mc_script.specs.Places.{Fits, are_same, box_named, is_no, slot_named, spelt_value}
-use Rattle.mc_script.specs.Printed.{IsSlot}
+use Rattle.mc_script.specs.Printed.{IsNamed, IsSlot}
 use Rattle.mc_script.specs.Rules.{differ_in_medium, has_no_program, is_no_device, is_no_feature, kind_rules, least_broken, link_rules, media_rules, spelt_goal, spelt_switch, tell_rules}
 use Rattle.mc_script.specs.declared.command.Command.{Command}
 use Rattle.mc_script.specs.declared.command.Command.TheVariants.{Stimulus, Settle}
@@ -106,6 +106,10 @@ module _ (names : NameLists) (shape : List BoxShapeState) (fits : Fits names sha
       let is = named_there words 1 at.who at.local at.box at.slot in
       rw at.is (is.0, rw (is_a_device words at.who kept at.box, slot_there at.who at.local is) refl)
 
+  -- the second slot of a link is one of the box
+  far_slot : (words : List (List ℕ)) (who other : ℕ) → box_named names (slice_get words 0) ≡ Some who → slot_named names (box_named names (slice_get words 0)) (slice_get words 2) ≡ Some other → slot_named names (Some who) (slice_get words 2) ≡ Some other
+  far_slot words who other box far = rw box at far
+
   -- a line that names two slots of a box links them
   linked_slots : (words : List (List ℕ)) (who local other : ℕ) → least_broken (link_rules names shape words) ≡ None → box_named names (slice_get words 0) ≡ Some who
       → slot_named names (Some who) (slice_get words 1) ≡ Some local → slot_named names (Some who) (slice_get words 2) ≡ Some other → IsEnabled names shape (Stimulus (record { who = who; event = Set (NewLink local other) }))
@@ -124,9 +128,6 @@ module _ (names : NameLists) (shape : List BoxShapeState) (fits : Fits names sha
   link_enabled words it kept means =
       let at = at_slot_is names words (slot_named names (box_named names (slice_get words 0)) (slice_get words 2)) (λ local (other : ℕ). Set (NewLink local other)) it means in
       rw at.is (linked_slots words at.who at.local at.spelt kept at.box at.slot (far_slot words at.who at.spelt at.box at.third))
-    where
-      far_slot : (words : List (List ℕ)) (who other : ℕ) → box_named names (slice_get words 0) ≡ Some who → slot_named names (box_named names (slice_get words 0)) (slice_get words 2) ≡ Some other → slot_named names (Some who) (slice_get words 2) ≡ Some other
-      far_slot words who other box far = rw box at far
 
   tell_enabled : (words : List (List ℕ)) (it : Command) → least_broken (tell_rules names shape words) ≡ None → command_by names (Some command.Tell) words ≡ Some it → IsEnabled names shape it
   tell_enabled words it kept means = by (box_named names (slice_get words 0)) refl (spelt_value (place_of names.told) (slice_get words 1)) refl
@@ -151,3 +152,36 @@ module _ (names : NameLists) (shape : List BoxShapeState) (fits : Fits names sha
 
   pub line_enabled : (it : Command) → IsOfLine names shape it → IsEnabled names shape it
   line_enabled it line = by_kind line.kind line.words it line.kept line.means
+
+  -- ---- names
+
+  tell_named : (words : List (List ℕ)) (it : Command) → command_by names (Some command.Tell) words ≡ Some it → IsNamed names it
+  tell_named words it means = by (box_named names (slice_get words 0)) refl (spelt_value (place_of names.told) (slice_get words 1)) refl
+    where
+      by : (box : Option ℕ) → box_named names (slice_get words 0) ≡ box → (told : Option ℕ) → spelt_value (place_of names.told) (slice_get words 1) ≡ told → IsNamed names it
+      by None a told b = absurd (let none : None ≡ Some it = rw a at means in cc)
+      by (Some who) a None b = absurd (let none : None ≡ Some it = rw (a, b) at means in cc)
+      by (Some who) a (Some told) b =
+          let some : Some (Stimulus (record { who = who; event = Tell told })) ≡ Some it = rw (a, b) at means in
+          let is : it ≡ Stimulus (record { who = who; event = Tell told }) = cc in
+          rw is (named_within names.boxes (slice_get words 0) who a, named_within names.told (slice_get words 1) told b)
+
+  named_by : (kind : CommandWord) (words : List (List ℕ)) (it : Command) → command_by names (Some kind) words ≡ Some it → IsNamed names it
+  named_by command.Set words it means =
+      let at = at_slot_is names words (spelt_value spelt_goal (slice_get words 2)) (λ local (goal : Goal). Set (NewEnd local goal)) it means in
+      rw at.is (named_there words 1 at.who at.local at.box at.slot)
+  named_by command.Link words it means =
+      let at = at_slot_is names words (slot_named names (box_named names (slice_get words 0)) (slice_get words 2)) (λ local (other : ℕ). Set (NewLink local other)) it means in
+      rw at.is (named_there words 1 at.who at.local at.box at.slot, named_there words 2 at.who at.spelt at.box (far_slot words at.who at.spelt at.box at.third))
+  named_by command.Hear words it means =
+      let at = at_slot_is names words (spelt_value spelt_switch (slice_get words 2)) (λ local (on : Bool). Media (Hear local on)) it means in
+      rw at.is (named_there words 1 at.who at.local at.box at.slot)
+  named_by command.Talk words it means =
+      let at = at_slot_is names words (spelt_value spelt_switch (slice_get words 2)) (λ local (on : Bool). Media (Talk local on)) it means in
+      rw at.is (named_there words 1 at.who at.local at.box at.slot)
+  named_by command.Tell words it means = tell_named words it means
+  named_by command.Settle words it means = let is : it ≡ Settle = cc in rw is tt
+
+  -- its box, slots and word have names
+  pub line_named : (it : Command) → IsOfLine names shape it → IsNamed names it
+  line_named it line = named_by line.kind line.words it line.means

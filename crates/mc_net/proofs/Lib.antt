@@ -7,6 +7,7 @@ pub mod FirstPrograms
 pub mod Laid
 pub mod MadeNets
 pub mod Named
+pub mod NamesKept
 pub mod OpenBlocks
 pub mod Programmed
 pub mod Reading

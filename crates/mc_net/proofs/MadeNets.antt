@@ -14,19 +14,21 @@ use Rattle.mc_box.specs.declared.event.Turn.{Turn}
 use Rattle.mc_plan.specs.Plans.{PlanState, boxes_from, world_of}
 use Rattle.mc_plan.specs.declared.plan.BoxPlan.{BoxPlan}
 use Rattle.mc_plan.proofs.Numbered.{box_slots, length_boxes}
+use Rattle.mc_script.specs.Printed.{HaveNames, IsNamed}
 use Rattle.mc_script.specs.declared.command.Command.{Command}
 use Rattle.mc_script.specs.declared.command.Command.TheVariants.{Stimulus, Settle}
 use Rattle.mc_lines.specs.BoxLines.{box_seen}
 use Rattle.mc_lines.specs.Forms.{IsInForm, NamesEach}
-use Rattle.mc_net.specs.Nets.{IsMadeOf, MayHavePrograms, NamesAll, batch_turns, batches_of, before_next}
+use Rattle.mc_net.specs.Nets.{IsMadeOf, IsSayable, MayHavePrograms, NamesAll, batch_turns, batches_of, before_next}
 use Rattle.mc_lines.specs.SoFar.{Declared}
+use Rattle.mc_net.specs.TextLaws.{NetsAreNamed}
 use Rattle.mc_net.specs.Texts.{Says}
 use Rattle.mc_lines.specs.declared.limit.TheConstants.{COMMAND_LIMIT}
 use Rattle.mc_net.specs.declared.net.Net.{Net}
 use Rattle.mc_lines.specs.declared.reader.Parts.{Parts}
 use Rattle.mc_net.proofs.Batches.{few_batches}
 use Rattle.mc_net.proofs.Declaring.{AreOf}
-use Rattle.mc_net.proofs.Enabled.{IsEnabled, IsOfLine, line_enabled}
+use Rattle.mc_net.proofs.Enabled.{IsEnabled, IsOfLine, line_enabled, line_named}
 use Rattle.mc_net.proofs.Named.{HasCodecs}
 use Rattle.mc_net.proofs.FirstPrograms.{programs_may, programs_named, programs_shaped}
 use Rattle.mc_net.proofs.Laid.{AllFinished, AreLaid, owners}
@@ -129,3 +131,24 @@ net_has_few text d parts net place says are made =
     let few : length parts.commands.items ≤ COMMAND_LIMIT = rw are.commands runs.few in
     let made_of : length (map batch_turns net.batches.items) ≤ length parts.commands.items = rw made.batches listed in
     omega (arith, length-map net.batches.items batch_turns)
+
+-- ---- texts
+
+-- the network of a text is well named, by the text alone
+pub nets_are_named : NetsAreNamed
+nets_are_named text net declares =
+    let d = declares.declared in
+    let plan = declares.world.plan in
+    let runs : IsRunnable d = says_runnable text d declares.says in
+    let each : NamesEach d.names (map box_seen plan.boxes) plan.channels = rw (declares.world.boxes, declares.world.channels) runs.named in
+    let known : All (HasCodecs d.names) (map box_seen plan.boxes) = rw declares.world.boxes runs.known in
+    record {
+      names = subst HaveNames (sym declares.names) runs.called.have;
+      world = rw (declares.names, declares.world.world) (programs_named d.names (world_of plan) d.blocks (plan_named d.names plan each known));
+      commands = rw (declares.names, declares.shape, declares.batches)
+          (all_batches (IsSayable d.names d.shape) d.commands (All-weaker (IsOfLine d.names d.shape) (OfTurn (IsSayable d.names d.shape)) (λ it line. sayable d runs it (line_named d.names d.shape runs.fits it line) (line_enabled d.names d.shape runs.fits it line)) d.commands runs.of_lines));
+    }
+  where
+    sayable : (d : Declared) → IsRunnable d → (it : Command) → IsNamed d.names it → IsEnabled d.names d.shape it → OfTurn (IsSayable d.names d.shape) it
+    sayable d runs (Stimulus turn) named enabled = (named, enabled.1)
+    sayable d runs Settle named enabled = tt

@@ -1,5 +1,5 @@
 -- After each line that breaks no rule each box receives declared codecs, the shapes are those of the boxes, channels and programs, and programs fit. Commands come last, and each is that of a line that breaks no rule. There are no more of them than may be.
-use Rattle.std.proofs.Common.{◌≡◌, ◌⊎◌, inl, inr, ℕ, zero, suc, ◌-◌, ◌<◌, ◌≤◌, ◌==◌, Bool, true, false, ◌&&◌, ◌||◌, not, nat_le, nat_lt, if◌then◌else◌, List, [], ◌∷◌, ◌++◌, length, drop, slice_index_or, Option, Some, None, refl, sym, ap, ◌∙◌, subst, slice_set, arith, length-append, map}
+use Rattle.std.proofs.Common.{◌≡◌, ◌≢◌, ◌⊎◌, inl, inr, ℕ, zero, suc, ◌-◌, ◌<◌, ◌≤◌, ◌==◌, Bool, true, false, ◌&&◌, ◌||◌, not, nat_le, nat_lt, if◌then◌else◌, List, [], ◌∷◌, ◌++◌, length, drop, slice_index_or, Option, Some, None, refl, sym, ap, ◌∙◌, subst, slice_set, arith, length-append, map}
 use Rattle.std.proofs.lemmas.Bool.{or_parts}
 use Rattle.std.proofs.lemmas.List.{length-set}
 use Rattle.std.proofs.lemmas.List.Elements.{All-get_or, All-nil, All-push, All-set, All-weaker}
@@ -8,7 +8,7 @@ use Rattle.std.specs.List.{All, list_any, slice_get}
 use Rattle.std.specs.Option.{is_some, option_and_then, option_map, unwrap_or}
 use Rattle.mc_signal.specs.declared.Medium.{Medium}
 use Rattle.mc_text.specs.Lines.{lines, words}
-use Rattle.mc_text.specs.NameLists.{NameLists, with_codec_name}
+use Rattle.mc_text.specs.NameLists.{AreNames, NameLists, slot_names, with_codec_name}
 use Rattle.mc_box.specs.BoxShapes.{BoxShapeState, is_feature, shape_of}
 use Rattle.mc_model.specs.Worlds.{ChannelState}
 use Rattle.mc_plan.specs.Plans.{channel_between, last_channel, next_tunnel, no_channel, with_one_more}
@@ -16,13 +16,13 @@ use Rattle.mc_program.specs.Programs.{BlockState, block_goal_after, block_goal_r
 use Rattle.mc_program.specs.WordLists.{has_repeat}
 use Rattle.mc_text.specs.Spelling.{is_spelt}
 use Rattle.mc_script.specs.Meaning.{command_by}
-use Rattle.mc_script.specs.Places.{Fits, box_named, is_misspelt, is_no, spelt_value}
+use Rattle.mc_script.specs.Places.{Fits, are_same, box_named, has, is_misspelt, is_no, is_overlong, spelt_value}
 use Rattle.mc_script.specs.Rules.{byte_rules, is_no_device, is_no_feature, is_plain, kind_rules, least_broken}
 use Rattle.mc_script.specs.declared.command.Command.{Command}
 use Rattle.mc_script.specs.declared.keyword.CommandWord.{CommandWord}
-use Rattle.mc_script.specs.declared.rule.TheConstants.{GIVEN_TWICE, LIMIT_PASSED, UNDECLARED, UNFINISHED, WRONG_WORD}
+use Rattle.mc_script.specs.declared.rule.TheConstants.{GIVEN_TWICE, LIMIT_PASSED, NAME_TOO_LONG, SAME_BOX, UNDECLARED, UNFINISHED, WRONG_WORD}
 use Rattle.mc_lines.specs.Meaning.{after_by, also_after, begin_after, channel_after, codec_after, codec_number, command_after, device_after, device_in, feature_after, declared_at, line_after, new_feature, program_after, program_link_after, send_after, state_after, when_after, with_block, programmed_shape, with_send_list, unless_skipped, with_joined, with_new_box, with_new_codec, with_new_feature, with_send_line, with_widened, words_after}
-use Rattle.mc_lines.specs.Rules.{also_rules, begin_rules, program_rules, shapes, state_rules, channel_rules, codec_rules, codec_words, command_line_rules, device_rules, feature_rules, end_fault, end_rules, is_late, is_program_link, is_second, is_skipped, is_unfinished, kind_of, line_fault, line_words_rules, lists_undeclared, open_block, passes_limit, program_link_rules, rank, rules_by, send_line_rules, send_rules, spelt_medium, words_rules}
+use Rattle.mc_lines.specs.Rules.{also_rules, begin_rules, program_rules, shapes, state_rules, channel_rules, codec_rules, codec_words, command_line_rules, device_rules, feature_rules, end_fault, end_rules, is_late, is_program_link, is_second, is_skipped, is_unfinished, kind_of, line_fault, line_words_rules, lists_undeclared, of_slots, open_block, passes_limit, program_link_rules, rank, rules_by, send_line_rules, send_rules, spelt_medium, words_rules}
 use Rattle.mc_lines.specs.SoFar.{Declared, DeclaredBox, nothing}
 use Rattle.mc_net.specs.Texts.{AreSound, Says, bytes_before, declared_by}
 use Rattle.mc_lines.specs.declared.limit.TheConstants.{COMMAND_LIMIT}
@@ -44,6 +44,7 @@ use Rattle.mc_program.specs.BlockLaws.{FitsIn}
 use Rattle.mc_net.proofs.Laid.{AllFinished, AreLaid, all_finished, has_owner, laid_behind, laid_more, laid_open, none_laid, open_is_last, owner_there, block_there, owners, same_owners}
 use Rattle.mc_net.proofs.OpenBlocks.{TellsMore, goal_keeps_box, link_keeps_box, tells_none, when_names}
 use Rattle.mc_net.proofs.Named.{HasCodecs, numbers_known}
+use Rattle.mc_net.proofs.NamesKept.{AreCalled, IsApart, IsNew, box_named_too, kept_new, none_called, slots_named_too, when_told}
 use Rattle.mc_lines.proofs.Sends.{still_all}
 use Rattle.mc_net.proofs.Shaped.{AreShapes, box_shaped, channel_shaped, none_shaped, program_shaped, send_shaped, tunnel_shaped}
 
@@ -54,7 +55,7 @@ pub record HasEnds (boxes : ℕ) (ends : ChannelState) : Type 0 where
   pub near : ends.from < boxes
   pub far : ends.to < boxes
 
--- each box has declared codecs, the shapes are those of boxes, channels and programs, programs are laid out as they should be, and commands come last, each that of a line with these names and shapes, and no more of them than may be
+-- boxes, slots and told words have names, each box has declared codecs, the shapes are those of boxes, channels and programs, programs are laid out as they should be, and commands come last, each that of a line with these names and shapes, and no more of them than may be
 pub record RunsAll (place : Section) (names : NameLists) (shape : List BoxShapeState) (boxes : List DeclaredBox) (channels : List ChannelState) (blocks : List BlockState) (commands : List Command) : Type 0 where
   pub fits : Fits names shape
   pub named : NamesEach names boxes channels
@@ -66,6 +67,7 @@ pub record RunsAll (place : Section) (names : NameLists) (shape : List BoxShapeS
   pub last : (commands ≡ []) ⊎ (place ≡ section.Commands)
   pub of_lines : All (IsOfLine names shape) commands
   pub few : length commands ≤ COMMAND_LIMIT
+  pub called : AreCalled names channels
 
 abbrev pub IsRunnable : Declared → Type 0
 IsRunnable d = RunsAll d.section d.names d.shape d.boxes d.channels d.blocks d.commands
@@ -82,6 +84,7 @@ nothing_runs = record {
   last = inl refl;
   of_lines = All-nil (IsOfLine nothing.names nothing.shape);
   few = omega arith;
+  called = none_called;
 }
 
 -- ---- lines before the commands
@@ -138,6 +141,7 @@ codec_runs d after words runs kept means =
       last = inl none;
       of_lines = of_none (with_codec_name d.names m.0) d.shape d.commands none;
       few = runs.few;
+      called = record { have = record { of_boxes = runs.called.have.of_boxes; of_slots = runs.called.have.of_slots; of_told = runs.called.have.of_told }; apart = runs.called.apart };
     }))
   where
     one_more : (name : List ℕ) (codec : ℕ) → codec < length d.names.codecs → codec < length (d.names.codecs ++ name ∷ [])
@@ -150,9 +154,17 @@ further boxes declared ends has = record {
   far = omega (arith, has.far, length-append boxes (declared ∷ []));
 }
 
+-- a word that is there, of which the rules of its line ask that it is a new name
+new_at : (names : List (List ℕ)) (word : Option (List ℕ)) (name : List ℕ) → word ≡ Some name → is_misspelt word ≡ false → is_overlong word ≡ false → has names word ≡ false → IsNew names name
+new_at names word name is spelt short new =
+    let here : is_misspelt (Some name) ≡ false = subst (λ (o : Option (List ℕ)). is_misspelt o ≡ false) is spelt in
+    let within : is_overlong (Some name) ≡ false = subst (λ (o : Option (List ℕ)). is_overlong o ≡ false) is short in
+    let other : has names (Some name) ≡ false = subst (λ (o : Option (List ℕ)). has names o ≡ false) is new in
+    kept_new names name here within other
+
 -- a box more
-box_runs : (d : Declared) (name : List ℕ) (declared : DeclaredBox) → IsRunnable d → d.commands ≡ [] → d.blocks ≡ [] → HasCodecs d.names declared → IsRunnable (with_new_box d name declared)
-box_runs d name declared runs none bare has =
+box_runs : (d : Declared) (name : List ℕ) (declared : DeclaredBox) → IsRunnable d → d.commands ≡ [] → d.blocks ≡ [] → HasCodecs d.names declared → IsNew d.names.boxes name → IsRunnable (with_new_box d name declared)
+box_runs d name declared runs none bare has new =
     let boxed = with_new_box d name declared in
     let form = in_form_with_box (record d { blocks = [] }) name declared (bare_form d runs) in
     let now : RunsBare d = bare_runs d runs bare in
@@ -167,6 +179,7 @@ box_runs d name declared runs none bare has =
       last = inl none;
       of_lines = of_none boxed.names boxed.shape d.commands none;
       few = runs.few;
+      called = record { have = box_named_too d.names name runs.named.listed runs.called.have new; apart = runs.called.apart };
     })
 
 device_runs : (d after : Declared) (words : List (List ℕ)) → IsRunnable d → least_broken (device_rules d words) ≡ None → device_after d words ≡ Some after → IsRunnable after
@@ -175,17 +188,27 @@ device_runs d after words runs kept means =
     let undeclared = lists_undeclared d.names (codec_words (drop 1 words)) in
     let late = is_late d section.Boxes in
     let misspelt = is_misspelt (slice_get words 0) in
-    let time = (or_parts late misspelt (kept_at (device_rules d words) 1 (WRONG_WORD, late || misspelt) kept refl)).0 in
+    let first = or_parts late misspelt (kept_at (device_rules d words) 1 (WRONG_WORD, late || misspelt) kept refl) in
+    let time = first.0 in
+    let given = has d.names.boxes (slice_get words 0) in
+    let twice = has_repeat (codec_words (drop 1 words)) in
+    let new = (or_parts given twice (kept_at (device_rules d words) 4 (GIVEN_TWICE, given || twice) kept refl)).0 in
+    let short = kept_at (device_rules d words) 6 (NAME_TOO_LONG, is_overlong (slice_get words 0)) kept refl in
     subst (λ (x : Declared). IsRunnable x) (sym m.2)
-    (box_runs d m.0 (device_in d.names (drop 1 words)) runs (none_yet d section.Boxes runs refl time) (no_programs_yet d section.Boxes runs refl time) (numbers_known d.names (codec_words (drop 1 words)) (kept_at (device_rules d words) 0 (UNDECLARED, undeclared) kept refl)))
+    (box_runs d m.0 (device_in d.names (drop 1 words)) runs (none_yet d section.Boxes runs refl time) (no_programs_yet d section.Boxes runs refl time) (numbers_known d.names (codec_words (drop 1 words)) (kept_at (device_rules d words) 0 (UNDECLARED, undeclared) kept refl))
+    (new_at d.names.boxes (slice_get words 0) m.0 m.1 first.1 short new))
 
 feature_runs : (d after : Declared) (words : List (List ℕ)) → IsRunnable d → least_broken (feature_rules d words) ≡ None → feature_after d words ≡ Some after → IsRunnable after
 feature_runs d after words runs kept means =
     let m = mapped (with_new_feature d) (slice_get words 0) after means in
     let late = is_late d section.Boxes in
     let misspelt = is_misspelt (slice_get words 0) in
-    let time = (or_parts late misspelt (kept_at (feature_rules d words) 0 (WRONG_WORD, late || misspelt) kept refl)).0 in
-    subst (λ (x : Declared). IsRunnable x) (sym m.2) (box_runs d m.0 new_feature runs (none_yet d section.Boxes runs refl time) (no_programs_yet d section.Boxes runs refl time) (All-nil (λ codec. codec < length d.names.codecs)))
+    let first = or_parts late misspelt (kept_at (feature_rules d words) 0 (WRONG_WORD, late || misspelt) kept refl) in
+    let time = first.0 in
+    let new = kept_at (feature_rules d words) 3 (GIVEN_TWICE, has d.names.boxes (slice_get words 0)) kept refl in
+    let short = kept_at (feature_rules d words) 5 (NAME_TOO_LONG, is_overlong (slice_get words 0)) kept refl in
+    subst (λ (x : Declared). IsRunnable x) (sym m.2)
+    (box_runs d m.0 new_feature runs (none_yet d section.Boxes runs refl time) (no_programs_yet d section.Boxes runs refl time) (All-nil (λ codec. codec < length d.names.codecs)) (new_at d.names.boxes (slice_get words 0) m.0 m.1 first.1 short new))
 
 -- a `send` line isn't late
 send_in_time : (d : Declared) (apart : Bool) (words : List (List ℕ)) → least_broken (send_line_rules d apart words) ≡ None → is_late d section.Boxes ≡ false
@@ -215,6 +238,7 @@ send_runs d after words runs kept means =
       last = inl none;
       of_lines = runs.of_lines;
       few = runs.few;
+      called = runs.called;
     }))
 
 -- what a `chan` line joins
@@ -226,6 +250,8 @@ record Joins (d after : Declared) (words : List (List ℕ)) : Type 0 where
   far_slot : List ℕ
   near : box_named d.names (slice_get words 1) ≡ Some from
   far : box_named d.names (slice_get words 3) ≡ Some to
+  near_slot : slice_get words 2 ≡ Some slot
+  other_slot : slice_get words 4 ≡ Some far_slot
   is : after ≡ with_joined d medium from slot to far_slot
 
 channel_joins : (d after : Declared) (words : List (List ℕ)) → channel_after d words ≡ Some after → Joins d after words
@@ -240,11 +266,18 @@ channel_joins d after words means = by (spelt_value spelt_medium (slice_get word
     by (Some medium) a (Some from) b (Some slot) c (Some to) e None f = absurd (let none : None ≡ Some after = rw (a, b, c, e, f) at means in cc)
     by (Some medium) a (Some from) b (Some slot) c (Some to) e (Some far_slot) f =
         let some : Some (with_joined d medium from slot to far_slot) ≡ Some after = rw (a, b, c, e, f) at means in
-        record { medium = medium; from = from; slot = slot; to = to; far_slot = far_slot; near = b; far = e; is = cc }
+        record { medium = medium; from = from; slot = slot; to = to; far_slot = far_slot; near = b; far = e; near_slot = c; other_slot = f; is = cc }
+
+-- new names for a slot of each of two boxes
+record AreNew (names : NameLists) (from : ℕ) (slot : List ℕ) (to : ℕ) (far_slot : List ℕ) : Type 0 where
+  apart : from ≢ to
+  near : IsNew (slot_names names from) slot
+  far : IsNew (slot_names names to) far_slot
 
 -- a channel more, and a slot of each of its boxes
-joined_runs : (d : Declared) (medium : Medium) (from : ℕ) (slot : List ℕ) (to : ℕ) (far_slot : List ℕ) → IsRunnable d → d.commands ≡ [] → d.blocks ≡ [] → from < length d.names.boxes → to < length d.names.boxes → IsRunnable (with_joined d medium from slot to far_slot)
-joined_runs d medium from slot to far_slot runs none bare near far =
+joined_runs : (d : Declared) (medium : Medium) (from : ℕ) (slot : List ℕ) (to : ℕ) (far_slot : List ℕ) → IsRunnable d → d.commands ≡ [] → d.blocks ≡ [] → from < length d.names.boxes → to < length d.names.boxes
+    → AreNew d.names from slot to far_slot → IsRunnable (with_joined d medium from slot to far_slot)
+joined_runs d medium from slot to far_slot runs none bare near far new =
     let joined = with_joined d medium from slot to far_slot in
     let form = in_form_with_channel (record d { blocks = [] }) medium from slot to far_slot near far (bare_form d runs) in
     let now : RunsBare d = bare_runs d runs bare in
@@ -261,6 +294,10 @@ joined_runs d medium from slot to far_slot runs none bare near far =
       last = inl none;
       of_lines = of_none joined.names joined.shape d.commands none;
       few = runs.few;
+      called = record {
+        have = slots_named_too d.names from slot to far_slot runs.named.listed near far new.apart runs.called.have new.near new.far;
+        apart = All-push IsApart d.channels (channel_between d.channels from to (medium ∷ [])) runs.called.apart new.apart;
+      };
     })
 
 first_of_four : (a b c e : Bool) → (a || b || c || e) ≡ false → a ≡ false
@@ -275,18 +312,48 @@ channel_in_time d words kept =
     let far = is_some (box_named d.names (slice_get words 3)) && is_misspelt (slice_get words 4) in
     first_of_four late unknown near far (kept_at (channel_rules d words) 1 (WRONG_WORD, late || unknown || near || far) kept refl)
 
+-- the slots of a `chan` line have new names, and its boxes are two
+channel_news : (d : Declared) (words : List (List ℕ)) (from to : ℕ) (slot far_slot : List ℕ) → least_broken (channel_rules d words) ≡ None → box_named d.names (slice_get words 1) ≡ Some from → box_named d.names (slice_get words 3) ≡ Some to
+    → slice_get words 2 ≡ Some slot → slice_get words 4 ≡ Some far_slot → AreNew d.names from slot to far_slot
+channel_news d words from to slot far_slot kept a b c e =
+    let near = box_named d.names (slice_get words 1) in
+    let far = box_named d.names (slice_get words 3) in
+    let one = slice_get words 2 in
+    let two = slice_get words 4 in
+    let words_kept : (is_late d section.Channels || is_no spelt_medium (slice_get words 0) || is_misspelt (Some slot) || is_misspelt (Some far_slot)) ≡ false =
+    rw (a, b, c, e) at (kept_at (channel_rules d words) 1 (WRONG_WORD, is_late d section.Channels || is_no spelt_medium (slice_get words 0) || (is_some near && is_misspelt one) || (is_some far && is_misspelt two)) kept refl) in
+    let given : (has (slot_names d.names from) (Some slot) || has (slot_names d.names to) (Some far_slot)) ≡ false =
+    rw (a, b, c, e) at (kept_at (channel_rules d words) 4 (GIVEN_TWICE, of_slots d.names near (λ slots. has slots one) || of_slots d.names far (λ slots. has slots two)) kept refl) in
+    let other : (from == to) ≡ false = rw (a, b) at (kept_at (channel_rules d words) 5 (SAME_BOX, are_same near far) kept refl) in
+    let short : (is_overlong (Some slot) || is_overlong (Some far_slot)) ≡ false =
+    rw (a, b, c, e) at (kept_at (channel_rules d words) 7 (NAME_TOO_LONG, (is_some near && is_overlong one) || (is_some far && is_overlong two)) kept refl) in
+    let spelt = last_of_four (is_late d section.Channels) (is_no spelt_medium (slice_get words 0)) (is_misspelt (Some slot)) (is_misspelt (Some far_slot)) words_kept in
+    let news = or_parts (has (slot_names d.names from) (Some slot)) (has (slot_names d.names to) (Some far_slot)) given in
+    let shorts = or_parts (is_overlong (Some slot)) (is_overlong (Some far_slot)) short in
+    record {
+      apart = λ same. absurd (grind arith);
+      near = kept_new (slot_names d.names from) slot spelt.0 shorts.0 news.0;
+      far = kept_new (slot_names d.names to) far_slot spelt.1 shorts.1 news.1;
+    }
+  where
+    last_of_four : (a b c e : Bool) → (a || b || c || e) ≡ false → (c ≡ false) × (e ≡ false)
+    last_of_four a b c e none = (grind arith, grind arith)
+
 channel_runs : (d after : Declared) (words : List (List ℕ)) → IsRunnable d → least_broken (channel_rules d words) ≡ None → channel_after d words ≡ Some after → IsRunnable after
 channel_runs d after words runs kept means =
     let j = channel_joins d after words means in
     let time = channel_in_time d words kept in
     subst (λ (x : Declared). IsRunnable x) (sym j.is)
-    (joined_runs d j.medium j.from j.slot j.to j.far_slot runs (none_yet d section.Channels runs refl time) (no_programs_yet d section.Channels runs refl time) (named_within d.names.boxes (slice_get words 1) j.from j.near) (named_within d.names.boxes (slice_get words 3) j.to j.far))
+    (joined_runs d j.medium j.from j.slot j.to j.far_slot runs (none_yet d section.Channels runs refl time) (no_programs_yet d section.Channels runs refl time) (named_within d.names.boxes (slice_get words 1) j.from j.near) (named_within d.names.boxes (slice_get words 3) j.to j.far)
+    (channel_news d words j.from j.to j.slot j.far_slot kept j.near j.far j.near_slot j.other_slot))
 
 -- what an `also` line adds to the last channel
 record Widens (d after : Declared) (words : List (List ℕ)) : Type 0 where
   medium : Medium
   slot : List ℕ
   far_slot : List ℕ
+  near_slot : slice_get words 1 ≡ Some slot
+  other_slot : slice_get words 2 ≡ Some far_slot
   is : after ≡ with_widened d medium (last_channel d.channels).from slot (last_channel d.channels).to far_slot
 
 also_widens : (d after : Declared) (words : List (List ℕ)) → also_after d words ≡ Some after → Widens d after words
@@ -298,7 +365,7 @@ also_widens d after words means = by (spelt_value spelt_medium (slice_get words 
     by (Some medium) a (Some slot) b None c = absurd (let none : None ≡ Some after = rw (a, b, c) at means in cc)
     by (Some medium) a (Some slot) b (Some far_slot) c =
         let some : Some (with_widened d medium (last_channel d.channels).from slot (last_channel d.channels).to far_slot) ≡ Some after = rw (a, b, c) at means in
-        record { medium = medium; slot = slot; far_slot = far_slot; is = cc }
+        record { medium = medium; slot = slot; far_slot = far_slot; near_slot = b; other_slot = c; is = cc }
 
 first_two_of_five : (a b c e f : Bool) → (a || b || c || e || f) ≡ false → (a ≡ false) × (b ≡ false)
 first_two_of_five a b c e f none = (grind arith, grind arith)
@@ -316,13 +383,14 @@ also_in_time d words kept =
 
 -- a tunnel more, and a slot of each of its boxes
 widened_runs : (d : Declared) (medium : Medium) (slot far_slot : List ℕ) → IsRunnable d → d.commands ≡ [] → d.blocks ≡ [] → 0 < length d.channels
-    → IsRunnable (with_widened d medium (last_channel d.channels).from slot (last_channel d.channels).to far_slot)
-widened_runs d medium slot far_slot runs none bare some =
+    → IsNew (slot_names d.names (last_channel d.channels).from) slot → IsNew (slot_names d.names (last_channel d.channels).to) far_slot → IsRunnable (with_widened d medium (last_channel d.channels).from slot (last_channel d.channels).to far_slot)
+widened_runs d medium slot far_slot runs none bare some new far_new =
     let last = last_channel d.channels in
     let now : RunsBare d = bare_runs d runs bare in
     let has : HasEnds (length d.boxes) (last_channel d.channels) = All-get_or (HasEnds (length d.boxes)) d.channels (length d.channels - 1) no_channel (omega arith) runs.joined in
     let near = has.near in
     let far = has.far in
+    let apart : IsApart (last_channel d.channels) = All-get_or IsApart d.channels (length d.channels - 1) no_channel (omega arith) runs.called.apart in
     let shaped = runs.shaped.count in
     let wider = with_widened d medium (last_channel d.channels).from slot (last_channel d.channels).to far_slot in
     let counted = runs.counted in
@@ -338,13 +406,38 @@ widened_runs d medium slot far_slot runs none bare some =
       last = inl none;
       of_lines = of_none wider.names wider.shape d.commands none;
       few = runs.few;
+      called = record {
+        have = slots_named_too d.names (last_channel d.channels).from slot (last_channel d.channels).to far_slot runs.named.listed (omega arith) (omega arith) apart runs.called.have new far_new;
+        apart = All-set IsApart d.channels (length d.channels - 1) (with_one_more (next_tunnel d.channels last medium) last) apart runs.called.apart;
+      };
     })
+
+-- the slots of an `also` line have new names
+also_news : (d : Declared) (words : List (List ℕ)) (slot far_slot : List ℕ) → least_broken (also_rules d words) ≡ None → slice_get words 1 ≡ Some slot → slice_get words 2 ≡ Some far_slot
+    → IsNew (slot_names d.names (last_channel d.channels).from) slot × IsNew (slot_names d.names (last_channel d.channels).to) far_slot
+also_news d words slot far_slot kept a b =
+    let ends = last_channel d.channels in
+    let near = is_misspelt (slice_get words 1) in
+    let far = is_misspelt (slice_get words 2) in
+    let given = has (slot_names d.names ends.from) (slice_get words 1) in
+    let far_given = has (slot_names d.names ends.to) (slice_get words 2) in
+    let long = is_overlong (slice_get words 1) in
+    let far_long = is_overlong (slice_get words 2) in
+    let spelt = last_of_five (is_late d section.Channels) (length d.channels == 0) (is_no spelt_medium (slice_get words 0)) near far
+    (kept_at (also_rules d words) 0 (WRONG_WORD, is_late d section.Channels || length d.channels == 0 || is_no spelt_medium (slice_get words 0) || near || far) kept refl) in
+    let news = or_parts given far_given (kept_at (also_rules d words) 3 (GIVEN_TWICE, given || far_given) kept refl) in
+    let shorts = or_parts long far_long (kept_at (also_rules d words) 5 (NAME_TOO_LONG, long || far_long) kept refl) in
+    (new_at (slot_names d.names ends.from) (slice_get words 1) slot a spelt.0 shorts.0 news.0, new_at (slot_names d.names ends.to) (slice_get words 2) far_slot b spelt.1 shorts.1 news.1)
+  where
+    last_of_five : (a b c e f : Bool) → (a || b || c || e || f) ≡ false → (e ≡ false) × (f ≡ false)
+    last_of_five a b c e f none = (grind arith, grind arith)
 
 also_runs : (d after : Declared) (words : List (List ℕ)) → IsRunnable d → least_broken (also_rules d words) ≡ None → also_after d words ≡ Some after → IsRunnable after
 also_runs d after words runs kept means =
     let w = also_widens d after words means in
     let time = also_in_time d words kept in
-    subst (λ (x : Declared). IsRunnable x) (sym w.is) (widened_runs d w.medium w.slot w.far_slot runs (none_yet d section.Channels runs refl time.0) (no_programs_yet d section.Channels runs refl time.0) time.1)
+    let new = also_news d words w.slot w.far_slot kept w.near_slot w.other_slot in
+    subst (λ (x : Declared). IsRunnable x) (sym w.is) (widened_runs d w.medium w.slot w.far_slot runs (none_yet d section.Channels runs refl time.0) (no_programs_yet d section.Channels runs refl time.0) time.1 new.0 new.1)
 
 -- ---- commands
 
@@ -377,6 +470,7 @@ command_runs d after kind words runs kept means =
       of_lines = All-push (IsOfLine d.names d.shape) d.commands m.0 runs.of_lines
           (record { kind = kind; words = words; kept = all_before (kind_rules d.names d.shape (Some kind) words) behind kept; means = m.1 });
       few = one_within d.commands m.0 (has_room d kind words kept);
+      called = runs.called;
     })
 
 -- `begin`
@@ -394,6 +488,7 @@ begin_runs d words runs kept =
       last = inr refl;
       of_lines = runs.of_lines;
       few = runs.few;
+      called = runs.called;
     }
 
 -- ---- programs
@@ -436,6 +531,7 @@ program_runs d after words runs kept means =
       last = inl none;
       of_lines = of_none d.names (programmed_shape d.shape m.0) d.commands none;
       few = runs.few;
+      called = runs.called;
     })
   where
     first_two_of_three : (a b c : Bool) → (a || b || c) ≡ false → (a ≡ false) × (b ≡ false)
@@ -445,8 +541,8 @@ program_runs d after words runs kept means =
     at_box test box who is kept = subst (λ (o : Option ℕ). test o ≡ false) is kept
 
 -- an open program becomes another of the same box, by a line in the section of programs
-block_runs : (d : Declared) (names : NameLists) (block after : BlockState) → IsRunnable d → open_block d ≡ Some block → TellsMore d.names names → FitsIn d.shape after → after.who ≡ block.who → IsRunnable (with_block (record d { names = names }) after)
-block_runs d names block after runs opened tells fits same =
+block_runs : (d : Declared) (names : NameLists) (block after : BlockState) → IsRunnable d → open_block d ≡ Some block → TellsMore d.names names → AreNames names.told → FitsIn d.shape after → after.who ≡ block.who → IsRunnable (with_block (record d { names = names }) after)
+block_runs d names block after runs opened tells told fits same =
     let is = open_is_last d.section d.blocks block opened in
     let whos : owners (slice_set d.blocks (length d.blocks - 1) after) ≡ owners d.blocks = same_owners d.blocks (length d.blocks - 1) block after is.1 same in
     let none : d.commands ≡ [] = by is.0 runs.last in
@@ -468,6 +564,14 @@ block_runs d names block after runs opened tells fits same =
       last = inl none;
       of_lines = of_none names d.shape d.commands none;
       few = runs.few;
+      called = record {
+        have = record {
+          of_boxes = subst AreNames (sym tells.boxes) runs.called.have.of_boxes;
+          of_slots = λ who below. subst (λ (slots : List (List (List ℕ))). AreNames (slice_index_or slots who [])) (sym tells.slots) (runs.called.have.of_slots who (subst (λ (boxes : List (List ℕ)). who < length boxes) tells.boxes below));
+          of_told = told;
+        };
+        apart = runs.called.apart;
+      };
     }
   where
     by : d.section ≡ section.Programs → (d.commands ≡ []) ⊎ (d.section ≡ section.Commands) → d.commands ≡ []
@@ -492,7 +596,7 @@ state_runs d after words runs kept means =
     let late = is_late d section.Programs in
     let own : least_broken (new_part_rules late (Some m.0) words) ≡ None = subst (λ (o : Option BlockState). least_broken (new_part_rules (is_late d section.Programs) o words) ≡ None) m.1 kept in
     let fits = new_parts_fit d.names d.shape late m.0 words runs.fits (known_open d m.0 runs m.1) (fits_open d m.0 runs m.1) own in
-    subst (λ (x : Declared). IsRunnable x) (sym m.2) (block_runs d d.names m.0 (with_new_part d.names m.0) runs m.1 (tells_none d.names) fits refl)
+    subst (λ (x : Declared). IsRunnable x) (sym m.2) (block_runs d d.names m.0 (with_new_part d.names m.0) runs m.1 (tells_none d.names) runs.called.have.of_told fits refl)
 
 goal_runs : (d after : Declared) (words : List (List ℕ)) → IsRunnable d → least_broken (in_block (λ block. block_goal_rules d.names block words) (open_block d)) ≡ None
     → option_and_then (λ block. option_map (with_block d) (block_goal_after d.names block words)) (open_block d) ≡ Some after → IsRunnable after
@@ -501,7 +605,7 @@ goal_runs d after words runs kept means =
     let made = mapped (with_block d) (block_goal_after d.names block.0 words) after block.2 in
     let own : least_broken (block_goal_rules d.names block.0 words) ≡ None = subst (λ (o : Option BlockState). least_broken (in_block (λ block. block_goal_rules d.names block words) o) ≡ None) block.1 kept in
     let fits = goal_lines_fit d.names d.shape block.0 made.0 words runs.fits (known_open d block.0 runs block.1) (fits_open d block.0 runs block.1) own made.1 in
-    subst (λ (x : Declared). IsRunnable x) (sym made.2) (block_runs d d.names block.0 made.0 runs block.1 (tells_none d.names) fits (goal_keeps_box d.names block.0 made.0 words made.1))
+    subst (λ (x : Declared). IsRunnable x) (sym made.2) (block_runs d d.names block.0 made.0 runs block.1 (tells_none d.names) runs.called.have.of_told fits (goal_keeps_box d.names block.0 made.0 words made.1))
 
 part_link_runs : (d after : Declared) (words : List (List ℕ)) → IsRunnable d → least_broken (program_link_rules d words) ≡ None → program_link_after d words ≡ Some after → IsRunnable after
 part_link_runs d after words runs kept means =
@@ -509,7 +613,7 @@ part_link_runs d after words runs kept means =
     let made = mapped (with_block d) (block_link_after d.names block.0 words) after block.2 in
     let own : least_broken (block_link_rules d.names d.shape block.0 words) ≡ None = subst (λ (o : Option BlockState). least_broken (in_block (λ block. block_link_rules d.names d.shape block words) o) ≡ None) block.1 kept in
     let fits = link_lines_fit d.names d.shape block.0 made.0 words runs.fits (known_open d block.0 runs block.1) (fits_open d block.0 runs block.1) own made.1 in
-    subst (λ (x : Declared). IsRunnable x) (sym made.2) (block_runs d d.names block.0 made.0 runs block.1 (tells_none d.names) fits (link_keeps_box d.names block.0 made.0 words made.1))
+    subst (λ (x : Declared). IsRunnable x) (sym made.2) (block_runs d d.names block.0 made.0 runs block.1 (tells_none d.names) runs.called.have.of_told fits (link_keeps_box d.names block.0 made.0 words made.1))
 
 when_runs : (d after : Declared) (words : List (List ℕ)) → IsRunnable d → least_broken (in_block (λ block. block_when_rules d.names block words) (open_block d)) ≡ None
     → option_and_then (λ block. when_after d block words) (open_block d) ≡ Some after → IsRunnable after
@@ -519,7 +623,7 @@ when_runs d after words runs kept means =
     let own : least_broken (block_when_rules d.names block.0 words) ≡ None = subst (λ (o : Option BlockState). least_broken (in_block (λ block. block_when_rules d.names block words) o) ≡ None) block.1 kept in
     let fits = when_lines_fit d.names d.shape block.0 made.0 words runs.fits (known_open d block.0 runs block.1) (fits_open d block.0 runs block.1) own made.1 in
     let told = when_names d.names block.0 made.0 words made.1 in
-    subst (λ (x : Declared). IsRunnable x) (sym made.2) (block_runs d made.0.0 block.0 made.0.1 runs block.1 told.0 fits told.1)
+    subst (λ (x : Declared). IsRunnable x) (sym made.2) (block_runs d made.0.0 block.0 made.0.1 runs block.1 told.0 (when_told d.names block.0 made.0 words runs.called.have.of_told own made.1) fits told.1)
 
 -- a line that a command's word opens: a part's line, or a command
 word_runs : (d after : Declared) (of_part : Bool) (kind : CommandWord) (words : List (List ℕ)) → IsRunnable d → least_broken (if of_part then program_link_rules d words else command_line_rules d kind words) ≡ None

@@ -3,6 +3,7 @@ use Rattle.std.specs.Prelude.{◌≡◌, ◌<◌, ℕ, List, [], ◌∷◌, None
 use Rattle.std.specs.List.{All}
 use Rattle.mc_signal.specs.Choice.{codecs_of}
 use Rattle.mc_text.specs.NameLists.{NameLists, slot_names}
+use Rattle.mc_box.specs.BoxShapes.{BoxShapeState}
 use Rattle.mc_model.specs.Worlds.{WorldState, box_at}
 use Rattle.mc_rule.specs.Programs.{IsProgram}
 use Rattle.mc_plan.specs.Layouts.{program_fault, with_program}
@@ -13,6 +14,7 @@ use Rattle.mc_box.specs.declared.event.Turn.{Turn}
 use Rattle.mc_script.specs.declared.command.Batch.{Batch}
 use Rattle.mc_script.specs.declared.command.Command.{Command}
 use Rattle.mc_script.specs.declared.command.Command.TheVariants.{Stimulus, Settle}
+use Rattle.mc_script.specs.Printed.{Allows, HaveNames, IsNamed}
 use Rattle.mc_lines.specs.BoxLines.{box_seen}
 use Rattle.mc_lines.specs.Rules.{shapes}
 use Rattle.mc_lines.specs.SoFar.{Declared}
@@ -84,3 +86,13 @@ pub record NamesAll (names : NameLists) (world : WorldState) : Type 0 where
   pub boxes : length names.boxes ≡ length world.boxes
   pub slots : (who : ℕ) → who < length world.boxes → length (slot_names names who) ≡ length (box_at world who).slots
   pub codecs : (who : ℕ) → All (λ codec. codec < length names.codecs) (codecs_of (box_at world who).receives)
+
+-- a turn that a command makes: its box, slots and word have names, and the shape of the box allows it
+abbrev pub IsSayable : NameLists → List BoxShapeState → Turn → Type 0
+IsSayable names shape turn = IsNamed names (Stimulus turn) × Allows shape (Stimulus turn)
+
+-- names are names, none of them twice; all of the world has them; and so has what each command is about, which shapes allow
+pub record IsWellNamed (net : Net) : Type 0 where
+  pub names : HaveNames net.names
+  pub world : NamesAll net.names net.world
+  pub commands : All (All (IsSayable net.names net.shape)) (map batch_turns net.batches.items)

@@ -1,11 +1,12 @@
--- Laws of texts: each says something or has a fault, and never both, nor two faults. The first bytes of a long text show its fault. A text says which boxes have programs.
+-- Laws of texts: each says something or has a fault, and never both, nor two faults. The first bytes of a long text show its fault. A text says which boxes have programs, and names all of its network.
 use Rattle.std.specs.Prelude.{ℕ, ◌≡◌, ◌⊎◌, List, take}
 use Rattle.mc_lines.specs.Rules.{read_limit}
 use Rattle.mc_lines.specs.SoFar.{Declared}
 use Rattle.mc_model.specs.Unprogrammed.{HasNoPrograms}
 use Rattle.mc_model.specs.Worlds.{WorldState}
-use Rattle.mc_net.specs.Nets.{IsFirstWorld, IsUnprogrammed}
+use Rattle.mc_net.specs.Nets.{DeclaresNet, IsFirstWorld, IsUnprogrammed, IsWellNamed}
 use Rattle.mc_net.specs.Texts.{IsFault, Says}
+use Rattle.mc_net.specs.declared.net.Net.{Net}
 
 -- a text that says something has no fault
 abbrev pub DeclaresOrFaults : Type 0
@@ -34,3 +35,7 @@ SaysTheWhole = (text : List ℕ) (d : Declared) → Says (first_bytes text) d �
 -- where no program was declared, no box of the first world has one
 abbrev pub UnprogrammedTexts : Type 0
 UnprogrammedTexts = (d : Declared) (world : WorldState) → IsFirstWorld d world → IsUnprogrammed d → HasNoPrograms world
+
+-- the network that a text declares is well named
+abbrev pub NetsAreNamed : Type 0
+NetsAreNamed = (text : List ℕ) (net : Net) → DeclaresNet text net → IsWellNamed net

@@ -1,6 +1,7 @@
 //! Laws of texts and of their first worlds, over the definitions alone: each function's contract is the law's sentence.
 
-ghost use Rattle.mc_net.specs.TextLaws.{DeclaresOrFaults, FaultsOfTheFirstBytes, OneFault, OneOrTheOther, SaysTheWhole, UnprogrammedTexts};
+ghost use Rattle.mc_net.specs.TextLaws.{DeclaresOrFaults, FaultsOfTheFirstBytes, NetsAreNamed, OneFault};
+ghost use Rattle.mc_net.specs.TextLaws.{OneOrTheOther, SaysTheWhole, UnprogrammedTexts};
 ghost use Rattle.mc_net.specs.Versions.{FirstVersions};
 
 /// A text that says something has no fault.
@@ -33,4 +34,10 @@ pub fn first_versions()
 /// In the first world of a text that declares no program, no box has one.
 pub fn unprogrammed_texts()
     ensures { UnprogrammedTexts }
+{}
+
+/// In the network of a text boxes, slots and told words have names, and no list has a name twice. All of its first world
+/// has a name, and so has what each command is about. The shapes of boxes allow all commands.
+pub fn nets_are_named()
+    ensures { NetsAreNamed }
 {}
