@@ -172,7 +172,7 @@ fn calls_and_what_they_print(rt: HostRuntime) -> Result<(), Fail> {
     Ok(())
 }
 
-const OTHER_WORDS: [&[&str]; 20] = [
+const OTHER_WORDS: [&[&str]; 22] = [
     &["fly"],
     &[],
     &["run", "x"],
@@ -182,7 +182,9 @@ const OTHER_WORDS: [&[&str]; 20] = [
     &["one", "-1"],
     &["one", ""],
     &["one", "1", "2"],
-    &["one", "--", "1"],
+    &["--journal"],
+    &["--journal", "run", "x"],
+    &["--", "--journal"],
     &["1", "one"],
     &["run", "run"],
     &["Run"],
@@ -190,7 +192,7 @@ const OTHER_WORDS: [&[&str]; 20] = [
     &["--", "--"],
     &["--", "--", "run"],
     &["--", "run", "x"],
-    &["run", "--"],
+    &["run", "--", "--journal"],
     &["--help"],
     &["--version"],
 ];
@@ -218,16 +220,32 @@ fn other_words_are_no_command(rt: HostRuntime) -> Result<(), Fail> {
     Ok(())
 }
 
-#[test]
-fn a_first_pair_of_dashes_says_nothing(rt: HostRuntime) -> Result<(), Fail> {
-    let alloc = rt.alloc();
+// A call with these words settles two phones that nobody told anything.
+fn is_settled<R: Threads + Sync + Abort>(
+    rt: &R,
+    alloc: Global,
+    words: &[&str],
+) -> Result<(), AllocError> {
     let mut bytes = Vec::from_slice(alloc, PHONES.as_bytes())?;
     bytes.extend_from_slice(b"settle\n")?;
     let mut source = MemSource::new(bytes, 64, Vec::new(alloc));
-    let words = ["--", "run"];
-    let (done, written) = call(&rt, alloc, &words, &mut source, 64, Vec::new(alloc))?;
-    is_equal(&rt, &done.status, &0);
-    is_equal(&rt, &written.as_slice(), &CLOSED.as_bytes());
+    let (done, written) = call(rt, alloc, words, &mut source, 64, Vec::new(alloc))?;
+    is_equal(rt, &done.status, &0);
+    is_equal(rt, &written.as_slice(), &CLOSED.as_bytes());
+    Ok(())
+}
+
+#[test]
+fn a_first_pair_of_dashes_says_nothing(rt: HostRuntime) -> Result<(), Fail> {
+    let table: [&[&str]; 4] = [
+        &["--", "run"],
+        &["run", "--"],
+        &["--", "one", "1"],
+        &["one", "--", "1"],
+    ];
+    for words in table {
+        is_settled(&rt, rt.alloc(), words)?;
+    }
     Ok(())
 }
 

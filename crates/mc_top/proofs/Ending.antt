@@ -1,15 +1,17 @@
 -- How a run ends.
-use Rattle.std.proofs.Common.{◌≡◌, ◌⊎◌, ℕ, List, [], map, inl, inr, refl, false, sym, subst, arith, None, Some}
+use Rattle.std.proofs.Common.{◌≡◌, ◌⊎◌, ◌∙◌, ℕ, Bool, true, false, List, [], map, inl, inr, refl, sym, subst, arith, None, Some}
 use Rattle.std.specs.declared.option.Option.{Option}
 use Rattle.std.specs.Io.KnownBytes.{Keeps}
 use Rattle.mc_top.specs.Journals.{HoldsAtSettles, IsJournal, IsJournalTo, IsStoppedJournal, ShowsCause}
 use Rattle.mc_top.specs.Drawn.{IsDrawnJournal}
-use Rattle.mc_top.specs.Modes.{draws_from, output_of}
+use Rattle.mc_top.specs.Modes.{draws_from, output_of, prints_journal}
 use Rattle.mc_model.specs.Sound.{IsSound}
+use Rattle.mc_model.specs.Worlds.{WorldState}
+use Rattle.mc_text.specs.NameLists.{NameLists}
 use Rattle.mc_net.specs.Nets.{DeclaresNet, batch_turns}
 use Rattle.mc_net.specs.Texts.{IsFault}
 use Rattle.mc_net.specs.declared.net.Net.{Net}
-use Rattle.mc_top.specs.Printed.{fault_line, journal_text, run_text, stop_line}
+use Rattle.mc_top.specs.Printed.{fault_line, run_text, stop_line}
 use Rattle.mc_top.specs.Statuses.{due_by, keeps_journal, stop_status}
 use Rattle.mc_top.specs.Top.{Delivers, Ends, StopsScript}
 use Rattle.mc_script.specs.declared.command.JournalLine.{JournalLine}
@@ -18,15 +20,20 @@ use Rattle.mc_top.specs.declared.stop.Stop.TheVariants.{Restless, Ring, VersionE
 use Rattle.mc_top.specs.declared.words.Mode.{Mode}
 use Rattle.mc_top.specs.declared.words.Mode.TheVariants.{One, Run}
 
--- what a mode prints is what the settles print
-printed_by : (mode : Mode) (net : Net) (journal : List JournalLine) → journal_text net.names 1 net.world journal ≡ output_of mode net journal
-printed_by Run net journal = refl
-printed_by (One state) net journal = refl
+-- what a mode prints is what its run prints
+printed_by : (mode : Mode) (net : Net) (journal : List JournalLine) → run_text (prints_journal mode) net.names net.world None journal ≡ output_of mode net journal
+printed_by (Run asked) net journal = refl
+printed_by (One state asked) net journal = refl
+
+-- behind the line of a stop stands no journal
+stopped_by : (asked : Bool) (stop : Stop) (names : NameLists) (world : WorldState) (journal : List JournalLine) → run_text asked names world (Some stop) journal ≡ stop_line names world stop
+stopped_by true stop names world journal = refl
+stopped_by false stop names world journal = refl
 
 -- the work was done, and what it printed was delivered
 ends_worked : (mode : Mode) (text : List ℕ) (net : Net) (old new : Option (List ℕ)) (status due : ℕ) (journal : List JournalLine) (output : List ℕ)
     → DeclaresNet text net → IsSound net.world → IsJournal net.world (map batch_turns net.batches.items) journal → IsDrawnJournal None (draws_from mode) net.world (map batch_turns net.batches.items) journal
-    → HoldsAtSettles net.world journal → output ≡ journal_text net.names 1 net.world journal → due ≡ 0 → Delivers status 0 old new output → Ends mode (Some text) old new status due journal
+    → HoldsAtSettles net.world journal → output ≡ run_text (prints_journal mode) net.names net.world None journal → due ≡ 0 → Delivers status 0 old new output → Ends mode (Some text) old new status due journal
 ends_worked mode text net old new status due journal output declared sound settled drawn holds is none delivered = record {
   worked = λ zero. record {
     net = net;
@@ -87,12 +94,12 @@ ends_at_stop mode text stop old new status due journal is stops =
 pub ends_ran : (stop : Option Stop) (mode : Mode) (text : List ℕ) (net : Net) (old new : Option (List ℕ)) (status due : ℕ) (journal : List JournalLine) (output : List ℕ)
     → DeclaresNet text net → IsSound net.world → IsJournalTo stop net.world (map batch_turns net.batches.items) journal → IsDrawnJournal stop (draws_from mode) net.world (map batch_turns net.batches.items) journal
     → HoldsAtSettles net.world journal → ShowsCause stop net.world (map batch_turns net.batches.items)
-    → output ≡ run_text net.names net.world stop journal → due ≡ due_by stop → Delivers status (due_by stop) old new output → Ends mode (Some text) old new status due journal
+    → output ≡ run_text (prints_journal mode) net.names net.world stop journal → due ≡ due_by stop → Delivers status (due_by stop) old new output → Ends mode (Some text) old new status due journal
 ends_ran None mode text net old new status due journal output declared sound ran drawn holds shows is due_is delivered =
     ends_worked mode text net old new status due journal output declared sound ran drawn holds is due_is delivered
 ends_ran (Some stop) mode text net old new status due journal output declared sound ran drawn holds shows is due_is delivered =
     ends_at_stop mode text stop old new status due journal due_is
-    (stops_script mode text net stop old new status due journal output declared sound ran drawn shows is due_is delivered)
+    (stops_script mode text net stop old new status due journal output declared sound ran drawn shows (is ∙ stopped_by (prints_journal mode) stop net.names net.world journal) due_is delivered)
 
 keeps_same : (old : Option (List ℕ)) → Keeps old old
 keeps_same None = tt

@@ -3,6 +3,7 @@ mod Ending
 mod FirstWorlds
 mod LastVersions
 mod LeftRings
+mod NamedJournals
 mod NamedRings
 mod OneJournal
 mod OneMode
@@ -15,3 +16,4 @@ mod Told
 mod ToldWords
 mod UsedUp
 mod Viewing
+mod WordsBefore

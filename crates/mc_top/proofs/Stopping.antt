@@ -21,7 +21,7 @@ use Rattle.mc_text.specs.NameLists.{NameLists, slot_names, slot_word}
 use Rattle.mc_top.specs.Drawn.{IsDrawnJournal}
 use Rattle.mc_top.specs.Journals.{IsJournalTo, IsStoppedJournal}
 use Rattle.mc_top.specs.Outcomes.{Stopping}
-use Rattle.mc_top.specs.Printed.{box_word, place_word, run_text, stop_line, stop_word}
+use Rattle.mc_top.specs.Printed.{box_word, place_word, script_text, stop_line, stop_word}
 use Rattle.mc_top.specs.Scripts.{ScriptState}
 use Rattle.mc_top.specs.declared.run.Run.{Run}
 use Rattle.mc_top.specs.declared.stop.Stop.{Stop}
@@ -139,7 +139,7 @@ stop_line_same names now start (Restless at) shape = refl
 pub record EndsAtStop (names : NameLists) (start : WorldState) (first : ℕ) (all : List (List Turn)) (run : Run) : Type 0 where
   pub ran : IsJournalTo run.stop start all run.journal.items
   pub drawn : IsDrawnJournal run.stop first start all run.journal.items
-  pub output : run.output.items ≡ run_text names start run.stop run.journal.items
+  pub output : run.output.items ≡ script_text names start run.stop run.journal.items
 
 stops_here : (names : NameLists) (start : WorldState) (first : ℕ) (all rest : List (List Turn)) (count : ℕ) (batch : List Turn) (now : ScriptState) (run : Run) → Stopping names batch now run
     → GoesOn names start first all (batch ∷ rest) count now → EndsAtStop names start first all run
@@ -153,7 +153,7 @@ stops_here names start first all rest count batch now run s on =
     record {
       ran = subst (λ (o : Option Stop). IsJournalTo o start all run.journal.items) (sym s.is) here;
       drawn = subst (λ (o : Option Stop). IsDrawnJournal o first start all run.journal.items) (sym s.is) drawn;
-      output = s.output ∙ (stop_line_same names now.world start s.stop on.shape ∙ ap (λ (o : Option Stop). run_text names start o run.journal.items) (sym s.is));
+      output = s.output ∙ (stop_line_same names now.world start s.stop on.shape ∙ ap (λ (o : Option Stop). script_text names start o run.journal.items) (sym s.is));
     }
 
 -- by the batch's place

@@ -1,5 +1,5 @@
 -- Runs of one text print the same, where goals decide all paths.
-use Rattle.std.proofs.Common.{◌≡◌, ◌+◌, ◌++◌, ℕ, List, [], ◌∷◌, Option, Some, map, refl, ap, sym, ◌∙◌, subst, append_assoc}
+use Rattle.std.proofs.Common.{◌≡◌, ◌+◌, ◌++◌, ℕ, true, false, List, [], ◌∷◌, Option, Some, map, refl, ap, sym, ◌∙◌, subst, append_assoc}
 use Rattle.mc_box.specs.declared.event.Turn.{Turn}
 use Rattle.mc_laws.proofs.NoPrograms.{still_none}
 use Rattle.mc_laws.proofs.ShapesKept.{run_keeps_shape}
@@ -17,7 +17,7 @@ use Rattle.mc_script.specs.declared.command.JournalLine.{JournalLine}
 use Rattle.mc_script.specs.declared.command.JournalLine.TheVariants.{Turn as Made, Settled}
 use Rattle.mc_text.specs.NameLists.{NameLists}
 use Rattle.mc_top.specs.Journals.{IsJournal, lines_for}
-use Rattle.mc_top.specs.Modes.{output_of}
+use Rattle.mc_top.specs.Modes.{output_of, prints_journal}
 use Rattle.mc_top.specs.Printed.{journal_text, settle_text}
 use Rattle.mc_top.specs.TextAlone.{CallsPrintSame, SettlesText, TextAloneDecides}
 use Rattle.mc_top.specs.Top.{Worked}
@@ -54,24 +54,25 @@ journals_same (batch ∷ batches) names number world other first second sound ot
 
 -- ---- texts
 
--- each mode prints the settles of the journal
-output_is : (mode : Mode) (net : Net) (journal : List JournalLine) → output_of mode net journal ≡ journal_text net.names 1 net.world journal
-output_is Run net journal = refl
-output_is (One state) net journal = refl
+-- a mode that prints no journal prints the settles alone
+output_is : (mode : Mode) (net : Net) (journal : List JournalLine) → prints_journal mode ≡ false → output_of mode net journal ≡ journal_text net.names 1 net.world journal
+output_is (Run true) net journal none = absurd cc
+output_is (Run false) net journal none = refl
+output_is (One state true) net journal none = absurd cc
+output_is (One state false) net journal none = refl
 
 pub text_alone_decides : TextAloneDecides
-text_alone_decides text net other first second mode instead one two unprogrammed decided =
+text_alone_decides text net other first second one two unprogrammed decided =
     let same : two.declares.declared ≡ one.declares.declared = two.declares.says.declared ∙ sym one.declares.says.declared in
     let names : net.names ≡ other.names = one.declares.names ∙ (sym (ap (λ (d : Declared). d.names) same) ∙ sym two.declares.names) in
     let batches : map batch_turns other.batches.items ≡ map batch_turns net.batches.items =
     two.declares.batches ∙ (ap (λ (d : Declared). batches_of d.commands) same ∙ sym one.declares.batches) in
     let first_other : IsFirstWorld one.declares.declared other.world = subst (λ (d : Declared). IsFirstWorld d other.world) same two.declares.world in
     let seen : AreSeenAlike net.world other.world = first_worlds_seen one.declares.declared net.world other.world one.declares.world first_other in
-    output_is mode net first
-    ∙ (journals_same (map batch_turns net.batches.items) net.names 1 net.world other.world first second one.sound two.sound
+    journals_same (map batch_turns net.batches.items) net.names 1 net.world other.world first second one.sound two.sound
     unprogrammed (first_unprogrammed one.declares.declared net.world other.world one.declares.world first_other unprogrammed) seen decided one.settles
     (subst (λ (list : List (List Turn)). IsJournal other.world list second) batches two.settles)
-    ∙ (ap (λ (n : NameLists). journal_text n 1 other.world second) names ∙ sym (output_is instead other second)))
+    ∙ ap (λ (n : NameLists). journal_text n 1 other.world second) names
 
 -- a mode that did its work settled the text
 settles_text : (text : List ℕ) (mode : Mode) (old new : Option (List ℕ)) (status : ℕ) (journal : List JournalLine) → (worked : Worked mode (Some text) old new status journal)
@@ -79,5 +80,7 @@ settles_text : (text : List ℕ) (mode : Mode) (old new : Option (List ℕ)) (st
 settles_text text mode old new status journal worked = record { declares = worked.declared; sound = worked.settles.sound; settles = worked.settles.settled }
 
 pub calls_print_same : CallsPrintSame
-calls_print_same text first second mode instead old new from to status end one two unprogrammed decided =
-    text_alone_decides text one.net two.net first second mode instead (settles_text text mode old new status first one) (settles_text text instead from to end second two) unprogrammed decided
+calls_print_same text first second mode instead old new from to status end plain other one two unprogrammed decided =
+    output_is mode one.net first plain
+    ∙ (text_alone_decides text one.net two.net first second (settles_text text mode old new status first one) (settles_text text instead from to end second two) unprogrammed decided
+    ∙ sym (output_is instead two.net second other))

@@ -64,8 +64,8 @@ ends_told mode told old new text status due journal read ends = record {
 }
 
 can_run : (mode : Mode) (text : List ℕ) → IsWorkable mode text → CanRun text
-can_run Run text works = works
-can_run (One state) text works = works
+can_run (Run asked) text works = works
+can_run (One state asked) text works = works
 
 fault_says : (told : Option (List ℕ)) (text : List ℕ) (d : Declared) (number line : ℕ) → ToldFault told number line → told ≡ Some text → Says text d → ⊥
 fault_says None text d number line fault is says = cc

@@ -1,5 +1,5 @@
 -- What is printed at the settles of a journal, and for a faulty text.
-use Rattle.std.specs.Prelude.{ℕ, ◌+◌, List, [], ◌∷◌, ◌++◌, codes, slice_index_or, Option, Some, None}
+use Rattle.std.specs.Prelude.{ℕ, ◌+◌, Bool, true, List, [], ◌∷◌, ◌++◌, codes, slice_index_or, Option, Some, None}
 use Rattle.std.specs.Fmt.{decimal}
 use Rattle.std.specs.List.{flat_map}
 use Rattle.mc_slot.specs.declared.State.{State}
@@ -9,6 +9,7 @@ use Rattle.mc_model.specs.Paths.{PathEnds, paths, end_goal}
 use Rattle.mc_model.specs.Worlds.{WorldState, tunnel_of, place}
 use Rattle.mc_text.specs.NameLists.{NameLists, slot_word}
 use Rattle.mc_script.specs.Meaning.{goal_word}
+use Rattle.mc_journal.specs.Printed.{print_journal}
 use Rattle.mc_table.specs.Words.{codec_word, line_of, medium_word}
 use Rattle.mc_top.specs.Journals.{next_world}
 use Rattle.mc_script.specs.declared.command.JournalLine.{JournalLine}
@@ -84,9 +85,24 @@ abbrev pub stop_line : NameLists → WorldState → Stop → List ℕ
 stop_line names world stop = line_of (stop_word stop ∷ stop_place names world stop ∷ [])
 
 -- what is printed for a journal from a world: its settles, or for a stop that line alone
-abbrev pub run_text : NameLists → WorldState → Option Stop → List JournalLine → List ℕ
-run_text names world None journal = journal_text names 1 world journal
-run_text names world (Some stop) journal = stop_line names world stop
+abbrev pub script_text : NameLists → WorldState → Option Stop → List JournalLine → List ℕ
+script_text names world None journal = journal_text names 1 world journal
+script_text names world (Some stop) journal = stop_line names world stop
+
+-- ---- the journal itself
+
+-- the line `journal`, and each line of the journal
+abbrev pub journal_part : NameLists → List JournalLine → List ℕ
+journal_part names journal = line_of (codes "journal" ∷ []) ++ print_journal names journal
+
+-- behind what was printed, where it is asked for and the script came to its end
+abbrev pub with_journal : (asked : Bool) → Option Stop → NameLists → List JournalLine → List ℕ → List ℕ
+with_journal true None names journal text = text ++ journal_part names journal
+with_journal asked stop names journal text = text
+
+-- all that is printed for a script
+abbrev pub run_text : (asked : Bool) → NameLists → WorldState → Option Stop → List JournalLine → List ℕ
+run_text asked names world stop journal = with_journal asked stop names journal (script_text names world stop journal)
 
 -- ---- a faulty text
 

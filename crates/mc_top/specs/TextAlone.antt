@@ -1,5 +1,5 @@
 -- Where the text alone decides what is printed.
-use Rattle.std.specs.Prelude.{◌≡◌, ℕ, List, map, Option, Some}
+use Rattle.std.specs.Prelude.{◌≡◌, ℕ, List, map, IsFalse, Option, Some}
 use Rattle.mc_model.specs.Sound.{IsSound}
 use Rattle.mc_model.specs.Unprogrammed.{HasNoPrograms}
 use Rattle.mc_net.specs.Nets.{DeclaresNet, batch_turns}
@@ -7,7 +7,8 @@ use Rattle.mc_net.specs.declared.net.Net.{Net}
 use Rattle.mc_settings.specs.Batches.{LeavesDecided}
 use Rattle.mc_script.specs.declared.command.JournalLine.{JournalLine}
 use Rattle.mc_top.specs.Journals.{IsJournal}
-use Rattle.mc_top.specs.Modes.{output_of}
+use Rattle.mc_top.specs.Modes.{output_of, prints_journal}
+use Rattle.mc_top.specs.Printed.{journal_text}
 use Rattle.mc_top.specs.Top.{Worked}
 use Rattle.mc_top.specs.declared.words.Mode.{Mode}
 
@@ -17,13 +18,14 @@ pub record SettlesText (text : List ℕ) (net : Net) (journal : List JournalLine
   pub sound : IsSound net.world
   pub settles : IsJournal net.world (map batch_turns net.batches.items) journal
 
--- two runs of one text, in whichever modes, print the same, if no box has a program and no batch leaves a path of hold against hold
+-- two runs of one text print the same settles, if no box has a program and no batch leaves a path of hold against hold
 abbrev pub TextAloneDecides : Type 0
-TextAloneDecides = (text : List ℕ) (net other : Net) (first second : List JournalLine) (mode instead : Mode) → SettlesText text net first → SettlesText text other second
-    → HasNoPrograms net.world → LeavesDecided net.world (map batch_turns net.batches.items) → output_of mode net first ≡ output_of instead other second
+TextAloneDecides = (text : List ℕ) (net other : Net) (first second : List JournalLine) → SettlesText text net first → SettlesText text other second
+    → HasNoPrograms net.world → LeavesDecided net.world (map batch_turns net.batches.items) → journal_text net.names 1 net.world first ≡ journal_text other.names 1 other.world second
 
--- so two calls that did their work on one text print the same, under the same premises
+-- so two calls that did their work on one text, in whichever modes, print the same, under the same premises, where neither prints its journal
 abbrev pub CallsPrintSame : Type 0
 CallsPrintSame = (text : List ℕ) (first second : List JournalLine) (mode instead : Mode) (old new from to : Option (List ℕ)) (status end : ℕ)
+    → IsFalse (prints_journal mode) → IsFalse (prints_journal instead)
     → (one : Worked mode (Some text) old new status first) (two : Worked instead (Some text) from to end second)
     → HasNoPrograms one.net.world → LeavesDecided one.net.world (map batch_turns one.net.batches.items) → output_of mode one.net first ≡ output_of instead two.net second

@@ -1,6 +1,7 @@
 //! Laws of journals, over the definitions alone.
 
 ghost use Rattle.mc_top.specs.Drawn.{DrawnJournalIsOne};
+ghost use Rattle.mc_top.specs.JournalLaws.{RunsAreReadBack};
 ghost use Rattle.mc_top.specs.TextAlone.{CallsPrintSame, TextAloneDecides};
 ghost use Rattle.mc_top.specs.Words.{FirstWorldsAwaitWords};
 
@@ -13,14 +14,14 @@ pub fn drawn_journal_is_one()
     schedule_is_one();
 }
 
-/// Two runs of one text that settle all its batches print the same, however their boxes take turns and in whichever
-/// modes, if no box has a program and no batch leaves a path of hold against hold: then the text alone decides what is
-/// printed.
+/// Two runs of one text that settle all its batches print the same settles, however their boxes take turns, if no box
+/// has a program and no batch leaves a path of hold against hold: then the text alone decides what is printed.
 pub fn text_alone_decides()
     ensures { TextAloneDecides }
 {}
 
-/// So two calls that did their work on one text have the same to print, under the same premises.
+/// So two calls that did their work on one text have the same to print, in whichever modes and under the same premises,
+/// where neither prints its journal.
 pub fn calls_print_same()
     ensures { CallsPrintSame }
 {}
@@ -29,4 +30,9 @@ pub fn calls_print_same()
 /// that go by words.
 pub fn first_worlds_await_words()
     ensures { FirstWorldsAwaitWords }
+{}
+
+/// The journal that a run of a text prints is read again, line by line.
+pub fn runs_are_read_back()
+    ensures { RunsAreReadBack }
 {}

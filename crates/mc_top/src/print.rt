@@ -1,14 +1,32 @@
-// What is printed for a script that stopped, and for a faulty text.
-ghost use Rattle.std.specs.Prelude.{◌≡◌, ◌<◌, ◌∷◌, [], IfOk, codes, length};
+// What is printed for a journal, for a script that stopped, and for a faulty text.
+ghost use Rattle.std.specs.Prelude.{◌≡◌, ◌<◌, ◌++◌, ◌∷◌, [], All, IfOk, OnOk, codes, length};
+ghost use Rattle.mc_journal.specs.Printed.{IsNamedLine};
 ghost use Rattle.mc_table.specs.Words.{line_of};
 ghost use Rattle.mc_text.specs.NameLists.{slot_names, slot_word};
-ghost use Rattle.mc_top.specs.Printed.{box_word, fault_line, stop_word};
+ghost use Rattle.mc_top.specs.Printed.{box_word, fault_line, journal_part, stop_word};
 
 use crate::stop::Stop;
+use mc_journal::print_journal;
 use mc_net::TextFault;
+use mc_script::JournalLine;
 use mc_table::put_line;
 use mc_text::Names;
 use std::alloc::{AllocError, Global};
+
+/// Appends the line `journal` and the lines of a journal.
+pub fn put_journal(
+    alloc: Global,
+    names: &Names,
+    journal: &[JournalLine],
+    out: &mut Vec<u8>,
+) -> Result<(), AllocError>
+    requires { All (IsNamedLine names.now) journal.now }
+    ensures { OnOk result (out.new.items ≡ out.old.items ++ journal_part names.now journal.now) }
+{
+    let text = print_journal(alloc, names, journal)?;
+    put_line(b"journal", &[], out)?;
+    out.extend_from_slice(&text)
+}
 
 /// The line that is printed for a script that stopped at a slot, by the slot's place.
 pub fn print_stop(

@@ -1,5 +1,6 @@
 // A script, settle by settle.
-ghost use Rattle.std.specs.Prelude.{◌≡◌, ◌++◌, ◌∷◌, ◌<◌, ◌≤◌, [], codes, length, map, Some, IfOk, OnOk};
+ghost use Rattle.std.specs.Prelude.{◌≡◌, ◌++◌, ◌∷◌, ◌<◌, ◌≤◌, [], All, codes, length, map, None, Some, IfOk, OnOk};
+ghost use Rattle.mc_journal.specs.Printed.{IsNamedLine};
 ghost use Rattle.mc_model.specs.Shapes.{AreAllAllowed, AreAllowed};
 ghost use Rattle.mc_net.specs.Nets.{NamesAll, batch_turns};
 ghost use Rattle.mc_lines.specs.declared.limit.TheConstants.{COMMAND_LIMIT};
@@ -9,11 +10,11 @@ ghost use Rattle.mc_text.specs.NameLists.{slot_names, slot_word};
 ghost use Rattle.mc_top.specs.Drawn.{IsDrawnJournal};
 ghost use Rattle.mc_top.specs.Journals.{HoldsAtSettles, IsJournalTo, ShowsCause, lines_for};
 ghost use Rattle.mc_top.specs.Outcomes.{CameOf};
-ghost use Rattle.mc_top.specs.Printed.{box_word, run_text, stop_word};
+ghost use Rattle.mc_top.specs.Printed.{box_word, script_text, stop_word, with_journal};
 ghost use Rattle.mc_top.specs.Scripts.{first_state};
 ghost use Rattle.mc_top.specs.declared.stop.Stop.TheVariants.{Restless};
 
-use crate::print::{print_restless, print_stop};
+use crate::print::{print_restless, print_stop, put_journal};
 use crate::stop::Stop;
 use mc_box::Turn;
 use mc_path::paths;
@@ -220,7 +221,7 @@ pub fn run_script(
         IsDrawnJournal run.stop draws.state world (map batch_turns batches.now) run.journal.items) }
     ensures holds { IfOk result (λ run. HoldsAtSettles world run.journal.items) }
     ensures shows { IfOk result (λ run. ShowsCause run.stop world (map batch_turns batches.now)) }
-    ensures output { IfOk result (λ run. run.output.items ≡ run_text names.now world run.stop run.journal.items) }
+    ensures output { IfOk result (λ run. run.output.items ≡ script_text names.now world run.stop run.journal.items) }
 {
     world.keeps();
     let mut progress = Progress::new(alloc, world, draws);
@@ -236,5 +237,29 @@ pub fn run_script(
         output: progress.output,
         journal: progress.journal,
         stop: None,
+    })
+}
+
+/// Behind what a script printed its journal, where it is asked for and the script came to its end.
+pub fn with_journal(alloc: Global, asked: bool, names: &Names, run: Run) -> Result<Run, AllocError>
+    requires { run.stop ≡ None → All (IsNamedLine names.now) run.journal.items }
+    ensures journal { IfOk result (λ whole. whole.journal ≡ run.journal) }
+    ensures stop { IfOk result (λ whole. whole.stop ≡ run.stop) }
+    ensures output { IfOk result (λ whole. whole.output.items
+        ≡ with_journal asked run.stop names.now run.journal.items run.output.items) }
+{
+    if !asked || run.stop.is_some() {
+        return Ok(run);
+    }
+    let Run {
+        mut output,
+        journal,
+        stop,
+    } = run;
+    put_journal(alloc, names, &journal, &mut output)?;
+    Ok(Run {
+        output,
+        journal,
+        stop,
     })
 }

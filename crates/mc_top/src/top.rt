@@ -13,7 +13,7 @@ ghost use Rattle.mc_top.specs.Top.{Delivers, EndsAs, HasReadWhole, IsTextOf, Pri
 ghost use Rattle.mc_top.specs.declared.words.Mode.{Mode};
 
 use crate::print::print_fault;
-use crate::run::{Run, run_script};
+use crate::run::{Run, run_script, with_journal};
 use crate::status::{FAULTY_TEXT, NO_MEMORY, READ_FAULT, USAGE, WORKED, WRITE_FAULT};
 use crate::stop::due_by;
 use crate::words::{Mode, read_mode};
@@ -44,7 +44,7 @@ fn text_of<S: Source>(alloc: Global, mode: Mode, source: &mut S) -> Result<Vec<u
     ensures faults { S.faults source.new ≡ faults_after (S.faults source.old) (is_failed_read result) }
 {
     match mode {
-        Mode::Run | Mode::One(_) => read_up_to(alloc, source, TEXT_LIMIT),
+        Mode::Run { .. } | Mode::One { .. } => read_up_to(alloc, source, TEXT_LIMIT),
     }
 }
 
@@ -117,12 +117,12 @@ fn draws_of(mode: Mode) -> Draws
     ensures { result.state ≡ draws_from mode }
 {
     match mode {
-        Mode::Run => Draws { state: 0 },
-        Mode::One(state) => Draws { state },
+        Mode::Run { .. } => Draws { state: 0 },
+        Mode::One { state, .. } => Draws { state },
     }
 }
 
-// Runs the script of a network.
+// Runs the script of a network, and prints its journal where the mode asks for it.
 fn run_net<K: Sink>(alloc: Global, mode: Mode, text: &[u8], net: Net, sink: &mut K) -> Done
     requires declares { DeclaresNet text.now net }
     requires named { NamesAll net.names net.world }
@@ -141,7 +141,10 @@ fn run_net<K: Sink>(alloc: Global, mode: Mode, text: &[u8], net: Net, sink: &mut
     } = net;
     world.keeps();
     let draws = draws_of(mode);
-    match run_script(alloc, &names, world, draws, &batches) {
+    let Ok(run) = run_script(alloc, &names, world, draws, &batches) else {
+        return give_up(alloc, NO_MEMORY);
+    };
+    match with_journal(alloc, mode.prints_journal(), &names, run) {
         Ok(run) => deliver_run(sink, run),
         Err(_) => give_up(alloc, NO_MEMORY),
     }
