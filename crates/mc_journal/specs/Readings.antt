@@ -1,5 +1,5 @@
 -- What the lines of a journal's text say.
-use Rattle.std.specs.Prelude.{ℕ, ◌==◌, Bool, true, false, List, [], ◌∷◌, Option, Some, None, codes, drop, map, if◌then◌else◌}
+use Rattle.std.specs.Prelude.{ℕ, Bool, true, false, List, [], ◌∷◌, Option, Some, None, codes, drop, map, if◌then◌else◌}
 use Rattle.std.specs.List.{before_first, flat_map, list_any, slice_get}
 use Rattle.std.specs.Option.{is_some, option_and_then, option_map}
 use Rattle.std.specs.Str.{bytes_eq}
@@ -10,7 +10,7 @@ use Rattle.mc_box.specs.declared.event.Event.TheVariants.{Take, Retry, Shift}
 use Rattle.mc_box.specs.declared.event.Turn.{Turn}
 use Rattle.mc_script.specs.Meaning.{command_by}
 use Rattle.mc_script.specs.Places.{box_named, slot_named}
-use Rattle.mc_script.specs.Rules.{byte_rules, command_word, kind_rules, least_broken}
+use Rattle.mc_script.specs.Rules.{begins_hash, byte_rules, command_word, kind_rules, least_broken}
 use Rattle.mc_script.specs.declared.command.Command.{Command}
 use Rattle.mc_script.specs.declared.command.Command.TheVariants.{Stimulus, Settle}
 use Rattle.mc_script.specs.declared.command.JournalLine.{JournalLine}
@@ -85,11 +85,6 @@ opened_reading names shape first others =
     if bytes_eq first (codes "turn") then turn_reading (turn_said names shape others)
     else (if bytes_eq first (codes "settle") then settle_reading others
     else Bad)
-
--- a word that begins with #
-abbrev pub begins_hash : List ℕ → Bool
-begins_hash [] = false
-begins_hash (first ∷ others) = first == 35
 
 -- a blank line has no first word, and that of a comment begins with #
 abbrev pub first_reading : NameLists → List BoxShapeState → Option (List ℕ) → List (List ℕ) → LineReading

@@ -2,12 +2,12 @@
 
 ghost use Rattle.std.specs.Prelude.{◌≡◌};
 ghost use Rattle.mc_script.specs.Places.{Fits};
-ghost use Rattle.mc_journal.specs.Readings.{begins_hash, is_bad, settle_reading, turn_reading};
+ghost use Rattle.mc_journal.specs.Readings.{is_bad, settle_reading, turn_reading};
 ghost use Rattle.mc_journal.specs.Readings.{line_reading, opened_reading, words_reading};
 
 use crate::turn::turn_said;
 use mc_box::{Shape, Turn};
-use mc_script::{JournalLine, check_bytes};
+use mc_script::{JournalLine, begins_hash, check_bytes};
 use mc_text::{Names, Words};
 
 /// What a line of a journal's text says.
@@ -89,14 +89,5 @@ fn settle_reading<'a>(mut words: Words<'a>) -> LineReading
     match words.next_word() {
         None => LineReading::Line(JournalLine::Settled),
         Some(_) => LineReading::Bad,
-    }
-}
-
-fn begins_hash(word: &[u8]) -> bool
-    ensures { result ≡ begins_hash word.now }
-{
-    match word {
-        [] => false,
-        [first, ..] => *first == b'#',
     }
 }

@@ -1,5 +1,5 @@
 -- The rules on a command's line, by their numbers: where a line of each kind breaks them. The words are those behind the first.
-use Rattle.std.specs.Prelude.{ℕ, ◌&&◌, ◌||◌, not, Bool, true, false, List, [], ◌∷◌, Option, Some, None, codes, drop, find, if◌then◌else◌, length, nat_le, nat_lt}
+use Rattle.std.specs.Prelude.{ℕ, ◌==◌, ◌&&◌, ◌||◌, not, Bool, true, false, List, [], ◌∷◌, Option, Some, None, codes, drop, find, if◌then◌else◌, length, nat_le, nat_lt}
 use Rattle.std.specs.List.{list_any, slice_get}
 use Rattle.std.specs.Option.{is_none, is_some, option_and_then, option_map}
 use Rattle.std.specs.Str.{bytes_eq}
@@ -130,6 +130,11 @@ abbrev pub command_rules : NameLists → List BoxShapeState → List (List ℕ) 
 command_rules names shape words = kind_rules names shape (option_and_then command_word (slice_get words 0)) (drop 1 words)
 
 -- ---- any line
+
+-- a word that begins with #
+abbrev pub begins_hash : List ℕ → Bool
+begins_hash [] = false
+begins_hash (first ∷ others) = first == 35
 
 -- 0x20 to 0x7E
 abbrev pub is_plain : ℕ → Bool

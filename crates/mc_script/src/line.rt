@@ -4,7 +4,7 @@ ghost use Rattle.std.specs.Prelude.{◌≡◌, Some, not};
 ghost use Rattle.std.specs.List.{list_any};
 ghost use Rattle.mc_text.specs.Lines.{words};
 ghost use Rattle.mc_script.specs.Places.{Fits};
-ghost use Rattle.mc_script.specs.Rules.{is_plain, byte_rules, kind_rules, least_broken};
+ghost use Rattle.mc_script.specs.Rules.{begins_hash, is_plain, byte_rules, kind_rules, least_broken};
 ghost use Rattle.mc_script.specs.Meaning.{command_of, command_fault, ReadsAs, ReadsCommand};
 
 use crate::command::{Command, LineFault};
@@ -75,6 +75,16 @@ pub fn check_bytes(line: &[u8]) -> Result<(), LineFault>
         });
     }
     Ok(())
+}
+
+/// Whether a word begins with #. As the first of a line it makes the line a comment.
+pub fn begins_hash(word: &[u8]) -> bool
+    ensures { result ≡ begins_hash word.now }
+{
+    match word {
+        [] => false,
+        [first, ..] => *first == b'#',
+    }
 }
 
 fn has_strange_byte(line: &[u8]) -> bool
