@@ -4,7 +4,7 @@ use Rattle.mc_text.specs.Lines.{words}
 use Rattle.mc_script.specs.Rules.{byte_rules, kind_rules, least_broken}
 use Rattle.mc_script.specs.declared.keyword.CommandWord.{CommandWord}
 use Rattle.mc_script.specs.declared.rule.TheConstants.{LIMIT_PASSED, UNFINISHED}
-use Rattle.mc_lines.specs.Rules.{command_line_rules, entry_fault, is_skipped, is_unfinished, line_fault, line_words_rules, passes_limit}
+use Rattle.mc_lines.specs.Rules.{command_line_rules, entry_fault, is_skipped, is_unfinished, line_fault, line_words_rules, passes_limit, text_limit}
 use Rattle.mc_lines.specs.SoFar.{Declared}
 use Rattle.mc_program.proofs.KeptRules.{first_kept, others_kept}
 use Rattle.mc_lines.specs.declared.limit.TheConstants.{COMMAND_LIMIT}
@@ -68,5 +68,5 @@ has_room d kind words kept =
     first_kept LIMIT_PASSED (nat_le COMMAND_LIMIT (length d.commands)) ((UNFINISHED, is_unfinished d) ∷ []) (all_behind (kind_rules d.names d.shape (Some kind) words) behind kept)
 
 -- a line that doesn't pass the limit, and whose bytes break no rule, breaks those of its words
-pub of_words : (total before : ℕ) (d : Declared) (line : List ℕ) → passes_limit total before line ≡ false → least_broken (byte_rules line) ≡ None → line_fault total before d line ≡ entry_fault d (words line)
+pub of_words : (total before : ℕ) (d : Declared) (line : List ℕ) → passes_limit (text_limit d.tail) total before line ≡ false → least_broken (byte_rules line) ≡ None → line_fault total before d line ≡ entry_fault d (words line)
 of_words total before d line short plain = rw short (of_the_others (byte_rules line) (line_words_rules (is_skipped (words line)) d (words line)) plain)

@@ -6,3 +6,4 @@ pub mod Fitting
 pub mod Joining
 pub mod Missing
 pub mod Sends
+pub mod Tails

@@ -11,7 +11,7 @@ use Rattle.mc_text.specs.Spelling.{is_digit, number_of}
 use Rattle.mc_text.specs.declared.limit.TheConstants.{BOX_LIMIT, CODEC_LIMIT, SLOT_LIMIT}
 use Rattle.mc_box.specs.BoxShapes.{BoxShapeState}
 use Rattle.mc_script.specs.Places.{are_same, box_named, has, is_misspelt, is_no, is_overlong, lacks}
-use Rattle.mc_script.specs.Rules.{byte_rules, command_word, is_no_device, kind_rules, least_broken}
+use Rattle.mc_script.specs.Rules.{begins_hash, byte_rules, command_word, is_no_device, kind_rules, least_broken}
 use Rattle.mc_script.specs.declared.keyword.CommandWord.{CommandWord}
 use Rattle.mc_script.specs.declared.keyword.CommandWord.TheVariants as command
 use Rattle.mc_script.specs.declared.rule.TheConstants.{EXTRA_WORD, GIVEN_TWICE, LIMIT_PASSED, MISSING_WORD, NAME_TOO_LONG, NO_BEGIN, NO_VERSION_LINE, SAME_BOX, TEXT_TOO_LONG, UNDECLARED, UNFINISHED, WRONG_VERSION, WRONG_WORD}
@@ -22,16 +22,39 @@ use Rattle.mc_lines.specs.declared.section.Keyword.{Keyword}
 use Rattle.mc_lines.specs.declared.section.Keyword.TheVariants as keyword
 use Rattle.mc_lines.specs.declared.section.Section.{Section}
 use Rattle.mc_lines.specs.declared.section.Section.TheVariants as section
+use Rattle.mc_lines.specs.declared.tail.Tail.{Tail}
+use Rattle.mc_lines.specs.declared.tail.Tail.TheVariants.{Nothing, Journal}
 use Rattle.mc_plan.specs.Plans.{last_channel}
 use Rattle.mc_plan.specs.declared.limit.TheConstants.{CHANNEL_LIMIT}
 use Rattle.mc_model.specs.declared.channel.TheConstants.{TUNNEL_LIMIT}
-use Rattle.mc_lines.specs.declared.limit.TheConstants.{COMMAND_LIMIT, LIST_LIMIT, TEXT_LIMIT}
+use Rattle.mc_lines.specs.declared.limit.TheConstants.{COMMAND_LIMIT, JOURNAL_TEXT_LIMIT, LIST_LIMIT, TEXT_LIMIT}
 
 -- ---- limits
 
--- how many bytes of a text are read at most: one more than its limit
-abbrev pub read_limit : ℕ
-read_limit = TEXT_LIMIT + 1
+-- the most bytes of a text, with what stands behind its commands
+abbrev pub text_limit : Tail → ℕ
+text_limit Nothing = TEXT_LIMIT
+text_limit Journal = JOURNAL_TEXT_LIMIT
+
+-- how many bytes are read at most: one more than the limit
+abbrev pub read_limit : Tail → ℕ
+read_limit tail = text_limit tail + 1
+
+-- ---- the end of the commands
+
+-- a journal may stand behind the commands
+abbrev pub has_journal : Tail → Bool
+has_journal Nothing = false
+has_journal Journal = true
+
+-- `journal`, the only word
+abbrev pub is_journal : List (List ℕ) → Bool
+is_journal (first ∷ []) = bytes_eq first (codes "journal")
+is_journal words = false
+
+-- the line ends the commands of a text: its only word is `journal`, and a journal may stand behind it
+abbrev pub ends_commands : Tail → List ℕ → Bool
+ends_commands tail line = has_journal tail && is_journal (words line)
 
 -- ---- sections and first words
 
@@ -57,9 +80,10 @@ keyword_of_program word =
     else (if bytes_eq word (codes "goal") then Some keyword.Goal
     else (if bytes_eq word (codes "when") then Some keyword.When
     else (if bytes_eq word (codes "begin") then Some keyword.Begin
-    else option_map (λ kind. keyword.Command kind) (command_word word)))))
+    else (if bytes_eq word (codes "journal") then Some keyword.Journal
+    else option_map (λ kind. keyword.Command kind) (command_word word))))))
 
--- the word that opens a line; `send` does so only where send lists stand apart, as the rules of its line say
+-- the word that opens a line; where `send` and `journal` do so the rules of their lines say
 abbrev pub keyword_of : List ℕ → Option Keyword
 keyword_of word =
     if bytes_eq word (codes "media") then Some keyword.Media
@@ -223,6 +247,11 @@ state_rules d words = new_part_rules (is_late d section.Programs) (open_block d)
 abbrev pub begin_rules : Declared → List (List ℕ) → List (ℕ × Bool)
 begin_rules d words = (WRONG_WORD, is_late d section.Begin) ∷ (EXTRA_WORD, is_some (slice_get words 0)) ∷ (UNFINISHED, is_unfinished d) ∷ []
 
+-- `journal` opens a line behind `begin`, where a journal may stand behind the commands
+abbrev pub journal_rules : Bool → List (List ℕ) → List (ℕ × Bool)
+journal_rules false words = (WRONG_WORD, true) ∷ []
+journal_rules true words = (EXTRA_WORD, is_some (slice_get words 0)) ∷ []
+
 -- a command, wherever it stands
 abbrev pub command_line_rules : Declared → CommandWord → List (List ℕ) → List (ℕ × Bool)
 command_line_rules d kind words =
@@ -253,6 +282,7 @@ rules_by d (Some keyword.State) words = state_rules d words
 rules_by d (Some keyword.Goal) words = in_block (λ block. block_goal_rules d.names block words) (open_block d)
 rules_by d (Some keyword.When) words = in_block (λ block. block_when_rules d.names block words) (open_block d)
 rules_by d (Some keyword.Begin) words = begin_rules d words
+rules_by d (Some keyword.Journal) words = journal_rules (d.begun && has_journal d.tail) words
 rules_by d (Some (keyword.Command kind)) words = if is_program_link d.section kind then program_link_rules d words else command_line_rules d kind words
 rules_by d other words = (WRONG_WORD, true) ∷ []
 
@@ -271,11 +301,6 @@ abbrev pub words_rules : Bool → Declared → List (List ℕ) → List (ℕ × 
 words_rules false d words = (NO_VERSION_LINE, not (is_version words)) ∷ []
 words_rules true d words = rules_by d (kind_of words) (drop 1 words)
 
--- a word that begins with #
-abbrev pub begins_hash : List ℕ → Bool
-begins_hash [] = false
-begins_hash (first ∷ others) = first == 35
-
 -- a line without words, or one whose first word begins with #
 abbrev pub is_skipped : List (List ℕ) → Bool
 is_skipped [] = true
@@ -289,14 +314,14 @@ line_words_rules false d words = words_rules d.versioned d words
 abbrev pub entry_fault : Declared → List (List ℕ) → Option ℕ
 entry_fault d words = least_broken (line_words_rules (is_skipped words) d words)
 
--- the line holds the byte with which the text passes its limit; so many bytes stand before the line, and its end belongs to it
-abbrev pub passes_limit : ℕ → ℕ → List ℕ → Bool
-passes_limit total before line = nat_lt TEXT_LIMIT total && nat_le before TEXT_LIMIT && nat_le TEXT_LIMIT (before + length line)
+-- the line holds the byte with which the text passes this limit; so many bytes stand before the line, and its end belongs to it
+abbrev pub passes_limit : (limit total before : ℕ) → List ℕ → Bool
+passes_limit limit total before line = nat_lt limit total && nat_le before limit && nat_le limit (before + length line)
 
 -- every rule on a line, in the order of their numbers
 abbrev pub line_rules : ℕ → ℕ → Declared → List ℕ → List (ℕ × Bool)
 line_rules total before d line =
-    (TEXT_TOO_LONG, passes_limit total before line)
+    (TEXT_TOO_LONG, passes_limit (text_limit d.tail) total before line)
     ∷ (byte_rules line ++ line_words_rules (is_skipped (words line)) d (words line))
 
 -- the least number of the rules that a line breaks

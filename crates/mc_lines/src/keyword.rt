@@ -6,8 +6,8 @@ ghost use Rattle.mc_lines.specs.Rules.{keyword_of, keyword_of_program};
 use crate::section::Keyword;
 use mc_script::keyword::command_word;
 
-/// The kind of line that a word opens. None where it opens none. That `send` opens one in version 2 alone is for the
-/// rules of its line to say.
+/// The kind of line that a word opens. None where it opens none. Where `send` and `journal` open one is for the rules
+/// of their lines to say.
 pub fn keyword_of(word: &[u8]) -> Option<Keyword>
     ensures { result ≡ keyword_of word.now }
 {
@@ -44,6 +44,8 @@ fn keyword_of_program(word: &[u8]) -> Option<Keyword>
         Some(Keyword::When)
     } else if word == b"begin".as_slice() {
         Some(Keyword::Begin)
+    } else if word == b"journal".as_slice() {
+        Some(Keyword::Journal)
     } else {
         command_word(word).map(Keyword::Command)
     }

@@ -7,7 +7,9 @@ pub mod limit;
 mod places;
 mod reader;
 mod section;
+mod tail;
 
 pub use keyword::keyword_of;
 pub use reader::{Parts, Reader};
 pub use section::{Keyword, Section};
+pub use tail::{Tail, ends_commands};

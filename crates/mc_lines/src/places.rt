@@ -4,10 +4,10 @@ ghost use Rattle.std.specs.Prelude.{◌≡◌};
 ghost use Rattle.std.specs.Option.{option_copied};
 ghost use Rattle.mc_script.specs.Places.{fixed_word};
 ghost use Rattle.mc_lines.specs.LineReadings.{overlong};
-ghost use Rattle.mc_lines.specs.Rules.{begins_digit, begins_hash, is_second, is_skipped, is_version, spelt_medium};
+ghost use Rattle.mc_lines.specs.Rules.{begins_digit, is_second, is_skipped, is_version, spelt_medium};
 
 use mc_program::ReadFault;
-use mc_script::LineFault;
+use mc_script::{LineFault, begins_hash};
 use mc_script::rule::{GIVEN_TWICE, LIMIT_PASSED, NAME_TOO_LONG, WRONG_WORD};
 use mc_signal::Medium;
 use mc_text::Words;
@@ -52,15 +52,6 @@ pub fn is_skipped<'a>(mut words: Words<'a>) -> bool
     match words.next_word() {
         None => true,
         Some(word) => begins_hash(word),
-    }
-}
-
-fn begins_hash(word: &[u8]) -> bool
-    ensures { result ≡ begins_hash word.now }
-{
-    match word {
-        [] => false,
-        [first, ..] => *first == b'#',
     }
 }
 

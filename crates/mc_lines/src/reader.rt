@@ -16,9 +16,9 @@ mod programs;
 mod sends;
 
 use crate::keyword::keyword_of;
-use crate::limit::TEXT_LIMIT;
 use crate::places::{is_second, is_skipped, is_version};
 use crate::section::{Keyword, Section};
+use crate::tail::Tail;
 use mc_box::Shape;
 use mc_plan::Plan;
 use mc_program::{Block, ReadFault, is_unfinished};
@@ -42,6 +42,7 @@ pub struct Parts {
 #[derive(Drop)]
 pub struct Reader {
     alloc: Global,
+    tail: Tail,
     section: Section,
     versioned: bool,
     sends_apart: bool,
@@ -61,17 +62,18 @@ impl Model for Reader {
 
     ghost Value = { Declared };
 
-    ghost view = { λ r. record { section = r.section; versioned = r.versioned; sends_apart = r.sends_apart; begun = r.begun; names = r.names; shape = r.shape; boxes = map box_seen r.plan.boxes; senders = r.senders.items; channels = r.plan.channels; blocks = r.blocks.items; commands = r.commands.items } };
+    ghost view = { λ r. record { tail = r.tail; section = r.section; versioned = r.versioned; sends_apart = r.sends_apart; begun = r.begun; names = r.names; shape = r.shape; boxes = map box_seen r.plan.boxes; senders = r.senders.items; channels = r.plan.channels; blocks = r.blocks.items; commands = r.commands.items } };
 }
 
 impl Reader {
-    /// Nothing was read yet.
-    pub fn new(alloc: Global) -> Reader
-        ensures nothing { result ≡ nothing }
+    /// Nothing was read yet of a text that may have this tail.
+    pub fn new(alloc: Global, tail: Tail) -> Reader
+        ensures nothing { result ≡ nothing tail }
         ensures in_form { IsInForm result }
     {
         Reader {
             alloc,
+            tail,
             section: Section::Version,
             versioned: false,
             sends_apart: false,
@@ -130,6 +132,7 @@ impl Reader {
             Keyword::Goal => self.read_goal(words),
             Keyword::When => self.read_when(words),
             Keyword::Begin => self.read_begin(words),
+            Keyword::Journal => self.read_journal(words),
             Keyword::Command(kind) => self.read_command_word(kind, words),
         }
     }
@@ -189,7 +192,8 @@ impl Reader {
         ensures declared { ReadsLine total before self.old line.now result self.new }
         ensures in_form { OnOk result (IsInForm self.new) }
     {
-        if TEXT_LIMIT < total && before <= TEXT_LIMIT && TEXT_LIMIT <= before + line.len() {
+        let limit = self.tail.text_limit();
+        if limit < total && before <= limit && limit <= before + line.len() {
             return Err(ReadFault::Line(LineFault {
                 number: TEXT_TOO_LONG,
             }));

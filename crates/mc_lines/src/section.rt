@@ -49,6 +49,8 @@ pub enum Keyword {
     Goal,
     When,
     Begin,
+    /// It opens a line only where a journal may stand behind the commands.
+    Journal,
     /// The word of a command. In the programs `link` opens a part's line.
     Command(CommandWord),
 }

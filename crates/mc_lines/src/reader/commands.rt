@@ -1,4 +1,4 @@
-//! The line `begin`, and commands.
+//! The lines `begin` and `journal`, and the commands between them.
 
 ghost use Rattle.std.specs.Prelude.{OnOk};
 ghost use Rattle.mc_script.specs.Meaning.{ReadsCommand};
@@ -33,6 +33,21 @@ impl Reader {
         }
         self.section = Section::Commands;
         self.begun = true;
+        Ok(())
+    }
+
+    /// Reads `journal`, behind which no word stands. It ends the commands.
+    pub fn read_journal<'a>(&mut self, mut words: Words<'a>) -> Result<(), ReadFault>
+        requires { IsInForm self.old }
+        ensures declared { ReadsKind self.old Keyword.Journal words.entry result self.new }
+        ensures in_form { OnOk result (IsInForm self.new) }
+    {
+        if !(self.begun && self.tail.has_journal()) {
+            return Err(ReadFault::Line(LineFault { number: WRONG_WORD }));
+        }
+        if words.next_word().is_some() {
+            return Err(ReadFault::Line(LineFault { number: EXTRA_WORD }));
+        }
         Ok(())
     }
 

@@ -66,6 +66,12 @@ returns-in-Begin-clause-declared c = rw c.in-Begin.is c.read_begin.ensures.decla
 pub returns-in-Begin-clause-in_form : goal.returns-in-Begin-clause-in_form
 returns-in-Begin-clause-in_form c = c.read_begin.ensures.in_form
 
+pub returns-in-Journal-clause-declared : goal.returns-in-Journal-clause-declared
+returns-in-Journal-clause-declared c = rw c.in-Journal.is c.read_journal.ensures.declared
+
+pub returns-in-Journal-clause-in_form : goal.returns-in-Journal-clause-in_form
+returns-in-Journal-clause-in_form c = c.read_journal.ensures.in_form
+
 pub returns-in-Command-clause-declared : goal.returns-in-Command-clause-declared
 returns-in-Command-clause-declared c = rw c.in-Command.is c.read_command_word.ensures.declared
 

@@ -1,0 +1,54 @@
+//! What may stand behind the commands of a text.
+
+ghost use Rattle.std.specs.Prelude.{◌≡◌};
+ghost use Rattle.mc_lines.specs.Rules.{ends_commands, has_journal, is_journal, text_limit};
+
+use crate::limit::{JOURNAL_TEXT_LIMIT, TEXT_LIMIT};
+use mc_text::Words;
+
+/// What may stand behind the commands of a text.
+#[derive(Clone, Copy, PartialEq, Eq, Debug)]
+pub enum Tail {
+    /// Nothing.
+    Nothing,
+    /// A journal, behind a line whose only word is `journal`.
+    Journal,
+}
+
+impl Tail {
+    /// The most bytes of a text, with what stands behind its commands.
+    pub fn text_limit(self) -> usize
+        ensures { result ≡ text_limit self }
+    {
+        match self {
+            Tail::Nothing => TEXT_LIMIT,
+            Tail::Journal => JOURNAL_TEXT_LIMIT,
+        }
+    }
+
+    /// Whether a journal may stand behind the commands.
+    pub fn has_journal(self) -> bool
+        ensures { result ≡ has_journal self }
+    {
+        match self {
+            Tail::Nothing => false,
+            Tail::Journal => true,
+        }
+    }
+}
+
+/// Whether a line ends the commands of a text: its only word is `journal`, and a journal may stand behind it.
+pub fn ends_commands(tail: Tail, line: &[u8]) -> bool
+    ensures { result ≡ ends_commands tail line.now }
+{
+    tail.has_journal() && is_journal(Words::new(line))
+}
+
+fn is_journal<'a>(mut words: Words<'a>) -> bool
+    ensures { result ≡ is_journal words.entry }
+{
+    match (words.next_word(), words.next_word()) {
+        (Some(first), None) => first == b"journal".as_slice(),
+        _ => false,
+    }
+}
