@@ -1,11 +1,11 @@
 -- A text says something, or it has one fault.
 use Rattle.std.proofs.Common.{◌≡◌, ◌⊎◌, inl, inr, ℕ, zero, suc, ◌+◌, ◌<◌, ◌≤◌, List, length, Option, Some, None, refl, ap, subst, arith}
 use Rattle.std.proofs.lemmas.Bool.{cases_lt}
-use Rattle.mc_text.specs.Lines.{lines}
 use Rattle.mc_lines.specs.Rules.{end_fault}
 use Rattle.mc_lines.specs.SoFar.{Declared}
+use Rattle.mc_lines.specs.declared.tail.Tail.{Tail}
 use Rattle.mc_net.specs.TextLaws.{DeclaresOrFaults, OneFault, OneOrTheOther}
-use Rattle.mc_net.specs.Texts.{AreSound, IsFault, at_line, at_end, Says, declared_by, fault_at}
+use Rattle.mc_net.specs.Texts.{AreSound, IsFault, at_line, at_end, Says, declared_by, fault_at, text_lines}
 
 -- an option isn't both
 pub not_both : {A : Type 0} (o : Option A) (x : A) → o ≡ None → o ≡ Some x → ⊥
@@ -17,8 +17,8 @@ same_value o x y one other = cc
 -- ---- never both
 
 pub declares_or_faults : DeclaresOrFaults
-declares_or_faults text d number line says (at_line k within sound broken) = not_both (fault_at (length text) (lines text) k) number (says.sound k within) broken
-declares_or_faults text d number line says (at_end sound broken) = not_both (end_fault (declared_by (lines text) (length (lines text)))) number says.ended broken
+declares_or_faults tail text d number line says (at_line k within sound broken) = not_both (fault_at tail (length text) (text_lines tail text) k) number (says.sound k within) broken
+declares_or_faults tail text d number line says (at_end sound broken) = not_both (end_fault (declared_by tail (text_lines tail text) (length (text_lines tail text)))) number says.ended broken
 
 -- ---- one fault
 
@@ -36,10 +36,10 @@ two_firsts at k j number other before here earlier there = by (cases_lt k j) (ca
         (same_value (at j) number other moved there, ap (λ (i : ℕ). i + 1) same)
 
 pub one_fault : OneFault
-one_fault text number line other_number other_line (at_line k within sound broken) (at_line j inside clear found) = two_firsts (fault_at (length text) (lines text)) k j number other_number sound broken clear found
-one_fault text number line other_number other_line (at_line k within sound broken) (at_end clear found) = absurd (not_both (fault_at (length text) (lines text) k) number (clear k within) broken)
-one_fault text number line other_number other_line (at_end sound broken) (at_line j inside clear found) = absurd (not_both (fault_at (length text) (lines text) j) other_number (sound j inside) found)
-one_fault text number line other_number other_line (at_end sound broken) (at_end clear found) = (same_value (end_fault (declared_by (lines text) (length (lines text)))) number other_number broken found, refl)
+one_fault tail text number line other_number other_line (at_line k within sound broken) (at_line j inside clear found) = two_firsts (fault_at tail (length text) (text_lines tail text)) k j number other_number sound broken clear found
+one_fault tail text number line other_number other_line (at_line k within sound broken) (at_end clear found) = absurd (not_both (fault_at tail (length text) (text_lines tail text) k) number (clear k within) broken)
+one_fault tail text number line other_number other_line (at_end sound broken) (at_line j inside clear found) = absurd (not_both (fault_at tail (length text) (text_lines tail text) j) other_number (sound j inside) found)
+one_fault tail text number line other_number other_line (at_end sound broken) (at_end clear found) = (same_value (end_fault (declared_by tail (text_lines tail text) (length (text_lines tail text)))) number other_number broken found, refl)
 
 -- ---- one or the other
 
@@ -68,19 +68,19 @@ none_or_first at (suc bound) = by (none_or_first at bound)
     by (inr first) = inr (record { place = first.place; number = first.number; within = let within = first.within in omega arith; before = first.before; here = first.here })
 
 -- what all lines of a text declare
-abbrev declared_of : List ℕ → Declared
-declared_of text = declared_by (lines text) (length (lines text))
+abbrev declared_of : Tail → List ℕ → Declared
+declared_of tail text = declared_by tail (text_lines tail text) (length (text_lines tail text))
 
-abbrev SaysOrFaults : List ℕ → Type 0
-SaysOrFaults text = ((d : Declared) × Says text d) ⊎ ((number : ℕ) × (line : ℕ) × IsFault text number line)
+abbrev SaysOrFaults : Tail → List ℕ → Type 0
+SaysOrFaults tail text = ((d : Declared) × Says tail text d) ⊎ ((number : ℕ) × (line : ℕ) × IsFault tail text number line)
 
-ended_or_not : (text : List ℕ) → AreSound (length text) (lines text) (length (lines text)) → (o : Option ℕ) → end_fault (declared_of text) ≡ o → SaysOrFaults text
-ended_or_not text sound None e = inl (declared_of text, record { sound = sound; ended = e; declared = refl })
-ended_or_not text sound (Some number) e = inr (number, length (lines text) + 1, at_end sound e)
+ended_or_not : (tail : Tail) (text : List ℕ) → AreSound tail (length text) (text_lines tail text) (length (text_lines tail text)) → (o : Option ℕ) → end_fault (declared_of tail text) ≡ o → SaysOrFaults tail text
+ended_or_not tail text sound None e = inl (declared_of tail text, record { sound = sound; ended = e; declared = refl })
+ended_or_not tail text sound (Some number) e = inr (number, length (text_lines tail text) + 1, at_end sound e)
 
 pub one_or_the_other : OneOrTheOther
-one_or_the_other text = by (none_or_first (fault_at (length text) (lines text)) (length (lines text)))
+one_or_the_other tail text = by (none_or_first (fault_at tail (length text) (text_lines tail text)) (length (text_lines tail text)))
   where
-    by : AreSound (length text) (lines text) (length (lines text)) ⊎ IsFirst (fault_at (length text) (lines text)) (length (lines text)) → SaysOrFaults text
-    by (inl sound) = ended_or_not text sound (end_fault (declared_of text)) refl
+    by : AreSound tail (length text) (text_lines tail text) (length (text_lines tail text)) ⊎ IsFirst (fault_at tail (length text) (text_lines tail text)) (length (text_lines tail text)) → SaysOrFaults tail text
+    by (inl sound) = ended_or_not tail text sound (end_fault (declared_of tail text)) refl
     by (inr first) = inr (first.number, first.place + 1, at_line first.place first.within first.before first.here)

@@ -22,6 +22,7 @@ use Rattle.mc_lines.specs.Forms.{IsInForm, NamesEach}
 use Rattle.mc_net.specs.Nets.{IsMadeOf, IsSayable, MayHavePrograms, NamesAll, batch_turns, batches_of, before_next}
 use Rattle.mc_lines.specs.SoFar.{Declared}
 use Rattle.mc_net.specs.TextLaws.{NetsAreNamed}
+use Rattle.mc_lines.specs.declared.tail.Tail.{Tail}
 use Rattle.mc_net.specs.Texts.{Says}
 use Rattle.mc_lines.specs.declared.limit.TheConstants.{COMMAND_LIMIT}
 use Rattle.mc_net.specs.declared.net.Net.{Net}
@@ -55,9 +56,9 @@ plan_named names plan each known =
     }
 
 -- so has all of a network's
-pub net_named : (text : List ℕ) (d : Declared) (parts : Parts) (net : Net) (place : ℕ) → Says text d → IsInForm d → AreOf d parts → IsMadeOf parts place net → NamesAll net.names net.world
-net_named text d parts net place says form are made =
-    let runs : IsRunnable d = says_runnable text d says in
+pub net_named : (tail : Tail) (text : List ℕ) (d : Declared) (parts : Parts) (net : Net) (place : ℕ) → Says tail text d → IsInForm d → AreOf d parts → IsMadeOf parts place net → NamesAll net.names net.world
+net_named tail text d parts net place says form are made =
+    let runs : IsRunnable d = says_runnable tail text d says in
     rw (made.names, made.world, are.names)
     (programs_named d.names (world_of parts.plan) parts.blocks.items (plan_named d.names parts.plan (rw (are.boxes, are.channels) form.named) (rw are.boxes runs.known)))
 
@@ -97,13 +98,13 @@ all_pass test (turn ∷ turns) all =
     rw (All-head (λ turn. IsTrue (test turn)) turn turns all) (all_pass test turns (All-tail (λ turn. IsTrue (test turn)) turn turns all))
 
 -- the first world allows each command of a network
-pub net_allowed : (text : List ℕ) (d : Declared) (parts : Parts) (net : Net) (place : ℕ) → Says text d → IsInForm d → AreOf d parts → IsMadeOf parts place net → AreAllAllowed net.world (map batch_turns net.batches.items)
-net_allowed text d parts net place says form are made =
-    let named : NamesAll net.names net.world = net_named text d parts net place says form are made in
-    let runs : IsRunnable d = says_runnable text d says in
+pub net_allowed : (tail : Tail) (text : List ℕ) (d : Declared) (parts : Parts) (net : Net) (place : ℕ) → Says tail text d → IsInForm d → AreOf d parts → IsMadeOf parts place net → AreAllAllowed net.world (map batch_turns net.batches.items)
+net_allowed tail text d parts net place says form are made =
+    let named : NamesAll net.names net.world = net_named tail text d parts net place says form are made in
+    let runs : IsRunnable d = says_runnable tail text d says in
     let shaped : AreShapes d.shape (map box_seen parts.plan.boxes) parts.plan.channels (owners parts.blocks.items) = rw (are.boxes, are.channels, are.blocks) runs.shaped in
     let laid : AreLaid d.shape d.section parts.blocks.items = rw are.blocks runs.laid in
-    let finished : AllFinished parts.blocks.items = rw are.blocks (says_finished text d says) in
+    let finished : AllFinished parts.blocks.items = rw are.blocks (says_finished tail text d says) in
     let same : length d.names.boxes ≡ length net.world.boxes = rw (← are.names, ← made.names) named.boxes in
     let alike : (who : ℕ) → who < length net.world.boxes → box_shape (box_at net.world who) ≡ shape_of d.shape who = rw made.world (programs_shaped d.shape parts.plan d.section parts.blocks.items shaped laid finished) in
     let each : All (All (λ turn. IsTrue (is_allowed net.world turn))) (batches_of parts.commands.items) =
@@ -115,18 +116,18 @@ net_allowed text d parts net place says form are made =
     by same alike Settle enabled = tt
 
 -- the programs of a text may be laid out
-pub net_programs : (text : List ℕ) (d : Declared) (parts : Parts) → Says text d → AreOf d parts → MayHavePrograms (world_of parts.plan) parts.blocks.items
-net_programs text d parts says are =
-    let runs : IsRunnable d = says_runnable text d says in
+pub net_programs : (tail : Tail) (text : List ℕ) (d : Declared) (parts : Parts) → Says tail text d → AreOf d parts → MayHavePrograms (world_of parts.plan) parts.blocks.items
+net_programs tail text d parts says are =
+    let runs : IsRunnable d = says_runnable tail text d says in
     let shaped : AreShapes d.shape (map box_seen parts.plan.boxes) parts.plan.channels (owners parts.blocks.items) = rw (are.boxes, are.channels, are.blocks) runs.shaped in
     let laid : AreLaid d.shape d.section parts.blocks.items = rw are.blocks runs.laid in
-    let finished : AllFinished parts.blocks.items = rw are.blocks (says_finished text d says) in
+    let finished : AllFinished parts.blocks.items = rw are.blocks (says_finished tail text d says) in
     programs_may d.shape parts.plan d.section parts.blocks.items shaped laid finished
 
 -- so a network has no more than commands may be
-pub net_has_few : (text : List ℕ) (d : Declared) (parts : Parts) (net : Net) (place : ℕ) → Says text d → AreOf d parts → IsMadeOf parts place net → length net.batches.items ≤ COMMAND_LIMIT
-net_has_few text d parts net place says are made =
-    let runs : IsRunnable d = says_runnable text d says in
+pub net_has_few : (tail : Tail) (text : List ℕ) (d : Declared) (parts : Parts) (net : Net) (place : ℕ) → Says tail text d → AreOf d parts → IsMadeOf parts place net → length net.batches.items ≤ COMMAND_LIMIT
+net_has_few tail text d parts net place says are made =
+    let runs : IsRunnable d = says_runnable tail text d says in
     let listed : length (batches_of parts.commands.items) ≤ length parts.commands.items = few_batches parts.commands.items in
     let few : length parts.commands.items ≤ COMMAND_LIMIT = rw are.commands runs.few in
     let made_of : length (map batch_turns net.batches.items) ≤ length parts.commands.items = rw made.batches listed in
@@ -136,10 +137,10 @@ net_has_few text d parts net place says are made =
 
 -- the network of a text is well named, by the text alone
 pub nets_are_named : NetsAreNamed
-nets_are_named text net declares =
+nets_are_named tail text net declares =
     let d = declares.declared in
     let plan = declares.world.plan in
-    let runs : IsRunnable d = says_runnable text d declares.says in
+    let runs : IsRunnable d = says_runnable tail text d declares.says in
     let each : NamesEach d.names (map box_seen plan.boxes) plan.channels = rw (declares.world.boxes, declares.world.channels) runs.named in
     let known : All (HasCodecs d.names) (map box_seen plan.boxes) = rw declares.world.boxes runs.known in
     record {

@@ -7,8 +7,8 @@ use Rattle.std.proofs.lemmas.List.{map-append}
 use Rattle.std.specs.List.{All, list_any, slice_get}
 use Rattle.std.specs.Option.{is_some, option_and_then, option_map, unwrap_or}
 use Rattle.mc_signal.specs.declared.Medium.{Medium}
-use Rattle.mc_text.specs.Lines.{lines, words}
-use Rattle.mc_text.specs.NameLists.{AreNames, NameLists, slot_names, with_codec_name}
+use Rattle.mc_text.specs.Lines.{words}
+use Rattle.mc_text.specs.NameLists.{AreNames, NameLists, no_names, slot_names, with_codec_name}
 use Rattle.mc_box.specs.BoxShapes.{BoxShapeState, is_feature, shape_of}
 use Rattle.mc_model.specs.Worlds.{ChannelState}
 use Rattle.mc_plan.specs.Plans.{channel_between, last_channel, next_tunnel, no_channel, with_one_more}
@@ -22,10 +22,11 @@ use Rattle.mc_script.specs.declared.command.Command.{Command}
 use Rattle.mc_script.specs.declared.keyword.CommandWord.{CommandWord}
 use Rattle.mc_script.specs.declared.rule.TheConstants.{GIVEN_TWICE, LIMIT_PASSED, NAME_TOO_LONG, SAME_BOX, UNDECLARED, UNFINISHED, WRONG_WORD}
 use Rattle.mc_lines.specs.Meaning.{after_by, also_after, begin_after, channel_after, codec_after, codec_number, command_after, device_after, device_in, feature_after, declared_at, line_after, new_feature, program_after, program_link_after, send_after, state_after, when_after, with_block, programmed_shape, with_send_list, unless_skipped, with_joined, with_new_box, with_new_codec, with_new_feature, with_send_line, with_widened, words_after}
-use Rattle.mc_lines.specs.Rules.{also_rules, begin_rules, program_rules, shapes, state_rules, channel_rules, codec_rules, codec_words, command_line_rules, device_rules, feature_rules, end_fault, end_rules, is_late, is_program_link, is_second, is_skipped, is_unfinished, kind_of, line_fault, line_words_rules, lists_undeclared, of_slots, open_block, passes_limit, program_link_rules, rank, rules_by, send_line_rules, send_rules, spelt_medium, words_rules}
+use Rattle.mc_lines.specs.Rules.{also_rules, begin_rules, program_rules, shapes, state_rules, channel_rules, codec_rules, codec_words, command_line_rules, device_rules, feature_rules, end_fault, end_rules, is_late, is_program_link, is_second, is_skipped, is_unfinished, kind_of, line_fault, line_words_rules, lists_undeclared, of_slots, open_block, passes_limit, program_link_rules, rank, rules_by, send_line_rules, send_rules, spelt_medium, text_limit, words_rules}
 use Rattle.mc_lines.specs.SoFar.{Declared, DeclaredBox, nothing}
-use Rattle.mc_net.specs.Texts.{AreSound, Says, bytes_before, declared_by}
+use Rattle.mc_net.specs.Texts.{AreSound, Says, bytes_before, declared_by, text_lines}
 use Rattle.mc_lines.specs.declared.limit.TheConstants.{COMMAND_LIMIT}
+use Rattle.mc_lines.specs.declared.tail.Tail.{Tail}
 use Rattle.mc_lines.specs.declared.section.Keyword.{Keyword}
 use Rattle.mc_lines.specs.declared.section.Keyword.TheVariants as keyword
 use Rattle.mc_lines.specs.declared.section.Section.{Section}
@@ -72,17 +73,17 @@ pub record RunsAll (place : Section) (names : NameLists) (shape : List BoxShapeS
 abbrev pub IsRunnable : Declared → Type 0
 IsRunnable d = RunsAll d.section d.names d.shape d.boxes d.channels d.blocks d.commands
 
-nothing_runs : IsRunnable nothing
-nothing_runs = record {
+nothing_runs : (tail : Tail) → IsRunnable (nothing tail)
+nothing_runs tail = record {
   fits = record { boxes = refl; slots = λ who below. refl };
   named = record { listed = refl; boxes = refl; slots = λ who. refl };
   laid = none_laid [] section.Version;
-  known = All-nil (HasCodecs nothing.names);
+  known = All-nil (HasCodecs no_names);
   counted = refl;
   shaped = none_shaped;
   joined = All-nil (HasEnds 0);
   last = inl refl;
-  of_lines = All-nil (IsOfLine nothing.names nothing.shape);
+  of_lines = All-nil (IsOfLine no_names []);
   few = omega arith;
   called = none_called;
 }
@@ -646,6 +647,7 @@ kind_runs d after keyword.State words runs kept means = state_runs d after words
 kind_runs d after keyword.Goal words runs kept means = goal_runs d after words runs kept means
 kind_runs d after keyword.When words runs kept means = when_runs d after words runs kept means
 kind_runs d after keyword.Begin words runs kept means = let same : after ≡ begin_after d = cc in subst (λ (x : Declared). IsRunnable x) (sym same) (begin_runs d words runs kept)
+kind_runs d after keyword.Journal words runs kept means = let same : after ≡ d = cc in subst (λ (x : Declared). IsRunnable x) (sym same) runs
 kind_runs d after (keyword.Command kind) words runs kept means = word_runs d after (is_program_link d.section kind) kind words runs kept means
 
 -- ---- whole lines and texts
@@ -666,14 +668,14 @@ words_kept : (total before : ℕ) (d : Declared) (line : List ℕ) → line_faul
 words_kept total before d line kept =
     let rest = line_words_rules (is_skipped (words line)) d (words line) in
     let strange = list_any (λ byte. not (is_plain byte)) line in
-    others_kept 3 strange rest (others_kept 2 (nat_lt 256 (length line)) ((3, strange) ∷ rest) (others_kept 1 (passes_limit total before line) (byte_rules line ++ rest) kept))
+    others_kept 3 strange rest (others_kept 2 (nat_lt 256 (length line)) ((3, strange) ∷ rest) (others_kept 1 (passes_limit (text_limit d.tail) total before line) (byte_rules line ++ rest) kept))
 
 line_runs : (total before : ℕ) (d after : Declared) (line : List ℕ) → IsRunnable d → line_fault total before d line ≡ None → line_after d line ≡ Some after → IsRunnable after
 line_runs total before d after line runs kept means = by_skipped d after (words line) (is_skipped (words line)) runs (words_kept total before d line kept) means
 
-runs_by : (total : ℕ) (all : List (List ℕ)) (k : ℕ) → AreSound total all k → IsRunnable (declared_by all k)
-runs_by total all zero sound = nothing_runs
-runs_by total all (suc k) sound = step (bytes_before all k) (declared_by all k) (slice_index_or all k []) (sound k (omega arith)) (runs_by total all k (λ j within. sound j (omega arith)))
+runs_by : (tail : Tail) (total : ℕ) (all : List (List ℕ)) (k : ℕ) → AreSound tail total all k → IsRunnable (declared_by tail all k)
+runs_by tail total all zero sound = nothing_runs tail
+runs_by tail total all (suc k) sound = step (bytes_before all k) (declared_by tail all k) (slice_index_or all k []) (sound k (omega arith)) (runs_by tail total all k (λ j within. sound j (omega arith)))
   where
     step : (before : ℕ) (d : Declared) (line : List ℕ) → line_fault total before d line ≡ None → IsRunnable d → IsRunnable (unwrap_or (line_after d line) d)
     step before d line kept runs = by (line_after d line) refl
@@ -683,12 +685,12 @@ runs_by total all (suc k) sound = step (bytes_before all k) (declared_by all k) 
         by (Some after) e = line_runs total before d after line runs kept e
 
 -- a text that is in the grammar
-pub says_runnable : (text : List ℕ) (d : Declared) → Says text d → IsRunnable d
-says_runnable text d says = subst (λ (x : Declared). IsRunnable x) (sym says.declared) (runs_by (length text) (lines text) (length (lines text)) says.sound)
+pub says_runnable : (tail : Tail) (text : List ℕ) (d : Declared) → Says tail text d → IsRunnable d
+says_runnable tail text d says = subst (λ (x : Declared). IsRunnable x) (sym says.declared) (runs_by tail (length text) (text_lines tail text) (length (text_lines tail text)) says.sound)
 
 -- whose programs are all finished
-pub says_finished : (text : List ℕ) (d : Declared) → Says text d → AllFinished d.blocks
-says_finished text d says =
-    let runs : IsRunnable d = says_runnable text d says in
+pub says_finished : (tail : Tail) (text : List ℕ) (d : Declared) → Says tail text d → AllFinished d.blocks
+says_finished tail text d says =
+    let runs : IsRunnable d = says_runnable tail text d says in
     let ended : end_fault d ≡ None = subst (λ (x : Declared). end_fault x ≡ None) (sym says.declared) says.ended in
     all_finished d.shape d.section d.blocks runs.laid (kept_at (end_rules d) 0 (UNFINISHED, is_unfinished d) ended refl)

@@ -18,7 +18,8 @@ use Rattle.mc_script.specs.Printed.{Allows, HaveNames, IsNamed}
 use Rattle.mc_lines.specs.BoxLines.{box_seen}
 use Rattle.mc_lines.specs.Rules.{shapes}
 use Rattle.mc_lines.specs.SoFar.{Declared}
-use Rattle.mc_net.specs.Texts.{Says}
+use Rattle.mc_lines.specs.declared.tail.Tail.{Tail}
+use Rattle.mc_net.specs.Texts.{Says, text_end}
 use Rattle.mc_net.specs.declared.net.Net.{Net}
 use Rattle.mc_lines.specs.declared.reader.Parts.{Parts}
 
@@ -70,14 +71,14 @@ abbrev pub IsUnprogrammed : Declared → Type 0
 IsUnprogrammed d = d.blocks ≡ []
 
 -- the text is in the grammar, and this is the network that it declares
-pub record DeclaresNet (text : List ℕ) (net : Net) : Type 0 where
+pub record DeclaresNet (tail : Tail) (text : List ℕ) (net : Net) : Type 0 where
   pub declared : Declared
-  pub says : Says text declared
+  pub says : Says tail text declared
   pub names : net.names ≡ declared.names
   pub shape : net.shape ≡ shapes declared
   pub world : IsFirstWorld declared net.world
   pub batches : map batch_turns net.batches.items ≡ batches_of declared.commands
-  pub rest : net.rest ≡ length text
+  pub rest : net.rest ≡ text_end tail text
 
 -- ---- what every such network has
 

@@ -1,7 +1,7 @@
 //! Laws of texts and of their first worlds, over the definitions alone: each function's contract is the law's sentence.
 
-ghost use Rattle.mc_net.specs.TextLaws.{DeclaresOrFaults, FaultsOfTheFirstBytes, NetsAreNamed, OneFault};
-ghost use Rattle.mc_net.specs.TextLaws.{OneOrTheOther, SaysTheWhole, UnprogrammedTexts};
+ghost use Rattle.mc_net.specs.TextLaws.{DeclaresOrFaults, FaultsOfTheFirstBytes, NetsAreNamed, NetsOfTheFirstBytes};
+ghost use Rattle.mc_net.specs.TextLaws.{OneFault, OneOrTheOther, SaysTheWhole, UnprogrammedTexts};
 ghost use Rattle.mc_net.specs.Versions.{FirstVersions};
 
 /// A text that says something has no fault.
@@ -19,10 +19,11 @@ pub fn one_or_the_other()
     ensures { OneOrTheOther }
 {}
 
-/// Of a text that is too long, the bytes up to the one with which it passes the limit have the fault of the whole.
-/// Where they say something, there are no others.
+/// Of a text that is too long, the bytes up to the one with which it passes the limit have the fault of the whole, or
+/// declare its network. Where they declare one and no journal may stand behind the commands, there are no others.
 pub fn faults_of_the_first_bytes()
     ensures faults { FaultsOfTheFirstBytes }
+    ensures nets { NetsOfTheFirstBytes }
     ensures whole { SaysTheWhole }
 {}
 

@@ -7,5 +7,6 @@ mod net;
 mod text;
 
 pub use fault::{NetFault, TextFault};
-pub use mc_lines::limit::TEXT_LIMIT;
-pub use net::{Net, Tail, read_net};
+pub use mc_lines::Tail;
+pub use mc_lines::limit::{JOURNAL_TEXT_LIMIT, TEXT_LIMIT};
+pub use net::{Net, read_net};

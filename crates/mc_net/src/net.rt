@@ -12,7 +12,7 @@ ghost use Rattle.mc_net.specs.Texts.{RefusesText};
 use crate::fault::NetFault;
 use crate::text::read_text;
 use mc_box::Shape;
-use mc_lines::Parts;
+use mc_lines::{Parts, Tail};
 use mc_lines::limit::COMMAND_LIMIT;
 use mc_plan::{Layout, Plan};
 use mc_program::Block;
@@ -21,15 +21,8 @@ use mc_text::Names;
 use mc_world::World;
 use std::alloc::{AllocError, Global};
 
-/// What may stand behind the commands of a text.
-#[derive(Clone, Copy, PartialEq, Eq, Debug)]
-pub enum Tail {
-    /// Nothing.
-    Nothing,
-}
-
 /// The network that a text declares: its first world, the names and shapes of its boxes, and the commands up to each
-/// settle. `rest` is where the tail begins, which is the end of the text where nothing may stand there.
+/// settle. `rest` is where the line behind the one that ends the commands begins, and else the end of the text.
 #[derive(Drop)]
 pub struct Net {
     pub world: World,
@@ -39,18 +32,18 @@ pub struct Net {
     pub rest: usize,
 }
 
-/// Reads a text, and makes the network that it declares.
+/// Reads a text, and makes the network that it declares. Where a journal may stand behind the commands, nothing is
+/// read behind the line `journal` that ends them.
 pub fn read_net(alloc: Global, text: &[u8], tail: Tail) -> Result<Net, NetFault>
-    ensures declares { IfOk result (DeclaresNet text.now) }
+    ensures declares { IfOk result (DeclaresNet tail text.now) }
     ensures named { IfOk result (λ net. NamesAll net.names net.world) }
     ensures allowed { IfOk result (λ net. AreAllAllowed net.world (map batch_turns net.batches.items)) }
     ensures few { IfOk result (λ net. length net.batches.items ≤ COMMAND_LIMIT) }
-    ensures refused { IfErr result (RefusesText text.now) }
+    ensures within { IfOk result (λ net. net.rest ≤ length text.now) }
+    ensures refused { IfErr result (RefusesText tail text.now) }
 {
-    let rest = match tail {
-        Tail::Nothing => text.len(),
-    };
-    let parts = read_text(alloc, text)?.into_parts();
+    let (reader, rest) = read_text(alloc, text, tail)?;
+    let parts = reader.into_parts();
     Ok(make_net(alloc, parts, rest)?)
 }
 

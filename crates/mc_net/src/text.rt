@@ -1,13 +1,14 @@
 //! Whole texts.
 
-ghost use Rattle.std.specs.Prelude.{◌≡◌, ◌+◌, ◌<◌, ◌^◌, IfErr, IfOk, OnOk, length};
+ghost use Rattle.std.specs.Prelude.{◌≡◌, ◌+◌, ◌<◌, ◌≤◌, ◌^◌, [], if◌then◌else◌, IfErr, IfOk, OnOk, length};
 ghost use Rattle.mc_lines.specs.Forms.{IsInForm};
+ghost use Rattle.mc_lines.specs.Rules.{ends_commands};
 ghost use Rattle.mc_lines.specs.SoFar.{nothing};
 ghost use Rattle.mc_net.specs.Reading.{ReadsHere, last_fault};
-ghost use Rattle.mc_net.specs.Texts.{Says, RefusesText};
+ghost use Rattle.mc_net.specs.Texts.{RefusesText, Says, text_end};
 
 use crate::fault::{NetFault, TextFault};
-use mc_lines::Reader;
+use mc_lines::{Reader, Tail, ends_commands};
 use mc_program::ReadFault;
 use mc_text::next_line;
 use std::alloc::Global;
@@ -33,24 +34,28 @@ impl Place {
     }
 }
 
-/// Reads a whole text, which must be in the grammar.
-pub fn read_text(alloc: Global, text: &[u8]) -> Result<Reader, NetFault>
-    ensures says { IfOk result (Says text.now) }
-    ensures in_form { IfOk result (λ reader. IsInForm reader) }
-    ensures refused { IfErr result (RefusesText text.now) }
+/// Reads a text up to the line that ends its commands, or to its end. It must be in the grammar. Also answers where
+/// what wasn't read begins.
+pub fn read_text(alloc: Global, text: &[u8], tail: Tail) -> Result<(Reader, usize), NetFault>
+    ensures says { IfOk result (λ both. Says tail text.now both.0) }
+    ensures in_form { IfOk result (λ both. IsInForm both.0) }
+    ensures end { IfOk result (λ both. both.1 ≡ text_end tail text.now) }
+    ensures refused { IfErr result (RefusesText tail text.now) }
 {
-    let mut reader = Reader::new(alloc);
-    read_lines(&mut reader, text)?;
-    Ok(reader)
+    let mut reader = Reader::new(alloc, tail);
+    let end = read_lines(&mut reader, text, tail)?;
+    Ok((reader, end))
 }
 
-// Reads the lines of a text and its end. The reader isn't dropped here, which would be dear to prove in a loop.
-fn read_lines(reader: &mut Reader, text: &[u8]) -> Result<(), NetFault>
-    requires nothing { reader.old ≡ nothing }
+// Reads the lines of a text, and finds no fault at its end. Answers where what wasn't read begins. The reader isn't
+// dropped here, which would be dear to prove in a loop.
+fn read_lines(reader: &mut Reader, text: &[u8], tail: Tail) -> Result<usize, NetFault>
+    requires nothing { reader.old ≡ nothing tail }
     requires in_form { IsInForm reader.old }
-    ensures says { OnOk result (Says text.now reader.new) }
+    ensures says { OnOk result (Says tail text.now reader.new) }
     ensures in_form { OnOk result (IsInForm reader.new) }
-    ensures refused { IfErr result (RefusesText text.now) }
+    ensures end { IfOk result (λ end. end ≡ text_end tail text.now) }
+    ensures refused { IfErr result (RefusesText tail text.now) }
 {
     let mut place = Place { before: 0, line: 1 };
     let mut rest = text;
@@ -58,12 +63,23 @@ fn read_lines(reader: &mut Reader, text: &[u8]) -> Result<(), NetFault>
         let (first, others) = next_line(rest);
         read_here(reader, text.len(), place, first)?;
         place = place.behind(first);
-        rest = others;
+        rest = still_to_read(tail, first, others);
     }
     match last_fault(reader, place.line) {
         Some(fault) => Err(NetFault::Line(fault)),
-        None => Ok(()),
+        None => Ok(place.before.min(text.len())),
     }
+}
+
+// What is to be read behind a line, of the bytes that stand behind it: none where the line ends the commands.
+fn still_to_read<'a>(tail: Tail, line: &[u8], others: &'a [u8]) -> &'a [u8]
+    ensures rest { result.now ≡ if ends_commands tail line.now then [] else others.now }
+    ensures shorter { length result.now ≤ length others.now }
+{
+    if ends_commands(tail, line) {
+        return &[];
+    }
+    others
 }
 
 // Reads the line at a place of a text of `total` bytes.
