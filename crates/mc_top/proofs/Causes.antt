@@ -8,6 +8,7 @@ use Rattle.mc_net.proofs.FirstPrograms.{unprogrammed_texts}
 use Rattle.mc_net.specs.Nets.{DeclaresNet, IsFirstWorld, batch_turns, batches_of}
 use Rattle.mc_lines.specs.SoFar.{Declared}
 use Rattle.mc_net.specs.Texts.{Says}
+use Rattle.mc_lines.specs.declared.tail.Tail.TheVariants.{Nothing}
 use Rattle.mc_net.specs.Versions.{MeetsNoLast}
 use Rattle.mc_net.specs.declared.net.Net.{Net}
 use Rattle.mc_script.specs.declared.command.JournalLine.{JournalLine}
@@ -50,7 +51,7 @@ first_rests d world (inl (unprogrammed, none)) first = inl (unprogrammed_texts d
 first_rests d world (inr by_names) first = inr (by_names world first)
 
 -- no stop shows its cause in the network of such a text
-pub never_stops : (stop : Stop) (text : List ℕ) (d : Declared) (net : Net) → Says text d → MeetsNoLast d → AlwaysRests d → DeclaresNet text net
+pub never_stops : (stop : Stop) (text : List ℕ) (d : Declared) (net : Net) → Says Nothing text d → MeetsNoLast d → AlwaysRests d → DeclaresNet Nothing text net
     → ShowsCause (Some stop) net.world (map batch_turns net.batches.items) → ⊥
 never_stops stop text d net says none rests declares shows =
     let same = same_says text declares.declared d declares.says says in

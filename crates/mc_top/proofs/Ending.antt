@@ -10,6 +10,7 @@ use Rattle.mc_model.specs.Worlds.{WorldState}
 use Rattle.mc_text.specs.NameLists.{NameLists}
 use Rattle.mc_net.specs.Nets.{DeclaresNet, batch_turns}
 use Rattle.mc_net.specs.Texts.{IsFault}
+use Rattle.mc_lines.specs.declared.tail.Tail.TheVariants.{Nothing}
 use Rattle.mc_net.specs.declared.net.Net.{Net}
 use Rattle.mc_top.specs.Printed.{fault_line, run_text, stop_line}
 use Rattle.mc_top.specs.Statuses.{due_by, keeps_journal, stop_status}
@@ -32,7 +33,7 @@ stopped_by false stop names world journal = refl
 
 -- the work was done, and what it printed was delivered
 ends_worked : (mode : Mode) (text : List ℕ) (net : Net) (old new : Option (List ℕ)) (status due : ℕ) (journal : List JournalLine) (output : List ℕ)
-    → DeclaresNet text net → IsSound net.world → IsJournal net.world (map batch_turns net.batches.items) journal → IsDrawnJournal None (draws_from mode) net.world (map batch_turns net.batches.items) journal
+    → DeclaresNet Nothing text net → IsSound net.world → IsJournal net.world (map batch_turns net.batches.items) journal → IsDrawnJournal None (draws_from mode) net.world (map batch_turns net.batches.items) journal
     → HoldsAtSettles net.world journal → output ≡ run_text (prints_journal mode) net.names net.world None journal → due ≡ 0 → Delivers status 0 old new output → Ends mode (Some text) old new status due journal
 ends_worked mode text net old new status due journal output declared sound settled drawn holds is none delivered = record {
   worked = λ zero. record {
@@ -52,7 +53,7 @@ ends_worked mode text net old new status due journal output declared sound settl
 
 -- or the script stopped, and the line of the stop was
 stops_script : (mode : Mode) (text : List ℕ) (net : Net) (stop : Stop) (old new : Option (List ℕ)) (status due : ℕ) (journal : List JournalLine) (output : List ℕ)
-    → DeclaresNet text net → IsSound net.world → IsStoppedJournal stop net.world (map batch_turns net.batches.items) journal → IsDrawnJournal (Some stop) (draws_from mode) net.world (map batch_turns net.batches.items) journal
+    → DeclaresNet Nothing text net → IsSound net.world → IsStoppedJournal stop net.world (map batch_turns net.batches.items) journal → IsDrawnJournal (Some stop) (draws_from mode) net.world (map batch_turns net.batches.items) journal
     → ShowsCause (Some stop) net.world (map batch_turns net.batches.items) → output ≡ stop_line net.names net.world stop → due ≡ stop_status stop → Delivers status (stop_status stop) old new output
     → StopsScript mode (Some text) old new status due journal
 stops_script mode text net stop old new status due journal output declared sound settled drawn shows is due_is delivered = record {
@@ -92,7 +93,7 @@ ends_at_stop mode text stop old new status due journal is stops =
 
 -- a script was run to its end, or to a stop
 pub ends_ran : (stop : Option Stop) (mode : Mode) (text : List ℕ) (net : Net) (old new : Option (List ℕ)) (status due : ℕ) (journal : List JournalLine) (output : List ℕ)
-    → DeclaresNet text net → IsSound net.world → IsJournalTo stop net.world (map batch_turns net.batches.items) journal → IsDrawnJournal stop (draws_from mode) net.world (map batch_turns net.batches.items) journal
+    → DeclaresNet Nothing text net → IsSound net.world → IsJournalTo stop net.world (map batch_turns net.batches.items) journal → IsDrawnJournal stop (draws_from mode) net.world (map batch_turns net.batches.items) journal
     → HoldsAtSettles net.world journal → ShowsCause stop net.world (map batch_turns net.batches.items)
     → output ≡ run_text (prints_journal mode) net.names net.world stop journal → due ≡ due_by stop → Delivers status (due_by stop) old new output → Ends mode (Some text) old new status due journal
 ends_ran None mode text net old new status due journal output declared sound ran drawn holds shows is due_is delivered =
@@ -118,7 +119,7 @@ ends_gave_up mode text old status due journal three due_three none = record {
 
 -- the text has a fault, and the line that names it was delivered
 pub ends_refused : (mode : Mode) (text : List ℕ) (number line : ℕ) (old new : Option (List ℕ)) (status due : ℕ) (journal : List JournalLine) (output : List ℕ)
-    → IsFault text number line → output ≡ fault_line number line → due ≡ 1 → Delivers status 1 old new output → journal ≡ [] → Ends mode (Some text) old new status due journal
+    → IsFault Nothing text number line → output ≡ fault_line number line → due ≡ 1 → Delivers status 1 old new output → journal ≡ [] → Ends mode (Some text) old new status due journal
 ends_refused mode text number line old new status due journal output fault is one delivered none = record {
   worked = λ zero. absurd (omega arith);
   refused = λ due_one. inl (record { number = number; line = line; fault = fault; delivered = rw is at delivered; no_journal = none });

@@ -16,6 +16,7 @@ use Rattle.mc_lines.specs.Meaning.{declared_at}
 use Rattle.mc_net.specs.Nets.{DeclaresNet, batch_turns, batches_of}
 use Rattle.mc_lines.specs.SoFar.{Declared}
 use Rattle.mc_net.specs.Texts.{Says}
+use Rattle.mc_lines.specs.declared.tail.Tail.TheVariants.{Nothing}
 use Rattle.mc_net.specs.Versions.{MeetsNoLast}
 use Rattle.mc_net.specs.declared.net.Net.{Net}
 use Rattle.mc_net.proofs.Versions.{first_versions}
@@ -56,11 +57,11 @@ stopped_passes (batch ∷ batches) world at journal sound (inr (turns, last, res
     }
 
 -- a text says one thing
-pub same_says : (text : List ℕ) (d other : Declared) → Says text d → Says text other → d ≡ other
+pub same_says : (text : List ℕ) (d other : Declared) → Says Nothing text d → Says Nothing text other → d ≡ other
 same_says text d other one two = one.declared ∙ sym two.declared
 
 -- the network of such a text doesn't stop so
-pub none_passes : (text : List ℕ) (d : Declared) (net : Net) → Says text d → MeetsNoLast d → DeclaresNet text net → PassesLast net.world (λ who local. hears_in who local (map batch_turns net.batches.items)) → ⊥
+pub none_passes : (text : List ℕ) (d : Declared) (net : Net) → Says Nothing text d → MeetsNoLast d → DeclaresNet Nothing text net → PassesLast net.world (λ who local. hears_in who local (map batch_turns net.batches.items)) → ⊥
 none_passes text d net says none declares one =
     let same : declares.declared ≡ d = same_says text declares.declared d declares.says says in
     let first : version_at net.world one.who one.local ≡ (declared_at declares.declared.boxes one.who).version = first_versions declares.declared net.world one.who one.local declares.world one.here one.inside in

@@ -8,9 +8,10 @@ use Rattle.mc_lines.specs.SoFar.{Declared}
 use Rattle.mc_net.specs.TextLaws.{first_bytes}
 use Rattle.mc_net.specs.Texts.{IsFault, Says}
 use Rattle.mc_net.specs.Versions.{MeetsNoLast}
+use Rattle.mc_lines.specs.declared.tail.Tail.TheVariants.{Nothing}
 use Rattle.mc_net.specs.declared.net.Net.{Net}
 use Rattle.mc_net.proofs.Faults.{declares_or_faults}
-use Rattle.mc_net.proofs.FirstBytes.{faults_of_the_first_bytes, says_the_whole}
+use Rattle.mc_net.proofs.FirstBytes.{faults_of_the_first_bytes, nets_of_the_first_bytes}
 use Rattle.mc_top.specs.Journals.{ShowsCause}
 use Rattle.mc_top.specs.Top.{Ends, StopsScript, ToldDeclares, ToldFault}
 use Rattle.mc_top.specs.Modes.{CanRun, IsWorkable}
@@ -21,20 +22,18 @@ use Rattle.mc_top.specs.declared.words.Mode.{Mode}
 use Rattle.mc_top.specs.declared.words.Mode.TheVariants.{One, Run}
 
 -- the fault of the text that was read is that of what was left
-pub told_fault : (told : Option (List ℕ)) (text : List ℕ) (number line : ℕ) → IfSome told (λ all. text ≡ first_bytes all) → IsFault text number line → ToldFault told number line
+pub told_fault : (told : Option (List ℕ)) (text : List ℕ) (number line : ℕ) → IfSome told (λ all. text ≡ first_bytes Nothing all) → IsFault Nothing text number line → ToldFault told number line
 told_fault None text number line read fault = tt
-told_fault (Some all) text number line read fault = faults_of_the_first_bytes all number line (subst (λ (t : List ℕ). IsFault t number line) read fault)
+told_fault (Some all) text number line read fault = faults_of_the_first_bytes Nothing all number line (subst (λ (t : List ℕ). IsFault Nothing t number line) read fault)
 
 -- the text that was read declares a network, and so does what was left
-pub told_declares : (told : Option (List ℕ)) (text : List ℕ) (net : Net) → IfSome told (λ all. text ≡ first_bytes all) → DeclaresNet text net → ToldDeclares told net
+pub told_declares : (told : Option (List ℕ)) (text : List ℕ) (net : Net) → IfSome told (λ all. text ≡ first_bytes Nothing all) → DeclaresNet Nothing text net → ToldDeclares told net
 told_declares None text net read declares = tt
-told_declares (Some all) text net read declares =
-    let says : Says (first_bytes all) declares.declared = subst (λ (t : List ℕ). Says t declares.declared) read declares.says in
-    subst (λ (t : List ℕ). DeclaresNet t net) (read ∙ says_the_whole all declares.declared says) declares
+told_declares (Some all) text net read declares = nets_of_the_first_bytes Nothing all net (subst (λ (t : List ℕ). DeclaresNet Nothing t net) read declares)
 
 -- a script that stopped is that of what was left
 stops_told : (mode : Mode) (told old new : Option (List ℕ)) (text : List ℕ) (status due : ℕ) (journal : List JournalLine)
-    → IfSome told (λ all. text ≡ first_bytes all) → StopsScript mode (Some text) old new status due journal → StopsScript mode told old new status due journal
+    → IfSome told (λ all. text ≡ first_bytes Nothing all) → StopsScript mode (Some text) old new status due journal → StopsScript mode told old new status due journal
 stops_told mode told old new text status due journal read stops = record {
   net = stops.net;
   stop = stops.stop;
@@ -49,7 +48,7 @@ stops_told mode told old new text status due journal read stops = record {
 
 -- what was said of the text that was read holds of what was left
 pub ends_told : (mode : Mode) (told old new : Option (List ℕ)) (text : List ℕ) (status due : ℕ) (journal : List JournalLine)
-    → IfSome told (λ all. text ≡ first_bytes all) → Ends mode (Some text) old new status due journal → Ends mode told old new status due journal
+    → IfSome told (λ all. text ≡ first_bytes Nothing all) → Ends mode (Some text) old new status due journal → Ends mode told old new status due journal
 ends_told mode told old new text status due journal read ends = record {
   worked = λ zero.
       let worked = ends.worked zero in
@@ -67,21 +66,21 @@ can_run : (mode : Mode) (text : List ℕ) → IsWorkable mode text → CanRun te
 can_run (Run asked) text works = works
 can_run (One state asked) text works = works
 
-fault_says : (told : Option (List ℕ)) (text : List ℕ) (d : Declared) (number line : ℕ) → ToldFault told number line → told ≡ Some text → Says text d → ⊥
+fault_says : (told : Option (List ℕ)) (text : List ℕ) (d : Declared) (number line : ℕ) → ToldFault told number line → told ≡ Some text → Says Nothing text d → ⊥
 fault_says None text d number line fault is says = cc
 fault_says (Some all) text d number line fault is says =
-    declares_or_faults all d number line (subst (λ (t : List ℕ). Says t d) (let same : text ≡ all = cc in same) says) fault
+    declares_or_faults Nothing all d number line (subst (λ (t : List ℕ). Says Nothing t d) (let same : text ≡ all = cc in same) says) fault
 
 -- a text on which a mode's work can be done has no fault
 fault_works : (mode : Mode) (told : Option (List ℕ)) (text : List ℕ) (number line : ℕ) → ToldFault told number line → told ≡ Some text → IsWorkable mode text → ⊥
 fault_works mode told text number line fault is works = let can = can_run mode text works in fault_says told text can.0 number line fault is can.1
 
-stop_says : (told : Option (List ℕ)) (text : List ℕ) (d : Declared) (net : Net) (stop : Stop) → ToldDeclares told net → told ≡ Some text → Says text d → MeetsNoLast d → AlwaysRests d
+stop_says : (told : Option (List ℕ)) (text : List ℕ) (d : Declared) (net : Net) (stop : Stop) → ToldDeclares told net → told ≡ Some text → Says Nothing text d → MeetsNoLast d → AlwaysRests d
     → ShowsCause (Some stop) net.world (map batch_turns net.batches.items) → ⊥
 stop_says None text d net stop declares is says none rests shows = cc
 stop_says (Some all) text d net stop declares is says none rests shows =
     let same : all ≡ text = cc in
-    never_stops stop text d net says none rests (subst (λ (t : List ℕ). DeclaresNet t net) same declares) shows
+    never_stops stop text d net says none rests (subst (λ (t : List ℕ). DeclaresNet Nothing t net) same declares) shows
 
 -- nor does its script stop
 stop_works : (mode : Mode) (told : Option (List ℕ)) (text : List ℕ) (net : Net) (stop : Stop) → ToldDeclares told net → told ≡ Some text → IsWorkable mode text

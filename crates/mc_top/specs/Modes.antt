@@ -10,6 +10,7 @@ use Rattle.mc_top.specs.Printed.{run_text}
 use Rattle.mc_top.specs.Rings.{AlwaysRests}
 use Rattle.mc_lines.specs.SoFar.{Declared}
 use Rattle.mc_net.specs.Texts.{Says}
+use Rattle.mc_lines.specs.declared.tail.Tail.TheVariants.{Nothing}
 use Rattle.mc_net.specs.Versions.{MeetsNoLast}
 use Rattle.mc_net.specs.declared.net.Net.{Net}
 use Rattle.mc_script.specs.declared.command.JournalLine.{JournalLine}
@@ -84,7 +85,7 @@ draws_from (One state journal) = state
 
 -- a text declares a network, in whose script no Hear meets the last version and each batch comes to rest
 abbrev pub CanRun : List ℕ → Type 0
-CanRun text = (d : Declared) × Says text d × MeetsNoLast d × AlwaysRests d
+CanRun text = (d : Declared) × Says Nothing text d × MeetsNoLast d × AlwaysRests d
 
 -- a mode's work can be done on the text
 abbrev pub IsWorkable : Mode → List ℕ → Type 0

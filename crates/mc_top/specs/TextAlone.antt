@@ -3,6 +3,7 @@ use Rattle.std.specs.Prelude.{◌≡◌, ℕ, List, map, IsFalse, Option, Some}
 use Rattle.mc_model.specs.Sound.{IsSound}
 use Rattle.mc_model.specs.Unprogrammed.{HasNoPrograms}
 use Rattle.mc_net.specs.Nets.{DeclaresNet, batch_turns}
+use Rattle.mc_lines.specs.declared.tail.Tail.TheVariants.{Nothing}
 use Rattle.mc_net.specs.declared.net.Net.{Net}
 use Rattle.mc_settings.specs.Batches.{LeavesDecided}
 use Rattle.mc_script.specs.declared.command.JournalLine.{JournalLine}
@@ -14,7 +15,7 @@ use Rattle.mc_top.specs.declared.words.Mode.{Mode}
 
 -- the journal settles all batches of a network that the text declares, whichever interleaving of the boxes it is
 pub record SettlesText (text : List ℕ) (net : Net) (journal : List JournalLine) : Type 0 where
-  pub declares : DeclaresNet text net
+  pub declares : DeclaresNet Nothing text net
   pub sound : IsSound net.world
   pub settles : IsJournal net.world (map batch_turns net.batches.items) journal
 

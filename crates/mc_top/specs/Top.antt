@@ -10,6 +10,7 @@ use Rattle.mc_net.specs.TextLaws.{first_bytes}
 use Rattle.mc_net.specs.Texts.{IsFault}
 use Rattle.mc_net.specs.declared.net.Net.{Net}
 use Rattle.mc_lines.specs.declared.limit.TheConstants.{TEXT_LIMIT}
+use Rattle.mc_lines.specs.declared.tail.Tail.TheVariants.{Nothing}
 use Rattle.mc_top.specs.Drawn.{IsDrawnJournal}
 use Rattle.mc_top.specs.Journals.{IsJournal, IsStoppedJournal, HoldsAtSettles, ShowsCause}
 use Rattle.mc_top.specs.Modes.{draws_from, output_of, reads}
@@ -33,7 +34,7 @@ pub record Delivers (status due : ℕ) (old new : Option (List ℕ)) (output : L
 -- the text was read to its end, or to the byte past the limit
 pub record ReadsWhole (old new : Option (List ℕ)) (text : List ℕ) : Type 0 where
   pub consumed : Consumes old new text
-  pub within : length text ≤ read_limit
+  pub within : length text ≤ read_limit Nothing
   pub at_end : length text ≤ TEXT_LIMIT → IsAtEnd new
 
 -- so some text was
@@ -46,7 +47,7 @@ ReadsFor mode old new text = IsTrue (reads mode) → ReadsWhole old new text
 
 -- the text, or its first bytes up to one more than the limit, of what is told
 abbrev pub IsTextOf : Option (List ℕ) → List ℕ → Type 0
-IsTextOf told text = IfSome told (λ all. text ≡ first_bytes all)
+IsTextOf told text = IfSome told (λ all. text ≡ first_bytes Nothing all)
 
 -- The journal is one settled segment for each settle, in order, all of them one run from the network's first world: the interleaving of the boxes. At each settle the two end slots of every path are in the state that the path table gives, and where it flows each has the other's newest descriptor and the choice for its own. Which interleaving it is the draws decide, from their first state on: in a sound world there is no other such journal
 pub record Settles (net : Net) (state : ℕ) (journal : List JournalLine) : Type 0 where
@@ -57,11 +58,11 @@ pub record Settles (net : Net) (state : ℕ) (journal : List JournalLine) : Type
 
 -- what is told of a text declares this network
 abbrev pub ToldDeclares : Option (List ℕ) → Net → Type 0
-ToldDeclares told net = IfSome told (λ text. DeclaresNet text net)
+ToldDeclares told net = IfSome told (λ text. DeclaresNet Nothing text net)
 
 -- the first fault of what is told of a text is this one: a line breaks the rule of this number and none with a lesser one, and no line before it breaks a rule
 abbrev pub ToldFault : Option (List ℕ) → ℕ → ℕ → Type 0
-ToldFault told number line = IfSome told (λ text. IsFault text number line)
+ToldFault told number line = IfSome told (λ text. IsFault Nothing text number line)
 
 -- A mode did its work: it settled the network that the text declares, and delivered what it prints for the worlds that replaying the journal gives.
 --

@@ -40,7 +40,7 @@ fn text_of<S: Source>(alloc: Global, mode: Mode, source: &mut S) -> Result<Vec<u
     ensures text { IfOk result (λ text. IsTextOf (text_for mode (S.left source.old)) text.items) }
     ensures whole { IfOk result (λ text. ReadsFor mode (S.left source.old) (S.left source.new) text.items) }
     ensures unread { IsFalse (reads mode) → source.new ≡ source.old }
-    ensures at_most { ConsumesAtMost (S.left source.old) (S.left source.new) read_limit }
+    ensures at_most { ConsumesAtMost (S.left source.old) (S.left source.new) (read_limit Tail.Nothing) }
     ensures faults { S.faults source.new ≡ faults_after (S.faults source.old) (is_failed_read result) }
 {
     match mode {
@@ -100,7 +100,7 @@ fn give_up(alloc: Global, status: u8) -> Done
 
 // Writes the line of a text's first fault.
 fn refuse<K: Sink>(alloc: Global, text: &[u8], fault: TextFault, sink: &mut K) -> Done
-    requires { IsFault text.now fault.number fault.line }
+    requires { IsFault Tail.Nothing text.now fault.number fault.line }
     ensures statuses { (result.due ≡ FAULTY_TEXT) ⊎ (result.due ≡ NO_MEMORY) }
     ensures status { (result.status ≡ result.due) ⊎ (result.status ≡ WRITE_FAULT) }
     ensures ends { (mode : Mode) → EndsAs mode (Some text.now) (K.written sink.old) (K.written sink.new) result }
@@ -124,7 +124,7 @@ fn draws_of(mode: Mode) -> Draws
 
 // Runs the script of a network, and prints its journal where the mode asks for it.
 fn run_net<K: Sink>(alloc: Global, mode: Mode, text: &[u8], net: Net, sink: &mut K) -> Done
-    requires declares { DeclaresNet text.now net }
+    requires declares { DeclaresNet Tail.Nothing text.now net }
     requires named { NamesAll net.names net.world }
     requires allowed { AreAllAllowed net.world (map batch_turns net.batches.items) }
     requires few { length net.batches.items ≤ COMMAND_LIMIT }
@@ -172,7 +172,7 @@ fn run_mode<S: Source, K: Sink>(alloc: Global, mode: Mode, source: &mut S, sink:
     ensures unread { IsFalse (reads mode) → source.new ≡ source.old }
     ensures read_whole { IsTrue (reads mode) → IsTrue (judges_text result.due)
         → HasReadWhole (S.left source.old) (S.left source.new) }
-    ensures at_most { ConsumesAtMost (S.left source.old) (S.left source.new) read_limit }
+    ensures at_most { ConsumesAtMost (S.left source.old) (S.left source.new) (read_limit Tail.Nothing) }
     ensures read_fault { S.faults source.new ≡ faults_after (S.faults source.old) (result.due == READ_FAULT) }
     ensures write_fault { K.faults sink.new ≡ faults_after (K.faults sink.old) (result.status == WRITE_FAULT) }
 {
@@ -211,7 +211,7 @@ pub fn media_top<R: Threads + Sync, S: Source, K: Sink, G: Gate + Sync>(
     ensures unread { ¬ AsksToRead words.items → source.new ≡ source.old }
     ensures read_whole { AsksToRead words.items → IsTrue (judges_text result.due)
         → HasReadWhole (S.left source.old) (S.left source.new) }
-    ensures at_most { ConsumesAtMost (S.left source.old) (S.left source.new) read_limit }
+    ensures at_most { ConsumesAtMost (S.left source.old) (S.left source.new) (read_limit Tail.Nothing) }
 
     // The causes of faults: a call of the source or the sink failed exactly where this is answered.
     ensures read_fault { S.faults source.new ≡ faults_after (S.faults source.old) (result.due == READ_FAULT) }
