@@ -22,6 +22,7 @@ use Rattle.mc_model.specs.Steps.{after_making, run, step, step_by, take_at}
 use Rattle.mc_model.specs.Worlds.{WorldState, box_at, number, place}
 use Rattle.mc_net.proofs.MadeNets.{nets_are_named}
 use Rattle.mc_net.specs.Nets.{DeclaresNet, IsSayable, IsWellNamed, NamesAll, batch_turns}
+use Rattle.mc_lines.specs.declared.tail.Tail.TheVariants.{Nothing}
 use Rattle.mc_net.specs.declared.net.Net.{Net}
 use Rattle.mc_script.proofs.Read.{named_is_found}
 use Rattle.mc_script.specs.Printed.{HaveNames, IsFoundEvent, IsFoundSlot, IsNamedEvent, IsSlot}
@@ -159,14 +160,14 @@ module _ (names : NameLists) (shape : List BoxShapeState) where
 -- ---- texts
 
 -- the lines of a journal of a text's network can be printed
-journal_named : (text : List ℕ) (net : Net) (journal : List JournalLine) → DeclaresNet text net → IsSound net.world → IsJournal net.world (map batch_turns net.batches.items) journal → All (IsNamedLine net.names) journal
+journal_named : (text : List ℕ) (net : Net) (journal : List JournalLine) → DeclaresNet Nothing text net → IsSound net.world → IsJournal net.world (map batch_turns net.batches.items) journal → All (IsNamedLine net.names) journal
 journal_named text net journal declares sound settled =
-    let named : IsWellNamed net = nets_are_named text net declares in
+    let named : IsWellNamed net = nets_are_named Nothing text net declares in
     All-weaker (IsReadable net.names net.shape) (IsNamedLine net.names) (λ line readable. readable.0) journal
     (journal_readable net.names net.shape (map batch_turns net.batches.items) net.world journal sound named.world named.commands settled)
 
 -- those of a script that came to its end
-pub ran_named : (stop : Option Stop) (text : List ℕ) (net : Net) (journal : List JournalLine) → DeclaresNet text net → IsSound net.world → IsJournalTo stop net.world (map batch_turns net.batches.items) journal → stop ≡ None
+pub ran_named : (stop : Option Stop) (text : List ℕ) (net : Net) (journal : List JournalLine) → DeclaresNet Nothing text net → IsSound net.world → IsJournalTo stop net.world (map batch_turns net.batches.items) journal → stop ≡ None
     → All (IsNamedLine net.names) journal
 ran_named stop text net journal declares sound ran none =
     journal_named text net journal declares sound (subst (λ (s : Option Stop). IsJournalTo s net.world (map batch_turns net.batches.items) journal) none ran)
@@ -174,7 +175,7 @@ ran_named stop text net journal declares sound ran none =
 -- and are read again
 pub runs_are_read_back : RunsAreReadBack
 runs_are_read_back text net journal one =
-    let named : IsWellNamed net = nets_are_named text net one.declares in
+    let named : IsWellNamed net = nets_are_named Nothing text net one.declares in
     let readable : All (IsReadable net.names net.shape) journal =
     journal_readable net.names net.shape (map batch_turns net.batches.items) net.world journal one.sound named.world named.commands one.settles in
     journals_are_read net.names net.shape journal
