@@ -1,24 +1,24 @@
 pub mod AllowedCommands
-mod Candidates
+pub mod Candidates
 mod Counting
 mod DrawsEnd
 mod Dropping
 mod Endings
 mod Finds
-mod ForEach
-mod Fronts
+pub mod ForEach
+pub mod Fronts
 mod Hears
 mod Kth
-mod LeftCommands
+pub mod LeftCommands
 mod Making
-mod Nexts
+pub mod Nexts
 pub mod OneSchedule
-mod Retries
+pub mod Retries
 mod RetriesMade
 pub mod Rounds
-mod Runs
-mod Scheduled
-mod Segments
+pub mod Runs
+pub mod Scheduled
+pub mod Segments
 pub mod Shifts
 mod Sittings
 mod Unprogrammed

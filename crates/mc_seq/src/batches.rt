@@ -27,7 +27,7 @@ fn is_allowed(world: &World, turn: Turn) -> bool
         && boxes[turn.who as usize].enabled(&turn.event)
 }
 
-// Whether an event comes from a command.
+/// Whether an event comes from a command.
 pub fn is_command(event: Event) -> bool
     ensures { result ≡ is_command event }
 {

@@ -12,8 +12,9 @@ use mc_sums::Sums;
 use mc_world::World;
 use std::alloc::{AllocError, Global};
 
-// A batch, the commands of each box in their order, how many of these have come, which boxes have a command left (1 for
-// one that has, else 0), and how many commands are left in all.
+/// The commands of a batch, of which some have come: the batch, the commands of each box in their order, how many of
+/// these have come, which boxes have a command left (1 for one that has, else 0), and how many commands are left in
+/// all.
 #[derive(Debug, Drop)]
 pub struct Commands {
     pub batch: Vec<Turn>,
@@ -23,7 +24,7 @@ pub struct Commands {
     pub count: usize,
 }
 
-// The commands of a batch, of which none has come.
+/// The commands of a batch, of which none has come.
 pub fn all_commands(alloc: Global, world: &World, batch: &[Turn]) -> Result<Commands, AllocError>
     requires { AreAllowed world.now batch.now }
     ensures kept { IfOk result (AreKeptFor world.now) }
@@ -45,7 +46,7 @@ pub fn all_commands(alloc: Global, world: &World, batch: &[Turn]) -> Result<Comm
     })
 }
 
-// The next command of a box.
+/// The next command of a box; none where all have come.
 pub fn next_command(commands: &Commands, who: u32) -> Option<Turn>
     requires { AreKept commands.now }
     ensures { result ≡ next_of who (commands_left commands.now) }
@@ -53,7 +54,7 @@ pub fn next_command(commands: &Commands, who: u32) -> Option<Turn>
     command_at(&commands.queues, who, used_at(&commands.used, who))
 }
 
-// Takes the next command of a box from those that are left.
+/// Takes the next command of a box from those that are left.
 pub fn drop_command(commands: &mut Commands, who: u32)
     requires { AreKept commands.old }
     ensures kept { AreKept commands.new }

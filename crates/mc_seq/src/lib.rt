@@ -15,7 +15,8 @@ mod shifting;
 mod stopping;
 mod turns;
 
-pub use batches::{fits, has_programs};
+pub use batches::{fits, has_programs, is_command};
+pub use commands::{Commands, all_commands, drop_command, next_command};
 pub use drawing::settle_one;
 pub use fault::{SettleFault, Stopped, StoppedBox};
 pub use limit::SHIFT_LIMIT;

@@ -1,0 +1,2 @@
+mod CountsKept
+mod Quiet

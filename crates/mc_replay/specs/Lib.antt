@@ -1,0 +1,3 @@
+pub mod Counts
+pub mod Follows
+pub mod Moments
