@@ -143,3 +143,28 @@ step_fits world next turn all more sound later goes counted of =
     let owed : all.owed ≤ 2 ^ 38 = rw counted.owed few.owed in
     let ready : all.ready ≤ 2 ^ 32 = rw counted.ready few.ready in
     (omega (arith, owed, box.0), omega (arith, ready, box.1))
+
+-- the boxes below a number are counted
+pub record CountedTo (world : WorldState) (counts : Counts) (who : ℕ) : Type 0 where
+  pub owed : counts.owed ≡ total (λ (w : ℕ). owed_in (box_at world w)) who
+  pub ready : counts.ready ≡ total (λ (w : ℕ). ready_in (box_at world w)) who
+  pub owed_few : counts.owed ≤ 64 * who
+  pub ready_few : counts.ready ≤ who
+
+-- and one box more
+pub counted_more : (world : WorldState) (who : ℕ) (all more : Counts) → IsSound world → who < length world.boxes → CountedTo world all who → AreOfBox (box_at world who) more
+    → CountedTo world (record { owed = all.owed + more.owed; ready = all.ready + more.ready }) (who + 1)
+counted_more world who all more sound inside counted of =
+    let few = of_box_few world who more sound inside of in
+    record {
+      owed = total_more (λ (w : ℕ). owed_in (box_at world w)) who all.owed more.owed counted.owed of.owed;
+      ready = total_more (λ (w : ℕ). ready_in (box_at world w)) who all.ready more.ready counted.ready of.ready;
+      owed_few = omega (arith, counted.owed_few, few.0);
+      ready_few = omega (arith, counted.ready_few, few.1);
+    }
+
+pub counted_fits : (world : WorldState) (who : ℕ) (all more : Counts) → IsSound world → who < length world.boxes → CountedTo world all who → AreOfBox (box_at world who) more → all.owed + more.owed < 2 ^ 64
+counted_fits world who all more sound inside counted of =
+    let few = of_box_few world who more sound inside of in
+    let boxes = boxes_few world sound in
+    omega (arith, counted.owed_few, few.0, boxes, inside)

@@ -1,15 +1,16 @@
 -- A segment of a journal, as it is followed turn by turn.
-use Rattle.std.specs.Prelude.{◌≡◌, ◌≢◌, ◌++◌, ℕ, Bool, true, false, List, [], ◌∷◌, Result, Ok, Err, Some, None, IsTrue}
-use Rattle.std.specs.List.{list_all}
+use Rattle.std.specs.Prelude.{◌≡◌, ◌≢◌, ◌++◌, ◌==◌, ◌&&◌, ℕ, Bool, true, false, List, [], ◌∷◌, Result, Ok, Err, Some, None, IsTrue, length}
+use Rattle.std.specs.List.{list_all, list_any}
 use Rattle.mc_box.specs.BoxEvents.{is_command}
 use Rattle.mc_box.specs.declared.event.Turn.{Turn}
-use Rattle.mc_model.specs.Settles.{IsSettled, commands_of, next_command}
+use Rattle.mc_model.specs.Settles.{IsSettled, commands_of, next_command, rests}
 use Rattle.mc_model.specs.Sound.{IsSound}
 use Rattle.mc_model.specs.Steps.{after, run, step}
 use Rattle.mc_model.specs.Worlds.{WorldState, slot_count}
 use Rattle.mc_seq.specs.Commands.{AreKeptFor, commands_left}
+use Rattle.mc_seq.specs.Schedule.{next_of}
 use Rattle.mc_replay.specs.Counts.{AreCounted}
-use Rattle.mc_replay.specs.Moments.{AreMoments, AreNumbered, AreRetries}
+use Rattle.mc_replay.specs.Moments.{AreMoments, AreNumbered, AreRetries, serves}
 use Rattle.mc_replay.specs.declared.counts.Counts.{Counts}
 use Rattle.mc_replay.specs.declared.segment.Segment.{Segment}
 use Rattle.mc_replay.specs.declared.segment.TurnFault.{TurnFault}
@@ -40,12 +41,21 @@ pub record Follows (begins : WorldState) (batch turns : List Turn) (segment : Se
 abbrev pub IsNext : (batch turns : List Turn) → Turn → Type 0
 IsNext batch turns turn = IsTrue (is_command turn.event) → next_command batch turns turn.who ≡ Some turn
 
+-- the same of the commands that are left, as it is told of a turn
+abbrev pub TellsNext : List Turn → Turn → Bool → Type 0
+TellsNext left turn true = IsTrue (is_command turn.event) → next_of turn.who left ≡ Some turn
+TellsNext left turn false = IsTrue (is_command turn.event) × (next_of turn.who left ≢ Some turn)
+
 -- what becomes of a turn behind those that a segment has followed
 abbrev pub Makes : WorldState → (batch turns : List Turn) → Turn → Result (Unit {0}) TurnFault → Segment → Type 0
 Makes begins batch turns turn (Ok done) new = Follows begins batch (turns ++ turn ∷ []) new × IsNext batch turns turn
 Makes begins batch turns turn (Err NotNext) new = IsTrue (is_command turn.event) × (next_command batch turns turn.who ≢ Some turn)
 Makes begins batch turns turn (Err NotEnabled) new = IsNext batch turns turn × (step (after begins turns) turn ≡ None)
 Makes begins batch turns turn (Err (NoMemory e)) new = Unit {0}
+
+-- nothing is left of the batch, the world rests, and some moment that is kept may be the last rest
+abbrev pub is_last : Segment → Bool
+is_last segment = length (commands_left segment.left) == 0 && (rests segment.world && list_any (λ moment. serves moment segment.retries) segment.moments.items)
 
 -- what is answered of turns where a line says that they settle the batch
 abbrev pub TellsSettled : WorldState → (batch turns : List Turn) → WorldState → Bool → Type 0

@@ -9,7 +9,7 @@ ghost use Rattle.mc_model.specs.Worlds.{WorldState};
 ghost use Rattle.mc_seq.specs.Commands.{AreKept, AreKeptFor, commands_left};
 ghost use Rattle.mc_seq.specs.Schedule.{left_by, next_of};
 ghost use Rattle.mc_replay.specs.Counts.{AreCounted, ready_count};
-ghost use Rattle.mc_replay.specs.Follows.{Follows, Makes, Stands, TriedStep, TellsSettled};
+ghost use Rattle.mc_replay.specs.Follows.{Follows, Makes, Stands, TellsNext, TellsSettled, TriedStep, is_last};
 ghost use Rattle.mc_replay.specs.Moments.{CountsRetry};
 ghost use Rattle.mc_replay.specs.declared.segment.TurnFault.TheVariants.{NoMemory};
 
@@ -116,7 +116,8 @@ impl Segment {
             &self.left,
             self.counts,
             &self.retries,
-        )
+        )?;
+        Ok(())
     }
 
     // Makes a turn.
@@ -125,7 +126,8 @@ impl Segment {
         ensures { (begins : WorldState) (batch turns : List Turn) → Follows begins batch turns self.old
             → Makes begins batch turns turn result self.new }
     {
-        if is_command(turn.event) && !is_next(&self.left, turn) {
+        self.world.keeps();
+        if !may_come(&self.left, turn) {
             return Err(TurnFault::NotNext);
         }
         step(&mut self.world, &mut self.counts, turn)?;
@@ -146,14 +148,30 @@ impl Segment {
     pub fn is_settled(&mut self) -> bool
         requires { Stands self.old }
         ensures same { self.new ≡ self.old }
+        ensures quiet { IsTrue result → IsTrue (is_quiet self.old.world) }
         ensures settled { (begins : WorldState) (batch turns : List Turn) → Follows begins batch turns self.old
             → TellsSettled begins batch turns self.old.world result }
+    {
+        self.is_last() && self.world.find_ring().is_none()
+    }
+
+    // Whether nothing is left of the batch, the world rests, and some moment may be the last rest.
+    fn is_last(&self) -> bool
+        requires { Stands self.now }
+        ensures { result ≡ is_last self.now }
     {
         self.left.count == 0
             && rests(&self.world, self.counts)
             && some_serves(&self.moments, &self.retries)
-            && self.world.find_ring().is_none()
     }
+}
+
+// Whether a turn is no command, or the next one of its box.
+fn may_come(left: &Commands, turn: Turn) -> bool
+    requires { AreKept left.now }
+    ensures { TellsNext (commands_left left.now) turn result }
+{
+    !is_command(turn.event) || is_next(left, turn)
 }
 
 // Whether a command is the next one of its box.
