@@ -78,9 +78,10 @@ of_box_few world who counts sound inside of =
 
 -- those of one box are within those of the world
 pub of_box_within : (world : WorldState) (who : ℕ) (all counts : Counts) → who < length world.boxes → AreCounted world all → AreOfBox (box_at world who) counts → (counts.owed ≤ all.owed) × (counts.ready ≤ all.ready)
-of_box_within world who all counts inside counted of =
-    (rw (of.owed, counted.owed) (total_has (λ (w : ℕ). owed_in (box_at world w)) (length world.boxes) who inside),
-    rw (of.ready, counted.ready) (total_has (λ (w : ℕ). ready_in (box_at world w)) (length world.boxes) who inside))
+of_box_within world who all counts inside counted of = (
+  rw (of.owed, counted.owed) (total_has (λ (w : ℕ). owed_in (box_at world w)) (length world.boxes) who inside),
+  rw (of.ready, counted.ready) (total_has (λ (w : ℕ). ready_in (box_at world w)) (length world.boxes) who inside),
+)
 
 -- ---- a step
 

@@ -1,6 +1,7 @@
 -- A segment from its beginning on: what it keeps as a turn comes, and what it says of settling.
-use Rattle.std.proofs.Common.{◌≡◌, ◌≢◌, ◌≤◌, ◌<◌, ◌+◌, ◌-◌, ◌++◌, ◌==◌, ◌&&◌, ◌||◌, inl, inr, if◌then◌else◌, ℕ, zero, suc, Bool, true, false, List, [], ◌∷◌, IsTrue, Option, Some, Result, Err, length, take, drop, nat_le, refl, ap, sym, ◌∙◌, subst, arith}
+use Rattle.std.proofs.Common.{◌≡◌, ◌≢◌, ◌≤◌, ◌<◌, ◌+◌, ◌-◌, ◌++◌, ◌==◌, ◌&&◌, ◌||◌, inl, inr, if◌then◌else◌, not, ℕ, zero, suc, Bool, true, false, List, [], ◌∷◌, IsTrue, Option, Some, None, Result, Err, length, take, drop, nat_le, refl, ap, sym, ◌∙◌, subst, arith}
 use Rattle.std.specs.List.{list_all, list_any}
+use Rattle.std.specs.Option.{is_some}
 use Rattle.std.proofs.Math.ListN.{get_or}
 use Rattle.std.proofs.lemmas.Grind.{common_steps}
 use Rattle.std.proofs.lemmas.List.{take-append-drop}
@@ -220,13 +221,30 @@ only_here begins other batch turns segment follows settled =
     let low : segment.retries.low ≤ moment.retries = let low_is = (follows.retries.low n rest.within).1 serving.0 in omega (arith, low_is, kept.2.retries) in
     let owed : segment.retries.made - moment.retries ≡ moment.owed = omega (arith, serving.1, kept.2.retries, kept.2.owed, follows.retries.made, retries_parts turns n) in
     let any : list_any (λ (m : Moment). serves m segment.retries) segment.moments.items ≡ true =
-    list_any_at (λ (m : Moment). serves m segment.retries) segment.moments.items kept.0 no_moment kept.1 (says_serves moment segment.retries low owed) in
-    (both_there (length (commands_left segment.left) == 0) (rests segment.world && list_any (λ (m : Moment). serves m segment.retries) segment.moments.items) (zero_by (commands_left segment.left) none)
-    (both_there (rests segment.world) (list_any (λ (m : Moment). serves m segment.retries) segment.moments.items) (ap rests (sym same) ∙ settled.at_rest) any),
-    ap has_ring (sym same) ∙ settled.no_ring)
+    list_any_at (λ (m : Moment). serves m segment.retries) segment.moments.items kept.0 no_moment kept.1 (says_serves moment segment.retries low owed) in (
+      both_there (length (commands_left segment.left) == 0) (rests segment.world && list_any (λ (m : Moment). serves m segment.retries) segment.moments.items) (zero_by (commands_left segment.left) none)
+          (both_there (rests segment.world) (list_any (λ (m : Moment). serves m segment.retries) segment.moments.items) (ap rests (sym same) ∙ settled.at_rest) any),
+      ap has_ring (sym same) ∙ settled.no_ring,
+    )
 
 -- what is told of settling
 pub tells_settled : (result : Bool) (begins : WorldState) (batch turns : List Turn) (segment : Segment) → (result ≡ true → (is_last segment ≡ true) × (has_ring segment.world ≡ false))
     → (result ≡ false → is_last segment ≡ true → has_ring segment.world ≡ false → ⊥) → Follows begins batch turns segment → TellsSettled begins batch turns segment.world result
 tells_settled true begins batch turns segment forth back follows = let here = forth refl in settled_here begins batch turns segment follows here.0 here.1
 tells_settled false begins batch turns segment forth back follows = λ other settled. let here = only_here begins other batch turns segment follows settled in back refl here.0 here.1
+
+-- by the tests that are made
+pub settled_by : (result : Bool) (ring : Option ℕ) (begins : WorldState) (batch turns : List Turn) (segment : Segment) (found : WorldState) → is_last segment ≡ true → found ≡ segment.world → has_ring found ≡ is_some ring → is_some ring ≡ not result → Follows begins batch turns segment
+    → TellsSettled begins batch turns segment.world result
+settled_by result None begins batch turns segment found last same has is follows =
+    tells_settled result begins batch turns segment (λ yes. (last, sym (ap has_ring same) ∙ has)) (λ none. absurd (let never : false ≡ true = is ∙ ap not none in cc never)) follows
+settled_by result (Some s) begins batch turns segment found last same has is follows =
+    tells_settled result begins batch turns segment (λ yes. absurd (let never : true ≡ false = is ∙ ap not yes in cc never)) (λ none here ring. let there : has_ring segment.world ≡ true = sym (ap has_ring same) ∙ has in cc (ring, there)) follows
+
+pub unsettled_by : (result : Bool) (begins : WorldState) (batch turns : List Turn) (segment : Segment) → result ≡ is_last segment → result ≡ false → Follows begins batch turns segment → TellsSettled begins batch turns segment.world result
+unsettled_by result begins batch turns segment is unsettled follows =
+    tells_settled result begins batch turns segment (λ yes. absurd (cc (unsettled, yes))) (λ none last ring. cc (is, unsettled, last)) follows
+
+-- as many slots after a step as before
+pub slots_after : (world next : WorldState) (turn : Turn) → IsSound world → step world turn ≡ Some next → slot_count next ≡ slot_count world
+slots_after world next turn sound goes = slots_same next world (step_keeps_shape world next turn sound goes).channels

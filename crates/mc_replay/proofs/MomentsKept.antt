@@ -128,13 +128,15 @@ moment_was world batch turns turn n within moment =
     let same = take_before turns turn n within in
     let all : (all_besides (drop n turns) && all_besides (turn ∷ [])) ≡ true =
     sym (list_all-append (λ (t : Turn). takes_or_retries t.event) (drop n turns) (turn ∷ [])) ∙ (ap all_besides (sym (drop_before turns turn n within)) ∙ moment.besides) in
-    let both = both_true (all_besides (drop n turns)) (all_besides (turn ∷ [])) all in
-    (record {
-      within = within;
-      at_rest = ap (λ (l : List Turn). rests (after world l)) (sym same) ∙ moment.at_rest;
-      used_up = λ who. ap (commands_of who) (sym same) ∙ moment.used_up who;
-      besides = both.0;
-    }, (both_true (takes_or_retries turn.event) true both.1).0)
+    let both = both_true (all_besides (drop n turns)) (all_besides (turn ∷ [])) all in (
+      record {
+        within = within;
+        at_rest = ap (λ (l : List Turn). rests (after world l)) (sym same) ∙ moment.at_rest;
+        used_up = λ who. ap (commands_of who) (sym same) ∙ moment.used_up who;
+        besides = both.0;
+      },
+      (both_true (takes_or_retries turn.event) true both.1).0,
+    )
 
 -- what is kept of it is kept of the longer list
 kept_stays : (world : WorldState) (turns : List Turn) (turn : Turn) (before n : ℕ) (kept : Moment) → n ≤ length turns → IsKeptOf world turns before n kept → IsKeptOf world (turns ++ turn ∷ []) before n kept

@@ -110,9 +110,10 @@ other_retries world turns turn before retries is numbered kept =
         | inl past ↦
             let taken = ap retry_count (take_before turns turn n past) in
             let dropped = ap (retries_at world s) (drop_before turns turn n past) ∙ count_same (is_retry_of (place world s).0 (place world s).1) (drop n turns) turn (not_of turn (place world s).0 (place world s).1 is) in
-            let old = kept.last n s past inside in
-            (λ less. let here : before + retry_count (take n turns) < get_or retries.last.items s 0 = omega (arith, less, taken) in omega (arith, old.0 here, dropped),
-            λ some. let here : 1 ≤ retries_at world s (drop n turns) = omega (arith, some, dropped) in omega (arith, old.1 here, taken))
+            let old = kept.last n s past inside in (
+              λ less. let here : before + retry_count (take n turns) < get_or retries.last.items s 0 = omega (arith, less, taken) in omega (arith, old.0 here, dropped),
+              λ some. let here : 1 ≤ retries_at world s (drop n turns) = omega (arith, some, dropped) in omega (arith, old.1 here, taken),
+            )
         | inr end ↦
             let taken = ap retry_count (take_end (turns ++ turn ∷ []) n end) in
             let dropped : retries_at world s (drop n (turns ++ turn ∷ [])) ≡ 0 = ap (retries_at world s) (drop_end (turns ++ turn ∷ []) n end) in
@@ -123,13 +124,15 @@ other_retries world turns turn before retries is numbered kept =
             let taken = ap retry_count (take_before turns turn n past) in
             let dropped : (who local : ℕ) → count_by (is_retry_of who local) (drop n (turns ++ turn ∷ [])) ≡ count_by (is_retry_of who local) (drop n turns) = λ who local.
             ap (count_by (is_retry_of who local)) (drop_before turns turn n past) ∙ count_same (is_retry_of who local) (drop n turns) turn (not_of turn who local is) in
-            let old = kept.low n past in
-            (λ less who local. let here : retries.low ≤ before + retry_count (take n turns) = omega (arith, less, taken) in omega (arith, old.0 here who local, dropped who local),
-            λ once. let here : AreRetriedOnce (drop n turns) = (λ who local. omega (arith, once who local, dropped who local)) in omega (arith, old.1 here, taken))
+            let old = kept.low n past in (
+              λ less who local. let here : retries.low ≤ before + retry_count (take n turns) = omega (arith, less, taken) in omega (arith, old.0 here who local, dropped who local),
+              λ once. let here : AreRetriedOnce (drop n turns) = (λ who local. omega (arith, once who local, dropped who local)) in omega (arith, old.1 here, taken),
+            )
         | inr end ↦
-            let taken = ap retry_count (take_end (turns ++ turn ∷ []) n end) in
-            (λ less who local. let none : count_by (is_retry_of who local) (drop n (turns ++ turn ∷ [])) ≡ 0 = ap (count_by (is_retry_of who local)) (drop_end (turns ++ turn ∷ []) n end) in omega (arith, none),
-            λ once. omega (arith, numbered.low, taken, made))
+            let taken = ap retry_count (take_end (turns ++ turn ∷ []) n end) in (
+              λ less who local. let none : count_by (is_retry_of who local) (drop n (turns ++ turn ∷ [])) ≡ 0 = ap (count_by (is_retry_of who local)) (drop_end (turns ++ turn ∷ []) n end) in omega (arith, none),
+              λ once. omega (arith, numbered.low, taken, made),
+            )
       ];
     }
 
@@ -213,9 +216,10 @@ one_retry world turns turn before s old new sound one numbered was kept =
                   ∙ other_retry (one.local == (place world t).1 && turn.who == (place world t).0) world turn s t sound one inside apart refl in
                   let more : retries_at world t (drop n turns ++ turn ∷ []) ≡ retries_at world t (drop n turns) = count_same (is_retry_of (place world t).0 (place world t).1) (drop n turns) turn none in
                   let last = other_last t apart in
-                  let was_last = kept.last n t past inside in
-                  (λ less. let here : before + retry_count (take n turns) < get_or old.last.items t 0 = omega (arith, less, taken, last) in omega (arith, was_last.0 here, dropped, more),
-                  λ some. let here : 1 ≤ retries_at world t (drop n turns) = omega (arith, some, dropped, more) in omega (arith, was_last.1 here, taken, last))
+                  let was_last = kept.last n t past inside in (
+                    λ less. let here : before + retry_count (take n turns) < get_or old.last.items t 0 = omega (arith, less, taken, last) in omega (arith, was_last.0 here, dropped, more),
+                    λ some. let here : 1 ≤ retries_at world t (drop n turns) = omega (arith, some, dropped, more) in omega (arith, was_last.1 here, taken, last),
+                  )
             ]
         | inr end ↦
             let taken = ap retry_count (take_end (turns ++ turn ∷ []) n end) in
@@ -231,25 +235,27 @@ one_retry world turns turn before s old new sound one numbered was kept =
             let taken = ap retry_count (take_before turns turn n past) in
             let dropped = drop_before turns turn n past in
             let was_low = kept.low n past in
-            let was_last = kept.last n s past one.inside in
-            (λ less.
-            let low : old.low ≤ before + retry_count (take n turns) = omega (arith, less, taken, was.low, le-max_left old.low (get_or old.last.items s 0)) in
-            let last : get_or old.last.items s 0 ≤ before + retry_count (take n turns) = omega (arith, less, taken, was.low, le-max_right old.low (get_or old.last.items s 0)) in
-            let none : retries_at world s (drop n turns) ≡ 0 = none_by (retries_at world s (drop n turns)) (λ some. let past_last = was_last.1 some in omega (arith, past_last, last)) in
-            subst AreRetriedOnce (sym dropped) (once_more world (drop n turns) turn s one (was_low.0 low) none),
-            λ once.
-            let all : AreRetriedOnce (drop n turns ++ turn ∷ []) = subst AreRetriedOnce dropped once in
-            let low : old.low ≤ before + retry_count (take n turns) = was_low.1 (once_less (drop n turns) turn all) in
-            let more : retries_at world s (drop n turns ++ turn ∷ []) ≡ retries_at world s (drop n turns) + 1 = count_one (is_retry_of (place world s).0 (place world s).1) (drop n turns) turn (own_retry world turn s one) in
-            let last : get_or old.last.items s 0 ≤ before + retry_count (take n turns) =
-            not_less (before + retry_count (take n turns)) (get_or old.last.items s 0) (λ less. let some = was_last.0 less in omega (arith, some, more, all (place world s).0 (place world s).1)) in
-            let both : max old.low (get_or old.last.items s 0) ≤ before + retry_count (take n turns) = max_both old.low (get_or old.last.items s 0) (before + retry_count (take n turns)) low last in
-            omega (arith, both, was.low, taken))
+            let was_last = kept.last n s past one.inside in (
+              λ less.
+                  let low : old.low ≤ before + retry_count (take n turns) = omega (arith, less, taken, was.low, le-max_left old.low (get_or old.last.items s 0)) in
+                  let last : get_or old.last.items s 0 ≤ before + retry_count (take n turns) = omega (arith, less, taken, was.low, le-max_right old.low (get_or old.last.items s 0)) in
+                  let none : retries_at world s (drop n turns) ≡ 0 = none_by (retries_at world s (drop n turns)) (λ some. let past_last = was_last.1 some in omega (arith, past_last, last)) in
+                  subst AreRetriedOnce (sym dropped) (once_more world (drop n turns) turn s one (was_low.0 low) none),
+              λ once.
+                  let all : AreRetriedOnce (drop n turns ++ turn ∷ []) = subst AreRetriedOnce dropped once in
+                  let low : old.low ≤ before + retry_count (take n turns) = was_low.1 (once_less (drop n turns) turn all) in
+                  let more : retries_at world s (drop n turns ++ turn ∷ []) ≡ retries_at world s (drop n turns) + 1 = count_one (is_retry_of (place world s).0 (place world s).1) (drop n turns) turn (own_retry world turn s one) in
+                  let last : get_or old.last.items s 0 ≤ before + retry_count (take n turns) =
+                  not_less (before + retry_count (take n turns)) (get_or old.last.items s 0) (λ less. let some = was_last.0 less in omega (arith, some, more, all (place world s).0 (place world s).1)) in
+                  let both : max old.low (get_or old.last.items s 0) ≤ before + retry_count (take n turns) = max_both old.low (get_or old.last.items s 0) (before + retry_count (take n turns)) low last in
+                  omega (arith, both, was.low, taken),
+            )
         | inr end ↦
             let taken = ap retry_count (take_end (turns ++ turn ∷ []) n end) in
-            let both : max old.low (get_or old.last.items s 0) ≤ old.made = max_both old.low (get_or old.last.items s 0) old.made numbered.low (numbered.last s) in
-            (λ less who local. let none : count_by (is_retry_of who local) (drop n (turns ++ turn ∷ [])) ≡ 0 = ap (count_by (is_retry_of who local)) (drop_end (turns ++ turn ∷ []) n end) in omega (arith, none),
-            λ once. omega (arith, both, was.low, was.made, taken, made))
+            let both : max old.low (get_or old.last.items s 0) ≤ old.made = max_both old.low (get_or old.last.items s 0) old.made numbered.low (numbered.last s) in (
+              λ less who local. let none : count_by (is_retry_of who local) (drop n (turns ++ turn ∷ [])) ≡ 0 = ap (count_by (is_retry_of who local)) (drop_end (turns ++ turn ∷ []) n end) in omega (arith, none),
+              λ once. omega (arith, both, was.low, was.made, taken, made),
+            )
       ];
     }
   where
@@ -280,9 +286,10 @@ first_retries world retries count numbered = record {
       (λ less. absurd (omega (arith, less, taken, numbered.last s)), λ some. absurd (omega (arith, some, dropped)));
   low = λ n within.
       let none : n ≡ length {A = Turn} [] = omega (arith, within) in
-      let taken = ap retry_count (take_end [] n none) in
-      (λ less who local. let zero : count_by (is_retry_of who local) (drop n []) ≡ 0 = ap (count_by (is_retry_of who local)) (drop_end [] n none) in omega (arith, zero),
-      λ once. omega (arith, numbered.low, taken));
+      let taken = ap retry_count (take_end [] n none) in (
+        λ less who local. let zero : count_by (is_retry_of who local) (drop n []) ≡ 0 = ap (count_by (is_retry_of who local)) (drop_end [] n none) in omega (arith, zero),
+        λ once. omega (arith, numbered.low, taken),
+      );
 }
 
 -- ---- any turn

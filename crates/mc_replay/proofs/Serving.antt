@@ -222,7 +222,8 @@ bit_is : (owes : Bool) → (if owes then 1 else 0) ≡ bit owes
 bit_is owes = refl
 
 pub retried_serves : (world last : WorldState) (behind : List Turn) → IsSound world → run world behind ≡ Some last → Retrieds world behind → AreRetriedOnce behind × (retry_count behind ≡ owed_count world)
-retried_serves world last behind sound goes retried =
-    (λ who local. once_by (world_owes world who local) (count_by (is_retry_of who local) behind) (retried who local),
-    sym (run_counted behind world world last (same_shape world) sound goes)
-    ∙ (over_same world (λ w l. count_by (is_retry_of w l) behind) (λ w l. bit (world_owes world w l)) (λ who local below within. retried who local ∙ bit_is (world_owes world who local)) ∙ owed_counted world))
+retried_serves world last behind sound goes retried = (
+  λ who local. once_by (world_owes world who local) (count_by (is_retry_of who local) behind) (retried who local),
+  sym (run_counted behind world world last (same_shape world) sound goes)
+      ∙ (over_same world (λ w l. count_by (is_retry_of w l) behind) (λ w l. bit (world_owes world w l)) (λ who local below within. retried who local ∙ bit_is (world_owes world who local)) ∙ owed_counted world),
+)

@@ -18,7 +18,8 @@ recounted-requires-clause-ready_fits c =
     (step_fits c.args.world.now c.step.new.self c.args.turn c.args.counts.now c.counts_of-more.result c.keeps.ensures.sound c.keeps-2.ensures.sound c.in-Ok.ensures.ok c.requires c.counts_of-more.ensures).1
 
 pub returns : goal.returns
-returns c =
-    (c.in-Ok.ensures.ok,
-    step_counts c.args.world.now c.step.new.self c.args.turn c.args.counts.now c.counts_of-less.result c.counts_of-more.result c.recounted.result c.keeps.ensures.sound c.in-Ok.ensures.ok c.requires
-    c.counts_of-less.ensures c.counts_of-more.ensures c.recounted.ensures.owed c.recounted.ensures.ready)
+returns c = (
+  c.in-Ok.ensures.ok,
+  step_counts c.args.world.now c.step.new.self c.args.turn c.args.counts.now c.counts_of-less.result c.counts_of-more.result c.recounted.result c.keeps.ensures.sound c.in-Ok.ensures.ok c.requires
+      c.counts_of-less.ensures c.counts_of-more.ensures c.recounted.ensures.owed c.recounted.ensures.ready,
+)
