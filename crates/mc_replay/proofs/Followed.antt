@@ -26,7 +26,7 @@ use Rattle.mc_seq.proofs.AllowedCommands.{left_pass}
 use Rattle.mc_seq.proofs.Scheduled.{allowed_commands}
 use Rattle.mc_seq.proofs.Segments.{both_there}
 use Rattle.mc_replay.specs.Counts.{AreCounted, owed_count}
-use Rattle.mc_replay.specs.Follows.{AreCommands, Follows, IsNext, Makes, TellsNext, TellsSettled, TriedStep, is_last}
+use Rattle.mc_replay.specs.Follows.{AreCommands, Follows, IsNext, MakesTurn, TellsNext, TellsSettled, TriedStep, is_last}
 use Rattle.mc_replay.specs.Moments.{AreMoments, AreNumbered, AreRetries, CountsRetry, IsKeptOf, IsMoment, no_moment, is_retry, retry_count, serves}
 use Rattle.mc_replay.specs.declared.moments.Moment.{Moment}
 use Rattle.mc_replay.specs.declared.retries.Retries.{Retries}
@@ -136,13 +136,13 @@ not_next begins batch turns turn segment follows tells =
 
 -- a step that isn't made
 pub tried_makes : (fault : TurnFault) (result : Result (Unit {0}) TurnFault) (begins world : WorldState) (batch turns : List Turn) (turn : Turn) (counts : Counts) (old new : Segment) → result ≡ Err fault → Follows begins batch turns old
-    → TellsNext (commands_left old.left) turn true → TriedStep old.world world counts turn (Err fault) → Makes begins batch turns turn result new
+    → TellsNext (commands_left old.left) turn true → TriedStep old.world world counts turn (Err fault) → MakesTurn begins batch turns turn result new
 tried_makes NotNext result begins world batch turns turn counts old new is follows next tried = absurd tried
 tried_makes NotEnabled result begins world batch turns turn counts old new is follows next tried =
-    subst (λ (r : Result (Unit {0}) TurnFault). Makes begins batch turns turn r new) (sym is)
+    subst (λ (r : Result (Unit {0}) TurnFault). MakesTurn begins batch turns turn r new) (sym is)
     (next_of_batch begins batch turns turn old follows next, ap (λ (w : WorldState). step w turn) (after_is begins old.world turns follows.runs) ∙ tried)
 tried_makes (NoMemory e) result begins world batch turns turn counts old new is follows next tried =
-    subst (λ (r : Result (Unit {0}) TurnFault). Makes begins batch turns turn r new) (sym is) tt
+    subst (λ (r : Result (Unit {0}) TurnFault). MakesTurn begins batch turns turn r new) (sym is) tt
 
 -- ---- settling
 

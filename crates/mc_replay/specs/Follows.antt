@@ -47,11 +47,11 @@ TellsNext left turn true = IsTrue (is_command turn.event) → next_of turn.who l
 TellsNext left turn false = IsTrue (is_command turn.event) × (next_of turn.who left ≢ Some turn)
 
 -- what becomes of a turn behind those that a segment has followed
-abbrev pub Makes : WorldState → (batch turns : List Turn) → Turn → Result (Unit {0}) TurnFault → Segment → Type 0
-Makes begins batch turns turn (Ok done) new = Follows begins batch (turns ++ turn ∷ []) new × IsNext batch turns turn
-Makes begins batch turns turn (Err NotNext) new = IsTrue (is_command turn.event) × (next_command batch turns turn.who ≢ Some turn)
-Makes begins batch turns turn (Err NotEnabled) new = IsNext batch turns turn × (step (after begins turns) turn ≡ None)
-Makes begins batch turns turn (Err (NoMemory e)) new = Unit {0}
+abbrev pub MakesTurn : WorldState → (batch turns : List Turn) → Turn → Result (Unit {0}) TurnFault → Segment → Type 0
+MakesTurn begins batch turns turn (Ok done) new = Follows begins batch (turns ++ turn ∷ []) new × IsNext batch turns turn
+MakesTurn begins batch turns turn (Err NotNext) new = IsTrue (is_command turn.event) × (next_command batch turns turn.who ≢ Some turn)
+MakesTurn begins batch turns turn (Err NotEnabled) new = IsNext batch turns turn × (step (after begins turns) turn ≡ None)
+MakesTurn begins batch turns turn (Err (NoMemory e)) new = Unit {0}
 
 -- nothing is left of the batch, the world rests, and some moment that is kept may be the last rest
 abbrev pub is_last : Segment → Bool

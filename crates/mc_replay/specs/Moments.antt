@@ -1,5 +1,5 @@
 -- The moments of a segment that may be its last rest, and the retries behind them.
-use Rattle.std.specs.Prelude.{◌≡◌, ◌↔◌, ◌<◌, ◌≤◌, ◌+◌, ◌-◌, ◌==◌, ◌&&◌, nat_le, ℕ, Bool, true, false, List, length, max, take, drop, count_by, slice_index_or, slice_set, IsTrue, Option, Some, None}
+use Rattle.std.specs.Prelude.{◌≡◌, ◌↔◌, ◌<◌, ◌≤◌, ◌+◌, ◌-◌, ◌==◌, ◌&&◌, ◌++◌, nat_le, if◌then◌else◌, ℕ, Bool, true, false, List, [], ◌∷◌, length, max, take, drop, count_by, slice_index_or, slice_set, IsTrue, Option, Some, None}
 use Rattle.std.specs.List.{list_all}
 use Rattle.mc_box.specs.declared.event.Event.{Event}
 use Rattle.mc_box.specs.declared.event.Event.TheVariants.{Retry}
@@ -35,6 +35,10 @@ pub record IsKeptOf (world : WorldState) (turns : List Turn) (before moment : �
 
 abbrev pub no_moment : Moment
 no_moment = record { retries = 0; owed = 0 }
+
+-- the present behind those that are kept, where it is one
+abbrev pub with_present : Bool → Moment → List Moment → List Moment
+with_present is_one present moments = if is_one then moments ++ present ∷ [] else moments
 
 -- each moment is kept, and no other
 pub record AreMoments (world : WorldState) (batch turns : List Turn) (before : ℕ) (moments : List Moment) : Type 0 where

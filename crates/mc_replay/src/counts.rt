@@ -1,8 +1,8 @@
 // How many slots owe a retry, and how many boxes have an enabled Shift, kept while turns are made.
 
-ghost use Rattle.std.specs.Prelude.{◌≡◌, ◌<◌, ◌≤◌, ◌+◌, ◌-◌, ◌^◌, length};
+ghost use Rattle.std.specs.Prelude.{◌≡◌, ◌<◌, ◌≤◌, ◌+◌, ◌-◌, ◌^◌};
 ghost use Rattle.mc_model.specs.Worlds.{box_at};
-ghost use Rattle.mc_replay.specs.Counts.{AreCounted, AreOfBox, owed_in, ready_in};
+ghost use Rattle.mc_replay.specs.Counts.{AreCounted, AreOfBox, owed_in};
 
 use mc_box::{Event, MediaBox};
 use mc_world::World;

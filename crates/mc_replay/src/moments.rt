@@ -1,6 +1,6 @@
 // The moments of a segment that may be its last rest.
 
-ghost use Rattle.std.specs.Prelude.{◌≡◌, ◌++◌, ◌≤◌, ◌-◌, ◌==◌, ◌&&◌, if◌then◌else◌, [], ◌∷◌, IsTrue, OnOk};
+ghost use Rattle.std.specs.Prelude.{◌≡◌, if◌then◌else◌, []};
 ghost use Rattle.std.specs.List.{list_any};
 ghost use Rattle.mc_model.specs.Settles.{is_quiet, takes_or_retries};
 ghost use Rattle.mc_replay.specs.Moments.{serves};

@@ -1,16 +1,15 @@
 // A segment of a journal: the turns since the last settle, replayed one after another.
 
-ghost use Rattle.std.specs.Prelude.{◌≡◌, ◌↔◌, ◌++◌, ◌==◌, ◌&&◌, if◌then◌else◌, ℕ, List, [], ◌∷◌, Some, None, length, true, IfOk, IsTrue, OnOk};
+ghost use Rattle.std.specs.Prelude.{◌≡◌, ◌↔◌, ◌==◌, ◌&&◌, List, [], Some, length, true, IfOk, IsTrue, OnOk};
 ghost use Rattle.mc_box.specs.declared.event.Turn.{Turn};
 ghost use Rattle.mc_model.specs.Shapes.{AreAllowed};
 ghost use Rattle.mc_model.specs.Settles.{is_quiet, rests};
-ghost use Rattle.mc_model.specs.Steps.{step};
 ghost use Rattle.mc_model.specs.Worlds.{WorldState};
-ghost use Rattle.mc_seq.specs.Commands.{AreKept, AreKeptFor, commands_left};
+ghost use Rattle.mc_seq.specs.Commands.{AreKept, commands_left};
 ghost use Rattle.mc_seq.specs.Schedule.{left_by, next_of};
-ghost use Rattle.mc_replay.specs.Counts.{AreCounted, ready_count};
-ghost use Rattle.mc_replay.specs.Follows.{Follows, Makes, Stands, TellsNext, TellsSettled, TriedStep, is_last};
-ghost use Rattle.mc_replay.specs.Moments.{CountsRetry};
+ghost use Rattle.mc_replay.specs.Counts.{AreCounted};
+ghost use Rattle.mc_replay.specs.Follows.{Follows, MakesTurn, Stands, TellsNext, TellsSettled, TriedStep, is_last};
+ghost use Rattle.mc_replay.specs.Moments.{with_present};
 ghost use Rattle.mc_replay.specs.declared.segment.TurnFault.TheVariants.{NoMemory};
 
 use crate::counts::{Counts, count_all, counts_of, recounted};
@@ -80,8 +79,9 @@ fn keep_moment(
 ) -> Result<(), AllocError>
     requires kept { AreKept left.now }
     requires counted { AreCounted world.now counts }
-    ensures { OnOk result (moments.new.items ≡ (if rests world.now && length (commands_left left.now) == 0
-        then moments.old.items ++ record { retries = retries.now.made; owed = counts.owed } ∷ [] else moments.old.items)) }
+    ensures { OnOk result (moments.new.items
+        ≡ with_present (rests world.now && length (commands_left left.now) == 0)
+        (record { retries = retries.now.made; owed = counts.owed }) moments.old.items) }
 {
     if rests(world, counts) && left.count == 0 {
         moments.push(Moment {
@@ -124,7 +124,7 @@ impl Segment {
     pub fn make(&mut self, turn: Turn) -> Result<(), TurnFault>
         requires { Stands self.old }
         ensures { (begins : WorldState) (batch turns : List Turn) → Follows begins batch turns self.old
-            → Makes begins batch turns turn result self.new }
+            → MakesTurn begins batch turns turn result self.new }
     {
         self.world.keeps();
         if !may_come(&self.left, turn) {
