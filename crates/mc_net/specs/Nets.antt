@@ -11,7 +11,7 @@ use Rattle.mc_plan.specs.Plans.{PlanState, world_of}
 use Rattle.mc_program.specs.Finished.{program_of}
 use Rattle.mc_program.specs.Programs.{BlockState}
 use Rattle.mc_box.specs.declared.event.Turn.{Turn}
-use Rattle.mc_script.specs.declared.command.Batch.{Batch}
+pub use Rattle.mc_script.specs.Batches.{batch_turns}
 use Rattle.mc_script.specs.declared.command.Command.{Command}
 use Rattle.mc_script.specs.declared.command.Command.TheVariants.{Stimulus, Settle}
 use Rattle.mc_script.specs.Printed.{Allows, HaveNames, IsNamed}
@@ -35,9 +35,6 @@ abbrev pub batches_of : List Command → List (List Turn)
 batches_of [] = []
 batches_of (Stimulus turn ∷ commands) = before_next turn (batches_of commands)
 batches_of (Settle ∷ commands) = [] ∷ batches_of commands
-
-abbrev pub batch_turns : Batch → List Turn
-batch_turns batch = batch.turns.items
 
 -- ---- the first world
 

@@ -1,6 +1,10 @@
 mod Commands
 mod CountsKept
+mod Faults
 mod Followed
+mod Good
+mod Holds
+mod Lines
 mod MomentsKept
 mod Prefixes
 mod Quiet

@@ -1,7 +1,18 @@
-//! Journals that are checked against the network that they are of.
+//! Journals checked: each turn is made again, in the world that the turns before it leave, and a mark stands where they
+//! have settled a batch.
 #![tactic(auto)]
 
+mod checking;
 mod counts;
+mod fault;
+pub mod laws;
 mod moments;
+mod replay;
 mod retries;
+pub mod rule;
 mod segment;
+mod viewer;
+
+pub use checking::{Checked, check};
+pub use fault::CheckFault;
+pub use viewer::Viewer;

@@ -2,3 +2,4 @@ pub mod Places
 pub mod Rules
 pub mod Meaning
 pub mod Printed
+pub mod Batches

@@ -1,0 +1,120 @@
+// Journals, checked line by line.
+
+ghost use Rattle.std.specs.Prelude.{◌≡◌, ◌+◌, ◌-◌, ◌<◌, ◌^◌, Bool, [], false, length, map, IfErr, IfOk, IsTrue, OnOk};
+ghost use Rattle.mc_model.specs.Settles.{is_quiet};
+ghost use Rattle.mc_model.specs.Shapes.{AreAllAllowed};
+ghost use Rattle.mc_script.specs.declared.command.JournalLine.TheVariants.{Settled};
+ghost use Rattle.mc_script.specs.Batches.{batch_turns};
+ghost use Rattle.mc_replay.specs.Faults.{RefusesJournal};
+ghost use Rattle.mc_replay.specs.Follows.{Stands};
+ghost use Rattle.mc_replay.specs.Journals.{AreShown, IsJournal};
+ghost use Rattle.mc_replay.specs.Points.{Point};
+ghost use Rattle.mc_replay.specs.Replays.{AddsShown, HasRead, IsFresh, Reads, StandsAt, views_of};
+
+use crate::fault::CheckFault;
+use crate::replay::Replay;
+use crate::viewer::Viewer;
+use mc_script::{Batch, JournalLine, JournalText};
+use mc_view::PathView;
+use mc_world::World;
+use std::alloc::{AllocError, Global};
+
+/// What a journal shows: the views at each of its marks, in order.
+#[derive(Debug, Drop)]
+pub struct Checked {
+    pub views: Vec<Vec<PathView>>,
+}
+
+/// Checks that a journal is one of these batches, from a world that allows their commands: each line in its turn, and
+/// then the end. Each turn is made again, and at each mark what the viewer shows of the world is kept.
+///
+/// A line takes the time of its turn, whatever the size of the network.
+pub fn check<V: Viewer>(
+    alloc: Global,
+    viewer: &V,
+    world: World,
+    batches: &[Batch],
+    text: &JournalText,
+) -> Result<Checked, CheckFault>
+    requires allowed { AreAllAllowed world (map batch_turns batches.now) }
+    requires few { length text.now.lines.items < 2 ^ 32 - 1 }
+    ensures journal { IfOk result (λ checked. IsJournal world (map batch_turns batches.now) text.now.lines.items) }
+    ensures whole { IfOk result (λ checked. text.now.bad ≡ false) }
+    ensures shown { IfOk result (λ checked.
+        AreShown (V.shows viewer.now) world text.now.lines.items (views_of checked.views.items)) }
+    ensures refused { IfErr result (RefusesJournal world (map batch_turns batches.now)
+        text.now.lines.items text.now.bad) }
+{
+    let mut replay = Replay::new(alloc, world, batches)?;
+    let mut views = Vec::new(alloc);
+    read_lines(alloc, viewer, batches, &text.lines, &mut replay, &mut views)?;
+    replay.end(batches, text.bad)?;
+    Ok(Checked { views })
+}
+
+// Reads the lines of a journal, and keeps what is shown at its marks. The replay isn't dropped here, which would be
+// dear to prove in a loop.
+fn read_lines<V: Viewer>(
+    alloc: Global,
+    viewer: &V,
+    batches: &[Batch],
+    lines: &[JournalLine],
+    replay: &mut Replay,
+    views: &mut Vec<Vec<PathView>>,
+) -> Result<(), CheckFault>
+    requires fresh { IsFresh replay.old.segment.world (map batch_turns batches.now) replay.old }
+    requires none { views.old.items ≡ [] }
+    requires few { length lines.now < 2 ^ 32 - 1 }
+    ensures read { OnOk result (HasRead (V.shows viewer.now) replay.old.segment.world (map batch_turns batches.now)
+        lines.now replay.new (views_of views.new.items)) }
+    ensures refused { IfErr result (λ fault. (bad : Bool) → RefusesJournal replay.old.segment.world
+        (map batch_turns batches.now) lines.now bad fault) }
+{
+    for line in lines {
+        read_line(alloc, viewer, batches, *line, replay, views)?;
+    }
+    Ok(())
+}
+
+// Reads a line.
+fn read_line<V: Viewer>(
+    alloc: Global,
+    viewer: &V,
+    batches: &[Batch],
+    line: JournalLine,
+    replay: &mut Replay,
+    views: &mut Vec<Vec<PathView>>,
+) -> Result<(), CheckFault>
+    requires stands { Stands replay.old.segment }
+    requires few { replay.old.turns + 1 < 2 ^ 32 }
+    requires allowed { AreAllAllowed replay.old.segment.world (map batch_turns batches.now) }
+    ensures reads { (point : Point) → StandsAt (map batch_turns batches.now) point replay.old
+        → Reads (map batch_turns batches.now) point line replay.old result replay.new }
+    ensures shown { OnOk result (AddsShown (V.shows viewer.now) replay.new.segment.world line
+        (views_of views.old.items) (views_of views.new.items)) }
+{
+    match line {
+        JournalLine::Turn(turn) => replay.make(batches, turn),
+        JournalLine::Settled => {
+            replay.settle(alloc, batches)?;
+            show(alloc, viewer, &replay.segment.world, views)?;
+            Ok(())
+        }
+    }
+}
+
+// Keeps what is shown of a world at a mark.
+fn show<V: Viewer>(
+    alloc: Global,
+    viewer: &V,
+    world: &World,
+    views: &mut Vec<Vec<PathView>>,
+) -> Result<(), AllocError>
+    requires { IsTrue (is_quiet world.now) }
+    ensures { OnOk result (AddsShown (V.shows viewer.now) world.now Settled
+        (views_of views.old.items) (views_of views.new.items)) }
+{
+    let shown = viewer.views(alloc, world)?;
+    views.push(shown)?;
+    Ok(())
+}
