@@ -19,25 +19,9 @@ use Rattle.mc_replay.specs.Journals.{IsJournal, lines_for}
 use Rattle.mc_replay.specs.Laws.{GoodOrFaulty}
 use Rattle.mc_replay.specs.Points.{AllMayStand, MayStand, Point, first_point, is_mark, marks_in, point_after}
 use Rattle.mc_replay.proofs.Faults.{none_faulty}
+use Rattle.mc_replay.proofs.Parts.{after_is, step_there}
 
 -- ---- the lines of a journal may stand
-
--- the turns of a run, parted at one of them
-run_parts : (one two : List Turn) (turn : Turn) (world last : WorldState) → run world (one ++ turn ∷ two) ≡ Some last
-    → (here : WorldState) × (run world one ≡ Some here) × IsSome (step here turn)
-run_parts [] two turn world last goes =
-    let next = then_some (λ (w : WorldState). run w two) (step world turn) last goes in
-    (world, refl, subst (λ (o : Option WorldState). IsSome o) (sym next.1) refl)
-run_parts (first ∷ one) two turn world last goes =
-    let next = then_some (λ (w : WorldState). run w (one ++ turn ∷ two)) (step world first) last goes in
-    let more = run_parts one two turn next.0 last next.2 in
-    (more.0, run_more next.0 next.1 more.0 more.1, more.2)
-  where
-    run_more : (next : WorldState) → step world first ≡ Some next → (here : WorldState) → run next one ≡ Some here → run world (first ∷ one) ≡ Some here
-    run_more next is here ran = rw is ran
-
-after_is : (world here : WorldState) (turns : List Turn) → run world turns ≡ Some here → after world turns ≡ here
-after_is world here turns ran = ap (λ (o : Option WorldState). unwrap_or o world) ran
 
 -- the command of a box that stands behind others of it
 at_seam : {A : Type 0} (xs ys : List A) (y : A) → slice_get (xs ++ y ∷ ys) (length xs) ≡ Some y
@@ -59,8 +43,7 @@ next_here one two batch turn same command =
 turn_may : (one two batch : List Turn) (batches : List (List Turn)) (turn : Turn) (world last : WorldState) → IsSettled world batch (one ++ turn ∷ two) last
     → MayStand (record { begins = world; batches = batch ∷ batches; turns = one }) (Made turn)
 turn_may one two batch batches turn world last settled =
-    let parts = run_parts one two turn world last settled.runs in
-    (λ none. absurd cc, (next_here one two batch turn settled.commands, subst (λ (w : WorldState). IsSome (step w turn)) (sym (after_is world parts.0 one parts.1)) parts.2))
+    (λ none. absurd cc, (next_here one two batch turn settled.commands, step_there one two turn world last settled.runs))
 
 -- the rest of a segment's turns, its mark, and what follows
 segment_may : (todo done batch : List Turn) (batches : List (List Turn)) (world last : WorldState) (rest : List JournalLine) → IsSettled world batch (done ++ todo) last
@@ -69,10 +52,11 @@ segment_may [] done batch batches world last rest settled later =
     let whole : IsSettled world batch done last = subst (λ (l : List Turn). IsSettled world batch l last) (append-nil done) settled in
     let is : last ≡ after world done = sym (after_is world last done whole.runs) in
     ((λ none. absurd cc, subst (IsSettled world batch done) is whole), subst (λ (w : WorldState). AllMayStand (first_point w batches) rest) is later)
-segment_may (turn ∷ todo) done batch batches world last rest settled later =
-    (turn_may done todo batch batches turn world last settled,
-    segment_may todo (done ++ turn ∷ []) batch batches world last rest
-    (subst (λ (l : List Turn). IsSettled world batch l last) (sym (append_assoc done (turn ∷ []) todo)) settled) later)
+segment_may (turn ∷ todo) done batch batches world last rest settled later = (
+  turn_may done todo batch batches turn world last settled,
+  segment_may todo (done ++ turn ∷ []) batch batches world last rest
+      (subst (λ (l : List Turn). IsSettled world batch l last) (sym (append_assoc done (turn ∷ []) todo)) settled) later,
+)
 
 mark_apart : (turns : List Turn) (rest : List JournalLine) → lines_for turns ++ rest ≡ map Made turns ++ (Settled ∷ rest)
 mark_apart turns rest = append_assoc (map Made turns) (Settled ∷ []) rest
@@ -125,6 +109,11 @@ may_journal (Made turn ∷ lines) begins batches turns may none ended =
     one_further : (turns : List Turn) → map Made (turns ++ turn ∷ []) ++ lines ≡ map Made turns ++ (Made turn ∷ lines)
     one_further turns = ap (λ (l : List JournalLine). l ++ lines) (map-append Made turns (turn ∷ [])) ∙ append_assoc (map Made turns) (Made turn ∷ []) lines
 may_journal (Settled ∷ lines) begins [] turns may none ended = absurd (may.0.0 refl)
-may_journal (Settled ∷ lines) begins (batch ∷ batches) turns may none ended =
-    (turns, after begins turns, lines, sym (mark_apart turns lines), may.0.1,
-    may_journal lines (after begins turns) batches [] may.1 none (λ gone. refl))
+may_journal (Settled ∷ lines) begins (batch ∷ batches) turns may none ended = (
+  turns,
+  after begins turns,
+  lines,
+  sym (mark_apart turns lines),
+  may.0.1,
+  may_journal lines (after begins turns) batches [] may.1 none (λ gone. refl),
+)

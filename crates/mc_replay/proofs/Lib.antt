@@ -6,7 +6,10 @@ mod Good
 mod Holds
 mod Lines
 mod MomentsKept
+mod Parts
 mod Prefixes
 mod Quiet
+mod Reading
 mod RetriesKept
 mod Serving
+mod Stands

@@ -46,14 +46,36 @@ pub fn check<V: Viewer>(
         text.now.lines.items text.now.bad) }
 {
     let mut replay = Replay::new(alloc, world, batches)?;
-    let mut views = Vec::new(alloc);
-    read_lines(alloc, viewer, batches, &text.lines, &mut replay, &mut views)?;
-    replay.end(batches, text.bad)?;
+    let views = read_text(alloc, viewer, batches, text, &mut replay)?;
     Ok(Checked { views })
 }
 
-// Reads the lines of a journal, and keeps what is shown at its marks. The replay isn't dropped here, which would be
-// dear to prove in a loop.
+// Reads a whole journal, and answers what is shown at its marks. The replay isn't dropped here, which would be dear to
+// prove at each return.
+fn read_text<V: Viewer>(
+    alloc: Global,
+    viewer: &V,
+    batches: &[Batch],
+    text: &JournalText,
+    replay: &mut Replay,
+) -> Result<Vec<Vec<PathView>>, CheckFault>
+    requires fresh { IsFresh replay.old.segment.world (map batch_turns batches.now) replay.old }
+    requires few { length text.now.lines.items < 2 ^ 32 - 1 }
+    ensures journal { IfOk result (λ views. IsJournal replay.old.segment.world (map batch_turns batches.now)
+        text.now.lines.items) }
+    ensures whole { IfOk result (λ views. text.now.bad ≡ false) }
+    ensures shown { IfOk result (λ views. AreShown (V.shows viewer.now) replay.old.segment.world
+        text.now.lines.items (views_of views.items)) }
+    ensures refused { IfErr result (RefusesJournal replay.old.segment.world (map batch_turns batches.now)
+        text.now.lines.items text.now.bad) }
+{
+    let mut views = Vec::new(alloc);
+    read_lines(alloc, viewer, batches, &text.lines, replay, &mut views)?;
+    replay.end(batches, text.bad)?;
+    Ok(views)
+}
+
+// Reads the lines of a journal, and keeps what is shown at its marks.
 fn read_lines<V: Viewer>(
     alloc: Global,
     viewer: &V,

@@ -1,0 +1,134 @@
+-- The lines of a journal, read one after the other.
+use Rattle.std.proofs.Common.{◌≡◌, ◌⊎◌, ◌<◌, ◌≤◌, ◌++◌, ◌+◌, ◌-◌, ◌^◌, ◌∙◌, ℕ, zero, suc, Bool, true, false, inl, inr, List, [], ◌∷◌, Some, Ok, Err, cond, drop, length, take, slice_index_or, refl, ap, sym, subst, append-nil, append_assoc, arith}
+use Rattle.std.proofs.lemmas.List.{drop_all, take_more, length-take-le}
+use Rattle.std.proofs.lemmas.List.Sums.{count_by-le-length, sum_by-append}
+use Rattle.mc_box.specs.declared.event.Turn.{Turn}
+use Rattle.mc_model.specs.Steps.{step}
+use Rattle.mc_model.specs.Worlds.{WorldState}
+use Rattle.mc_script.specs.declared.command.JournalLine.{JournalLine}
+use Rattle.mc_script.specs.declared.command.JournalLine.TheVariants.{Turn as Made, Settled}
+use Rattle.mc_view.specs.declared.PathView.{PathView}
+use Rattle.mc_replay.specs.Faults.{IsJournalFault, IsLineFault, RefusesJournal, at_bad, at_end, at_line}
+use Rattle.mc_replay.specs.Journals.{AreShown, IsJournal, next_world}
+use Rattle.mc_replay.specs.Points.{AllMayStand, Point, first_point, is_mark, is_turn, marks_in, point_after, point_behind, turns_in, world_at}
+use Rattle.mc_replay.specs.Replays.{AddsShown, Ends, Goes, HasRead, IsFresh, Reads, StandsAt}
+use Rattle.mc_replay.specs.declared.fault.CheckFault.{CheckFault}
+use Rattle.mc_replay.specs.declared.fault.CheckFault.TheVariants.{At, NoMemory}
+use Rattle.mc_replay.specs.declared.replay.Replay.{Replay}
+use Rattle.mc_replay.specs.declared.rule.TheConstants.{ENDS_EARLY, NO_LINE}
+use Rattle.mc_replay.proofs.Good.{may_journal}
+use Rattle.mc_replay.proofs.Holds.{replayed_is}
+use Rattle.mc_replay.proofs.Lines.{after_both, may_both}
+use Rattle.mc_replay.proofs.Parts.{after_is, last_step}
+
+-- no line is read yet
+pub read_first : (Shows : WorldState → List PathView → Type 0) (batches : List (List Turn)) (replay : Replay) → IsFresh replay.segment.world batches replay → HasRead Shows replay.segment.world batches [] replay []
+read_first Shows batches replay fresh = record {
+  may = tt;
+  stands = fresh.stands;
+  turns = fresh.turns;
+  marks = fresh.settled;
+  views = λ more others shown. shown;
+}
+
+-- ---- one line more
+
+turns_more : (read : List JournalLine) (line : JournalLine) → turns_in (read ++ line ∷ []) ≡ turns_in read + turns_in (line ∷ [])
+turns_more read line = sum_by-append (λ (l : JournalLine). cond (is_turn l) 1 0) read (line ∷ [])
+
+marks_more : (read : List JournalLine) (line : JournalLine) → marks_in (read ++ line ∷ []) ≡ marks_in read + marks_in (line ∷ [])
+marks_more read line = sum_by-append (λ (l : JournalLine). cond (is_mark l) 1 0) read (line ∷ [])
+
+-- what follows a turn is shown from the world behind it
+shown_turn : (Shows : WorldState → List PathView → Type 0) (batches : List (List Turn)) (point : Point) (turn : Turn) (old new : Replay) → StandsAt batches point old → StandsAt batches (point_behind point (Made turn)) new
+    → (more : List JournalLine) (others : List (List PathView)) → AreShown Shows new.segment.world more others → AreShown Shows old.segment.world (Made turn ∷ more) others
+shown_turn Shows batches point turn old new before behind more others shown =
+    let goes : step old.segment.world turn ≡ Some new.segment.world = last_step point.turns turn point.begins old.segment.world new.segment.world before.follows.runs behind.follows.runs in
+    subst (λ (w : WorldState). AreShown Shows w more others) (sym (replayed_is old.segment.world new.segment.world turn goes)) shown
+
+-- a mark changes no world
+world_stays : (batches : List (List Turn)) (point : Point) (old new : Replay) → StandsAt batches point old → StandsAt batches (point_behind point Settled) new → old.segment.world ≡ new.segment.world
+world_stays batches point old new before behind =
+    let there : world_at point ≡ old.segment.world = after_is point.begins old.segment.world point.turns before.follows.runs in
+    let same : Some (world_at point) ≡ Some new.segment.world = behind.follows.runs in
+    sym there ∙ same_value (world_at point) new.segment.world same
+  where
+    same_value : (one other : WorldState) → Some one ≡ Some other → one ≡ other
+    same_value one other same = cc
+
+shown_more : (Shows : WorldState → List PathView → Type 0) (start : WorldState) (batches : List (List Turn)) (read : List JournalLine) (line : JournalLine) (point : Point) (old new : Replay) (shown longer : List (List PathView))
+    → ((more : List JournalLine) (others : List (List PathView)) → AreShown Shows old.segment.world more others → AreShown Shows start (read ++ more) (shown ++ others))
+    → StandsAt batches point old → StandsAt batches (point_behind point line) new → AddsShown Shows new.segment.world line shown longer
+    → (more : List JournalLine) (others : List (List PathView)) → AreShown Shows new.segment.world more others → AreShown Shows start ((read ++ line ∷ []) ++ more) (longer ++ others)
+shown_more Shows start batches read (Made turn) point old new shown longer so_far before behind adds more others rest =
+    subst (λ (l : List JournalLine). AreShown Shows start l (longer ++ others)) (sym (append_assoc read (Made turn ∷ []) more))
+    (subst (λ (l : List (List PathView)). AreShown Shows start (read ++ (Made turn ∷ more)) (l ++ others)) (sym adds)
+    (so_far (Made turn ∷ more) others (shown_turn Shows batches point turn old new before behind more others rest)))
+shown_more Shows start batches read Settled point old new shown longer so_far before behind (views, shows, is) more others rest =
+    let same : old.segment.world ≡ new.segment.world = world_stays batches point old new before behind in
+    let whole : shown ++ (views ∷ others) ≡ longer ++ others = sym (append_assoc shown (views ∷ []) others) ∙ ap (λ (l : List (List PathView)). l ++ others) (sym is) in
+    subst (λ (l : List JournalLine). AreShown Shows start l (longer ++ others)) (sym (append_assoc read (Settled ∷ []) more))
+    (subst (AreShown Shows start (read ++ (Settled ∷ more))) whole
+    (so_far (Settled ∷ more) (views ∷ others)
+    (subst (λ (w : WorldState). AreShown Shows w (Settled ∷ more) (views ∷ others)) (sym same) (shows, rest))))
+
+pub read_more : (Shows : WorldState → List PathView → Type 0) (start : WorldState) (batches : List (List Turn)) (read : List JournalLine) (line : JournalLine) (old new : Replay) (shown longer : List (List PathView))
+    → HasRead Shows start batches read old shown → Goes batches (point_after (first_point start batches) read) line old new → AddsShown Shows new.segment.world line shown longer
+    → HasRead Shows start batches (read ++ line ∷ []) new longer
+read_more Shows start batches read line old new shown longer so_far goes adds =
+    let point : Point = point_after (first_point start batches) read in
+    record {
+      may = may_both read (line ∷ []) (first_point start batches) so_far.may (goes.may, tt);
+      stands = subst (λ (p : Point). StandsAt batches p new) (sym (after_both read (line ∷ []) (first_point start batches))) goes.stands;
+      turns = goes.turns ∙ (ap (λ (n : ℕ). n + turns_in (line ∷ [])) so_far.turns ∙ sym (turns_more read line));
+      marks = goes.marks ∙ (ap (λ (n : ℕ). n + marks_in (line ∷ [])) so_far.marks ∙ sym (marks_more read line));
+      views = shown_more Shows start batches read line point old new shown longer so_far.views so_far.stands goes.stands adds;
+    }
+
+-- ---- a line by its place
+
+pub read_next : (Shows : WorldState → List PathView → Type 0) (start : WorldState) (batches : List (List Turn)) (lines : List JournalLine) (k : ℕ) (none : JournalLine) (old new : Replay) (shown longer : List (List PathView))
+    → k < length lines → HasRead Shows start batches (take k lines) old shown → Goes batches (point_after (first_point start batches) (take k lines)) (slice_index_or lines k none) old new
+    → AddsShown Shows new.segment.world (slice_index_or lines k none) shown longer → HasRead Shows start batches (take (k + 1) lines) new longer
+read_next Shows start batches lines k none old new shown longer within so_far goes adds =
+    subst (λ (l : List JournalLine). HasRead Shows start batches l new longer) (sym (take_more lines k none within))
+    (read_more Shows start batches (take k lines) (slice_index_or lines k none) old new shown longer so_far goes adds)
+
+parts_at : {A : Type 0} (xs : List A) (k : ℕ) (none : A) → k < length xs → xs ≡ take k xs ++ slice_index_or xs k none ∷ drop (suc k) xs
+parts_at [] k none within = absurd (omega arith)
+parts_at (x ∷ xs) zero none within = refl
+parts_at (x ∷ xs) (suc k) none within = ap (λ (l : List _). x ∷ l) (parts_at xs k none (omega arith))
+
+-- what is wrong with a line is why the journal isn't taken
+pub refused_at : (Shows : WorldState → List PathView → Type 0) (start : WorldState) (batches : List (List Turn)) (lines : List JournalLine) (k : ℕ) (none : JournalLine) (old new : Replay) (shown : List (List PathView)) (fault : CheckFault) (bad : Bool)
+    → k < length lines → HasRead Shows start batches (take k lines) old shown → Reads batches (point_after (first_point start batches) (take k lines)) (slice_index_or lines k none) old (Err fault) new
+    → RefusesJournal start batches lines bad fault
+refused_at Shows start batches lines k none old new shown (At number turn) bad within so_far why =
+    at_line (take k lines) (drop (suc k) lines) (slice_index_or lines k none) (parts_at lines k none within) so_far.may why.0 (why.1 ∙ ap (λ (n : ℕ). n + 1) so_far.turns)
+refused_at Shows start batches lines k none old new shown (NoMemory e) bad within so_far why = tt
+
+-- ---- the end
+
+pub is_journal : (Shows : WorldState → List PathView → Type 0) (start : WorldState) (batches : List (List Turn)) (lines : List JournalLine) (replay : Replay) (shown : List (List PathView)) → length batches ≤ replay.settled
+    → HasRead Shows start batches lines replay shown → IsJournal start batches lines
+is_journal Shows start batches lines replay shown past read =
+    may_journal lines start batches [] read.may (read.stands.left ∙ drop_all replay.settled batches past) (λ none. refl)
+
+pub all_shown : (Shows : WorldState → List PathView → Type 0) (start : WorldState) (batches : List (List Turn)) (lines : List JournalLine) (replay : Replay) (shown : List (List PathView))
+    → HasRead Shows start batches lines replay shown → AreShown Shows start lines shown
+all_shown Shows start batches lines replay shown read =
+    subst (AreShown Shows start lines) (append-nil shown)
+    (subst (λ (l : List JournalLine). AreShown Shows start l (shown ++ [])) (append-nil lines) (read.views [] [] refl))
+
+-- what is wrong with the end is so, too
+pub refused_at_end : (Shows : WorldState → List PathView → Type 0) (start : WorldState) (batches : List (List Turn)) (lines : List JournalLine) (replay : Replay) (shown : List (List PathView)) (fault : CheckFault) (bad : Bool)
+    → HasRead Shows start batches lines replay shown → Ends (length batches) replay bad (Err fault) → RefusesJournal start batches lines bad fault
+refused_at_end Shows start batches lines replay shown (At number turn) bad read (at, inl (is, line)) =
+    at_bad read.may is line (at ∙ ap (λ (n : ℕ). n + 1) read.turns)
+refused_at_end Shows start batches lines replay shown (At number turn) bad read (at, inr (whole, few, early)) =
+    at_end read.may whole (subst (λ (n : ℕ). n < length batches) read.marks few) early (at ∙ ap (λ (n : ℕ). n + 1) read.turns)
+refused_at_end Shows start batches lines replay shown (NoMemory e) bad read ends = tt
+
+-- a replay begins in the world that it is given
+pub begun_there : (world : WorldState) (batches : List (List Turn)) (replay : Replay) → IsFresh world batches replay → world ≡ replay.segment.world
+begun_there world batches replay fresh = let runs : Some world ≡ Some replay.segment.world = fresh.stands.follows.runs in cc

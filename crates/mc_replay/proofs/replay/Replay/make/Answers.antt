@@ -1,0 +1,34 @@
+use Rattle.std.proofs.Common.{◌<◌, ℕ, List, map, length, refl, subst, sym, Err}
+use Rattle.std.proofs.lemmas.List.{length-map}
+use Rattle.mc_script.specs.Batches.{batch_turns}
+use Rattle.mc_replay.specs.Follows.{Makes}
+use Rattle.mc_replay.specs.Points.{Point, batch_at}
+use Rattle.mc_replay.specs.declared.segment.TurnFault.{TurnFault}
+use Rattle.mc_replay.proofs.Stands.{made, not_enabled, out_of_order}
+use Rattle.mc_replay.proofs.replay.Replay.make.Goals as goal
+
+pub returns-in-Ok : goal.returns-in-Ok
+returns-in-Ok c = λ point stands.
+    let done = c.in-Ok.ensures point.begins (batch_at point) point.turns stands.follows in
+    made (map batch_turns c.args.batches.now) point c.args.turn c.args.self.now c.make.new.self
+    (subst (λ (n : ℕ). c.args.self.now.settled < n) (sym (length-map c.args.batches.now batch_turns)) c.if-self-batches.false) stands done.0 done.1
+
+pub returns-in-Err-NotNext : goal.returns-in-Err-NotNext
+returns-in-Err-NotNext c = λ point stands.
+    let why = subst (λ (fault : TurnFault). Makes point.begins (batch_at point) point.turns c.args.turn (Err fault) c.make.new.self) c.in-Err-NotNext.field-0-is
+    (c.in-Err-NotNext.ensures point.begins (batch_at point) point.turns stands.follows) in
+    rw c.fault-in-Err-NotNext.ensures (
+      out_of_order (map batch_turns c.args.batches.now) point c.args.turn c.args.self.now
+          (subst (λ (n : ℕ). c.args.self.now.settled < n) (sym (length-map c.args.batches.now batch_turns)) c.if-self-batches.false) stands why,
+      refl,
+    )
+
+pub returns-in-Err-NotEnabled : goal.returns-in-Err-NotEnabled
+returns-in-Err-NotEnabled c = λ point stands.
+    let why = subst (λ (fault : TurnFault). Makes point.begins (batch_at point) point.turns c.args.turn (Err fault) c.make.new.self) c.in-Err-NotEnabled.field-0-is
+    (c.in-Err-NotEnabled.ensures point.begins (batch_at point) point.turns stands.follows) in
+    rw c.fault-in-Err-NotEnabled.ensures (
+      not_enabled (map batch_turns c.args.batches.now) point c.args.turn c.args.self.now
+          (subst (λ (n : ℕ). c.args.self.now.settled < n) (sym (length-map c.args.batches.now batch_turns)) c.if-self-batches.false) stands why.0 why.1,
+      refl,
+    )
