@@ -1,11 +1,9 @@
 -- A journal has one fault at most.
-use Rattle.std.proofs.Common.{◌≡◌, ◌++◌, ◌+◌, ◌∙◌, ℕ, Bool, true, false, inl, inr, List, [], ◌∷◌, None, Some, IsSome, Option, refl, ap, sym, subst}
-use Rattle.mc_box.specs.declared.event.Turn.{Turn}
+use Rattle.std.proofs.Common.{◌≡◌, ◌++◌, ◌+◌, ◌∙◌, ℕ, true, false, inl, inr, List, [], ◌∷◌, None, Some, IsSome, Option, refl, ap, sym, subst}
 use Rattle.mc_model.specs.Steps.{step}
-use Rattle.mc_model.specs.Worlds.{WorldState}
 use Rattle.mc_script.specs.declared.command.JournalLine.{JournalLine}
 use Rattle.mc_script.specs.declared.command.JournalLine.TheVariants.{Turn as Made, Settled}
-use Rattle.mc_replay.specs.Faults.{BreaksMarks, BreaksOrder, BreaksStep, IsJournalFault, IsLineFault, IsMisplacedMark, at_bad, at_end, at_line, marks, order, steps}
+use Rattle.mc_replay.specs.Faults.{BreaksOrder, BreaksStep, IsLineFault, IsMisplacedMark, at_bad, at_end, at_line, marks, order, steps}
 use Rattle.mc_replay.specs.Laws.{OneJournalFault}
 use Rattle.mc_replay.specs.Points.{AllMayStand, KeepsLineRules, MayStand, Point, first_point, point_after, point_behind, turns_in, world_at}
 use Rattle.mc_replay.proofs.Lines.{may_next}

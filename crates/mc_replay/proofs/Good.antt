@@ -1,23 +1,21 @@
 -- A journal of the batches, and lines that may all stand.
-use Rattle.std.proofs.Common.{◌≡◌, ◌≢◌, ◌<◌, ◌++◌, ◌+◌, ◌∙◌, ◌==◌, ◌&&◌, ℕ, Bool, true, false, List, [], ◌∷◌, None, Some, IsSome, IsTrue, Option, cond, drop, map, length, refl, ap, sym, subst, append-nil, append_assoc, arith}
+use Rattle.std.proofs.Common.{◌≡◌, ◌++◌, ◌+◌, ◌∙◌, ◌==◌, ◌&&◌, ℕ, Bool, true, List, [], ◌∷◌, Some, IsTrue, cond, map, length, refl, ap, sym, subst, append-nil, append_assoc, arith}
 use Rattle.std.specs.List.{slice_get}
-use Rattle.std.specs.Option.{unwrap_or}
 use Rattle.std.proofs.lemmas.List.{map-append}
 use Rattle.std.proofs.lemmas.List.Elements.{filter-append}
 use Rattle.std.proofs.lemmas.List.Sums.{sum_by-append, sum_by-cons}
-use Rattle.mc_box.proofs.Options.{then_some}
 use Rattle.mc_box.specs.BoxEvents.{is_command}
 use Rattle.mc_box.specs.declared.event.Turn.{Turn}
-use Rattle.mc_model.specs.Settles.{IsSettled, commands_of, next_command}
-use Rattle.mc_model.specs.Steps.{after, run, step}
+use Rattle.mc_model.specs.Settles.{IsSettled, commands_of}
+use Rattle.mc_model.specs.Steps.{after}
 use Rattle.mc_model.specs.Worlds.{WorldState}
 use Rattle.mc_script.specs.declared.command.JournalLine.{JournalLine}
 use Rattle.mc_script.specs.declared.command.JournalLine.TheVariants.{Turn as Made, Settled}
-use Rattle.mc_replay.specs.Faults.{IsJournalFault, at_bad, at_end, at_line}
+use Rattle.mc_replay.specs.Faults.{at_bad, at_end, at_line}
 use Rattle.mc_replay.specs.Follows.{IsNext}
 use Rattle.mc_replay.specs.Journals.{IsJournal, lines_for}
 use Rattle.mc_replay.specs.Laws.{GoodOrFaulty}
-use Rattle.mc_replay.specs.Points.{AllMayStand, MayStand, Point, first_point, is_mark, marks_in, point_after}
+use Rattle.mc_replay.specs.Points.{AllMayStand, MayStand, first_point, is_mark, marks_in, point_after}
 use Rattle.mc_replay.proofs.Faults.{none_faulty}
 use Rattle.mc_replay.proofs.Parts.{after_is, step_there}
 

@@ -1,5 +1,5 @@
 -- What holds at the settles of a journal.
-use Rattle.std.proofs.Common.{◌≡◌, ◌++◌, ◌∷◌, [], ◌∙◌, List, Some, map, refl, ap, sym, subst, append_assoc}
+use Rattle.std.proofs.Common.{◌≡◌, ◌++◌, ◌∷◌, [], ◌∙◌, List, Some, map, refl, sym, subst, append_assoc}
 use Rattle.mc_box.proofs.Options.{then_some}
 use Rattle.mc_box.specs.declared.event.Turn.{Turn}
 use Rattle.mc_laws.proofs.StepKeeps.{run_keeps_sound}
@@ -10,7 +10,7 @@ use Rattle.mc_model.specs.Worlds.{WorldState}
 use Rattle.mc_path_laws.proofs.SettledHold.{settled_paths_hold}
 use Rattle.mc_script.specs.declared.command.JournalLine.{JournalLine}
 use Rattle.mc_script.specs.declared.command.JournalLine.TheVariants.{Turn as Made, Settled}
-use Rattle.mc_replay.specs.Journals.{HoldsAtSettles, IsJournal, lines_for, next_world}
+use Rattle.mc_replay.specs.Journals.{HoldsAtSettles, lines_for, next_world}
 use Rattle.mc_replay.specs.Laws.{JournalsHold}
 
 -- the world behind a turn that is made

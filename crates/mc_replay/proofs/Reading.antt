@@ -1,22 +1,24 @@
 -- The lines of a journal, read one after the other.
-use Rattle.std.proofs.Common.{◌≡◌, ◌⊎◌, ◌<◌, ◌≤◌, ◌++◌, ◌+◌, ◌-◌, ◌^◌, ◌∙◌, ℕ, zero, suc, Bool, true, false, inl, inr, List, [], ◌∷◌, Some, Ok, Err, cond, drop, length, take, slice_index_or, refl, ap, sym, subst, append-nil, append_assoc, arith}
-use Rattle.std.proofs.lemmas.List.{drop_all, take_more, length-take-le}
-use Rattle.std.proofs.lemmas.List.Sums.{count_by-le-length, sum_by-append}
+use Rattle.std.proofs.Common.{◌≡◌, ◌<◌, ◌≤◌, ◌++◌, ◌+◌, ◌-◌, ◌∙◌, ℕ, zero, suc, Bool, inl, inr, List, [], ◌∷◌, Some, Err, cond, drop, length, map, take, Vec, slice_index_or, refl, ap, sym, subst, append-nil, append_assoc, arith}
+use Rattle.std.proofs.lemmas.List.{drop_all, length-map, take_more}
+use Rattle.std.proofs.lemmas.List.Sums.{sum_by-append, sum_by-cons}
+use Rattle.std.specs.declared.alloc.Global.{Global}
 use Rattle.mc_box.specs.declared.event.Turn.{Turn}
 use Rattle.mc_model.specs.Steps.{step}
 use Rattle.mc_model.specs.Worlds.{WorldState}
+use Rattle.mc_script.specs.Batches.{batch_turns}
+use Rattle.mc_script.specs.declared.command.Batch.{Batch}
 use Rattle.mc_script.specs.declared.command.JournalLine.{JournalLine}
 use Rattle.mc_script.specs.declared.command.JournalLine.TheVariants.{Turn as Made, Settled}
 use Rattle.mc_view.specs.declared.PathView.{PathView}
-use Rattle.mc_replay.specs.Faults.{IsJournalFault, IsLineFault, RefusesJournal, at_bad, at_end, at_line}
+use Rattle.mc_replay.specs.Faults.{RefusesJournal, at_bad, at_end, at_line}
 use Rattle.mc_replay.specs.Journals.{AreShown, IsJournal, next_world}
-use Rattle.mc_replay.specs.Points.{AllMayStand, Point, first_point, is_mark, is_turn, marks_in, point_after, point_behind, turns_in, world_at}
-use Rattle.mc_replay.specs.Replays.{AddsShown, Ends, Goes, HasRead, IsFresh, Reads, StandsAt}
+use Rattle.mc_replay.specs.Points.{Point, first_point, is_mark, is_turn, marks_in, point_after, point_behind, turns_in, world_at}
+use Rattle.mc_replay.specs.Replays.{AddsShown, Ends, Goes, HasRead, IsFresh, Reads, StandsAt, views_of}
 use Rattle.mc_replay.specs.declared.fault.CheckFault.{CheckFault}
 use Rattle.mc_replay.specs.declared.fault.CheckFault.TheVariants.{At, NoMemory}
 use Rattle.mc_replay.specs.declared.replay.Replay.{Replay}
-use Rattle.mc_replay.specs.declared.rule.TheConstants.{ENDS_EARLY, NO_LINE}
-use Rattle.mc_replay.proofs.Good.{may_journal}
+use Rattle.mc_replay.proofs.Good.{all_marked, may_journal}
 use Rattle.mc_replay.proofs.Holds.{replayed_is}
 use Rattle.mc_replay.proofs.Lines.{after_both, may_both}
 use Rattle.mc_replay.proofs.Parts.{after_is, last_step}
@@ -132,3 +134,22 @@ refused_at_end Shows start batches lines replay shown (NoMemory e) bad read ends
 -- a replay begins in the world that it is given
 pub begun_there : (world : WorldState) (batches : List (List Turn)) (replay : Replay) → IsFresh world batches replay → world ≡ replay.segment.world
 begun_there world batches replay fresh = let runs : Some world ≡ Some replay.segment.world = fresh.stands.follows.runs in cc
+
+-- as many lists are shown as there are marks, and so as batches
+shown_count : (Shows : WorldState → List PathView → Type 0) (lines : List JournalLine) (world : WorldState) (shown : List (List PathView)) → AreShown Shows world lines shown → length shown ≡ marks_in lines
+shown_count Shows [] world shown are = ap length are
+shown_count Shows (Made turn ∷ lines) world shown are =
+    shown_count Shows lines (next_world world turn) shown are ∙ sym (sum_by-cons (λ (l : JournalLine). cond (is_mark l) 1 0) (Made turn) lines ∙ zero_first (marks_in lines))
+  where
+    zero_first : (n : ℕ) → 0 + n ≡ n
+    zero_first n = omega arith
+shown_count Shows (Settled ∷ lines) world [] are = absurd are
+shown_count Shows (Settled ∷ lines) world (views ∷ shown) are =
+    let more : length shown ≡ marks_in lines = shown_count Shows lines world shown are.1 in
+    let marks : marks_in (Settled ∷ lines) ≡ 1 + marks_in lines = sum_by-cons (λ (l : JournalLine). cond (is_mark l) 1 0) Settled lines in
+    omega arith
+
+pub one_each : (Shows : WorldState → List PathView → Type 0) (world : WorldState) (batches : List Batch) (lines : List JournalLine) (kept : List (Vec PathView Global)) → IsJournal world (map batch_turns batches) lines
+    → AreShown Shows world lines (views_of kept) → length kept ≡ length batches
+one_each Shows world batches lines kept is are =
+    sym (length-map kept (λ (views : Vec PathView Global). views.items)) ∙ (shown_count Shows lines world (views_of kept) are ∙ (all_marked (map batch_turns batches) world lines is ∙ length-map batches batch_turns))

@@ -1,14 +1,13 @@
 -- What a line makes of a replay.
-use Rattle.std.proofs.Common.{◌≡◌, ◌≢◌, ◌⊎◌, ◌<◌, ◌≤◌, ◌++◌, ◌+◌, ◌∙◌, ℕ, zero, suc, false, inl, inr, List, [], ◌∷◌, All, None, Some, IsTrue, drop, length, map, slice_index_or, refl, ap, sym, subst, add-one, arith}
+use Rattle.std.proofs.Common.{◌≡◌, ◌≢◌, ◌<◌, ◌≤◌, ◌++◌, ◌+◌, ◌∙◌, ℕ, zero, suc, false, inl, inr, List, [], ◌∷◌, None, Some, drop, length, map, slice_index_or, refl, ap, sym, subst, add-one, arith}
 use Rattle.std.proofs.lemmas.List.{drop_all}
-use Rattle.mc_box.specs.BoxEvents.{is_command}
 use Rattle.mc_box.specs.declared.event.Turn.{Turn}
 use Rattle.mc_laws.proofs.ShapesKept.{step_keeps_shape}
 use Rattle.mc_laws.proofs.StepKeeps.{run_keeps_sound, step_keeps_sound}
-use Rattle.mc_model.specs.Settles.{IsSettled, next_command}
+use Rattle.mc_model.specs.Settles.{IsSettled}
 use Rattle.mc_model.specs.Shapes.{AreAllAllowed, AreAllowed}
 use Rattle.mc_model.specs.Sound.{IsSound}
-use Rattle.mc_model.specs.Steps.{after, run, step}
+use Rattle.mc_model.specs.Steps.{step}
 use Rattle.mc_model.specs.Worlds.{WorldState}
 use Rattle.mc_script.specs.Batches.{batch_turns}
 use Rattle.mc_script.specs.declared.command.Batch.{Batch}
@@ -17,7 +16,7 @@ use Rattle.mc_script.specs.declared.command.JournalLine.TheVariants.{Turn as Mad
 use Rattle.mc_seq.proofs.AllowedCommands.{all_kept}
 use Rattle.mc_replay.specs.Faults.{BreaksMarks, BreaksOrder, IsLineFault, marks, order, steps}
 use Rattle.mc_replay.specs.Follows.{Follows, IsNext, TellsSettled}
-use Rattle.mc_replay.specs.Points.{Point, batch_at, first_batch, first_point, point_behind, world_at}
+use Rattle.mc_replay.specs.Points.{Point, batch_at, first_batch, world_at}
 use Rattle.mc_replay.specs.Replays.{Goes, IsFresh, StandsAt}
 use Rattle.mc_replay.specs.declared.replay.Replay.{Replay}
 use Rattle.mc_replay.specs.declared.rule.TheConstants.{NOT_ENABLED, NOT_NEXT, NOT_SETTLED}

@@ -1,5 +1,5 @@
 -- Where a journal stands behind some of its lines, and which line may stand there.
-use Rattle.std.specs.Prelude.{◌≡◌, ◌≢◌, ℕ, Bool, true, false, IsSome, List, [], ◌∷◌, ◌++◌, count_by, drop, Some}
+use Rattle.std.specs.Prelude.{◌≢◌, ℕ, Bool, true, false, IsSome, List, [], ◌∷◌, ◌++◌, count_by, drop}
 use Rattle.mc_box.specs.declared.event.Turn.{Turn}
 use Rattle.mc_model.specs.Settles.{IsSettled}
 use Rattle.mc_model.specs.Steps.{after, step}

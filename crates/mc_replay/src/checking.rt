@@ -28,7 +28,7 @@ pub struct Checked {
 /// Checks that a journal is one of these batches, from a world that allows their commands: each line in its turn, and
 /// then the end. Each turn is made again, and at each mark what the viewer shows of the world is kept.
 ///
-/// A line takes the time of its turn, whatever the size of the network.
+/// A turn takes no longer in a larger network.
 pub fn check<V: Viewer>(
     alloc: Global,
     viewer: &V,
@@ -42,6 +42,7 @@ pub fn check<V: Viewer>(
     ensures whole { IfOk result (λ checked. text.now.bad ≡ false) }
     ensures shown { IfOk result (λ checked.
         AreShown (V.shows viewer.now) world text.now.lines.items (views_of checked.views.items)) }
+    ensures count { IfOk result (λ checked. length checked.views.items ≡ length batches.now) }
     ensures refused { IfErr result (RefusesJournal world (map batch_turns batches.now)
         text.now.lines.items text.now.bad) }
 {

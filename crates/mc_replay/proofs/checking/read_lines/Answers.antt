@@ -1,4 +1,4 @@
-use Rattle.std.proofs.Common.{◌≡◌, ◌<◌, List, map, take, length, slice_index_or, arith}
+use Rattle.std.proofs.Common.{map, take, arith}
 use Rattle.std.proofs.lemmas.Result.{err_from_is_err_and}
 use Rattle.mc_script.specs.Batches.{batch_turns}
 use Rattle.mc_replay.specs.Points.{Point, first_point, point_after}

@@ -1,4 +1,4 @@
-use Rattle.std.proofs.Common.{◌≡◌, ◌<◌, ◌≤◌, ℕ, Bool, List, map, length, subst, sym, Err}
+use Rattle.std.proofs.Common.{◌≤◌, ℕ, List, map, subst, sym, Err}
 use Rattle.std.proofs.lemmas.List.{length-map}
 use Rattle.std.proofs.lemmas.Result.{err_from_is_err_and}
 use Rattle.mc_script.specs.Batches.{batch_turns}

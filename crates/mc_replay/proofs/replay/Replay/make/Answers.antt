@@ -1,8 +1,8 @@
-use Rattle.std.proofs.Common.{◌<◌, ℕ, List, map, length, refl, subst, sym, Err}
+use Rattle.std.proofs.Common.{◌<◌, ℕ, map, refl, subst, sym, Err}
 use Rattle.std.proofs.lemmas.List.{length-map}
 use Rattle.mc_script.specs.Batches.{batch_turns}
 use Rattle.mc_replay.specs.Follows.{Makes}
-use Rattle.mc_replay.specs.Points.{Point, batch_at}
+use Rattle.mc_replay.specs.Points.{batch_at}
 use Rattle.mc_replay.specs.declared.segment.TurnFault.{TurnFault}
 use Rattle.mc_replay.proofs.Stands.{made, not_enabled, out_of_order}
 use Rattle.mc_replay.proofs.replay.Replay.make.Goals as goal

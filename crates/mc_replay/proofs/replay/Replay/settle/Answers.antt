@@ -1,11 +1,11 @@
-use Rattle.std.proofs.Common.{◌<◌, ◌≤◌, ◌+◌, ℕ, Bool, List, [], map, length, ap, subst, sym}
+use Rattle.std.proofs.Common.{◌<◌, ◌≤◌, ◌+◌, ℕ, List, [], map, ap, subst, sym}
 use Rattle.std.proofs.lemmas.List.{length-map}
 use Rattle.mc_box.specs.declared.event.Turn.{Turn}
 use Rattle.mc_model.specs.Shapes.{AreAllowed}
 use Rattle.mc_script.specs.Batches.{batch_turns}
 use Rattle.mc_script.specs.declared.command.JournalLine.TheVariants.{Settled}
 use Rattle.mc_replay.specs.Follows.{Follows, TellsSettled}
-use Rattle.mc_replay.specs.Points.{Point, batch_at}
+use Rattle.mc_replay.specs.Points.{batch_at}
 use Rattle.mc_replay.specs.declared.replay.Replay.{Replay}
 use Rattle.mc_replay.specs.declared.segment.Segment.{Segment}
 use Rattle.mc_replay.proofs.Stands.{marked, misplaced, none_left, place_allowed}
