@@ -17,7 +17,8 @@ use Rattle.mc_replay.specs.Journals.{IsJournal, lines_for}
 use Rattle.mc_replay.specs.Laws.{GoodOrFaulty}
 use Rattle.mc_replay.specs.Points.{AllMayStand, MayStand, first_point, is_mark, marks_in, point_after}
 use Rattle.mc_replay.proofs.Faults.{none_faulty}
-use Rattle.mc_replay.proofs.Parts.{after_is, step_there}
+use Rattle.mc_replay.proofs.Parts.{step_there}
+use Rattle.mc_replay.proofs.Prefixes.{after_is}
 
 -- ---- the lines of a journal may stand
 

@@ -21,7 +21,8 @@ use Rattle.mc_replay.specs.declared.replay.Replay.{Replay}
 use Rattle.mc_replay.proofs.Good.{all_marked, may_journal}
 use Rattle.mc_replay.proofs.Holds.{replayed_is}
 use Rattle.mc_replay.proofs.Lines.{after_both, may_both}
-use Rattle.mc_replay.proofs.Parts.{after_is, last_step}
+use Rattle.mc_replay.proofs.Parts.{last_step, one_world}
+use Rattle.mc_replay.proofs.Prefixes.{after_is}
 
 -- no line is read yet
 pub read_first : (Shows : WorldState → List PathView → Type 0) (batches : List (List Turn)) (replay : Replay) → IsFresh replay.segment.world batches replay → HasRead Shows replay.segment.world batches [] replay []
@@ -53,10 +54,7 @@ world_stays : (batches : List (List Turn)) (point : Point) (old new : Replay) �
 world_stays batches point old new before behind =
     let there : world_at point ≡ old.segment.world = after_is point.begins old.segment.world point.turns before.follows.runs in
     let same : Some (world_at point) ≡ Some new.segment.world = behind.follows.runs in
-    sym there ∙ same_value (world_at point) new.segment.world same
-  where
-    same_value : (one other : WorldState) → Some one ≡ Some other → one ≡ other
-    same_value one other same = cc
+    sym there ∙ one_world (world_at point) new.segment.world same
 
 shown_more : (Shows : WorldState → List PathView → Type 0) (start : WorldState) (batches : List (List Turn)) (read : List JournalLine) (line : JournalLine) (point : Point) (old new : Replay) (shown longer : List (List PathView))
     → ((more : List JournalLine) (others : List (List PathView)) → AreShown Shows old.segment.world more others → AreShown Shows start (read ++ more) (shown ++ others))
@@ -133,7 +131,7 @@ refused_at_end Shows start batches lines replay shown (NoMemory e) bad read ends
 
 -- a replay begins in the world that it is given
 pub begun_there : (world : WorldState) (batches : List (List Turn)) (replay : Replay) → IsFresh world batches replay → world ≡ replay.segment.world
-begun_there world batches replay fresh = let runs : Some world ≡ Some replay.segment.world = fresh.stands.follows.runs in cc
+begun_there world batches replay fresh = one_world world replay.segment.world fresh.stands.follows.runs
 
 -- as many lists are shown as there are marks, and so as batches
 shown_count : (Shows : WorldState → List PathView → Type 0) (lines : List JournalLine) (world : WorldState) (shown : List (List PathView)) → AreShown Shows world lines shown → length shown ≡ marks_in lines

@@ -21,7 +21,8 @@ use Rattle.mc_replay.specs.Replays.{Goes, IsFresh, StandsAt}
 use Rattle.mc_replay.specs.declared.replay.Replay.{Replay}
 use Rattle.mc_replay.specs.declared.rule.TheConstants.{NOT_ENABLED, NOT_NEXT, NOT_SETTLED}
 use Rattle.mc_replay.specs.declared.segment.Segment.{Segment}
-use Rattle.mc_replay.proofs.Parts.{after_is, last_step, step_there}
+use Rattle.mc_replay.proofs.Parts.{last_step, one_world, step_there}
+use Rattle.mc_replay.proofs.Prefixes.{after_is}
 
 -- ---- batches by their places
 
@@ -51,7 +52,7 @@ is_left batches point replay within stands none = some_left batches replay.settl
 -- ---- the beginning
 
 same_world : (world : WorldState) (batch : List Turn) (segment : Segment) → Follows world batch [] segment → world ≡ segment.world
-same_world world batch segment follows = let runs : Some world ≡ Some segment.world = follows.runs in cc
+same_world world batch segment follows = one_world world segment.world follows.runs
 
 pub fresh : (world : WorldState) (batches : List (List Turn)) (segment : Segment) → AreAllAllowed world batches → Follows world (first_batch (drop 0 batches)) [] segment
     → IsFresh world batches (record { segment = segment; settled = 0; turns = 0 })
