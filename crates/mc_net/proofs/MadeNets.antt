@@ -145,6 +145,7 @@ nets_are_named tail text net declares =
     let known : All (HasCodecs d.names) (map box_seen plan.boxes) = rw declares.world.boxes runs.known in
     record {
       names = subst HaveNames (sym declares.names) runs.called.have;
+      fits = rw (declares.names, declares.shape) runs.fits;
       world = rw (declares.names, declares.world.world) (programs_named d.names (world_of plan) d.blocks (plan_named d.names plan each known));
       commands = rw (declares.names, declares.shape, declares.batches)
           (all_batches (IsSayable d.names d.shape) d.commands (All-weaker (IsOfLine d.names d.shape) (OfTurn (IsSayable d.names d.shape)) (λ it line. sayable d runs it (line_named d.names d.shape runs.fits it line) (line_enabled d.names d.shape runs.fits it line)) d.commands runs.of_lines));

@@ -14,6 +14,7 @@ use Rattle.mc_box.specs.declared.event.Turn.{Turn}
 pub use Rattle.mc_script.specs.Batches.{batch_turns}
 use Rattle.mc_script.specs.declared.command.Command.{Command}
 use Rattle.mc_script.specs.declared.command.Command.TheVariants.{Stimulus, Settle}
+use Rattle.mc_script.specs.Places.{Fits}
 use Rattle.mc_script.specs.Printed.{Allows, HaveNames, IsNamed}
 use Rattle.mc_lines.specs.BoxLines.{box_seen}
 use Rattle.mc_lines.specs.Rules.{shapes}
@@ -89,8 +90,9 @@ pub record NamesAll (names : NameLists) (world : WorldState) : Type 0 where
 abbrev pub IsSayable : NameLists → List BoxShapeState → Turn → Type 0
 IsSayable names shape turn = IsNamed names (Stimulus turn) × Allows shape (Stimulus turn)
 
--- names are names, none of them twice; all of the world has them; and so has what each command is about, which shapes allow
+-- names are names, none of them twice, and the shapes fit them; all of the world has them; and so has what each command is about, which shapes allow
 pub record IsWellNamed (net : Net) : Type 0 where
   pub names : HaveNames net.names
+  pub fits : Fits net.names net.shape
   pub world : NamesAll net.names net.world
   pub commands : All (All (IsSayable net.names net.shape)) (map batch_turns net.batches.items)
