@@ -270,14 +270,14 @@ channel_joins d after words means = by (spelt_value spelt_medium (slice_get word
         record { medium = medium; from = from; slot = slot; to = to; far_slot = far_slot; near = b; far = e; near_slot = c; other_slot = f; is = cc }
 
 -- new names for a slot of each of two boxes
-record AreNew (names : NameLists) (from : ℕ) (slot : List ℕ) (to : ℕ) (far_slot : List ℕ) : Type 0 where
+record SlotsAreNew (names : NameLists) (from : ℕ) (slot : List ℕ) (to : ℕ) (far_slot : List ℕ) : Type 0 where
   apart : from ≢ to
   near : IsNew (slot_names names from) slot
   far : IsNew (slot_names names to) far_slot
 
 -- a channel more, and a slot of each of its boxes
 joined_runs : (d : Declared) (medium : Medium) (from : ℕ) (slot : List ℕ) (to : ℕ) (far_slot : List ℕ) → IsRunnable d → d.commands ≡ [] → d.blocks ≡ [] → from < length d.names.boxes → to < length d.names.boxes
-    → AreNew d.names from slot to far_slot → IsRunnable (with_joined d medium from slot to far_slot)
+    → SlotsAreNew d.names from slot to far_slot → IsRunnable (with_joined d medium from slot to far_slot)
 joined_runs d medium from slot to far_slot runs none bare near far new =
     let joined = with_joined d medium from slot to far_slot in
     let form = in_form_with_channel (record d { blocks = [] }) medium from slot to far_slot near far (bare_form d runs) in
@@ -315,7 +315,7 @@ channel_in_time d words kept =
 
 -- the slots of a `chan` line have new names, and its boxes are two
 channel_news : (d : Declared) (words : List (List ℕ)) (from to : ℕ) (slot far_slot : List ℕ) → least_broken (channel_rules d words) ≡ None → box_named d.names (slice_get words 1) ≡ Some from → box_named d.names (slice_get words 3) ≡ Some to
-    → slice_get words 2 ≡ Some slot → slice_get words 4 ≡ Some far_slot → AreNew d.names from slot to far_slot
+    → slice_get words 2 ≡ Some slot → slice_get words 4 ≡ Some far_slot → SlotsAreNew d.names from slot to far_slot
 channel_news d words from to slot far_slot kept a b c e =
     let near = box_named d.names (slice_get words 1) in
     let far = box_named d.names (slice_get words 3) in

@@ -37,8 +37,8 @@ pub fn unprogrammed_texts()
     ensures { UnprogrammedTexts }
 {}
 
-/// In the network of a text boxes, slots and told words have names, and no list has a name twice. All of its first world
-/// has a name, and so has what each command is about. The shapes of boxes allow all commands.
+/// In the network of a text boxes, slots and told words have names, and no list has a name twice. All of its first
+/// world has names, and so has what each command is about. The shapes of boxes allow all commands.
 pub fn nets_are_named()
     ensures { NetsAreNamed }
 {}

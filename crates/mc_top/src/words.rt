@@ -3,7 +3,8 @@ ghost use Rattle.std.specs.Prelude.{◌≡◌, ◌≤◌, ◌∷◌, [], drop, l
 ghost use Rattle.std.specs.List.{after_first, before_first, list_any, position_or_len, slice_get};
 ghost use Rattle.std.specs.Option.{option_copied};
 ghost use Rattle.mc_top.specs.declared.words.Mode.{Mode};
-ghost use Rattle.mc_top.specs.Modes.{AsksFor, IsCommand, is_dashes, is_journal_flag, plain_among, prints_journal, spelt_draws};
+ghost use Rattle.mc_top.specs.Modes.{AsksFor, IsCommand, is_dashes, is_journal_flag, plain_among};
+ghost use Rattle.mc_top.specs.Modes.{prints_journal, spelt_draws};
 
 use mc_text::read_number;
 use std::marker::Model;
