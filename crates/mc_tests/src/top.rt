@@ -2,6 +2,7 @@
 ghost use Rattle.std.specs.Prelude.{◌<◌};
 
 mod draws;
+mod journals;
 mod limits;
 mod media;
 mod networks;
