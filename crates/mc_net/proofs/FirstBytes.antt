@@ -20,7 +20,7 @@ use Rattle.mc_net.proofs.Reading.{has_tail}
 -- ---- how many bytes lines have
 
 -- the bytes of lines, with an end for each
-abbrev extent : List (List ℕ) → ℕ
+abbrev pub extent : List (List ℕ) → ℕ
 extent [] = 0
 extent (line ∷ others) = length line + 1 + extent others
 
@@ -38,13 +38,13 @@ bytes_before-append [] ys = refl
 bytes_before-append (x ∷ xs) ys = let rest = bytes_before-append xs ys in bytes_before-cons x (xs ++ ys) (length xs) ∙ ap (λ (n : ℕ). length x + 1 + n) rest
 
 -- of all lines
-all_bytes : (xs : List (List ℕ)) → bytes_before xs (length xs) ≡ extent xs
+pub all_bytes : (xs : List (List ℕ)) → bytes_before xs (length xs) ≡ extent xs
 all_bytes xs = subst (λ (all : List (List ℕ)). bytes_before all (length xs) ≡ extent xs) (append-nil xs) (bytes_before-append xs [])
 
 -- ---- pieces of the first bytes
 
 module _ (p : ℕ → Bool) where
-  extent_of_pieces : (bytes : List ℕ) → extent (slice_split p bytes) ≡ length bytes + 1
+  pub extent_of_pieces : (bytes : List ℕ) → extent (slice_split p bytes) ≡ length bytes + 1
   extent_of_pieces [] = refl
   extent_of_pieces (byte ∷ bytes) = by (p byte) refl (extent_of_pieces bytes)
     where

@@ -13,5 +13,6 @@ pub mod Programmed
 pub mod Reading
 pub mod Runnable
 pub mod Shaped
+pub mod TextEnds
 pub mod Unfinished
 pub mod Versions

@@ -1,5 +1,6 @@
 -- Laws of texts: each says something or has a fault, and never both, nor two faults. The first bytes of a long text show its fault. A text says which boxes have programs, and names all of its network.
-use Rattle.std.specs.Prelude.{ℕ, ◌≡◌, ◌⊎◌, List, take}
+use Rattle.std.specs.Prelude.{ℕ, ◌≡◌, ◌⊎◌, ◌++◌, List, drop, length, take}
+use Rattle.mc_text.specs.Lines.{lines}
 use Rattle.mc_lines.specs.Rules.{read_limit}
 use Rattle.mc_lines.specs.SoFar.{Declared}
 use Rattle.mc_model.specs.Unprogrammed.{HasNoPrograms}
@@ -7,7 +8,7 @@ use Rattle.mc_model.specs.Worlds.{WorldState}
 use Rattle.mc_lines.specs.declared.tail.Tail.{Tail}
 use Rattle.mc_lines.specs.declared.tail.Tail.TheVariants.{Nothing}
 use Rattle.mc_net.specs.Nets.{DeclaresNet, IsFirstWorld, IsUnprogrammed, IsWellNamed}
-use Rattle.mc_net.specs.Texts.{IsFault, Says}
+use Rattle.mc_net.specs.Texts.{IsFault, Says, text_end, text_lines}
 use Rattle.mc_net.specs.declared.net.Net.{Net}
 
 -- a text that says something has no fault
@@ -37,6 +38,14 @@ NetsOfTheFirstBytes = (tail : Tail) (text : List ℕ) (net : Net) → DeclaresNe
 -- first bytes that say something are the whole text, where nothing stands behind the commands
 abbrev pub SaysTheWhole : Type 0
 SaysTheWhole = (text : List ℕ) (d : Declared) → Says Nothing (first_bytes Nothing text) d → first_bytes Nothing text ≡ text
+
+-- behind the last line of a text stand the other lines
+abbrev pub LinesBehind : Type 0
+LinesBehind = (tail : Tail) (text : List ℕ) → lines text ≡ text_lines tail text ++ lines (drop (text_end tail text) text)
+
+-- where nothing may stand behind the commands, a text has all lines, and its end is that of the bytes
+abbrev pub UnendedTexts : Type 0
+UnendedTexts = (text : List ℕ) → (text_lines Nothing text ≡ lines text) × (text_end Nothing text ≡ length text)
 
 -- where no program was declared, no box of the first world has one
 abbrev pub UnprogrammedTexts : Type 0

@@ -1,7 +1,8 @@
 //! Laws of texts and of their first worlds, over the definitions alone: each function's contract is the law's sentence.
 
-ghost use Rattle.mc_net.specs.TextLaws.{DeclaresOrFaults, FaultsOfTheFirstBytes, NetsAreNamed, NetsOfTheFirstBytes};
-ghost use Rattle.mc_net.specs.TextLaws.{OneFault, OneOrTheOther, SaysTheWhole, UnprogrammedTexts};
+ghost use Rattle.mc_net.specs.TextLaws.{DeclaresOrFaults, OneFault, OneOrTheOther, UnprogrammedTexts};
+ghost use Rattle.mc_net.specs.TextLaws.{FaultsOfTheFirstBytes, NetsOfTheFirstBytes, SaysTheWhole};
+ghost use Rattle.mc_net.specs.TextLaws.{LinesBehind, NetsAreNamed, UnendedTexts};
 ghost use Rattle.mc_net.specs.Versions.{FirstVersions};
 
 /// A text that says something has no fault.
@@ -25,6 +26,16 @@ pub fn faults_of_the_first_bytes()
     ensures faults { FaultsOfTheFirstBytes }
     ensures nets { NetsOfTheFirstBytes }
     ensures whole { SaysTheWhole }
+{}
+
+/// What stands behind the line that ends the commands of a text are its other lines.
+pub fn lines_behind()
+    ensures { LinesBehind }
+{}
+
+/// Where nothing may stand behind the commands, each line is one of the text's, and the text ends where its bytes do.
+pub fn unended_texts()
+    ensures { UnendedTexts }
 {}
 
 /// Each slot of a text's first world has the version that the line of its box says.
