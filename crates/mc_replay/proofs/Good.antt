@@ -16,24 +16,21 @@ use Rattle.mc_replay.specs.Follows.{IsNext}
 use Rattle.mc_replay.specs.Journals.{IsJournal, lines_for}
 use Rattle.mc_replay.specs.Laws.{GoodOrFaulty}
 use Rattle.mc_replay.specs.Points.{AllMayStand, MayStand, first_point, is_mark, marks_in, point_after}
+use Rattle.mc_replay.proofs.Commands.{at_seam}
 use Rattle.mc_replay.proofs.Faults.{none_faulty}
 use Rattle.mc_replay.proofs.Parts.{step_there}
 use Rattle.mc_replay.proofs.Prefixes.{after_is}
 
 -- ---- the lines of a journal may stand
 
--- the command of a box that stands behind others of it
-at_seam : {A : Type 0} (xs ys : List A) (y : A) → slice_get (xs ++ y ∷ ys) (length xs) ≡ Some y
-at_seam [] ys y = refl
-at_seam (x ∷ xs) ys y = at_seam xs ys y
-
+-- a turn behind others, of which the commands are those of the batch
 next_here : (one two batch : List Turn) (turn : Turn) → ((who : ℕ) → commands_of who (one ++ turn ∷ two) ≡ commands_of who batch) → IsNext batch one turn
 next_here one two batch turn same command =
     let test : Turn → Bool = λ t. is_command t.event && t.who == turn.who in
     let own : test turn ≡ true = own_box (is_command turn.event) turn.who command in
     let parts : commands_of turn.who (one ++ turn ∷ two) ≡ commands_of turn.who one ++ turn ∷ commands_of turn.who two =
     filter-append test one (turn ∷ two) ∙ ap (λ (b : Bool). commands_of turn.who one ++ cond b (turn ∷ commands_of turn.who two) (commands_of turn.who two)) own in
-    subst (λ (l : List Turn). slice_get l (length (commands_of turn.who one)) ≡ Some turn) (sym parts ∙ same turn.who) (at_seam (commands_of turn.who one) (commands_of turn.who two) turn)
+    subst (λ (l : List Turn). slice_get l (length (commands_of turn.who one)) ≡ Some turn) (sym parts ∙ same turn.who) (at_seam (commands_of turn.who one) (turn ∷ commands_of turn.who two))
   where
     own_box : (b : Bool) (who : ℕ) → IsTrue b → (b && who == who) ≡ true
     own_box b who is = grind (arith)

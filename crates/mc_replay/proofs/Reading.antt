@@ -14,7 +14,7 @@ use Rattle.mc_view.specs.declared.PathView.{PathView}
 use Rattle.mc_replay.specs.Faults.{RefusesJournal, at_bad, at_end, at_line}
 use Rattle.mc_replay.specs.Journals.{AreShown, IsJournal, next_world}
 use Rattle.mc_replay.specs.Points.{Point, first_point, is_mark, is_turn, marks_in, point_after, point_behind, turns_in, world_at}
-use Rattle.mc_replay.specs.Replays.{AddsShown, Ends, Goes, HasRead, IsFresh, Reads, StandsAt, views_of}
+use Rattle.mc_replay.specs.Replays.{AddsShown, EndsJournal, GoesBehind, HasReplayed, IsFresh, Reads, StandsAt, views_of}
 use Rattle.mc_replay.specs.declared.fault.CheckFault.{CheckFault}
 use Rattle.mc_replay.specs.declared.fault.CheckFault.TheVariants.{At, NoMemory}
 use Rattle.mc_replay.specs.declared.replay.Replay.{Replay}
@@ -25,7 +25,7 @@ use Rattle.mc_replay.proofs.Parts.{last_step, one_world}
 use Rattle.mc_replay.proofs.Prefixes.{after_is}
 
 -- no line is read yet
-pub read_first : (Shows : WorldState → List PathView → Type 0) (batches : List (List Turn)) (replay : Replay) → IsFresh replay.segment.world batches replay → HasRead Shows replay.segment.world batches [] replay []
+pub read_first : (Shows : WorldState → List PathView → Type 0) (batches : List (List Turn)) (replay : Replay) → IsFresh replay.segment.world batches replay → HasReplayed Shows replay.segment.world batches [] replay []
 read_first Shows batches replay fresh = record {
   may = tt;
   stands = fresh.stands;
@@ -73,8 +73,8 @@ shown_more Shows start batches read Settled point old new shown longer so_far be
     (subst (λ (w : WorldState). AreShown Shows w (Settled ∷ more) (views ∷ others)) (sym same) (shows, rest))))
 
 pub read_more : (Shows : WorldState → List PathView → Type 0) (start : WorldState) (batches : List (List Turn)) (read : List JournalLine) (line : JournalLine) (old new : Replay) (shown longer : List (List PathView))
-    → HasRead Shows start batches read old shown → Goes batches (point_after (first_point start batches) read) line old new → AddsShown Shows new.segment.world line shown longer
-    → HasRead Shows start batches (read ++ line ∷ []) new longer
+    → HasReplayed Shows start batches read old shown → GoesBehind batches (point_after (first_point start batches) read) line old new → AddsShown Shows new.segment.world line shown longer
+    → HasReplayed Shows start batches (read ++ line ∷ []) new longer
 read_more Shows start batches read line old new shown longer so_far goes adds =
     let point : Point = point_after (first_point start batches) read in
     record {
@@ -88,10 +88,10 @@ read_more Shows start batches read line old new shown longer so_far goes adds =
 -- ---- a line by its place
 
 pub read_next : (Shows : WorldState → List PathView → Type 0) (start : WorldState) (batches : List (List Turn)) (lines : List JournalLine) (k : ℕ) (none : JournalLine) (old new : Replay) (shown longer : List (List PathView))
-    → k < length lines → HasRead Shows start batches (take k lines) old shown → Goes batches (point_after (first_point start batches) (take k lines)) (slice_index_or lines k none) old new
-    → AddsShown Shows new.segment.world (slice_index_or lines k none) shown longer → HasRead Shows start batches (take (k + 1) lines) new longer
+    → k < length lines → HasReplayed Shows start batches (take k lines) old shown → GoesBehind batches (point_after (first_point start batches) (take k lines)) (slice_index_or lines k none) old new
+    → AddsShown Shows new.segment.world (slice_index_or lines k none) shown longer → HasReplayed Shows start batches (take (k + 1) lines) new longer
 read_next Shows start batches lines k none old new shown longer within so_far goes adds =
-    subst (λ (l : List JournalLine). HasRead Shows start batches l new longer) (sym (take_more lines k none within))
+    subst (λ (l : List JournalLine). HasReplayed Shows start batches l new longer) (sym (take_more lines k none within))
     (read_more Shows start batches (take k lines) (slice_index_or lines k none) old new shown longer so_far goes adds)
 
 parts_at : {A : Type 0} (xs : List A) (k : ℕ) (none : A) → k < length xs → xs ≡ take k xs ++ slice_index_or xs k none ∷ drop (suc k) xs
@@ -101,7 +101,7 @@ parts_at (x ∷ xs) (suc k) none within = ap (λ (l : List _). x ∷ l) (parts_a
 
 -- what is wrong with a line is why the journal isn't taken
 pub refused_at : (Shows : WorldState → List PathView → Type 0) (start : WorldState) (batches : List (List Turn)) (lines : List JournalLine) (k : ℕ) (none : JournalLine) (old new : Replay) (shown : List (List PathView)) (fault : CheckFault) (bad : Bool)
-    → k < length lines → HasRead Shows start batches (take k lines) old shown → Reads batches (point_after (first_point start batches) (take k lines)) (slice_index_or lines k none) old (Err fault) new
+    → k < length lines → HasReplayed Shows start batches (take k lines) old shown → Reads batches (point_after (first_point start batches) (take k lines)) (slice_index_or lines k none) old (Err fault) new
     → RefusesJournal start batches lines bad fault
 refused_at Shows start batches lines k none old new shown (At number turn) bad within so_far why =
     at_line (take k lines) (drop (suc k) lines) (slice_index_or lines k none) (parts_at lines k none within) so_far.may why.0 (why.1 ∙ ap (λ (n : ℕ). n + 1) so_far.turns)
@@ -110,19 +110,19 @@ refused_at Shows start batches lines k none old new shown (NoMemory e) bad withi
 -- ---- the end
 
 pub is_journal : (Shows : WorldState → List PathView → Type 0) (start : WorldState) (batches : List (List Turn)) (lines : List JournalLine) (replay : Replay) (shown : List (List PathView)) → length batches ≤ replay.settled
-    → HasRead Shows start batches lines replay shown → IsJournal start batches lines
+    → HasReplayed Shows start batches lines replay shown → IsJournal start batches lines
 is_journal Shows start batches lines replay shown past read =
     may_journal lines start batches [] read.may (read.stands.left ∙ drop_all replay.settled batches past) (λ none. refl)
 
 pub all_shown : (Shows : WorldState → List PathView → Type 0) (start : WorldState) (batches : List (List Turn)) (lines : List JournalLine) (replay : Replay) (shown : List (List PathView))
-    → HasRead Shows start batches lines replay shown → AreShown Shows start lines shown
+    → HasReplayed Shows start batches lines replay shown → AreShown Shows start lines shown
 all_shown Shows start batches lines replay shown read =
     subst (AreShown Shows start lines) (append-nil shown)
     (subst (λ (l : List JournalLine). AreShown Shows start l (shown ++ [])) (append-nil lines) (read.views [] [] refl))
 
 -- what is wrong with the end is so, too
 pub refused_at_end : (Shows : WorldState → List PathView → Type 0) (start : WorldState) (batches : List (List Turn)) (lines : List JournalLine) (replay : Replay) (shown : List (List PathView)) (fault : CheckFault) (bad : Bool)
-    → HasRead Shows start batches lines replay shown → Ends (length batches) replay bad (Err fault) → RefusesJournal start batches lines bad fault
+    → HasReplayed Shows start batches lines replay shown → EndsJournal (length batches) replay bad (Err fault) → RefusesJournal start batches lines bad fault
 refused_at_end Shows start batches lines replay shown (At number turn) bad read (at, inl (is, line)) =
     at_bad read.may is line (at ∙ ap (λ (n : ℕ). n + 1) read.turns)
 refused_at_end Shows start batches lines replay shown (At number turn) bad read (at, inr (whole, few, early)) =

@@ -17,7 +17,7 @@ use Rattle.mc_seq.proofs.AllowedCommands.{all_kept}
 use Rattle.mc_replay.specs.Faults.{BreaksMarks, BreaksOrder, IsLineFault, marks, order, steps}
 use Rattle.mc_replay.specs.Follows.{Follows, IsNext, TellsSettled}
 use Rattle.mc_replay.specs.Points.{Point, batch_at, first_batch, world_at}
-use Rattle.mc_replay.specs.Replays.{Goes, IsFresh, StandsAt}
+use Rattle.mc_replay.specs.Replays.{GoesBehind, IsFresh, StandsAt}
 use Rattle.mc_replay.specs.declared.replay.Replay.{Replay}
 use Rattle.mc_replay.specs.declared.rule.TheConstants.{NOT_ENABLED, NOT_NEXT, NOT_SETTLED}
 use Rattle.mc_replay.specs.declared.segment.Segment.{Segment}
@@ -76,7 +76,7 @@ still_allowed batches world next turn sound goes all = λ i none within.
 
 pub made : (batches : List (List Turn)) (point : Point) (turn : Turn) (old : Replay) (segment : Segment) → old.settled < length batches → StandsAt batches point old
     → Follows point.begins (batch_at point) (point.turns ++ turn ∷ []) segment → IsNext (batch_at point) point.turns turn
-    → Goes batches point (Made turn) old (record { segment = segment; settled = old.settled; turns = old.turns + 1 })
+    → GoesBehind batches point (Made turn) old (record { segment = segment; settled = old.settled; turns = old.turns + 1 })
 made batches point turn old segment within stands follows next =
     let sound : IsSound old.segment.world = run_keeps_sound point.begins old.segment.world point.turns stands.follows.sound stands.follows.runs in
     let goes : step old.segment.world turn ≡ Some segment.world = last_step point.turns turn point.begins old.segment.world segment.world stands.follows.runs follows.runs in
@@ -111,7 +111,7 @@ not_enabled batches point turn replay within stands next none =
 
 pub marked : (batches : List (List Turn)) (point : Point) (old : Replay) (segment : Segment) → old.settled < length batches → StandsAt batches point old
     → IsSettled point.begins (batch_at point) point.turns old.segment.world → Follows old.segment.world (first_batch (drop (old.settled + 1) batches)) [] segment
-    → Goes batches point Settled old (record { segment = segment; settled = old.settled + 1; turns = old.turns })
+    → GoesBehind batches point Settled old (record { segment = segment; settled = old.settled + 1; turns = old.turns })
 marked batches point old segment within stands settled follows =
     let there : old.segment.world ≡ world_at point = sym (after_is point.begins old.segment.world point.turns stands.follows.runs) in
     let left : drop 1 point.batches ≡ drop (old.settled + 1) batches = next_place batches point.batches old.settled stands.left in

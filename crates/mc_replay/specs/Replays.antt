@@ -24,7 +24,7 @@ pub record StandsAt (batches : List (List Turn)) (point : Point) (replay : Repla
   pub allowed : AreAllAllowed replay.segment.world batches
 
 -- a line that may stand there is counted, and the replay stands behind it
-pub record Goes (batches : List (List Turn)) (point : Point) (line : JournalLine) (old new : Replay) : Type 0 where
+pub record GoesBehind (batches : List (List Turn)) (point : Point) (line : JournalLine) (old new : Replay) : Type 0 where
   pub may : MayStand point line
   pub stands : StandsAt batches (point_behind point line) new
   pub turns : new.turns ≡ old.turns + turns_in (line ∷ [])
@@ -32,16 +32,16 @@ pub record Goes (batches : List (List Turn)) (point : Point) (line : JournalLine
 
 -- what comes of a line: the replay goes on, or the line is faulty
 abbrev pub Reads : List (List Turn) → Point → JournalLine → Replay → Result (Unit {0}) CheckFault → Replay → Type 0
-Reads batches point line old (Ok done) new = Goes batches point line old new
+Reads batches point line old (Ok done) new = GoesBehind batches point line old new
 Reads batches point line old (Err (At number turn)) new = IsLineFault point line number × (turn ≡ old.turns + 1)
 Reads batches point line old (Err (NoMemory e)) new = Unit {0}
 
 -- the end has no fault: no line behind the others is bad, and so many batches have their marks
-abbrev pub Ends : (count : ℕ) → Replay → (bad : Bool) → Result (Unit {0}) CheckFault → Type 0
-Ends count replay bad (Ok done) = (bad ≡ false) × (count ≤ replay.settled)
-Ends count replay bad (Err (At number turn)) = (turn ≡ replay.turns + 1)
+abbrev pub EndsJournal : (count : ℕ) → Replay → (bad : Bool) → Result (Unit {0}) CheckFault → Type 0
+EndsJournal count replay bad (Ok done) = (bad ≡ false) × (count ≤ replay.settled)
+EndsJournal count replay bad (Err (At number turn)) = (turn ≡ replay.turns + 1)
     × (((bad ≡ true) × (number ≡ NO_LINE)) ⊎ ((bad ≡ false) × (replay.settled < count) × (number ≡ ENDS_EARLY)))
-Ends count replay bad (Err (NoMemory e)) = Unit {0}
+EndsJournal count replay bad (Err (NoMemory e)) = Unit {0}
 
 -- a replay of which no line is read yet
 pub record IsFresh (world : WorldState) (batches : List (List Turn)) (replay : Replay) : Type 0 where
@@ -59,7 +59,7 @@ AddsShown Shows world (Made turn) old new = new ≡ old
 AddsShown Shows world Settled old new = (views : List PathView) × Shows world views × (new ≡ old ++ views ∷ [])
 
 -- these lines were read from a world, and may all stand there; what follows is shown behind what was shown at their marks
-pub record HasRead (Shows : WorldState → List PathView → Type 0) (start : WorldState) (batches : List (List Turn)) (read : List JournalLine) (replay : Replay) (shown : List (List PathView)) : Type 0 where
+pub record HasReplayed (Shows : WorldState → List PathView → Type 0) (start : WorldState) (batches : List (List Turn)) (read : List JournalLine) (replay : Replay) (shown : List (List PathView)) : Type 0 where
   pub may : AllMayStand (first_point start batches) read
   pub stands : StandsAt batches (point_after (first_point start batches) read) replay
   pub turns : replay.turns ≡ turns_in read

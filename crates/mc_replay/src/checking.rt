@@ -9,7 +9,7 @@ ghost use Rattle.mc_replay.specs.Faults.{RefusesJournal};
 ghost use Rattle.mc_replay.specs.Follows.{Stands};
 ghost use Rattle.mc_replay.specs.Journals.{AreShown, IsJournal};
 ghost use Rattle.mc_replay.specs.Points.{Point};
-ghost use Rattle.mc_replay.specs.Replays.{AddsShown, HasRead, IsFresh, Reads, StandsAt, views_of};
+ghost use Rattle.mc_replay.specs.Replays.{AddsShown, HasReplayed, IsFresh, Reads, StandsAt, views_of};
 
 use crate::fault::CheckFault;
 use crate::replay::Replay;
@@ -88,7 +88,7 @@ fn read_lines<V: Viewer>(
     requires fresh { IsFresh replay.old.segment.world (map batch_turns batches.now) replay.old }
     requires none { views.old.items ≡ [] }
     requires few { length lines.now < 2 ^ 32 - 1 }
-    ensures read { OnOk result (HasRead (V.shows viewer.now) replay.old.segment.world (map batch_turns batches.now)
+    ensures read { OnOk result (HasReplayed (V.shows viewer.now) replay.old.segment.world (map batch_turns batches.now)
         lines.now replay.new (views_of views.new.items)) }
     ensures refused { IfErr result (λ fault. (bad : Bool) → RefusesJournal replay.old.segment.world
         (map batch_turns batches.now) lines.now bad fault) }

@@ -7,7 +7,7 @@ ghost use Rattle.mc_script.specs.Batches.{batch_turns};
 ghost use Rattle.mc_script.specs.declared.command.JournalLine.TheVariants.{Turn as Made, Settled};
 ghost use Rattle.mc_replay.specs.Follows.{Stands};
 ghost use Rattle.mc_replay.specs.Points.{Point, first_batch};
-ghost use Rattle.mc_replay.specs.Replays.{Ends, IsFresh, Reads, StandsAt};
+ghost use Rattle.mc_replay.specs.Replays.{EndsJournal, IsFresh, Reads, StandsAt};
 ghost use Rattle.mc_replay.specs.declared.fault.CheckFault.TheVariants.{At};
 
 use crate::fault::CheckFault;
@@ -82,7 +82,7 @@ impl Replay {
     // The end of the lines, behind which a bad one may stand.
     pub fn end(&self, batches: &[Batch], bad: bool) -> Result<(), CheckFault>
         requires { self.now.turns + 1 < 2 ^ 32 }
-        ensures { Ends (length batches.now) self.now bad result }
+        ensures { EndsJournal (length batches.now) self.now bad result }
     {
         if bad {
             return Err(self.fault(rule::NO_LINE));

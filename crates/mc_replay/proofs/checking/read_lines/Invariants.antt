@@ -1,8 +1,8 @@
 use Rattle.std.proofs.Common.{map, take}
 use Rattle.mc_script.specs.Batches.{batch_turns}
-use Rattle.mc_replay.specs.Replays.{HasRead, views_of}
+use Rattle.mc_replay.specs.Replays.{HasReplayed, views_of}
 use Rattle.mc_replay.proofs.checking.read_lines.Given as goal
 
 -- the lines so far were read
 abbrev pub invariant-loop-line : goal.invariant-loop-line
-invariant-loop-line g l = HasRead (g.V.Viewer.shows l.viewer) l.fn.replay.segment.world (map batch_turns l.batches) (take l.line-index l.lines) l.replay (views_of l.views.items)
+invariant-loop-line g l = HasReplayed (g.V.Viewer.shows l.viewer) l.fn.replay.segment.world (map batch_turns l.batches) (take l.line-index l.lines) l.replay (views_of l.views.items)

@@ -4,7 +4,7 @@ use Rattle.std.proofs.lemmas.Result.{err_from_is_err_and}
 use Rattle.mc_script.specs.Batches.{batch_turns}
 use Rattle.mc_script.specs.declared.command.JournalLine.{JournalLine}
 use Rattle.mc_replay.specs.Faults.{RefusesJournal}
-use Rattle.mc_replay.specs.Replays.{Ends, HasRead, views_of}
+use Rattle.mc_replay.specs.Replays.{EndsJournal, HasReplayed, views_of}
 use Rattle.mc_replay.proofs.Reading.{all_shown, is_journal, refused_at_end}
 use Rattle.mc_replay.proofs.checking.read_text.Goals as goal
 
@@ -21,16 +21,16 @@ returns-in_err-end-clause-refused g c =
     rw (fault.1, fault.2)
     (refused_at_end (g.V.Viewer.shows c.args.viewer.now) c.args.replay.now.segment.world (map batch_turns c.args.batches.now) c.args.text.now.lines.items c.read_lines.new.replay (views_of c.read_lines.new.views.items)
     c.in_err-end.field-0.0 c.args.text.now.bad
-    (subst (λ (lines : List JournalLine). HasRead (g.V.Viewer.shows c.args.viewer.now) c.args.replay.now.segment.world (map batch_turns c.args.batches.now) lines c.read_lines.new.replay (views_of c.read_lines.new.views.items)) c.deref.ensures.value c.in_ok-read_lines.ensures.read)
-    (subst (λ (n : ℕ). Ends n c.read_lines.new.replay c.args.text.now.bad (Err c.in_err-end.field-0.0)) (sym (length-map c.args.batches.now batch_turns)) c.in_err-end.ensures))
+    (subst (λ (lines : List JournalLine). HasReplayed (g.V.Viewer.shows c.args.viewer.now) c.args.replay.now.segment.world (map batch_turns c.args.batches.now) lines c.read_lines.new.replay (views_of c.read_lines.new.views.items)) c.deref.ensures.value c.in_ok-read_lines.ensures.read)
+    (subst (λ (n : ℕ). EndsJournal n c.read_lines.new.replay c.args.text.now.bad (Err c.in_err-end.field-0.0)) (sym (length-map c.args.batches.now batch_turns)) c.in_err-end.ensures))
 
 pub returns-clause-journal : goal.returns-clause-journal
 returns-clause-journal g c =
     is_journal (g.V.Viewer.shows c.args.viewer.now) c.args.replay.now.segment.world (map batch_turns c.args.batches.now) c.args.text.now.lines.items c.read_lines.new.replay (views_of c.read_lines.new.views.items)
     (subst (λ (n : ℕ). n ≤ c.read_lines.new.replay.settled) (sym (length-map c.args.batches.now batch_turns)) c.in_ok-end.ensures.1)
-    (subst (λ (lines : List JournalLine). HasRead (g.V.Viewer.shows c.args.viewer.now) c.args.replay.now.segment.world (map batch_turns c.args.batches.now) lines c.read_lines.new.replay (views_of c.read_lines.new.views.items)) c.deref.ensures.value c.in_ok-read_lines.ensures.read)
+    (subst (λ (lines : List JournalLine). HasReplayed (g.V.Viewer.shows c.args.viewer.now) c.args.replay.now.segment.world (map batch_turns c.args.batches.now) lines c.read_lines.new.replay (views_of c.read_lines.new.views.items)) c.deref.ensures.value c.in_ok-read_lines.ensures.read)
 
 pub returns-clause-shown : goal.returns-clause-shown
 returns-clause-shown g c =
     all_shown (g.V.Viewer.shows c.args.viewer.now) c.args.replay.now.segment.world (map batch_turns c.args.batches.now) c.args.text.now.lines.items c.read_lines.new.replay (views_of c.read_lines.new.views.items)
-    (subst (λ (lines : List JournalLine). HasRead (g.V.Viewer.shows c.args.viewer.now) c.args.replay.now.segment.world (map batch_turns c.args.batches.now) lines c.read_lines.new.replay (views_of c.read_lines.new.views.items)) c.deref.ensures.value c.in_ok-read_lines.ensures.read)
+    (subst (λ (lines : List JournalLine). HasReplayed (g.V.Viewer.shows c.args.viewer.now) c.args.replay.now.segment.world (map batch_turns c.args.batches.now) lines c.read_lines.new.replay (views_of c.read_lines.new.views.items)) c.deref.ensures.value c.in_ok-read_lines.ensures.read)

@@ -1,7 +1,7 @@
 use Rattle.std.proofs.Common.{◌<◌, ℕ, map, refl, subst, sym, Err}
 use Rattle.std.proofs.lemmas.List.{length-map}
 use Rattle.mc_script.specs.Batches.{batch_turns}
-use Rattle.mc_replay.specs.Follows.{Makes}
+use Rattle.mc_replay.specs.Follows.{MakesTurn}
 use Rattle.mc_replay.specs.Points.{batch_at}
 use Rattle.mc_replay.specs.declared.segment.TurnFault.{TurnFault}
 use Rattle.mc_replay.proofs.Stands.{made, not_enabled, out_of_order}
@@ -15,7 +15,7 @@ returns-in-Ok c = λ point stands.
 
 pub returns-in-Err-NotNext : goal.returns-in-Err-NotNext
 returns-in-Err-NotNext c = λ point stands.
-    let why = subst (λ (fault : TurnFault). Makes point.begins (batch_at point) point.turns c.args.turn (Err fault) c.make.new.self) c.in-Err-NotNext.field-0-is
+    let why = subst (λ (fault : TurnFault). MakesTurn point.begins (batch_at point) point.turns c.args.turn (Err fault) c.make.new.self) c.in-Err-NotNext.field-0-is
     (c.in-Err-NotNext.ensures point.begins (batch_at point) point.turns stands.follows) in
     rw c.fault-in-Err-NotNext.ensures (
       out_of_order (map batch_turns c.args.batches.now) point c.args.turn c.args.self.now
@@ -25,7 +25,7 @@ returns-in-Err-NotNext c = λ point stands.
 
 pub returns-in-Err-NotEnabled : goal.returns-in-Err-NotEnabled
 returns-in-Err-NotEnabled c = λ point stands.
-    let why = subst (λ (fault : TurnFault). Makes point.begins (batch_at point) point.turns c.args.turn (Err fault) c.make.new.self) c.in-Err-NotEnabled.field-0-is
+    let why = subst (λ (fault : TurnFault). MakesTurn point.begins (batch_at point) point.turns c.args.turn (Err fault) c.make.new.self) c.in-Err-NotEnabled.field-0-is
     (c.in-Err-NotEnabled.ensures point.begins (batch_at point) point.turns stands.follows) in
     rw c.fault-in-Err-NotEnabled.ensures (
       not_enabled (map batch_turns c.args.batches.now) point c.args.turn c.args.self.now
