@@ -1,6 +1,6 @@
 -- A segment from its beginning on: what it keeps as a turn comes, and what it says of settling.
-use Rattle.std.proofs.Common.{◌≡◌, ◌≢◌, ◌≤◌, ◌<◌, ◌+◌, ◌-◌, ◌++◌, ◌==◌, ◌&&◌, ◌||◌, inl, inr, if◌then◌else◌, not, ℕ, zero, suc, Bool, true, false, List, [], ◌∷◌, IsTrue, Option, Some, None, Result, Err, length, take, drop, nat_le, refl, ap, sym, ◌∙◌, subst, arith}
-use Rattle.std.specs.List.{list_all, list_any}
+use Rattle.std.proofs.Common.{◌≡◌, ◌≢◌, ◌≤◌, ◌<◌, ◌+◌, ◌-◌, ◌++◌, ◌==◌, ◌&&◌, ◌||◌, if◌then◌else◌, not, ℕ, zero, suc, Bool, true, false, List, [], ◌∷◌, IsTrue, Option, Some, None, Result, Err, length, take, drop, nat_le, refl, ap, sym, ◌∙◌, subst, arith}
+use Rattle.std.specs.List.{list_any}
 use Rattle.std.specs.Option.{is_some}
 use Rattle.std.proofs.Math.ListN.{get_or}
 use Rattle.std.proofs.lemmas.Grind.{common_steps}
@@ -27,7 +27,7 @@ use Rattle.mc_seq.proofs.Scheduled.{allowed_commands}
 use Rattle.mc_seq.proofs.Segments.{both_there}
 use Rattle.mc_replay.specs.Counts.{AreCounted, owed_count}
 use Rattle.mc_replay.specs.Follows.{AreCommands, Follows, IsNext, MakesTurn, TellsNext, TellsSettled, TriedStep, is_last}
-use Rattle.mc_replay.specs.Moments.{AreMoments, AreNumbered, AreRetries, CountsRetry, IsKeptOf, IsMoment, no_moment, is_retry, retry_count, serves}
+use Rattle.mc_replay.specs.Moments.{AreMoments, AreNumbered, CountsRetry, IsMoment, no_moment, is_retry, retry_count, serves}
 use Rattle.mc_replay.specs.declared.moments.Moment.{Moment}
 use Rattle.mc_replay.specs.declared.retries.Retries.{Retries}
 use Rattle.mc_replay.specs.declared.segment.Segment.{Segment}

@@ -1,5 +1,5 @@
 -- Turns up to a moment, and those behind it, as one turn more comes; and where runs go on.
-use Rattle.std.proofs.Common.{◌≡◌, ◌≤◌, ◌<◌, ◌+◌, ◌++◌, ◌⊎◌, inl, inr, cond, ℕ, zero, suc, Bool, true, false, List, [], ◌∷◌, Option, Some, length, take, drop, count_by, length-append, refl, ap, sym, ◌∙◌, subst, arith}
+use Rattle.std.proofs.Common.{◌≡◌, ◌≤◌, ◌+◌, ◌++◌, ◌⊎◌, inl, inr, cond, ℕ, Bool, List, [], ◌∷◌, Option, Some, length, take, drop, count_by, length-append, refl, ap, sym, ◌∙◌, arith}
 use Rattle.std.specs.Option.{option_and_then, unwrap_or}
 use Rattle.std.proofs.lemmas.Bool.{cases_lt}
 use Rattle.std.proofs.lemmas.List.{take-append-le, drop-append-le, take_all, drop_all, take-append-drop}

@@ -1,18 +1,16 @@
 -- Nothing is under way where no signal waits that a slot can take.
-use Rattle.std.proofs.Common.{◌≡◌, ◌<◌, ◌≤◌, ◌+◌, ◌==◌, ℕ, zero, suc, Bool, true, false, Option, Some, None, List, [], ◌∷◌, IsTrue, length, sum, refl, ap, sym, ◌∙◌, subst, arith}
+use Rattle.std.proofs.Common.{◌≡◌, ◌<◌, ◌≤◌, ◌+◌, ◌==◌, ℕ, zero, suc, Bool, true, false, Option, Some, None, List, [], ◌∷◌, length, sum, refl, ap, sym, ◌∙◌, arith}
 use Rattle.std.specs.List.{list_all}
 use Rattle.std.specs.Option.{is_some, option_and_then}
 use Rattle.std.proofs.Math.ListN.{get_or}
-use Rattle.std.proofs.lemmas.Bool.{cases_eq}
 use Rattle.std.proofs.lemmas.Grind.{common_steps}
 use Rattle.mc_signal.specs.declared.Signal.{Signal}
 use Rattle.mc_signal.specs.declared.Tagged.{Tagged}
 use Rattle.mc_laws.proofs.Sums.{total_has}
 use Rattle.mc_model.specs.Settles.{is_empty, is_quiet}
 use Rattle.mc_model.specs.Sound.{IsSound}
-use Rattle.mc_model.specs.Worlds.{WorldState, box_at, front, front_for, lane_of, lane_to, number, place, slot_count, tunnel_of}
+use Rattle.mc_model.specs.Worlds.{WorldState, box_at, front, front_for, lane_of, number, place, slot_count, tunnel_of}
 use Rattle.mc_seq.proofs.Fronts.{none_quiet}
-use Rattle.mc_turn.specs.Sums.{total}
 use Rattle.mc_turn.proofs.Sums.{total_none}
 use Rattle.mc_world.specs.Waiting.{CountsTakes, bit, take_waits, waiting_count}
 

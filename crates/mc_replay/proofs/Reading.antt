@@ -1,5 +1,5 @@
 -- The lines of a journal, read one after the other.
-use Rattle.std.proofs.Common.{◌≡◌, ◌<◌, ◌≤◌, ◌++◌, ◌+◌, ◌-◌, ◌∙◌, ℕ, zero, suc, Bool, inl, inr, List, [], ◌∷◌, Some, Err, cond, drop, length, map, take, Vec, slice_index_or, refl, ap, sym, subst, append-nil, append_assoc, arith}
+use Rattle.std.proofs.Common.{◌≡◌, ◌<◌, ◌≤◌, ◌++◌, ◌+◌, ◌∙◌, ℕ, zero, suc, Bool, inl, inr, List, [], ◌∷◌, Some, Err, cond, drop, length, map, take, Vec, slice_index_or, refl, ap, sym, subst, append-nil, append_assoc, arith}
 use Rattle.std.proofs.lemmas.List.{drop_all, length-map, take_more}
 use Rattle.std.proofs.lemmas.List.Sums.{sum_by-append, sum_by-cons}
 use Rattle.std.specs.declared.alloc.Global.{Global}

@@ -1,5 +1,5 @@
 -- The retries of a segment by their numbers, as turns come.
-use Rattle.std.proofs.Common.{◌≡◌, ◌≢◌, ◌≤◌, ◌<◌, ◌+◌, ◌++◌, ◌==◌, ◌&&◌, ◌↔◌, inl, inr, cond, ℕ, zero, suc, Bool, true, false, List, [], ◌∷◌, IsTrue, Option, Some, None, length, take, drop, count_by, max, nat_lt, position, refl, ap, sym, ◌∙◌, subst, arith}
+use Rattle.std.proofs.Common.{◌≡◌, ◌≢◌, ◌≤◌, ◌<◌, ◌+◌, ◌++◌, ◌==◌, ◌&&◌, inl, inr, cond, ℕ, zero, suc, Bool, true, false, List, [], ◌∷◌, IsTrue, Option, Some, None, length, take, drop, count_by, max, nat_lt, position, refl, ap, sym, ◌∙◌, subst, arith}
 use Rattle.std.proofs.Math.ListN.{get_or, set, length-set}
 use Rattle.std.proofs.Math.Nat.{le-max_left, le-max_right}
 use Rattle.std.proofs.lemmas.Bool.{cases_eq, cases_lt}

@@ -1,6 +1,5 @@
 -- A moment is the last rest of a segment exactly where no slot was retried twice behind it, and as many retries came as slots owed one then.
-use Rattle.std.proofs.Common.{◌≡◌, ◌≤◌, ◌<◌, ◌+◌, ◌-◌, ◌++◌, ◌==◌, ◌&&◌, inl, inr, cond, if◌then◌else◌, ℕ, zero, suc, Bool, true, false, List, [], ◌∷◌, IsTrue, Option, Some, None, length, take, drop, count_by, nat_lt, append_assoc, refl, ap, sym, ◌∙◌, subst, arith}
-use Rattle.std.specs.List.{list_all}
+use Rattle.std.proofs.Common.{◌≡◌, ◌≤◌, ◌<◌, ◌+◌, ◌++◌, ◌==◌, ◌&&◌, inl, inr, cond, if◌then◌else◌, ℕ, zero, suc, Bool, true, false, List, [], ◌∷◌, IsTrue, Some, length, count_by, refl, ap, sym, ◌∙◌, subst, arith}
 use Rattle.std.proofs.lemmas.Bool.{cases_eq, cases_lt}
 use Rattle.std.proofs.lemmas.Grind.{common_steps}
 use Rattle.std.proofs.lemmas.List.Folds.{list_all-append}
@@ -10,7 +9,7 @@ use Rattle.mc_box.specs.declared.event.Event.{Event}
 use Rattle.mc_box.specs.declared.event.Event.TheVariants.{Take, Set, Media, Tell, Retry, Shift}
 use Rattle.mc_box.specs.declared.event.Turn.{Turn}
 use Rattle.mc_box.proofs.Options.{then_some}
-use Rattle.mc_laws.proofs.CommandsGo.{both_is, both_true}
+use Rattle.mc_laws.proofs.CommandsGo.{both_true}
 use Rattle.mc_laws.proofs.ShapesKept.{same_shape, shape_both, step_keeps_shape}
 use Rattle.mc_laws.proofs.StepGoes.{below_test}
 use Rattle.mc_laws.proofs.StepKeeps.{step_keeps_sound}
@@ -28,7 +27,6 @@ use Rattle.mc_turn.proofs.Sums.{total_none, total_same}
 use Rattle.mc_world.specs.Waiting.{bit}
 use Rattle.mc_replay.specs.Counts.{owed_count}
 use Rattle.mc_replay.specs.Moments.{AreRetriedOnce, is_retry, retry_count}
-use Rattle.mc_replay.proofs.CountsKept.{bit_small}
 use Rattle.mc_replay.proofs.Prefixes.{run_more}
 use Rattle.mc_replay.proofs.RetriesKept.{is_of, not_of, owes_there, retry_owes}
 

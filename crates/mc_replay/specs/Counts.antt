@@ -1,5 +1,5 @@
 -- How many slots of a world owe a retry, and how many boxes have an enabled Shift: in all, and of one box.
-use Rattle.std.specs.Prelude.{◌≡◌, ℕ, List, length}
+use Rattle.std.specs.Prelude.{◌≡◌, ℕ, length}
 use Rattle.mc_box.specs.BoxEvents.{is_enabled}
 use Rattle.mc_box.specs.Boxes.{BoxState, box_owes}
 use Rattle.mc_box.specs.declared.event.Event.TheVariants.{Shift}

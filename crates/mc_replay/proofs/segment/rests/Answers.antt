@@ -1,5 +1,5 @@
 use Rattle.std.proofs.Common.{◌∙◌, ◌&&◌, ap, sym, not, Bool}
-use Rattle.mc_model.specs.Settles.{can_shift, is_quiet}
+use Rattle.mc_model.specs.Settles.{can_shift}
 use Rattle.mc_replay.proofs.CountsKept.{ready_rests}
 use Rattle.mc_replay.proofs.segment.rests.Goals as goal
 
