@@ -12,4 +12,6 @@ mod programs;
 #[cfg(test)]
 mod table;
 #[cfg(test)]
+mod tails;
+#[cfg(test)]
 mod text;
