@@ -7,8 +7,8 @@ ghost use Rattle.mc_lines.specs.LineReadings.{overlong};
 ghost use Rattle.mc_lines.specs.Rules.{begins_digit, is_second, is_skipped, is_version, spelt_medium};
 
 use mc_program::ReadFault;
-use mc_script::{LineFault, begins_hash};
 use mc_script::rule::{GIVEN_TWICE, LIMIT_PASSED, NAME_TOO_LONG, WRONG_WORD};
+use mc_script::{LineFault, begins_hash};
 use mc_signal::Medium;
 use mc_text::Words;
 
