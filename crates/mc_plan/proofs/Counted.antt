@@ -7,7 +7,7 @@ use Rattle.std.proofs.lemmas.List.{get_or-set_other, get_or-set_same, length-set
 use Rattle.std.proofs.lemmas.List.Elements.{All-nil}
 use Rattle.mc_model.specs.Worlds.{ChannelState, HasTunnels}
 use Rattle.mc_signal.specs.declared.Medium.{Medium}
-use Rattle.mc_plan.specs.LaidOut.{AreCounted, IsCountedPlan, IsLaidOut, MayCount, raised}
+use Rattle.mc_plan.specs.LaidOut.{AreSlotCounts, IsCountedPlan, IsLaidOut, MayCount, raised}
 use Rattle.mc_plan.specs.Plans.{PlanState, empty_plan, last_channel, slots_of, widened, with_channel, with_tunnel}
 use Rattle.mc_plan.specs.Refusals.{join_fault, widen_fault}
 use Rattle.mc_plan.specs.declared.plan.BoxPlan.{BoxPlan}
@@ -39,9 +39,9 @@ pub raised_other : (counts : List ℕ) (who other more : ℕ) → who ≢ other 
 raised_other counts who other more apart = get_or-set_other counts who other (get_or counts who 0 + more) 0 (λ same. apart (sym same))
 
 -- two boxes have as many more as new channels give them
-pub raised_both : (counts : List ℕ) (old new : List ChannelState) (from to more : ℕ) → from < length counts → to < length counts → AreCounted counts old
+pub raised_both : (counts : List ℕ) (old new : List ChannelState) (from to more : ℕ) → from < length counts → to < length counts → AreSlotCounts counts old
     → ((who : ℕ) → slots_of new who ≡ slots_of old who + (part (from == who) more + part (to == who) more))
-    → AreCounted (raised (raised counts from more) to more) new
+    → AreSlotCounts (raised (raised counts from more) to more) new
 raised_both counts old new from to more near far counted grown who =
     let long : length (raised counts from more) ≡ length counts = length-set counts from (get_or counts from 0 + more) in
     omega (arith, raised_at counts from more who near, raised_at (raised counts from more) to more who (omega (arith, long, far)), counted who, grown who)

@@ -33,13 +33,13 @@ pub record HasBoxes (boxes : ℕ) (ends : ChannelState) : Type 0 where
   pub far : ends.to < boxes
 
 -- these are the numbers of slots of all boxes, and 0 where there is no box
-abbrev pub AreCounted : List ℕ → List ChannelState → Type 0
-AreCounted counts channels = (who : ℕ) → slice_index_or counts who 0 ≡ slots_of channels who
+abbrev pub AreSlotCounts : List ℕ → List ChannelState → Type 0
+AreSlotCounts counts channels = (who : ℕ) → slice_index_or counts who 0 ≡ slots_of channels who
 
 -- a plan that is laid out, with the numbers of its boxes' slots
 pub record IsCountedPlan (plan : PlanState) (counts : List ℕ) : Type 0 where
   pub laid : IsLaidOut plan
-  pub counted : AreCounted counts plan.channels
+  pub counted : AreSlotCounts counts plan.channels
 
 -- a box has so many slots more, by these counts
 abbrev pub raised : List ℕ → (who more : ℕ) → List ℕ
