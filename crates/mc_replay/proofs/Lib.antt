@@ -2,8 +2,8 @@ mod Commands
 mod CountsKept
 mod Faults
 mod Followed
-mod Good
-mod Holds
+pub mod Good
+pub mod Holds
 mod Lines
 mod MomentsKept
 mod Parts
