@@ -173,7 +173,7 @@ fn calls_and_what_they_print(rt: HostRuntime) -> Result<(), Fail> {
     Ok(())
 }
 
-const OTHER_WORDS: [&[&str]; 22] = [
+const OTHER_WORDS: [&[&str]; 28] = [
     &["fly"],
     &[],
     &["run", "x"],
@@ -183,6 +183,7 @@ const OTHER_WORDS: [&[&str]; 22] = [
     &["one", "-1"],
     &["one", ""],
     &["one", "1", "2"],
+    &["one", "--journal"],
     &["--journal"],
     &["--journal", "run", "x"],
     &["--", "--journal"],
@@ -194,6 +195,11 @@ const OTHER_WORDS: [&[&str]; 22] = [
     &["--", "--", "run"],
     &["--", "run", "x"],
     &["run", "--", "--journal"],
+    &["-run"],
+    &["-", "run"],
+    &["check", "--journal"],
+    &["--journal", "check"],
+    &["check", "x"],
     &["--help"],
     &["--version"],
 ];

@@ -1,65 +1,89 @@
 -- How a run ends.
-use Rattle.std.proofs.Common.{◌≡◌, ◌⊎◌, ◌∙◌, ℕ, Bool, true, false, List, [], map, inl, inr, refl, sym, subst, arith, None, Some}
+use Rattle.std.proofs.Common.{◌≡◌, ◌⊎◌, ◌∙◌, IfSome, ℕ, Bool, true, false, List, [], map, inl, inr, refl, sym, subst, arith, None, Some}
 use Rattle.std.specs.declared.option.Option.{Option}
 use Rattle.std.specs.Io.KnownBytes.{Keeps}
-use Rattle.mc_top.specs.Journals.{HoldsAtSettles, IsJournal, IsJournalTo, IsStoppedJournal, ShowsCause}
+use Rattle.mc_replay.specs.Journals.{HoldsAtSettles, IsJournal}
+use Rattle.mc_top.specs.Journals.{IsJournalTo, IsStoppedJournal, ShowsCause}
 use Rattle.mc_top.specs.Drawn.{IsDrawnJournal}
-use Rattle.mc_top.specs.Modes.{draws_from, output_of, prints_journal}
+use Rattle.mc_top.specs.Modes.{draws_from, output_of, prints_journal, tail_of}
 use Rattle.mc_model.specs.Sound.{IsSound}
 use Rattle.mc_model.specs.Worlds.{WorldState}
 use Rattle.mc_text.specs.NameLists.{NameLists}
 use Rattle.mc_net.specs.Nets.{DeclaresNet, batch_turns}
 use Rattle.mc_net.specs.Texts.{IsFault}
-use Rattle.mc_lines.specs.declared.tail.Tail.TheVariants.{Nothing}
+use Rattle.mc_lines.specs.declared.tail.Tail.{Tail}
+use Rattle.mc_lines.specs.declared.tail.Tail.TheVariants.{Nothing, Journal}
 use Rattle.mc_net.specs.declared.net.Net.{Net}
-use Rattle.mc_top.specs.Printed.{fault_line, run_text, stop_line}
+use Rattle.mc_replay.proofs.Holds.{journals_hold}
+use Rattle.mc_top.specs.Behind.{HasJournal, HasJournalFault}
+use Rattle.mc_top.specs.Printed.{fault_line, journal_fault_line, journal_text, run_text, stop_line}
 use Rattle.mc_top.specs.Statuses.{due_by, keeps_journal, stop_status}
-use Rattle.mc_top.specs.Top.{Delivers, Ends, StopsScript}
+use Rattle.mc_top.specs.Top.{Delivers, Ends, StopsScript, ToldJournal}
 use Rattle.mc_script.specs.declared.command.JournalLine.{JournalLine}
 use Rattle.mc_top.specs.declared.stop.Stop.{Stop}
 use Rattle.mc_top.specs.declared.stop.Stop.TheVariants.{Restless, Ring, VersionEnd}
 use Rattle.mc_top.specs.declared.words.Mode.{Mode}
-use Rattle.mc_top.specs.declared.words.Mode.TheVariants.{One, Run}
+use Rattle.mc_top.specs.declared.words.Mode.TheVariants.{Check, One, Run}
 
 -- what a mode prints is what its run prints
 printed_by : (mode : Mode) (net : Net) (journal : List JournalLine) → run_text (prints_journal mode) net.names net.world None journal ≡ output_of mode net journal
 printed_by (Run asked) net journal = refl
 printed_by (One state asked) net journal = refl
+printed_by Check net journal = refl
+
+-- a mode that draws reads a text behind whose commands nothing stands
+drawn_reads : (mode : Mode) (state : ℕ) → draws_from mode ≡ Some state → tail_of mode ≡ Nothing
+drawn_reads (Run asked) state is = refl
+drawn_reads (One first asked) state is = refl
+drawn_reads Check state is = absurd cc
+
+declared_by_mode : (mode : Mode) (state : ℕ) (text : List ℕ) (net : Net) → draws_from mode ≡ Some state → DeclaresNet Nothing text net → DeclaresNet (tail_of mode) text net
+declared_by_mode mode state text net draws declared = subst (λ (t : Tail). DeclaresNet t text net) (sym (drawn_reads mode state draws)) declared
 
 -- behind the line of a stop stands no journal
 stopped_by : (asked : Bool) (stop : Stop) (names : NameLists) (world : WorldState) (journal : List JournalLine) → run_text asked names world (Some stop) journal ≡ stop_line names world stop
 stopped_by true stop names world journal = refl
 stopped_by false stop names world journal = refl
 
+-- the status of work that was done keeps the journal
+kept_zero : (due : ℕ) → due ≡ 0 → keeps_journal due ≡ false → ⊥
+kept_zero due none some = let here : keeps_journal 0 ≡ false = subst (λ (n : ℕ). keeps_journal n ≡ false) none some in cc
+
 -- the work was done, and what it printed was delivered
-ends_worked : (mode : Mode) (text : List ℕ) (net : Net) (old new : Option (List ℕ)) (status due : ℕ) (journal : List JournalLine) (output : List ℕ)
-    → DeclaresNet Nothing text net → IsSound net.world → IsJournal net.world (map batch_turns net.batches.items) journal → IsDrawnJournal None (draws_from mode) net.world (map batch_turns net.batches.items) journal
+ends_worked : (mode : Mode) (drawn_from : ℕ) (text : List ℕ) (net : Net) (old new : Option (List ℕ)) (status due : ℕ) (journal : List JournalLine) (output : List ℕ)
+    → draws_from mode ≡ Some drawn_from → DeclaresNet Nothing text net → IsSound net.world → IsJournal net.world (map batch_turns net.batches.items) journal → IsDrawnJournal None drawn_from net.world (map batch_turns net.batches.items) journal
     → HoldsAtSettles net.world journal → output ≡ run_text (prints_journal mode) net.names net.world None journal → due ≡ 0 → Delivers status 0 old new output → Ends mode (Some text) old new status due journal
-ends_worked mode text net old new status due journal output declared sound settled drawn holds is none delivered = record {
+ends_worked mode drawn_from text net old new status due journal output draws declared sound settled drawn holds is none delivered = record {
   worked = λ zero. record {
     net = net;
-    declared = declared;
-    settles = record { sound = sound; settled = settled; holds = holds; drawn = drawn };
+    declared = declared_by_mode mode drawn_from text net draws declared;
+    told_journal = subst (λ (t : Tail). ToldJournal t (Some text) net journal) (sym (drawn_reads mode drawn_from draws)) tt;
+    settles = record {
+      sound = sound;
+      settled = settled;
+      holds = holds;
+      drawn = subst (λ (o : Option ℕ). IfSome o (λ state. IsDrawnJournal None state net.world (map batch_turns net.batches.items) journal)) (sym draws) drawn;
+    };
     delivered = rw (is, printed_by mode net journal) at delivered;
   };
   refused = λ one. absurd (omega arith);
   at_stop = λ either. absurd (grind (arith, either));
+  check_refused = λ eight. absurd (omega arith);
   gave_up = λ ended. elim ended [ inl three ↦ absurd (omega arith) | inr four ↦ absurd (omega arith) ];
   no_journal = λ some. absurd (kept_zero due none some);
 }
-  where
-    kept_zero : (due : ℕ) → due ≡ 0 → keeps_journal due ≡ false → ⊥
-    kept_zero due none some = let here : keeps_journal 0 ≡ false = subst (λ (n : ℕ). keeps_journal n ≡ false) none some in cc
 
 -- or the script stopped, and the line of the stop was
-stops_script : (mode : Mode) (text : List ℕ) (net : Net) (stop : Stop) (old new : Option (List ℕ)) (status due : ℕ) (journal : List JournalLine) (output : List ℕ)
-    → DeclaresNet Nothing text net → IsSound net.world → IsStoppedJournal stop net.world (map batch_turns net.batches.items) journal → IsDrawnJournal (Some stop) (draws_from mode) net.world (map batch_turns net.batches.items) journal
+stops_script : (mode : Mode) (drawn_from : ℕ) (text : List ℕ) (net : Net) (stop : Stop) (old new : Option (List ℕ)) (status due : ℕ) (journal : List JournalLine) (output : List ℕ)
+    → draws_from mode ≡ Some drawn_from → DeclaresNet Nothing text net → IsSound net.world → IsStoppedJournal stop net.world (map batch_turns net.batches.items) journal → IsDrawnJournal (Some stop) drawn_from net.world (map batch_turns net.batches.items) journal
     → ShowsCause (Some stop) net.world (map batch_turns net.batches.items) → output ≡ stop_line net.names net.world stop → due ≡ stop_status stop → Delivers status (stop_status stop) old new output
     → StopsScript mode (Some text) old new status due journal
-stops_script mode text net stop old new status due journal output declared sound settled drawn shows is due_is delivered = record {
+stops_script mode drawn_from text net stop old new status due journal output draws declared sound settled drawn shows is due_is delivered = record {
   net = net;
   stop = stop;
-  declared = declared;
+  state = drawn_from;
+  draws = draws;
+  declared = declared_by_mode mode drawn_from text net draws declared;
   due_is = due_is;
   sound = sound;
   settled = settled;
@@ -87,20 +111,21 @@ ends_at_stop mode text stop old new status due journal is stops =
       worked = λ zero. absurd (grind (arith, either));
       refused = λ one. inr stops;
       at_stop = λ either. stops;
+      check_refused = λ eight. absurd (grind (arith, either));
       gave_up = λ ended. absurd (grind (arith, either, ended));
       no_journal = λ some. absurd (stop_keeps stop due is some);
     }
 
 -- a script was run to its end, or to a stop
-pub ends_ran : (stop : Option Stop) (mode : Mode) (text : List ℕ) (net : Net) (old new : Option (List ℕ)) (status due : ℕ) (journal : List JournalLine) (output : List ℕ)
-    → DeclaresNet Nothing text net → IsSound net.world → IsJournalTo stop net.world (map batch_turns net.batches.items) journal → IsDrawnJournal stop (draws_from mode) net.world (map batch_turns net.batches.items) journal
+pub ends_ran : (stop : Option Stop) (mode : Mode) (drawn_from : ℕ) (text : List ℕ) (net : Net) (old new : Option (List ℕ)) (status due : ℕ) (journal : List JournalLine) (output : List ℕ)
+    → draws_from mode ≡ Some drawn_from → DeclaresNet Nothing text net → IsSound net.world → IsJournalTo stop net.world (map batch_turns net.batches.items) journal → IsDrawnJournal stop drawn_from net.world (map batch_turns net.batches.items) journal
     → HoldsAtSettles net.world journal → ShowsCause stop net.world (map batch_turns net.batches.items)
     → output ≡ run_text (prints_journal mode) net.names net.world stop journal → due ≡ due_by stop → Delivers status (due_by stop) old new output → Ends mode (Some text) old new status due journal
-ends_ran None mode text net old new status due journal output declared sound ran drawn holds shows is due_is delivered =
-    ends_worked mode text net old new status due journal output declared sound ran drawn holds is due_is delivered
-ends_ran (Some stop) mode text net old new status due journal output declared sound ran drawn holds shows is due_is delivered =
+ends_ran None mode drawn_from text net old new status due journal output draws declared sound ran drawn holds shows is due_is delivered =
+    ends_worked mode drawn_from text net old new status due journal output draws declared sound ran drawn holds is due_is delivered
+ends_ran (Some stop) mode drawn_from text net old new status due journal output draws declared sound ran drawn holds shows is due_is delivered =
     ends_at_stop mode text stop old new status due journal due_is
-    (stops_script mode text net stop old new status due journal output declared sound ran drawn shows (is ∙ stopped_by (prints_journal mode) stop net.names net.world journal) due_is delivered)
+    (stops_script mode drawn_from text net stop old new status due journal output draws declared sound ran drawn shows (is ∙ stopped_by (prints_journal mode) stop net.names net.world journal) due_is delivered)
 
 keeps_same : (old : Option (List ℕ)) → Keeps old old
 keeps_same None = tt
@@ -113,17 +138,53 @@ ends_gave_up mode text old status due journal three due_three none = record {
   worked = λ zero. absurd (omega arith);
   refused = λ one. absurd (omega arith);
   at_stop = λ either. absurd (grind (arith, either));
+  check_refused = λ eight. absurd (omega arith);
   gave_up = λ ended. (omega arith, keeps_same old);
   no_journal = λ some. none;
 }
 
 -- the text has a fault, and the line that names it was delivered
 pub ends_refused : (mode : Mode) (text : List ℕ) (number line : ℕ) (old new : Option (List ℕ)) (status due : ℕ) (journal : List JournalLine) (output : List ℕ)
-    → IsFault Nothing text number line → output ≡ fault_line number line → due ≡ 1 → Delivers status 1 old new output → journal ≡ [] → Ends mode (Some text) old new status due journal
+    → IsFault (tail_of mode) text number line → output ≡ fault_line number line → due ≡ 1 → Delivers status 1 old new output → journal ≡ [] → Ends mode (Some text) old new status due journal
 ends_refused mode text number line old new status due journal output fault is one delivered none = record {
   worked = λ zero. absurd (omega arith);
   refused = λ due_one. inl (record { number = number; line = line; fault = fault; delivered = rw is at delivered; no_journal = none });
   at_stop = λ either. absurd (grind (arith, either));
+  check_refused = λ eight. absurd (omega arith);
+  gave_up = λ ended. elim ended [ inl three ↦ absurd (omega arith) | inr four ↦ absurd (omega arith) ];
+  no_journal = λ some. none;
+}
+
+-- ---- a journal that is checked
+
+-- it is good, and what it settles was delivered
+pub ends_checked : (text : List ℕ) (net : Net) (old new : Option (List ℕ)) (status due : ℕ) (journal : List JournalLine) (output : List ℕ)
+    → DeclaresNet Journal text net → IsSound net.world → HasJournal text net journal → IsJournal net.world (map batch_turns net.batches.items) journal
+    → output ≡ journal_text net.names 1 net.world journal → due ≡ 0 → Delivers status 0 old new output → Ends Check (Some text) old new status due journal
+ends_checked text net old new status due journal output declared sound has settled is none delivered = record {
+  worked = λ zero. record {
+    net = net;
+    declared = declared;
+    told_journal = has;
+    settles = record { sound = sound; settled = settled; holds = journals_hold net.world (map batch_turns net.batches.items) journal sound settled; drawn = tt };
+    delivered = rw is at delivered;
+  };
+  refused = λ one. absurd (omega arith);
+  at_stop = λ either. absurd (grind (arith, either));
+  check_refused = λ eight. absurd (omega arith);
+  gave_up = λ ended. elim ended [ inl three ↦ absurd (omega arith) | inr four ↦ absurd (omega arith) ];
+  no_journal = λ some. absurd (kept_zero due none some);
+}
+
+-- it has a fault, and the line that names it was delivered
+pub ends_check_refused : (text : List ℕ) (net : Net) (number turn : ℕ) (old new : Option (List ℕ)) (status due : ℕ) (journal : List JournalLine) (output : List ℕ)
+    → DeclaresNet Journal text net → HasJournalFault text net number turn → output ≡ journal_fault_line number turn → due ≡ 8 → Delivers status 8 old new output → journal ≡ []
+    → Ends Check (Some text) old new status due journal
+ends_check_refused text net number turn old new status due journal output declared fault is eight delivered none = record {
+  worked = λ zero. absurd (omega arith);
+  refused = λ one. absurd (omega arith);
+  at_stop = λ either. absurd (grind (arith, either));
+  check_refused = λ due_eight. (refl, record { net = net; number = number; turn = turn; declared = declared; fault = fault; delivered = rw is at delivered; no_journal = none });
   gave_up = λ ended. elim ended [ inl three ↦ absurd (omega arith) | inr four ↦ absurd (omega arith) ];
   no_journal = λ some. none;
 }

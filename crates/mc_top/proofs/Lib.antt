@@ -1,6 +1,8 @@
+mod BytesBehind
 mod Causes
 mod Ending
 mod FirstWorlds
+mod GoodJournals
 mod LastVersions
 mod LeftRings
 mod NamedJournals
@@ -10,6 +12,7 @@ mod OneMode
 pub mod Running
 mod SeenAlike
 mod Shifters
+mod ShownSettles
 mod Stopping
 mod TextAlone
 mod Told

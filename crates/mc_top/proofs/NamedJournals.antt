@@ -33,7 +33,8 @@ use Rattle.mc_slot.specs.declared.Goal.TheVariants.{Hold as ToHold}
 use Rattle.mc_text.proofs.Places.{found_again}
 use Rattle.mc_text.specs.NameLists.{NameLists}
 use Rattle.mc_top.specs.JournalLaws.{RunsAreReadBack}
-use Rattle.mc_top.specs.Journals.{IsJournal, IsJournalTo, lines_for}
+use Rattle.mc_replay.specs.Journals.{IsJournal, lines_for}
+use Rattle.mc_top.specs.Journals.{IsJournalTo}
 use Rattle.mc_top.specs.declared.stop.Stop.{Stop}
 use Rattle.mc_top.proofs.Running.{after_settle, names_kept}
 
@@ -174,8 +175,8 @@ ran_named stop text net journal declares sound ran none =
 
 -- and are read again
 pub runs_are_read_back : RunsAreReadBack
-runs_are_read_back text net journal one =
-    let named : IsWellNamed net = nets_are_named Nothing text net one.declares in
+runs_are_read_back tail text net journal one =
+    let named : IsWellNamed net = nets_are_named tail text net one.declares in
     let readable : All (IsReadable net.names net.shape) journal =
     journal_readable net.names net.shape (map batch_turns net.batches.items) net.world journal one.sound named.world named.commands one.settles in
     journals_are_read net.names net.shape journal

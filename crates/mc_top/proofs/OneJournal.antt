@@ -19,7 +19,7 @@ use Rattle.mc_seq.specs.Restless.{IsFirstShifter}
 use Rattle.mc_seq.specs.Retries.{retries_by_box}
 use Rattle.mc_seq.specs.Schedule.{AreDrawn, Goes, Standing, candidates, drawn_place, drawn_turn, first_standing, standing_after}
 use Rattle.mc_top.specs.Drawn.{DrawnJournalIsOne, EndsWithin, IsDrawnJournal, StopsBy}
-use Rattle.mc_top.specs.Journals.{lines_for}
+use Rattle.mc_replay.specs.Journals.{lines_for}
 use Rattle.mc_top.specs.declared.stop.Stop.{Stop}
 use Rattle.mc_top.specs.declared.stop.Stop.TheVariants.{Restless, Ring, VersionEnd}
 use Rattle.mc_top.proofs.Shifters.{first_can}

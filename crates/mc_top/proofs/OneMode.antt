@@ -1,10 +1,10 @@
 -- The words ask for one mode.
-use Rattle.std.proofs.Common.{◌≡◌, ℕ, List, [], ◌∷◌, Some, codes, map, ap, sym, ◌∙◌}
+use Rattle.std.proofs.Common.{◌≡◌, ℕ, List, [], ◌∷◌, Some, codes, map, refl, ap, sym, ◌∙◌}
 use Rattle.std.specs.Prelude.{string_bytes, String}
 use Rattle.std.specs.declared.alloc.Global.{Global}
 use Rattle.mc_top.specs.Modes.{IsCommand, Spells, plain_words, prints_journal, spelt_draws}
 use Rattle.mc_top.specs.declared.words.Mode.{Mode}
-use Rattle.mc_top.specs.declared.words.Mode.TheVariants.{One, Run}
+use Rattle.mc_top.specs.declared.words.Mode.TheVariants.{Check, One, Run}
 
 same_state : (word other : List ℕ) (state more : ℕ) → word ≡ other → spelt_draws word ≡ Some state → spelt_draws other ≡ Some more → state ≡ more
 same_state word other state more is one two = let both : Some state ≡ Some more = sym one ∙ (ap spelt_draws is ∙ two) in cc
@@ -13,6 +13,11 @@ same_state word other state more is one two = let both : Some state ≡ Some mor
 spells_one : (mode other : Mode) (words : List (List ℕ)) → Spells mode words → Spells other words → prints_journal mode ≡ prints_journal other → mode ≡ other
 spells_one (Run asked) (Run flag) words one two same = ap Run same
 spells_one (Run asked) (One state flag) words one (word, two, spelt) same = let clash : codes "run" ∷ [] ≡ codes "one" ∷ word ∷ [] = sym one ∙ two in absurd (cc (clash))
+spells_one (Run asked) Check words one two same = let clash : codes "run" ∷ [] ≡ codes "check" ∷ [] = sym one ∙ two in absurd (cc (clash))
+spells_one Check (Run flag) words one two same = let clash : codes "check" ∷ [] ≡ codes "run" ∷ [] = sym one ∙ two in absurd (cc (clash))
+spells_one Check Check words one two same = refl
+spells_one Check (One state flag) words one (word, two, spelt) same = let clash : codes "check" ∷ [] ≡ codes "one" ∷ word ∷ [] = sym one ∙ two in absurd (cc (clash))
+spells_one (One state asked) Check words (word, one, spelt) two same = let clash : codes "check" ∷ [] ≡ codes "one" ∷ word ∷ [] = sym two ∙ one in absurd (cc (clash))
 spells_one (One state asked) (Run flag) words (word, one, spelt) two same = let clash : codes "run" ∷ [] ≡ codes "one" ∷ word ∷ [] = sym two ∙ one in absurd (cc (clash))
 spells_one (One state asked) (One more flag) words (word, one, spelt) (next, two, spelt_next) same =
     let both : codes "one" ∷ word ∷ [] ≡ codes "one" ∷ next ∷ [] = sym one ∙ two in

@@ -14,14 +14,15 @@ use Rattle.mc_laws.proofs.CommandsGo.{both_true}
 use Rattle.mc_laws.proofs.ShapesKept.{run_keeps_shape, same_shape, shape_both}
 use Rattle.mc_box.proofs.Options.{then_some}
 use Rattle.mc_laws.proofs.StepKeeps.{run_keeps_sound}
-use Rattle.mc_path_laws.proofs.SettledHold.{settled_paths_hold}
 use Rattle.mc_seq.proofs.AllowedCommands.{all_kept}
 use Rattle.mc_seq.specs.Draws.{IsScheduled}
 use Rattle.mc_text.specs.NameLists.{NameLists}
 use Rattle.mc_script.specs.declared.command.Batch.{Batch}
 use Rattle.mc_net.specs.Nets.{NamesAll, batch_turns}
 use Rattle.mc_top.specs.Drawn.{IsDrawnJournal}
-use Rattle.mc_top.specs.Journals.{HoldsAtSettles, IsJournal, IsJournalTo, IsStoppedJournal, lines_for, next_world}
+use Rattle.mc_replay.proofs.Holds.{holds_after, journals_hold, replayed_is, segment_holds}
+use Rattle.mc_replay.specs.Journals.{HoldsAtSettles, IsJournal, lines_for, next_world}
+use Rattle.mc_top.specs.Journals.{IsJournalTo, IsStoppedJournal}
 use Rattle.mc_top.specs.Printed.{journal_text, settle_text}
 use Rattle.mc_top.specs.Scripts.{ScriptState, Settling, first_state}
 use Rattle.mc_script.specs.declared.command.JournalLine.{JournalLine}
@@ -54,16 +55,6 @@ after_settle names world last batch turns sound all settled = record {
 
 -- ---- journals
 
--- replaying the turns of a run leads where the run does
-holds_after : (turns : List Turn) (world last : WorldState) (rest : List JournalLine) → run world turns ≡ Some last → HoldsAtSettles last rest → HoldsAtSettles world (map Made turns ++ rest)
-holds_after [] world last rest goes holds = let same : world ≡ last = cc in subst (λ (w : WorldState). HoldsAtSettles w rest) (sym same) holds
-holds_after (turn ∷ turns) world last rest goes holds =
-    let one = then_some (λ (w : WorldState). run w turns) (step world turn) last goes in
-    subst (λ (w : WorldState). HoldsAtSettles w (map Made turns ++ rest)) (sym (replayed_is world one.0 turn one.1)) (holds_after turns one.0 last rest one.2 holds)
-  where
-    replayed_is : (world next : WorldState) (turn : Turn) → step world turn ≡ Some next → next_world world turn ≡ next
-    replayed_is world next turn goes = rw goes refl
-
 -- the turns of a settle print nothing before its mark
 pub printed_after : (turns : List Turn) (names : NameLists) (number : ℕ) (world last : WorldState) (rest : List JournalLine) → run world turns ≡ Some last
     → journal_text names number world (map Made turns ++ rest) ≡ journal_text names number last rest
@@ -71,26 +62,8 @@ printed_after [] names number world last rest goes = let same : world ≡ last =
 printed_after (turn ∷ turns) names number world last rest goes =
     let one = then_some (λ (w : WorldState). run w turns) (step world turn) last goes in
     ap (λ (w : WorldState). journal_text names number w (map Made turns ++ rest)) (replayed_is world one.0 turn one.1) ∙ printed_after turns names number one.0 last rest one.2
-  where
-    replayed_is : (world next : WorldState) (turn : Turn) → step world turn ≡ Some next → next_world world turn ≡ next
-    replayed_is world next turn goes = rw goes refl
 
--- so do they after a settled segment and what follows it
-segment_holds : (world last : WorldState) (batch turns : List Turn) (journal rest : List JournalLine) → IsSound world → IsSettled world batch turns last → journal ≡ lines_for turns ++ rest
-    → HoldsAtSettles last rest → HoldsAtSettles world journal
-segment_holds world last batch turns journal rest sound settled is holds =
-    let whole : journal ≡ map Made turns ++ (Settled ∷ rest) = is ∙ append_assoc (map Made turns) (Settled ∷ []) rest in
-    subst (λ (lines : List JournalLine). HoldsAtSettles world lines) (sym whole)
-    (holds_after turns world last (Settled ∷ rest) settled.runs (settled_paths_hold world last batch turns sound settled, holds))
-
--- at each settle of a journal from a sound world the paths are as the table says
-journal_holds : (waiting : List (List Turn)) (world : WorldState) (journal : List JournalLine) → IsSound world → IsJournal world waiting journal → HoldsAtSettles world journal
-journal_holds [] world journal sound is = subst (λ (lines : List JournalLine). HoldsAtSettles world lines) (sym is) tt
-journal_holds (batch ∷ waiting) world journal sound (turns, last, rest, is, settled, later) =
-    segment_holds world last batch turns journal rest sound settled is
-    (journal_holds waiting last rest (run_keeps_sound world last turns sound settled.runs) later)
-
--- up to a stop as well
+-- at each settle of a journal that stops the paths are as the table says, as they are in one that doesn't
 stopped_holds : (stop : Stop) (waiting : List (List Turn)) (world : WorldState) (journal : List JournalLine) → IsSound world → IsStoppedJournal stop world waiting journal → HoldsAtSettles world journal
 stopped_holds stop [] world journal sound stopped = absurd stopped
 stopped_holds stop (batch ∷ waiting) world journal sound (inl here) =
@@ -101,7 +74,7 @@ stopped_holds stop (batch ∷ waiting) world journal sound (inr (turns, last, re
 
 -- whichever it is
 pub ran_holds : (stop : Option Stop) (batches : List (List Turn)) (world : WorldState) (journal : List JournalLine) → IsSound world → IsJournalTo stop world batches journal → HoldsAtSettles world journal
-ran_holds None batches world journal sound ran = journal_holds batches world journal sound ran
+ran_holds None batches world journal sound ran = journals_hold world batches journal sound ran
 ran_holds (Some stop) batches world journal sound ran = stopped_holds stop batches world journal sound ran
 
 -- ---- one settle more

@@ -10,19 +10,20 @@ use Rattle.mc_model.specs.Unprogrammed.{HasNoPrograms}
 use Rattle.mc_model.specs.Worlds.{WorldState}
 use Rattle.mc_net.specs.Nets.{IsFirstWorld, batch_turns, batches_of}
 use Rattle.mc_lines.specs.SoFar.{Declared}
+use Rattle.mc_lines.specs.declared.tail.Tail.{Tail}
 use Rattle.mc_net.specs.declared.net.Net.{Net}
 use Rattle.mc_settings.proofs.BatchesLeft.{decided_is_left, decided_stays, settled_used}
 use Rattle.mc_settings.specs.Batches.{LeavesDecided}
 use Rattle.mc_script.specs.declared.command.JournalLine.{JournalLine}
 use Rattle.mc_script.specs.declared.command.JournalLine.TheVariants.{Turn as Made, Settled}
 use Rattle.mc_text.specs.NameLists.{NameLists}
-use Rattle.mc_top.specs.Journals.{IsJournal, lines_for}
-use Rattle.mc_top.specs.Modes.{output_of, prints_journal}
+use Rattle.mc_replay.specs.Journals.{IsJournal, lines_for}
+use Rattle.mc_top.specs.Modes.{output_of, prints_journal, tail_of}
 use Rattle.mc_top.specs.Printed.{journal_text, settle_text}
 use Rattle.mc_top.specs.TextAlone.{CallsPrintSame, SettlesText, TextAloneDecides}
 use Rattle.mc_top.specs.Top.{Worked}
 use Rattle.mc_top.specs.declared.words.Mode.{Mode}
-use Rattle.mc_top.specs.declared.words.Mode.TheVariants.{One, Run}
+use Rattle.mc_top.specs.declared.words.Mode.TheVariants.{Check, One, Run}
 use Rattle.mc_top.proofs.FirstWorlds.{first_unprogrammed, first_worlds_seen}
 use Rattle.mc_top.proofs.Running.{printed_after}
 use Rattle.mc_top.proofs.SeenAlike.{AreSeenAlike, settle_same, settles_are_seen_alike}
@@ -30,7 +31,7 @@ use Rattle.mc_top.proofs.SeenAlike.{AreSeenAlike, settle_same, settles_are_seen_
 -- ---- journals
 
 -- a settled segment prints its settle, and then what follows
-segment_text : (names : NameLists) (number : ℕ) (world last : WorldState) (turns : List Turn) (journal rest : List JournalLine) → run world turns ≡ Some last → journal ≡ lines_for turns ++ rest
+pub segment_text : (names : NameLists) (number : ℕ) (world last : WorldState) (turns : List Turn) (journal rest : List JournalLine) → run world turns ≡ Some last → journal ≡ lines_for turns ++ rest
     → journal_text names number world journal ≡ settle_text names number last ++ journal_text names (number + 1) last rest
 segment_text names number world last turns journal rest goes is =
     ap (λ (lines : List JournalLine). journal_text names number world lines) (is ∙ append_assoc (map Made turns) (Settled ∷ []) rest)
@@ -60,9 +61,10 @@ output_is (Run true) net journal none = absurd cc
 output_is (Run false) net journal none = refl
 output_is (One state true) net journal none = absurd cc
 output_is (One state false) net journal none = refl
+output_is Check net journal none = refl
 
 pub text_alone_decides : TextAloneDecides
-text_alone_decides text net other first second one two unprogrammed decided =
+text_alone_decides tail text net other first second one two unprogrammed decided =
     let same : two.declares.declared ≡ one.declares.declared = two.declares.says.declared ∙ sym one.declares.says.declared in
     let names : net.names ≡ other.names = one.declares.names ∙ (sym (ap (λ (d : Declared). d.names) same) ∙ sym two.declares.names) in
     let batches : map batch_turns other.batches.items ≡ map batch_turns net.batches.items =
@@ -76,11 +78,12 @@ text_alone_decides text net other first second one two unprogrammed decided =
 
 -- a mode that did its work settled the text
 settles_text : (text : List ℕ) (mode : Mode) (old new : Option (List ℕ)) (status : ℕ) (journal : List JournalLine) → (worked : Worked mode (Some text) old new status journal)
-    → SettlesText text worked.net journal
+    → SettlesText (tail_of mode) text worked.net journal
 settles_text text mode old new status journal worked = record { declares = worked.declared; sound = worked.settles.sound; settles = worked.settles.settled }
 
 pub calls_print_same : CallsPrintSame
-calls_print_same text first second mode instead old new from to status end plain other one two unprogrammed decided =
+calls_print_same text first second mode instead old new from to status end same plain other one two unprogrammed decided =
     output_is mode one.net first plain
-    ∙ (text_alone_decides text one.net two.net first second (settles_text text mode old new status first one) (settles_text text instead from to end second two) unprogrammed decided
+    ∙ (text_alone_decides (tail_of mode) text one.net two.net first second (settles_text text mode old new status first one)
+    (subst (λ (t : Tail). SettlesText t text two.net second) (sym same) (settles_text text instead from to end second two)) unprogrammed decided
     ∙ sym (output_is instead two.net second other))

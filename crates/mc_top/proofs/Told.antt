@@ -1,43 +1,81 @@
 -- What was read of what a source has left.
-use Rattle.std.proofs.Common.{◌≡◌, ◌⊎◌, ◌==◌, inl, inr, ℕ, List, ◌≤◌, Bool, true, None, Some, IfSome, map, arith, subst, ap, ◌∙◌}
+use Rattle.std.proofs.Common.{◌≡◌, ◌⊎◌, ◌==◌, inl, inr, ℕ, List, ◌≤◌, Bool, true, false, None, Some, IfSome, map, arith, subst, sym, ap, ◌∙◌}
 use Rattle.std.specs.declared.option.Option.{Option}
 use Rattle.mc_io.specs.Faults.{Rose, faults_after, next_count}
 use Rattle.mc_script.specs.declared.command.JournalLine.{JournalLine}
 use Rattle.mc_net.specs.Nets.{DeclaresNet, batch_turns}
 use Rattle.mc_lines.specs.SoFar.{Declared}
+use Rattle.mc_lines.specs.declared.tail.Tail.{Tail}
+use Rattle.mc_lines.specs.declared.tail.Tail.TheVariants.{Nothing, Journal}
 use Rattle.mc_net.specs.TextLaws.{first_bytes}
 use Rattle.mc_net.specs.Texts.{IsFault, Says}
 use Rattle.mc_net.specs.Versions.{MeetsNoLast}
-use Rattle.mc_lines.specs.declared.tail.Tail.TheVariants.{Nothing}
 use Rattle.mc_net.specs.declared.net.Net.{Net}
 use Rattle.mc_net.proofs.Faults.{declares_or_faults}
 use Rattle.mc_net.proofs.FirstBytes.{faults_of_the_first_bytes, nets_of_the_first_bytes}
+use Rattle.mc_replay.proofs.Good.{good_or_faulty}
+use Rattle.mc_replay.specs.Faults.{IsJournalFault}
+use Rattle.mc_top.specs.Behind.{HasGoodJournal, HasJournal, HasJournalFault, has_bad_tail, tail_lines}
 use Rattle.mc_top.specs.Journals.{ShowsCause}
-use Rattle.mc_top.specs.Top.{Ends, StopsScript, ToldDeclares, ToldFault}
-use Rattle.mc_top.specs.Modes.{CanRun, IsWorkable}
+use Rattle.mc_top.specs.Top.{Ends, IsTextOf, RefusesCheck, StopsScript, ToldDeclares, ToldFault, ToldJournal}
+use Rattle.mc_top.specs.Modes.{CanCheck, CanRun, IsWorkable, draws_from, tail_of}
 use Rattle.mc_top.specs.declared.stop.Stop.{Stop}
 use Rattle.mc_top.specs.Rings.{AlwaysRests}
+use Rattle.mc_top.proofs.BytesBehind.{bad_alike, lines_alike}
 use Rattle.mc_top.proofs.Causes.{never_stops}
 use Rattle.mc_top.specs.declared.words.Mode.{Mode}
-use Rattle.mc_top.specs.declared.words.Mode.TheVariants.{One, Run}
+use Rattle.mc_top.specs.declared.words.Mode.TheVariants.{Check, One, Run}
+
+-- ---- what is told
 
 -- the fault of the text that was read is that of what was left
-pub told_fault : (told : Option (List ℕ)) (text : List ℕ) (number line : ℕ) → IfSome told (λ all. text ≡ first_bytes Nothing all) → IsFault Nothing text number line → ToldFault told number line
-told_fault None text number line read fault = tt
-told_fault (Some all) text number line read fault = faults_of_the_first_bytes Nothing all number line (subst (λ (t : List ℕ). IsFault Nothing t number line) read fault)
+pub told_fault : (tail : Tail) (told : Option (List ℕ)) (text : List ℕ) (number line : ℕ) → IsTextOf tail told text → IsFault tail text number line → ToldFault tail told number line
+told_fault tail None text number line read fault = tt
+told_fault tail (Some all) text number line read fault = faults_of_the_first_bytes tail all number line (subst (λ (t : List ℕ). IsFault tail t number line) read fault)
 
 -- the text that was read declares a network, and so does what was left
-pub told_declares : (told : Option (List ℕ)) (text : List ℕ) (net : Net) → IfSome told (λ all. text ≡ first_bytes Nothing all) → DeclaresNet Nothing text net → ToldDeclares told net
-told_declares None text net read declares = tt
-told_declares (Some all) text net read declares = nets_of_the_first_bytes Nothing all net (subst (λ (t : List ℕ). DeclaresNet Nothing t net) read declares)
+pub told_declares : (tail : Tail) (told : Option (List ℕ)) (text : List ℕ) (net : Net) → IsTextOf tail told text → DeclaresNet tail text net → ToldDeclares tail told net
+told_declares tail None text net read declares = tt
+told_declares tail (Some all) text net read declares = nets_of_the_first_bytes tail all net (subst (λ (t : List ℕ). DeclaresNet tail t net) read declares)
+
+-- the journal behind what was read is the one behind what was left
+has_all : (all : List ℕ) (net : Net) (journal : List JournalLine) → HasJournal (first_bytes Journal all) net journal → HasJournal all net journal
+has_all all net journal has = record {
+  lines = has.lines ∙ lines_alike net.names net.shape all net.rest;
+  whole = sym (bad_alike net.names net.shape all net.rest) ∙ has.whole;
+}
+
+pub told_journal : (tail : Tail) (told : Option (List ℕ)) (text : List ℕ) (net : Net) (journal : List JournalLine) → IsTextOf tail told text → ToldJournal tail (Some text) net journal → ToldJournal tail told net journal
+told_journal Nothing told text net journal read has = tt
+told_journal Journal None text net journal read has = tt
+told_journal Journal (Some all) text net journal read has = has_all all net journal (subst (λ (t : List ℕ). HasJournal t net journal) read has)
+
+-- the fault of what was read as the journal behind a text
+pub fault_behind : (text : List ℕ) (net : Net) (lines : List JournalLine) (bad : Bool) (number turn : ℕ) → lines ≡ tail_lines net.names net.shape text net.rest → bad ≡ has_bad_tail net.names net.shape text net.rest
+    → IsJournalFault net.world (map batch_turns net.batches.items) lines bad number turn → HasJournalFault text net number turn
+fault_behind text net lines bad number turn are is fault =
+    subst (λ (b : Bool). IsJournalFault net.world (map batch_turns net.batches.items) (tail_lines net.names net.shape text net.rest) b number turn) is
+    (subst (λ (list : List JournalLine). IsJournalFault net.world (map batch_turns net.batches.items) list bad number turn) are fault)
+
+-- and so is its fault
+fault_all : (all : List ℕ) (net : Net) (number turn : ℕ) → HasJournalFault (first_bytes Journal all) net number turn → HasJournalFault all net number turn
+fault_all all net number turn fault =
+    fault_behind all net (tail_lines net.names net.shape (first_bytes Journal all) net.rest) (has_bad_tail net.names net.shape (first_bytes Journal all) net.rest) number turn
+    (lines_alike net.names net.shape all net.rest) (bad_alike net.names net.shape all net.rest) fault
+
+told_journal_fault : (told : Option (List ℕ)) (text : List ℕ) (net : Net) (number turn : ℕ) → IsTextOf Journal told text → HasJournalFault text net number turn → IfSome told (λ all. HasJournalFault all net number turn)
+told_journal_fault None text net number turn read fault = tt
+told_journal_fault (Some all) text net number turn read fault = fault_all all net number turn (subst (λ (t : List ℕ). HasJournalFault t net number turn) read fault)
 
 -- a script that stopped is that of what was left
 stops_told : (mode : Mode) (told old new : Option (List ℕ)) (text : List ℕ) (status due : ℕ) (journal : List JournalLine)
-    → IfSome told (λ all. text ≡ first_bytes Nothing all) → StopsScript mode (Some text) old new status due journal → StopsScript mode told old new status due journal
+    → IsTextOf (tail_of mode) told text → StopsScript mode (Some text) old new status due journal → StopsScript mode told old new status due journal
 stops_told mode told old new text status due journal read stops = record {
   net = stops.net;
   stop = stops.stop;
-  declared = told_declares told text stops.net read stops.declared;
+  state = stops.state;
+  draws = stops.draws;
+  declared = told_declares (tail_of mode) told text stops.net read stops.declared;
   due_is = stops.due_is;
   sound = stops.sound;
   settled = stops.settled;
@@ -46,46 +84,100 @@ stops_told mode told old new text status due journal read stops = record {
   delivered = stops.delivered;
 }
 
+-- a journal that was refused is that behind what was left
+refuses_told : (told old new : Option (List ℕ)) (text : List ℕ) (status : ℕ) (journal : List JournalLine) → IsTextOf Journal told text → RefusesCheck (Some text) old new status journal → RefusesCheck told old new status journal
+refuses_told told old new text status journal read refused = record {
+  net = refused.net;
+  number = refused.number;
+  turn = refused.turn;
+  declared = told_declares Journal told text refused.net read refused.declared;
+  fault = told_journal_fault told text refused.net refused.number refused.turn read refused.fault;
+  delivered = refused.delivered;
+  no_journal = refused.no_journal;
+}
+
 -- what was said of the text that was read holds of what was left
 pub ends_told : (mode : Mode) (told old new : Option (List ℕ)) (text : List ℕ) (status due : ℕ) (journal : List JournalLine)
-    → IfSome told (λ all. text ≡ first_bytes Nothing all) → Ends mode (Some text) old new status due journal → Ends mode told old new status due journal
+    → IsTextOf (tail_of mode) told text → Ends mode (Some text) old new status due journal → Ends mode told old new status due journal
 ends_told mode told old new text status due journal read ends = record {
   worked = λ zero.
       let worked = ends.worked zero in
-      record { net = worked.net; declared = told_declares told text worked.net read worked.declared; settles = worked.settles; delivered = worked.delivered };
+      record {
+        net = worked.net;
+        declared = told_declares (tail_of mode) told text worked.net read worked.declared;
+        told_journal = told_journal (tail_of mode) told text worked.net journal read worked.told_journal;
+        settles = worked.settles;
+        delivered = worked.delivered;
+      };
   refused = λ one. elim (ends.refused one) [
-    | inl refused ↦ inl (record { number = refused.number; line = refused.line; fault = told_fault told text refused.number refused.line read refused.fault; delivered = refused.delivered; no_journal = refused.no_journal })
+    | inl refused ↦ inl (record {
+      number = refused.number;
+      line = refused.line;
+      fault = told_fault (tail_of mode) told text refused.number refused.line read refused.fault;
+      delivered = refused.delivered;
+      no_journal = refused.no_journal;
+    })
     | inr stops ↦ inr (stops_told mode told old new text status due journal read stops)
   ];
   at_stop = λ either. stops_told mode told old new text status due journal read (ends.at_stop either);
+  check_refused = λ eight.
+      let refused = ends.check_refused eight in
+      (refused.0, refuses_told told old new text status journal (subst (λ (m : Mode). IsTextOf (tail_of m) told text) refused.0 read) refused.1);
   gave_up = ends.gave_up;
   no_journal = ends.no_journal;
 }
 
-can_run : (mode : Mode) (text : List ℕ) → IsWorkable mode text → CanRun text
-can_run (Run asked) text works = works
-can_run (One state asked) text works = works
+-- ---- texts on which the work can be done
 
-fault_says : (told : Option (List ℕ)) (text : List ℕ) (d : Declared) (number line : ℕ) → ToldFault told number line → told ≡ Some text → Says Nothing text d → ⊥
-fault_says None text d number line fault is says = cc
-fault_says (Some all) text d number line fault is says =
-    declares_or_faults Nothing all d number line (subst (λ (t : List ℕ). Says Nothing t d) (let same : text ≡ all = cc in same) says) fault
+-- each says something
+says_some : (mode : Mode) (text : List ℕ) → IsWorkable mode text → (d : Declared) × Says (tail_of mode) text d
+says_some (Run asked) text works = (works.0, works.1)
+says_some (One state asked) text works = (works.0, works.1)
+says_some Check text works = (works.says.0, works.says.1)
 
--- a text on which a mode's work can be done has no fault
-fault_works : (mode : Mode) (told : Option (List ℕ)) (text : List ℕ) (number line : ℕ) → ToldFault told number line → told ≡ Some text → IsWorkable mode text → ⊥
-fault_works mode told text number line fault is works = let can = can_run mode text works in fault_says told text can.0 number line fault is can.1
+-- so it has no fault
+fault_says : (tail : Tail) (told : Option (List ℕ)) (text : List ℕ) (d : Declared) (number line : ℕ) → ToldFault tail told number line → told ≡ Some text → Says tail text d → ⊥
+fault_says tail None text d number line fault is says = cc
+fault_says tail (Some all) text d number line fault is says =
+    declares_or_faults tail all d number line (subst (λ (t : List ℕ). Says tail t d) (let same : text ≡ all = cc in same) says) fault
 
-stop_says : (told : Option (List ℕ)) (text : List ℕ) (d : Declared) (net : Net) (stop : Stop) → ToldDeclares told net → told ≡ Some text → Says Nothing text d → MeetsNoLast d → AlwaysRests d
+fault_works : (mode : Mode) (told : Option (List ℕ)) (text : List ℕ) (number line : ℕ) → ToldFault (tail_of mode) told number line → told ≡ Some text → IsWorkable mode text → ⊥
+fault_works mode told text number line fault is works = let says = says_some mode text works in fault_says (tail_of mode) told text says.0 number line fault is says.1
+
+stop_says : (told : Option (List ℕ)) (text : List ℕ) (d : Declared) (net : Net) (stop : Stop) → ToldDeclares Nothing told net → told ≡ Some text → Says Nothing text d → MeetsNoLast d → AlwaysRests d
     → ShowsCause (Some stop) net.world (map batch_turns net.batches.items) → ⊥
 stop_says None text d net stop declares is says none rests shows = cc
 stop_says (Some all) text d net stop declares is says none rests shows =
     let same : all ≡ text = cc in
     never_stops stop text d net says none rests (subst (λ (t : List ℕ). DeclaresNet Nothing t net) same declares) shows
 
--- nor does its script stop
-stop_works : (mode : Mode) (told : Option (List ℕ)) (text : List ℕ) (net : Net) (stop : Stop) → ToldDeclares told net → told ≡ Some text → IsWorkable mode text
+can_run : (told : Option (List ℕ)) (text : List ℕ) (net : Net) (stop : Stop) → ToldDeclares Nothing told net → told ≡ Some text → CanRun text → ShowsCause (Some stop) net.world (map batch_turns net.batches.items) → ⊥
+can_run told text net stop declares is can shows = stop_says told text can.0 net stop declares is can.1 can.2 can.3 shows
+
+-- nor does its script stop, in a mode that draws
+stop_works : (mode : Mode) (told : Option (List ℕ)) (text : List ℕ) (net : Net) (stop : Stop) (state : ℕ) → draws_from mode ≡ Some state → ToldDeclares (tail_of mode) told net → told ≡ Some text → IsWorkable mode text
     → ShowsCause (Some stop) net.world (map batch_turns net.batches.items) → ⊥
-stop_works mode told text net stop declares is works shows = let can = can_run mode text works in stop_says told text can.0 net stop declares is can.1 can.2 can.3 shows
+stop_works (Run asked) told text net stop state draws declares is works shows = can_run told text net stop declares is works shows
+stop_works (One first asked) told text net stop state draws declares is works shows = can_run told text net stop declares is works shows
+stop_works Check told text net stop state draws declares is works shows = cc
+
+-- nor is its journal refused
+pub good_has_none : (text : List ℕ) (net : Net) (number turn : ℕ) → HasGoodJournal text net → HasJournalFault text net number turn → ⊥
+good_has_none text net number turn good fault =
+    good_or_faulty net.world (map batch_turns net.batches.items) (tail_lines net.names net.shape text net.rest) number turn good.settles
+    (subst (λ (bad : Bool). IsJournalFault net.world (map batch_turns net.batches.items) (tail_lines net.names net.shape text net.rest) bad number turn) good.whole fault)
+
+check_says : (told : Option (List ℕ)) (text : List ℕ) (net : Net) (number turn : ℕ) → ToldDeclares Journal told net → IfSome told (λ all. HasJournalFault all net number turn) → told ≡ Some text → CanCheck text → ⊥
+check_says None text net number turn declares fault is can = cc
+check_says (Some all) text net number turn declares fault is can =
+    let same : all ≡ text = cc in
+    good_has_none text net number turn (can.good net (subst (λ (t : List ℕ). DeclaresNet Journal t net) same declares)) (subst (λ (t : List ℕ). HasJournalFault t net number turn) same fault)
+
+check_works : (mode : Mode) (told old new : Option (List ℕ)) (text : List ℕ) (status : ℕ) (journal : List JournalLine) → (mode ≡ Check) × RefusesCheck told old new status journal → told ≡ Some text → IsWorkable mode text → ⊥
+check_works mode told old new text status journal (checks, refused) is works =
+    check_says told text refused.net refused.number refused.turn refused.declared refused.fault is (subst (λ (m : Mode). IsWorkable m text) checks works)
+
+-- ---- counted faults
 
 le_self : (n : ℕ) → n ≤ n
 le_self n = omega arith
@@ -104,14 +196,15 @@ not_failed before now status fault counted unrisen is =
 
 -- a text on which the work can be done and no counted fault leave only two ends
 pub completes : (mode : Mode) (told old new : Option (List ℕ)) (text : List ℕ) (status due : ℕ) (journal : List JournalLine)
-    → (due ≡ 0) ⊎ (due ≡ 1) ⊎ (due ≡ 3) ⊎ (due ≡ 4) ⊎ (due ≡ 6) ⊎ (due ≡ 7) → (status ≡ due) ⊎ (status ≡ 5) → Ends mode told old new status due journal
+    → (due ≡ 0) ⊎ (due ≡ 1) ⊎ (due ≡ 3) ⊎ (due ≡ 4) ⊎ (due ≡ 6) ⊎ (due ≡ 7) ⊎ (due ≡ 8) → (status ≡ due) ⊎ (status ≡ 5) → Ends mode told old new status due journal
     → told ≡ Some text → IsWorkable mode text → (due ≡ 4 → ⊥) → (status ≡ 5 → ⊥) → (status ≡ 0) ⊎ (status ≡ 3)
 completes mode told old new text status due journal dues either ends is works not_four not_five =
+    let never : StopsScript mode told old new status due journal → ⊥ = λ stops. stop_works mode told text stops.net stops.stop stops.state stops.draws stops.declared is works stops.shows in
     let not_one : due ≡ 1 → ⊥ = λ one. elim (ends.refused one) [
       | inl refused ↦ fault_works mode told text refused.number refused.line refused.fault is works
-      | inr stops ↦ stop_works mode told text stops.net stops.stop stops.declared is works stops.shows
+      | inr stops ↦ never stops
     ] in
-    let not_stopped : (due ≡ 6) ⊎ (due ≡ 7) → ⊥ = λ either. let stops = ends.at_stop either in stop_works mode told text stops.net stops.stop stops.declared is works stops.shows in
-    let not_six : due ≡ 6 → ⊥ = λ six. not_stopped (inl six) in
-    let not_seven : due ≡ 7 → ⊥ = λ seven. not_stopped (inr seven) in
-    grind (arith, not_one, not_four, not_five, not_six, not_seven)
+    let not_six : due ≡ 6 → ⊥ = λ six. never (ends.at_stop (inl six)) in
+    let not_seven : due ≡ 7 → ⊥ = λ seven. never (ends.at_stop (inr seven)) in
+    let not_eight : due ≡ 8 → ⊥ = λ eight. check_works mode told old new text status journal (ends.check_refused eight) is works in
+    grind (arith, not_one, not_four, not_five, not_six, not_seven, not_eight)

@@ -6,7 +6,7 @@ use Rattle.mc_model.specs.Worlds.{WorldState}
 use Rattle.mc_script.specs.declared.command.JournalLine.{JournalLine}
 use Rattle.mc_script.specs.declared.command.JournalLine.TheVariants.{Turn as Made}
 use Rattle.mc_seq.specs.Draws.{IsScheduled, StopsAtRing, StopsAtVersion, StopsRestless}
-use Rattle.mc_top.specs.Journals.{lines_for}
+use Rattle.mc_replay.specs.Journals.{lines_for}
 use Rattle.mc_top.specs.declared.stop.Stop.{Stop}
 use Rattle.mc_top.specs.declared.stop.Stop.TheVariants.{Restless, Ring, VersionEnd}
 

@@ -1,35 +1,20 @@
--- A journal: the turns of every settle, in order, each settle with its mark behind it. Where a script stops, the turns up to the stop come last, without a mark.
+-- Journals of scripts that stop: the turns up to the stop come last, without a mark.
 use Rattle.std.specs.Prelude.{◌≡◌, ◌⊎◌, List, [], ◌∷◌, ◌++◌, map, Option, Some, None}
-use Rattle.std.specs.List.{All}
-use Rattle.std.specs.Option.{unwrap_or}
-use Rattle.mc_model.specs.PathTable.{PathHolds}
-use Rattle.mc_model.specs.Paths.{paths}
 use Rattle.mc_laws.specs.Versions.{PassesLast}
 use Rattle.mc_model.specs.Rings.{IsFirstOnRing}
 use Rattle.mc_model.specs.Settles.{IsSettled, IsStopped, MeetsLast, hears_in}
-use Rattle.mc_model.specs.Steps.{step}
 use Rattle.mc_model.specs.Unprogrammed.{HasNoPrograms}
 use Rattle.mc_model.specs.Worlds.{WorldState}
 use Rattle.mc_seq.specs.Restless.{IsRestless}
+use Rattle.mc_replay.specs.Journals.{IsJournal, lines_for}
 use Rattle.mc_box.specs.declared.event.Turn.{Turn}
 use Rattle.mc_settings.specs.Batches.{LeavesNoRing, UseUp}
 use Rattle.mc_script.specs.declared.command.JournalLine.{JournalLine}
-use Rattle.mc_script.specs.declared.command.JournalLine.TheVariants.{Turn as Made, Settled}
+use Rattle.mc_script.specs.declared.command.JournalLine.TheVariants.{Turn as Made}
 use Rattle.mc_laws.specs.Chains.{ClosesNoChain}
 use Rattle.mc_top.specs.Words.{RestsByWords}
 use Rattle.mc_top.specs.declared.stop.Stop.{Stop}
 use Rattle.mc_top.specs.declared.stop.Stop.TheVariants.{Restless, Ring, VersionEnd}
-
--- the turns of a settle, as lines
-abbrev pub lines_for : List Turn → List JournalLine
-lines_for turns = map Made turns ++ Settled ∷ []
-
--- the journal is one settled segment for each batch, in order, all of them one run from a world
-abbrev pub IsJournal : WorldState → List (List Turn) → List JournalLine → Type 0
-IsJournal world [] journal = journal ≡ []
-IsJournal world (batch ∷ batches) journal =
-    (turns : List Turn) × (last : WorldState) × (rest : List JournalLine)
-    × (journal ≡ lines_for turns ++ rest) × IsSettled world batch turns last × IsJournal last batches rest
 
 -- why a script stops, behind turns of a batch that leave a world: at the last version; or where the batch is used up, at the least slot on a ring, or at the first box whose program can still go on, and has made all its Shifts
 abbrev pub IsCause : Stop → (batch turns : List Turn) → WorldState → Type 0
@@ -63,13 +48,3 @@ ShowsCause None world batches = Unit {0}
 ShowsCause (Some (VersionEnd at)) world batches = PassesLast world (λ who local. hears_in who local batches)
 ShowsCause (Some (Ring at)) world batches = (HasNoPrograms world → LeavesNoRing world batches → ⊥) × (ClosesNoChain world batches → ⊥)
 ShowsCause (Some (Restless at)) world batches = (HasNoPrograms world → ⊥) × (RestsByWords world batches → ⊥)
-
--- the world after a turn of a journal
-abbrev pub next_world : WorldState → Turn → WorldState
-next_world world turn = unwrap_or (step world turn) world
-
--- at each settle the two end slots of every path are in the path's state, and where it flows they have each other's newest descriptor and the choice for it
-abbrev pub HoldsAtSettles : WorldState → List JournalLine → Type 0
-HoldsAtSettles world [] = Unit {0}
-HoldsAtSettles world (Made turn ∷ journal) = HoldsAtSettles (next_world world turn) journal
-HoldsAtSettles world (Settled ∷ journal) = All (PathHolds world) (paths world) × HoldsAtSettles world journal

@@ -1,21 +1,24 @@
 -- What the words of the command line ask for, and what a mode prints.
-use Rattle.std.specs.Prelude.{◌≡◌, ◌++◌, ℕ, Bool, true, not, if◌then◌else◌, IsTrue, List, [], ◌∷◌, None, Some, codes, filter, map, nat_le, string_bytes, String}
+use Rattle.std.specs.Prelude.{◌≡◌, ◌++◌, ℕ, Bool, true, false, not, if◌then◌else◌, IsTrue, List, [], ◌∷◌, None, Some, codes, filter, map, nat_le, string_bytes, String}
 use Rattle.std.specs.declared.alloc.Global.{Global}
 use Rattle.std.specs.declared.option.Option.{Option}
 use Rattle.std.specs.List.{after_first, before_first, list_any}
 use Rattle.std.specs.Option.{option_and_then}
 use Rattle.std.specs.Str.{bytes_eq}
 use Rattle.mc_text.specs.Spelling.{number_of}
+use Rattle.mc_top.specs.Behind.{HasGoodJournal}
 use Rattle.mc_top.specs.Printed.{run_text}
 use Rattle.mc_top.specs.Rings.{AlwaysRests}
 use Rattle.mc_lines.specs.SoFar.{Declared}
+use Rattle.mc_lines.specs.declared.tail.Tail.{Tail}
+use Rattle.mc_lines.specs.declared.tail.Tail.TheVariants.{Nothing, Journal}
+use Rattle.mc_net.specs.Nets.{DeclaresNet}
 use Rattle.mc_net.specs.Texts.{Says}
-use Rattle.mc_lines.specs.declared.tail.Tail.TheVariants.{Nothing}
 use Rattle.mc_net.specs.Versions.{MeetsNoLast}
 use Rattle.mc_net.specs.declared.net.Net.{Net}
 use Rattle.mc_script.specs.declared.command.JournalLine.{JournalLine}
 use Rattle.mc_top.specs.declared.words.Mode.{Mode}
-use Rattle.mc_top.specs.declared.words.Mode.TheVariants.{One, Run}
+use Rattle.mc_top.specs.declared.words.Mode.TheVariants.{Check, One, Run}
 use Rattle.mc_top.specs.declared.words.TheConstants.{STATE_LIMIT}
 
 -- a number within the limit of states
@@ -30,11 +33,13 @@ spelt_draws word = option_and_then state_within (number_of word)
 abbrev pub Spells : Mode → List (List ℕ) → Type 0
 Spells (Run journal) words = words ≡ codes "run" ∷ []
 Spells (One state journal) words = (word : List ℕ) × (words ≡ codes "one" ∷ word ∷ []) × (spelt_draws word ≡ Some state)
+Spells Check words = words ≡ codes "check" ∷ []
 
 -- a mode prints the journal, too
 abbrev pub prints_journal : Mode → Bool
 prints_journal (Run journal) = journal
 prints_journal (One state journal) = journal
+prints_journal Check = false
 
 -- the word behind which all words are plain
 abbrev pub is_dashes : String Global → Bool
@@ -68,6 +73,7 @@ IsCommand words mode = AsksFor mode (has_journal_flag words) (plain_words words)
 abbrev pub reads : Mode → Bool
 reads (Run journal) = true
 reads (One state journal) = true
+reads Check = true
 
 -- the words ask for a mode that reads
 abbrev pub AsksToRead : List (String Global) → Type 0
@@ -77,22 +83,37 @@ AsksToRead words = (mode : Mode) × IsCommand words mode × IsTrue (reads mode)
 abbrev pub text_for : Mode → Option (List ℕ) → Option (List ℕ)
 text_for (Run journal) left = left
 text_for (One state journal) left = left
+text_for Check left = left
 
--- the state at which the draws of a mode begin
-abbrev pub draws_from : Mode → ℕ
-draws_from (Run journal) = 0
-draws_from (One state journal) = state
+-- what may stand behind the commands of that text
+abbrev pub tail_of : Mode → Tail
+tail_of (Run journal) = Nothing
+tail_of (One state journal) = Nothing
+tail_of Check = Journal
+
+-- the state at which the draws of a mode begin, if it draws
+abbrev pub draws_from : Mode → Option ℕ
+draws_from (Run journal) = Some 0
+draws_from (One state journal) = Some state
+draws_from Check = None
 
 -- a text declares a network, in whose script no Hear meets the last version and each batch comes to rest
 abbrev pub CanRun : List ℕ → Type 0
 CanRun text = (d : Declared) × Says Nothing text d × MeetsNoLast d × AlwaysRests d
 
+-- a text declares a network, and the journal behind its commands settles all batches
+pub record CanCheck (text : List ℕ) : Type 0 where
+  pub says : (d : Declared) × Says Journal text d
+  pub good : (net : Net) → DeclaresNet Journal text net → HasGoodJournal text net
+
 -- a mode's work can be done on the text
 abbrev pub IsWorkable : Mode → List ℕ → Type 0
 IsWorkable (Run journal) text = CanRun text
 IsWorkable (One state journal) text = CanRun text
+IsWorkable Check text = CanCheck text
 
 -- what a mode prints for a journal of the network
 abbrev pub output_of : Mode → Net → List JournalLine → List ℕ
 output_of (Run journal) net lines = run_text journal net.names net.world None lines
 output_of (One state journal) net lines = run_text journal net.names net.world None lines
+output_of Check net lines = run_text false net.names net.world None lines

@@ -1,4 +1,4 @@
--- What is printed at the settles of a journal, and for a faulty text.
+-- What is printed at the settles of a journal, and for a faulty text or journal.
 use Rattle.std.specs.Prelude.{ℕ, ◌+◌, Bool, true, List, [], ◌∷◌, ◌++◌, codes, slice_index_or, Option, Some, None}
 use Rattle.std.specs.Fmt.{decimal}
 use Rattle.std.specs.List.{flat_map}
@@ -11,7 +11,7 @@ use Rattle.mc_text.specs.NameLists.{NameLists, slot_word}
 use Rattle.mc_script.specs.Meaning.{goal_word}
 use Rattle.mc_journal.specs.Printed.{print_journal}
 use Rattle.mc_table.specs.Words.{codec_word, line_of, medium_word}
-use Rattle.mc_top.specs.Journals.{next_world}
+use Rattle.mc_replay.specs.Journals.{next_world}
 use Rattle.mc_script.specs.declared.command.JournalLine.{JournalLine}
 use Rattle.mc_script.specs.declared.command.JournalLine.TheVariants.{Turn as Made, Settled}
 use Rattle.mc_top.specs.declared.stop.Stop.{Stop}
@@ -109,3 +109,9 @@ run_text asked names world stop journal = with_journal asked stop names journal 
 -- the first line that breaks a rule, and the least number of the rules that it breaks
 abbrev pub fault_line : ℕ → ℕ → List ℕ
 fault_line number line = line_of (codes "fault" ∷ decimal number ∷ codes "line" ∷ decimal line ∷ [])
+
+-- ---- a faulty journal
+
+-- the rule that is broken first, and one more than the turns before the line that breaks it
+abbrev pub journal_fault_line : ℕ → ℕ → List ℕ
+journal_fault_line number turn = line_of (codes "fault" ∷ decimal number ∷ codes "turn" ∷ decimal turn ∷ [])

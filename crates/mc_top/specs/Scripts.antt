@@ -6,7 +6,7 @@ use Rattle.mc_box.specs.declared.event.Turn.{Turn}
 use Rattle.mc_text.specs.NameLists.{NameLists}
 use Rattle.mc_script.specs.declared.command.JournalLine.{JournalLine}
 use Rattle.mc_seq.specs.Draws.{IsScheduled}
-use Rattle.mc_top.specs.Journals.{lines_for}
+use Rattle.mc_replay.specs.Journals.{lines_for}
 use Rattle.mc_top.specs.Printed.{settle_text}
 
 -- where its world and its draws stand, and what was kept and printed so far

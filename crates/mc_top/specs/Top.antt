@@ -5,22 +5,25 @@ use Rattle.std.specs.Io.KnownBytes.{Appends, Consumes, IsAtEnd, Keeps}
 use Rattle.mc_io.specs.Bytes.{AppendsPart}
 use Rattle.mc_model.specs.Sound.{IsSound}
 use Rattle.mc_net.specs.Nets.{DeclaresNet, batch_turns}
-use Rattle.mc_lines.specs.Rules.{read_limit}
+use Rattle.mc_lines.specs.Rules.{read_limit, text_limit}
+use Rattle.mc_lines.specs.declared.tail.Tail.{Tail}
+use Rattle.mc_lines.specs.declared.tail.Tail.TheVariants.{Nothing, Journal}
 use Rattle.mc_net.specs.TextLaws.{first_bytes}
 use Rattle.mc_net.specs.Texts.{IsFault}
 use Rattle.mc_net.specs.declared.net.Net.{Net}
-use Rattle.mc_lines.specs.declared.limit.TheConstants.{TEXT_LIMIT}
-use Rattle.mc_lines.specs.declared.tail.Tail.TheVariants.{Nothing}
+use Rattle.mc_replay.specs.Journals.{HoldsAtSettles, IsJournal}
+use Rattle.mc_top.specs.Behind.{HasJournal, HasJournalFault}
 use Rattle.mc_top.specs.Drawn.{IsDrawnJournal}
-use Rattle.mc_top.specs.Journals.{IsJournal, IsStoppedJournal, HoldsAtSettles, ShowsCause}
-use Rattle.mc_top.specs.Modes.{draws_from, output_of, reads}
-use Rattle.mc_top.specs.Printed.{fault_line, stop_line}
+use Rattle.mc_top.specs.Journals.{IsStoppedJournal, ShowsCause}
+use Rattle.mc_top.specs.Modes.{draws_from, output_of, reads, tail_of}
+use Rattle.mc_top.specs.Printed.{fault_line, journal_fault_line, stop_line}
 use Rattle.mc_top.specs.Statuses.{keeps_journal, stop_status}
 use Rattle.mc_script.specs.declared.command.JournalLine.{JournalLine}
-use Rattle.mc_top.specs.declared.status.TheConstants.{WORKED, FAULTY_TEXT, USAGE, NO_MEMORY, READ_FAULT, RESTLESS, RING, WRITE_FAULT}
+use Rattle.mc_top.specs.declared.status.TheConstants.{WORKED, FAULTY_TEXT, USAGE, NO_MEMORY, READ_FAULT, RESTLESS, RING, WRITE_FAULT, JOURNAL_FAULT}
 use Rattle.mc_top.specs.declared.stop.Stop.{Stop}
 use Rattle.mc_top.specs.declared.top.Done.{Done}
 use Rattle.mc_top.specs.declared.words.Mode.{Mode}
+use Rattle.mc_top.specs.declared.words.Mode.TheVariants.{Check}
 
 -- the one line that is printed for words that are no command
 abbrev pub usage_text : List ℕ
@@ -32,72 +35,91 @@ pub record Delivers (status due : ℕ) (old new : Option (List ℕ)) (output : L
   pub part : status ≢ due → (status ≡ WRITE_FAULT) × AppendsPart old new output
 
 -- the text was read to its end, or to the byte past the limit
-pub record ReadsWhole (old new : Option (List ℕ)) (text : List ℕ) : Type 0 where
+pub record ReadsWhole (tail : Tail) (old new : Option (List ℕ)) (text : List ℕ) : Type 0 where
   pub consumed : Consumes old new text
-  pub within : length text ≤ read_limit Nothing
-  pub at_end : length text ≤ TEXT_LIMIT → IsAtEnd new
+  pub within : length text ≤ read_limit tail
+  pub at_end : length text ≤ text_limit tail → IsAtEnd new
 
 -- so some text was
-abbrev pub HasReadWhole : (old new : Option (List ℕ)) → Type 0
-HasReadWhole old new = (text : List ℕ) × ReadsWhole old new text
+abbrev pub HasReadWhole : Tail → (old new : Option (List ℕ)) → Type 0
+HasReadWhole tail old new = (text : List ℕ) × ReadsWhole tail old new text
 
 -- this text was read so, if the mode reads
 abbrev pub ReadsFor : Mode → (old new : Option (List ℕ)) → List ℕ → Type 0
-ReadsFor mode old new text = IsTrue (reads mode) → ReadsWhole old new text
+ReadsFor mode old new text = IsTrue (reads mode) → ReadsWhole (tail_of mode) old new text
 
 -- the text, or its first bytes up to one more than the limit, of what is told
-abbrev pub IsTextOf : Option (List ℕ) → List ℕ → Type 0
-IsTextOf told text = IfSome told (λ all. text ≡ first_bytes Nothing all)
+abbrev pub IsTextOf : Tail → Option (List ℕ) → List ℕ → Type 0
+IsTextOf tail told text = IfSome told (λ all. text ≡ first_bytes tail all)
 
--- The journal is one settled segment for each settle, in order, all of them one run from the network's first world: the interleaving of the boxes. At each settle the two end slots of every path are in the state that the path table gives, and where it flows each has the other's newest descriptor and the choice for its own. Which interleaving it is the draws decide, from their first state on: in a sound world there is no other such journal
-pub record Settles (net : Net) (state : ℕ) (journal : List JournalLine) : Type 0 where
+-- The journal is one settled segment for each settle, in order, all of them one run from the network's first world: the interleaving of the boxes. At each settle the two end slots of every path are in the state that the path table gives, and where it flows each has the other's newest descriptor and the choice for its own. Which interleaving it is the draws decide, from their first state on, where there are draws: in a sound world there is no other such journal
+pub record Settles (net : Net) (draws : Option ℕ) (journal : List JournalLine) : Type 0 where
   pub sound : IsSound net.world
   pub settled : IsJournal net.world (map batch_turns net.batches.items) journal
   pub holds : HoldsAtSettles net.world journal
-  pub drawn : IsDrawnJournal None state net.world (map batch_turns net.batches.items) journal
+  pub drawn : IfSome draws (λ state. IsDrawnJournal None state net.world (map batch_turns net.batches.items) journal)
 
 -- what is told of a text declares this network
-abbrev pub ToldDeclares : Option (List ℕ) → Net → Type 0
-ToldDeclares told net = IfSome told (λ text. DeclaresNet Nothing text net)
+abbrev pub ToldDeclares : Tail → Option (List ℕ) → Net → Type 0
+ToldDeclares tail told net = IfSome told (λ text. DeclaresNet tail text net)
 
 -- the first fault of what is told of a text is this one: a line breaks the rule of this number and none with a lesser one, and no line before it breaks a rule
-abbrev pub ToldFault : Option (List ℕ) → ℕ → ℕ → Type 0
-ToldFault told number line = IfSome told (λ text. IsFault Nothing text number line)
+abbrev pub ToldFault : Tail → Option (List ℕ) → ℕ → ℕ → Type 0
+ToldFault tail told number line = IfSome told (λ text. IsFault tail text number line)
 
--- A mode did its work: it settled the network that the text declares, and delivered what it prints for the worlds that replaying the journal gives.
+-- where a journal stands behind the commands, it is the one that is told, and no line of it is bad
+abbrev pub ToldJournal : Tail → Option (List ℕ) → Net → List JournalLine → Type 0
+ToldJournal Nothing told net journal = Unit {0}
+ToldJournal Journal told net journal = IfSome told (λ text. HasJournal text net journal)
+
+-- A mode did its work: it settled the network that the text declares, or checked the journal behind it, and delivered what it prints for the worlds that replaying the journal gives.
 --
 -- The headline, for every network, script and interleaving of the boxes: each path line that is printed after a settle is the table's answer for its two end goals, closed where an end closes, flowing where one opens and none closes, either of the two for hold against hold; and a flowing line's media are those of the two ends' newest descriptors
 pub record Worked (mode : Mode) (told old new : Option (List ℕ)) (status : ℕ) (journal : List JournalLine) : Type 0 where
   pub net : Net
-  pub declared : ToldDeclares told net
+  pub declared : ToldDeclares (tail_of mode) told net
+  pub told_journal : ToldJournal (tail_of mode) told net journal
   pub settles : Settles net (draws_from mode) journal
   pub delivered : Delivers status WORKED old new (output_of mode net journal)
 
 -- a mode refused the text, and delivered the one line that names its first fault
-pub record Refused (told old new : Option (List ℕ)) (status : ℕ) (journal : List JournalLine) : Type 0 where
+pub record Refused (mode : Mode) (told old new : Option (List ℕ)) (status : ℕ) (journal : List JournalLine) : Type 0 where
   pub number : ℕ
   pub line : ℕ
-  pub fault : ToldFault told number line
+  pub fault : ToldFault (tail_of mode) told number line
   pub delivered : Delivers status FAULTY_TEXT old new (fault_line number line)
+  pub no_journal : journal ≡ []
+
+-- the journal behind the commands has a fault, and the one line that names its first one was delivered. A journal that is good has none
+pub record RefusesCheck (told old new : Option (List ℕ)) (status : ℕ) (journal : List JournalLine) : Type 0 where
+  pub net : Net
+  pub number : ℕ
+  pub turn : ℕ
+  pub declared : ToldDeclares Journal told net
+  pub fault : IfSome told (λ text. HasJournalFault text net number turn)
+  pub delivered : Delivers status JOURNAL_FAULT old new (journal_fault_line number turn)
   pub no_journal : journal ≡ []
 
 -- The script of the network that the text declares stopped, and the one line that says where was delivered. The journal is the settled segments before, and the turns up to the stop: replayed, they lead to a world that shows the cause
 pub record StopsScript (mode : Mode) (told old new : Option (List ℕ)) (status due : ℕ) (journal : List JournalLine) : Type 0 where
   pub net : Net
   pub stop : Stop
-  pub declared : ToldDeclares told net
+  pub state : ℕ
+  pub draws : draws_from mode ≡ Some state
+  pub declared : ToldDeclares (tail_of mode) told net
   pub due_is : due ≡ stop_status stop
   pub sound : IsSound net.world
   pub settled : IsStoppedJournal stop net.world (map batch_turns net.batches.items) journal
-  pub drawn : IsDrawnJournal (Some stop) (draws_from mode) net.world (map batch_turns net.batches.items) journal
+  pub drawn : IsDrawnJournal (Some stop) state net.world (map batch_turns net.batches.items) journal
   pub shows : ShowsCause (Some stop) net.world (map batch_turns net.batches.items)
   pub delivered : Delivers status due old new (stop_line net.names net.world stop)
 
 -- what a mode printed and kept, for the text that it was told
 pub record Ends (mode : Mode) (told old new : Option (List ℕ)) (status due : ℕ) (journal : List JournalLine) : Type 0 where
   pub worked : due ≡ WORKED → Worked mode told old new status journal
-  pub refused : due ≡ FAULTY_TEXT → Refused told old new status journal ⊎ StopsScript mode told old new status due journal
+  pub refused : due ≡ FAULTY_TEXT → Refused mode told old new status journal ⊎ StopsScript mode told old new status due journal
   pub at_stop : (due ≡ RESTLESS) ⊎ (due ≡ RING) → StopsScript mode told old new status due journal
+  pub check_refused : due ≡ JOURNAL_FAULT → (mode ≡ Check) × RefusesCheck told old new status journal
   pub gave_up : (due ≡ NO_MEMORY) ⊎ (due ≡ READ_FAULT) → (status ≡ due) × Keeps old new
   pub no_journal : IsFalse (keeps_journal due) → journal ≡ []
 

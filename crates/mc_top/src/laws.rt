@@ -1,7 +1,7 @@
 //! Laws of journals, over the definitions alone.
 
 ghost use Rattle.mc_top.specs.Drawn.{DrawnJournalIsOne};
-ghost use Rattle.mc_top.specs.JournalLaws.{RunsAreReadBack};
+ghost use Rattle.mc_top.specs.JournalLaws.{PrintedJournalsAreGood, RunsAreReadBack};
 ghost use Rattle.mc_top.specs.TextAlone.{CallsPrintSame, TextAloneDecides};
 ghost use Rattle.mc_top.specs.Words.{FirstWorldsAwaitWords};
 
@@ -35,4 +35,10 @@ pub fn first_worlds_await_words()
 /// The journal that a run of a text prints is read again, line by line.
 pub fn runs_are_read_back()
     ensures { RunsAreReadBack }
+{}
+
+/// Behind the commands of a text of the same network that journal is good, within the limit of the text, and so has no
+/// fault: `check` accepts it.
+pub fn printed_journals_are_good()
+    ensures { PrintedJournalsAreGood }
 {}

@@ -1,9 +1,10 @@
-// What is printed for a journal, for a script that stopped, and for a faulty text.
+// What is printed for a journal, for a script that stopped, and for a faulty text or journal.
 ghost use Rattle.std.specs.Prelude.{◌≡◌, ◌<◌, ◌++◌, ◌∷◌, [], All, IfOk, OnOk, codes, length};
+ghost use Rattle.std.specs.Fmt.{decimal};
 ghost use Rattle.mc_journal.specs.Printed.{IsNamedLine};
 ghost use Rattle.mc_table.specs.Words.{line_of};
 ghost use Rattle.mc_text.specs.NameLists.{slot_names, slot_word};
-ghost use Rattle.mc_top.specs.Printed.{box_word, fault_line, journal_part, stop_word};
+ghost use Rattle.mc_top.specs.Printed.{box_word, fault_line, journal_fault_line, journal_part, stop_word};
 
 use crate::stop::Stop;
 use mc_journal::print_journal;
@@ -73,12 +74,27 @@ fn stop_word(stop: Stop) -> &'static [u8]
 pub fn print_fault(alloc: Global, fault: TextFault) -> Result<Vec<u8>, AllocError>
     ensures { IfOk result (λ line. line.items ≡ fault_line fault.number fault.line) }
 {
-    let number = format!(in alloc; "{}", fault.number)?;
-    let line = format!(in alloc; "{}", fault.line)?;
+    print_numbers(alloc, fault.number, b"line", fault.line)
+}
+
+/// The line that is printed for a journal's first fault.
+pub fn print_journal_fault(alloc: Global, number: u8, turn: u32) -> Result<Vec<u8>, AllocError>
+    ensures { IfOk result (λ line. line.items ≡ journal_fault_line number turn) }
+{
+    print_numbers(alloc, number, b"turn", turn)
+}
+
+// A fault's line: its number, and where it is.
+fn print_numbers(alloc: Global, number: u8, unit: &[u8], place: u32) -> Result<Vec<u8>, AllocError>
+    ensures { IfOk result (λ line. line.items
+        ≡ line_of (codes "fault" ∷ decimal number ∷ unit.now ∷ decimal place ∷ [])) }
+{
+    let number = format!(in alloc; "{number}")?;
+    let place = format!(in alloc; "{place}")?;
     let mut out = Vec::new(alloc);
     put_line(
         b"fault",
-        &[number.as_bytes(), b"line", line.as_bytes()],
+        &[number.as_bytes(), unit, place.as_bytes()],
         &mut out,
     )?;
     Ok(out)

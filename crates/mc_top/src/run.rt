@@ -8,7 +8,8 @@ ghost use Rattle.mc_script.specs.declared.command.JournalLine.TheVariants.{Turn 
 ghost use Rattle.mc_table.specs.Words.{line_of};
 ghost use Rattle.mc_text.specs.NameLists.{slot_names, slot_word};
 ghost use Rattle.mc_top.specs.Drawn.{IsDrawnJournal};
-ghost use Rattle.mc_top.specs.Journals.{HoldsAtSettles, IsJournalTo, ShowsCause, lines_for};
+ghost use Rattle.mc_replay.specs.Journals.{HoldsAtSettles, lines_for};
+ghost use Rattle.mc_top.specs.Journals.{IsJournalTo, ShowsCause};
 ghost use Rattle.mc_top.specs.Outcomes.{CameOf};
 ghost use Rattle.mc_top.specs.Printed.{box_word, script_text, stop_word, with_journal};
 ghost use Rattle.mc_top.specs.Scripts.{first_state};

@@ -26,3 +26,6 @@ pub const RESTLESS: u8 = 6;
 
 /// A script stopped at a ring of links.
 pub const RING: u8 = 7;
+
+/// The journal that is checked has a fault.
+pub const JOURNAL_FAULT: u8 = 8;

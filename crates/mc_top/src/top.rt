@@ -7,18 +7,27 @@ ghost use Rattle.mc_net.specs.Nets.{DeclaresNet, NamesAll, batch_turns};
 ghost use Rattle.mc_lines.specs.Rules.{read_limit};
 ghost use Rattle.mc_net.specs.Texts.{IsFault};
 ghost use Rattle.mc_lines.specs.declared.limit.TheConstants.{COMMAND_LIMIT};
-ghost use Rattle.mc_top.specs.Modes.{AsksToRead, IsCommand, IsWorkable, draws_from, reads, text_for};
+ghost use Rattle.mc_lines.specs.declared.tail.Tail.TheVariants.{Journal, Nothing};
+ghost use Rattle.mc_net.specs.declared.net.Net.{Net};
+ghost use Rattle.mc_top.specs.Behind.{HasJournalFault};
+ghost use Rattle.mc_top.specs.Modes.{AsksToRead, IsCommand, IsWorkable, draws_from, reads, tail_of, text_for};
 ghost use Rattle.mc_top.specs.Statuses.{IsDue, IsDueForMode, IsDueForText, due_by, judges_text, keeps_journal};
 ghost use Rattle.mc_top.specs.Top.{Delivers, EndsAs, HasReadWhole, IsTextOf, PrintsUsage, ReadsFor};
 ghost use Rattle.mc_top.specs.declared.words.Mode.{Mode};
+ghost use Rattle.mc_top.specs.declared.words.Mode.TheVariants.{Check};
 
-use crate::print::print_fault;
+use crate::behind::journal_behind;
+use crate::checking::check_script;
+use crate::print::{print_fault, print_journal_fault};
 use crate::run::{Run, run_script, with_journal};
-use crate::status::{FAULTY_TEXT, NO_MEMORY, READ_FAULT, USAGE, WORKED, WRITE_FAULT};
+use crate::status::{
+    FAULTY_TEXT, JOURNAL_FAULT, NO_MEMORY, READ_FAULT, USAGE, WORKED, WRITE_FAULT,
+};
 use crate::stop::due_by;
 use crate::words::{Mode, read_mode};
 use mc_io::{Gate, ReadFault, Sink, Source, read_up_to, write_whole};
-use mc_net::{Net, NetFault, TEXT_LIMIT, Tail, TextFault, read_net};
+use mc_net::{JOURNAL_TEXT_LIMIT, Net, NetFault, TEXT_LIMIT, TextFault, read_net};
+use mc_replay::CheckFault;
 use mc_script::JournalLine;
 use mc_text::Draws;
 use std::alloc::{AllocError, Global};
@@ -27,7 +36,8 @@ use std::thread::Threads;
 /// How a call of the program ended.
 ///
 /// `status` is one of `mc_top::status`, and `due` the status that would stand had no write failed. The journal
-/// holds what was settled, and the turns up to a stop, where the due status keeps a journal, and else nothing.
+/// holds what was settled or checked, and the turns up to a stop, where the due status keeps a journal, and else
+/// nothing.
 #[derive(Debug, Drop)]
 pub struct Done {
     pub status: u8,
@@ -37,14 +47,16 @@ pub struct Done {
 
 // The text that a mode works on, or its first bytes up to one more than the limit.
 fn text_of<S: Source>(alloc: Global, mode: Mode, source: &mut S) -> Result<Vec<u8>, ReadFault>
-    ensures text { IfOk result (λ text. IsTextOf (text_for mode (S.left source.old)) text.items) }
+    ensures text { IfOk result (λ text. IsTextOf (tail_of mode) (text_for mode (S.left source.old)) text.items) }
     ensures whole { IfOk result (λ text. ReadsFor mode (S.left source.old) (S.left source.new) text.items) }
     ensures unread { IsFalse (reads mode) → source.new ≡ source.old }
-    ensures at_most { ConsumesAtMost (S.left source.old) (S.left source.new) (read_limit Tail.Nothing) }
+    ensures at_most { ConsumesAtMost (S.left source.old) (S.left source.new) (read_limit (tail_of mode)) }
     ensures faults { S.faults source.new ≡ faults_after (S.faults source.old) (is_failed_read result) }
 {
     match mode {
-        Mode::Run { .. } | Mode::One { .. } => read_up_to(alloc, source, TEXT_LIMIT),
+        Mode::Run { .. } => read_up_to(alloc, source, TEXT_LIMIT),
+        Mode::One { .. } => read_up_to(alloc, source, TEXT_LIMIT),
+        Mode::Check => read_up_to(alloc, source, JOURNAL_TEXT_LIMIT),
     }
 }
 
@@ -99,11 +111,11 @@ fn give_up(alloc: Global, status: u8) -> Done
 }
 
 // Writes the line of a text's first fault.
-fn refuse<K: Sink>(alloc: Global, text: &[u8], fault: TextFault, sink: &mut K) -> Done
-    requires { IsFault Tail.Nothing text.now fault.number fault.line }
+fn refuse<K: Sink>(alloc: Global, mode: Mode, text: &[u8], fault: TextFault, sink: &mut K) -> Done
+    requires { IsFault (tail_of mode) text.now fault.number fault.line }
     ensures statuses { (result.due ≡ FAULTY_TEXT) ⊎ (result.due ≡ NO_MEMORY) }
     ensures status { (result.status ≡ result.due) ⊎ (result.status ≡ WRITE_FAULT) }
-    ensures ends { (mode : Mode) → EndsAs mode (Some text.now) (K.written sink.old) (K.written sink.new) result }
+    ensures ends { EndsAs mode (Some text.now) (K.written sink.old) (K.written sink.new) result }
     ensures fault { K.faults sink.new ≡ faults_after (K.faults sink.old) (result.status == WRITE_FAULT) }
 {
     match print_fault(alloc, fault) {
@@ -112,19 +124,17 @@ fn refuse<K: Sink>(alloc: Global, text: &[u8], fault: TextFault, sink: &mut K) -
     }
 }
 
-// The draws that a mode settles by.
-fn draws_of(mode: Mode) -> Draws
-    ensures { result.state ≡ draws_from mode }
-{
-    match mode {
-        Mode::Run { .. } => Draws { state: 0 },
-        Mode::One { state, .. } => Draws { state },
-    }
-}
-
 // Runs the script of a network, and prints its journal where the mode asks for it.
-fn run_net<K: Sink>(alloc: Global, mode: Mode, text: &[u8], net: Net, sink: &mut K) -> Done
-    requires declares { DeclaresNet Tail.Nothing text.now net }
+fn run_net<K: Sink>(
+    alloc: Global,
+    mode: Mode,
+    draws: Draws,
+    text: &[u8],
+    net: Net,
+    sink: &mut K,
+) -> Done
+    requires draws { draws_from mode ≡ Some draws.state }
+    requires declares { DeclaresNet Nothing text.now net }
     requires named { NamesAll net.names net.world }
     requires allowed { AreAllAllowed net.world (map batch_turns net.batches.items) }
     requires few { length net.batches.items ≤ COMMAND_LIMIT }
@@ -140,13 +150,72 @@ fn run_net<K: Sink>(alloc: Global, mode: Mode, text: &[u8], net: Net, sink: &mut
         ..
     } = net;
     world.keeps();
-    let draws = draws_of(mode);
     let Ok(run) = run_script(alloc, &names, world, draws, &batches) else {
         return give_up(alloc, NO_MEMORY);
     };
     match with_journal(alloc, mode.prints_journal(), &names, run) {
         Ok(run) => deliver_run(sink, run),
         Err(_) => give_up(alloc, NO_MEMORY),
+    }
+}
+
+// Writes the line of a journal's first fault.
+fn refuse_journal<K: Sink>(alloc: Global, number: u8, turn: u32, sink: &mut K) -> Done
+    ensures statuses { (result.due ≡ JOURNAL_FAULT) ⊎ (result.due ≡ NO_MEMORY) }
+    ensures status { (result.status ≡ result.due) ⊎ (result.status ≡ WRITE_FAULT) }
+    ensures ends { (text : List ℕ) (net : Net) → DeclaresNet Journal text net → HasJournalFault text net number turn
+        → EndsAs Check (Some text) (K.written sink.old) (K.written sink.new) result }
+    ensures fault { K.faults sink.new ≡ faults_after (K.faults sink.old) (result.status == WRITE_FAULT) }
+{
+    match print_journal_fault(alloc, number, turn) {
+        Ok(line) => deliver(sink, JOURNAL_FAULT, &line, Vec::new(alloc)),
+        Err(_) => give_up(alloc, NO_MEMORY),
+    }
+}
+
+// Checks the journal behind a text by the network that the text declares.
+fn check_net<K: Sink>(alloc: Global, text: &[u8], net: Net, sink: &mut K) -> Done
+    requires declares { DeclaresNet Journal text.now net }
+    requires named { NamesAll net.names net.world }
+    requires allowed { AreAllAllowed net.world (map batch_turns net.batches.items) }
+    ensures statuses { IsDueForText result.due }
+    ensures status { (result.status ≡ result.due) ⊎ (result.status ≡ WRITE_FAULT) }
+    ensures ends { EndsAs Check (Some text.now) (K.written sink.old) (K.written sink.new) result }
+    ensures fault { K.faults sink.new ≡ faults_after (K.faults sink.old) (result.status == WRITE_FAULT) }
+{
+    let Net {
+        world,
+        names,
+        shape,
+        batches,
+        rest,
+    } = net;
+    world.keeps();
+    let Ok(journal) = journal_behind(alloc, &names, &shape, text, rest) else {
+        return give_up(alloc, NO_MEMORY);
+    };
+    match check_script(alloc, &names, world, &batches, &journal) {
+        Ok(output) => deliver(sink, WORKED, &output, journal.lines),
+        Err(CheckFault::At { number, turn }) => refuse_journal(alloc, number, turn, sink),
+        Err(CheckFault::NoMemory(_)) => give_up(alloc, NO_MEMORY),
+    }
+}
+
+// Does a mode's work on the network that a text declares.
+fn work_on<K: Sink>(alloc: Global, mode: Mode, text: &[u8], net: Net, sink: &mut K) -> Done
+    requires declares { DeclaresNet (tail_of mode) text.now net }
+    requires named { NamesAll net.names net.world }
+    requires allowed { AreAllAllowed net.world (map batch_turns net.batches.items) }
+    requires few { length net.batches.items ≤ COMMAND_LIMIT }
+    ensures statuses { IsDueForText result.due }
+    ensures status { (result.status ≡ result.due) ⊎ (result.status ≡ WRITE_FAULT) }
+    ensures ends { EndsAs mode (Some text.now) (K.written sink.old) (K.written sink.new) result }
+    ensures fault { K.faults sink.new ≡ faults_after (K.faults sink.old) (result.status == WRITE_FAULT) }
+{
+    match mode {
+        Mode::Run { .. } => run_net(alloc, mode, Draws { state: 0 }, text, net, sink),
+        Mode::One { state, .. } => run_net(alloc, mode, Draws { state }, text, net, sink),
+        Mode::Check => check_net(alloc, text, net, sink),
     }
 }
 
@@ -157,9 +226,9 @@ fn run_text<K: Sink>(alloc: Global, mode: Mode, text: &[u8], sink: &mut K) -> Do
     ensures ends { EndsAs mode (Some text.now) (K.written sink.old) (K.written sink.new) result }
     ensures fault { K.faults sink.new ≡ faults_after (K.faults sink.old) (result.status == WRITE_FAULT) }
 {
-    match read_net(alloc, text, Tail::Nothing) {
-        Ok(net) => run_net(alloc, mode, text, net, sink),
-        Err(NetFault::Line(fault)) => refuse(alloc, text, fault, sink),
+    match read_net(alloc, text, mode.tail()) {
+        Ok(net) => work_on(alloc, mode, text, net, sink),
+        Err(NetFault::Line(fault)) => refuse(alloc, mode, text, fault, sink),
         Err(NetFault::NoMemory(_)) => give_up(alloc, NO_MEMORY),
     }
 }
@@ -171,8 +240,8 @@ fn run_mode<S: Source, K: Sink>(alloc: Global, mode: Mode, source: &mut S, sink:
     ensures ends { EndsAs mode (text_for mode (S.left source.old)) (K.written sink.old) (K.written sink.new) result }
     ensures unread { IsFalse (reads mode) → source.new ≡ source.old }
     ensures read_whole { IsTrue (reads mode) → IsTrue (judges_text result.due)
-        → HasReadWhole (S.left source.old) (S.left source.new) }
-    ensures at_most { ConsumesAtMost (S.left source.old) (S.left source.new) (read_limit Tail.Nothing) }
+        → HasReadWhole (tail_of mode) (S.left source.old) (S.left source.new) }
+    ensures at_most { ConsumesAtMost (S.left source.old) (S.left source.new) (read_limit (tail_of mode)) }
     ensures read_fault { S.faults source.new ≡ faults_after (S.faults source.old) (result.due == READ_FAULT) }
     ensures write_fault { K.faults sink.new ≡ faults_after (K.faults sink.old) (result.status == WRITE_FAULT) }
 {
@@ -185,8 +254,13 @@ fn run_mode<S: Source, K: Sink>(alloc: Global, mode: Mode, source: &mut S, sink:
 
 /// Does what the words ask for with the text that the source has left, and writes what is to be printed.
 ///
-/// The order is: words, reading, the text, its settles, writing. Nothing is written before all output is built.
-/// At most one byte more than the limit of a text is read, and nothing where the words ask for no reading.
+/// The order is: words, reading, the text, its settles or the journal behind it, writing. Nothing is written before
+/// all output is built. At most one byte more than the limit of the mode's text is read, and nothing where the words
+/// ask for no reading.
+///
+/// `check` is due to end with `JOURNAL_FAULT` exactly where the text declares a network and the journal behind it has
+/// a fault, but for want of memory: with `WORKED` the journal is good, a good journal has no fault, and with
+/// `JOURNAL_FAULT` there is one.
 pub fn media_top<R: Threads + Sync, S: Source, K: Sink, G: Gate + Sync>(
     rt: &R,
     alloc: Global,
@@ -209,9 +283,10 @@ pub fn media_top<R: Threads + Sync, S: Source, K: Sink, G: Gate + Sync>(
 
     // Without words that ask to read, nothing is read. With them a text is judged only where it was read whole.
     ensures unread { ¬ AsksToRead words.items → source.new ≡ source.old }
-    ensures read_whole { AsksToRead words.items → IsTrue (judges_text result.due)
-        → HasReadWhole (S.left source.old) (S.left source.new) }
-    ensures at_most { ConsumesAtMost (S.left source.old) (S.left source.new) (read_limit Tail.Nothing) }
+    ensures read_whole { (mode : Mode) → IsCommand words.items mode → IsTrue (reads mode)
+        → IsTrue (judges_text result.due) → HasReadWhole (tail_of mode) (S.left source.old) (S.left source.new) }
+    ensures at_most { (mode : Mode) → IsCommand words.items mode
+        → ConsumesAtMost (S.left source.old) (S.left source.new) (read_limit (tail_of mode)) }
 
     // The causes of faults: a call of the source or the sink failed exactly where this is answered.
     ensures read_fault { S.faults source.new ≡ faults_after (S.faults source.old) (result.due == READ_FAULT) }

@@ -4,8 +4,9 @@ ghost use Rattle.std.specs.List.{after_first, before_first, list_any, position_o
 ghost use Rattle.std.specs.Option.{option_copied};
 ghost use Rattle.mc_top.specs.declared.words.Mode.{Mode};
 ghost use Rattle.mc_top.specs.Modes.{AsksFor, IsCommand, is_dashes, is_journal_flag, plain_among};
-ghost use Rattle.mc_top.specs.Modes.{prints_journal, spelt_draws};
+ghost use Rattle.mc_top.specs.Modes.{prints_journal, spelt_draws, tail_of};
 
+use mc_net::Tail;
 use mc_text::read_number;
 use std::marker::Model;
 
@@ -19,6 +20,8 @@ pub enum Mode {
     Run { journal: bool },
     /// The same, by draws that begin at a state.
     One { state: u32, journal: bool },
+    /// Reads a text with a journal behind its commands, checks the journal, and prints what it settles.
+    Check,
 }
 
 impl Mode {
@@ -29,6 +32,18 @@ impl Mode {
         match self {
             Mode::Run { journal } => journal,
             Mode::One { journal, .. } => journal,
+            Mode::Check => false,
+        }
+    }
+
+    /// What may stand behind the commands of its text.
+    pub fn tail(self) -> Tail
+        ensures { result ≡ tail_of self }
+    {
+        match self {
+            Mode::Run { .. } => Tail::Nothing,
+            Mode::One { .. } => Tail::Nothing,
+            Mode::Check => Tail::Journal,
         }
     }
 }
@@ -146,6 +161,8 @@ fn run_of(word: &String, journal: bool) -> Option<Mode>
 {
     if word.as_bytes() == b"run".as_slice() {
         Some(Mode::Run { journal })
+    } else if word.as_bytes() == b"check".as_slice() && !journal {
+        Some(Mode::Check)
     } else {
         None
     }

@@ -3,12 +3,12 @@ use Rattle.mc_top.proofs.Ending.{ends_refused, ends_gave_up}
 use Rattle.mc_top.proofs.top.refuse.Goals as goal
 
 pub returns-in-Ok-clause-ends : goal.returns-in-Ok-clause-ends
-returns-in-Ok-clause-ends g c = λ mode.
-    ends_refused mode c.args.text.now c.args.fault.number c.args.fault.line (g.K.Sink.written c.args.sink.now) (g.K.Sink.written c.deliver.new.sink)
+returns-in-Ok-clause-ends g c =
+    ends_refused c.args.mode c.args.text.now c.args.fault.number c.args.fault.line (g.K.Sink.written c.args.sink.now) (g.K.Sink.written c.deliver.new.sink)
     c.deliver.result.status c.deliver.result.due c.deliver.result.journal.items c.deref.result.now
     c.requires (c.deref.ensures.value ∙ c.in-Ok.ensures) c.deliver.ensures.due c.deliver.ensures.delivers (rw c.deliver.ensures.journal c.new.ensures.items)
 
 pub returns-in-Err-clause-ends : goal.returns-in-Err-clause-ends
-returns-in-Err-clause-ends g c = λ mode.
-    ends_gave_up mode c.args.text.now (g.K.Sink.written c.args.sink.now) c.give_up.result.status c.give_up.result.due c.give_up.result.journal.items
+returns-in-Err-clause-ends g c =
+    ends_gave_up c.args.mode c.args.text.now (g.K.Sink.written c.args.sink.now) c.give_up.result.status c.give_up.result.due c.give_up.result.journal.items
     c.give_up.ensures.status c.give_up.ensures.due c.give_up.ensures.journal

@@ -15,8 +15,8 @@ returns-in-Ok-with_journal-clause-ends g c =
     let run = c.in-Ok.run' in
     let whole = c.in-Ok-with_journal in
     rw (c.deliver_run.ensures.journal, whole.ensures.journal)
-    (ends_ran run.stop c.args.mode c.args.text.now c.args.net (g.K.Sink.written c.args.sink.now) (g.K.Sink.written c.deliver_run.new.sink)
+    (ends_ran run.stop c.args.mode c.args.draws.state c.args.text.now c.args.net (g.K.Sink.written c.args.sink.now) (g.K.Sink.written c.deliver_run.new.sink)
     c.deliver_run.result.status c.deliver_run.result.due run.journal.items whole.run'.output.items
-    c.requires.declares c.keeps.ensures.sound (rw c.deref.ensures.value at c.in-Ok.ensures.ran) (rw (c.deref.ensures.value, c.draws_of-draws.ensures) at c.in-Ok.ensures.drawn) c.in-Ok.ensures.holds (rw c.deref.ensures.value at c.in-Ok.ensures.shows)
+    c.requires.draws c.requires.declares c.keeps.ensures.sound (rw c.deref.ensures.value at c.in-Ok.ensures.ran) (rw c.deref.ensures.value at c.in-Ok.ensures.drawn) c.in-Ok.ensures.holds (rw c.deref.ensures.value at c.in-Ok.ensures.shows)
     ((rw c.prints_journal.ensures at whole.ensures.output) ∙ ap (λ (text : List ℕ). with_journal (prints_journal c.args.mode) run.stop c.args.net.names run.journal.items text) c.in-Ok.ensures.output)
     (rw whole.ensures.stop at c.deliver_run.ensures.due) (rw (c.deliver_run.ensures.due, whole.ensures.stop) at c.deliver_run.ensures.delivers))

@@ -1,0 +1,11 @@
+use Rattle.std.proofs.Common.{◌<◌, length, arith, subst, sym}
+use Rattle.mc_journal.specs.Readings.{journal_lines}
+use Rattle.mc_script.specs.declared.command.JournalLine.{JournalLine}
+use Rattle.mc_top.specs.Behind.{tail_lines}
+use Rattle.mc_top.proofs.BytesBehind.{lines_within}
+use Rattle.mc_top.proofs.behind.journal_behind.Goals as goal
+
+pub returns-clause-few : goal.returns-clause-few
+returns-clause-few c =
+    rw (c.in_ok-lines.ensures.lines, c.journal_bytes.ensures)
+    (let few = lines_within c.args.names.now c.args.shape.now c.args.text.now c.args.rest in omega (arith, few))

@@ -1,0 +1,63 @@
+// A journal that is checked, and what is printed for it.
+
+ghost use Rattle.std.specs.Prelude.{◌≡◌, ◌-◌, ◌<◌, ◌^◌, false, length, map, All, IfErr, IfOk};
+ghost use Rattle.mc_model.specs.Shapes.{AreAllAllowed};
+ghost use Rattle.mc_net.specs.Nets.{NamesAll, batch_turns};
+ghost use Rattle.mc_replay.specs.Faults.{RefusesJournal};
+ghost use Rattle.mc_replay.specs.Journals.{IsJournal};
+ghost use Rattle.mc_replay.specs.Replays.{views_of};
+ghost use Rattle.mc_table.specs.Shown.{IsNamedView};
+ghost use Rattle.mc_top.specs.Printed.{journal_text};
+ghost use Rattle.mc_top.specs.Shown.{shown_text};
+
+use crate::viewer::PathViewer;
+use mc_replay::{CheckFault, check};
+use mc_script::{Batch, JournalText};
+use mc_table::print_settle;
+use mc_text::Names;
+use mc_view::PathView;
+use mc_world::World;
+use std::alloc::{AllocError, Global};
+
+/// Checks a journal, and prints the paths at each of its marks as a run does.
+pub fn check_script(
+    alloc: Global,
+    names: &Names,
+    world: World,
+    batches: &[Batch],
+    journal: &JournalText,
+) -> Result<Vec<u8>, CheckFault>
+    requires named { NamesAll names.now world }
+    requires allowed { AreAllAllowed world (map batch_turns batches.now) }
+    requires few { length journal.now.lines.items < 2 ^ 32 - 1 }
+    ensures journal { IfOk result (λ output.
+        IsJournal world (map batch_turns batches.now) journal.now.lines.items) }
+    ensures whole { IfOk result (λ output. journal.now.bad ≡ false) }
+    ensures output { IfOk result (λ output.
+        output.items ≡ journal_text names.now 1 world journal.now.lines.items) }
+    ensures refused { IfErr result (RefusesJournal world (map batch_turns batches.now)
+        journal.now.lines.items journal.now.bad) }
+{
+    world.keeps();
+    let checked = check(alloc, &PathViewer, world, batches, journal)?;
+    Ok(print_settles(alloc, names, &checked.views)?)
+}
+
+// The settles for what is shown at each.
+fn print_settles(
+    alloc: Global,
+    names: &Names,
+    shown: &[Vec<PathView>],
+) -> Result<Vec<u8>, AllocError>
+    requires named { All (All (IsNamedView names.now)) (views_of shown.now) }
+    requires few { length shown.now < 2 ^ 32 }
+    ensures { IfOk result (λ text. text.items ≡ shown_text names.now 1 (views_of shown.now)) }
+{
+    let mut output = Vec::new(alloc);
+    for index in 0..shown.len() {
+        let number = (index + 1) as u32;
+        let text = print_settle(alloc, names, number, &shown[index])?;
+        output.extend_from_slice(&text)?;
+    }
+    Ok(output)
+}
