@@ -1,8 +1,8 @@
 -- The bytes of a journal behind a text: where the last line end stands, and how many lines there may be.
-use Rattle.std.proofs.Common.{◌≡◌, ◌+◌, ◌-◌, ◌<◌, ◌≤◌, ◌==◌, ◌++◌, ◌||◌, ℕ, Bool, true, false, not, List, [], ◌∷◌, drop, if◌then◌else◌, length, map, nat_lt, take, refl, ap, sym, ◌∙◌, subst, arith}
+use Rattle.std.proofs.Common.{◌≡◌, ◌+◌, ◌-◌, ◌<◌, ◌≤◌, ◌==◌, ◌||◌, ℕ, Bool, true, false, not, List, [], ◌∷◌, drop, if◌then◌else◌, length, nat_lt, take, refl, ap, sym, ◌∙◌, arith}
 use Rattle.std.proofs.lemmas.List.{length-append, length-drop, length-map, length-take, length-take-le, take-take, take_all}
 use Rattle.std.proofs.lemmas.List.Splits.{length-slice_split}
-use Rattle.std.proofs.lemmas.List.Sums.{count_by-le-length, prefix_len-le-length, suffix_len-take_no, suffix_len-take_yes}
+use Rattle.std.proofs.lemmas.List.Sums.{count_by-le-length, suffix_len-take_no, suffix_len-take_yes}
 use Rattle.std.specs.List.{before_first, before_last, flat_map, position_or_len, slice_index_or, slice_split, suffix_len}
 use Rattle.mc_box.specs.BoxShapes.{BoxShapeState}
 use Rattle.mc_journal.specs.Readings.{has_bad_line, is_bad, journal_lines, line_in, line_reading, readings}

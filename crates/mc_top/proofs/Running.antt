@@ -21,7 +21,7 @@ use Rattle.mc_script.specs.declared.command.Batch.{Batch}
 use Rattle.mc_net.specs.Nets.{NamesAll, batch_turns}
 use Rattle.mc_top.specs.Drawn.{IsDrawnJournal}
 use Rattle.mc_replay.proofs.Holds.{holds_after, journals_hold, replayed_is, segment_holds}
-use Rattle.mc_replay.specs.Journals.{HoldsAtSettles, IsJournal, lines_for, next_world}
+use Rattle.mc_replay.specs.Journals.{HoldsAtSettles, IsJournal, lines_for}
 use Rattle.mc_top.specs.Journals.{IsJournalTo, IsStoppedJournal}
 use Rattle.mc_top.specs.Printed.{journal_text, settle_text}
 use Rattle.mc_top.specs.Scripts.{ScriptState, Settling, first_state}

@@ -1,5 +1,5 @@
 -- What is shown at the marks of a journal has names, and is printed as the settles of the journal.
-use Rattle.std.proofs.Common.{◌≡◌, ◌+◌, ◌<◌, ◌≤◌, ◌++◌, ◌∷◌, [], ℕ, List, All, Some, Vec, add-one, append-nil, append_assoc, ap, arith, drop, length, map, refl, slice_index_or, subst, sym, ◌∙◌}
+use Rattle.std.proofs.Common.{◌≡◌, ◌+◌, ◌<◌, ◌≤◌, ◌++◌, ◌∷◌, [], ℕ, List, All, Some, Vec, add-one, append-nil, append_assoc, ap, arith, drop, length, map, slice_index_or, subst, sym, ◌∙◌}
 use Rattle.std.proofs.Math.Seq.{drop-cons}
 use Rattle.std.proofs.lemmas.List.{drop_all, get_or-map, length-map}
 use Rattle.std.specs.declared.alloc.Global.{Global}
@@ -15,7 +15,7 @@ use Rattle.mc_net.specs.Nets.{NamesAll}
 use Rattle.mc_path_laws.proofs.Quiet.{quiet_paths}
 use Rattle.mc_path_laws.proofs.SettledHold.{settled_paths_hold}
 use Rattle.mc_replay.proofs.Holds.{replayed_is}
-use Rattle.mc_replay.specs.Journals.{AreShown, IsJournal, lines_for, next_world}
+use Rattle.mc_replay.specs.Journals.{AreShown, IsJournal, next_world}
 use Rattle.mc_replay.specs.Replays.{views_of}
 use Rattle.mc_script.specs.declared.command.JournalLine.{JournalLine}
 use Rattle.mc_script.specs.declared.command.JournalLine.TheVariants.{Turn as Made, Settled}

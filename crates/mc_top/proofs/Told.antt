@@ -1,5 +1,5 @@
 -- What was read of what a source has left.
-use Rattle.std.proofs.Common.{◌≡◌, ◌⊎◌, ◌==◌, inl, inr, ℕ, List, ◌≤◌, Bool, true, false, None, Some, IfSome, map, arith, subst, sym, ap, ◌∙◌}
+use Rattle.std.proofs.Common.{◌≡◌, ◌⊎◌, ◌==◌, inl, inr, ℕ, List, ◌≤◌, Bool, true, None, Some, IfSome, map, arith, subst, sym, ap, ◌∙◌}
 use Rattle.std.specs.declared.option.Option.{Option}
 use Rattle.mc_io.specs.Faults.{Rose, faults_after, next_count}
 use Rattle.mc_script.specs.declared.command.JournalLine.{JournalLine}

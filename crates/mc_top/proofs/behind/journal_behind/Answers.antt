@@ -1,7 +1,4 @@
-use Rattle.std.proofs.Common.{◌<◌, length, arith, subst, sym}
-use Rattle.mc_journal.specs.Readings.{journal_lines}
-use Rattle.mc_script.specs.declared.command.JournalLine.{JournalLine}
-use Rattle.mc_top.specs.Behind.{tail_lines}
+use Rattle.std.proofs.Common.{arith}
 use Rattle.mc_top.proofs.BytesBehind.{lines_within}
 use Rattle.mc_top.proofs.behind.journal_behind.Goals as goal
 

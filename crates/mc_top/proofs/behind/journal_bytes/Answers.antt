@@ -1,4 +1,4 @@
-use Rattle.std.proofs.Common.{length, take, sym}
+use Rattle.std.proofs.Common.{sym}
 use Rattle.std.proofs.Common.{arith}
 use Rattle.std.proofs.lemmas.List.{length-take-le}
 use Rattle.std.proofs.lemmas.Grind.{common_steps}

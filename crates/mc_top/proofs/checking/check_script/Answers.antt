@@ -1,4 +1,4 @@
-use Rattle.std.proofs.Common.{◌<◌, ◌≡◌, List, length, map, arith, subst, sym, ap, ◌∙◌}
+use Rattle.std.proofs.Common.{map, arith}
 use Rattle.std.proofs.lemmas.List.{length-map}
 use Rattle.mc_net.specs.Nets.{batch_turns}
 use Rattle.mc_replay.specs.Replays.{views_of}

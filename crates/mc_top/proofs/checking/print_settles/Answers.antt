@@ -1,4 +1,4 @@
-use Rattle.std.proofs.Common.{arith, subst, sym}
+use Rattle.std.proofs.Common.{arith}
 use Rattle.mc_top.proofs.ShownSettles.{views_at}
 use Rattle.mc_top.proofs.checking.print_settles.Goals as goal
 
