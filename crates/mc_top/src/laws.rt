@@ -20,8 +20,8 @@ pub fn text_alone_decides()
     ensures { TextAloneDecides }
 {}
 
-/// So two calls that did their work on one text have the same to print, in whichever modes and under the same premises,
-/// where neither prints its journal.
+/// So two calls that did their work on one text have the same to print, in whichever modes that read it in the same way
+/// and under the same premises, where neither prints its journal.
 pub fn calls_print_same()
     ensures { CallsPrintSame }
 {}

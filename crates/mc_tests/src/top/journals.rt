@@ -414,6 +414,12 @@ fn a_journal_past_the_limit_has_a_bad_line(rt: HostRuntime) -> Result<(), Fail> 
     Ok(())
 }
 
+// What stands behind the first bytes, so many of them.
+fn behind<'a, R: Abort>(rt: &R, bytes: &'a [u8], count: usize) -> &'a [u8] {
+    assert!(rt; count <= bytes.len());
+    &bytes[count..]
+}
+
 // The output of a run with its journal is what `check` accepts behind the run's text.
 #[test]
 fn what_was_printed_is_accepted(rt: HostRuntime) -> Result<(), Fail> {
@@ -424,7 +430,7 @@ fn what_was_printed_is_accepted(rt: HostRuntime) -> Result<(), Fail> {
         let words = ["one", draws, "--journal"];
         let (_, written) = call(&rt, alloc, &words, &mut source, ROOM, Vec::new(alloc))?;
         let mut checked = Vec::from_slice(alloc, FEATURE.as_bytes())?;
-        checked.extend_from_slice(&written[FEATURE_PRINTED.len()..])?;
+        checked.extend_from_slice(behind(&rt, &written, FEATURE_PRINTED.len()))?;
         let mut source = MemSource::new(checked, 4096, Vec::new(alloc));
         let (done, written) = call(&rt, alloc, &["check"], &mut source, ROOM, Vec::new(alloc))?;
         is_equal_at(&rt, &done.status, &0, draws);
