@@ -1,0 +1,5 @@
+pub mod Numbered
+pub mod Drawing
+pub mod Outcomes
+pub mod Devices
+pub mod Channels

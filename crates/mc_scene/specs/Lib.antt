@@ -1,0 +1,5 @@
+pub mod Lines
+pub mod Scenes
+pub mod Chains
+pub mod Groups
+pub mod Generated

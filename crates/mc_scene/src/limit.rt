@@ -1,0 +1,7 @@
+//! The limits of generated texts, which clauses cite.
+
+/// The greatest number by which chains are drawn.
+pub const NUMBER_LIMIT: u32 = 2_147_483_647;
+
+/// The most chains of a text.
+pub const SIZE_LIMIT: u32 = 50;
