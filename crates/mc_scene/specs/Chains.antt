@@ -28,8 +28,8 @@ run_codecs run = map (λ place. (run.first + place) % 8) (range_with_len 0 run.c
 abbrev pub drawn_codec_run : ℕ → CodecRun
 drawn_codec_run state = record { count = 1 + draw_at 0 state % 4; first = draw_at 1 state % 8 }
 
-abbrev pub first_goal : ℕ → FirstGoal
-first_goal drawn = if drawn == 0 then Open else (if drawn == 1 then Hold else Close)
+abbrev pub drawn_goal : ℕ → FirstGoal
+drawn_goal drawn = if drawn == 0 then Open else (if drawn == 1 then Hold else Close)
 
 -- the chain that six draws make: how many features, the codecs of the left and of the right device, and the goal
 abbrev pub drawn_chain : ℕ → ℕ → Chain
@@ -38,7 +38,7 @@ drawn_chain number state = record {
   features = draw_at 0 state % 4;
   left = drawn_codec_run (state_after_draws 1 state);
   right = drawn_codec_run (state_after_draws 3 state);
-  goal = first_goal (draw_at 5 state % 3);
+  goal = drawn_goal (draw_at 5 state % 3);
 }
 
 -- ---- all chains

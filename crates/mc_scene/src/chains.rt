@@ -2,7 +2,7 @@
 
 ghost use Rattle.std.specs.Prelude.{◌≡◌, ◌<◌, ◌+◌, ◌%◌, IfOk};
 ghost use Rattle.mc_scene.specs.Chains.{draw_at, state_after_draws};
-ghost use Rattle.mc_scene.specs.Chains.{drawn_chain, drawn_chains, drawn_codec_run, first_goal};
+ghost use Rattle.mc_scene.specs.Chains.{drawn_chain, drawn_chains, drawn_codec_run, drawn_goal};
 
 use mc_text::Draws;
 use std::alloc::{AllocError, Global};
@@ -63,7 +63,7 @@ fn draw_chain(number: u32, draws: &mut Draws) -> Chain
     let features = draw_below(4, draws);
     let left = draw_run(draws);
     let right = draw_run(draws);
-    let goal = first_goal(draw_below(3, draws));
+    let goal = drawn_goal(draw_below(3, draws));
     Chain {
         number,
         features,
@@ -93,8 +93,8 @@ fn draw_below(count: u32, draws: &mut Draws) -> u32
     draws.draw() % count
 }
 
-fn first_goal(drawn: u32) -> FirstGoal
-    ensures { result ≡ first_goal drawn }
+fn drawn_goal(drawn: u32) -> FirstGoal
+    ensures { result ≡ drawn_goal drawn }
 {
     if drawn == 0 {
         FirstGoal::Open
