@@ -1,6 +1,6 @@
 //! The limits of generated texts, which clauses cite.
 
-/// The greatest number by which chains are drawn.
+/// The greatest number at which draws may be told to begin.
 pub const NUMBER_LIMIT: u32 = 2_147_483_647;
 
 /// The most chains of a text.
