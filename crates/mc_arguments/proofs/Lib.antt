@@ -1,0 +1,5 @@
+pub mod Rows
+pub mod Given
+pub mod OneWord
+pub mod Walks
+pub mod Parsed

@@ -1,0 +1,103 @@
+-- The words ask for one mode.
+use Rattle.std.proofs.Common.{◌≡◌, ◌≤◌, ℕ, Bool, List, [], ◌∷◌, Some, codes, map, refl, ap, ap₂, sym, ◌∙◌}
+use Rattle.std.specs.Prelude.{string_bytes}
+use Rattle.mc_text.specs.Spelling.{number_of}
+use Rattle.mc_words.specs.Commands.{AsksFor, Spells, SpellsWithin, WordsAskForOneMode, plain_words, prints_journal, scene_word}
+use Rattle.mc_words.specs.declared.words.Mode.{Mode}
+use Rattle.mc_words.specs.declared.words.Mode.TheVariants as mode
+use Rattle.mc_scene.specs.declared.limit.TheConstants.{NUMBER_LIMIT, SIZE_LIMIT}
+use Rattle.mc_scene.specs.declared.scenes.Scene.{Scene}
+use Rattle.mc_scene.specs.declared.scenes.Scene.TheVariants.{Pbx, Prepaid}
+
+same_number : (limit : ℕ) (word other : List ℕ) (number more : ℕ) → word ≡ other → SpellsWithin limit word number → SpellsWithin limit other more → number ≡ more
+same_number limit word other number more is one two = let both : Some number ≡ Some more = sym one.0 ∙ (ap number_of is ∙ two.0) in cc
+
+same_scene : (scene other : Scene) → scene_word scene ≡ scene_word other → scene ≡ other
+same_scene Pbx Pbx e = refl
+same_scene Pbx Prepaid e = let clash : codes "pbx" ≡ codes "prepaid" = e in cc
+same_scene Prepaid Pbx e = let clash : codes "prepaid" ≡ codes "pbx" = e in cc
+same_scene Prepaid Prepaid e = refl
+
+-- the first word of a mode
+abbrev mode_word : Mode → List ℕ
+mode_word (mode.Run journal) = codes "run"
+mode_word (mode.One state journal) = codes "one"
+mode_word mode.Check = codes "check"
+mode_word (mode.Gen number size) = codes "gen"
+mode_word (mode.Scene scene) = codes "scene"
+
+-- and the words behind it
+begins : (m : Mode) (words : List (List ℕ)) → Spells m words → (rest : List (List ℕ)) × (words ≡ mode_word m ∷ rest)
+begins (mode.Run journal) words is = ([], is)
+begins (mode.One state journal) words (word, is, spelt) = (word ∷ [], is)
+begins mode.Check words is = ([], is)
+begins (mode.Gen number size) words (word, size_word, is, spelt, sized, some) = (word ∷ size_word ∷ [], is)
+begins (mode.Scene scene) words is = (scene_word scene ∷ [], is)
+
+same_word : (m other : Mode) (words : List (List ℕ)) → Spells m words → Spells other words → mode_word m ≡ mode_word other
+same_word m other words one two =
+    let both : mode_word m ∷ (begins m words one).0 ≡ mode_word other ∷ (begins other words two).0 = sym (begins m words one).1 ∙ (begins other words two).1 in
+    cc
+
+-- plain words spell one mode, with the journal or without it
+spells_one : (m other : Mode) (words : List (List ℕ)) → mode_word m ≡ mode_word other → Spells m words → Spells other words → prints_journal m ≡ prints_journal other → m ≡ other
+spells_one (mode.Run asked) (mode.Run flag) words first one two same = ap mode.Run same
+spells_one (mode.One state asked) (mode.One more flag) words first (word, one, spelt) (next, two, spelt_next) same =
+    let both : codes "one" ∷ word ∷ [] ≡ codes "one" ∷ next ∷ [] = sym one ∙ two in
+    let alike : word ≡ next = cc (both) in
+    ap₂ mode.One (same_number _ word next state more alike spelt spelt_next) same
+spells_one mode.Check mode.Check words first one two same = refl
+spells_one (mode.Gen number size) (mode.Gen next more) words first (word, size_word, one, spelt, sized, some) (other, other_size, two, spelt_next, sized_next, some_next) same =
+    let both : codes "gen" ∷ word ∷ size_word ∷ [] ≡ codes "gen" ∷ other ∷ other_size ∷ [] = sym one ∙ two in
+    let alike : word ≡ other = cc (both) in
+    let sizes_alike : size_word ≡ other_size = cc (both) in
+    ap₂ mode.Gen (same_number _ word other number next alike spelt spelt_next) (same_number _ size_word other_size size more sizes_alike sized sized_next)
+spells_one (mode.Scene scene) (mode.Scene other) words first one two same =
+    let both : codes "scene" ∷ scene_word scene ∷ [] ≡ codes "scene" ∷ scene_word other ∷ [] = sym one ∙ two in
+    let alike : scene_word scene ≡ scene_word other = cc (both) in
+    ap mode.Scene (same_scene scene other alike)
+spells_one (mode.Run asked) (mode.One more flag) words first one two same = let clash : codes "run" ≡ codes "one" = first in cc
+spells_one (mode.Run asked) mode.Check words first one two same = let clash : codes "run" ≡ codes "check" = first in cc
+spells_one (mode.Run asked) (mode.Gen next more) words first one two same = let clash : codes "run" ≡ codes "gen" = first in cc
+spells_one (mode.Run asked) (mode.Scene other) words first one two same = let clash : codes "run" ≡ codes "scene" = first in cc
+spells_one (mode.One state asked) (mode.Run flag) words first one two same = let clash : codes "one" ≡ codes "run" = first in cc
+spells_one (mode.One state asked) mode.Check words first one two same = let clash : codes "one" ≡ codes "check" = first in cc
+spells_one (mode.One state asked) (mode.Gen next more) words first one two same = let clash : codes "one" ≡ codes "gen" = first in cc
+spells_one (mode.One state asked) (mode.Scene other) words first one two same = let clash : codes "one" ≡ codes "scene" = first in cc
+spells_one mode.Check (mode.Run flag) words first one two same = let clash : codes "check" ≡ codes "run" = first in cc
+spells_one mode.Check (mode.One more flag) words first one two same = let clash : codes "check" ≡ codes "one" = first in cc
+spells_one mode.Check (mode.Gen next more) words first one two same = let clash : codes "check" ≡ codes "gen" = first in cc
+spells_one mode.Check (mode.Scene other) words first one two same = let clash : codes "check" ≡ codes "scene" = first in cc
+spells_one (mode.Gen number size) (mode.Run flag) words first one two same = let clash : codes "gen" ≡ codes "run" = first in cc
+spells_one (mode.Gen number size) (mode.One more flag) words first one two same = let clash : codes "gen" ≡ codes "one" = first in cc
+spells_one (mode.Gen number size) mode.Check words first one two same = let clash : codes "gen" ≡ codes "check" = first in cc
+spells_one (mode.Gen number size) (mode.Scene other) words first one two same = let clash : codes "gen" ≡ codes "scene" = first in cc
+spells_one (mode.Scene scene) (mode.Run flag) words first one two same = let clash : codes "scene" ≡ codes "run" = first in cc
+spells_one (mode.Scene scene) (mode.One more flag) words first one two same = let clash : codes "scene" ≡ codes "one" = first in cc
+spells_one (mode.Scene scene) mode.Check words first one two same = let clash : codes "scene" ≡ codes "check" = first in cc
+spells_one (mode.Scene scene) (mode.Gen next more) words first one two same = let clash : codes "scene" ≡ codes "gen" = first in cc
+
+pub asks_for_one : WordsAskForOneMode
+asks_for_one words m other one two = spells_one m other (plain_words (map string_bytes words)) (same_word m other _ one.0 two.0) one.0 two.0 (one.1 ∙ sym two.1)
+
+-- where no number is spelt, nothing is generated
+pub no_number : (first second third : List ℕ) (journal : Bool) → first ≡ codes "gen" → ((number : ℕ) → SpellsWithin NUMBER_LIMIT second number → ⊥) → (m : Mode) → AsksFor m journal (first ∷ second ∷ third ∷ []) → ⊥
+no_number first second third journal is none (mode.Run asked) asks = let clash : first ∷ second ∷ third ∷ [] ≡ codes "run" ∷ [] = asks.0 in cc
+no_number first second third journal is none (mode.One state asked) ((word, one, spelt), same) = let clash : first ∷ second ∷ third ∷ [] ≡ codes "one" ∷ word ∷ [] = one in cc
+no_number first second third journal is none mode.Check asks = let clash : first ∷ second ∷ third ∷ [] ≡ codes "check" ∷ [] = asks.0 in cc
+no_number first second third journal is none (mode.Gen number size) ((word, size_word, one, spelt, sized, some), same) =
+    let both : first ∷ second ∷ third ∷ [] ≡ codes "gen" ∷ word ∷ size_word ∷ [] = one in
+    let alike : second ≡ word = cc (both) in
+    none number (ap number_of alike ∙ spelt.0, spelt.1)
+no_number first second third journal is none (mode.Scene scene) asks = let clash : first ∷ second ∷ third ∷ [] ≡ codes "scene" ∷ scene_word scene ∷ [] = asks.0 in cc
+
+-- and neither where no size is
+pub no_size : (first second third : List ℕ) (journal : Bool) → first ≡ codes "gen" → ((size : ℕ) → SpellsWithin SIZE_LIMIT third size → 1 ≤ size → ⊥) → (m : Mode) → AsksFor m journal (first ∷ second ∷ third ∷ []) → ⊥
+no_size first second third journal is none (mode.Run asked) asks = let clash : first ∷ second ∷ third ∷ [] ≡ codes "run" ∷ [] = asks.0 in cc
+no_size first second third journal is none (mode.One state asked) ((word, one, spelt), same) = let clash : first ∷ second ∷ third ∷ [] ≡ codes "one" ∷ word ∷ [] = one in cc
+no_size first second third journal is none mode.Check asks = let clash : first ∷ second ∷ third ∷ [] ≡ codes "check" ∷ [] = asks.0 in cc
+no_size first second third journal is none (mode.Gen number size) ((word, size_word, one, spelt, sized, some), same) =
+    let both : first ∷ second ∷ third ∷ [] ≡ codes "gen" ∷ word ∷ size_word ∷ [] = one in
+    let alike : third ≡ size_word = cc (both) in
+    none size (ap number_of alike ∙ sized.0, sized.1) some
+no_size first second third journal is none (mode.Scene scene) asks = let clash : first ∷ second ∷ third ∷ [] ≡ codes "scene" ∷ scene_word scene ∷ [] = asks.0 in cc

@@ -1,0 +1,52 @@
+-- What the words of the command line ask for.
+use Rattle.std.specs.Prelude.{◌≡◌, ◌≤◌, ℕ, Bool, false, List, [], ◌∷◌, Some, codes, map, string_bytes, String}
+use Rattle.std.specs.declared.alloc.Global.{Global}
+pub use Rattle.mc_arguments.specs.Arguments.{HasNoOtherFlag, begins_with_dash, has_journal_flag, is_dashes, is_journal_flag, is_other_flag, plain_words}
+use Rattle.mc_text.specs.Spelling.{number_of}
+use Rattle.mc_scene.specs.declared.limit.TheConstants.{NUMBER_LIMIT, SIZE_LIMIT}
+use Rattle.mc_scene.specs.declared.scenes.Scene.{Scene}
+use Rattle.mc_scene.specs.declared.scenes.Scene.TheVariants.{Pbx, Prepaid}
+use Rattle.mc_words.specs.declared.words.Mode.{Mode}
+use Rattle.mc_words.specs.declared.words.Mode.TheVariants as mode
+
+-- a word spells a number within a limit
+abbrev pub SpellsWithin : (limit : ℕ) → List ℕ → ℕ → Type 0
+SpellsWithin limit word number = (number_of word ≡ Some number) × (number ≤ limit)
+
+-- the word for a scene
+abbrev pub scene_word : Scene → List ℕ
+scene_word Pbx = codes "pbx"
+scene_word Prepaid = codes "prepaid"
+
+-- plain words ask for a mode
+abbrev pub Spells : Mode → List (List ℕ) → Type 0
+Spells (mode.Run journal) words = words ≡ codes "run" ∷ []
+Spells (mode.One state journal) words = (word : List ℕ) × (words ≡ codes "one" ∷ word ∷ []) × SpellsWithin NUMBER_LIMIT word state
+Spells mode.Check words = words ≡ codes "check" ∷ []
+Spells (mode.Gen number size) words = (word : List ℕ) × (size_word : List ℕ) × (words ≡ codes "gen" ∷ word ∷ size_word ∷ [])
+    × SpellsWithin NUMBER_LIMIT word number × SpellsWithin SIZE_LIMIT size_word size × (1 ≤ size)
+Spells (mode.Scene scene) words = words ≡ codes "scene" ∷ scene_word scene ∷ []
+
+-- a mode prints the journal, too
+abbrev pub prints_journal : Mode → Bool
+prints_journal (mode.Run journal) = journal
+prints_journal (mode.One state journal) = journal
+prints_journal mode.Check = false
+prints_journal (mode.Gen number size) = false
+prints_journal (mode.Scene scene) = false
+
+-- plain words, with the flag or without it, ask for a mode
+abbrev pub AsksFor : Mode → (journal : Bool) → List (List ℕ) → Type 0
+AsksFor mode journal words = Spells mode words × (prints_journal mode ≡ journal)
+
+-- plain words ask for a mode, with the flag where it prints the journal, and no other flag stands among them
+abbrev pub Asks : List (List ℕ) → Mode → Type 0
+Asks words mode = Spells mode (plain_words words) × (prints_journal mode ≡ has_journal_flag words) × HasNoOtherFlag words
+
+-- the words of the command line ask for a mode
+abbrev pub IsCommand : List (String Global) → Mode → Type 0
+IsCommand words mode = Asks (map string_bytes words) mode
+
+-- no list of words asks for two modes
+abbrev pub WordsAskForOneMode : Type 0
+WordsAskForOneMode = (words : List (String Global)) (mode other : Mode) → IsCommand words mode → IsCommand words other → mode ≡ other
