@@ -1,9 +1,11 @@
-//! The printed lines of settles: each path that is shown, and who hears what on it.
+//! The printed lines of settles: each path that is shown, and who hears what on it; or counts of them in one line.
 #![tactic(auto)]
 
 mod line;
 mod settle;
+mod summary;
 mod words;
 
 pub use line::put_line;
 pub use settle::print_settle;
+pub use summary::print_summary;
