@@ -15,3 +15,5 @@ mod table;
 mod tails;
 #[cfg(test)]
 mod text;
+#[cfg(test)]
+mod told;
