@@ -8,6 +8,7 @@ mod media;
 mod networks;
 mod programs;
 mod refusals;
+mod scenes;
 
 use mc_io::{MemSink, MemSource, OpenGate};
 use mc_top::{Done, media_top};

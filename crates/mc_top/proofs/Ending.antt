@@ -1,11 +1,11 @@
 -- How a run ends.
-use Rattle.std.proofs.Common.{◌≡◌, ◌⊎◌, ◌∙◌, IfSome, ℕ, Bool, true, false, List, [], map, inl, inr, refl, sym, subst, arith, None, Some}
+use Rattle.std.proofs.Common.{◌≡◌, ◌⊎◌, ◌∙◌, IfSome, ℕ, Bool, true, false, List, [], map, inl, inr, refl, ap, sym, subst, arith, None, Some}
 use Rattle.std.specs.declared.option.Option.{Option}
 use Rattle.std.specs.Io.KnownBytes.{Keeps}
 use Rattle.mc_replay.specs.Journals.{HoldsAtSettles, IsJournal}
 use Rattle.mc_top.specs.Journals.{IsJournalTo, IsStoppedJournal, ShowsCause}
 use Rattle.mc_top.specs.Drawn.{IsDrawnJournal}
-use Rattle.mc_top.specs.Modes.{draws_from, output_of, prints_journal, tail_of}
+use Rattle.mc_top.specs.Modes.{draws_from, output_of, report_of, tail_of}
 use Rattle.mc_model.specs.Sound.{IsSound}
 use Rattle.mc_model.specs.Worlds.{WorldState}
 use Rattle.mc_text.specs.NameLists.{NameLists}
@@ -16,34 +16,40 @@ use Rattle.mc_lines.specs.declared.tail.Tail.TheVariants.{Nothing, Journal}
 use Rattle.mc_net.specs.declared.net.Net.{Net}
 use Rattle.mc_replay.proofs.Holds.{journals_hold}
 use Rattle.mc_top.specs.Behind.{HasJournal, HasJournalFault}
-use Rattle.mc_top.specs.Printed.{fault_line, journal_fault_line, journal_text, run_text, stop_line}
-use Rattle.mc_top.specs.Statuses.{due_by, keeps_journal, stop_status}
+use Rattle.mc_top.specs.Printed.{fault_line, journal_fault_line, journal_text, run_text, script_text, stop_line, with_journal}
+use Rattle.mc_top.specs.Statuses.{IsDueForText, due_by, keeps_journal, stop_status}
 use Rattle.mc_top.specs.Top.{Delivers, Ends, StopsScript, ToldJournal}
 use Rattle.mc_script.specs.declared.command.JournalLine.{JournalLine}
+use Rattle.mc_top.specs.declared.report.Report.{Report}
 use Rattle.mc_top.specs.declared.stop.Stop.{Stop}
 use Rattle.mc_top.specs.declared.stop.Stop.TheVariants.{Restless, Ring, VersionEnd}
-use Rattle.mc_top.specs.declared.words.Mode.{Mode}
-use Rattle.mc_top.specs.declared.words.Mode.TheVariants.{Check, One, Run}
+use Rattle.mc_words.specs.Commands.{prints_journal}
+use Rattle.mc_words.specs.declared.words.Mode.{Mode}
+use Rattle.mc_words.specs.declared.words.Mode.TheVariants.{Check, Gen, One, Run, Scene}
 
 -- what a mode prints is what its run prints
-printed_by : (mode : Mode) (net : Net) (journal : List JournalLine) → run_text (prints_journal mode) net.names net.world None journal ≡ output_of mode net journal
+printed_by : (mode : Mode) (net : Net) (journal : List JournalLine) → run_text (report_of mode) (prints_journal mode) net.names net.world None journal ≡ output_of mode net journal
 printed_by (Run asked) net journal = refl
 printed_by (One state asked) net journal = refl
 printed_by Check net journal = refl
+printed_by (Gen number size) net journal = refl
+printed_by (Scene scene) net journal = refl
 
 -- a mode that draws reads a text behind whose commands nothing stands
 drawn_reads : (mode : Mode) (state : ℕ) → draws_from mode ≡ Some state → tail_of mode ≡ Nothing
 drawn_reads (Run asked) state is = refl
 drawn_reads (One first asked) state is = refl
 drawn_reads Check state is = absurd cc
+drawn_reads (Gen number size) state is = refl
+drawn_reads (Scene scene) state is = refl
 
 declared_by_mode : (mode : Mode) (state : ℕ) (text : List ℕ) (net : Net) → draws_from mode ≡ Some state → DeclaresNet Nothing text net → DeclaresNet (tail_of mode) text net
 declared_by_mode mode state text net draws declared = subst (λ (t : Tail). DeclaresNet t text net) (sym (drawn_reads mode state draws)) declared
 
 -- behind the line of a stop stands no journal
-stopped_by : (asked : Bool) (stop : Stop) (names : NameLists) (world : WorldState) (journal : List JournalLine) → run_text asked names world (Some stop) journal ≡ stop_line names world stop
-stopped_by true stop names world journal = refl
-stopped_by false stop names world journal = refl
+stopped_by : (report : Report) (asked : Bool) (stop : Stop) (names : NameLists) (world : WorldState) (journal : List JournalLine) → run_text report asked names world (Some stop) journal ≡ stop_line names world stop
+stopped_by report true stop names world journal = refl
+stopped_by report false stop names world journal = refl
 
 -- the status of work that was done keeps the journal
 kept_zero : (due : ℕ) → due ≡ 0 → keeps_journal due ≡ false → ⊥
@@ -52,7 +58,7 @@ kept_zero due none some = let here : keeps_journal 0 ≡ false = subst (λ (n : 
 -- the work was done, and what it printed was delivered
 ends_worked : (mode : Mode) (drawn_from : ℕ) (text : List ℕ) (net : Net) (old new : Option (List ℕ)) (status due : ℕ) (journal : List JournalLine) (output : List ℕ)
     → draws_from mode ≡ Some drawn_from → DeclaresNet Nothing text net → IsSound net.world → IsJournal net.world (map batch_turns net.batches.items) journal → IsDrawnJournal None drawn_from net.world (map batch_turns net.batches.items) journal
-    → HoldsAtSettles net.world journal → output ≡ run_text (prints_journal mode) net.names net.world None journal → due ≡ 0 → Delivers status 0 old new output → Ends mode (Some text) old new status due journal
+    → HoldsAtSettles net.world journal → output ≡ run_text (report_of mode) (prints_journal mode) net.names net.world None journal → due ≡ 0 → Delivers status 0 old new output → Ends mode (Some text) old new status due journal
 ends_worked mode drawn_from text net old new status due journal output draws declared sound settled drawn holds is none delivered = record {
   worked = λ zero. record {
     net = net;
@@ -116,16 +122,32 @@ ends_at_stop mode text stop old new status due journal is stops =
       no_journal = λ some. absurd (stop_keeps stop due is some);
     }
 
+-- what a run printed, by what its mode reports and whether it asks for the journal
+pub run_is : (mode : Mode) (report : Report) (asked : Bool) (stop : Option Stop) (names : NameLists) (world : WorldState) (journal : List JournalLine) (text whole : List ℕ)
+    → report ≡ report_of mode → asked ≡ prints_journal mode → text ≡ script_text report names world stop journal → whole ≡ with_journal asked stop names journal text
+    → whole ≡ run_text (report_of mode) (prints_journal mode) names world stop journal
+run_is mode report asked stop names world journal text whole reported flag is printed =
+    printed
+    ∙ (ap (λ (b : Bool). with_journal b stop names journal text) flag
+    ∙ ap (λ (t : List ℕ). with_journal (prints_journal mode) stop names journal t) (is ∙ ap (λ (r : Report). script_text r names world stop journal) reported))
+
+-- the status of a script may be due for a text
+pub due_for_text : (stop : Option Stop) (due : ℕ) → due ≡ due_by stop → IsDueForText due
+due_for_text None due is = inl is
+due_for_text (Some (VersionEnd at)) due is = inr (inl is)
+due_for_text (Some (Restless at)) due is = inr (inr (inr (inl is)))
+due_for_text (Some (Ring at)) due is = inr (inr (inr (inr (inl is))))
+
 -- a script was run to its end, or to a stop
 pub ends_ran : (stop : Option Stop) (mode : Mode) (drawn_from : ℕ) (text : List ℕ) (net : Net) (old new : Option (List ℕ)) (status due : ℕ) (journal : List JournalLine) (output : List ℕ)
     → draws_from mode ≡ Some drawn_from → DeclaresNet Nothing text net → IsSound net.world → IsJournalTo stop net.world (map batch_turns net.batches.items) journal → IsDrawnJournal stop drawn_from net.world (map batch_turns net.batches.items) journal
     → HoldsAtSettles net.world journal → ShowsCause stop net.world (map batch_turns net.batches.items)
-    → output ≡ run_text (prints_journal mode) net.names net.world stop journal → due ≡ due_by stop → Delivers status (due_by stop) old new output → Ends mode (Some text) old new status due journal
+    → output ≡ run_text (report_of mode) (prints_journal mode) net.names net.world stop journal → due ≡ due_by stop → Delivers status (due_by stop) old new output → Ends mode (Some text) old new status due journal
 ends_ran None mode drawn_from text net old new status due journal output draws declared sound ran drawn holds shows is due_is delivered =
     ends_worked mode drawn_from text net old new status due journal output draws declared sound ran drawn holds is due_is delivered
 ends_ran (Some stop) mode drawn_from text net old new status due journal output draws declared sound ran drawn holds shows is due_is delivered =
     ends_at_stop mode text stop old new status due journal due_is
-    (stops_script mode drawn_from text net stop old new status due journal output draws declared sound ran drawn shows (is ∙ stopped_by (prints_journal mode) stop net.names net.world journal) due_is delivered)
+    (stops_script mode drawn_from text net stop old new status due journal output draws declared sound ran drawn shows (is ∙ stopped_by (report_of mode) (prints_journal mode) stop net.names net.world journal) due_is delivered)
 
 keeps_same : (old : Option (List ℕ)) → Keeps old old
 keeps_same None = tt

@@ -23,7 +23,7 @@ use Rattle.mc_top.specs.Drawn.{IsDrawnJournal}
 use Rattle.mc_replay.proofs.Holds.{holds_after, journals_hold, replayed_is, segment_holds}
 use Rattle.mc_replay.specs.Journals.{HoldsAtSettles, IsJournal, lines_for}
 use Rattle.mc_top.specs.Journals.{IsJournalTo, IsStoppedJournal}
-use Rattle.mc_top.specs.Printed.{journal_text, settle_text}
+use Rattle.mc_top.specs.Printed.{at_settles}
 use Rattle.mc_top.specs.Scripts.{ScriptState, Settling, first_state}
 use Rattle.mc_script.specs.declared.command.JournalLine.{JournalLine}
 use Rattle.mc_script.specs.declared.command.JournalLine.TheVariants.{Turn as Made, Settled}
@@ -56,12 +56,12 @@ after_settle names world last batch turns sound all settled = record {
 -- ---- journals
 
 -- the turns of a settle print nothing before its mark
-pub printed_after : (turns : List Turn) (names : NameLists) (number : ℕ) (world last : WorldState) (rest : List JournalLine) → run world turns ≡ Some last
-    → journal_text names number world (map Made turns ++ rest) ≡ journal_text names number last rest
-printed_after [] names number world last rest goes = let same : world ≡ last = cc in ap (λ (w : WorldState). journal_text names number w rest) same
-printed_after (turn ∷ turns) names number world last rest goes =
+pub printed_after : (turns : List Turn) (print : ℕ → WorldState → List ℕ) (number : ℕ) (world last : WorldState) (rest : List JournalLine) → run world turns ≡ Some last
+    → at_settles print number world (map Made turns ++ rest) ≡ at_settles print number last rest
+printed_after [] print number world last rest goes = let same : world ≡ last = cc in ap (λ (w : WorldState). at_settles print number w rest) same
+printed_after (turn ∷ turns) print number world last rest goes =
     let one = then_some (λ (w : WorldState). run w turns) (step world turn) last goes in
-    ap (λ (w : WorldState). journal_text names number w (map Made turns ++ rest)) (replayed_is world one.0 turn one.1) ∙ printed_after turns names number one.0 last rest one.2
+    ap (λ (w : WorldState). at_settles print number w (map Made turns ++ rest)) (replayed_is world one.0 turn one.1) ∙ printed_after turns print number one.0 last rest one.2
 
 -- at each settle of a journal that stops the paths are as the table says, as they are in one that doesn't
 stopped_holds : (stop : Stop) (waiting : List (List Turn)) (world : WorldState) (journal : List JournalLine) → IsSound world → IsStoppedJournal stop world waiting journal → HoldsAtSettles world journal
@@ -106,34 +106,34 @@ drawn_more stop start world last first state end all rest batch turns journal so
     subst (λ (lines : List JournalLine). IsDrawnJournal stop first start all lines) (sym (append_assoc journal (lines_for turns) more))
     (so_far (lines_for turns ++ more) (inr (turns, last, end, more, refl, scheduled, later)))
 
--- and what is printed of it
-pub print_more : (start world last : WorldState) (names : NameLists) (batch turns : List Turn) (number : ℕ) (journal : List JournalLine) (out : List ℕ)
-    → ((more : List JournalLine) → journal_text names 1 start (journal ++ more) ≡ out ++ journal_text names number world more)
+-- and what is printed of it, behind what stands in front
+pub print_more : (start world last : WorldState) (print : ℕ → WorldState → List ℕ) (batch turns : List Turn) (number : ℕ) (journal : List JournalLine) (opening out : List ℕ)
+    → ((more : List JournalLine) → opening ++ at_settles print 1 start (journal ++ more) ≡ out ++ at_settles print number world more)
     → IsSettled world batch turns last
-    → (more : List JournalLine) → journal_text names 1 start ((journal ++ lines_for turns) ++ more) ≡ (out ++ settle_text names number last) ++ journal_text names (number + 1) last more
-print_more start world last names batch turns number journal out so_far settled more =
-    ap (λ (lines : List JournalLine). journal_text names 1 start lines) (append_assoc journal (lines_for turns) more)
+    → (more : List JournalLine) → opening ++ at_settles print 1 start ((journal ++ lines_for turns) ++ more) ≡ (out ++ print number last) ++ at_settles print (number + 1) last more
+print_more start world last print batch turns number journal opening out so_far settled more =
+    ap (λ (lines : List JournalLine). opening ++ at_settles print 1 start lines) (append_assoc journal (lines_for turns) more)
     ∙ (so_far (lines_for turns ++ more)
     ∙ (ap (λ (text : List ℕ). out ++ text)
-    (ap (λ (lines : List JournalLine). journal_text names number world lines) (append_assoc (map Made turns) (Settled ∷ []) more)
-    ∙ printed_after turns names number world last (Settled ∷ more) settled.runs)
-    ∙ sym (append_assoc out (settle_text names number last) (journal_text names (number + 1) last more))))
+    (ap (λ (lines : List JournalLine). at_settles print number world lines) (append_assoc (map Made turns) (Settled ∷ []) more)
+    ∙ printed_after turns print number world last (Settled ∷ more) settled.runs)
+    ∙ sym (append_assoc out (print number last) (at_settles print (number + 1) last more))))
 
 -- ---- what a settle leaves
 
 -- what is kept over all settles so far, so many of them: the shapes are those of the beginning, and whatever journal follows goes on from here
-pub record GoesOn (names : NameLists) (start : WorldState) (first : ℕ) (all rest : List (List Turn)) (count : ℕ) (now : ScriptState) : Type 0 where
+pub record GoesOn (print : ℕ → WorldState → List ℕ) (opening : List ℕ) (start : WorldState) (first : ℕ) (all rest : List (List Turn)) (count : ℕ) (now : ScriptState) : Type 0 where
   pub sound : IsSound now.world
   pub shape : HasShape now.world start
   pub journal : (more : List JournalLine) → IsJournal now.world rest more → IsJournal start all (now.journal ++ more)
   pub stops : (stop : Stop) (more : List JournalLine) → IsStoppedJournal stop now.world rest more → IsStoppedJournal stop start all (now.journal ++ more)
   pub drawn : (stop : Option Stop) (more : List JournalLine) → IsDrawnJournal stop now.draws now.world rest more → IsDrawnJournal stop first start all (now.journal ++ more)
-  pub output : (more : List JournalLine) → journal_text names 1 start (now.journal ++ more) ≡ now.output ++ journal_text names (count + 1) now.world more
+  pub output : (more : List JournalLine) → opening ++ at_settles print 1 start (now.journal ++ more) ≡ now.output ++ at_settles print (count + 1) now.world more
 
 -- a settle that follows
-goes_settled : (names : NameLists) (start : WorldState) (first : ℕ) (all rest : List (List Turn)) (count : ℕ) (batch : List Turn) (now next : ScriptState) → Settling names (count + 1) batch now next
-    → GoesOn names start first all (batch ∷ rest) count now → GoesOn names start first all rest (count + 1) next
-goes_settled names start first all rest count batch now next s on = record {
+goes_settled : (print : ℕ → WorldState → List ℕ) (opening : List ℕ) (start : WorldState) (first : ℕ) (all rest : List (List Turn)) (count : ℕ) (batch : List Turn) (now next : ScriptState) → Settling print (count + 1) batch now next
+    → GoesOn print opening start first all (batch ∷ rest) count now → GoesOn print opening start first all rest (count + 1) next
+goes_settled print opening start first all rest count batch now next s on = record {
   sound = run_keeps_sound now.world next.world s.turns on.sound s.settled.runs;
   shape = shape_both next.world now.world start (run_keeps_shape now.world next.world s.turns on.sound s.settled.runs) on.shape;
   journal = λ more later.
@@ -146,9 +146,9 @@ goes_settled names start first all rest count batch now next s on = record {
       subst (λ (lines : List JournalLine). IsDrawnJournal stop first start all (lines ++ more)) (sym s.journal)
       (drawn_more stop start now.world next.world first now.draws next.draws all rest batch s.turns now.journal (on.drawn stop) s.scheduled more later);
   output = λ more.
-      ap (λ (lines : List JournalLine). journal_text names 1 start (lines ++ more)) s.journal
-      ∙ (print_more start now.world next.world names batch s.turns (count + 1) now.journal now.output on.output s.settled more
-      ∙ ap (λ (text : List ℕ). text ++ journal_text names (count + 1 + 1) next.world more) (sym s.output));
+      ap (λ (lines : List JournalLine). opening ++ at_settles print 1 start (lines ++ more)) s.journal
+      ∙ (print_more start now.world next.world print batch s.turns (count + 1) now.journal opening now.output on.output s.settled more
+      ∙ ap (λ (text : List ℕ). text ++ at_settles print (count + 1 + 1) next.world more) (sym s.output));
 }
 
 -- the next batch, and those behind it
@@ -156,12 +156,12 @@ pub next_left : (i : ℕ) (all : List Batch) (none : Batch) → i < length all �
 next_left i all none within = ap (λ (left : List Batch). map batch_turns left) (drop-cons all i none within ∙ ap (λ (n : ℕ). slice_index_or all i none ∷ drop n all) (sym (add-one i)))
 
 -- by the batch's place
-pub goes_next : (names : NameLists) (start : WorldState) (first : ℕ) (all : List Batch) (i : ℕ) (none : Batch) (now next : ScriptState) → i < length all
-    → Settling names (i + 1) (batch_turns (slice_index_or all i none)) now next → GoesOn names start first (map batch_turns all) (map batch_turns (drop i all)) i now
-    → GoesOn names start first (map batch_turns all) (map batch_turns (drop (i + 1) all)) (i + 1) next
-goes_next names start first all i none now next within s on =
-    goes_settled names start first (map batch_turns all) (map batch_turns (drop (i + 1) all)) i (batch_turns (slice_index_or all i none)) now next s
-    (subst (λ (left : List (List Turn)). GoesOn names start first (map batch_turns all) left i now) (next_left i all none within) on)
+pub goes_next : (print : ℕ → WorldState → List ℕ) (opening : List ℕ) (start : WorldState) (first : ℕ) (all : List Batch) (i : ℕ) (none : Batch) (now next : ScriptState) → i < length all
+    → Settling print (i + 1) (batch_turns (slice_index_or all i none)) now next → GoesOn print opening start first (map batch_turns all) (map batch_turns (drop i all)) i now
+    → GoesOn print opening start first (map batch_turns all) (map batch_turns (drop (i + 1) all)) (i + 1) next
+goes_next print opening start first all i none now next within s on =
+    goes_settled print opening start first (map batch_turns all) (map batch_turns (drop (i + 1) all)) i (batch_turns (slice_index_or all i none)) now next s
+    (subst (λ (left : List (List Turn)). GoesOn print opening start first (map batch_turns all) left i now) (next_left i all none within) on)
 
 -- what holds of all batches holds of the one at a place
 pub batch_at : (P : List Turn → Type 0) (all : List Batch) (i : ℕ) (none : Batch) → i < length all → All P (map batch_turns all) → P (batch_turns (slice_index_or all i none))
@@ -169,14 +169,14 @@ batch_at P all i none within holds =
     subst P (get_or-map batch_turns all i none (batch_turns none) within) (holds i (batch_turns none) (subst (λ (n : ℕ). i < n) (sym (length-map all batch_turns)) within))
 
 -- its commands are allowed now
-pub batch_allowed : (names : NameLists) (start : WorldState) (first : ℕ) (all : List Batch) (i : ℕ) (none : Batch) (rest : List (List Turn)) (now : ScriptState) → i < length all → IsSound start
-    → AreAllAllowed start (map batch_turns all) → GoesOn names start first (map batch_turns all) rest i now → AreAllowed now.world (batch_turns (slice_index_or all i none))
-batch_allowed names start first all i none rest now within sound allowed on =
+pub batch_allowed : (print : ℕ → WorldState → List ℕ) (opening : List ℕ) (start : WorldState) (first : ℕ) (all : List Batch) (i : ℕ) (none : Batch) (rest : List (List Turn)) (now : ScriptState) → i < length all → IsSound start
+    → AreAllAllowed start (map batch_turns all) → GoesOn print opening start first (map batch_turns all) rest i now → AreAllowed now.world (batch_turns (slice_index_or all i none))
+batch_allowed print opening start first all i none rest now within sound allowed on =
     all_kept (batch_turns (slice_index_or all i none)) start now.world sound on.sound on.shape (batch_at (AreAllowed start) all i none within allowed)
 
 -- nothing was run yet
-pub goes_first : (names : NameLists) (start : WorldState) (first : ℕ) (all : List (List Turn)) → IsSound start → GoesOn names start first all all 0 (first_state start first)
-goes_first names start first all sound = record {
+pub goes_first : (print : ℕ → WorldState → List ℕ) (opening : List ℕ) (start : WorldState) (first : ℕ) (all : List (List Turn)) → IsSound start → GoesOn print opening start first all all 0 (first_state start first opening)
+goes_first print opening start first all sound = record {
   sound = sound;
   shape = same_shape start;
   journal = λ more later. later;
@@ -186,21 +186,21 @@ goes_first names start first all sound = record {
 }
 
 -- no batch is left
-pub goes_to_end : (names : NameLists) (start : WorldState) (first : ℕ) (all : List Batch) (i : ℕ) (now last : ScriptState) → length all ≤ i → last ≡ now
-    → GoesOn names start first (map batch_turns all) (map batch_turns (drop i all)) i now → GoesOn names start first (map batch_turns all) [] i last
-goes_to_end names start first all i now last past same on =
-    subst (λ (s : ScriptState). GoesOn names start first (map batch_turns all) [] i s) (sym same)
-    (subst (λ (left : List Batch). GoesOn names start first (map batch_turns all) (map batch_turns left) i now) (drop_all i all past) on)
+pub goes_to_end : (print : ℕ → WorldState → List ℕ) (opening : List ℕ) (start : WorldState) (first : ℕ) (all : List Batch) (i : ℕ) (now last : ScriptState) → length all ≤ i → last ≡ now
+    → GoesOn print opening start first (map batch_turns all) (map batch_turns (drop i all)) i now → GoesOn print opening start first (map batch_turns all) [] i last
+goes_to_end print opening start first all i now last past same on =
+    subst (λ (s : ScriptState). GoesOn print opening start first (map batch_turns all) [] i s) (sym same)
+    (subst (λ (left : List Batch). GoesOn print opening start first (map batch_turns all) (map batch_turns left) i now) (drop_all i all past) on)
 
 -- all was run
-pub all_settled : (names : NameLists) (start : WorldState) (first : ℕ) (all : List (List Turn)) (count : ℕ) (now : ScriptState) → GoesOn names start first all [] count now → IsJournal start all now.journal
-all_settled names start first all count now on = subst (λ (lines : List JournalLine). IsJournal start all lines) (append-nil now.journal) (on.journal [] refl)
+pub all_settled : (print : ℕ → WorldState → List ℕ) (opening : List ℕ) (start : WorldState) (first : ℕ) (all : List (List Turn)) (count : ℕ) (now : ScriptState) → GoesOn print opening start first all [] count now → IsJournal start all now.journal
+all_settled print opening start first all count now on = subst (λ (lines : List JournalLine). IsJournal start all lines) (append-nil now.journal) (on.journal [] refl)
 
 -- by the schedule
-pub all_drawn : (names : NameLists) (start : WorldState) (first : ℕ) (all : List (List Turn)) (count : ℕ) (now : ScriptState) → GoesOn names start first all [] count now → IsDrawnJournal None first start all now.journal
-all_drawn names start first all count now on = subst (λ (lines : List JournalLine). IsDrawnJournal None first start all lines) (append-nil now.journal) (on.drawn None [] (refl, refl))
+pub all_drawn : (print : ℕ → WorldState → List ℕ) (opening : List ℕ) (start : WorldState) (first : ℕ) (all : List (List Turn)) (count : ℕ) (now : ScriptState) → GoesOn print opening start first all [] count now → IsDrawnJournal None first start all now.journal
+all_drawn print opening start first all count now on = subst (λ (lines : List JournalLine). IsDrawnJournal None first start all lines) (append-nil now.journal) (on.drawn None [] (refl, refl))
 
 -- when all settles are done all is printed
-pub all_printed : (names : NameLists) (start : WorldState) (first : ℕ) (all : List (List Turn)) (count : ℕ) (now : ScriptState) → GoesOn names start first all [] count now → now.output ≡ journal_text names 1 start now.journal
-all_printed names start first all count now on =
-    sym (ap (λ (lines : List JournalLine). journal_text names 1 start lines) (sym (append-nil now.journal)) ∙ (on.output [] ∙ append-nil now.output))
+pub all_printed : (print : ℕ → WorldState → List ℕ) (opening : List ℕ) (start : WorldState) (first : ℕ) (all : List (List Turn)) (count : ℕ) (now : ScriptState) → GoesOn print opening start first all [] count now → now.output ≡ opening ++ at_settles print 1 start now.journal
+all_printed print opening start first all count now on =
+    sym (ap (λ (lines : List JournalLine). opening ++ at_settles print 1 start lines) (sym (append-nil now.journal)) ∙ (on.output [] ∙ append-nil now.output))

@@ -1,8 +1,9 @@
 -- Worlds that are seen alike have the same paths, and where goals decide these the same is printed of them.
-use Rattle.std.proofs.Common.{◌≡◌, ◌++◌, ℕ, Bool, true, false, if◌then◌else◌, List, [], ◌∷◌, Option, Some, None, IsSome, codes, refl, ap, sym, ◌∙◌, subst}
+use Rattle.std.proofs.Common.{◌≡◌, ◌++◌, ℕ, Bool, true, false, if◌then◌else◌, List, [], ◌∷◌, Option, Some, None, IsSome, All, codes, refl, ap, sym, ◌∙◌, subst}
 use Rattle.std.specs.Fmt.{decimal}
 use Rattle.std.specs.List.{AllByRecursion, flat_map}
 use Rattle.std.specs.Option.{unwrap_or}
+use Rattle.std.proofs.Math.ListN.{get_or}
 use Rattle.std.proofs.lemmas.List.Elements.{recursion_from_All}
 use Rattle.mc_signal.specs.Choice.{codecs_of, shared_codec}
 use Rattle.mc_signal.specs.Empty.{no_codecs}
@@ -23,7 +24,7 @@ use Rattle.mc_model.specs.Paths.{PathEnds, end_goal, paths}
 use Rattle.mc_model.specs.Settles.{IsSettled, commands_of}
 use Rattle.mc_model.specs.Sound.{IsSound}
 use Rattle.mc_model.specs.Unprogrammed.{HasNoPrograms}
-use Rattle.mc_model.specs.Worlds.{ChannelState, WorldState, box_at, own_descriptor, own_sender, place, slot_of, tunnel_of}
+use Rattle.mc_model.specs.Worlds.{ChannelState, WorldState, box_at, goal_of, own_descriptor, own_sender, place, slot_count, slot_of, tunnel_of}
 use Rattle.mc_settings.proofs.BatchesLeft.{batch_is_left, settled_used}
 use Rattle.mc_settings.proofs.CommandedWorlds.{settings_are, shape_stays}
 use Rattle.mc_settings.proofs.SamePaths.{end_goal_same, goals_stay, media_same, paths_same}
@@ -172,12 +173,12 @@ line_by names world path goal far_goal state = line_of (
     ∷ [])
 
 line_same : (names : NameLists) (world : WorldState) (boxes : List BoxState) (lanes : List (List Tagged)) (path : PathEnds) → GoalsStay (with_boxes world boxes lanes) world
-    → IsDecided (with_boxes world boxes lanes) path → path_line names (with_boxes world boxes lanes) path ≡ path_line names world path
-line_same names world boxes lanes path stay decided =
+    → path_state (with_boxes world boxes lanes) path ≡ path_state world path → path_line names (with_boxes world boxes lanes) path ≡ path_line names world path
+line_same names world boxes lanes path stay same =
     let new : WorldState = with_boxes world boxes lanes in
     ap (λ (goal : Goal). line_by names world path goal (end_goal new path.high) (path_state new path)) (end_goal_same world boxes lanes path.low stay)
     ∙ (ap (λ (goal : Goal). line_by names world path (end_goal world path.low) goal (path_state new path)) (end_goal_same world boxes lanes path.high stay)
-    ∙ ap (line_by names world path (end_goal world path.low) (end_goal world path.high)) (state_same world boxes lanes path stay decided))
+    ∙ ap (line_by names world path (end_goal world path.low) (end_goal world path.high)) same)
 
 hears_same : (state : State) (names : NameLists) (world : WorldState) (boxes : List BoxState) (lanes : List (List Tagged)) (path : PathEnds) → AreSeenAlike (with_boxes world boxes lanes) world
     → hears_lines state names (with_boxes world boxes lanes) path ≡ hears_lines state names world path
@@ -191,33 +192,74 @@ hears_same Flowing names world boxes lanes path seen =
     ∙ ap (λ (codec : Option ℕ). hears_line names world path.low (low_hears world path) ++ hears_line names world path.high codec) (heard_same world boxes lanes path.high path.low seen)
 
 text_same : (names : NameLists) (world : WorldState) (boxes : List BoxState) (lanes : List (List Tagged)) (path : PathEnds) → AreSeenAlike (with_boxes world boxes lanes) world
-    → IsDecided (with_boxes world boxes lanes) path → path_text names (with_boxes world boxes lanes) path ≡ path_text names world path
-text_same names world boxes lanes path seen decided =
+    → path_state (with_boxes world boxes lanes) path ≡ path_state world path → path_text names (with_boxes world boxes lanes) path ≡ path_text names world path
+text_same names world boxes lanes path seen same =
     let new : WorldState = with_boxes world boxes lanes in
     let stay : GoalsStay new world = goals_stay new world (λ who. (seen.boxes who).settings) in
-    ap (λ (line : List ℕ). line ++ hears_lines (path_state new path) names new path) (line_same names world boxes lanes path stay decided)
+    ap (λ (line : List ℕ). line ++ hears_lines (path_state new path) names new path) (line_same names world boxes lanes path stay same)
     ∙ ap (λ (lines : List ℕ). path_line names world path ++ lines)
-    (ap (λ (state : State). hears_lines state names new path) (state_same world boxes lanes path stay decided) ∙ hears_same (path_state world path) names world boxes lanes path seen)
+    (ap (λ (state : State). hears_lines state names new path) same ∙ hears_same (path_state world path) names world boxes lanes path seen)
 
 texts_same : (names : NameLists) (world : WorldState) (boxes : List BoxState) (lanes : List (List Tagged)) (ends : List PathEnds) → AreSeenAlike (with_boxes world boxes lanes) world
-    → AllByRecursion (IsDecided (with_boxes world boxes lanes)) ends → flat_map (path_text names (with_boxes world boxes lanes)) ends ≡ flat_map (path_text names world) ends
+    → AllByRecursion (λ path. path_state (with_boxes world boxes lanes) path ≡ path_state world path) ends
+    → flat_map (path_text names (with_boxes world boxes lanes)) ends ≡ flat_map (path_text names world) ends
 texts_same names world boxes lanes [] seen all = refl
 texts_same names world boxes lanes (path ∷ ends) seen all =
     ap (λ (text : List ℕ). text ++ flat_map (path_text names (with_boxes world boxes lanes)) ends) (text_same names world boxes lanes path seen all.0)
     ∙ ap (λ (text : List ℕ). path_text names world path ++ text) (texts_same names world boxes lanes ends seen all.1)
 
+-- of worlds that are seen alike all paths are in the same states
+abbrev pub AgreeOnPaths : WorldState → WorldState → Type 0
+AgreeOnPaths world other = All (λ path. path_state world path ≡ path_state other path) (paths world)
+
 settle_by : (names : NameLists) (number : ℕ) (world : WorldState) (boxes : List BoxState) (lanes : List (List Tagged)) → AreSeenAlike (with_boxes world boxes lanes) world
-    → AreDecided (with_boxes world boxes lanes) → settle_text names number (with_boxes world boxes lanes) ≡ settle_text names number world
-settle_by names number world boxes lanes seen decided =
+    → AgreeOnPaths (with_boxes world boxes lanes) world → settle_text names number (with_boxes world boxes lanes) ≡ settle_text names number world
+settle_by names number world boxes lanes seen agree =
     let new : WorldState = with_boxes world boxes lanes in
     ap (λ (text : List ℕ). line_of (codes "settle" ∷ decimal number ∷ []) ++ text)
-    (texts_same names world boxes lanes (paths new) seen (recursion_from_All (IsDecided new) (paths new) decided)
+    (texts_same names world boxes lanes (paths new) seen (recursion_from_All (λ (path : PathEnds). path_state new path ≡ path_state world path) (paths new) agree)
     ∙ ap (λ (ends : List PathEnds). flat_map (path_text names world) ends) (paths_same world boxes lanes (goals_stay new world (λ who. (seen.boxes who).settings))))
 
--- what is printed of a settle whose paths their goals decide
+-- the same channels, with the boxes and the lanes of the first
+seen_with : (world other : WorldState) → AreSeenAlike world other → world ≡ with_boxes other world.boxes world.lanes
+seen_with world other seen = ap (λ (c : List ChannelState). record world { channels = c }) seen.channels
+
+-- what is printed of a settle whose paths are in the same states
+pub settle_agrees : (names : NameLists) (number : ℕ) (world other : WorldState) → AreSeenAlike world other → AgreeOnPaths world other
+    → settle_text names number world ≡ settle_text names number other
+settle_agrees names number world other seen agree =
+    let is = seen_with world other seen in
+    ap (λ (w : WorldState). settle_text names number w) is
+    ∙ settle_by names number other world.boxes world.lanes (subst (λ (w : WorldState). AreSeenAlike w other) is seen) (subst (λ (w : WorldState). AgreeOnPaths w other) is agree)
+
+decided_agree : (world : WorldState) (boxes : List BoxState) (lanes : List (List Tagged)) → AreSeenAlike (with_boxes world boxes lanes) world → AreDecided (with_boxes world boxes lanes)
+    → AgreeOnPaths (with_boxes world boxes lanes) world
+decided_agree world boxes lanes seen decided k path below =
+    let new : WorldState = with_boxes world boxes lanes in
+    state_same world boxes lanes (get_or (paths new) k path) (goals_stay new world (λ who. (seen.boxes who).settings)) (decided k path below)
+
+-- and so of one whose paths their goals decide
 pub settle_same : (names : NameLists) (number : ℕ) (world other : WorldState) → AreSeenAlike world other → AreDecided world → settle_text names number world ≡ settle_text names number other
 settle_same names number world other seen decided =
-    let is : world ≡ with_boxes other world.boxes world.lanes = ap (λ (c : List ChannelState). record world { channels = c }) seen.channels in
-    let as_other : AreSeenAlike (with_boxes other world.boxes world.lanes) other = subst (λ (w : WorldState). AreSeenAlike w other) is seen in
-    ap (λ (w : WorldState). settle_text names number w) is
-    ∙ settle_by names number other world.boxes world.lanes as_other (subst (λ (w : WorldState). AreDecided w) is decided)
+    let is = seen_with world other seen in
+    settle_agrees names number world other seen
+    (subst (λ (w : WorldState). AgreeOnPaths w other) (sym is)
+    (decided_agree other world.boxes world.lanes (subst (λ (w : WorldState). AreSeenAlike w other) is seen) (subst (λ (w : WorldState). AreDecided w) is decided)))
+
+-- ---- paths and goals
+
+goals_seen : (world other : WorldState) → AreSeenAlike world other → GoalsStay (with_boxes other world.boxes world.lanes) other
+goals_seen world other seen = goals_stay (with_boxes other world.boxes world.lanes) other (λ who. (seen.boxes who).settings)
+
+-- worlds that are seen alike have the same paths
+pub paths_seen : (world other : WorldState) → AreSeenAlike world other → paths world ≡ paths other
+paths_seen world other seen = ap paths (seen_with world other seen) ∙ paths_same other world.boxes world.lanes (goals_seen world other seen)
+
+-- as many slots
+pub count_seen : (world other : WorldState) → AreSeenAlike world other → slot_count world ≡ slot_count other
+count_seen world other seen = ap slot_count (seen_with world other seen)
+
+-- and the same goals, slot by slot
+pub goal_seen : (world other : WorldState) (s : ℕ) → AreSeenAlike world other → goal_of world s ≡ goal_of other s
+goal_seen world other s seen =
+    ap (λ (w : WorldState). goal_of w s) (seen_with world other seen) ∙ goals_seen world other seen (place other s).0 (place other s).1

@@ -21,8 +21,9 @@ use Rattle.mc_text.specs.NameLists.{NameLists, slot_names, slot_word}
 use Rattle.mc_top.specs.Drawn.{IsDrawnJournal}
 use Rattle.mc_top.specs.Journals.{IsJournalTo, IsStoppedJournal}
 use Rattle.mc_top.specs.Outcomes.{Stopping}
-use Rattle.mc_top.specs.Printed.{box_word, place_word, script_text, stop_line, stop_word}
+use Rattle.mc_top.specs.Printed.{box_word, place_word, report_text, script_text, stop_line, stop_word}
 use Rattle.mc_top.specs.Scripts.{ScriptState}
+use Rattle.mc_top.specs.declared.report.Report.{Report}
 use Rattle.mc_top.specs.declared.run.Run.{Run}
 use Rattle.mc_top.specs.declared.stop.Stop.{Stop}
 use Rattle.mc_top.specs.declared.stop.Stop.TheVariants.{Restless, Ring, VersionEnd}
@@ -136,14 +137,14 @@ stop_line_same names now start (VersionEnd at) shape = slot_line_same names now 
 stop_line_same names now start (Ring at) shape = slot_line_same names now start (stop_word (Ring at)) at shape
 stop_line_same names now start (Restless at) shape = refl
 
-pub record EndsAtStop (names : NameLists) (start : WorldState) (first : ℕ) (all : List (List Turn)) (run : Run) : Type 0 where
+pub record EndsAtStop (report : Report) (names : NameLists) (start : WorldState) (first : ℕ) (all : List (List Turn)) (run : Run) : Type 0 where
   pub ran : IsJournalTo run.stop start all run.journal.items
   pub drawn : IsDrawnJournal run.stop first start all run.journal.items
-  pub output : run.output.items ≡ script_text names start run.stop run.journal.items
+  pub output : run.output.items ≡ script_text report names start run.stop run.journal.items
 
-stops_here : (names : NameLists) (start : WorldState) (first : ℕ) (all rest : List (List Turn)) (count : ℕ) (batch : List Turn) (now : ScriptState) (run : Run) → Stopping names batch now run
-    → GoesOn names start first all (batch ∷ rest) count now → EndsAtStop names start first all run
-stops_here names start first all rest count batch now run s on =
+stops_here : (report : Report) (names : NameLists) (opening : List ℕ) (start : WorldState) (first : ℕ) (all rest : List (List Turn)) (count : ℕ) (batch : List Turn) (now : ScriptState) (run : Run) → Stopping names batch now run
+    → GoesOn (report_text report names) opening start first all (batch ∷ rest) count now → EndsAtStop report names start first all run
+stops_here report names opening start first all rest count batch now run s on =
     let here : IsStoppedJournal s.stop start all run.journal.items =
     subst (λ (lines : List JournalLine). IsStoppedJournal s.stop start all lines) (sym s.journal)
     (on.stops s.stop (map Made s.turns) (inl (record { turns = s.turns; last = s.last; lines = refl; stopped = s.stopped; cause = s.cause }))) in
@@ -153,12 +154,12 @@ stops_here names start first all rest count batch now run s on =
     record {
       ran = subst (λ (o : Option Stop). IsJournalTo o start all run.journal.items) (sym s.is) here;
       drawn = subst (λ (o : Option Stop). IsDrawnJournal o first start all run.journal.items) (sym s.is) drawn;
-      output = s.output ∙ (stop_line_same names now.world start s.stop on.shape ∙ ap (λ (o : Option Stop). script_text names start o run.journal.items) (sym s.is));
+      output = s.output ∙ (stop_line_same names now.world start s.stop on.shape ∙ ap (λ (o : Option Stop). script_text report names start o run.journal.items) (sym s.is));
     }
 
 -- by the batch's place
-pub stops_at : (names : NameLists) (start : WorldState) (first : ℕ) (all : List Batch) (i : ℕ) (none : Batch) (now : ScriptState) (run : Run) → i < length all
-    → Stopping names (batch_turns (slice_index_or all i none)) now run → GoesOn names start first (map batch_turns all) (map batch_turns (drop i all)) i now → EndsAtStop names start first (map batch_turns all) run
-stops_at names start first all i none now run within s on =
-    stops_here names start first (map batch_turns all) (map batch_turns (drop (i + 1) all)) i (batch_turns (slice_index_or all i none)) now run s
-    (subst (λ (left : List (List Turn)). GoesOn names start first (map batch_turns all) left i now) (next_left i all none within) on)
+pub stops_at : (report : Report) (names : NameLists) (opening : List ℕ) (start : WorldState) (first : ℕ) (all : List Batch) (i : ℕ) (none : Batch) (now : ScriptState) (run : Run) → i < length all
+    → Stopping names (batch_turns (slice_index_or all i none)) now run → GoesOn (report_text report names) opening start first (map batch_turns all) (map batch_turns (drop i all)) i now → EndsAtStop report names start first (map batch_turns all) run
+stops_at report names opening start first all i none now run within s on =
+    stops_here report names opening start first (map batch_turns all) (map batch_turns (drop (i + 1) all)) i (batch_turns (slice_index_or all i none)) now run s
+    (subst (λ (left : List (List Turn)). GoesOn (report_text report names) opening start first (map batch_turns all) left i now) (next_left i all none within) on)

@@ -18,12 +18,13 @@ use Rattle.mc_script.specs.declared.command.JournalLine.{JournalLine}
 use Rattle.mc_script.specs.declared.command.JournalLine.TheVariants.{Turn as Made, Settled}
 use Rattle.mc_text.specs.NameLists.{NameLists}
 use Rattle.mc_replay.specs.Journals.{IsJournal, lines_for}
-use Rattle.mc_top.specs.Modes.{output_of, prints_journal, tail_of}
+use Rattle.mc_top.specs.Modes.{output_of, reads, tail_of}
 use Rattle.mc_top.specs.Printed.{journal_text, settle_text}
 use Rattle.mc_top.specs.TextAlone.{CallsPrintSame, SettlesText, TextAloneDecides}
 use Rattle.mc_top.specs.Top.{Worked}
-use Rattle.mc_top.specs.declared.words.Mode.{Mode}
-use Rattle.mc_top.specs.declared.words.Mode.TheVariants.{Check, One, Run}
+use Rattle.mc_words.specs.Commands.{prints_journal}
+use Rattle.mc_words.specs.declared.words.Mode.{Mode}
+use Rattle.mc_words.specs.declared.words.Mode.TheVariants.{Check, Gen, One, Run, Scene}
 use Rattle.mc_top.proofs.FirstWorlds.{first_unprogrammed, first_worlds_seen}
 use Rattle.mc_top.proofs.Running.{printed_after}
 use Rattle.mc_top.proofs.SeenAlike.{AreSeenAlike, settle_same, settles_are_seen_alike}
@@ -35,7 +36,7 @@ pub segment_text : (names : NameLists) (number : ℕ) (world last : WorldState) 
     → journal_text names number world journal ≡ settle_text names number last ++ journal_text names (number + 1) last rest
 segment_text names number world last turns journal rest goes is =
     ap (λ (lines : List JournalLine). journal_text names number world lines) (is ∙ append_assoc (map Made turns) (Settled ∷ []) rest)
-    ∙ printed_after turns names number world last (Settled ∷ rest) goes
+    ∙ printed_after turns (settle_text names) number world last (Settled ∷ rest) goes
 
 -- from worlds that are seen alike
 journals_same : (batches : List (List Turn)) (names : NameLists) (number : ℕ) (world other : WorldState) (first second : List JournalLine) → IsSound world → IsSound other → HasNoPrograms world → HasNoPrograms other → AreSeenAlike world other
@@ -55,13 +56,15 @@ journals_same (batch ∷ batches) names number world other first second sound ot
 
 -- ---- texts
 
--- a mode that prints no journal prints the settles alone
-output_is : (mode : Mode) (net : Net) (journal : List JournalLine) → prints_journal mode ≡ false → output_of mode net journal ≡ journal_text net.names 1 net.world journal
-output_is (Run true) net journal none = absurd cc
-output_is (Run false) net journal none = refl
-output_is (One state true) net journal none = absurd cc
-output_is (One state false) net journal none = refl
-output_is Check net journal none = refl
+-- a mode that reads and prints no journal prints the settles alone
+output_is : (mode : Mode) (net : Net) (journal : List JournalLine) → reads mode ≡ true → prints_journal mode ≡ false → output_of mode net journal ≡ journal_text net.names 1 net.world journal
+output_is (Run true) net journal reading none = absurd cc
+output_is (Run false) net journal reading none = refl
+output_is (One state true) net journal reading none = absurd cc
+output_is (One state false) net journal reading none = refl
+output_is Check net journal reading none = refl
+output_is (Gen number size) net journal reading none = absurd cc
+output_is (Scene scene) net journal reading none = absurd cc
 
 pub text_alone_decides : TextAloneDecides
 text_alone_decides tail text net other first second one two unprogrammed decided =
@@ -82,8 +85,8 @@ settles_text : (text : List ℕ) (mode : Mode) (old new : Option (List ℕ)) (st
 settles_text text mode old new status journal worked = record { declares = worked.declared; sound = worked.settles.sound; settles = worked.settles.settled }
 
 pub calls_print_same : CallsPrintSame
-calls_print_same text first second mode instead old new from to status end same plain other one two unprogrammed decided =
-    output_is mode one.net first plain
+calls_print_same text first second mode instead old new from to status end same reading also plain other one two unprogrammed decided =
+    output_is mode one.net first reading plain
     ∙ (text_alone_decides (tail_of mode) text one.net two.net first second (settles_text text mode old new status first one)
     (subst (λ (t : Tail). SettlesText t text two.net second) (sym same) (settles_text text instead from to end second two)) unprogrammed decided
-    ∙ sym (output_is instead two.net second other))
+    ∙ sym (output_is instead two.net second also other))

@@ -18,13 +18,13 @@ use Rattle.mc_replay.specs.Faults.{IsJournalFault}
 use Rattle.mc_top.specs.Behind.{HasGoodJournal, HasJournal, HasJournalFault, has_bad_tail, tail_lines}
 use Rattle.mc_top.specs.Journals.{ShowsCause}
 use Rattle.mc_top.specs.Top.{Ends, IsTextOf, RefusesCheck, StopsScript, ToldDeclares, ToldFault, ToldJournal}
-use Rattle.mc_top.specs.Modes.{CanCheck, CanRun, IsWorkable, draws_from, tail_of}
+use Rattle.mc_top.specs.Modes.{CanCheck, CanRun, draws_from, tail_of}
 use Rattle.mc_top.specs.declared.stop.Stop.{Stop}
 use Rattle.mc_top.specs.Rings.{AlwaysRests}
 use Rattle.mc_top.proofs.BytesBehind.{bad_alike, lines_alike}
 use Rattle.mc_top.proofs.Causes.{never_stops}
-use Rattle.mc_top.specs.declared.words.Mode.{Mode}
-use Rattle.mc_top.specs.declared.words.Mode.TheVariants.{Check, One, Run}
+use Rattle.mc_words.specs.declared.words.Mode.{Mode}
+use Rattle.mc_words.specs.declared.words.Mode.TheVariants.{Check, Gen, One, Run, Scene}
 
 -- ---- what is told
 
@@ -129,11 +129,21 @@ ends_told mode told old new text status due journal read ends = record {
 
 -- ---- texts on which the work can be done
 
+-- a mode can do its work on a text, whether it reads it or makes it itself
+abbrev pub WorksOn : Mode → List ℕ → Type 0
+WorksOn (Run asked) text = CanRun text
+WorksOn (One state asked) text = CanRun text
+WorksOn Check text = CanCheck text
+WorksOn (Gen number size) text = CanRun text
+WorksOn (Scene scene) text = CanRun text
+
 -- each says something
-says_some : (mode : Mode) (text : List ℕ) → IsWorkable mode text → (d : Declared) × Says (tail_of mode) text d
+says_some : (mode : Mode) (text : List ℕ) → WorksOn mode text → (d : Declared) × Says (tail_of mode) text d
 says_some (Run asked) text works = (works.0, works.1)
 says_some (One state asked) text works = (works.0, works.1)
 says_some Check text works = (works.says.0, works.says.1)
+says_some (Gen number size) text works = (works.0, works.1)
+says_some (Scene scene) text works = (works.0, works.1)
 
 -- so it has no fault
 fault_says : (tail : Tail) (told : Option (List ℕ)) (text : List ℕ) (d : Declared) (number line : ℕ) → ToldFault tail told number line → told ≡ Some text → Says tail text d → ⊥
@@ -141,7 +151,7 @@ fault_says tail None text d number line fault is says = cc
 fault_says tail (Some all) text d number line fault is says =
     declares_or_faults tail all d number line (subst (λ (t : List ℕ). Says tail t d) (let same : text ≡ all = cc in same) says) fault
 
-fault_works : (mode : Mode) (told : Option (List ℕ)) (text : List ℕ) (number line : ℕ) → ToldFault (tail_of mode) told number line → told ≡ Some text → IsWorkable mode text → ⊥
+fault_works : (mode : Mode) (told : Option (List ℕ)) (text : List ℕ) (number line : ℕ) → ToldFault (tail_of mode) told number line → told ≡ Some text → WorksOn mode text → ⊥
 fault_works mode told text number line fault is works = let says = says_some mode text works in fault_says (tail_of mode) told text says.0 number line fault is says.1
 
 stop_says : (told : Option (List ℕ)) (text : List ℕ) (d : Declared) (net : Net) (stop : Stop) → ToldDeclares Nothing told net → told ≡ Some text → Says Nothing text d → MeetsNoLast d → AlwaysRests d
@@ -155,11 +165,13 @@ can_run : (told : Option (List ℕ)) (text : List ℕ) (net : Net) (stop : Stop)
 can_run told text net stop declares is can shows = stop_says told text can.0 net stop declares is can.1 can.2 can.3 shows
 
 -- nor does its script stop, in a mode that draws
-stop_works : (mode : Mode) (told : Option (List ℕ)) (text : List ℕ) (net : Net) (stop : Stop) (state : ℕ) → draws_from mode ≡ Some state → ToldDeclares (tail_of mode) told net → told ≡ Some text → IsWorkable mode text
+stop_works : (mode : Mode) (told : Option (List ℕ)) (text : List ℕ) (net : Net) (stop : Stop) (state : ℕ) → draws_from mode ≡ Some state → ToldDeclares (tail_of mode) told net → told ≡ Some text → WorksOn mode text
     → ShowsCause (Some stop) net.world (map batch_turns net.batches.items) → ⊥
 stop_works (Run asked) told text net stop state draws declares is works shows = can_run told text net stop declares is works shows
 stop_works (One first asked) told text net stop state draws declares is works shows = can_run told text net stop declares is works shows
 stop_works Check told text net stop state draws declares is works shows = cc
+stop_works (Gen number size) told text net stop state draws declares is works shows = can_run told text net stop declares is works shows
+stop_works (Scene scene) told text net stop state draws declares is works shows = can_run told text net stop declares is works shows
 
 -- nor is its journal refused
 pub good_has_none : (text : List ℕ) (net : Net) (number turn : ℕ) → HasGoodJournal text net → HasJournalFault text net number turn → ⊥
@@ -173,9 +185,9 @@ check_says (Some all) text net number turn declares fault is can =
     let same : all ≡ text = cc in
     good_has_none text net number turn (can.good net (subst (λ (t : List ℕ). DeclaresNet Journal t net) same declares)) (subst (λ (t : List ℕ). HasJournalFault t net number turn) same fault)
 
-check_works : (mode : Mode) (told old new : Option (List ℕ)) (text : List ℕ) (status : ℕ) (journal : List JournalLine) → (mode ≡ Check) × RefusesCheck told old new status journal → told ≡ Some text → IsWorkable mode text → ⊥
+check_works : (mode : Mode) (told old new : Option (List ℕ)) (text : List ℕ) (status : ℕ) (journal : List JournalLine) → (mode ≡ Check) × RefusesCheck told old new status journal → told ≡ Some text → WorksOn mode text → ⊥
 check_works mode told old new text status journal (checks, refused) is works =
-    check_says told text refused.net refused.number refused.turn refused.declared refused.fault is (subst (λ (m : Mode). IsWorkable m text) checks works)
+    check_says told text refused.net refused.number refused.turn refused.declared refused.fault is (subst (λ (m : Mode). WorksOn m text) checks works)
 
 -- ---- counted faults
 
@@ -194,11 +206,11 @@ not_failed before now status fault counted unrisen is =
     let failed : (status == fault) ≡ true = grind (arith, is) in
     unrisen (failed_rose before now (status == fault) counted failed)
 
--- a text on which the work can be done and no counted fault leave only two ends
-pub completes : (mode : Mode) (told old new : Option (List ℕ)) (text : List ℕ) (status due : ℕ) (journal : List JournalLine)
-    → (due ≡ 0) ⊎ (due ≡ 1) ⊎ (due ≡ 3) ⊎ (due ≡ 4) ⊎ (due ≡ 6) ⊎ (due ≡ 7) ⊎ (due ≡ 8) → (status ≡ due) ⊎ (status ≡ 5) → Ends mode told old new status due journal
-    → told ≡ Some text → IsWorkable mode text → (due ≡ 4 → ⊥) → (status ≡ 5 → ⊥) → (status ≡ 0) ⊎ (status ≡ 3)
-completes mode told old new text status due journal dues either ends is works not_four not_five =
+-- a text on which the work can be done, and that was read, leaves only two ends
+pub works_out : (mode : Mode) (told old new : Option (List ℕ)) (text : List ℕ) (status due : ℕ) (journal : List JournalLine)
+    → (due ≡ 0) ⊎ (due ≡ 1) ⊎ (due ≡ 3) ⊎ (due ≡ 4) ⊎ (due ≡ 6) ⊎ (due ≡ 7) ⊎ (due ≡ 8) → Ends mode told old new status due journal
+    → told ≡ Some text → WorksOn mode text → (due ≡ 4 → ⊥) → (due ≡ 0) ⊎ (due ≡ 3)
+works_out mode told old new text status due journal dues ends is works not_four =
     let never : StopsScript mode told old new status due journal → ⊥ = λ stops. stop_works mode told text stops.net stops.stop stops.state stops.draws stops.declared is works stops.shows in
     let not_one : due ≡ 1 → ⊥ = λ one. elim (ends.refused one) [
       | inl refused ↦ fault_works mode told text refused.number refused.line refused.fault is works
@@ -207,4 +219,12 @@ completes mode told old new text status due journal dues either ends is works no
     let not_six : due ≡ 6 → ⊥ = λ six. never (ends.at_stop (inl six)) in
     let not_seven : due ≡ 7 → ⊥ = λ seven. never (ends.at_stop (inr seven)) in
     let not_eight : due ≡ 8 → ⊥ = λ eight. check_works mode told old new text status journal (ends.check_refused eight) is works in
-    grind (arith, not_one, not_four, not_five, not_six, not_seven, not_eight)
+    grind (arith, not_one, not_four, not_six, not_seven, not_eight)
+
+-- so does the status, where no fault was counted
+pub completes : (mode : Mode) (told old new : Option (List ℕ)) (text : List ℕ) (status due : ℕ) (journal : List JournalLine)
+    → (due ≡ 0) ⊎ (due ≡ 1) ⊎ (due ≡ 3) ⊎ (due ≡ 4) ⊎ (due ≡ 6) ⊎ (due ≡ 7) ⊎ (due ≡ 8) → (status ≡ due) ⊎ (status ≡ 5) → Ends mode told old new status due journal
+    → told ≡ Some text → WorksOn mode text → (due ≡ 4 → ⊥) → (status ≡ 5 → ⊥) → (status ≡ 0) ⊎ (status ≡ 3)
+completes mode told old new text status due journal dues either ends is works not_four not_five =
+    let out = works_out mode told old new text status due journal dues ends is works not_four in
+    grind (arith, out, not_five)

@@ -56,12 +56,12 @@ twice true = refl
 twice false = refl
 
 -- two slots that are in one state both flow where that is flowing
-both_flow : (state low high : State) → low ≡ state → high ≡ state → is_flowing low && is_flowing high ≡ is_flowing state
+pub both_flow : (state low high : State) → low ≡ state → high ≡ state → is_flowing low && is_flowing high ≡ is_flowing state
 both_flow state low high one two =
     ap (λ (s : State). is_flowing s && is_flowing high) one ∙ (ap (λ (s : State). is_flowing state && is_flowing s) two ∙ twice (is_flowing state))
 
 -- an end that got the choice for its own descriptor hears what the table says
-heard_is : (selector : Option Selector) (own : Descriptor) (far_sender : Sender) → selector ≡ Some (choose own far_sender) → shown_codec true selector ≡ heard_codec own far_sender
+pub heard_is : (selector : Option Selector) (own : Descriptor) (far_sender : Sender) → selector ≡ Some (choose own far_sender) → shown_codec true selector ≡ heard_codec own far_sender
 heard_is selector own far_sender chosen = ap (shown_codec true) chosen
 
 hears_is : (names : NameLists) (world : WorldState) (s : ℕ) (codec : Option ℕ) → shown_codec true (slot_of world s).sel_in ≡ codec

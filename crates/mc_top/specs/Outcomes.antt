@@ -7,8 +7,9 @@ use Rattle.mc_text.specs.NameLists.{NameLists}
 use Rattle.mc_script.specs.declared.command.JournalLine.TheVariants.{Turn as Made}
 use Rattle.mc_top.specs.Drawn.{StopsBy}
 use Rattle.mc_top.specs.Journals.{IsCause}
-use Rattle.mc_top.specs.Printed.{stop_line}
+use Rattle.mc_top.specs.Printed.{report_text, stop_line}
 use Rattle.mc_top.specs.Scripts.{ScriptState, Settling}
+use Rattle.mc_top.specs.declared.report.Report.{Report}
 use Rattle.mc_top.specs.declared.run.Outcome.{Outcome}
 use Rattle.mc_top.specs.declared.run.Outcome.TheVariants.{Settled, Stopped}
 use Rattle.mc_top.specs.declared.run.Run.{Run}
@@ -28,6 +29,6 @@ pub record Stopping (names : NameLists) (batch : List Turn) (old : ScriptState) 
   pub is : run.stop ≡ Some stop
 
 -- the batch was settled under this number, or it stopped
-abbrev pub CameOf : NameLists → (number : ℕ) → (batch : List Turn) → ScriptState → Outcome → Type 0
-CameOf names number batch old (Settled next) = Settling names number batch old next
-CameOf names number batch old (Stopped run) = Stopping names batch old run
+abbrev pub CameOf : Report → NameLists → (number : ℕ) → (batch : List Turn) → ScriptState → Outcome → Type 0
+CameOf report names number batch old (Settled next) = Settling (report_text report names) number batch old next
+CameOf report names number batch old (Stopped run) = Stopping names batch old run

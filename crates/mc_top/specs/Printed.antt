@@ -14,6 +14,9 @@ use Rattle.mc_table.specs.Words.{codec_word, line_of, medium_word}
 use Rattle.mc_replay.specs.Journals.{next_world}
 use Rattle.mc_script.specs.declared.command.JournalLine.{JournalLine}
 use Rattle.mc_script.specs.declared.command.JournalLine.TheVariants.{Turn as Made, Settled}
+use Rattle.mc_top.specs.Summaries.{heading_text, summary_text}
+use Rattle.mc_top.specs.declared.report.Report.{Report}
+use Rattle.mc_top.specs.declared.report.Report.TheVariants.{Paths, Summary}
 use Rattle.mc_top.specs.declared.stop.Stop.{Stop}
 use Rattle.mc_top.specs.declared.stop.Stop.TheVariants.{Restless, Ring, VersionEnd}
 
@@ -60,11 +63,33 @@ path_text names world path = path_line names world path ++ hears_lines (path_sta
 abbrev pub settle_text : NameLists → ℕ → WorldState → List ℕ
 settle_text names number world = line_of (codes "settle" ∷ decimal number ∷ []) ++ flat_map (path_text names world) (paths world)
 
--- the settles that replaying a journal from a world gives, numbered from a number on
+-- ---- journals
+
+-- what is printed at the settles that replaying a journal from a world gives, numbered from a number on
+abbrev pub at_settles : (print : ℕ → WorldState → List ℕ) → ℕ → WorldState → List JournalLine → List ℕ
+at_settles print number world [] = []
+at_settles print number world (Made turn ∷ journal) = at_settles print number (next_world world turn) journal
+at_settles print number world (Settled ∷ journal) = print number world ++ at_settles print (number + 1) world journal
+
+-- the settles of a journal, each with its paths
 abbrev pub journal_text : NameLists → ℕ → WorldState → List JournalLine → List ℕ
-journal_text names number world [] = []
-journal_text names number world (Made turn ∷ journal) = journal_text names number (next_world world turn) journal
-journal_text names number world (Settled ∷ journal) = settle_text names number world ++ journal_text names (number + 1) world journal
+journal_text names number world journal = at_settles (settle_text names) number world journal
+
+-- the settles of a journal, each in one line
+abbrev pub summaries_text : ℕ → WorldState → List JournalLine → List ℕ
+summaries_text number world journal = at_settles summary_text number world journal
+
+-- ---- what a run reports
+
+-- at a settle
+abbrev pub report_text : Report → NameLists → ℕ → WorldState → List ℕ
+report_text Paths names = settle_text names
+report_text (Summary number size) names = summary_text
+
+-- in front of the first, of the first world
+abbrev pub opening_text : Report → WorldState → List ℕ
+opening_text Paths world = []
+opening_text (Summary number size) world = heading_text number size world
 
 -- ---- a stop
 
@@ -84,10 +109,10 @@ stop_place names world (Restless at) = box_word names at
 abbrev pub stop_line : NameLists → WorldState → Stop → List ℕ
 stop_line names world stop = line_of (stop_word stop ∷ stop_place names world stop ∷ [])
 
--- what is printed for a journal from a world: its settles, or for a stop that line alone
-abbrev pub script_text : NameLists → WorldState → Option Stop → List JournalLine → List ℕ
-script_text names world None journal = journal_text names 1 world journal
-script_text names world (Some stop) journal = stop_line names world stop
+-- what is printed for a journal from a world: what is reported at its settles, or for a stop that line alone
+abbrev pub script_text : Report → NameLists → WorldState → Option Stop → List JournalLine → List ℕ
+script_text report names world None journal = opening_text report world ++ at_settles (report_text report names) 1 world journal
+script_text report names world (Some stop) journal = stop_line names world stop
 
 -- ---- the journal itself
 
@@ -101,8 +126,8 @@ with_journal true None names journal text = text ++ journal_part names journal
 with_journal asked stop names journal text = text
 
 -- all that is printed for a script
-abbrev pub run_text : (asked : Bool) → NameLists → WorldState → Option Stop → List JournalLine → List ℕ
-run_text asked names world stop journal = with_journal asked stop names journal (script_text names world stop journal)
+abbrev pub run_text : Report → (asked : Bool) → NameLists → WorldState → Option Stop → List JournalLine → List ℕ
+run_text report asked names world stop journal = with_journal asked stop names journal (script_text report names world stop journal)
 
 -- ---- a faulty text
 

@@ -4,7 +4,10 @@ use Rattle.mc_model.specs.Paths.{paths}
 use Rattle.mc_model.specs.Worlds.{WorldState}
 use Rattle.mc_path.specs.Views.{view_of}
 use Rattle.mc_table.specs.Shown.{print_settle}
+use Rattle.mc_table.specs.Summaries.{print_summary}
 use Rattle.mc_text.specs.NameLists.{NameLists}
+use Rattle.mc_top.specs.declared.report.Report.{Report}
+use Rattle.mc_top.specs.declared.report.Report.TheVariants.{Paths, Summary}
 use Rattle.mc_view.specs.declared.PathView.{PathView}
 
 -- these are the views of all paths of a world
@@ -15,3 +18,8 @@ ShowsPaths world views = views ≡ map (view_of world) (paths world)
 abbrev pub shown_text : NameLists → ℕ → List (List PathView) → List ℕ
 shown_text names number [] = []
 shown_text names number (views ∷ shown) = print_settle names number views ++ shown_text names (number + 1) shown
+
+-- what a run prints for what is shown at a settle, by the settle's number
+abbrev pub print_report : Report → NameLists → ℕ → List PathView → List ℕ
+print_report Paths names number views = print_settle names number views
+print_report (Summary first size) names number views = print_summary number views

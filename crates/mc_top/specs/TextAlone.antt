@@ -1,5 +1,5 @@
 -- Where the text alone decides what is printed.
-use Rattle.std.specs.Prelude.{◌≡◌, ℕ, List, map, IsFalse, Option, Some}
+use Rattle.std.specs.Prelude.{◌≡◌, ℕ, List, map, IsFalse, IsTrue, Option, Some}
 use Rattle.mc_model.specs.Sound.{IsSound}
 use Rattle.mc_model.specs.Unprogrammed.{HasNoPrograms}
 use Rattle.mc_net.specs.Nets.{DeclaresNet, batch_turns}
@@ -8,10 +8,11 @@ use Rattle.mc_net.specs.declared.net.Net.{Net}
 use Rattle.mc_settings.specs.Batches.{LeavesDecided}
 use Rattle.mc_script.specs.declared.command.JournalLine.{JournalLine}
 use Rattle.mc_replay.specs.Journals.{IsJournal}
-use Rattle.mc_top.specs.Modes.{output_of, prints_journal, tail_of}
+use Rattle.mc_top.specs.Modes.{output_of, reads, tail_of}
 use Rattle.mc_top.specs.Printed.{journal_text}
 use Rattle.mc_top.specs.Top.{Worked}
-use Rattle.mc_top.specs.declared.words.Mode.{Mode}
+use Rattle.mc_words.specs.Commands.{prints_journal}
+use Rattle.mc_words.specs.declared.words.Mode.{Mode}
 
 -- the journal settles all batches of a network that the text declares, whichever interleaving of the boxes it is
 pub record SettlesText (tail : Tail) (text : List ℕ) (net : Net) (journal : List JournalLine) : Type 0 where
@@ -24,9 +25,9 @@ abbrev pub TextAloneDecides : Type 0
 TextAloneDecides = (tail : Tail) (text : List ℕ) (net other : Net) (first second : List JournalLine) → SettlesText tail text net first → SettlesText tail text other second
     → HasNoPrograms net.world → LeavesDecided net.world (map batch_turns net.batches.items) → journal_text net.names 1 net.world first ≡ journal_text other.names 1 other.world second
 
--- so two calls that did their work on one text, in whichever modes that read it in the same way, print the same, under the same premises, where neither prints its journal
+-- so two calls that did their work on one text, in whichever modes that read it, and in the same way, print the same, under the same premises, where neither prints its journal
 abbrev pub CallsPrintSame : Type 0
 CallsPrintSame = (text : List ℕ) (first second : List JournalLine) (mode instead : Mode) (old new from to : Option (List ℕ)) (status end : ℕ)
-    → tail_of mode ≡ tail_of instead → IsFalse (prints_journal mode) → IsFalse (prints_journal instead)
+    → tail_of mode ≡ tail_of instead → IsTrue (reads mode) → IsTrue (reads instead) → IsFalse (prints_journal mode) → IsFalse (prints_journal instead)
     → (one : Worked mode (Some text) old new status first) (two : Worked instead (Some text) from to end second)
     → HasNoPrograms one.net.world → LeavesDecided one.net.world (map batch_turns one.net.batches.items) → output_of mode one.net first ≡ output_of instead two.net second

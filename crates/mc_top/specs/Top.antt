@@ -18,12 +18,14 @@ use Rattle.mc_top.specs.Journals.{IsStoppedJournal, ShowsCause}
 use Rattle.mc_top.specs.Modes.{draws_from, output_of, reads, tail_of}
 use Rattle.mc_top.specs.Printed.{fault_line, journal_fault_line, stop_line}
 use Rattle.mc_top.specs.Statuses.{keeps_journal, stop_status}
+use Rattle.mc_scene.specs.Generated.{generated}
+use Rattle.mc_scene.specs.Scenes.{scene_text}
 use Rattle.mc_script.specs.declared.command.JournalLine.{JournalLine}
 use Rattle.mc_top.specs.declared.status.TheConstants.{WORKED, FAULTY_TEXT, USAGE, NO_MEMORY, READ_FAULT, RESTLESS, RING, WRITE_FAULT, JOURNAL_FAULT}
 use Rattle.mc_top.specs.declared.stop.Stop.{Stop}
 use Rattle.mc_top.specs.declared.top.Done.{Done}
-use Rattle.mc_top.specs.declared.words.Mode.{Mode}
-use Rattle.mc_top.specs.declared.words.Mode.TheVariants.{Check}
+use Rattle.mc_words.specs.declared.words.Mode.{Mode}
+use Rattle.mc_words.specs.declared.words.Mode.TheVariants.{Check, Gen, One, Run, Scene}
 
 -- the one line that is printed for words that are no command
 abbrev pub usage_text : List ℕ
@@ -51,6 +53,14 @@ ReadsFor mode old new text = IsTrue (reads mode) → ReadsWhole (tail_of mode) o
 -- the text, or its first bytes up to one more than the limit, of what is told
 abbrev pub IsTextOf : Tail → Option (List ℕ) → List ℕ → Type 0
 IsTextOf tail told text = IfSome told (λ all. text ≡ first_bytes tail all)
+
+-- this is the text that a mode works on, or its first bytes, where it is told; that of a mode that doesn't read is its own
+abbrev pub IsTextFor : Mode → (left : Option (List ℕ)) → List ℕ → Type 0
+IsTextFor (Run journal) left text = IsTextOf Nothing left text
+IsTextFor (One state journal) left text = IsTextOf Nothing left text
+IsTextFor Check left text = IsTextOf Journal left text
+IsTextFor (Gen number size) left text = text ≡ generated number size
+IsTextFor (Scene scene) left text = text ≡ scene_text scene
 
 -- The journal is one settled segment for each settle, in order, all of them one run from the network's first world: the interleaving of the boxes. At each settle the two end slots of every path are in the state that the path table gives, and where it flows each has the other's newest descriptor and the choice for its own. Which interleaving it is the draws decide, from their first state on, where there are draws: in a sound world there is no other such journal
 pub record Settles (net : Net) (draws : Option ℕ) (journal : List JournalLine) : Type 0 where
@@ -130,3 +140,7 @@ EndsAs mode told old new done = Ends mode told old new done.status done.due done
 -- the one line for words that are no command was delivered
 abbrev pub PrintsUsage : (old new : Option (List ℕ)) → Done → Type 0
 PrintsUsage old new done = Delivers done.status USAGE old new usage_text
+
+-- memory was wanting, and nothing was delivered
+abbrev pub GivesUp : (old new : Option (List ℕ)) → Done → Type 0
+GivesUp old new done = (done.due ≡ NO_MEMORY) × (done.status ≡ NO_MEMORY) × Keeps old new

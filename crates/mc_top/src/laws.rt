@@ -2,9 +2,15 @@
 
 ghost use Rattle.mc_top.specs.Drawn.{DrawnJournalIsOne};
 ghost use Rattle.mc_top.specs.JournalLaws.{PrintedJournalsAreGood, RunsAreReadBack};
+ghost use Rattle.mc_top.specs.SceneLaws.{GeneratedCanRun, ScenesCanRun};
+ghost use Rattle.mc_top.specs.SceneOutputs.{ScenesPrintTheSame};
 ghost use Rattle.mc_top.specs.TextAlone.{CallsPrintSame, TextAloneDecides};
 ghost use Rattle.mc_top.specs.Words.{FirstWorldsAwaitWords};
 
+pub use mc_scene_laws::laws::{
+    chains_are_texts, drawn_chains_are_numbered, generated_are_texts, generated_are_unprogrammed,
+    generated_come_to_rest, scenes_are_texts, scenes_come_to_rest,
+};
 use mc_seq::laws::schedule_is_one;
 
 /// The first state of the draws leaves no choice: there is one journal of settles by draws, and one stop or none.
@@ -41,4 +47,20 @@ pub fn runs_are_read_back()
 /// fault: `check` accepts it.
 pub fn printed_journals_are_good()
     ensures { PrintedJournalsAreGood }
+{}
+
+/// The text of each scene can be run: it is in the grammar, no Hear meets the last version, and each batch comes to rest.
+pub fn scenes_can_run()
+    ensures { ScenesCanRun }
+{}
+
+/// And so can each generated text of one to fifty chains.
+pub fn generated_can_run()
+    ensures { GeneratedCanRun }
+{}
+
+/// Each journal that settles the batches of a scene prints the stated output of the scene, however its boxes take
+/// turns.
+pub fn scenes_print_the_same()
+    ensures { ScenesPrintTheSame }
 {}

@@ -1,18 +1,20 @@
-//! The top call of the program: it reads a text, settles its calls, and prints their paths.
+//! The top call of the program: it reads a text or makes one, settles its calls, and prints their paths or counts of them.
 #![tactic(auto)]
 
 mod behind;
 mod checking;
 pub mod laws;
+mod modes;
 mod print;
+mod report;
 mod run;
 pub mod status;
 mod stop;
 mod top;
 mod viewer;
-mod words;
 
+pub use mc_words::{Mode, read_mode};
+pub use report::Report;
 pub use run::{Run, run_script};
 pub use stop::Stop;
 pub use top::{Done, media_top};
-pub use words::{Mode, read_mode};

@@ -16,12 +16,12 @@ ghost use Rattle.mc_top.specs.Scripts.{first_state};
 ghost use Rattle.mc_top.specs.declared.stop.Stop.TheVariants.{Restless};
 
 use crate::print::{print_restless, print_stop, put_journal};
+use crate::report::{Report, print_opening, print_report};
 use crate::stop::Stop;
 use mc_box::Turn;
 use mc_path::paths;
 use mc_script::{Batch, JournalLine};
 use mc_seq::{SettleFault, Stopped, StoppedBox, settle_one};
-use mc_table::print_settle;
 use mc_text::{Draws, Names};
 use mc_world::World;
 use std::alloc::{AllocError, Global};
@@ -65,28 +65,29 @@ impl Model for Progress {
 }
 
 impl Progress {
-    fn new(alloc: Global, world: World, draws: Draws) -> Progress
-        ensures { result ≡ first_state world draws.state }
+    fn new(alloc: Global, world: World, draws: Draws, opening: Vec<u8>) -> Progress
+        ensures { result ≡ first_state world draws.state opening.items }
     {
         Progress {
             world,
             draws,
             journal: Vec::new(alloc),
-            output: Vec::new(alloc),
+            output: opening,
         }
     }
 
-    // A batch is settled by draws, and the paths are printed under the settle's number; or it stops.
+    // A batch is settled by draws, and what is to be reported is printed under the settle's number; or it stops.
     fn settle(
         self,
         alloc: Global,
+        report: Report,
         names: &Names,
         number: u32,
         batch: &[Turn],
     ) -> Result<Outcome, AllocError>
         requires allowed { AreAllowed self.world batch.now }
         requires named { NamesAll names.now self.world }
-        ensures { IfOk result (λ outcome. CameOf names.now number batch.now self outcome) }
+        ensures { IfOk result (λ outcome. CameOf report names.now number batch.now self outcome) }
     {
         let Progress {
             world,
@@ -99,7 +100,7 @@ impl Progress {
             Ok(settled) => {
                 log(&settled.turns, &mut journal)?;
                 let views = paths(alloc, &settled.world)?;
-                let text = print_settle(alloc, names, number, &views)?;
+                let text = print_report(alloc, report, names, number, &views)?;
                 output.extend_from_slice(&text)?;
                 let world = settled.world;
                 Ok(Outcome::Settled(Progress {
@@ -202,13 +203,14 @@ fn log(turns: &[Turn], journal: &mut Vec<JournalLine>) -> Result<(), AllocError>
     Ok(())
 }
 
-/// Runs a script: settles its batches one after the other by draws, which go on from settle to settle, and prints the
-/// paths after each. It ends before that where a batch stops, and then the line of the stop is all that it prints.
+/// Runs a script: settles its batches one after the other by draws, which go on from settle to settle, and prints what
+/// is to be reported after each. It ends before that where a batch stops, and then the line of the stop is all that it prints.
 ///
 /// All that the world has is named, the world allows each command, and there are no more batches than a text may have
 /// commands.
 pub fn run_script(
     alloc: Global,
+    report: Report,
     names: &Names,
     world: World,
     draws: Draws,
@@ -222,14 +224,16 @@ pub fn run_script(
         IsDrawnJournal run.stop draws.state world (map batch_turns batches.now) run.journal.items) }
     ensures holds { IfOk result (λ run. HoldsAtSettles world run.journal.items) }
     ensures shows { IfOk result (λ run. ShowsCause run.stop world (map batch_turns batches.now)) }
-    ensures output { IfOk result (λ run. run.output.items ≡ script_text names.now world run.stop run.journal.items) }
+    ensures output { IfOk result (λ run. run.output.items
+        ≡ script_text report names.now world run.stop run.journal.items) }
 {
     world.keeps();
-    let mut progress = Progress::new(alloc, world, draws);
+    let opening = print_opening(alloc, report, &world)?;
+    let mut progress = Progress::new(alloc, world, draws, opening);
     for index in 0..batches.len() {
         let batch = &batches[index];
         let number = (index + 1) as u32;
-        match progress.settle(alloc, names, number, &batch.turns)? {
+        match progress.settle(alloc, report, names, number, &batch.turns)? {
             Outcome::Settled(next) => progress = next,
             Outcome::Stopped(run) => return Ok(run),
         }

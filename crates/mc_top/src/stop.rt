@@ -1,9 +1,11 @@
 //! Where a script stops before its end.
 
-ghost use Rattle.std.specs.Prelude.{◌≡◌};
+ghost use Rattle.std.specs.Prelude.{◌≡◌, List, ℕ};
+ghost use Rattle.mc_top.specs.Reasons.{ExplainsDue};
 ghost use Rattle.mc_top.specs.Statuses.{due_by};
 
 use crate::status::{RESTLESS, RING, VERSION_END, WORKED};
+use mc_explain::Reason;
 
 /// Why a script stopped before its end.
 #[derive(Clone, Copy, Debug, PartialEq, Eq)]
@@ -26,5 +28,17 @@ pub fn due_by(stop: Option<Stop>) -> u8
         Some(Stop::VersionEnd(_)) => VERSION_END,
         Some(Stop::Ring(_)) => RING,
         Some(Stop::Restless(_)) => RESTLESS,
+    }
+}
+
+/// What is to be told of a script that stopped so, or came to its end.
+pub fn reason_of(stop: Option<Stop>) -> Reason
+    ensures { (output : List ℕ) → ExplainsDue result (due_by stop) output }
+{
+    match stop {
+        None => Reason::Worked,
+        Some(Stop::VersionEnd(_)) => Reason::VersionEnd,
+        Some(Stop::Ring(_)) => Reason::Ring,
+        Some(Stop::Restless(_)) => Reason::Restless,
     }
 }

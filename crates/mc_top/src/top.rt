@@ -9,27 +9,34 @@ ghost use Rattle.mc_net.specs.Texts.{IsFault};
 ghost use Rattle.mc_lines.specs.declared.limit.TheConstants.{COMMAND_LIMIT};
 ghost use Rattle.mc_lines.specs.declared.tail.Tail.TheVariants.{Journal, Nothing};
 ghost use Rattle.mc_net.specs.declared.net.Net.{Net};
+ghost use Rattle.mc_scene.specs.Outputs.{scene_output};
+ghost use Rattle.mc_scene.specs.declared.scenes.Scene.{Scene};
 ghost use Rattle.mc_top.specs.Behind.{HasJournalFault};
-ghost use Rattle.mc_top.specs.Modes.{AsksToRead, IsCommand, IsWorkable, draws_from, reads, tail_of, text_for};
+ghost use Rattle.mc_top.specs.Modes.{AsksToRead, IsWithinLimits, IsWorkable, draws_from, reads, tail_of, text_for};
+ghost use Rattle.mc_top.specs.Reasons.{Explains, ExplainsDue};
 ghost use Rattle.mc_top.specs.Statuses.{IsDue, IsDueForMode, IsDueForText, due_by, judges_text, keeps_journal};
-ghost use Rattle.mc_top.specs.Top.{Delivers, EndsAs, HasReadWhole, IsTextOf, PrintsUsage, ReadsFor};
-ghost use Rattle.mc_top.specs.declared.words.Mode.{Mode};
-ghost use Rattle.mc_top.specs.declared.words.Mode.TheVariants.{Check};
+ghost use Rattle.mc_top.specs.Top.{Delivers, EndsAs, GivesUp, HasReadWhole, IsTextFor, PrintsUsage, ReadsFor};
+ghost use Rattle.mc_words.specs.Commands.{IsCommand};
+ghost use Rattle.mc_words.specs.declared.words.Mode.{Mode};
+ghost use Rattle.mc_words.specs.declared.words.Mode.TheVariants.{Check, Scene as AScene};
 
 use crate::behind::journal_behind;
 use crate::checking::check_script;
+use crate::modes::{report_of, tail_of};
 use crate::print::{print_fault, print_journal_fault};
 use crate::run::{Run, run_script, with_journal};
 use crate::status::{
     FAULTY_TEXT, JOURNAL_FAULT, NO_MEMORY, READ_FAULT, USAGE, WORKED, WRITE_FAULT,
 };
-use crate::stop::due_by;
-use crate::words::{Mode, read_mode};
+use crate::stop::{due_by, reason_of};
+use mc_explain::Reason;
 use mc_io::{Gate, ReadFault, Sink, Source, read_up_to, write_whole};
 use mc_net::{JOURNAL_TEXT_LIMIT, Net, NetFault, TEXT_LIMIT, TextFault, read_net};
 use mc_replay::CheckFault;
+use mc_scene::{generated, scene_text};
 use mc_script::JournalLine;
 use mc_text::Draws;
+use mc_words::{Mode, read_mode};
 use std::alloc::{AllocError, Global};
 use std::thread::Threads;
 
@@ -37,46 +44,60 @@ use std::thread::Threads;
 ///
 /// `status` is one of `mc_top::status`, and `due` the status that would stand had no write failed. The journal
 /// holds what was settled or checked, and the turns up to a stop, where the due status keeps a journal, and else
-/// nothing.
+/// nothing. `reason` says why the status is what it is.
 #[derive(Debug, Drop)]
 pub struct Done {
     pub status: u8,
     pub due: u8,
     pub journal: Vec<JournalLine>,
+    pub reason: Reason,
 }
 
 // The text that a mode works on, or its first bytes up to one more than the limit.
 fn text_of<S: Source>(alloc: Global, mode: Mode, source: &mut S) -> Result<Vec<u8>, ReadFault>
-    ensures text { IfOk result (λ text. IsTextOf (tail_of mode) (text_for mode (S.left source.old)) text.items) }
+    requires { IsWithinLimits mode }
+    ensures text { IfOk result (λ text. IsTextFor mode (S.left source.old) text.items) }
     ensures whole { IfOk result (λ text. ReadsFor mode (S.left source.old) (S.left source.new) text.items) }
     ensures unread { IsFalse (reads mode) → source.new ≡ source.old }
     ensures at_most { ConsumesAtMost (S.left source.old) (S.left source.new) (read_limit (tail_of mode)) }
     ensures faults { S.faults source.new ≡ faults_after (S.faults source.old) (is_failed_read result) }
+    ensures made { IsFalse (reads mode) → IsFalse (is_failed_read result) }
 {
     match mode {
         Mode::Run { .. } => read_up_to(alloc, source, TEXT_LIMIT),
         Mode::One { .. } => read_up_to(alloc, source, TEXT_LIMIT),
         Mode::Check => read_up_to(alloc, source, JOURNAL_TEXT_LIMIT),
+        Mode::Gen { number, size } => Ok(generated(alloc, number, size)?),
+        Mode::Scene { scene } => Ok(scene_text(alloc, scene)?),
     }
 }
 
 // Writes what is due.
-fn deliver<K: Sink>(sink: &mut K, due: u8, output: &[u8], journal: Vec<JournalLine>) -> Done
-    requires { due ≢ WRITE_FAULT }
+fn deliver<K: Sink>(
+    sink: &mut K,
+    due: u8,
+    output: &[u8],
+    journal: Vec<JournalLine>,
+    reason: Reason,
+) -> Done
+    requires due { due ≢ WRITE_FAULT }
+    requires reason { ExplainsDue reason due output.now }
     ensures delivers { Delivers result.status due (K.written sink.old) (K.written sink.new) output.now }
     ensures due { result.due ≡ due }
     ensures status { (result.status ≡ due) ⊎ (result.status ≡ WRITE_FAULT) }
     ensures journal { result.journal ≡ journal }
+    ensures reason { Explains result.reason result.status (K.written sink.old) (K.written sink.new) }
     ensures fault { K.faults sink.new ≡ faults_after (K.faults sink.old) (result.status == WRITE_FAULT) }
 {
-    let status = match write_whole(sink, output) {
-        Ok(()) => due,
-        Err(_) => WRITE_FAULT,
+    let (status, reason) = match write_whole(sink, output) {
+        Ok(()) => (due, reason),
+        Err(_) => (WRITE_FAULT, Reason::WriteFault),
     };
     Done {
         status,
         due,
         journal,
+        reason,
     }
 }
 
@@ -86,27 +107,31 @@ fn deliver_run<K: Sink>(sink: &mut K, run: Run) -> Done
     ensures due { result.due ≡ due_by run.stop }
     ensures status { (result.status ≡ due_by run.stop) ⊎ (result.status ≡ WRITE_FAULT) }
     ensures journal { result.journal ≡ run.journal }
+    ensures reason { Explains result.reason result.status (K.written sink.old) (K.written sink.new) }
     ensures fault { K.faults sink.new ≡ faults_after (K.faults sink.old) (result.status == WRITE_FAULT) }
 {
     let due = due_by(run.stop);
+    let reason = reason_of(run.stop);
     let Run {
         output,
         journal,
         ..
     } = run;
-    deliver(sink, due, &output, journal)
+    deliver(sink, due, &output, journal, reason)
 }
 
 // A call that ended before there was anything to write.
-fn give_up(alloc: Global, status: u8) -> Done
+fn give_up(alloc: Global, status: u8, reason: Reason) -> Done
     ensures status { result.status ≡ status }
     ensures due { result.due ≡ status }
     ensures journal { result.journal.items ≡ [] }
+    ensures reason { result.reason ≡ reason }
 {
     Done {
         status,
         due: status,
         journal: Vec::new(alloc),
+        reason,
     }
 }
 
@@ -116,11 +141,13 @@ fn refuse<K: Sink>(alloc: Global, mode: Mode, text: &[u8], fault: TextFault, sin
     ensures statuses { (result.due ≡ FAULTY_TEXT) ⊎ (result.due ≡ NO_MEMORY) }
     ensures status { (result.status ≡ result.due) ⊎ (result.status ≡ WRITE_FAULT) }
     ensures ends { EndsAs mode (Some text.now) (K.written sink.old) (K.written sink.new) result }
+    ensures reason { Explains result.reason result.status (K.written sink.old) (K.written sink.new) }
     ensures fault { K.faults sink.new ≡ faults_after (K.faults sink.old) (result.status == WRITE_FAULT) }
 {
+    let reason = Reason::faulty_text(alloc, fault.number, fault.line, text);
     match print_fault(alloc, fault) {
-        Ok(line) => deliver(sink, FAULTY_TEXT, &line, Vec::new(alloc)),
-        Err(_) => give_up(alloc, NO_MEMORY),
+        Ok(line) => deliver(sink, FAULTY_TEXT, &line, Vec::new(alloc), reason),
+        Err(_) => give_up(alloc, NO_MEMORY, Reason::NoMemory),
     }
 }
 
@@ -141,6 +168,7 @@ fn run_net<K: Sink>(
     ensures statuses { IsDueForText result.due }
     ensures status { (result.status ≡ result.due) ⊎ (result.status ≡ WRITE_FAULT) }
     ensures ends { EndsAs mode (Some text.now) (K.written sink.old) (K.written sink.new) result }
+    ensures reason { Explains result.reason result.status (K.written sink.old) (K.written sink.new) }
     ensures fault { K.faults sink.new ≡ faults_after (K.faults sink.old) (result.status == WRITE_FAULT) }
 {
     let Net {
@@ -150,12 +178,12 @@ fn run_net<K: Sink>(
         ..
     } = net;
     world.keeps();
-    let Ok(run) = run_script(alloc, &names, world, draws, &batches) else {
-        return give_up(alloc, NO_MEMORY);
+    let Ok(run) = run_script(alloc, report_of(mode), &names, world, draws, &batches) else {
+        return give_up(alloc, NO_MEMORY, Reason::NoMemory);
     };
     match with_journal(alloc, mode.prints_journal(), &names, run) {
         Ok(run) => deliver_run(sink, run),
-        Err(_) => give_up(alloc, NO_MEMORY),
+        Err(_) => give_up(alloc, NO_MEMORY, Reason::NoMemory),
     }
 }
 
@@ -165,11 +193,15 @@ fn refuse_journal<K: Sink>(alloc: Global, number: u8, turn: u32, sink: &mut K) -
     ensures status { (result.status ≡ result.due) ⊎ (result.status ≡ WRITE_FAULT) }
     ensures ends { (text : List ℕ) (net : Net) → DeclaresNet Journal text net → HasJournalFault text net number turn
         → EndsAs Check (Some text) (K.written sink.old) (K.written sink.new) result }
+    ensures reason { Explains result.reason result.status (K.written sink.old) (K.written sink.new) }
     ensures fault { K.faults sink.new ≡ faults_after (K.faults sink.old) (result.status == WRITE_FAULT) }
 {
     match print_journal_fault(alloc, number, turn) {
-        Ok(line) => deliver(sink, JOURNAL_FAULT, &line, Vec::new(alloc)),
-        Err(_) => give_up(alloc, NO_MEMORY),
+        Ok(line) => {
+            let reason = Reason::FaultyJournal { number, turn };
+            deliver(sink, JOURNAL_FAULT, &line, Vec::new(alloc), reason)
+        }
+        Err(_) => give_up(alloc, NO_MEMORY, Reason::NoMemory),
     }
 }
 
@@ -181,6 +213,7 @@ fn check_net<K: Sink>(alloc: Global, text: &[u8], net: Net, sink: &mut K) -> Don
     ensures statuses { IsDueForText result.due }
     ensures status { (result.status ≡ result.due) ⊎ (result.status ≡ WRITE_FAULT) }
     ensures ends { EndsAs Check (Some text.now) (K.written sink.old) (K.written sink.new) result }
+    ensures reason { Explains result.reason result.status (K.written sink.old) (K.written sink.new) }
     ensures fault { K.faults sink.new ≡ faults_after (K.faults sink.old) (result.status == WRITE_FAULT) }
 {
     let Net {
@@ -192,12 +225,12 @@ fn check_net<K: Sink>(alloc: Global, text: &[u8], net: Net, sink: &mut K) -> Don
     } = net;
     world.keeps();
     let Ok(journal) = journal_behind(alloc, &names, &shape, text, rest) else {
-        return give_up(alloc, NO_MEMORY);
+        return give_up(alloc, NO_MEMORY, Reason::NoMemory);
     };
     match check_script(alloc, &names, world, &batches, &journal) {
-        Ok(output) => deliver(sink, WORKED, &output, journal.lines),
+        Ok(output) => deliver(sink, WORKED, &output, journal.lines, Reason::Worked),
         Err(CheckFault::At { number, turn }) => refuse_journal(alloc, number, turn, sink),
-        Err(CheckFault::NoMemory(_)) => give_up(alloc, NO_MEMORY),
+        Err(CheckFault::NoMemory(_)) => give_up(alloc, NO_MEMORY, Reason::NoMemory),
     }
 }
 
@@ -210,12 +243,15 @@ fn work_on<K: Sink>(alloc: Global, mode: Mode, text: &[u8], net: Net, sink: &mut
     ensures statuses { IsDueForText result.due }
     ensures status { (result.status ≡ result.due) ⊎ (result.status ≡ WRITE_FAULT) }
     ensures ends { EndsAs mode (Some text.now) (K.written sink.old) (K.written sink.new) result }
+    ensures reason { Explains result.reason result.status (K.written sink.old) (K.written sink.new) }
     ensures fault { K.faults sink.new ≡ faults_after (K.faults sink.old) (result.status == WRITE_FAULT) }
 {
     match mode {
         Mode::Run { .. } => run_net(alloc, mode, Draws { state: 0 }, text, net, sink),
         Mode::One { state, .. } => run_net(alloc, mode, Draws { state }, text, net, sink),
         Mode::Check => check_net(alloc, text, net, sink),
+        Mode::Gen { .. } => run_net(alloc, mode, Draws { state: 0 }, text, net, sink),
+        Mode::Scene { .. } => run_net(alloc, mode, Draws { state: 0 }, text, net, sink),
     }
 }
 
@@ -224,31 +260,35 @@ fn run_text<K: Sink>(alloc: Global, mode: Mode, text: &[u8], sink: &mut K) -> Do
     ensures statuses { IsDueForText result.due }
     ensures status { (result.status ≡ result.due) ⊎ (result.status ≡ WRITE_FAULT) }
     ensures ends { EndsAs mode (Some text.now) (K.written sink.old) (K.written sink.new) result }
+    ensures reason { Explains result.reason result.status (K.written sink.old) (K.written sink.new) }
     ensures fault { K.faults sink.new ≡ faults_after (K.faults sink.old) (result.status == WRITE_FAULT) }
 {
-    match read_net(alloc, text, mode.tail()) {
+    match read_net(alloc, text, tail_of(mode)) {
         Ok(net) => work_on(alloc, mode, text, net, sink),
         Err(NetFault::Line(fault)) => refuse(alloc, mode, text, fault, sink),
-        Err(NetFault::NoMemory(_)) => give_up(alloc, NO_MEMORY),
+        Err(NetFault::NoMemory(_)) => give_up(alloc, NO_MEMORY, Reason::NoMemory),
     }
 }
 
 // Does a mode's work on the text that it reads.
 fn run_mode<S: Source, K: Sink>(alloc: Global, mode: Mode, source: &mut S, sink: &mut K) -> Done
+    requires { IsWithinLimits mode }
     ensures statuses { IsDueForMode result.due }
     ensures status { (result.status ≡ result.due) ⊎ (result.status ≡ WRITE_FAULT) }
     ensures ends { EndsAs mode (text_for mode (S.left source.old)) (K.written sink.old) (K.written sink.new) result }
     ensures unread { IsFalse (reads mode) → source.new ≡ source.old }
+    ensures made { IsFalse (reads mode) → (result.due ≡ WORKED) ⊎ (result.due ≡ NO_MEMORY) }
     ensures read_whole { IsTrue (reads mode) → IsTrue (judges_text result.due)
         → HasReadWhole (tail_of mode) (S.left source.old) (S.left source.new) }
     ensures at_most { ConsumesAtMost (S.left source.old) (S.left source.new) (read_limit (tail_of mode)) }
     ensures read_fault { S.faults source.new ≡ faults_after (S.faults source.old) (result.due == READ_FAULT) }
+    ensures reason { Explains result.reason result.status (K.written sink.old) (K.written sink.new) }
     ensures write_fault { K.faults sink.new ≡ faults_after (K.faults sink.old) (result.status == WRITE_FAULT) }
 {
     match text_of(alloc, mode, source) {
         Ok(text) => run_text(alloc, mode, &text, sink),
-        Err(ReadFault::Failed) => give_up(alloc, READ_FAULT),
-        Err(ReadFault::NoMemory(_)) => give_up(alloc, NO_MEMORY),
+        Err(ReadFault::Failed) => give_up(alloc, READ_FAULT, Reason::ReadFault),
+        Err(ReadFault::NoMemory(_)) => give_up(alloc, NO_MEMORY, Reason::NoMemory),
     }
 }
 
@@ -276,9 +316,11 @@ pub fn media_top<R: Threads + Sync, S: Source, K: Sink, G: Gate + Sync>(
     ensures usage { result.due ≡ USAGE → (mode : Mode) → ¬ IsCommand words.items mode }
     ensures usage_output { result.due ≡ USAGE → PrintsUsage (K.written sink.old) (K.written sink.new) result }
 
-    // Else they are a mode's, and this was printed and kept for its text.
-    ensures ends { result.due ≢ USAGE → (mode : Mode) × IsCommand words.items mode
-        × EndsAs mode (text_for mode (S.left source.old)) (K.written sink.old) (K.written sink.new) result }
+    // Where they are a mode's, this was printed and kept for its text. Else the only other end is want of memory.
+    ensures ends { (mode : Mode) → IsCommand words.items mode
+        → EndsAs mode (text_for mode (S.left source.old)) (K.written sink.old) (K.written sink.new) result }
+    ensures no_command { ((mode : Mode) → ¬ IsCommand words.items mode)
+        → (result.due ≡ USAGE) ⊎ GivesUp (K.written sink.old) (K.written sink.new) result }
     ensures no_journal { IsFalse (keeps_journal result.due) → result.journal.items ≡ [] }
 
     // Without words that ask to read, nothing is read. With them a text is judged only where it was read whole.
@@ -292,14 +334,28 @@ pub fn media_top<R: Threads + Sync, S: Source, K: Sink, G: Gate + Sync>(
     ensures read_fault { S.faults source.new ≡ faults_after (S.faults source.old) (result.due == READ_FAULT) }
     ensures write_fault { K.faults sink.new ≡ faults_after (K.faults sink.old) (result.status == WRITE_FAULT) }
 
+    // What is to be told a person explains the status.
+    ensures reason { Explains result.reason result.status (K.written sink.old) (K.written sink.new) }
+
     // Where the work can be done and no fault was counted, it is done, but for want of memory.
     ensures complete { (mode : Mode) (text : List ℕ) → IsCommand words.items mode
         → text_for mode (S.left source.old) ≡ Some text → IsWorkable mode text
         → ¬ Rose (S.faults source.old) (S.faults source.new) → ¬ Rose (K.faults sink.old) (K.faults sink.new)
         → (result.status ≡ WORKED) ⊎ (result.status ≡ NO_MEMORY) }
+
+    // A mode that makes its text itself does its work, but for want of memory, whatever is counted.
+    ensures made { (mode : Mode) → IsCommand words.items mode → IsFalse (reads mode)
+        → (result.due ≡ WORKED) ⊎ (result.due ≡ NO_MEMORY) }
+
+    // What a scene prints is its stated output.
+    ensures stated { (scene : Scene) → IsCommand words.items (AScene scene) → result.due ≡ WORKED
+        → Delivers result.status WORKED (K.written sink.old) (K.written sink.new) (scene_output scene) }
 {
-    let Some(mode) = read_mode(&words) else {
-        return deliver(sink, USAGE, b"usage\n", Vec::new(alloc));
+    let Ok(read) = read_mode(alloc, &words) else {
+        return give_up(alloc, NO_MEMORY, Reason::NoMemory);
+    };
+    let Some(mode) = read else {
+        return deliver(sink, USAGE, b"usage\n", Vec::new(alloc), Reason::Usage);
     };
     run_mode(alloc, mode, source, sink)
 }

@@ -3,6 +3,7 @@ use Rattle.mc_box.specs.declared.event.Turn.{Turn}
 use Rattle.mc_model.specs.Shapes.{AreAllowed}
 use Rattle.mc_net.specs.Nets.{batch_turns}
 use Rattle.mc_top.specs.Outcomes.{CameOf, Stopping}
+use Rattle.mc_top.specs.Printed.{opening_text, report_text}
 use Rattle.mc_top.specs.Scripts.{Settling}
 use Rattle.mc_top.proofs.Causes.{ran_shows}
 use Rattle.mc_top.proofs.Running.{all_drawn, all_printed, all_settled, batch_allowed, goes_first, goes_next, goes_to_end, ran_holds}
@@ -10,29 +11,31 @@ use Rattle.mc_top.proofs.Stopping.{EndsAtStop, stops_at}
 use Rattle.mc_top.proofs.run.run_script.Goals as goal
 
 pub loop-index-init : goal.loop-index-init
-loop-index-init c = rw c.new-progress.ensures (goes_first c.args.names.now c.args.world c.args.draws.state (map batch_turns c.args.batches.now) c.keeps.ensures.sound)
+loop-index-init c =
+    rw (c.new-progress.ensures, c.in_ok-opening.ensures)
+    (goes_first (report_text c.args.report c.args.names.now) (opening_text c.args.report c.args.world) c.args.world c.args.draws.state (map batch_turns c.args.batches.now) c.keeps.ensures.sound)
 
 pub settle-requires-clause-allowed : goal.settle-requires-clause-allowed
 settle-requires-clause-allowed c =
     subst (AreAllowed c.loop-index.progress.world) (sym (c.deref.ensures.value ∙ ap batch_turns c.index-batches-index.is))
-    (batch_allowed c.args.names.now c.args.world c.args.draws.state c.args.batches.now c.loop-index.index c.index-batches-index.result _ c.loop-index.progress (omega (arith, c.loop-index-test.true)) c.keeps.ensures.sound c.requires.allowed c.loop-index.invariant)
+    (batch_allowed (report_text c.args.report c.args.names.now) (opening_text c.args.report c.args.world) c.args.world c.args.draws.state c.args.batches.now c.loop-index.index c.index-batches-index.result _ c.loop-index.progress (omega (arith, c.loop-index-test.true)) c.keeps.ensures.sound c.requires.allowed c.loop-index.invariant)
 
 pub loop-index-preserved : goal.loop-index-preserved
 loop-index-preserved c =
     let batch : List Turn = batch_turns (slice_index_or c.args.batches.now c.loop-index.index c.index-batches-index.result) in
-    let came : CameOf c.args.names.now (c.loop-index.index + 1) batch c.loop-index.progress c.in_ok-next.field-0 =
-    subst (λ (turns : List Turn). CameOf c.args.names.now (c.loop-index.index + 1) turns c.loop-index.progress c.in_ok-next.field-0) (c.deref.ensures.value ∙ ap batch_turns c.index-batches-index.is) c.in_ok-next.ensures in
-    let settled : Settling c.args.names.now (c.loop-index.index + 1) batch c.loop-index.progress c.in-Settled.next = subst (CameOf c.args.names.now (c.loop-index.index + 1) batch c.loop-index.progress) c.in-Settled.is came in
-    goes_next c.args.names.now c.args.world c.args.draws.state c.args.batches.now c.loop-index.index c.index-batches-index.result c.loop-index.progress c.in-Settled.next (omega (arith, c.loop-index-test.true)) settled c.loop-index.invariant
+    let came : CameOf c.args.report c.args.names.now (c.loop-index.index + 1) batch c.loop-index.progress c.in_ok-next.field-0 =
+    subst (λ (turns : List Turn). CameOf c.args.report c.args.names.now (c.loop-index.index + 1) turns c.loop-index.progress c.in_ok-next.field-0) (c.deref.ensures.value ∙ ap batch_turns c.index-batches-index.is) c.in_ok-next.ensures in
+    let settled : Settling (report_text c.args.report c.args.names.now) (c.loop-index.index + 1) batch c.loop-index.progress c.in-Settled.next = subst (CameOf c.args.report c.args.names.now (c.loop-index.index + 1) batch c.loop-index.progress) c.in-Settled.is came in
+    goes_next (report_text c.args.report c.args.names.now) (opening_text c.args.report c.args.world) c.args.world c.args.draws.state c.args.batches.now c.loop-index.index c.index-batches-index.result c.loop-index.progress c.in-Settled.next (omega (arith, c.loop-index-test.true)) settled c.loop-index.invariant
 
 -- what the script came to where a batch stopped
-stops : (c : goal.In-Stopped) → EndsAtStop c.args.names.now c.args.world c.args.draws.state (map batch_turns c.args.batches.now) c.in-Stopped.run'
+stops : (c : goal.In-Stopped) → EndsAtStop c.args.report c.args.names.now c.args.world c.args.draws.state (map batch_turns c.args.batches.now) c.in-Stopped.run'
 stops c =
     let batch : List Turn = batch_turns (slice_index_or c.args.batches.now c.loop-index.index c.index-batches-index.result) in
-    let came : CameOf c.args.names.now (c.loop-index.index + 1) batch c.loop-index.progress c.in_ok-next.field-0 =
-    subst (λ (turns : List Turn). CameOf c.args.names.now (c.loop-index.index + 1) turns c.loop-index.progress c.in_ok-next.field-0) (c.deref.ensures.value ∙ ap batch_turns c.index-batches-index.is) c.in_ok-next.ensures in
-    let stopping : Stopping c.args.names.now batch c.loop-index.progress c.in-Stopped.run' = subst (CameOf c.args.names.now (c.loop-index.index + 1) batch c.loop-index.progress) c.in-Stopped.is came in
-    stops_at c.args.names.now c.args.world c.args.draws.state c.args.batches.now c.loop-index.index c.index-batches-index.result c.loop-index.progress c.in-Stopped.run' (omega (arith, c.loop-index-test.true)) stopping c.loop-index.invariant
+    let came : CameOf c.args.report c.args.names.now (c.loop-index.index + 1) batch c.loop-index.progress c.in_ok-next.field-0 =
+    subst (λ (turns : List Turn). CameOf c.args.report c.args.names.now (c.loop-index.index + 1) turns c.loop-index.progress c.in_ok-next.field-0) (c.deref.ensures.value ∙ ap batch_turns c.index-batches-index.is) c.in_ok-next.ensures in
+    let stopping : Stopping c.args.names.now batch c.loop-index.progress c.in-Stopped.run' = subst (CameOf c.args.report c.args.names.now (c.loop-index.index + 1) batch c.loop-index.progress) c.in-Stopped.is came in
+    stops_at c.args.report c.args.names.now (opening_text c.args.report c.args.world) c.args.world c.args.draws.state c.args.batches.now c.loop-index.index c.index-batches-index.result c.loop-index.progress c.in-Stopped.run' (omega (arith, c.loop-index-test.true)) stopping c.loop-index.invariant
 
 pub returns-in-Stopped-clause-ran : goal.returns-in-Stopped-clause-ran
 returns-in-Stopped-clause-ran c = (stops c).ran
@@ -49,21 +52,21 @@ returns-in-Stopped-clause-shows c =
 
 pub returns-clause-ran : goal.returns-clause-ran
 returns-clause-ran c =
-    all_settled c.args.names.now c.args.world c.args.draws.state (map batch_turns c.args.batches.now) c.loop-index.index _
-    (goes_to_end _ _ _ _ c.loop-index.index _ _ (omega (arith, c.loop-index-test.false)) c.progress.view_is c.loop-index.invariant)
+    all_settled (report_text c.args.report c.args.names.now) (opening_text c.args.report c.args.world) c.args.world c.args.draws.state (map batch_turns c.args.batches.now) c.loop-index.index _
+    (goes_to_end _ _ _ _ _ c.loop-index.index _ _ (omega (arith, c.loop-index-test.false)) c.progress.view_is c.loop-index.invariant)
 
 pub returns-clause-drawn : goal.returns-clause-drawn
 returns-clause-drawn c =
-    all_drawn c.args.names.now c.args.world c.args.draws.state (map batch_turns c.args.batches.now) c.loop-index.index _
-    (goes_to_end _ _ _ _ c.loop-index.index _ _ (omega (arith, c.loop-index-test.false)) c.progress.view_is c.loop-index.invariant)
+    all_drawn (report_text c.args.report c.args.names.now) (opening_text c.args.report c.args.world) c.args.world c.args.draws.state (map batch_turns c.args.batches.now) c.loop-index.index _
+    (goes_to_end _ _ _ _ _ c.loop-index.index _ _ (omega (arith, c.loop-index-test.false)) c.progress.view_is c.loop-index.invariant)
 
 pub returns-clause-holds : goal.returns-clause-holds
 returns-clause-holds c =
     ran_holds None (map batch_turns c.args.batches.now) c.args.world _ c.keeps.ensures.sound
-    (all_settled c.args.names.now c.args.world c.args.draws.state (map batch_turns c.args.batches.now) c.loop-index.index _
-    (goes_to_end _ _ _ _ c.loop-index.index _ _ (omega (arith, c.loop-index-test.false)) c.progress.view_is c.loop-index.invariant))
+    (all_settled (report_text c.args.report c.args.names.now) (opening_text c.args.report c.args.world) c.args.world c.args.draws.state (map batch_turns c.args.batches.now) c.loop-index.index _
+    (goes_to_end _ _ _ _ _ c.loop-index.index _ _ (omega (arith, c.loop-index-test.false)) c.progress.view_is c.loop-index.invariant))
 
 pub returns-clause-output : goal.returns-clause-output
 returns-clause-output c =
-    all_printed c.args.names.now c.args.world c.args.draws.state (map batch_turns c.args.batches.now) c.loop-index.index _
-    (goes_to_end _ _ _ _ c.loop-index.index _ _ (omega (arith, c.loop-index-test.false)) c.progress.view_is c.loop-index.invariant)
+    all_printed (report_text c.args.report c.args.names.now) (opening_text c.args.report c.args.world) c.args.world c.args.draws.state (map batch_turns c.args.batches.now) c.loop-index.index _
+    (goes_to_end _ _ _ _ _ c.loop-index.index _ _ (omega (arith, c.loop-index-test.false)) c.progress.view_is c.loop-index.invariant)

@@ -1,7 +1,7 @@
 use Rattle.std.proofs.Common.{◌∙◌, inl, inr, sym}
 use Rattle.mc_lines.specs.declared.tail.Tail.TheVariants.{Journal}
 use Rattle.mc_net.proofs.MadeNets.{nets_are_named}
-use Rattle.mc_top.specs.declared.words.Mode.TheVariants.{Check}
+use Rattle.mc_words.specs.declared.words.Mode.TheVariants.{Check}
 use Rattle.mc_top.proofs.Ending.{ends_checked, ends_gave_up}
 use Rattle.mc_top.proofs.Told.{fault_behind}
 use Rattle.mc_top.proofs.top.check_net.Goals as goal

@@ -1,5 +1,5 @@
 use Rattle.std.proofs.Common.{◌∙◌}
-use Rattle.mc_top.specs.declared.words.Mode.TheVariants.{Check}
+use Rattle.mc_words.specs.declared.words.Mode.TheVariants.{Check}
 use Rattle.mc_top.proofs.Ending.{ends_check_refused, ends_gave_up}
 use Rattle.mc_top.proofs.top.refuse_journal.Goals as goal
 

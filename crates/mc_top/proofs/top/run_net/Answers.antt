@@ -1,7 +1,4 @@
-use Rattle.std.proofs.Common.{ℕ, List, ap, ◌∙◌}
-use Rattle.mc_top.specs.Modes.{prints_journal}
-use Rattle.mc_top.specs.Printed.{with_journal}
-use Rattle.mc_top.proofs.Ending.{ends_ran}
+use Rattle.mc_top.proofs.Ending.{due_for_text, ends_ran, run_is}
 use Rattle.mc_top.proofs.NamedJournals.{ran_named}
 use Rattle.mc_top.proofs.top.run_net.Goals as goal
 
@@ -18,5 +15,8 @@ returns-in-Ok-with_journal-clause-ends g c =
     (ends_ran run.stop c.args.mode c.args.draws.state c.args.text.now c.args.net (g.K.Sink.written c.args.sink.now) (g.K.Sink.written c.deliver_run.new.sink)
     c.deliver_run.result.status c.deliver_run.result.due run.journal.items whole.run'.output.items
     c.requires.draws c.requires.declares c.keeps.ensures.sound (rw c.deref.ensures.value at c.in-Ok.ensures.ran) (rw c.deref.ensures.value at c.in-Ok.ensures.drawn) c.in-Ok.ensures.holds (rw c.deref.ensures.value at c.in-Ok.ensures.shows)
-    ((rw c.prints_journal.ensures at whole.ensures.output) ∙ ap (λ (text : List ℕ). with_journal (prints_journal c.args.mode) run.stop c.args.net.names run.journal.items text) c.in-Ok.ensures.output)
+    (run_is c.args.mode _ _ run.stop c.args.net.names c.args.net.world run.journal.items run.output.items whole.run'.output.items c.report_of.ensures c.prints_journal.ensures c.in-Ok.ensures.output whole.ensures.output)
     (rw whole.ensures.stop at c.deliver_run.ensures.due) (rw (c.deliver_run.ensures.due, whole.ensures.stop) at c.deliver_run.ensures.delivers))
+
+pub returns-in-Ok-with_journal-clause-statuses : goal.returns-in-Ok-with_journal-clause-statuses
+returns-in-Ok-with_journal-clause-statuses g c = due_for_text c.in-Ok-with_journal.run'.stop c.deliver_run.result.due c.deliver_run.ensures.due

@@ -1,17 +1,16 @@
 use Rattle.std.proofs.Common.{IfOk, subst, sym}
-use Rattle.mc_top.specs.Modes.{tail_of, text_for}
-use Rattle.mc_top.specs.Top.{IsTextOf}
-use Rattle.mc_top.specs.declared.words.Mode.{Mode}
+use Rattle.mc_top.specs.Top.{IsTextFor}
+use Rattle.mc_words.specs.declared.words.Mode.{Mode}
 use Rattle.mc_top.proofs.top.text_of.Goals as goal
 
 pub returns-in-Run-clause-text : goal.returns-in-Run-clause-text
 returns-in-Run-clause-text g c =
-    subst (λ (m : Mode). IfOk c.read_up_to.result (λ text. IsTextOf (tail_of m) (text_for m (g.S.Source.left c.args.source.now)) text.items)) (sym c.in-Run.is) c.read_up_to.ensures.text
+    subst (λ (m : Mode). IfOk c.read_up_to.result (λ text. IsTextFor m (g.S.Source.left c.args.source.now) text.items)) (sym c.in-Run.is) c.read_up_to.ensures.text
 
 pub returns-in-One-clause-text : goal.returns-in-One-clause-text
 returns-in-One-clause-text g c =
-    subst (λ (m : Mode). IfOk c.read_up_to-in-One.result (λ text. IsTextOf (tail_of m) (text_for m (g.S.Source.left c.args.source.now)) text.items)) (sym c.in-One.is) c.read_up_to-in-One.ensures.text
+    subst (λ (m : Mode). IfOk c.read_up_to-in-One.result (λ text. IsTextFor m (g.S.Source.left c.args.source.now) text.items)) (sym c.in-One.is) c.read_up_to-in-One.ensures.text
 
 pub returns-in-Check-clause-text : goal.returns-in-Check-clause-text
 returns-in-Check-clause-text g c =
-    subst (λ (m : Mode). IfOk c.read_up_to-in-Check.result (λ text. IsTextOf (tail_of m) (text_for m (g.S.Source.left c.args.source.now)) text.items)) (sym c.in-Check.is) c.read_up_to-in-Check.ensures.text
+    subst (λ (m : Mode). IfOk c.read_up_to-in-Check.result (λ text. IsTextFor m (g.S.Source.left c.args.source.now) text.items)) (sym c.in-Check.is) c.read_up_to-in-Check.ensures.text

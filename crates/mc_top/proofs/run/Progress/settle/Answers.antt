@@ -3,16 +3,18 @@ use Rattle.mc_path_laws.proofs.SettledHold.{settled_paths_hold}
 use Rattle.mc_seq.specs.Draws.{StopsByDraws}
 use Rattle.mc_seq.specs.declared.fault.SettleFault.{SettleFault}
 use Rattle.mc_seq.specs.declared.fault.SettleFault.TheVariants.{Restless as NeverRests, Ring as AtRing, VersionEnd as EndsVersion}
-use Rattle.mc_table.specs.Shown.{print_settle}
 use Rattle.mc_top.specs.Outcomes.{Stopping}
+use Rattle.mc_top.specs.Printed.{report_text}
 use Rattle.mc_top.specs.Scripts.{ScriptState, Settling}
+use Rattle.mc_top.specs.Shown.{print_report}
 use Rattle.mc_top.proofs.Running.{after_settle}
 use Rattle.mc_top.proofs.Stopping.{restless_named, ring_named, stops_restless, stops_ring, stops_version, version_named}
-use Rattle.mc_top.proofs.Viewing.{settle_is, views_named}
+use Rattle.mc_top.proofs.Summing.{report_is}
+use Rattle.mc_top.proofs.Viewing.{views_named}
 use Rattle.mc_top.proofs.run.Progress.settle.Goals as goal
 
-pub print_settle-requires : goal.print_settle-requires
-print_settle-requires c =
+pub print_report-requires : goal.print_report-requires
+print_report-requires c =
     let after = after_settle c.args.names.now c.self.inside.world c.in-Ok.settled.world _ _ c.keeps.ensures.sound (rw (← c.self.view_is) at c.requires.named) c.in-Ok.ensures.settled in
     rw (c.deref-in-Ok.ensures.value, c.in_ok-views-in-Ok.ensures.views)
     (views_named c.args.names.now c.in-Ok.settled.world after.named after.sound (c.in_ok-views-in-Ok.ensures.quiet after.quiet))
@@ -24,7 +26,7 @@ returns-in_ok-extend_from_slice-in-Ok c =
     let last = c.in-Ok.settled.world in
     let settled = c.in-Ok.ensures.settled in
     let holds = settled_paths_hold c.self.inside.world last _ _ c.keeps.ensures.sound settled in
-    subst (λ (s : ScriptState). Settling names number c.args.batch.now s (record {
+    subst (λ (s : ScriptState). Settling (report_text c.args.report names) number c.args.batch.now s (record {
       world = last;
       draws = c.settle_one.new.draws.state;
       journal = c.log.new.journal.items;
@@ -35,7 +37,7 @@ returns-in_ok-extend_from_slice-in-Ok c =
       scheduled = c.in-Ok.ensures.scheduled;
       journal = rw c.deref.ensures.value at c.in_ok-log-in-Ok.ensures;
       output = c.in_ok-extend_from_slice-in-Ok.ensures.items
-          ∙ ap (λ (text : List ℕ). c.self.inside.output.items ++ text) (c.deref-in-Ok-2.ensures.value ∙ (c.in_ok-text-in-Ok.ensures ∙ (ap (print_settle names number) (c.deref-in-Ok.ensures.value ∙ c.in_ok-views-in-Ok.ensures.views) ∙ settle_is names number last holds)));
+          ∙ ap (λ (text : List ℕ). c.self.inside.output.items ++ text) (c.deref-in-Ok-2.ensures.value ∙ (c.in_ok-text-in-Ok.ensures ∙ (ap (print_report c.args.report names number) (c.deref-in-Ok.ensures.value ∙ c.in_ok-views-in-Ok.ensures.views) ∙ report_is c.args.report names number last holds)));
     })
 
 -- how it stopped at the last version

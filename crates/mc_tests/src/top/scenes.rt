@@ -1,0 +1,129 @@
+// Modes that read nothing: what they print, and which words are theirs.
+
+use super::{ROOM, call, is_equal, is_equal_at, is_usage};
+use mc_io::MemSource;
+use std::alloc::{AllocError, Global};
+use std::process::Abort;
+use std::test::Fail;
+use std::thread::Threads;
+
+// Words, and what is printed for them.
+const PRINTED: [(&[&str], &str); 3] = [
+    (
+        &["scene", "pbx"],
+        "settle 1\n\
+        path alice/a bob/a open hold flowing audio\n\
+        hears alice/a g711\n\
+        hears bob/a g711\n\
+        path carol/a pbx/c open hold flowing audio\n\
+        hears carol/a none\n\
+        hears pbx/c none\n\
+        settle 2\n\
+        path alice/a carol/a open open flowing audio\n\
+        hears alice/a g711\n\
+        hears carol/a g711\n\
+        path bob/a pbx/b hold hold flowing audio\n\
+        hears bob/a none\n\
+        hears pbx/b none\n\
+        settle 3\n\
+        path alice/a bob/a open hold flowing audio\n\
+        hears alice/a g711\n\
+        hears bob/a g711\n\
+        path carol/a pbx/c open hold flowing audio\n\
+        hears carol/a none\n\
+        hears pbx/c none\n\
+        settle 4\n\
+        path alice/a bob/a open close closed audio\n\
+        path carol/a pbx/c open hold flowing audio\n\
+        hears carol/a none\n\
+        hears pbx/c none\n",
+    ),
+    (
+        &["--", "scene", "prepaid"],
+        "settle 1\n\
+        path caller/a callee/a open hold flowing audio\n\
+        hears caller/a g729\n\
+        hears callee/a g729\n\
+        path pc/v voice/a close hold closed audio\n\
+        settle 2\n\
+        path caller/a voice/a open hold flowing audio\n\
+        hears caller/a g711\n\
+        hears voice/a g711\n\
+        path pc/c callee/a hold hold flowing audio\n\
+        hears pc/c none\n\
+        hears callee/a none\n\
+        settle 3\n\
+        path caller/a callee/a open hold flowing audio\n\
+        hears caller/a g729\n\
+        hears callee/a g729\n\
+        path pc/v voice/a close hold closed audio\n",
+    ),
+    (
+        &["gen", "1", "3"],
+        "gen 1 3\n\
+        boxes 10 channels 7\n\
+        settle 1 flowing 1 closed 2 heard 2\n\
+        settle 2 flowing 3 closed 0 heard 6\n\
+        settle 3 flowing 0 closed 3 heard 0\n",
+    ),
+];
+
+// What a call with these words prints. It works, and nothing is read.
+fn printed<R: Threads + Sync + Abort>(
+    rt: &R,
+    alloc: Global,
+    words: &[&str],
+) -> Result<Vec<u8>, AllocError> {
+    let bytes = Vec::from_slice(alloc, b"fly\n")?;
+    let mut source = MemSource::new(bytes, 64, Vec::new(alloc));
+    let (done, written) = call(rt, alloc, words, &mut source, ROOM, Vec::new(alloc))?;
+    is_equal(rt, &done.status, &0);
+    is_equal(rt, &source.calls, &0);
+    Ok(written)
+}
+
+#[test]
+fn scenes_and_chains_read_nothing(rt: HostRuntime) -> Result<(), Fail> {
+    for (words, wanted) in PRINTED {
+        let written = printed(&rt, rt.alloc(), words)?;
+        is_equal_at(&rt, &written.as_slice(), &wanted.as_bytes(), wanted);
+    }
+    Ok(())
+}
+
+#[test]
+fn the_most_chains_are_drawn_twice_alike(rt: HostRuntime) -> Result<(), Fail> {
+    let words = ["gen", "7", "50"];
+    let first = printed(&rt, rt.alloc(), &words)?;
+    let second = printed(&rt, rt.alloc(), &words)?;
+    is_equal(&rt, &first.as_slice(), &second.as_slice());
+    assert!(rt; first.starts_with(b"gen 7 50\nboxes "));
+    Ok(())
+}
+
+const OTHER_WORDS: [&[&str]; 16] = [
+    &["gen"],
+    &["gen", "1"],
+    &["gen", "1", "0"],
+    &["gen", "1", "51"],
+    &["gen", "1", "03"],
+    &["gen", "2147483648", "3"],
+    &["gen", "1", "3", "3"],
+    &["gen", "one", "3"],
+    &["gen", "--journal", "1", "3"],
+    &["scene"],
+    &["scene", "park"],
+    &["scene", "Pbx"],
+    &["scene", "pbx", "prepaid"],
+    &["--journal", "scene", "pbx"],
+    &["pbx"],
+    &["run", "--journal", "--fast"],
+];
+
+#[test]
+fn other_words_are_no_scene(rt: HostRuntime) -> Result<(), Fail> {
+    for words in OTHER_WORDS {
+        is_usage(&rt, rt.alloc(), words)?;
+    }
+    Ok(())
+}
