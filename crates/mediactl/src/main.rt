@@ -1,12 +1,14 @@
-//! `mediactl run` reads a text from standard input, settles its calls, and prints their paths to standard output.
-//! `mediactl one N` does so by draws that begin at the state N.
+//! `mediactl` does what its words ask for: it settles a text from standard input and prints the paths of its calls
+//! (`run`, `one N`), checks a journal (`check`), or settles a network of its own (`gen N SIZE`, `scene NAME`). Where it
+//! ends with another status than 0, it tells on standard error why.
 #![tactic(auto)]
 
+use mc_explain::{Reason, explain};
 use mc_io::{OpenGate, StdSink, StdSource};
 use mc_top::media_top;
-use mc_top::status::NO_MEMORY;
+use mc_top::status::{NO_MEMORY, WORKED};
 use std::alloc::AllocError;
-use std::io::ErrorKind;
+use std::io::{ErrorKind, Write};
 use std::process::ExitCode;
 use std::rt::Env;
 use std::{env, io};
@@ -20,12 +22,24 @@ fn words<R: Env + AllocGlobal>(rt: &R) -> Result<Vec<String>, AllocError> {
     }
 }
 
+// Tells a person on standard error why the call ended. Where that fails, nothing else changes.
+fn tell(rt: &HostRuntime, reason: &Reason) {
+    let Ok(words) = explain(rt.alloc(), reason) else {
+        return;
+    };
+    let _ = rt.stderr().write_all(&words);
+}
+
 fn main(rt: HostRuntime) -> ExitCode {
     let Ok(words) = words(&rt) else {
+        tell(&rt, &Reason::NoMemory);
         return ExitCode::from(NO_MEMORY);
     };
     let mut source = StdSource::new(rt.reader());
     let mut sink = StdSink::new(io::writer(&rt));
     let done = media_top(&rt, rt.alloc(), words, &mut source, &mut sink, &OpenGate);
+    if done.status != WORKED {
+        tell(&rt, &done.reason);
+    }
     ExitCode::from(done.status)
 }
