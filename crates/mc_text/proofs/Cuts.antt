@@ -1,10 +1,11 @@
 -- Bytes that are cut into pieces, at each byte that passes a test.
-use Rattle.std.proofs.Common.{◌≡◌, ℕ, suc, ◌+◌, ◌-◌, ◌<◌, ◌≤◌, Bool, true, false, not, ltb, List, [], ◌∷◌, length, drop, refl, ◌∙◌, arith, position, slice_range, inl, inr}
+use Rattle.std.proofs.Common.{◌≡◌, ℕ, suc, ◌+◌, ◌-◌, ◌<◌, ◌≤◌, Bool, true, false, not, ltb, List, [], ◌∷◌, length, drop, refl, sym, ◌∙◌, arith, position, slice_range, inl, inr, Option, Some, None, get_or}
 use Rattle.std.proofs.lemmas.Grind.{common_steps}
 use Rattle.std.specs.List.{slice_split, onto_first, position_or_len, before_first, after_first}
 use Rattle.std.specs.Option.{unwrap_or}
-use Rattle.std.proofs.lemmas.List.Sums.{prefix_len-le-length}
-use Rattle.std.proofs.lemmas.Bool.{cases_lt}
+use Rattle.std.proofs.lemmas.List.Sums.{position_or_len_is, prefix_len-le-length}
+use Rattle.std.proofs.lemmas.Bool.{cases_lt, false_from_ne_true}
+use Rattle.memchr.specs.Find.{IsFirstByte}
 use Rattle.mc_text.specs.Lines.{has_bytes, without_empty_last}
 
 pub one_suc : (n : ℕ) → 1 + n ≡ suc n
@@ -17,6 +18,11 @@ position_or_end p bytes = by (ltb (position_or_len p bytes) (length bytes)) refl
     by : (b : Bool) → ltb (position_or_len p bytes) (length bytes) ≡ b → unwrap_or (position p bytes) (length bytes) ≡ position_or_len p bytes
     by true e = rw e refl
     by false e = rw e (let all : position_or_len p bytes ≤ length bytes = prefix_len-le-length (λ x. not (p x)) bytes in grind arith)
+
+-- the first place that a search answers, or else the length, is how many bytes stand before it
+pub first_or_end : (p : ℕ → Bool) (bytes : List ℕ) (found : Option ℕ) → IsFirstByte p bytes found → unwrap_or found (length bytes) ≡ position_or_len p bytes
+first_or_end p bytes None is = sym (position_or_len_is p bytes (length bytes) 0 (omega arith) (λ k less. false_from_ne_true (p (get_or bytes k 0)) (is k (omega arith) less)) (λ past. absurd (omega arith)))
+first_or_end p bytes (Some place) is = sym (position_or_len_is p bytes place 0 (let below = is.0.high in omega arith) (λ k less. false_from_ne_true (p (get_or bytes k 0)) (is.0.before k (omega arith) less)) (λ within. is.1))
 
 module _ (p : ℕ → Bool) where
   -- the first piece, and the others

@@ -2,7 +2,9 @@
 
 ghost use Rattle.std.specs.Prelude.{◌≡◌, ◌+◌, ◌<◌, ◌≤◌, [], ◌∷◌, length, drop, slice_range, MatchOption, IfSome, ◌==◌, not, position};
 ghost use Rattle.std.specs.List.{position_or_len, before_first, after_first};
-ghost use Rattle.mc_text.specs.Lines.{is_line_end, lines, words};
+ghost use Rattle.mc_text.specs.Lines.{is_line_end, is_space, lines, words};
+
+use memchr::memchr;
 
 /// Where the line that begins at `from` ends: the place of its line end, or the end of the text.
 pub fn line_end(text: &[u8], from: usize) -> usize
@@ -12,7 +14,7 @@ pub fn line_end(text: &[u8], from: usize) -> usize
     ensures line { from < length text.now → lines (drop from text.now)
         ≡ slice_range text.now from result ∷ lines (drop (result + 1) text.now) }
 {
-    from + len_before(rest_of(text, from), b'\n')
+    from + line_len(rest_of(text, from))
 }
 
 /// The first line of a text without its end, and what stands behind that end.
@@ -26,7 +28,7 @@ pub fn next_line(text: &[u8]) -> (&[u8], &[u8])
     ensures shorter { length result.0.now + length result.1.now ≤ length text.now }
     ensures nearer { length result.1.now < length text.now }
 {
-    let (line, rest) = text.split_at(len_before(text, b'\n'));
+    let (line, rest) = text.split_at(line_len(text));
     (line, without_first(rest))
 }
 
@@ -40,7 +42,7 @@ pub fn next_word(line: &[u8], from: usize) -> Option<(usize, usize)>
 {
     let rest = rest_of(line, from);
     let start = first_other(rest)?;
-    let len = len_before(rest_of(rest, start), b' ');
+    let len = word_len(rest_of(rest, start));
     Some((from + start, from + start + len))
 }
 
@@ -52,18 +54,30 @@ pub fn rest_of(bytes: &[u8], from: usize) -> &[u8]
     bytes.split_at(from).1
 }
 
-// How many bytes stand before the first `stop`, or all where there is none.
-fn len_before(bytes: &[u8], stop: u8) -> usize
+// How many bytes stand before the first line end, or all where there is none. An empty line is told at once: a search
+// that reads many bytes at a time takes longer to begin than one byte takes.
+fn line_len(bytes: &[u8]) -> usize
     ensures within { result ≤ length bytes.now }
-    ensures first { result ≡ position_or_len (λ byte. byte == stop) bytes.now }
+    ensures first { result ≡ position_or_len is_line_end bytes.now }
 {
-    place_of(bytes, stop).unwrap_or(bytes.len())
+    match bytes {
+        [b'\n', ..] => 0,
+        _ => memchr(b'\n', bytes).unwrap_or(bytes.len()),
+    }
 }
 
-fn place_of(bytes: &[u8], stop: u8) -> Option<usize>
-    ensures { result ≡ position (λ byte. byte == stop) bytes.now }
+// How many bytes stand before the first space, or all where there is none.
+fn word_len(bytes: &[u8]) -> usize
+    ensures within { result ≤ length bytes.now }
+    ensures first { result ≡ position_or_len is_space bytes.now }
 {
-    bytes.iter().position(|byte| *byte == stop)
+    first_space(bytes).unwrap_or(bytes.len())
+}
+
+fn first_space(bytes: &[u8]) -> Option<usize>
+    ensures { result ≡ position is_space bytes.now }
+{
+    bytes.iter().position(|byte| *byte == b' ')
 }
 
 // Where the first byte stands that is no space.

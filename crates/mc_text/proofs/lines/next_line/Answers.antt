@@ -4,4 +4,4 @@ use Rattle.mc_text.proofs.Cuts.{first_line}
 use Rattle.mc_text.proofs.lines.next_line.Goals as goal
 
 pub returns-clause-first : goal.returns-clause-first
-returns-clause-first c = rw (c.without_first.ensures, c.split_at.ensures.front, c.split_at.ensures.back, drop-drop, c.len_before.ensures.first) (first_line is_line_end c.args.text.now c.requires)
+returns-clause-first c = rw (c.without_first.ensures, c.split_at.ensures.front, c.split_at.ensures.back, drop-drop, c.line_len.ensures.first) (first_line is_line_end c.args.text.now c.requires)
