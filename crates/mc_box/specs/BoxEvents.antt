@@ -223,6 +223,10 @@ abbrev pub is_shift : Event → Bool
 is_shift Shift = true
 is_shift event = false
 
+abbrev pub is_retry : Event → Bool
+is_retry (Retry local) = true
+is_retry event = false
+
 -- events that come from commands
 abbrev pub is_command : Event → Bool
 is_command (Set change) = true

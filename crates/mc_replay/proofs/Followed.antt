@@ -7,7 +7,7 @@ use Rattle.std.proofs.lemmas.Grind.{common_steps}
 use Rattle.std.proofs.lemmas.List.{take-append-drop}
 use Rattle.std.proofs.lemmas.List.Folds.{list_any_at}
 use Rattle.std.proofs.lemmas.List.Sums.{sum_by-append}
-use Rattle.mc_box.specs.BoxEvents.{is_command}
+use Rattle.mc_box.specs.BoxEvents.{is_command, is_retry}
 use Rattle.mc_box.specs.declared.event.Turn.{Turn}
 use Rattle.mc_laws.proofs.CommandsGo.{both_true}
 use Rattle.mc_laws.proofs.Resting.{rests_quiet}
@@ -27,7 +27,7 @@ use Rattle.mc_seq.proofs.Scheduled.{allowed_commands}
 use Rattle.mc_seq.proofs.Segments.{both_there}
 use Rattle.mc_replay.specs.Counts.{AreCounted, owed_count}
 use Rattle.mc_replay.specs.Follows.{AreCommands, Follows, IsNext, MakesTurn, TellsNext, TellsSettled, TriedStep, is_last}
-use Rattle.mc_replay.specs.Moments.{AreMoments, AreNumbered, CountsRetry, IsMoment, no_moment, is_retry, retry_count, serves}
+use Rattle.mc_replay.specs.Moments.{AreMoments, AreNumbered, CountsRetry, IsMoment, no_moment, retry_count, serves}
 use Rattle.mc_replay.specs.declared.moments.Moment.{Moment}
 use Rattle.mc_replay.specs.declared.retries.Retries.{Retries}
 use Rattle.mc_replay.specs.declared.segment.Segment.{Segment}

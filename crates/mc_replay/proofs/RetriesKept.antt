@@ -6,7 +6,7 @@ use Rattle.std.proofs.lemmas.Bool.{cases_eq, cases_lt}
 use Rattle.std.proofs.lemmas.Grind.{common_steps}
 use Rattle.std.proofs.lemmas.List.Sums.{sum_by-take-le}
 use Rattle.std.proofs.lemmas.List.{get_or-set_same, get_or-set_other}
-use Rattle.mc_box.specs.BoxEvents.{box_event, event_step, is_enabled}
+use Rattle.mc_box.specs.BoxEvents.{box_event, event_step, is_enabled, is_retry}
 use Rattle.mc_box.specs.Boxes.{box_owes, is_slot}
 use Rattle.mc_box.specs.declared.event.Event.{Event}
 use Rattle.mc_box.specs.declared.event.Event.TheVariants.{Take, Set, Media, Tell, Retry, Shift}
@@ -18,7 +18,7 @@ use Rattle.mc_model.specs.Settles.{is_retry_at, is_retry_of, world_owes}
 use Rattle.mc_model.specs.Sound.{IsSound}
 use Rattle.mc_model.specs.Steps.{after_making, step, step_by}
 use Rattle.mc_model.specs.Worlds.{ChannelState, WorldState, box_at, is_place, number, place, places_among, slot_count}
-use Rattle.mc_replay.specs.Moments.{AreNumbered, AreRetriedOnce, AreRetries, CountsRetry, WasRetried, WasRetriedAt, is_retry, retries_at, retry_count}
+use Rattle.mc_replay.specs.Moments.{AreNumbered, AreRetriedOnce, AreRetries, CountsRetry, WasRetried, WasRetriedAt, retries_at, retry_count}
 use Rattle.mc_replay.specs.declared.retries.Retries.{Retries}
 use Rattle.mc_replay.proofs.Prefixes.{before_or_end, count_more, drop_before, drop_end, take_before, take_end}
 

@@ -26,7 +26,8 @@ use Rattle.mc_turn.specs.Sums.{total}
 use Rattle.mc_turn.proofs.Sums.{total_none, total_same}
 use Rattle.mc_world.specs.Waiting.{bit}
 use Rattle.mc_replay.specs.Counts.{owed_count}
-use Rattle.mc_replay.specs.Moments.{AreRetriedOnce, is_retry, retry_count}
+use Rattle.mc_box.specs.BoxEvents.{is_retry}
+use Rattle.mc_replay.specs.Moments.{AreRetriedOnce, retry_count}
 use Rattle.mc_replay.proofs.Prefixes.{run_more}
 use Rattle.mc_replay.proofs.RetriesKept.{is_of, not_of, owes_there, retry_owes}
 

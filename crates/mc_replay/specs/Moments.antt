@@ -1,6 +1,7 @@
 -- The moments of a segment that may be its last rest, and the retries behind them.
-use Rattle.std.specs.Prelude.{◌≡◌, ◌↔◌, ◌<◌, ◌≤◌, ◌+◌, ◌-◌, ◌==◌, ◌&&◌, ◌++◌, nat_le, if◌then◌else◌, ℕ, Bool, true, false, List, [], ◌∷◌, length, max, take, drop, count_by, slice_index_or, slice_set, IsTrue, Option, Some, None}
+use Rattle.std.specs.Prelude.{◌≡◌, ◌↔◌, ◌<◌, ◌≤◌, ◌+◌, ◌-◌, ◌==◌, ◌&&◌, ◌++◌, nat_le, if◌then◌else◌, ℕ, Bool, List, [], ◌∷◌, length, max, take, drop, count_by, slice_index_or, slice_set, IsTrue, Option, Some, None}
 use Rattle.std.specs.List.{list_all}
+use Rattle.mc_box.specs.BoxEvents.{is_retry}
 use Rattle.mc_box.specs.declared.event.Event.{Event}
 use Rattle.mc_box.specs.declared.event.Event.TheVariants.{Retry}
 use Rattle.mc_box.specs.declared.event.Turn.{Turn}
@@ -12,10 +13,6 @@ use Rattle.mc_replay.specs.declared.moments.Moment.{Moment}
 use Rattle.mc_replay.specs.declared.retries.Retries.{Retries}
 
 -- ---- moments
-
-abbrev pub is_retry : Event → Bool
-is_retry (Retry local) = true
-is_retry event = false
 
 -- how many of these turns are retries
 abbrev pub retry_count : List Turn → ℕ

@@ -24,7 +24,7 @@ use Rattle.mc_seq.specs.ForEach.{for_each}
 use Rattle.mc_seq.specs.Ready.{CountsEach, all_of_two, all_takes, next_commands, two_candidates}
 use Rattle.mc_seq.specs.Schedule.{all_candidates, candidates_of, command_candidates, left_by, next_of, shift_of, shift_turn, takes_of, without_next}
 use Rattle.mc_seq.specs.Spare.{AreKeptBut, AreShiftsCounted, AreShiftsKept, AreShiftsLong, others_of, spare_of}
-use Rattle.mc_seq.specs.declared.limit.TheConstants.{SHIFT_LIMIT}
+use Rattle.mc_box.specs.declared.limit.TheConstants.{SHIFT_LIMIT}
 use Rattle.mc_seq.specs.declared.shifting.Shifts.{Shifts}
 use Rattle.mc_seq.proofs.Finds.{takes_each}
 use Rattle.mc_seq.proofs.ForEach.{append_none, each_alike, each_none, each_same}

@@ -28,7 +28,7 @@ use Rattle.mc_seq.specs.declared.fault.SettleFault.{SettleFault}
 use Rattle.mc_seq.specs.declared.fault.SettleFault.TheVariants.{NoMemory, Restless, Ring, VersionEnd}
 use Rattle.mc_seq.specs.declared.fault.Stopped.{Stopped}
 use Rattle.mc_seq.specs.declared.fault.StoppedBox.{StoppedBox}
-use Rattle.mc_seq.specs.declared.limit.TheConstants.{SHIFT_LIMIT}
+use Rattle.mc_box.specs.declared.limit.TheConstants.{SHIFT_LIMIT}
 use Rattle.mc_seq.specs.declared.stopping.Ending.{Ending}
 use Rattle.mc_seq.specs.declared.stopping.Ending.TheVariants.{LastVersion, Rest, Restless as RestlessEnd, Ring as RingEnd}
 use Rattle.mc_seq.proofs.Candidates.{listed_spent}

@@ -17,7 +17,7 @@ use Rattle.mc_seq.specs.Drawing.{turns_of_programs}
 use Rattle.mc_seq.specs.Draws.{RoundsAreFew, ShiftsAreFew}
 use Rattle.mc_seq.specs.Retries.{retries_by_box}
 use Rattle.mc_seq.specs.Schedule.{AreDrawn, Goes, Standing, drawn_turn, due_after, first_standing, shifts_by, standing_after}
-use Rattle.mc_seq.specs.declared.limit.TheConstants.{SHIFT_LIMIT}
+use Rattle.mc_box.specs.declared.limit.TheConstants.{SHIFT_LIMIT}
 use Rattle.mc_seq.proofs.AllowedCommands.{left_pass, next_pass}
 use Rattle.mc_seq.proofs.Candidates.{IsTakeOrShift, drawn_listed}
 use Rattle.mc_seq.proofs.Retries.{boxes_besides}

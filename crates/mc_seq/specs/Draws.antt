@@ -16,7 +16,7 @@ use Rattle.mc_seq.specs.Restless.{IsRestless}
 use Rattle.mc_seq.specs.Schedule.{AreDrawn, Goes, IsStill, Standing, first_standing, candidates, drawn_turn}
 use Rattle.mc_seq.specs.declared.fault.SettleFault.{SettleFault}
 use Rattle.mc_seq.specs.declared.fault.SettleFault.TheVariants.{NoMemory, Restless, Ring, VersionEnd}
-use Rattle.mc_seq.specs.declared.limit.TheConstants.{SHIFT_LIMIT}
+use Rattle.mc_box.specs.declared.limit.TheConstants.{SHIFT_LIMIT}
 
 -- the turns settle a batch by the schedule: they are drawn, with rounds of retries between, until nothing can come and no round is due. The draws begin at one state and end at another
 pub record IsScheduled (world : WorldState) (batch : List Turn) (state : ℕ) (turns : List Turn) (last : WorldState) (end : ℕ) : Type 0 where

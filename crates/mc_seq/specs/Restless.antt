@@ -6,7 +6,7 @@ use Rattle.mc_box.specs.declared.event.Turn.{Turn}
 use Rattle.mc_model.specs.Paths.{has_ring}
 use Rattle.mc_model.specs.Settles.{can_shift, is_quiet, is_shift_of}
 use Rattle.mc_model.specs.Worlds.{WorldState, box_at}
-use Rattle.mc_seq.specs.declared.limit.TheConstants.{SHIFT_LIMIT}
+use Rattle.mc_box.specs.declared.limit.TheConstants.{SHIFT_LIMIT}
 
 -- the program of this box has an enabled transition, and that of no box before it
 pub record IsFirstShifter (world : WorldState) (who : ℕ) : Type 0 where

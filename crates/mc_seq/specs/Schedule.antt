@@ -13,7 +13,7 @@ use Rattle.mc_model.specs.Worlds.{WorldState, box_at}
 use Rattle.mc_world.specs.Waiting.{take_waits}
 use Rattle.mc_seq.specs.ForEach.{for_each}
 use Rattle.mc_seq.specs.Retries.{retries_by_box}
-use Rattle.mc_seq.specs.declared.limit.TheConstants.{SHIFT_LIMIT}
+use Rattle.mc_box.specs.declared.limit.TheConstants.{SHIFT_LIMIT}
 
 -- where a settle stands: its world, the commands that are left, how many turns came since its last command or its beginning, counted to 63, the state of the draws, how many Shifts each box may still make, and whether a round of retries is due: none was made yet, or a Shift came since the last one
 pub record Standing : Type 0 where

@@ -6,7 +6,7 @@ use Rattle.mc_model.specs.Unprogrammed.{HasNoPrograms}
 use Rattle.mc_model.specs.Worlds.{WorldState}
 use Rattle.mc_seq.specs.Ready.{CountsEach}
 use Rattle.mc_seq.specs.Schedule.{command_candidates, shift_of}
-use Rattle.mc_seq.specs.declared.limit.TheConstants.{SHIFT_LIMIT}
+use Rattle.mc_box.specs.declared.limit.TheConstants.{SHIFT_LIMIT}
 use Rattle.mc_seq.specs.declared.shifting.Shifts.{Shifts}
 
 -- at the beginning each box may make all its Shifts

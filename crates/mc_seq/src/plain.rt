@@ -13,12 +13,12 @@ ghost use Rattle.mc_seq.specs.Schedule.{drawn_place, left_by, since_by, without_
 
 use crate::batches::is_command;
 use crate::fault::SettleFault;
-use crate::limit::SHIFT_LIMIT;
 use crate::listing::{all_candidates, is_urgent};
 use crate::retrying::retry_by_box;
 use crate::shifting::count_shift;
 use crate::stopping::{Draw, Ending, answer, first_shifter, heard_slot};
 use mc_box::Turn;
+use mc_box::limit::SHIFT_LIMIT;
 use mc_text::Draws;
 use mc_world::{Settled, StepFault, World};
 use std::alloc::{AllocError, Global};

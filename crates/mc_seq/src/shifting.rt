@@ -11,8 +11,8 @@ ghost use Rattle.mc_seq.specs.Spare.{all_spare, others_of, spare_of};
 
 use crate::batches::has_programs;
 use crate::commands::{Commands, next_command};
-use crate::limit::SHIFT_LIMIT;
 use crate::stopping::Draw;
+use mc_box::limit::SHIFT_LIMIT;
 use mc_box::{Event, Turn};
 use mc_sums::Sums;
 use mc_world::World;

@@ -7,7 +7,7 @@ use Rattle.mc_model.specs.Settles.{is_tell_of}
 use Rattle.mc_model.specs.Worlds.{WorldState, box_at}
 use Rattle.mc_lines.specs.SoFar.{Declared}
 use Rattle.mc_net.specs.Nets.{IsFirstWorld}
-use Rattle.mc_seq.specs.declared.limit.TheConstants.{SHIFT_LIMIT}
+use Rattle.mc_box.specs.declared.limit.TheConstants.{SHIFT_LIMIT}
 
 -- a batch tells each box fewer words than it may make Shifts in a settle
 abbrev pub TellsFew : List Turn → Type 0
