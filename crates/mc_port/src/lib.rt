@@ -1,0 +1,9 @@
+//! One direction between two boxes: a ring buffer of signals that carry stamps, with an end for each box.
+#![tactic(auto)]
+
+mod ends;
+pub mod limit;
+mod stamped;
+
+pub use ends::{InPort, OutPort, drain_beside, pair};
+pub use stamped::Stamped;
