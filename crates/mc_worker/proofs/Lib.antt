@@ -1,0 +1,9 @@
+mod Joins
+mod EndSteps
+mod Shapes
+mod Tables
+mod Making
+mod Turning
+mod Working
+mod Waiting
+mod HaveEnds

@@ -1,0 +1,9 @@
+pub mod EndSets
+pub mod Boxes
+pub mod Places
+pub mod Ends
+pub mod Account
+pub mod Ready
+pub mod Stops
+pub mod Turns
+pub mod Rounds

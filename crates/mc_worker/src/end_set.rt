@@ -1,0 +1,69 @@
+// Sets of channel ends.
+
+ghost use Rattle.std.specs.Prelude.{◌≡◌, ◌==◌, ◌||◌, ◌&&◌, ◌<◌, ℕ, not, true, false, IfNone, IfSome};
+ghost use Rattle.mc_worker.specs.EndSets.{contains_end, has_bit};
+ghost use Rattle.mc_worker.specs.declared.limit.TheConstants.{END_LIMIT};
+
+/// A set of channel ends: a bit for each, so that the first is found at once.
+#[derive(Clone, Copy, PartialEq, Eq, Debug)]
+pub struct EndSet {
+    bits: u64,
+}
+
+impl EndSet {
+    /// No ends.
+    pub fn none() -> EndSet
+        ensures { (end : ℕ) → contains_end result end ≡ false }
+    {
+        EndSet { bits: 0 }
+    }
+
+    /// Adds an end, if it isn't there.
+    pub fn insert(&mut self, end: u8)
+        requires { end < END_LIMIT }
+        ensures { (e : ℕ) → contains_end self.new e ≡ (e == end || contains_end self.old e) }
+    {
+        self.bits = with_bit(self.bits, end);
+    }
+
+    /// Takes an end away, if it is there.
+    pub fn remove(&mut self, end: u8)
+        requires { end < END_LIMIT }
+        ensures { (e : ℕ) → contains_end self.new e ≡ (not (e == end) && contains_end self.old e) }
+    {
+        self.bits = without_bit(self.bits, end);
+    }
+
+    /// The first end, where there is one.
+    pub fn first(&self) -> Option<u8>
+        ensures some { IfSome result (λ end. (end < END_LIMIT) × (contains_end self.now end ≡ true)) }
+        ensures none { IfNone result ((end : ℕ) → contains_end self.now end ≡ false) }
+    {
+        first_bit(self.bits)
+    }
+}
+
+fn with_bit(bits: u64, place: u8) -> u64
+    requires { place < END_LIMIT }
+    ensures { (k : ℕ) → has_bit result k ≡ (k == place || has_bit bits k) }
+{
+    bits | 1u64 << place
+}
+
+fn without_bit(bits: u64, place: u8) -> u64
+    requires { place < END_LIMIT }
+    ensures { (k : ℕ) → has_bit result k ≡ (not (k == place) && has_bit bits k) }
+{
+    bits & !(1u64 << place)
+}
+
+fn first_bit(bits: u64) -> Option<u8>
+    ensures some { IfSome result (λ place. (place < END_LIMIT) × (has_bit bits place ≡ true)) }
+    ensures none { IfNone result ((k : ℕ) → has_bit bits k ≡ false) }
+{
+    if bits == 0 {
+        None
+    } else {
+        Some(bits.trailing_zeros() as u8)
+    }
+}
