@@ -1,0 +1,87 @@
+// Why rounds end where something is in their way.
+
+ghost use Rattle.std.specs.Prelude.{◌≤◌};
+ghost use Rattle.mc_worker.specs.Ready.{IsReady};
+ghost use Rattle.mc_worker.specs.declared.limit.TheConstants.{FIRST_STAMP_LIMIT};
+
+use crate::equal::is_equal;
+use crate::phones::{phone, worker};
+use crate::rounds::HOLDS;
+use mc_box::{Event, MediaChange};
+use mc_io::OpenGate;
+use mc_port::{Stamped, pair};
+use mc_signal::{CodecList, Descriptor, Medium, Signal};
+use mc_worker::{Stop, Worker};
+use std::process::Abort;
+use std::test::Fail;
+
+#[test]
+fn a_hear_at_the_last_version_ends_a_round(rt: HostRuntime) -> Result<(), Fail> {
+    let alloc = rt.alloc();
+    let (out, _far_in) = pair(alloc)?;
+    let (_far_out, taking) = pair(alloc)?;
+    let hears = Event::Media(MediaChange::Hear(0, true));
+    let last = phone(alloc, 0, u32::MAX)?;
+    let mut last = worker(alloc, last, out, taking, hears)?;
+    assert!(rt; last.has_work(false));
+    let end = last.round(&OpenGate, false);
+    assert!(rt; matches!(end.stop, Stop::VersionEnd(0)));
+    is_equal(&rt, &end.turns, &0);
+    is_equal(&rt, &last.stimuli.front(), &Some(hears));
+    Ok(())
+}
+
+// A descriptor of another phone.
+fn far() -> Descriptor {
+    Descriptor {
+        origin: 0,
+        version: 1,
+        addr: 1,
+        port: 5000,
+        codecs: CodecList::none(),
+    }
+}
+
+fn item(stamp: u32, tunnel: u8, signal: Signal) -> Stamped {
+    Stamped {
+        stamp,
+        tunnel,
+        signal,
+    }
+}
+
+// The phone has this item next and can't take it, after so many turns.
+fn is_strange(rt: &impl Abort, phone: &mut Worker, item: Stamped, turns: u32)
+    requires ready { IsReady phone.old }
+    requires stamp { phone.old.stamp ≤ FIRST_STAMP_LIMIT }
+    ensures { IsReady phone.new }
+{
+    let end = phone.round(&OpenGate, false);
+    assert!(rt; matches!(end.stop, Stop::Strange(0, tunnel) if tunnel == item.tunnel));
+    is_equal(rt, &end.turns, &turns);
+}
+
+// A phone that finds this item in its ring leaves it there, in this round and in the next.
+fn stays(rt: &(impl Abort + AllocGlobal), item: Stamped) -> Result<(), Fail> {
+    let alloc = rt.alloc();
+    let (out, _far_in) = pair(alloc)?;
+    let (mut far_out, taking) = pair(alloc)?;
+    is_equal(rt, &far_out.give(item), &Ok(()));
+    let bob = phone(alloc, 1, 1)?;
+    let mut bob = worker(alloc, bob, out, taking, HOLDS)?;
+    is_strange(rt, &mut bob, item, 1);
+    bob.stamp = 0;
+    is_strange(rt, &mut bob, item, 0);
+    assert!(rt; bob.ins.len() == 1);
+    is_equal(rt, &bob.ins[0].take(), &Some(item));
+    Ok(())
+}
+
+// A signal that a closed slot may not take, one of a tunnel that no slot has, and one with too great a stamp.
+#[test]
+fn what_cant_be_taken_stays(rt: HostRuntime) -> Result<(), Fail> {
+    let open = Signal::Open(Medium::Audio, far());
+    stays(&rt, item(1, 0, Signal::Oack(far())))?;
+    stays(&rt, item(1, 5, open))?;
+    stays(&rt, item(16_777_217, 0, open))
+}
