@@ -12,5 +12,5 @@ pub const STAMP_LIMIT: u32 = 16_777_216;
 /// The greatest stamp that a worker may have when a round begins.
 pub const FIRST_STAMP_LIMIT: u32 = 33_554_432;
 
-// How many entries the table of places has: one for each tunnel of each channel end.
+/// How many entries the table of places has: one for each tunnel of each channel end.
 pub const TABLE_LEN: usize = 512;
