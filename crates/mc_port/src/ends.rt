@@ -131,6 +131,7 @@ pub fn drain_beside(
     ensures in_ring { in_ring to.new ≡ in_ring to.old }
     ensures given { given from.new ≡ given from.old }
     ensures left { OnOk result (received to.old ++ left_in from.old to.old ≡ given from.old) }
+    ensures knew { OnOk result (IsPrefix (known to.old) (left_in from.old to.old)) }
     ensures received { OnOk result (received to.new ≡ given from.old) }
     ensures empty { OnOk result (known to.new ≡ []) }
     ensures moved { OnOk result (into.new.items ≡ into.old.items ++ map without_stamp (left_in from.old to.old)) }
