@@ -12,7 +12,7 @@ use Rattle.mc_port.specs.declared.stamped.Stamped.{Stamped}
 use Rattle.mc_port.specs.declared.ends.OutPort.{OutPort}
 use Rattle.mc_port.specs.declared.ends.InPort.{InPort}
 use Rattle.mc_worker.specs.Boxes.{box_of}
-use Rattle.mc_worker.specs.Ends.{InAccount, InEnd, IsIdle, OutAccount, OutEnd, Passed, WasLookedAt, if_at, in_end, next_from, next_in, out_end, ring_end, unclaimed}
+use Rattle.mc_worker.specs.Ends.{InAccount, InEnd, IsIdle, OutAccount, Passed, WasLookedAt, if_at, in_end, in_end_of, next_from, next_in, out_end, out_end_of, ring_end, unclaimed}
 use Rattle.mc_worker.proofs.Joins.{in_still, looked_on, out_still, took_on}
 
 -- an element of a list that a function was applied to
@@ -27,22 +27,18 @@ at_other f l i s y d h = grind (arith, common_steps, map-set)
 
 -- ---- on the way out
 
--- a port with what waits beside it
-abbrev out_of : OutPort → List Stamped → OutEnd
-out_of port box = record { outbox = box; given = given port; free = free_places port }
-
-out_here : (ports : List OutPort) (boxes : List (List Stamped)) (i : ℕ) (p : OutPort) → i < length ports → p ≡ slice_index_or ports i p → out_end ports boxes i ≡ out_of p (box_of boxes i)
+pub out_here : (ports : List OutPort) (boxes : List (List Stamped)) (i : ℕ) (p : OutPort) → i < length ports → p ≡ slice_index_or ports i p → out_end ports boxes i ≡ out_end_of p (box_of boxes i)
 out_here ports boxes i p h e = rw (at_map given ports i p [] h e, at_map free_places ports i p 0 h e) refl
 
-out_set : (ports : List OutPort) (boxes : List (List Stamped)) (i : ℕ) (p : OutPort) → i < length ports → out_end (slice_set ports i p) boxes i ≡ out_of p (box_of boxes i)
+pub out_set : (ports : List OutPort) (boxes : List (List Stamped)) (i : ℕ) (p : OutPort) → i < length ports → out_end (slice_set ports i p) boxes i ≡ out_end_of p (box_of boxes i)
 out_set ports boxes i p h = rw (at_set given ports i p [] h, at_set free_places ports i p 0 h) refl
 
-out_other : (ports : List OutPort) (boxes new : List (List Stamped)) (i s : ℕ) (p : OutPort) → s ≢ i → box_of new s ≡ box_of boxes s → out_end (slice_set ports i p) new s ≡ out_end ports boxes s
+pub out_other : (ports : List OutPort) (boxes new : List (List Stamped)) (i s : ℕ) (p : OutPort) → s ≢ i → box_of new s ≡ box_of boxes s → out_end (slice_set ports i p) new s ≡ out_end ports boxes s
 out_other ports boxes new i s p off same = rw (at_other given ports i s p [] off, at_other free_places ports i s p 0 off, same) refl
 
 out_by : (same : Bool) (ports : List OutPort) (boxes new : List (List Stamped)) (i s : ℕ) (p0 p : OutPort) (item : Stamped) → (i == s) ≡ same
     → i < length ports → p0 ≡ slice_index_or ports i p0 → ((e : ℕ) → e ≢ i → box_of new e ≡ box_of boxes e)
-    → OutAccount (out_of p0 (box_of boxes i)) (out_of p (box_of new i)) (item ∷ []) → OutAccount (out_end ports boxes s) (out_end (slice_set ports i p) new s) (if same then item ∷ [] else [])
+    → OutAccount (out_end_of p0 (box_of boxes i)) (out_end_of p (box_of new i)) (item ∷ []) → OutAccount (out_end ports boxes s) (out_end (slice_set ports i p) new s) (if same then item ∷ [] else [])
 out_by true ports boxes new i s p0 p item is h e others account =
     let at : i ≡ s = grind (arith, common_steps) in
     subst (λ (t : ℕ). OutAccount (out_end ports boxes t) (out_end (slice_set ports i p) new t) (item ∷ [])) at (rw (out_here ports boxes i p0 h e, out_set ports new i p h) account)
@@ -52,7 +48,7 @@ out_by false ports boxes new i s p0 p item is h e others account =
 
 -- a change at one end sends there, and nothing elsewhere
 pub out_put : (ports : List OutPort) (boxes new : List (List Stamped)) (i : ℕ) (p0 p : OutPort) (item : Stamped) → i < length ports → p0 ≡ slice_index_or ports i p0
-    → ((e : ℕ) → e ≢ i → box_of new e ≡ box_of boxes e) → OutAccount (out_of p0 (box_of boxes i)) (out_of p (box_of new i)) (item ∷ [])
+    → ((e : ℕ) → e ≢ i → box_of new e ≡ box_of boxes e) → OutAccount (out_end_of p0 (box_of boxes i)) (out_end_of p (box_of new i)) (item ∷ [])
     → (s : ℕ) → OutAccount (out_end ports boxes s) (out_end (slice_set ports i p) new s) (if_at i s item)
 out_put ports boxes new i p0 p item h e others account s = out_by (i == s) ports boxes new i s p0 p item refl h e others account
 
@@ -73,11 +69,11 @@ pub out_kept : (ports : List OutPort) (boxes new : List (List Stamped)) (i : ℕ
 out_kept ports boxes new i item some more others s = kept_by (i == s) ports boxes new i s item refl some more others
 
 -- the ring took the item
-pub gave : (p0 p : OutPort) (box : List Stamped) (item : Stamped) → box ≡ [] → given p ≡ given p0 ++ item ∷ [] → free_places p0 ≤ free_places p + 1 → OutAccount (out_of p0 box) (out_of p box) (item ∷ [])
+pub gave : (p0 p : OutPort) (box : List Stamped) (item : Stamped) → box ≡ [] → given p ≡ given p0 ++ item ∷ [] → free_places p0 ≤ free_places p + 1 → OutAccount (out_end_of p0 box) (out_end_of p box) (item ∷ [])
 gave p0 p box item none more places = record { put = item ∷ []; kept = []; ring = more; outbox = sym (append-nil box); order = refl; waits = λ some. absurd (some none); full = λ h some. absurd (some refl); places = places }
 
 -- the ring was full
-pub handed_back : (p0 p : OutPort) (box new : List Stamped) (item : Stamped) → box ≡ [] → given p ≡ given p0 → free_places p0 ≡ 0 → free_places p ≡ 0 → new ≡ box ++ item ∷ [] → OutAccount (out_of p0 box) (out_of p new) (item ∷ [])
+pub handed_back : (p0 p : OutPort) (box new : List Stamped) (item : Stamped) → box ≡ [] → given p ≡ given p0 → free_places p0 ≡ 0 → free_places p ≡ 0 → new ≡ box ++ item ∷ [] → OutAccount (out_end_of p0 box) (out_end_of p new) (item ∷ [])
 handed_back p0 p box new item none same before now more = record {
   put = [];
   kept = item ∷ [];
@@ -109,13 +105,10 @@ sends_more tunnels stamp sent i sending inside is = grind (arith, common_steps)
 
 -- ---- on the way in
 
-abbrev in_of : InPort → List Tagged → InEnd
-in_of port box = record { inbox = box; got = received port; known = known port; looks = look_count port }
-
-in_here : (ports : List InPort) (boxes : List (List Tagged)) (i : ℕ) (p : InPort) → i < length ports → p ≡ slice_index_or ports i p → in_end ports boxes i ≡ in_of p (box_of boxes i)
+pub in_here : (ports : List InPort) (boxes : List (List Tagged)) (i : ℕ) (p : InPort) → i < length ports → p ≡ slice_index_or ports i p → in_end ports boxes i ≡ in_end_of p (box_of boxes i)
 in_here ports boxes i p h e = rw (at_map received ports i p [] h e, at_map known ports i p [] h e, at_map look_count ports i p 0 h e) refl
 
-in_set : (ports : List InPort) (boxes : List (List Tagged)) (i : ℕ) (p : InPort) → i < length ports → in_end (slice_set ports i p) boxes i ≡ in_of p (box_of boxes i)
+pub in_set : (ports : List InPort) (boxes : List (List Tagged)) (i : ℕ) (p : InPort) → i < length ports → in_end (slice_set ports i p) boxes i ≡ in_end_of p (box_of boxes i)
 in_set ports boxes i p h = rw (at_set received ports i p [] h, at_set known ports i p [] h, at_set look_count ports i p 0 h) refl
 
 pub in_other : (ports : List InPort) (boxes new : List (List Tagged)) (i s : ℕ) (p : InPort) → s ≢ i → box_of new s ≡ box_of boxes s → in_end (slice_set ports i p) new s ≡ in_end ports boxes s
@@ -123,7 +116,7 @@ in_other ports boxes new i s p off same = rw (at_other received ports i s p [] o
 
 in_by : (same : Bool) (ports : List InPort) (boxes new : List (List Tagged)) (i s : ℕ) (p0 p : InPort) (taken : List Stamped) → (i == s) ≡ same
     → i < length ports → p0 ≡ slice_index_or ports i p0 → ((e : ℕ) → e ≢ i → box_of new e ≡ box_of boxes e)
-    → InAccount (in_of p0 (box_of boxes i)) (in_of p (box_of new i)) taken → InAccount (in_end ports boxes s) (in_end (slice_set ports i p) new s) (if same then taken else [])
+    → InAccount (in_end_of p0 (box_of boxes i)) (in_end_of p (box_of new i)) taken → InAccount (in_end ports boxes s) (in_end (slice_set ports i p) new s) (if same then taken else [])
 in_by true ports boxes new i s p0 p taken is h e others account =
     let at : i ≡ s = grind (arith, common_steps) in
     subst (λ (t : ℕ). InAccount (in_end ports boxes t) (in_end (slice_set ports i p) new t) taken) at (rw (in_here ports boxes i p0 h e, in_set ports new i p h) account)
@@ -133,7 +126,7 @@ in_by false ports boxes new i s p0 p taken is h e others account =
 
 -- a taking at one end, from its ring
 pub in_take : (ports : List InPort) (boxes new : List (List Tagged)) (i : ℕ) (p0 p : InPort) (taken : List Stamped) → i < length ports → p0 ≡ slice_index_or ports i p0
-    → ((e : ℕ) → e ≢ i → box_of new e ≡ box_of boxes e) → InAccount (in_of p0 (box_of boxes i)) (in_of p (box_of new i)) taken
+    → ((e : ℕ) → e ≢ i → box_of new e ≡ box_of boxes e) → InAccount (in_end_of p0 (box_of boxes i)) (in_end_of p (box_of new i)) taken
     → (s : ℕ) → InAccount (in_end ports boxes s) (in_end (slice_set ports i p) new s) (if i == s then taken else [])
 in_take ports boxes new i p0 p taken h e others account s = in_by (i == s) ports boxes new i s p0 p taken refl h e others account
 
@@ -142,12 +135,12 @@ if_nothing true = refl
 if_nothing false = refl
 
 -- a look at one ring takes nothing
-pub in_look : (ports : List InPort) (i : ℕ) (p0 p : InPort) → i < length ports → p0 ≡ slice_index_or ports i p0 → InAccount (in_of p0 []) (in_of p []) []
+pub in_look : (ports : List InPort) (i : ℕ) (p0 p : InPort) → i < length ports → p0 ≡ slice_index_or ports i p0 → InAccount (in_end_of p0 []) (in_end_of p []) []
     → (s : ℕ) → InAccount (ring_end ports s) (ring_end (slice_set ports i p) s) []
 in_look ports i p0 p h e account s =
     subst (λ (l : List Stamped). InAccount (ring_end ports s) (ring_end (slice_set ports i p) s) l) (if_nothing (i == s)) (in_take ports [] [] i p0 p [] h e (λ k off. refl) account s)
 
-pub ring_looked : (p0 p : InPort) → received p ≡ received p0 → IsPrefix (known p0) (known p) → look_count p0 ≤ look_count p → InAccount (in_of p0 []) (in_of p []) []
+pub ring_looked : (p0 p : InPort) → received p ≡ received p0 → IsPrefix (known p0) (known p) → look_count p0 ≤ look_count p → InAccount (in_end_of p0 []) (in_end_of p []) []
 ring_looked p0 p same more looks = record {
   gave = [];
   ring = same ∙ sym (append-nil (received p0));
@@ -169,11 +162,11 @@ pub idle_from : (a b c : InEnd) → a.looks ≤ b.looks → IsIdle b c → IsIdl
 idle_from a b c h idle = record { inbox = idle.inbox; known = idle.known; looked = looked_from a b c h idle.looked }
 
 -- the ring that was looked at last is idle since the beginning
-pub idle_here : (first : InEnd) (ports : List InPort) (i : ℕ) (p0 p : InPort) → i < length ports → p0 ≡ slice_index_or ports i p0 → first.looks ≤ (ring_end ports i).looks → IsIdle (in_of p0 []) (in_of p [])
+pub idle_here : (first : InEnd) (ports : List InPort) (i : ℕ) (p0 p : InPort) → i < length ports → p0 ≡ slice_index_or ports i p0 → first.looks ≤ (ring_end ports i).looks → IsIdle (in_end_of p0 []) (in_end_of p [])
     → IsIdle first (ring_end (slice_set ports i p) i)
 idle_here first ports i p0 p h e before idle =
     let old : first.looks ≤ look_count p0 = subst (λ (end : InEnd). first.looks ≤ end.looks) (in_here ports [] i p0 h e) before in
-    subst (λ (end : InEnd). IsIdle first end) (sym (in_set ports [] i p h)) (idle_from first (in_of p0 []) (in_of p []) old idle)
+    subst (λ (end : InEnd). IsIdle first end) (sym (in_set ports [] i p h)) (idle_from first (in_end_of p0 []) (in_end_of p []) old idle)
 
 -- an end that was passed stays so where another end is looked at
 pub passed_there : (from : ℕ) (first : InEnd) (ports : List InPort) (i s : ℕ) (p : InPort) → s ≢ i → Passed from s first (ring_end ports s) → Passed from s first (ring_end (slice_set ports i p) s)
@@ -204,7 +197,7 @@ popped ports boxes new i tagged item is first others s = by (i == s) refl
 
 -- the ring gave what was taken, where nothing waited in the inbox
 pub ring_took : (taken : Option Stamped) (p0 p : InPort) (box new : List Tagged) → box ≡ [] → new ≡ [] → MatchOption taken (received p ≡ received p0) (λ item. received p ≡ received p0 ++ item ∷ [])
-    → MatchOption taken (known p ≡ []) (λ item. IsPrefix (known p0) (item ∷ known p)) → IfNone taken (KnowsNothing p0 p) → look_count p0 ≤ look_count p → InAccount (in_of p0 box) (in_of p new) (option_to_list taken)
+    → MatchOption taken (known p ≡ []) (λ item. IsPrefix (known p0) (item ∷ known p)) → IfNone taken (KnowsNothing p0 p) → look_count p0 ≤ look_count p → InAccount (in_end_of p0 box) (in_end_of p new) (option_to_list taken)
 ring_took None p0 p box new none gone got more nothing looks = record {
   gave = [];
   ring = got ∙ sym (append-nil (received p0));

@@ -7,3 +7,4 @@ mod Turning
 mod Working
 mod Waiting
 mod HaveEnds
+mod BroughtIn

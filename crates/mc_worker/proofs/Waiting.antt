@@ -1,11 +1,13 @@
 -- Boxes of channel ends, and the set of those that have something.
-use Rattle.std.proofs.Common.{◌≡◌, ◌≢◌, zero, ℕ, suc, ◌+◌, ◌*◌, ◌%◌, ◌^◌, ◌<◌, ◌≤◌, Bool, true, false, ◌==◌, ◌&&◌, ◌||◌, not, nat_lt, List, [], ◌∷◌, length, slice_set, slice_index_or, Option, Some, None, refl, sym, ◌∙◌, ap, inl, inr, arith, w64, ◌++◌}
-use Rattle.std.specs.Int.{bit_at, bit_not}
+use Rattle.std.proofs.Common.{◌≡◌, ◌≢◌, zero, ℕ, suc, ◌+◌, ◌*◌, ◌%◌, ◌^◌, ◌<◌, ◌≤◌, Bool, true, false, ◌==◌, ◌&&◌, ◌||◌, ◌↔◌, not, cond, if◌then◌else◌, nat_lt, count_by, count_ones, get_or, map, List, [], ◌∷◌, length, slice_set, slice_index_or, Option, Some, None, refl, sym, ◌∙◌, ap, inl, inr, arith, w64, ◌++◌}
+use Rattle.std.specs.Int.{bit_at, bit_not, trailing_zeros}
 use Rattle.std.specs.Int.Bits.{bit_and}
 use Rattle.std.specs.Int.RustNames.{bit_or}
 use Rattle.std.proofs.lemmas.Bool.{cases_eq, cases_lt}
 use Rattle.std.proofs.lemmas.Nat.{and_le_l}
-use Rattle.std.proofs.lemmas.Nat.Bits.{bit_at_above, bit_at_clear_other, bit_at_clear_same, bit_at_set_other, bit_at_set_same}
+use Rattle.std.proofs.lemmas.Nat.Bits.{bit_at-lt, bit_at-trailing_zeros, bit_at-zero, bit_at_above, bit_at_clear_other, bit_at_clear_same, bit_at_set_other, bit_at_set_same, same_from_bits}
+use Rattle.std.proofs.lemmas.Simd.{bit_mask_l, ones-mask_l}
+use lib.Lanes.{mask_l}
 use Rattle.mc_lane.specs.Queue.{Queue, TakesFirst}
 use Rattle.mc_signal.specs.declared.Tagged.{Tagged}
 use Rattle.mc_worker.specs.Boxes.{AreEmpty, AreWaiting, box_of, has_items, items_of, spare_at}
@@ -70,6 +72,29 @@ waiting_still old new waiting at taken are others takes some e = elim (cases_eq 
     had None xs ys takes some = absurd (none_there ys takes.1 some)
     had (Some x) xs ys takes some = rw takes (some_in ys)
 
+-- no end is in the set just where nothing waits
+pub none_waits : {P : Type 0} (boxes : List (List Tagged)) (waiting : EndSet) → AreWaiting boxes waiting → (P ↔ ((e : ℕ) → contains_end waiting e ≡ false)) → P ↔ AreEmpty boxes
+none_waits {P} boxes waiting are says = (λ p e. nothing_in (box_of boxes e) (sym (are e) ∙ says.0 p e), λ empty. says.1 (λ e. are e ∙ ap has_items (empty e)))
+
+bit_by_test : (n : ℕ) → n < 2 → n ≡ cond (n == 1) 1 0
+bit_by_test n small = elim (cases_eq n 1) [
+  | inl same ↦ rw same refl
+  | inr off ↦ let none : n ≡ 0 = omega arith in rw none refl
+]
+
+has_at : (boxes : List (List Tagged)) (i : ℕ) → get_or (map has_items boxes) i false ≡ has_items (box_of boxes i)
+has_at [] i = refl
+has_at (box ∷ boxes) zero = refl
+has_at (box ∷ boxes) (suc i) = has_at boxes i
+
+-- the set's word has as many ones as boxes have something
+pub count_waiting : (boxes : List (List Tagged)) (waiting : EndSet) → AreWaiting boxes waiting → count_ones waiting.bits ≡ count_by has_items boxes
+count_waiting boxes waiting are =
+    let same : waiting.bits ≡ mask_l (map has_items boxes) =
+    same_from_bits waiting.bits (mask_l (map has_items boxes))
+    (λ i. bit_by_test (bit_at waiting.bits i) (bit_at-lt waiting.bits i) ∙ (ap (λ (b : Bool). cond b 1 0) (are i ∙ sym (has_at boxes i)) ∙ sym (bit_mask_l (map has_items boxes) i))) in
+    ap count_ones same ∙ ones-mask_l has_items boxes
+
 -- ---- room
 
 spare_by : {X : Type 0} (same : Bool) (queues : List (Queue X)) (i e less : ℕ) (old new : Queue X) → (e == i) ≡ same → i < length queues → old ≡ slice_index_or queues i old → old.spare ≤ new.spare + less
@@ -104,3 +129,26 @@ removed n k end within fits = elim (cases_lt end 64) [
   ]
   | inr past ↦ rw (bit_at_above n 64 end fits past, bit_at_above (bit_and n (bit_not w64 (1 * 2 ^ k % 2 ^ 64))) 64 end (let less = and_le_l n (bit_not w64 (1 * 2 ^ k % 2 ^ 64)) in omega (arith, less, fits)) past) (grind arith)
 ]
+
+-- a bit set as is asked
+pub set_on : (test is_in before : Bool) → is_in ≡ true → (test || before) ≡ (if test then is_in else before)
+set_on true is_in before on = sym on
+set_on false is_in before on = refl
+
+pub set_off : (test is_in before : Bool) → is_in ≡ false → (not test && before) ≡ (if test then is_in else before)
+set_off true is_in before off = sym off
+set_off false is_in before off = refl
+
+-- a word is 0 just where it has no bit
+pub no_bit : (n : ℕ) → n < 2 ^ 64 → ((n == 0) ≡ true) ↔ ((k : ℕ) → (bit_at n k == 1) ≡ false)
+no_bit n fits = (
+  λ is k. let zero : n ≡ 0 = grind (arith, is) in ap (λ (x : ℕ). x == 1) (ap (λ (m : ℕ). bit_at m k) zero ∙ bit_at-zero k),
+  λ none. elim (cases_eq n 0) [
+    | inl same ↦ ap (λ (m : ℕ). m == 0) same
+    | inr some ↦
+        let first = bit_at-trailing_zeros w64 n (omega arith) fits in
+        let here : (bit_at n (trailing_zeros w64 n) == 1) ≡ true = ap (λ (x : ℕ). x == 1) first.1 in
+        let not_here = none (trailing_zeros w64 n) in
+        cc
+  ],
+)

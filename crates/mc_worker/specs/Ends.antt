@@ -31,6 +31,10 @@ pub record OutAccount (old new : OutEnd) (sent : List Stamped) : Type 0 where
   pub full : old.outbox ≡ [] → kept ≢ [] → new.free ≡ 0
   pub places : old.free ≤ new.free + length put
 
+-- an end by its port and its outbox
+abbrev pub out_end_of : OutPort → List Stamped → OutEnd
+out_end_of port box = record { outbox = box; given = given port; free = free_places port }
+
 -- an end by its number, and nothing past the last one
 abbrev pub out_end : List OutPort → List (List Stamped) → ℕ → OutEnd
 out_end ports boxes end = record {
@@ -67,6 +71,10 @@ pub record InAccount (old new : InEnd) (taken : List Stamped) : Type 0 where
   -- what was known stays known, or was taken
   pub knows : IsPrefix (old.got ++ old.known) (new.got ++ new.known)
   pub looks : old.looks ≤ new.looks
+
+-- an end by its port and its inbox
+abbrev pub in_end_of : InPort → List Tagged → InEnd
+in_end_of port box = record { inbox = box; got = received port; known = known port; looks = look_count port }
 
 -- an end by its number, and nothing past the last one
 abbrev pub in_end : List InPort → List (List Tagged) → ℕ → InEnd

@@ -7,3 +7,4 @@ pub mod Ready
 pub mod Stops
 pub mod Turns
 pub mod Rounds
+pub mod Carrying

@@ -1,13 +1,19 @@
 // What came for a box before a round.
 
-ghost use Rattle.std.specs.Prelude.{◌≡◌, ◌≢◌, ◌<◌, ◌≤◌, ◌∷◌, ℕ, length, IfNone, IfSome, Some, slice_get};
+ghost use Rattle.std.specs.Prelude.{◌≡◌, ◌≢◌, ◌<◌, ◌≤◌, ◌↔◌, ◌∷◌, ℕ, count_by, length, IfNone, IfOk, IfSome, IsTrue, OnOk, Some, slice_get};
 ghost use Rattle.mc_lane.specs.Queue.{TakesFirst};
-ghost use Rattle.mc_worker.specs.Boxes.{AreEmpty, AreWaiting, box_of, items_of};
+ghost use Rattle.mc_port.specs.Ends.{IsPair, in_ring, out_ring};
+ghost use Rattle.mc_worker.specs.Boxes.{AreEmpty, AreWaiting, box_of, has_items, items_of};
+ghost use Rattle.mc_worker.specs.Carrying.{IsBroughtIn, under_way_between};
+ghost use Rattle.mc_worker.specs.Ends.{in_end_of, out_end_of};
 ghost use Rattle.mc_worker.specs.declared.limit.TheConstants.{END_LIMIT};
 
 use crate::end_set::EndSet;
+use crate::outboxes::Outboxes;
 use mc_lane::Lane;
+use mc_port::{InPort, OutPort, drain_beside};
 use mc_signal::Tagged;
+use std::alloc::AllocError;
 use std::marker::Model;
 
 /// An inbox for each channel end of a box, and the set of those that have something, so that an empty one is never
@@ -73,6 +79,115 @@ impl Inboxes {
         }
         tagged
     }
+
+    /// Whether no inbox has anything. It touches none of them.
+    pub fn is_empty(&self) -> bool
+        ensures { IsTrue result ↔ AreEmpty self.now }
+    {
+        self.waiting.is_empty()
+    }
+
+    /// At how many ends something waits. It touches no inbox.
+    pub fn count_ends(&self) -> u32
+        ensures { result ≡ count_by has_items self.now }
+    {
+        self.waiting.count()
+    }
+
+    /// Moves what a ring still has, and then what an outbox has, behind what an inbox has. Whether the inbox has
+    /// something then. It fails only for want of memory, and loses nothing then.
+    pub(crate) fn bring_in(
+        &mut self,
+        from: &mut OutPort,
+        outboxes: &mut Outboxes,
+        end: u8,
+        to: &mut InPort,
+        far: u8,
+    ) -> Result<bool, AllocError>
+        requires pair { IsPair from.old to.old }
+        requires outbox { end < length outboxes.old.boxes }
+        requires inbox { far < length self.old }
+        ensures brought { OnOk result (IsBroughtIn
+            (out_end_of from.old (box_of outboxes.old.boxes end)) (out_end_of from.new (box_of outboxes.new.boxes end))
+            (in_end_of to.old (box_of self.old far)) (in_end_of to.new (box_of self.new far))) }
+        ensures waits { IfOk result (λ waits. waits ≡ has_items (box_of self.new far)) }
+        ensures kept { under_way_between
+            (out_end_of from.new (box_of outboxes.new.boxes end)) (in_end_of to.new (box_of self.new far))
+            ≡ under_way_between
+            (out_end_of from.old (box_of outboxes.old.boxes end)) (in_end_of to.old (box_of self.old far)) }
+        ensures out_ring { out_ring from.new ≡ out_ring from.old }
+        ensures in_ring { in_ring to.new ≡ in_ring to.old }
+        ensures other_outboxes { (e : ℕ) → e ≢ end → box_of outboxes.new.boxes e ≡ box_of outboxes.old.boxes e }
+        ensures other_inboxes { (e : ℕ) → e ≢ far → box_of self.new e ≡ box_of self.old e }
+        ensures outboxes { length outboxes.new.boxes ≡ length outboxes.old.boxes }
+        ensures inboxes { length self.new ≡ length self.old }
+    {
+        let brought = bring_to(from, outboxes, end, to, &mut self.lanes, far as usize);
+        let waits = is_waiting(&self.lanes, far as usize);
+        self.waiting.set(far, waits);
+        brought?;
+        Ok(waits)
+    }
+}
+
+// Moves what a ring still has, and then what an outbox has, into one of some lanes.
+fn bring_to(
+    from: &mut OutPort,
+    outboxes: &mut Outboxes,
+    end: u8,
+    to: &mut InPort,
+    lanes: &mut Vec<Lane<Tagged>>,
+    at: usize,
+) -> Result<(), AllocError>
+    requires pair { IsPair from.old to.old }
+    requires outbox { end < length outboxes.old.boxes }
+    requires at { at < length lanes.old.items }
+    ensures brought { OnOk result (IsBroughtIn
+        (out_end_of from.old (box_of outboxes.old.boxes end)) (out_end_of from.new (box_of outboxes.new.boxes end))
+        (in_end_of to.old (box_of (items_of lanes.old.items) at))
+        (in_end_of to.new (box_of (items_of lanes.new.items) at))) }
+    ensures kept { under_way_between
+        (out_end_of from.new (box_of outboxes.new.boxes end))
+        (in_end_of to.new (box_of (items_of lanes.new.items) at))
+        ≡ under_way_between
+        (out_end_of from.old (box_of outboxes.old.boxes end))
+        (in_end_of to.old (box_of (items_of lanes.old.items) at)) }
+    ensures out_ring { out_ring from.new ≡ out_ring from.old }
+    ensures in_ring { in_ring to.new ≡ in_ring to.old }
+    ensures other_outboxes { (e : ℕ) → e ≢ end → box_of outboxes.new.boxes e ≡ box_of outboxes.old.boxes e }
+    ensures other_lanes { (e : ℕ) → e ≢ at
+        → box_of (items_of lanes.new.items) e ≡ box_of (items_of lanes.old.items) e }
+    ensures outboxes { length outboxes.new.boxes ≡ length outboxes.old.boxes }
+    ensures lanes { length lanes.new.items ≡ length lanes.old.items }
+{
+    bring_into(from, outboxes, end, to, &mut lanes[at])
+}
+
+// Moves what a ring still has, and then what an outbox has, into a lane.
+fn bring_into(
+    from: &mut OutPort,
+    outboxes: &mut Outboxes,
+    end: u8,
+    to: &mut InPort,
+    lane: &mut Lane<Tagged>,
+) -> Result<(), AllocError>
+    requires pair { IsPair from.old to.old }
+    requires outbox { end < length outboxes.old.boxes }
+    ensures brought { OnOk result (IsBroughtIn
+        (out_end_of from.old (box_of outboxes.old.boxes end)) (out_end_of from.new (box_of outboxes.new.boxes end))
+        (in_end_of to.old lane.old.items) (in_end_of to.new lane.new.items)) }
+    ensures kept { under_way_between
+        (out_end_of from.new (box_of outboxes.new.boxes end)) (in_end_of to.new lane.new.items)
+        ≡ under_way_between
+        (out_end_of from.old (box_of outboxes.old.boxes end)) (in_end_of to.old lane.old.items) }
+    ensures out_ring { out_ring from.new ≡ out_ring from.old }
+    ensures in_ring { in_ring to.new ≡ in_ring to.old }
+    ensures other_outboxes { (e : ℕ) → e ≢ end → box_of outboxes.new.boxes e ≡ box_of outboxes.old.boxes e }
+    ensures outboxes { length outboxes.new.boxes ≡ length outboxes.old.boxes }
+{
+    drain_beside(from, to, lane)?;
+    outboxes.move_all(end, lane)?;
+    Ok(())
 }
 
 // Takes the first that a lane has, where it has something.
@@ -84,6 +199,14 @@ fn pop_at(lanes: &mut Vec<Lane<Tagged>>, at: usize) -> Option<Tagged>
     ensures len { length lanes.new.items ≡ length lanes.old.items }
 {
     lanes[at].pop()
+}
+
+// Whether one of some lanes has something.
+fn is_waiting(lanes: &Vec<Lane<Tagged>>, at: usize) -> bool
+    requires { at < length lanes.now.items }
+    ensures { result ≡ has_items (box_of (items_of lanes.now.items) at) }
+{
+    !lanes[at].is_empty()
 }
 
 // The ends whose lanes have something.

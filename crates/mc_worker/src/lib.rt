@@ -3,6 +3,7 @@
 #![tactic(auto)]
 
 mod acting;
+mod carrying;
 mod end_set;
 mod inboxes;
 pub mod laws;
@@ -19,6 +20,7 @@ mod taking;
 mod turns;
 mod worker;
 
+pub use carrying::{carry, carry_within};
 pub use end_set::EndSet;
 pub use inboxes::Inboxes;
 pub use logged::Logged;

@@ -1,10 +1,12 @@
 // What a box sent and its rings had no place for.
 
-ghost use Rattle.std.specs.Prelude.{◌≡◌, ◌≢◌, ◌+◌, ◌^◌, ◌<◌, ◌≤◌, ◌∷◌, ◌++◌, [], ℕ, length, OnOk};
+ghost use Rattle.std.specs.Prelude.{◌≡◌, ◌≢◌, ◌+◌, ◌^◌, ◌<◌, ◌≤◌, ◌∷◌, ◌++◌, [], ℕ, length, map, OnErr, OnOk};
+ghost use Rattle.mc_port.specs.Ends.{without_stamp};
 ghost use Rattle.mc_worker.specs.Boxes.{EachHasRoom, box_of, has_items, items_of, spare_at};
 
 use mc_lane::Lane;
 use mc_port::Stamped;
+use mc_signal::Tagged;
 use std::alloc::AllocError;
 use std::marker::Model;
 
@@ -78,6 +80,59 @@ impl Outboxes {
         self.room = wanted;
         Ok(())
     }
+
+    /// Moves all that an outbox has behind what a lane has, without its stamps. It fails only for want of memory, and
+    /// moves nothing then.
+    pub(crate) fn move_all(&mut self, end: u8, into: &mut Lane<Tagged>) -> Result<(), AllocError>
+        requires { end < length self.old.boxes }
+        ensures emptied { OnOk result (box_of self.new.boxes end ≡ []) }
+        ensures moved { OnOk result (into.new.items
+            ≡ into.old.items ++ map without_stamp (box_of self.old.boxes end)) }
+        ensures kept { OnErr result ((box_of self.new.boxes end ≡ box_of self.old.boxes end)
+            × (into.new.items ≡ into.old.items)) }
+        ensures others { (e : ℕ) → e ≢ end → box_of self.new.boxes e ≡ box_of self.old.boxes e }
+        ensures ends { length self.new.boxes ≡ length self.old.boxes }
+        ensures room { self.new.room ≡ self.old.room }
+    {
+        move_at(&mut self.lanes, end as usize, into)
+    }
+}
+
+// Moves all that one of some lanes has.
+fn move_at(
+    lanes: &mut Vec<Lane<Stamped>>,
+    at: usize,
+    into: &mut Lane<Tagged>,
+) -> Result<(), AllocError>
+    requires { at < length lanes.old.items }
+    ensures emptied { OnOk result (box_of (items_of lanes.new.items) at ≡ []) }
+    ensures moved { OnOk result (into.new.items
+        ≡ into.old.items ++ map without_stamp (box_of (items_of lanes.old.items) at)) }
+    ensures kept { OnErr result ((box_of (items_of lanes.new.items) at ≡ box_of (items_of lanes.old.items) at)
+        × (into.new.items ≡ into.old.items)) }
+    ensures others { (e : ℕ) → e ≢ at
+        → box_of (items_of lanes.new.items) e ≡ box_of (items_of lanes.old.items) e }
+    ensures len { length lanes.new.items ≡ length lanes.old.items }
+    ensures room { (e : ℕ) → spare_at lanes.old.items e ≤ spare_at lanes.new.items e }
+{
+    move_lane(&mut lanes[at], into)
+}
+
+// Moves all that a lane has behind what another one has, without its stamps.
+fn move_lane(from: &mut Lane<Stamped>, into: &mut Lane<Tagged>) -> Result<(), AllocError>
+    ensures emptied { OnOk result (from.new.items ≡ []) }
+    ensures moved { OnOk result (into.new.items ≡ into.old.items ++ map without_stamp from.old.items) }
+    ensures kept { OnErr result ((from.new.items ≡ from.old.items) × (into.new.items ≡ into.old.items)) }
+    ensures room { from.old.spare ≤ from.new.spare }
+{
+    into.reserve(from.len())?;
+    while let Some(item) = from.pop() {
+        into.push(Tagged {
+            tunnel: item.tunnel,
+            signal: item.signal,
+        });
+    }
+    Ok(())
 }
 
 // Puts an item last into a lane, where there is room.

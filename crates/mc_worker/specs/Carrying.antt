@@ -1,0 +1,34 @@
+-- What is carried from one box to another when their rounds are over: all that is under way at a channel end goes into the inbox at the far end.
+use Rattle.std.specs.Prelude.{◌≡◌, List, [], ◌++◌, drop, length, map}
+use mathlib.Core.List.{IsPrefix}
+use Rattle.mc_port.specs.Ends.{without_stamp}
+use Rattle.mc_port.specs.declared.stamped.Stamped.{Stamped}
+use Rattle.mc_signal.specs.declared.Tagged.{Tagged}
+use Rattle.mc_worker.specs.Ends.{InAccount, InEnd, OutAccount, OutEnd}
+
+-- what the ring between two ends still has
+abbrev pub left_between : OutEnd → InEnd → List Stamped
+left_between out taking = drop (length taking.got) out.given
+
+-- what is under way from the one end to the other: what waits in the inbox, then what the ring has, then what had no place there
+abbrev pub under_way_between : OutEnd → InEnd → List Tagged
+under_way_between out taking = taking.inbox ++ (map without_stamp (left_between out taking) ++ map without_stamp out.outbox)
+
+-- all that was under way is in the inbox, in order; the ring and the outbox are empty
+pub record IsBroughtIn (out out_after : OutEnd) (taking taking_after : InEnd) : Type 0 where
+  pub inbox : taking_after.inbox ≡ under_way_between out taking
+  pub outbox : out_after.outbox ≡ []
+  pub given : out_after.given ≡ out.given
+  pub got : taking_after.got ≡ out.given
+  pub known : taking_after.known ≡ []
+  pub looks : taking_after.looks ≡ taking.looks
+  -- what the ring had is the rest of what it was given, and the end that takes knew of its beginning
+  pub order : taking.got ++ left_between out taking ≡ out.given
+  pub knew : IsPrefix taking.known (left_between out taking)
+
+-- over the turns of both ends and the carrying behind them, what was taken and what waits then are what waited before and what was sent, in order
+abbrev pub CarryingKeepsOrder : Type 0
+CarryingKeepsOrder = (out out_before out_after : OutEnd) (taking taking_before taking_after : InEnd) (sent taken : List Stamped)
+    → OutAccount out out_before sent → InAccount taking taking_before taken → taking.got ≡ out.given → out.outbox ≡ []
+    → IsBroughtIn out_before out_after taking_before taking_after
+    → map without_stamp taken ++ taking_after.inbox ≡ taking.inbox ++ map without_stamp sent
