@@ -1,0 +1,12 @@
+pub mod Accounts
+pub mod ClaimedStamps
+pub mod Claims
+pub mod EntrySteps
+pub mod Fronts
+pub mod LaneBoxes
+pub mod LaneEnds
+pub mod LaneSends
+pub mod MergedRuns
+pub mod Merging
+pub mod OwnTurns
+pub mod WorkedMerges
