@@ -1,0 +1,2 @@
+pub mod AccountsClaimed
+pub mod Carrying
