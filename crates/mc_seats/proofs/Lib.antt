@@ -1,0 +1,5 @@
+pub mod Lists
+pub mod Changes
+pub mod Halves
+pub mod Looks
+pub mod Cleared
