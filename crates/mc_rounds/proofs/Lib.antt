@@ -1,0 +1,2 @@
+mod DrawsStop
+mod UsedUp
