@@ -1,10 +1,10 @@
 -- How a run ends.
-use Rattle.std.proofs.Common.{◌≡◌, ◌⊎◌, ◌∙◌, IfSome, ℕ, Bool, true, false, List, [], map, inl, inr, refl, ap, sym, subst, arith, None, Some}
+use Rattle.std.proofs.Common.{◌≡◌, ◌≢◌, ◌⊎◌, ◌∙◌, ℕ, Bool, true, false, List, [], map, inl, inr, refl, ap, sym, subst, arith, None, Some}
 use Rattle.std.specs.declared.option.Option.{Option}
 use Rattle.std.specs.Io.KnownBytes.{Keeps}
 use Rattle.mc_replay.specs.Journals.{HoldsAtSettles, IsJournal}
 use Rattle.mc_top.specs.Journals.{IsJournalTo, IsStoppedJournal, ShowsCause}
-use Rattle.mc_top.specs.Drawn.{IsDrawnJournal}
+use Rattle.mc_top.specs.Drawn.{FollowsDraws}
 use Rattle.mc_top.specs.Modes.{draws_from, output_of, report_of, tail_of}
 use Rattle.mc_model.specs.Sound.{IsSound}
 use Rattle.mc_model.specs.Worlds.{WorldState}
@@ -35,16 +35,13 @@ printed_by Check net journal = refl
 printed_by (Gen number size) net journal = refl
 printed_by (Scene scene) net journal = refl
 
--- a mode that draws reads a text behind whose commands nothing stands
-drawn_reads : (mode : Mode) (state : ℕ) → draws_from mode ≡ Some state → tail_of mode ≡ Nothing
-drawn_reads (Run asked) state is = refl
-drawn_reads (One first asked) state is = refl
-drawn_reads Check state is = absurd cc
-drawn_reads (Gen number size) state is = refl
-drawn_reads (Scene scene) state is = refl
-
-declared_by_mode : (mode : Mode) (state : ℕ) (text : List ℕ) (net : Net) → draws_from mode ≡ Some state → DeclaresNet Nothing text net → DeclaresNet (tail_of mode) text net
-declared_by_mode mode state text net draws declared = subst (λ (t : Tail). DeclaresNet t text net) (sym (drawn_reads mode state draws)) declared
+-- a mode that runs a script reads a text behind whose commands nothing stands
+runs_reads : (mode : Mode) → mode ≢ Check → tail_of mode ≡ Nothing
+runs_reads (Run asked) runs = refl
+runs_reads (One state asked) runs = refl
+runs_reads Check runs = absurd (runs refl)
+runs_reads (Gen number size) runs = refl
+runs_reads (Scene scene) runs = refl
 
 -- behind the line of a stop stands no journal
 stopped_by : (report : Report) (asked : Bool) (stop : Stop) (names : NameLists) (world : WorldState) (journal : List JournalLine) → run_text report asked names world (Some stop) journal ≡ stop_line names world stop
@@ -56,20 +53,15 @@ kept_zero : (due : ℕ) → due ≡ 0 → keeps_journal due ≡ false → ⊥
 kept_zero due none some = let here : keeps_journal 0 ≡ false = subst (λ (n : ℕ). keeps_journal n ≡ false) none some in cc
 
 -- the work was done, and what it printed was delivered
-ends_worked : (mode : Mode) (drawn_from : ℕ) (text : List ℕ) (net : Net) (old new : Option (List ℕ)) (status due : ℕ) (journal : List JournalLine) (output : List ℕ)
-    → draws_from mode ≡ Some drawn_from → DeclaresNet Nothing text net → IsSound net.world → IsJournal net.world (map batch_turns net.batches.items) journal → IsDrawnJournal None drawn_from net.world (map batch_turns net.batches.items) journal
+ends_worked : (mode : Mode) (text : List ℕ) (net : Net) (old new : Option (List ℕ)) (status due : ℕ) (journal : List JournalLine) (output : List ℕ)
+    → mode ≢ Check → DeclaresNet (tail_of mode) text net → IsSound net.world → IsJournal net.world (map batch_turns net.batches.items) journal → FollowsDraws (draws_from mode) None net.world (map batch_turns net.batches.items) journal
     → HoldsAtSettles net.world journal → output ≡ run_text (report_of mode) (prints_journal mode) net.names net.world None journal → due ≡ 0 → Delivers status 0 old new output → Ends mode (Some text) old new status due journal
-ends_worked mode drawn_from text net old new status due journal output draws declared sound settled drawn holds is none delivered = record {
+ends_worked mode text net old new status due journal output runs declared sound settled drawn holds is none delivered = record {
   worked = λ zero. record {
     net = net;
-    declared = declared_by_mode mode drawn_from text net draws declared;
-    told_journal = subst (λ (t : Tail). ToldJournal t (Some text) net journal) (sym (drawn_reads mode drawn_from draws)) tt;
-    settles = record {
-      sound = sound;
-      settled = settled;
-      holds = holds;
-      drawn = subst (λ (o : Option ℕ). IfSome o (λ state. IsDrawnJournal None state net.world (map batch_turns net.batches.items) journal)) (sym draws) drawn;
-    };
+    declared = declared;
+    told_journal = subst (λ (t : Tail). ToldJournal t (Some text) net journal) (sym (runs_reads mode runs)) tt;
+    settles = record { sound = sound; settled = settled; holds = holds; drawn = drawn };
     delivered = rw (is, printed_by mode net journal) at delivered;
   };
   refused = λ one. absurd (omega arith);
@@ -80,16 +72,15 @@ ends_worked mode drawn_from text net old new status due journal output draws dec
 }
 
 -- or the script stopped, and the line of the stop was
-stops_script : (mode : Mode) (drawn_from : ℕ) (text : List ℕ) (net : Net) (stop : Stop) (old new : Option (List ℕ)) (status due : ℕ) (journal : List JournalLine) (output : List ℕ)
-    → draws_from mode ≡ Some drawn_from → DeclaresNet Nothing text net → IsSound net.world → IsStoppedJournal stop net.world (map batch_turns net.batches.items) journal → IsDrawnJournal (Some stop) drawn_from net.world (map batch_turns net.batches.items) journal
+stops_script : (mode : Mode) (text : List ℕ) (net : Net) (stop : Stop) (old new : Option (List ℕ)) (status due : ℕ) (journal : List JournalLine) (output : List ℕ)
+    → mode ≢ Check → DeclaresNet (tail_of mode) text net → IsSound net.world → IsStoppedJournal stop net.world (map batch_turns net.batches.items) journal → FollowsDraws (draws_from mode) (Some stop) net.world (map batch_turns net.batches.items) journal
     → ShowsCause (Some stop) net.world (map batch_turns net.batches.items) → output ≡ stop_line net.names net.world stop → due ≡ stop_status stop → Delivers status (stop_status stop) old new output
     → StopsScript mode (Some text) old new status due journal
-stops_script mode drawn_from text net stop old new status due journal output draws declared sound settled drawn shows is due_is delivered = record {
+stops_script mode text net stop old new status due journal output runs declared sound settled drawn shows is due_is delivered = record {
   net = net;
   stop = stop;
-  state = drawn_from;
-  draws = draws;
-  declared = declared_by_mode mode drawn_from text net draws declared;
+  runs = runs;
+  declared = declared;
   due_is = due_is;
   sound = sound;
   settled = settled;
@@ -139,15 +130,15 @@ due_for_text (Some (Restless at)) due is = inr (inr (inr (inl is)))
 due_for_text (Some (Ring at)) due is = inr (inr (inr (inr (inl is))))
 
 -- a script was run to its end, or to a stop
-pub ends_ran : (stop : Option Stop) (mode : Mode) (drawn_from : ℕ) (text : List ℕ) (net : Net) (old new : Option (List ℕ)) (status due : ℕ) (journal : List JournalLine) (output : List ℕ)
-    → draws_from mode ≡ Some drawn_from → DeclaresNet Nothing text net → IsSound net.world → IsJournalTo stop net.world (map batch_turns net.batches.items) journal → IsDrawnJournal stop drawn_from net.world (map batch_turns net.batches.items) journal
+pub ends_ran : (stop : Option Stop) (mode : Mode) (text : List ℕ) (net : Net) (old new : Option (List ℕ)) (status due : ℕ) (journal : List JournalLine) (output : List ℕ)
+    → mode ≢ Check → DeclaresNet (tail_of mode) text net → IsSound net.world → IsJournalTo stop net.world (map batch_turns net.batches.items) journal → FollowsDraws (draws_from mode) stop net.world (map batch_turns net.batches.items) journal
     → HoldsAtSettles net.world journal → ShowsCause stop net.world (map batch_turns net.batches.items)
     → output ≡ run_text (report_of mode) (prints_journal mode) net.names net.world stop journal → due ≡ due_by stop → Delivers status (due_by stop) old new output → Ends mode (Some text) old new status due journal
-ends_ran None mode drawn_from text net old new status due journal output draws declared sound ran drawn holds shows is due_is delivered =
-    ends_worked mode drawn_from text net old new status due journal output draws declared sound ran drawn holds is due_is delivered
-ends_ran (Some stop) mode drawn_from text net old new status due journal output draws declared sound ran drawn holds shows is due_is delivered =
+ends_ran None mode text net old new status due journal output runs declared sound ran drawn holds shows is due_is delivered =
+    ends_worked mode text net old new status due journal output runs declared sound ran drawn holds is due_is delivered
+ends_ran (Some stop) mode text net old new status due journal output runs declared sound ran drawn holds shows is due_is delivered =
     ends_at_stop mode text stop old new status due journal due_is
-    (stops_script mode drawn_from text net stop old new status due journal output draws declared sound ran drawn shows (is ∙ stopped_by (report_of mode) (prints_journal mode) stop net.names net.world journal) due_is delivered)
+    (stops_script mode text net stop old new status due journal output runs declared sound ran drawn shows (is ∙ stopped_by (report_of mode) (prints_journal mode) stop net.names net.world journal) due_is delivered)
 
 keeps_same : (old : Option (List ℕ)) → Keeps old old
 keeps_same None = tt

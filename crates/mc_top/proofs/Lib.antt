@@ -1,6 +1,7 @@
 mod BytesBehind
 mod Causes
 mod Channels
+mod DrawsStop
 mod Ending
 mod FirstWorlds
 mod GoodJournals

@@ -22,7 +22,7 @@ use Rattle.mc_model.specs.Steps.{after_making, run, step, step_by, take_at}
 use Rattle.mc_model.specs.Worlds.{WorldState, box_at, number, place}
 use Rattle.mc_net.proofs.MadeNets.{nets_are_named}
 use Rattle.mc_net.specs.Nets.{DeclaresNet, IsSayable, IsWellNamed, NamesAll, batch_turns}
-use Rattle.mc_lines.specs.declared.tail.Tail.TheVariants.{Nothing}
+use Rattle.mc_lines.specs.declared.tail.Tail.{Tail}
 use Rattle.mc_net.specs.declared.net.Net.{Net}
 use Rattle.mc_script.proofs.Read.{named_is_found}
 use Rattle.mc_script.specs.Printed.{HaveNames, IsFoundEvent, IsFoundSlot, IsNamedEvent, IsSlot}
@@ -161,17 +161,17 @@ module _ (names : NameLists) (shape : List BoxShapeState) where
 -- ---- texts
 
 -- the lines of a journal of a text's network can be printed
-journal_named : (text : List ℕ) (net : Net) (journal : List JournalLine) → DeclaresNet Nothing text net → IsSound net.world → IsJournal net.world (map batch_turns net.batches.items) journal → All (IsNamedLine net.names) journal
-journal_named text net journal declares sound settled =
-    let named : IsWellNamed net = nets_are_named Nothing text net declares in
+journal_named : (tail : Tail) (text : List ℕ) (net : Net) (journal : List JournalLine) → DeclaresNet tail text net → IsSound net.world → IsJournal net.world (map batch_turns net.batches.items) journal → All (IsNamedLine net.names) journal
+journal_named tail text net journal declares sound settled =
+    let named : IsWellNamed net = nets_are_named tail text net declares in
     All-weaker (IsReadable net.names net.shape) (IsNamedLine net.names) (λ line readable. readable.0) journal
     (journal_readable net.names net.shape (map batch_turns net.batches.items) net.world journal sound named.world named.commands settled)
 
 -- those of a script that came to its end
-pub ran_named : (stop : Option Stop) (text : List ℕ) (net : Net) (journal : List JournalLine) → DeclaresNet Nothing text net → IsSound net.world → IsJournalTo stop net.world (map batch_turns net.batches.items) journal → stop ≡ None
+pub ran_named : (stop : Option Stop) (tail : Tail) (text : List ℕ) (net : Net) (journal : List JournalLine) → DeclaresNet tail text net → IsSound net.world → IsJournalTo stop net.world (map batch_turns net.batches.items) journal → stop ≡ None
     → All (IsNamedLine net.names) journal
-ran_named stop text net journal declares sound ran none =
-    journal_named text net journal declares sound (subst (λ (s : Option Stop). IsJournalTo s net.world (map batch_turns net.batches.items) journal) none ran)
+ran_named stop tail text net journal declares sound ran none =
+    journal_named tail text net journal declares sound (subst (λ (s : Option Stop). IsJournalTo s net.world (map batch_turns net.batches.items) journal) none ran)
 
 -- and are read again
 pub runs_are_read_back : RunsAreReadBack

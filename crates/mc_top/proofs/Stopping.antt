@@ -1,5 +1,5 @@
 -- A script that stops: the slot or the box at which it does has a name, and its journal goes on from what was run.
-use Rattle.std.proofs.Common.{◌≡◌, ◌<◌, ◌++◌, ◌∷◌, [], ℕ, ◌+◌, Option, Some, List, codes, drop, length, map, refl, ap, sym, ◌∙◌, subst, inl, slice_index_or}
+use Rattle.std.proofs.Common.{◌≡◌, ◌<◌, ◌++◌, ◌∷◌, [], ℕ, ◌+◌, IfSome, Option, None, Some, List, codes, drop, length, map, refl, ap, sym, ◌∙◌, subst, inl, slice_index_or}
 use Rattle.mc_box.specs.declared.event.Turn.{Turn}
 use Rattle.mc_box.proofs.Options.{then_some}
 use Rattle.mc_laws.proofs.Numbers.{number_is}
@@ -12,13 +12,14 @@ use Rattle.mc_net.specs.Nets.{NamesAll, batch_turns}
 use Rattle.mc_script.specs.declared.command.Batch.{Batch}
 use Rattle.mc_script.specs.declared.command.JournalLine.{JournalLine}
 use Rattle.mc_script.specs.declared.command.JournalLine.TheVariants.{Turn as Made}
+use Rattle.mc_rounds.specs.Stops.{Stops}
 use Rattle.mc_seq.specs.Draws.{StopsByDraws}
 use Rattle.mc_seq.specs.declared.fault.SettleFault.TheVariants.{Restless as NeverRests, Ring as AtRing, VersionEnd as EndsVersion}
 use Rattle.mc_seq.specs.declared.fault.Stopped.{Stopped}
 use Rattle.mc_seq.specs.declared.fault.StoppedBox.{StoppedBox}
 use Rattle.mc_table.specs.Words.{line_of}
 use Rattle.mc_text.specs.NameLists.{NameLists, slot_names, slot_word}
-use Rattle.mc_top.specs.Drawn.{IsDrawnJournal}
+use Rattle.mc_top.specs.Drawn.{FollowsDraws, StopsBy, StopsDrawn}
 use Rattle.mc_top.specs.Journals.{IsJournalTo, IsStoppedJournal}
 use Rattle.mc_top.specs.Outcomes.{Stopping}
 use Rattle.mc_top.specs.Printed.{box_word, place_word, report_text, script_text, stop_line, stop_word}
@@ -28,7 +29,6 @@ use Rattle.mc_top.specs.declared.run.Run.{Run}
 use Rattle.mc_top.specs.declared.stop.Stop.{Stop}
 use Rattle.mc_top.specs.declared.stop.Stop.TheVariants.{Restless, Ring, VersionEnd}
 use Rattle.mc_top.proofs.Running.{GoesOn, next_left}
-use Rattle.mc_top.proofs.UsedUp.{used_up}
 
 -- ---- names
 
@@ -49,23 +49,23 @@ slot_stays : (world last : WorldState) (s : ℕ) → HasShape last world → s <
 slot_stays world last s shape inside = subst (λ (channels : List ChannelState). s < length (places_among channels)) shape.channels inside
 
 -- so has that of a slot at which a settle stops at the last version
-pub version_named : (names : NameLists) (world : WorldState) (batch : List Turn) (state end : ℕ) (stop : Stopped) → IsSound world → NamesAll names world → StopsByDraws world batch state end (EndsVersion stop) → IsNamedPlace names stop.place
-version_named names world batch state end stop sound all (stops, there) =
-    let one = then_some (number stops.last.world stops.meets.turn.who) (heard_local stops.meets.turn.event) stop.at stops.meets.slot in
-    let shape = run_keeps_shape world stops.last.world stop.turns.items sound stops.stopped.runs in
+pub version_named : (names : NameLists) (world : WorldState) (batch : List Turn) (stop : Stopped) → IsSound world → NamesAll names world → Stops world batch (EndsVersion stop) → IsNamedPlace names stop.place
+version_named names world batch stop sound all (stops, there) =
+    let one = then_some (number stops.last stops.meets.turn.who) (heard_local stops.meets.turn.event) stop.at stops.meets.slot in
+    let shape = run_keeps_shape world stops.last stop.turns.items sound stops.stopped.runs in
     subst (IsNamedPlace names) (sym there)
-    (place_named names world stop.at sound all (slot_stays world stops.last.world stop.at shape (number_is stops.last.world stops.meets.turn.who one.0 stop.at one.2).0))
+    (place_named names world stop.at sound all (slot_stays world stops.last stop.at shape (number_is stops.last stops.meets.turn.who one.0 stop.at one.2).0))
 
 -- or at a ring
-pub ring_named : (names : NameLists) (world : WorldState) (batch : List Turn) (state end : ℕ) (stop : Stopped) → IsSound world → NamesAll names world → StopsByDraws world batch state end (AtRing stop) → IsNamedPlace names stop.place
-ring_named names world batch state end stop sound all (stops, there) =
-    let shape = run_keeps_shape world stops.last.world stop.turns.items sound stops.stopped.runs in
-    subst (IsNamedPlace names) (sym there) (place_named names world stop.at sound all (slot_stays world stops.last.world stop.at shape stops.least.inside))
+pub ring_named : (names : NameLists) (world : WorldState) (batch : List Turn) (stop : Stopped) → IsSound world → NamesAll names world → Stops world batch (AtRing stop) → IsNamedPlace names stop.place
+ring_named names world batch stop sound all (stops, there) =
+    let shape = run_keeps_shape world stops.last stop.turns.items sound stops.stopped.runs in
+    subst (IsNamedPlace names) (sym there) (place_named names world stop.at sound all (slot_stays world stops.last stop.at shape stops.least.inside))
 
 -- the box of a settle that doesn't come to rest has a name
-pub restless_named : (names : NameLists) (world : WorldState) (batch : List Turn) (state end : ℕ) (stop : StoppedBox) → IsSound world → NamesAll names world → StopsByDraws world batch state end (NeverRests stop) → stop.at < length names.boxes
-restless_named names world batch state end stop sound all stops =
-    let shape = run_keeps_shape world stops.last.world stop.turns.items sound stops.stopped.runs in
+pub restless_named : (names : NameLists) (world : WorldState) (batch : List Turn) (stop : StoppedBox) → IsSound world → NamesAll names world → Stops world batch (NeverRests stop) → stop.at < length names.boxes
+restless_named names world batch stop sound all stops =
+    let shape = run_keeps_shape world stops.last stop.turns.items sound stops.stopped.runs in
     subst (λ (n : ℕ). stop.at < n) (shape.boxes ∙ sym all.boxes) stops.restless.first.inside
 
 -- ---- what a settle stops with
@@ -74,52 +74,58 @@ restless_named names world batch state end stop sound all stops =
 line_at : (names : NameLists) (world : WorldState) (word : List ℕ) (s : ℕ) (at : ℕ × ℕ) → at ≡ place world s → line_of (word ∷ slot_word names at.0 at.1 ∷ []) ≡ line_of (word ∷ place_word names world s ∷ [])
 line_at names world word s at there = ap (λ (p : ℕ × ℕ). line_of (word ∷ slot_word names p.0 p.1 ∷ [])) there
 
+-- where there are draws, what they decide of a stop is by their schedule
+drawn_weaker : (draws : Option ℕ) (P Q : ℕ → Type 0) → ((state : ℕ) → P state → Q state) → IfSome draws P → IfSome draws Q
+drawn_weaker None P Q weaker holds = tt
+drawn_weaker (Some state) P Q weaker holds = weaker state holds
+
 -- at the last version
-pub stops_version : (names : NameLists) (batch : List Turn) (old : ScriptState) (end : ℕ) (stop : Stopped) (run : Run) → StopsByDraws old.world batch old.draws end (EndsVersion stop)
+pub stops_version : (names : NameLists) (batch : List Turn) (old : ScriptState) (stop : Stopped) (run : Run) → Stops old.world batch (EndsVersion stop) → StopsDrawn old.draws old.world batch (EndsVersion stop)
     → run.journal.items ≡ old.journal ++ map Made stop.turns.items → run.output.items ≡ line_of (stop_word (VersionEnd stop.at) ∷ slot_word names stop.place.0 stop.place.1 ∷ []) → run.stop ≡ Some (VersionEnd stop.at)
     → Stopping names batch old run
-stops_version names batch old end stop run (stops, there) journal output is = record {
+stops_version names batch old stop run (stops, there) drawn journal output is = record {
   turns = stop.turns.items;
-  last = stops.last.world;
-  end = end;
+  last = stops.last;
   stop = VersionEnd stop.at;
   stopped = stops.stopped;
   cause = stops.meets;
-  scheduled = stops;
+  scheduled =
+      drawn_weaker old.draws (λ state. (end : ℕ) × StopsByDraws old.world batch state end (EndsVersion stop)) (λ state. (end : ℕ) × StopsBy (VersionEnd stop.at) old.world batch state stop.turns.items end)
+      (λ state by. (by.0, by.1.0)) drawn;
   journal = journal;
   output = output ∙ line_at names old.world (stop_word (VersionEnd stop.at)) stop.at stop.place there;
   is = is;
 }
 
 -- at a ring
-pub stops_ring : (names : NameLists) (batch : List Turn) (old : ScriptState) (end : ℕ) (stop : Stopped) (run : Run) → StopsByDraws old.world batch old.draws end (AtRing stop)
+pub stops_ring : (names : NameLists) (batch : List Turn) (old : ScriptState) (stop : Stopped) (run : Run) → Stops old.world batch (AtRing stop) → StopsDrawn old.draws old.world batch (AtRing stop)
     → run.journal.items ≡ old.journal ++ map Made stop.turns.items → run.output.items ≡ line_of (stop_word (Ring stop.at) ∷ slot_word names stop.place.0 stop.place.1 ∷ []) → run.stop ≡ Some (Ring stop.at)
     → Stopping names batch old run
-stops_ring names batch old end stop run (stops, there) journal output is = record {
+stops_ring names batch old stop run (stops, there) drawn journal output is = record {
   turns = stop.turns.items;
-  last = stops.last.world;
-  end = end;
+  last = stops.last;
   stop = Ring stop.at;
   stopped = stops.stopped;
-  cause = (λ who. used_up old.world batch stop.turns.items old.draws stops.rounds stops.last stops.goes stops.used_up stops.stopped who, stops.least);
-  scheduled = stops;
+  cause = (stops.used_up, stops.least);
+  scheduled =
+      drawn_weaker old.draws (λ state. (end : ℕ) × StopsByDraws old.world batch state end (AtRing stop)) (λ state. (end : ℕ) × StopsBy (Ring stop.at) old.world batch state stop.turns.items end)
+      (λ state by. (by.0, by.1.0)) drawn;
   journal = journal;
   output = output ∙ line_at names old.world (stop_word (Ring stop.at)) stop.at stop.place there;
   is = is;
 }
 
 -- at a box whose program doesn't come to rest
-pub stops_restless : (names : NameLists) (batch : List Turn) (old : ScriptState) (end : ℕ) (stop : StoppedBox) (run : Run) → StopsByDraws old.world batch old.draws end (NeverRests stop)
+pub stops_restless : (names : NameLists) (batch : List Turn) (old : ScriptState) (stop : StoppedBox) (run : Run) → Stops old.world batch (NeverRests stop) → StopsDrawn old.draws old.world batch (NeverRests stop)
     → run.journal.items ≡ old.journal ++ map Made stop.turns.items → run.output.items ≡ line_of (codes "restless" ∷ box_word names stop.at ∷ []) → run.stop ≡ Some (Restless stop.at)
     → Stopping names batch old run
-stops_restless names batch old end stop run stops journal output is = record {
+stops_restless names batch old stop run stops drawn journal output is = record {
   turns = stop.turns.items;
-  last = stops.last.world;
-  end = end;
+  last = stops.last;
   stop = Restless stop.at;
   stopped = stops.stopped;
-  cause = (λ who. used_up old.world batch stop.turns.items old.draws stops.rounds stops.last stops.goes stops.used_up stops.stopped who, stops.restless);
-  scheduled = stops;
+  cause = (stops.used_up, stops.restless);
+  scheduled = drawn;
   journal = journal;
   output = output;
   is = is;
@@ -137,28 +143,34 @@ stop_line_same names now start (VersionEnd at) shape = slot_line_same names now 
 stop_line_same names now start (Ring at) shape = slot_line_same names now start (stop_word (Ring at)) at shape
 stop_line_same names now start (Restless at) shape = refl
 
-pub record EndsAtStop (report : Report) (names : NameLists) (start : WorldState) (first : ℕ) (all : List (List Turn)) (run : Run) : Type 0 where
+pub record EndsAtStop (report : Report) (names : NameLists) (start : WorldState) (first : Option ℕ) (all : List (List Turn)) (run : Run) : Type 0 where
   pub ran : IsJournalTo run.stop start all run.journal.items
-  pub drawn : IsDrawnJournal run.stop first start all run.journal.items
+  pub drawn : FollowsDraws first run.stop start all run.journal.items
   pub output : run.output.items ≡ script_text report names start run.stop run.journal.items
 
-stops_here : (report : Report) (names : NameLists) (opening : List ℕ) (start : WorldState) (first : ℕ) (all rest : List (List Turn)) (count : ℕ) (batch : List Turn) (now : ScriptState) (run : Run) → Stopping names batch now run
+-- the turns up to a stop are what is left of the draws' journal, where there are draws
+drawn_to : (draws : Option ℕ) (stop : Stop) (world : WorldState) (batch turns : List Turn) (rest : List (List Turn)) → IfSome draws (λ state. (end : ℕ) × StopsBy stop world batch state turns end)
+    → FollowsDraws draws (Some stop) world (batch ∷ rest) (map Made turns)
+drawn_to None stop world batch turns rest by = tt
+drawn_to (Some state) stop world batch turns rest by = inl (turns, by.0, refl, by.1)
+
+stops_here : (report : Report) (names : NameLists) (opening : List ℕ) (start : WorldState) (first : Option ℕ) (all rest : List (List Turn)) (count : ℕ) (batch : List Turn) (now : ScriptState) (run : Run) → Stopping names batch now run
     → GoesOn (report_text report names) opening start first all (batch ∷ rest) count now → EndsAtStop report names start first all run
 stops_here report names opening start first all rest count batch now run s on =
     let here : IsStoppedJournal s.stop start all run.journal.items =
     subst (λ (lines : List JournalLine). IsStoppedJournal s.stop start all lines) (sym s.journal)
     (on.stops s.stop (map Made s.turns) (inl (record { turns = s.turns; last = s.last; lines = refl; stopped = s.stopped; cause = s.cause }))) in
-    let drawn : IsDrawnJournal (Some s.stop) first start all run.journal.items =
-    subst (λ (lines : List JournalLine). IsDrawnJournal (Some s.stop) first start all lines) (sym s.journal)
-    (on.drawn (Some s.stop) (map Made s.turns) (inl (s.turns, s.end, refl, s.scheduled))) in
+    let drawn : FollowsDraws first (Some s.stop) start all run.journal.items =
+    subst (λ (lines : List JournalLine). FollowsDraws first (Some s.stop) start all lines) (sym s.journal)
+    (on.drawn (Some s.stop) (map Made s.turns) (drawn_to now.draws s.stop now.world batch s.turns rest s.scheduled)) in
     record {
       ran = subst (λ (o : Option Stop). IsJournalTo o start all run.journal.items) (sym s.is) here;
-      drawn = subst (λ (o : Option Stop). IsDrawnJournal o first start all run.journal.items) (sym s.is) drawn;
+      drawn = subst (λ (o : Option Stop). FollowsDraws first o start all run.journal.items) (sym s.is) drawn;
       output = s.output ∙ (stop_line_same names now.world start s.stop on.shape ∙ ap (λ (o : Option Stop). script_text report names start o run.journal.items) (sym s.is));
     }
 
 -- by the batch's place
-pub stops_at : (report : Report) (names : NameLists) (opening : List ℕ) (start : WorldState) (first : ℕ) (all : List Batch) (i : ℕ) (none : Batch) (now : ScriptState) (run : Run) → i < length all
+pub stops_at : (report : Report) (names : NameLists) (opening : List ℕ) (start : WorldState) (first : Option ℕ) (all : List Batch) (i : ℕ) (none : Batch) (now : ScriptState) (run : Run) → i < length all
     → Stopping names (batch_turns (slice_index_or all i none)) now run → GoesOn (report_text report names) opening start first (map batch_turns all) (map batch_turns (drop i all)) i now → EndsAtStop report names start first (map batch_turns all) run
 stops_at report names opening start first all i none now run within s on =
     stops_here report names opening start first (map batch_turns all) (map batch_turns (drop (i + 1) all)) i (batch_turns (slice_index_or all i none)) now run s

@@ -1,5 +1,5 @@
 -- What was read of what a source has left.
-use Rattle.std.proofs.Common.{◌≡◌, ◌⊎◌, ◌==◌, inl, inr, ℕ, List, ◌≤◌, Bool, true, None, Some, IfSome, map, arith, subst, sym, ap, ◌∙◌}
+use Rattle.std.proofs.Common.{◌≡◌, ◌≢◌, ◌⊎◌, ◌==◌, inl, inr, ℕ, List, ◌≤◌, Bool, true, None, Some, IfSome, map, arith, refl, subst, sym, ap, ◌∙◌}
 use Rattle.std.specs.declared.option.Option.{Option}
 use Rattle.mc_io.specs.Faults.{Rose, faults_after, next_count}
 use Rattle.mc_script.specs.declared.command.JournalLine.{JournalLine}
@@ -18,7 +18,7 @@ use Rattle.mc_replay.specs.Faults.{IsJournalFault}
 use Rattle.mc_top.specs.Behind.{HasGoodJournal, HasJournal, HasJournalFault, has_bad_tail, tail_lines}
 use Rattle.mc_top.specs.Journals.{ShowsCause}
 use Rattle.mc_top.specs.Top.{Ends, IsTextOf, RefusesCheck, StopsScript, ToldDeclares, ToldFault, ToldJournal}
-use Rattle.mc_top.specs.Modes.{CanCheck, CanRun, draws_from, tail_of}
+use Rattle.mc_top.specs.Modes.{CanCheck, CanRun, tail_of}
 use Rattle.mc_top.specs.declared.stop.Stop.{Stop}
 use Rattle.mc_top.specs.Rings.{AlwaysRests}
 use Rattle.mc_top.proofs.BytesBehind.{bad_alike, lines_alike}
@@ -73,8 +73,7 @@ stops_told : (mode : Mode) (told old new : Option (List ℕ)) (text : List ℕ) 
 stops_told mode told old new text status due journal read stops = record {
   net = stops.net;
   stop = stops.stop;
-  state = stops.state;
-  draws = stops.draws;
+  runs = stops.runs;
   declared = told_declares (tail_of mode) told text stops.net read stops.declared;
   due_is = stops.due_is;
   sound = stops.sound;
@@ -164,14 +163,14 @@ stop_says (Some all) text d net stop declares is says none rests shows =
 can_run : (told : Option (List ℕ)) (text : List ℕ) (net : Net) (stop : Stop) → ToldDeclares Nothing told net → told ≡ Some text → CanRun text → ShowsCause (Some stop) net.world (map batch_turns net.batches.items) → ⊥
 can_run told text net stop declares is can shows = stop_says told text can.0 net stop declares is can.1 can.2 can.3 shows
 
--- nor does its script stop, in a mode that draws
-stop_works : (mode : Mode) (told : Option (List ℕ)) (text : List ℕ) (net : Net) (stop : Stop) (state : ℕ) → draws_from mode ≡ Some state → ToldDeclares (tail_of mode) told net → told ≡ Some text → WorksOn mode text
+-- nor does its script stop, in a mode that runs one
+stop_works : (mode : Mode) (told : Option (List ℕ)) (text : List ℕ) (net : Net) (stop : Stop) → mode ≢ Check → ToldDeclares (tail_of mode) told net → told ≡ Some text → WorksOn mode text
     → ShowsCause (Some stop) net.world (map batch_turns net.batches.items) → ⊥
-stop_works (Run asked) told text net stop state draws declares is works shows = can_run told text net stop declares is works shows
-stop_works (One first asked) told text net stop state draws declares is works shows = can_run told text net stop declares is works shows
-stop_works Check told text net stop state draws declares is works shows = cc
-stop_works (Gen number size) told text net stop state draws declares is works shows = can_run told text net stop declares is works shows
-stop_works (Scene scene) told text net stop state draws declares is works shows = can_run told text net stop declares is works shows
+stop_works (Run asked) told text net stop runs declares is works shows = can_run told text net stop declares is works shows
+stop_works (One first asked) told text net stop runs declares is works shows = can_run told text net stop declares is works shows
+stop_works Check told text net stop runs declares is works shows = absurd (runs refl)
+stop_works (Gen number size) told text net stop runs declares is works shows = can_run told text net stop declares is works shows
+stop_works (Scene scene) told text net stop runs declares is works shows = can_run told text net stop declares is works shows
 
 -- nor is its journal refused
 pub good_has_none : (text : List ℕ) (net : Net) (number turn : ℕ) → HasGoodJournal text net → HasJournalFault text net number turn → ⊥
@@ -211,7 +210,7 @@ pub works_out : (mode : Mode) (told old new : Option (List ℕ)) (text : List �
     → (due ≡ 0) ⊎ (due ≡ 1) ⊎ (due ≡ 3) ⊎ (due ≡ 4) ⊎ (due ≡ 6) ⊎ (due ≡ 7) ⊎ (due ≡ 8) → Ends mode told old new status due journal
     → told ≡ Some text → WorksOn mode text → (due ≡ 4 → ⊥) → (due ≡ 0) ⊎ (due ≡ 3)
 works_out mode told old new text status due journal dues ends is works not_four =
-    let never : StopsScript mode told old new status due journal → ⊥ = λ stops. stop_works mode told text stops.net stops.stop stops.state stops.draws stops.declared is works stops.shows in
+    let never : StopsScript mode told old new status due journal → ⊥ = λ stops. stop_works mode told text stops.net stops.stop stops.runs stops.declared is works stops.shows in
     let not_one : due ≡ 1 → ⊥ = λ one. elim (ends.refused one) [
       | inl refused ↦ fault_works mode told text refused.number refused.line refused.fault is works
       | inr stops ↦ never stops

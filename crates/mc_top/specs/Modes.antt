@@ -56,13 +56,13 @@ tail_of Check = Journal
 tail_of (Gen number size) = Nothing
 tail_of (Scene scene) = Nothing
 
--- the state at which the draws of a mode begin, if it draws
+-- the state at which the draws of a mode begin, if it draws. The turns of other modes are made in rounds, in any order
 abbrev pub draws_from : Mode → Option ℕ
-draws_from (Run journal) = Some 0
+draws_from (Run journal) = None
 draws_from (One state journal) = Some state
 draws_from Check = None
-draws_from (Gen number size) = Some 0
-draws_from (Scene scene) = Some 0
+draws_from (Gen number size) = None
+draws_from (Scene scene) = None
 
 -- a text declares a network, in whose script no Hear meets the last version and each batch comes to rest
 abbrev pub CanRun : List ℕ → Type 0

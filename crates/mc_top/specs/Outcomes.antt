@@ -1,5 +1,5 @@
 -- What comes of a batch of a script.
-use Rattle.std.specs.Prelude.{◌≡◌, ℕ, List, ◌++◌, map, Some}
+use Rattle.std.specs.Prelude.{◌≡◌, ℕ, List, ◌++◌, map, Some, IfSome}
 use Rattle.mc_model.specs.Settles.{IsStopped}
 use Rattle.mc_model.specs.Worlds.{WorldState}
 use Rattle.mc_box.specs.declared.event.Turn.{Turn}
@@ -19,11 +19,10 @@ use Rattle.mc_top.specs.declared.stop.Stop.{Stop}
 pub record Stopping (names : NameLists) (batch : List Turn) (old : ScriptState) (run : Run) : Type 0 where
   pub turns : List Turn
   pub last : WorldState
-  pub end : ℕ
   pub stop : Stop
   pub stopped : IsStopped old.world batch turns last
   pub cause : IsCause stop batch turns last
-  pub scheduled : StopsBy stop old.world batch old.draws turns end
+  pub scheduled : IfSome old.draws (λ state. (end : ℕ) × StopsBy stop old.world batch state turns end)
   pub journal : run.journal.items ≡ old.journal ++ map Made turns
   pub output : run.output.items ≡ stop_line names old.world stop
   pub is : run.stop ≡ Some stop

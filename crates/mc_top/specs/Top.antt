@@ -13,7 +13,7 @@ use Rattle.mc_net.specs.Texts.{IsFault}
 use Rattle.mc_net.specs.declared.net.Net.{Net}
 use Rattle.mc_replay.specs.Journals.{HoldsAtSettles, IsJournal}
 use Rattle.mc_top.specs.Behind.{HasJournal, HasJournalFault}
-use Rattle.mc_top.specs.Drawn.{IsDrawnJournal}
+use Rattle.mc_top.specs.Drawn.{FollowsDraws, IsDrawnJournal}
 use Rattle.mc_top.specs.Journals.{IsStoppedJournal, ShowsCause}
 use Rattle.mc_top.specs.Modes.{draws_from, output_of, reads, tail_of}
 use Rattle.mc_top.specs.Printed.{fault_line, journal_fault_line, stop_line}
@@ -110,17 +110,16 @@ pub record RefusesCheck (told old new : Option (List ℕ)) (status : ℕ) (journ
   pub delivered : Delivers status JOURNAL_FAULT old new (journal_fault_line number turn)
   pub no_journal : journal ≡ []
 
--- The script of the network that the text declares stopped, and the one line that says where was delivered. The journal is the settled segments before, and the turns up to the stop: replayed, they lead to a world that shows the cause
+-- The script of the network that the text declares stopped, and the one line that says where was delivered. The journal is the settled segments before, and the turns up to the stop: replayed, they lead to a world that shows the cause. Where the mode draws, the draws decide which turns these are
 pub record StopsScript (mode : Mode) (told old new : Option (List ℕ)) (status due : ℕ) (journal : List JournalLine) : Type 0 where
   pub net : Net
   pub stop : Stop
-  pub state : ℕ
-  pub draws : draws_from mode ≡ Some state
+  pub runs : mode ≢ Check
   pub declared : ToldDeclares (tail_of mode) told net
   pub due_is : due ≡ stop_status stop
   pub sound : IsSound net.world
   pub settled : IsStoppedJournal stop net.world (map batch_turns net.batches.items) journal
-  pub drawn : IsDrawnJournal (Some stop) state net.world (map batch_turns net.batches.items) journal
+  pub drawn : FollowsDraws (draws_from mode) (Some stop) net.world (map batch_turns net.batches.items) journal
   pub shows : ShowsCause (Some stop) net.world (map batch_turns net.batches.items)
   pub delivered : Delivers status due old new (stop_line net.names net.world stop)
 

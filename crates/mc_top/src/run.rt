@@ -1,31 +1,37 @@
 // A script, settle by settle.
-ghost use Rattle.std.specs.Prelude.{◌≡◌, ◌++◌, ◌∷◌, ◌<◌, ◌≤◌, [], All, codes, length, map, None, Some, IfOk, OnOk};
+ghost use Rattle.std.specs.Prelude.{◌≡◌, ◌++◌, ◌∷◌, ◌<◌, ◌≤◌, [], All, codes, length, map, None, Some, IfErr, IfOk, OnOk};
 ghost use Rattle.mc_journal.specs.Printed.{IsNamedLine};
+ghost use Rattle.mc_model.specs.Settles.{IsSettled};
 ghost use Rattle.mc_model.specs.Shapes.{AreAllAllowed, AreAllowed};
 ghost use Rattle.mc_net.specs.Nets.{NamesAll, batch_turns};
 ghost use Rattle.mc_lines.specs.declared.limit.TheConstants.{COMMAND_LIMIT};
 ghost use Rattle.mc_script.specs.declared.command.JournalLine.TheVariants.{Turn as Made};
+ghost use Rattle.mc_rounds.specs.Stops.{Stops};
 ghost use Rattle.mc_table.specs.Words.{line_of};
 ghost use Rattle.mc_text.specs.NameLists.{slot_names, slot_word};
-ghost use Rattle.mc_top.specs.Drawn.{IsDrawnJournal};
+ghost use Rattle.mc_top.specs.Drawn.{FollowsDraws, StopsDrawn, draws_state};
 ghost use Rattle.mc_replay.specs.Journals.{HoldsAtSettles, lines_for};
 ghost use Rattle.mc_top.specs.Journals.{IsJournalTo, ShowsCause};
 ghost use Rattle.mc_top.specs.Outcomes.{CameOf};
 ghost use Rattle.mc_top.specs.Printed.{box_word, script_text, stop_word, with_journal};
-ghost use Rattle.mc_top.specs.Scripts.{first_state};
+ghost use Rattle.mc_top.specs.Scripts.{FollowSchedule, first_state};
 ghost use Rattle.mc_top.specs.declared.stop.Stop.TheVariants.{Restless};
 
 use crate::print::{print_restless, print_stop, put_journal};
 use crate::report::{Report, print_opening, print_report};
 use crate::stop::Stop;
 use mc_box::Turn;
+use mc_io::Gate;
 use mc_path::paths;
+use mc_rounds::limit::BOX_LIMIT;
+use mc_rounds::settle_rounds;
 use mc_script::{Batch, JournalLine};
 use mc_seq::{SettleFault, Stopped, StoppedBox, settle_one};
 use mc_text::{Draws, Names};
-use mc_world::World;
+use mc_world::{Settled, World};
 use std::alloc::{AllocError, Global};
 use std::marker::Model;
+use std::thread::Threads;
 
 /// What a script printed, its journal, and why it stopped before its end, if it did.
 #[derive(Debug, Drop)]
@@ -35,11 +41,11 @@ pub struct Run {
     pub stop: Option<Stop>,
 }
 
-// A script while it runs: its world, where its draws are, and what was kept and printed so far.
+// A script while it runs: its world, where its draws are, if it has some, and what was kept and printed so far.
 #[derive(Drop)]
 struct Progress {
     world: World,
-    draws: Draws,
+    draws: Option<Draws>,
     journal: Vec<JournalLine>,
     output: Vec<u8>,
 }
@@ -52,21 +58,22 @@ enum Outcome {
 }
 
 impl Model for Progress {
+    ghost use Rattle.mc_top.specs.Drawn.{draws_state};
     ghost use Rattle.mc_top.specs.Scripts.{ScriptState};
 
     ghost Value = { ScriptState };
 
     ghost view = { λ p. record {
       world = p.world;
-      draws = p.draws.state;
+      draws = draws_state p.draws;
       journal = p.journal.items;
       output = p.output.items;
     } };
 }
 
 impl Progress {
-    fn new(alloc: Global, world: World, draws: Draws, opening: Vec<u8>) -> Progress
-        ensures { result ≡ first_state world draws.state opening.items }
+    fn new(alloc: Global, world: World, draws: Option<Draws>, opening: Vec<u8>) -> Progress
+        ensures { result ≡ first_state world (draws_state draws) opening.items }
     {
         Progress {
             world,
@@ -76,10 +83,12 @@ impl Progress {
         }
     }
 
-    // A batch is settled by draws, and what is to be reported is printed under the settle's number; or it stops.
-    fn settle(
+    // A batch is settled, and what is to be reported is printed under the settle's number; or it stops.
+    fn settle<R: Threads + Sync, G: Gate + Sync>(
         self,
+        rt: &R,
         alloc: Global,
+        gate: &G,
         report: Report,
         names: &Names,
         number: u32,
@@ -96,7 +105,9 @@ impl Progress {
             mut output,
         } = self;
         world.keeps();
-        match settle_one(alloc, world, batch, &mut draws) {
+        let boxes = names.box_count();
+        prove!(boxes <= BOX_LIMIT);
+        match settle_batch(rt, alloc, gate, world, batch, &mut draws) {
             Ok(settled) => {
                 log(&settled.turns, &mut journal)?;
                 let views = paths(alloc, &settled.world)?;
@@ -126,6 +137,29 @@ impl Progress {
             }
             Err(SettleFault::NoMemory(e)) => Err(e),
         }
+    }
+}
+
+// Settles a batch: by draws, where there are some, and else in rounds.
+fn settle_batch<R: Threads + Sync, G: Gate + Sync>(
+    rt: &R,
+    alloc: Global,
+    gate: &G,
+    world: World,
+    batch: &[Turn],
+    draws: &mut Option<Draws>,
+) -> Result<Settled, SettleFault>
+    requires allowed { AreAllowed world batch.now }
+    requires few { length world.boxes ≤ BOX_LIMIT }
+    ensures settled { IfOk result (λ done. IsSettled world batch.now done.turns.items done.world) }
+    ensures scheduled { IfOk result (λ done.
+        FollowSchedule (draws_state draws.old) (draws_state draws.new) world batch.now done.turns.items done.world) }
+    ensures stops { IfErr result (Stops world batch.now) }
+    ensures drawn { IfErr result (StopsDrawn (draws_state draws.old) world batch.now) }
+{
+    match draws {
+        Some(draws) => settle_one(alloc, world, batch, draws),
+        None => settle_rounds(rt, alloc, gate, world, batch),
     }
 }
 
@@ -203,17 +237,20 @@ fn log(turns: &[Turn], journal: &mut Vec<JournalLine>) -> Result<(), AllocError>
     Ok(())
 }
 
-/// Runs a script: settles its batches one after the other by draws, which go on from settle to settle, and prints what
-/// is to be reported after each. It ends before that where a batch stops, and then the line of the stop is all that it prints.
+/// Runs a script: settles its batches one after the other, and prints what is to be reported after each. It ends before
+/// that where a batch stops, and then the line of the stop is all that it prints. Where there are draws it settles by
+/// these, which go on from settle to settle, and else in rounds, on threads.
 ///
 /// All that the world has is named, the world allows each command, and there are no more batches than a text may have
 /// commands.
-pub fn run_script(
+pub fn run_script<R: Threads + Sync, G: Gate + Sync>(
+    rt: &R,
     alloc: Global,
+    gate: &G,
     report: Report,
     names: &Names,
     world: World,
-    draws: Draws,
+    draws: Option<Draws>,
     batches: &[Batch],
 ) -> Result<Run, AllocError>
     requires named { NamesAll names.now world }
@@ -221,7 +258,7 @@ pub fn run_script(
     requires few { length batches.now ≤ COMMAND_LIMIT }
     ensures ran { IfOk result (λ run. IsJournalTo run.stop world (map batch_turns batches.now) run.journal.items) }
     ensures drawn { IfOk result (λ run.
-        IsDrawnJournal run.stop draws.state world (map batch_turns batches.now) run.journal.items) }
+        FollowsDraws (draws_state draws) run.stop world (map batch_turns batches.now) run.journal.items) }
     ensures holds { IfOk result (λ run. HoldsAtSettles world run.journal.items) }
     ensures shows { IfOk result (λ run. ShowsCause run.stop world (map batch_turns batches.now)) }
     ensures output { IfOk result (λ run. run.output.items
@@ -233,7 +270,7 @@ pub fn run_script(
     for index in 0..batches.len() {
         let batch = &batches[index];
         let number = (index + 1) as u32;
-        match progress.settle(alloc, report, names, number, &batch.turns)? {
+        match progress.settle(rt, alloc, gate, report, names, number, &batch.turns)? {
             Outcome::Settled(next) => progress = next,
             Outcome::Stopped(run) => return Ok(run),
         }

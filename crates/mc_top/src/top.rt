@@ -7,12 +7,12 @@ ghost use Rattle.mc_net.specs.Nets.{DeclaresNet, NamesAll, batch_turns};
 ghost use Rattle.mc_lines.specs.Rules.{read_limit};
 ghost use Rattle.mc_net.specs.Texts.{IsFault};
 ghost use Rattle.mc_lines.specs.declared.limit.TheConstants.{COMMAND_LIMIT};
-ghost use Rattle.mc_lines.specs.declared.tail.Tail.TheVariants.{Journal, Nothing};
+ghost use Rattle.mc_lines.specs.declared.tail.Tail.TheVariants.{Journal};
 ghost use Rattle.mc_net.specs.declared.net.Net.{Net};
 ghost use Rattle.mc_scene.specs.Outputs.{scene_output};
 ghost use Rattle.mc_scene.specs.declared.scenes.Scene.{Scene};
 ghost use Rattle.mc_top.specs.Behind.{HasJournalFault};
-ghost use Rattle.mc_top.specs.Modes.{AsksToRead, IsWithinLimits, IsWorkable, draws_from, reads, tail_of, text_for};
+ghost use Rattle.mc_top.specs.Modes.{AsksToRead, IsWithinLimits, IsWorkable, reads, tail_of, text_for};
 ghost use Rattle.mc_top.specs.Reasons.{Explains, ExplainsDue};
 ghost use Rattle.mc_top.specs.Statuses.{IsDue, IsDueForMode, IsDueForText, due_by, judges_text, keeps_journal};
 ghost use Rattle.mc_top.specs.Top.{Delivers, EndsAs, GivesUp, HasReadWhole, IsTextFor, PrintsUsage, ReadsFor};
@@ -22,7 +22,7 @@ ghost use Rattle.mc_words.specs.declared.words.Mode.TheVariants.{Check, Scene as
 
 use crate::behind::journal_behind;
 use crate::checking::check_script;
-use crate::modes::{report_of, tail_of};
+use crate::modes::{draws_from, report_of, tail_of};
 use crate::print::{print_fault, print_journal_fault};
 use crate::run::{Run, run_script, with_journal};
 use crate::status::{
@@ -35,7 +35,6 @@ use mc_net::{JOURNAL_TEXT_LIMIT, Net, NetFault, TEXT_LIMIT, TextFault, read_net}
 use mc_replay::CheckFault;
 use mc_scene::{generated, scene_text};
 use mc_script::JournalLine;
-use mc_text::Draws;
 use mc_words::{Mode, read_mode};
 use std::alloc::{AllocError, Global};
 use std::thread::Threads;
@@ -152,16 +151,17 @@ fn refuse<K: Sink>(alloc: Global, mode: Mode, text: &[u8], fault: TextFault, sin
 }
 
 // Runs the script of a network, and prints its journal where the mode asks for it.
-fn run_net<K: Sink>(
+fn run_net<R: Threads + Sync, K: Sink, G: Gate + Sync>(
+    rt: &R,
     alloc: Global,
+    gate: &G,
     mode: Mode,
-    draws: Draws,
     text: &[u8],
     net: Net,
     sink: &mut K,
 ) -> Done
-    requires draws { draws_from mode ≡ Some draws.state }
-    requires declares { DeclaresNet Nothing text.now net }
+    requires runs { mode ≢ Check }
+    requires declares { DeclaresNet (tail_of mode) text.now net }
     requires named { NamesAll net.names net.world }
     requires allowed { AreAllAllowed net.world (map batch_turns net.batches.items) }
     requires few { length net.batches.items ≤ COMMAND_LIMIT }
@@ -178,7 +178,9 @@ fn run_net<K: Sink>(
         ..
     } = net;
     world.keeps();
-    let Ok(run) = run_script(alloc, report_of(mode), &names, world, draws, &batches) else {
+    let draws = draws_from(mode);
+    let report = report_of(mode);
+    let Ok(run) = run_script(rt, alloc, gate, report, &names, world, draws, &batches) else {
         return give_up(alloc, NO_MEMORY, Reason::NoMemory);
     };
     match with_journal(alloc, mode.prints_journal(), &names, run) {
@@ -235,7 +237,15 @@ fn check_net<K: Sink>(alloc: Global, text: &[u8], net: Net, sink: &mut K) -> Don
 }
 
 // Does a mode's work on the network that a text declares.
-fn work_on<K: Sink>(alloc: Global, mode: Mode, text: &[u8], net: Net, sink: &mut K) -> Done
+fn work_on<R: Threads + Sync, K: Sink, G: Gate + Sync>(
+    rt: &R,
+    alloc: Global,
+    gate: &G,
+    mode: Mode,
+    text: &[u8],
+    net: Net,
+    sink: &mut K,
+) -> Done
     requires declares { DeclaresNet (tail_of mode) text.now net }
     requires named { NamesAll net.names net.world }
     requires allowed { AreAllAllowed net.world (map batch_turns net.batches.items) }
@@ -247,16 +257,20 @@ fn work_on<K: Sink>(alloc: Global, mode: Mode, text: &[u8], net: Net, sink: &mut
     ensures fault { K.faults sink.new ≡ faults_after (K.faults sink.old) (result.status == WRITE_FAULT) }
 {
     match mode {
-        Mode::Run { .. } => run_net(alloc, mode, Draws { state: 0 }, text, net, sink),
-        Mode::One { state, .. } => run_net(alloc, mode, Draws { state }, text, net, sink),
         Mode::Check => check_net(alloc, text, net, sink),
-        Mode::Gen { .. } => run_net(alloc, mode, Draws { state: 0 }, text, net, sink),
-        Mode::Scene { .. } => run_net(alloc, mode, Draws { state: 0 }, text, net, sink),
+        _ => run_net(rt, alloc, gate, mode, text, net, sink),
     }
 }
 
 // Does a mode's work on a text.
-fn run_text<K: Sink>(alloc: Global, mode: Mode, text: &[u8], sink: &mut K) -> Done
+fn run_text<R: Threads + Sync, K: Sink, G: Gate + Sync>(
+    rt: &R,
+    alloc: Global,
+    gate: &G,
+    mode: Mode,
+    text: &[u8],
+    sink: &mut K,
+) -> Done
     ensures statuses { IsDueForText result.due }
     ensures status { (result.status ≡ result.due) ⊎ (result.status ≡ WRITE_FAULT) }
     ensures ends { EndsAs mode (Some text.now) (K.written sink.old) (K.written sink.new) result }
@@ -264,14 +278,21 @@ fn run_text<K: Sink>(alloc: Global, mode: Mode, text: &[u8], sink: &mut K) -> Do
     ensures fault { K.faults sink.new ≡ faults_after (K.faults sink.old) (result.status == WRITE_FAULT) }
 {
     match read_net(alloc, text, tail_of(mode)) {
-        Ok(net) => work_on(alloc, mode, text, net, sink),
+        Ok(net) => work_on(rt, alloc, gate, mode, text, net, sink),
         Err(NetFault::Line(fault)) => refuse(alloc, mode, text, fault, sink),
         Err(NetFault::NoMemory(_)) => give_up(alloc, NO_MEMORY, Reason::NoMemory),
     }
 }
 
 // Does a mode's work on the text that it reads.
-fn run_mode<S: Source, K: Sink>(alloc: Global, mode: Mode, source: &mut S, sink: &mut K) -> Done
+fn run_mode<R: Threads + Sync, S: Source, K: Sink, G: Gate + Sync>(
+    rt: &R,
+    alloc: Global,
+    gate: &G,
+    mode: Mode,
+    source: &mut S,
+    sink: &mut K,
+) -> Done
     requires { IsWithinLimits mode }
     ensures statuses { IsDueForMode result.due }
     ensures status { (result.status ≡ result.due) ⊎ (result.status ≡ WRITE_FAULT) }
@@ -286,7 +307,7 @@ fn run_mode<S: Source, K: Sink>(alloc: Global, mode: Mode, source: &mut S, sink:
     ensures write_fault { K.faults sink.new ≡ faults_after (K.faults sink.old) (result.status == WRITE_FAULT) }
 {
     match text_of(alloc, mode, source) {
-        Ok(text) => run_text(alloc, mode, &text, sink),
+        Ok(text) => run_text(rt, alloc, gate, mode, &text, sink),
         Err(ReadFault::Failed) => give_up(alloc, READ_FAULT, Reason::ReadFault),
         Err(ReadFault::NoMemory(_)) => give_up(alloc, NO_MEMORY, Reason::NoMemory),
     }
@@ -357,5 +378,5 @@ pub fn media_top<R: Threads + Sync, S: Source, K: Sink, G: Gate + Sync>(
     let Some(mode) = read else {
         return deliver(sink, USAGE, b"usage\n", Vec::new(alloc), Reason::Usage);
     };
-    run_mode(alloc, mode, source, sink)
+    run_mode(rt, alloc, gate, mode, source, sink)
 }

@@ -1,7 +1,7 @@
-use Rattle.std.proofs.Common.{◌∙◌, ap, IsFalse, IsTrue, subst}
+use Rattle.std.proofs.Common.{◌∙◌, ap, IsFalse, IsTrue, rules, subst}
 use Rattle.mc_io.specs.Bytes.{ConsumesAtMost}
 use Rattle.mc_lines.specs.Rules.{read_limit}
-use Rattle.mc_top.specs.Modes.{IsWorkable, reads, tail_of, text_for}
+use Rattle.mc_top.specs.Modes.{IsWithinLimits, IsWorkable, reads, tail_of, text_for}
 use Rattle.mc_top.specs.Top.{Ends, HasReadWhole}
 use Rattle.mc_top.proofs.OwnTexts.{false_unless, scene_stated, within_limits, works_on}
 use Rattle.mc_top.proofs.Told.{completes, not_failed}
@@ -11,7 +11,9 @@ use Rattle.mc_words.specs.declared.words.Mode.{Mode}
 use Rattle.mc_words.specs.declared.words.Mode.TheVariants.{Scene}
 
 pub run_mode-requires : goal.run_mode-requires
-run_mode-requires g c = within_limits c.args.words.items c.in-Some.mode (rw (c.deref.ensures.value, c.in-Some.is) at c.in-Ok.ensures.some)
+run_mode-requires g c =
+    let within : IsWithinLimits c.in-Some.mode = within_limits c.args.words.items c.in-Some.mode (rw (c.deref.ensures.value, c.in-Some.is) at c.in-Ok.ensures.some) in
+    search rules
 
 pub returns-clause-ends : goal.returns-clause-ends
 returns-clause-ends g c = λ mode is.
