@@ -274,7 +274,8 @@ fn the_second_write_fails(rt: HostRuntime) -> Result<(), Fail> {
     let mut bytes = Vec::from_slice(alloc, PHONES.as_bytes())?;
     bytes.extend_from_slice(b"set alice a open\nset bob a hold\nsettle\n")?;
     let mut source = MemSource::new(bytes, 64, Vec::new(alloc));
-    let (done, written) = run(&rt, alloc, &mut source, 10, vec![in alloc; 2]?)?;
+    let words = ["one", "0"];
+    let (done, written) = call(&rt, alloc, &words, &mut source, 10, vec![in alloc; 2]?)?;
     is_equal(&rt, &done.status, &5);
     is_equal(&rt, &done.due, &0);
     is_equal(&rt, &done.journal.len(), &7);

@@ -1,6 +1,6 @@
 // Journals: what `--journal` prints behind the settles, and what `check` says of a text with a journal.
 
-use super::{PHONES, ROOM, call, is_equal_at};
+use super::{PHONES, ROOM, call, is_equal, is_equal_at};
 use mc_io::MemSource;
 use std::alloc::{AllocError, Global};
 use std::process::Abort;
@@ -420,21 +420,35 @@ fn behind<'a, R: Abort>(rt: &R, bytes: &'a [u8], count: usize) -> &'a [u8] {
     &bytes[count..]
 }
 
-// The output of a run with its journal is what `check` accepts behind the run's text.
+// A call with these words prints a journal, which `check` accepts behind the call's text.
+fn is_accepted<R: Threads + Sync + Abort>(
+    rt: &R,
+    alloc: Global,
+    words: &[&str],
+) -> Result<(), AllocError> {
+    let bytes = Vec::from_slice(alloc, FEATURE.as_bytes())?;
+    let mut source = MemSource::new(bytes, 4096, Vec::new(alloc));
+    let (_, written) = call(rt, alloc, words, &mut source, ROOM, Vec::new(alloc))?;
+    let mut checked = Vec::from_slice(alloc, FEATURE.as_bytes())?;
+    checked.extend_from_slice(behind(rt, &written, FEATURE_PRINTED.len()))?;
+    let mut source = MemSource::new(checked, 4096, Vec::new(alloc));
+    let (done, written) = call(rt, alloc, &["check"], &mut source, ROOM, Vec::new(alloc))?;
+    is_equal(rt, &done.status, &0);
+    is_equal(rt, &written.as_slice(), &FEATURE_PRINTED.as_bytes());
+    Ok(())
+}
+
+// Whichever interleaving it is that `run` makes.
 #[test]
 fn what_was_printed_is_accepted(rt: HostRuntime) -> Result<(), Fail> {
-    let alloc = rt.alloc();
-    for draws in ["0", "1", "2147483647"] {
-        let bytes = Vec::from_slice(alloc, FEATURE.as_bytes())?;
-        let mut source = MemSource::new(bytes, 4096, Vec::new(alloc));
-        let words = ["one", draws, "--journal"];
-        let (_, written) = call(&rt, alloc, &words, &mut source, ROOM, Vec::new(alloc))?;
-        let mut checked = Vec::from_slice(alloc, FEATURE.as_bytes())?;
-        checked.extend_from_slice(behind(&rt, &written, FEATURE_PRINTED.len()))?;
-        let mut source = MemSource::new(checked, 4096, Vec::new(alloc));
-        let (done, written) = call(&rt, alloc, &["check"], &mut source, ROOM, Vec::new(alloc))?;
-        is_equal_at(&rt, &done.status, &0, draws);
-        is_equal_at(&rt, &written.as_slice(), &FEATURE_PRINTED.as_bytes(), draws);
+    let table: [&[&str]; 4] = [
+        &["run", "--journal"],
+        &["one", "0", "--journal"],
+        &["one", "1", "--journal"],
+        &["one", "2147483647", "--journal"],
+    ];
+    for words in table {
+        is_accepted(&rt, rt.alloc(), words)?;
     }
     Ok(())
 }

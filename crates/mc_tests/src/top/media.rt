@@ -1,6 +1,6 @@
 // Who hears what: muted and unmuted phones, send lists, and scripts that stop at a last version.
 
-use super::{ROOM, is_equal, is_written, run};
+use super::{ROOM, call, is_equal, is_written};
 use mc_box::{Change, Event, Turn};
 use mc_io::MemSource;
 use mc_script::JournalLine;
@@ -165,7 +165,8 @@ fn a_stopped_script_keeps_its_turns(rt: HostRuntime) -> Result<(), Fail> {
         "media 1\ndev alice 4294967295\ndev bob\nchan audio alice a bob a\nbegin\nsettle\nset alice a open\nhear alice a off\nsettle\n";
     let bytes = Vec::from_slice(alloc, text.as_bytes())?;
     let mut source = MemSource::new(bytes, 64, Vec::new(alloc));
-    let (done, written) = run(&rt, alloc, &mut source, ROOM, Vec::new(alloc))?;
+    let words = ["one", "0"];
+    let (done, written) = call(&rt, alloc, &words, &mut source, ROOM, Vec::new(alloc))?;
     let set = Turn {
         who: 0,
         event: Event::Set(Change::End(0, Goal::Open)),

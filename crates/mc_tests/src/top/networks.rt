@@ -1,6 +1,6 @@
 // Networks of devices and features: links, paths of several tunnels, and rings.
 
-use super::{ROOM, call, is_equal, is_equal_at, is_written, run};
+use super::{ROOM, call, is_equal, is_equal_at, is_written};
 use mc_box::{Change, Event, Turn};
 use mc_io::MemSource;
 use mc_script::JournalLine;
@@ -222,7 +222,8 @@ fn a_ring_keeps_the_turns_before_it(rt: HostRuntime) -> Result<(), Fail> {
     let alloc = rt.alloc();
     let bytes = Vec::from_slice(alloc, RING.as_bytes())?;
     let mut source = MemSource::new(bytes, 64, Vec::new(alloc));
-    let (done, written) = run(&rt, alloc, &mut source, ROOM, Vec::new(alloc))?;
+    let words = ["one", "0"];
+    let (done, written) = call(&rt, alloc, &words, &mut source, ROOM, Vec::new(alloc))?;
     is_equal(&rt, &done.status, &7);
     is_equal(&rt, &done.due, &7);
     is_equal(&rt, &&done.journal[..], &&[linked(0), linked(1)][..]);
