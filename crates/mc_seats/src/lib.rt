@@ -11,6 +11,3 @@ mod seat;
 pub use finding::find_work;
 pub use running::run_found;
 pub use seat::Seat;
-
-#[cfg(test)]
-mod tests;

@@ -24,22 +24,25 @@ pub fn run_found<R: Threads + Sync, G: Gate + Sync>(
     requires can_run { EachListed CanRun found.now seats.old }
     ensures { AreRun retries found.now seats.old seats.new }
 {
-    run_part(rt, gate, retries, found, 0, seats);
+    let at_once = two_have_commands(found, seats);
+    run_part(rt, gate, retries, found, 0, at_once, seats);
 }
 
-// The same for a part of the seats, the first of which is the box `base`. Where more threads pay, the list is halved.
+// The same for a part of the seats, the first of which is the box `base`. The list is halved where two boxes are to
+// begin at once, and while there are so many that one thread more pays.
 fn run_part<R: Threads + Sync, G: Gate + Sync>(
     rt: &R,
     gate: &G,
     retries: bool,
     found: &[u32],
     base: usize,
+    at_once: bool,
     seats: &mut [Seat],
 )
     requires { CanRunPart base found.now seats.old }
     ensures { AreRunPart retries base found.now seats.old seats.new }
 {
-    if found.len() < 2 || !pays(found, base, seats) {
+    if found.len() < 2 || !pays(found.len(), at_once) {
         run_each(gate, retries, found, base, seats);
         return;
     }
@@ -51,11 +54,11 @@ fn run_part<R: Threads + Sync, G: Gate + Sync>(
         &mut ||
             requires { IsSync R.row × IsSync G.row × CanRunPart base first.now front.now }
             ensures { AreRunPart retries base first.entry.now front.entry.now front.exit.now }
-        { run_part(rt, gate, retries, first, base, front) },
+        { run_part(rt, gate, retries, first, base, false, front) },
         &mut ||
             requires { IsSync R.row × IsSync G.row × CanRunPart cut second.now back.now }
             ensures { AreRunPart retries cut second.entry.now back.entry.now back.exit.now }
-        { run_part(rt, gate, retries, second, cut, back) },
+        { run_part(rt, gate, retries, second, cut, false, back) },
     );
 }
 
@@ -77,16 +80,20 @@ fn run_seat<G: Gate>(gate: &G, retries: bool, seat: &mut Seat)
     seat.end = Some(seat.worker.round(gate, retries));
 }
 
-// Whether a thread more pays: where two boxes have commands, which are to act at once, or where there are many boxes.
-fn pays(found: &[u32], base: usize, seats: &[Seat]) -> bool {
-    let mut commanded = found.iter().filter(|who| has_command(seats, **who, base));
-    found.len() > THREAD_SHARE || commanded.nth(1).is_some()
+// Whether so many boxes go on two threads.
+fn pays(count: usize, at_once: bool) -> bool {
+    at_once || count > THREAD_SHARE
+}
+
+// Whether two of these boxes have commands.
+fn two_have_commands(found: &[u32], seats: &[Seat]) -> bool {
+    let mut commanded = found.iter().filter(|who| has_command(seats, **who));
+    commanded.nth(1).is_some()
 }
 
 // Whether a command is left to a box.
-fn has_command(seats: &[Seat], who: u32, base: usize) -> bool {
-    let place = (who as usize).saturating_sub(base);
-    match seats.get(place) {
+fn has_command(seats: &[Seat], who: u32) -> bool {
+    match seats.get(who as usize) {
         Some(seat) => !seat.worker.stimuli.is_empty(),
         None => false,
     }
