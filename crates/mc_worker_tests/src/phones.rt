@@ -50,6 +50,8 @@ pub fn worker(
     requires command { IsTrue (is_enabled_by (box_shape part) command) }
     ensures ready { IfOk result (λ made. IsReady made) }
     ensures stamp { IfOk result (λ made. made.stamp ≡ 0) }
+    ensures outs { IfOk result (λ made. made.outs.items ≡ out ∷ []) }
+    ensures ins { IfOk result (λ made. made.ins.items ≡ taking ∷ []) }
 {
     let mut ins = Vec::new(alloc);
     ins.push(taking)?;

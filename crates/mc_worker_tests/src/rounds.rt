@@ -78,8 +78,8 @@ fn far(version: u32) -> Descriptor {
     }
 }
 
-// An open, and 64 describes behind it.
-fn many_signals(alloc: Global) -> Result<Lane<Tagged>, AllocError> {
+/// An open, and 64 describes behind it.
+pub fn many_signals(alloc: Global) -> Result<Lane<Tagged>, AllocError> {
     let mut lane = Lane::new(alloc);
     lane.reserve(65)?;
     lane.push(Tagged {

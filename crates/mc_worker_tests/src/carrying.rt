@@ -1,0 +1,130 @@
+// What is under way between phones, carried from end to end. Which signals a phone sends is by the rules of rounds.
+
+ghost use Rattle.std.specs.Prelude.{◌≡◌, ◌∷◌, ◌<◌, ◌≤◌, [], length, map, IfOk};
+ghost use Rattle.mc_port.specs.Ends.{IsPair, in_ring, out_ring};
+ghost use Rattle.mc_worker.specs.Ready.{IsReady};
+ghost use Rattle.mc_worker.specs.declared.limit.TheConstants.{FIRST_STAMP_LIMIT};
+
+use crate::equal::is_equal;
+use crate::phones::{phone, worker};
+use crate::rounds::{HOLDS, OPENS, many_signals};
+use mc_io::OpenGate;
+use mc_port::{InPort, OutPort, Stamped, pair};
+use mc_signal::{CodecList, Descriptor, Medium, Signal, Tagged};
+use mc_worker::{Inboxes, Worker, carry, carry_within};
+use std::alloc::{AllocError, Global};
+use std::process::Abort;
+use std::test::Fail;
+
+// Two phones whose channel ends are joined. The second one has an open and 64 describes in its inbox.
+fn phones(alloc: Global) -> Result<(Worker, Worker), AllocError>
+    ensures ready { IfOk result (λ both. IsReady both.0 × IsReady both.1) }
+    ensures stamp { IfOk result (λ both. both.1.stamp ≡ 0) }
+    ensures ends { IfOk result (λ both. (length both.0.ins.items ≡ 1) × (length both.1.outs.items ≡ 1)) }
+    ensures ring { IfOk result (λ both. map out_ring both.1.outs.items ≡ map in_ring both.0.ins.items) }
+{
+    let (to_bob, from_alice) = pair(alloc)?;
+    let (to_alice, from_bob) = pair(alloc)?;
+    let alice = phone(alloc, 0, 1)?;
+    let bob = phone(alloc, 1, 1)?;
+    let alice = worker(alloc, alice, to_bob, from_bob, OPENS)?;
+    let mut bob = worker(alloc, bob, to_alice, from_alice, HOLDS)?;
+    let mut inboxes = Vec::new(alloc);
+    inboxes.push(many_signals(alloc)?)?;
+    bob.inboxes = Inboxes::new(inboxes);
+    Ok((alice, bob))
+}
+
+// The phone takes the open and 62 describes in one round. What it sends fills its ring and goes into its outbox.
+fn answer(rt: &impl Abort, phone: &mut Worker)
+    requires ready { IsReady phone.old }
+    requires stamp { phone.old.stamp ≤ FIRST_STAMP_LIMIT }
+    ensures ready { IsReady phone.new }
+    ensures rings { map out_ring phone.new.outs.items ≡ map out_ring phone.old.outs.items }
+    ensures ends { length phone.new.outs.items ≡ length phone.old.outs.items }
+{
+    let end = phone.round(&OpenGate, false);
+    is_equal(rt, &(end.took, end.sent), &(63, 64));
+}
+
+// The inbox has an oack and then a select for each of the versions 1 to 63, and nothing else.
+fn is_answered(rt: &impl Abort, inboxes: &mut Inboxes)
+    requires { 0 < length inboxes.old }
+    ensures { length inboxes.new ≡ length inboxes.old }
+{
+    let first = inboxes.pop(0);
+    assert!(rt; matches!(first, Some(tagged) if matches!(tagged.signal, Signal::Oack(_))));
+    for version in 1..64 {
+        let next = inboxes.pop(0);
+        assert!(rt;
+            matches!(next, Some(tagged) if matches!(tagged.signal, Signal::Select(answer) if answer.version == version))
+        );
+    }
+    is_equal(rt, &inboxes.pop(0), &None);
+}
+
+#[test]
+fn a_ring_and_an_outbox_are_carried_in_order(rt: HostRuntime) -> Result<(), Fail> {
+    let (mut alice, mut bob) = phones(rt.alloc())?;
+    answer(&rt, &mut bob);
+    assert!(rt; bob.outboxes.has_items(0));
+    is_equal(&rt, &carry(&mut bob, 0, &mut alice, 0)?, &true);
+    is_equal(&rt, &carry(&mut bob, 0, &mut alice, 0)?, &true);
+    is_equal(
+        &rt,
+        &(alice.inboxes.is_empty(), alice.inboxes.count_ends()),
+        &(false, 1),
+    );
+    is_answered(&rt, &mut alice.inboxes);
+    is_equal(
+        &rt,
+        &(alice.inboxes.is_empty(), alice.inboxes.count_ends()),
+        &(true, 0),
+    );
+    is_equal(&rt, &carry(&mut bob, 0, &mut alice, 0)?, &false);
+    Ok(())
+}
+
+fn open() -> Signal {
+    Signal::Open(
+        Medium::Audio,
+        Descriptor {
+            origin: 0,
+            version: 1,
+            addr: 1,
+            port: 5000,
+            codecs: CodecList::none(),
+        },
+    )
+}
+
+// A phone whose channel end is joined to itself.
+fn alone(alloc: Global, out: OutPort, taking: InPort) -> Result<Worker, AllocError>
+    requires { IsPair out taking }
+    ensures ready { IfOk result (λ made. IsReady made) }
+    ensures ends { IfOk result (λ made. (length made.outs.items ≡ 1) × (length made.ins.items ≡ 1)) }
+    ensures ring { IfOk result (λ made. map out_ring made.outs.items ≡ map in_ring made.ins.items) }
+{
+    let phone = phone(alloc, 1, 1)?;
+    worker(alloc, phone, out, taking, HOLDS)
+}
+
+#[test]
+fn a_signal_is_carried_within_a_box(rt: HostRuntime) -> Result<(), Fail> {
+    let alloc = rt.alloc();
+    let (mut out, taking) = pair(alloc)?;
+    let item = Stamped {
+        stamp: 7,
+        tunnel: 0,
+        signal: open(),
+    };
+    is_equal(&rt, &out.give(item), &Ok(()));
+    let mut bob = alone(alloc, out, taking)?;
+    is_equal(&rt, &carry_within(&mut bob, 0, 0)?, &true);
+    let tagged = Tagged {
+        tunnel: 0,
+        signal: open(),
+    };
+    is_equal(&rt, &bob.inboxes.pop(0), &Some(tagged));
+    Ok(())
+}
