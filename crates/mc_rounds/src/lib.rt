@@ -1,4 +1,4 @@
-//! Settling in rounds, in each of which boxes make their turns side by side, on threads.
+//! Settling in which the boxes' turns may come in any order.
 #![tactic(auto)]
 
 pub mod limit;

@@ -14,8 +14,8 @@ use mc_world::{Settled, World};
 use std::alloc::Global;
 use std::thread::Threads;
 
-/// Settles a batch. Which interleaving of the boxes its turns are hangs on threads, and no clause tells it: any settled
-/// segment may be the answer, and any turns that stop with their cause.
+/// Settles a batch. Which interleaving of the boxes its turns are no clause tells: any settled segment may be the
+/// answer, and any turns that stop with their cause. By now it settles on the thread that calls it.
 ///
 /// The world allows each command, and has few boxes. It always ends: at rest, at a ring of links that the batch or a
 /// Shift left, at a box that has made all its Shifts and has one more enabled, or at a Hear of a descriptor that has

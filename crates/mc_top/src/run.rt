@@ -239,7 +239,7 @@ fn log(turns: &[Turn], journal: &mut Vec<JournalLine>) -> Result<(), AllocError>
 
 /// Runs a script: settles its batches one after the other, and prints what is to be reported after each. It ends before
 /// that where a batch stops, and then the line of the stop is all that it prints. Where there are draws it settles by
-/// these, which go on from settle to settle, and else in rounds, on threads.
+/// these, which go on from settle to settle, and else with the boxes' turns in any order.
 ///
 /// All that the world has is named, the world allows each command, and there are no more batches than a text may have
 /// commands.
