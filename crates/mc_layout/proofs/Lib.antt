@@ -1,0 +1,11 @@
+pub mod Added
+pub mod Covers
+pub mod EndsFew
+pub mod EndsJoined
+pub mod OneJoined
+pub mod Pushed
+pub mod RingsJoined
+pub mod SlotPlaces
+pub mod SlotsLonger
+pub mod TunnelsPlaced
+pub mod Whole
