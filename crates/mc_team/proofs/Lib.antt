@@ -1,0 +1,6 @@
+mod Lists
+mod Pairs
+mod OnLanes
+mod Rising
+mod Reached
+mod Gathered

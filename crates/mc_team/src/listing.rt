@@ -1,0 +1,33 @@
+// Lists of boxes, in rising order.
+
+ghost use Rattle.std.specs.Prelude.{◌≡◌, ◌==◌, ◌||◌, ◌<◌, ◌≤◌, ◌^◌, ℕ, nat_lt, OnOk};
+ghost use Rattle.mc_seats.specs.Numbers.{Rises, is_listed};
+
+use std::alloc::AllocError;
+
+/// Puts a box into a list of so many boxes, if it isn't there.
+pub fn list_box(listed: &mut Vec<u32>, who: u32, boxes: usize) -> Result<(), AllocError>
+    requires there { who < boxes }
+    requires rises { Rises boxes listed.old.items }
+    ensures listed { OnOk result ((other : ℕ) → is_listed listed.new.items other
+        ≡ (who == other || is_listed listed.old.items other)) }
+    ensures rises { OnOk result (Rises boxes listed.new.items) }
+{
+    match listed.binary_search(&who) {
+        Ok(_) => Ok(()),
+        Err(at) => Ok(listed.insert(at, who)?),
+    }
+}
+
+/// Lists all of so many boxes.
+pub fn list_all(listed: &mut Vec<u32>, boxes: usize) -> Result<(), AllocError>
+    requires { boxes ≤ 2 ^ 32 }
+    ensures listed { OnOk result ((other : ℕ) → is_listed listed.new.items other ≡ nat_lt other boxes) }
+    ensures rises { OnOk result (Rises boxes listed.new.items) }
+{
+    listed.clear();
+    for who in 0..boxes {
+        listed.push(who as u32)?;
+    }
+    Ok(())
+}
