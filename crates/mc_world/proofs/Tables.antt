@@ -16,13 +16,13 @@ use Rattle.mc_world.proofs.TunnelTables.{in_table, slot_has_channel, tunnel_is_t
 
 -- its place in the table
 pub tunnel_below : (inside : Inside) (s : ℕ) → HasTables inside → s < slot_count (world_state inside) → s / 2 < length inside.topology.tunnels.items
-tunnel_below inside s has below = rw (has.tunnels, length-map (tunnels_from 0 inside.channels.items) channel_of) (tunnel_is_there inside.channels.items s below)
+tunnel_below inside s has below = rw (has.topology.tunnels, length-map (tunnels_from 0 inside.channels.items) channel_of) (tunnel_is_there inside.channels.items s below)
 
 -- what is read there
 pub tunnel_read : (inside : Inside) (s : ℕ) (read : ℕ × ℕ) → HasTables inside → s < slot_count (world_state inside) → read ≡ get_or inside.topology.tunnels.items (s / 2) read
     → read ≡ channel_of (tunnel_of (world_state inside) s)
 tunnel_read inside s read has below is =
-    in_table (tunnels_from 0 inside.channels.items) (s / 2) read (tunnel_is_there inside.channels.items s below) (rw has.tunnels at is)
+    in_table (tunnels_from 0 inside.channels.items) (s / 2) read (tunnel_is_there inside.channels.items s below) (rw has.topology.tunnels at is)
 
 pub channel_below : (inside : Inside) (s : ℕ) → s < slot_count (world_state inside) → (tunnel_of (world_state inside) s).channel < length (world_state inside).channels
 channel_below inside s below = slot_has_channel inside.channels.items s below

@@ -13,7 +13,8 @@ use Rattle.mc_model.specs.Steps.{after_push, after_sends}
 use Rattle.mc_box.specs.declared.limit.TheConstants.{SLOT_LIMIT}
 use Rattle.mc_model.specs.Sound.{IsSound}
 use Rattle.mc_world.proofs.LaneBoxes.{lane_box, lane_run}
-use Rattle.mc_world.specs.Tables.{HasTables, channel_of, world_state}
+use Rattle.mc_world.proofs.LaneChanges.{Lane}
+use Rattle.mc_world.specs.Tables.{HasTables, IsTopologyOf, channel_of, world_state}
 use Rattle.mc_model.specs.Worlds.{TunnelPlace, WorldState, box_at, place, slot_count, far, is_place, tunnel_of, all_tunnels, tunnels_from, lane_of, no_tunnel, number, places}
 use Rattle.mc_world.specs.declared.network.World.TheInside.{Inside}
 use Rattle.mc_world.specs.declared.topology.Topology.{Topology}
@@ -61,45 +62,48 @@ number_few world who local s sound is =
     let inside : (place world s).1 < length (box_at world who).slots = subst (λ (n : ℕ). (place world s).1 < length (box_at world n).slots) at.1 (sound.numbered.slots s at.0) in
     omega (arith, inside, at.2, (sound.boxes who home).wired.few)
 
--- a world's tables find its slots
-pub tables_numbers : (inside : Inside) → HasTables inside → HasNumbers inside.topology
-tables_numbers inside has = record {
-  found = has.found;
-  once = subst (λ (l : List (ℕ × ℕ)). (s : ℕ) → s < length l → position (is_place (get_or l s (0, 0))) l ≡ Some s) (sym has.places) has.sound.numbered.once;
+-- the tables of a world find its slots
+pub topology_numbers : (world : WorldState) (topology : Topology) → IsTopologyOf topology world.channels (length world.boxes) → IsSound world → HasNumbers topology
+topology_numbers world topology is sound = record {
+  found = is.found;
+  once = subst (λ (l : List (ℕ × ℕ)). (s : ℕ) → s < length l → position (is_place (get_or l s (0, 0))) l ≡ Some s) (sym is.places) sound.numbered.once;
   few = λ who.
-      few_numbers (world_state inside) (numbers_of inside.topology who) who SLOT_LIMIT
-      (λ local. has.found who local ∙ ap (position (is_place (who, local))) has.places)
-      (λ local s is. number_few (world_state inside) who local s has.sound is);
+      few_numbers world (numbers_of topology who) who SLOT_LIMIT
+      (λ local. is.found who local ∙ ap (position (is_place (who, local))) is.places)
+      (λ local s at. number_few world who local s sound at);
 }
 
--- a world's tables are of its lanes
-pub tables_laid : (inside : Inside) → HasTables inside → IsLaid inside.topology (length inside.lanes.items)
-tables_laid inside has =
-    let found : List TunnelPlace = tunnels_from 0 inside.channels.items in
-    let long : length inside.topology.tunnels.items ≡ length (tunnels_from 0 inside.channels.items) =
-    ap (λ (l : List (ℕ × ℕ)). length l) has.tunnels ∙ length-map (tunnels_from 0 inside.channels.items) channel_of in
+-- and are of its lanes
+pub topology_laid : (world : WorldState) (topology : Topology) → IsTopologyOf topology world.channels (length world.boxes) → IsSound world → IsLaid topology (length world.lanes)
+topology_laid world topology is sound =
+    let found : List TunnelPlace = tunnels_from 0 world.channels in
+    let long : length topology.tunnels.items ≡ length (tunnels_from 0 world.channels) =
+    ap (λ (l : List (ℕ × ℕ)). length l) is.tunnels ∙ length-map (tunnels_from 0 world.channels) channel_of in
+    let within : (r : ℕ) → r < length topology.places.items → r < slot_count world = λ r below. subst (λ (l : List (ℕ × ℕ)). r < length l) is.places below in
+    let one_lane : (s t : ℕ) → lane_by topology s ≡ lane_by topology t → lane_of world s ≡ lane_of world t = λ s t lane. sym (lane_same world topology s is.tunnels) ∙ (lane ∙ lane_same world topology t is.tunnels) in
     record {
-      fit = has.few;
-      slots = ap (λ (l : List (ℕ × ℕ)). length l) has.places ∙ (two_each inside.channels.items 0 ∙ ap (λ (n : ℕ). 2 * n) (sym long));
+      fit = is.few;
+      slots = ap (λ (l : List (ℕ × ℕ)). length l) is.places ∙ (two_each world.channels 0 ∙ ap (λ (n : ℕ). 2 * n) (sym long));
       lanes = λ t below.
-          let channel : (get_or inside.topology.tunnels.items t (0, 0)).0 ≡ (get_or found t no_tunnel).channel =
-          ap (λ (l : List (ℕ × ℕ)). (get_or l t (0, 0)).0) has.tunnels ∙ ap (λ (p : ℕ × ℕ). p.0) (tunnel_at found t) in
-          subst (λ (c : ℕ). 2 * c + 1 < length inside.lanes.items) (sym channel)
-          (channel_lanes (get_or found t no_tunnel).channel (length inside.channels.items) (length inside.lanes.items)
-          ((channel_in inside.channels.items 0 t (subst (λ (n : ℕ). t < n) long below)).1) has.lanes);
-      numbers = tables_numbers inside has;
+          let channel : (get_or topology.tunnels.items t (0, 0)).0 ≡ (get_or found t no_tunnel).channel =
+          ap (λ (l : List (ℕ × ℕ)). (get_or l t (0, 0)).0) is.tunnels ∙ ap (λ (p : ℕ × ℕ). p.0) (tunnel_at found t) in
+          subst (λ (c : ℕ). 2 * c + 1 < length world.lanes) (sym channel)
+          (channel_lanes (get_or found t no_tunnel).channel (length world.channels) (length world.lanes)
+          ((channel_in world.channels 0 t (subst (λ (n : ℕ). t < n) long below)).1) sound.numbered.lanes);
+      numbers = topology_numbers world topology is sound;
       home = λ s t one two lane.
-          let world : WorldState = world_state inside in
-          let within : (r : ℕ) → r < length inside.topology.places.items → r < slot_count (world_state inside) = λ r below. subst (λ (l : List (ℕ × ℕ)). r < length l) has.places below in
-          subst (λ (l : List (ℕ × ℕ)). (get_or l s (0, 0)).0 ≡ (get_or l t (0, 0)).0) (sym has.places)
-          (lane_box world s t (within s one) (within t two) (sym (lane_same world inside.topology s has.tunnels) ∙ (lane ∙ lane_same world inside.topology t has.tunnels)));
+          subst (λ (l : List (ℕ × ℕ)). (get_or l s (0, 0)).0 ≡ (get_or l t (0, 0)).0) (sym is.places) (lane_box world s t (within s one) (within t two) (one_lane s t lane));
       follow = λ s t one two lane.
-          let world : WorldState = world_state inside in
-          let within : (r : ℕ) → r < length inside.topology.places.items → r < slot_count (world_state inside) = λ r below. subst (λ (l : List (ℕ × ℕ)). r < length l) has.places below in
-          subst (λ (n : ℕ). s + 2 * n ≡ t + 2 * tunnel_by inside.topology s) (sym (tunnel_same world inside.topology t has.tunnels))
-          (subst (λ (n : ℕ). s + 2 * (tunnel_of world t).within ≡ t + 2 * n) (sym (tunnel_same world inside.topology s has.tunnels))
-          (lane_run world s t (within s one) (within t two) (sym (lane_same world inside.topology s has.tunnels) ∙ (lane ∙ lane_same world inside.topology t has.tunnels))));
+          subst (λ (n : ℕ). s + 2 * n ≡ t + 2 * tunnel_by topology s) (sym (tunnel_same world topology t is.tunnels))
+          (subst (λ (n : ℕ). s + 2 * (tunnel_of world t).within ≡ t + 2 * n) (sym (tunnel_same world topology s is.tunnels)) (lane_run world s t (within s one) (within t two) (one_lane s t lane)));
     }
+
+-- so those that a world keeps
+pub tables_numbers : (inside : Inside) → HasTables inside → HasNumbers inside.topology
+tables_numbers inside has = topology_numbers (world_state inside) inside.topology has.topology has.sound
+
+pub tables_laid : (inside : Inside) → HasTables inside → IsLaid inside.topology (length inside.lanes.items)
+tables_laid inside has = subst (λ (n : ℕ). IsLaid inside.topology n) (length-map inside.lanes.items (λ (lane : Lane). lane.items)) (topology_laid (world_state inside) inside.topology has.topology has.sound)
 
 -- ---- where a sending goes
 

@@ -27,8 +27,8 @@ use Rattle.mc_world.proofs.TopologyLanes.{few_numbers, lane_same, tables_numbers
 -- by the tables it is the front of the world
 pub waits_same : (inside : Inside) (s : ℕ) → HasTables inside → waits_by inside.topology (signals_of inside.lanes.items) s ≡ is_some (front (world_state inside) s)
 waits_same inside s has =
-    ap (λ (w : ℕ). is_some (front_for w (get_or (signals_of inside.lanes.items) (lane_by inside.topology s) []))) (tunnel_same (world_state inside) inside.topology s has.tunnels)
-    ∙ ap (λ (k : ℕ). is_some (front_for (tunnel_of (world_state inside) s).within (get_or (signals_of inside.lanes.items) k []))) (lane_same (world_state inside) inside.topology s has.tunnels)
+    ap (λ (w : ℕ). is_some (front_for w (get_or (signals_of inside.lanes.items) (lane_by inside.topology s) []))) (tunnel_same (world_state inside) inside.topology s has.topology.tunnels)
+    ∙ ap (λ (k : ℕ). is_some (front_for (tunnel_of (world_state inside) s).within (get_or (signals_of inside.lanes.items) k []))) (lane_same (world_state inside) inside.topology s has.topology.tunnels)
 
 -- the signal behind the front is for some slot
 pub behind_served : (inside : Inside) (lane : ℕ) (signals : List Tagged) → HasTables inside → AllServed (world_state inside) lane signals → FirstServed inside.topology lane (drop 1 signals)
@@ -38,9 +38,9 @@ behind_served inside lane (first ∷ second ∷ rest) has served =
     let for : IsFor (world_state inside) lane second served.1.0.0 = served.1.0.1 in (
       served.1.0.0,
       record {
-        inside = subst (λ (l : List (ℕ × ℕ)). served.1.0.0 < length l) (sym has.places) for.inside;
-        leads = lane_same (world_state inside) inside.topology served.1.0.0 has.tunnels ∙ for.leads;
-        within = tunnel_same (world_state inside) inside.topology served.1.0.0 has.tunnels ∙ for.within;
+        inside = subst (λ (l : List (ℕ × ℕ)). served.1.0.0 < length l) (sym has.topology.places) for.inside;
+        leads = lane_same (world_state inside) inside.topology served.1.0.0 has.topology.tunnels ∙ for.leads;
+        within = tunnel_same (world_state inside) inside.topology served.1.0.0 has.topology.tunnels ∙ for.within;
       },
     )
 
@@ -69,16 +69,16 @@ flag_by world flags (Some s) each = each s refl
 -- a box's slot has a flag where a signal waits for it
 pub flag_is : (inside : Inside) (who local : ℕ) → HasTables inside → flag_of inside.waiting.flags.items (slice_get (numbers_of inside.topology who) local) ≡ take_waits (world_state inside) who local
 flag_is inside who local has =
-    ap (flag_of inside.waiting.flags.items) (has.found who local ∙ ap (position (is_place (who, local))) has.places)
+    ap (flag_of inside.waiting.flags.items) (has.topology.found who local ∙ ap (position (is_place (who, local))) has.topology.places)
     ∙ flag_by (world_state inside) inside.waiting.flags.items (number (world_state inside) who local)
-    (λ s is. has.waiting.flagged s (subst (λ (l : List (ℕ × ℕ)). s < length l) (sym has.places) (number_is (world_state inside) who local s is).0) ∙ waits_same inside s has)
+    (λ s is. has.waiting.flagged s (subst (λ (l : List (ℕ × ℕ)). s < length l) (sym has.topology.places) (number_is (world_state inside) who local s is).0) ∙ waits_same inside s has)
 
 -- a box has as many numbers as slots, and so has one that isn't there
 numbers_there : (inside : Inside) (who : ℕ) → HasTables inside → who < length inside.boxes.items → length (numbers_of inside.topology who) ≡ length (box_at (world_state inside) who).slots
 numbers_there inside who has here =
     let world : WorldState = world_state inside in
     let slots : ℕ = length (box_at (world_state inside) who).slots in
-    let found : (local : ℕ) → slice_get (numbers_of inside.topology who) local ≡ number (world_state inside) who local = λ local. has.found who local ∙ ap (position (is_place (who, local))) has.places in
+    let found : (local : ℕ) → slice_get (numbers_of inside.topology who) local ≡ number (world_state inside) who local = λ local. has.topology.found who local ∙ ap (position (is_place (who, local))) has.topology.places in
     let most : length (numbers_of inside.topology who) ≤ length (box_at (world_state inside) who).slots =
     few_numbers world (numbers_of inside.topology who) who slots found
     (λ local s is.
@@ -96,7 +96,7 @@ numbers_long : (inside : Inside) (who : ℕ) → HasTables inside → length (nu
 numbers_long inside who has = elim (cases_lt who (length inside.boxes.items)) [
   | inl here ↦ numbers_there inside who has here
   | inr outside ↦
-      ap length (get_or-eq_default (map (λ (numbers : Vec ℕ Global). numbers.items) inside.topology.numbers.items) [] (omega (arith, outside, has.homes, length-map inside.topology.numbers.items (λ (numbers : Vec ℕ Global). numbers.items))))
+      ap length (get_or-eq_default (map (λ (numbers : Vec ℕ Global). numbers.items) inside.topology.numbers.items) [] (omega (arith, outside, has.topology.homes, length-map inside.topology.numbers.items (λ (numbers : Vec ℕ Global). numbers.items))))
       ∙ sym (ap (λ (box : BoxState). length box.slots) (get_or-eq_default inside.boxes.items no_box outside))
 ]
 
@@ -129,8 +129,8 @@ counts_few inside who has = elim (cases_lt who (length inside.topology.numbers.i
 -- the counts are those of the world
 pub takes_counted : (inside : Inside) → HasTables inside → CountsTakes (world_state inside) inside.waiting.takes
 takes_counted inside has = record {
-  long = has.waiting.counted.takes ∙ has.homes;
-  each = λ who here. has.waiting.counted.each who (omega (arith, here, has.homes)) ∙ box_count inside who has;
+  long = has.waiting.counted.takes ∙ has.topology.homes;
+  each = λ who here. has.waiting.counted.each who (omega (arith, here, has.topology.homes)) ∙ box_count inside who has;
   few = λ who. counts_few inside who has;
 }
 

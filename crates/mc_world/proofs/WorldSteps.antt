@@ -23,7 +23,7 @@ use Rattle.mc_world.specs.declared.network.World.TheInside.{Inside}
 use Rattle.mc_world.specs.declared.topology.Topology.{Topology}
 use Rattle.mc_world.specs.declared.waiting.Waiting.{Waiting}
 use Rattle.mc_world.specs.Waiting.{IsWaiting}
-use Rattle.mc_world.specs.Tables.{HasTables, channel_of, world_state}
+use Rattle.mc_world.specs.Tables.{HasTables, IsTopologyOf, channel_of, world_state}
 use Rattle.mc_box.proofs.EventGoes.{event_goes}
 use Rattle.mc_laws.proofs.Numbers.{number_is}
 use Rattle.mc_laws.proofs.StepGoes.{below_test, front_step_goes}
@@ -142,8 +142,8 @@ pub take_made : (inside : Inside) (world : WorldState) (who local s lane : ℕ) 
     → step_by world who (Take local) ≡ Some (record (world_state inside) { boxes = set inside.boxes.items who step.after; lanes = lanes })
 take_made inside world who local s lane signal step lanes has view is first leads goes lanes_is =
     take_is world inside.topology who local s lane signal step is first goes leads
-    (subst (λ (w : WorldState). inside.topology.places.items ≡ places w) view has.places)
-    (subst (λ (w : WorldState). inside.topology.tunnels.items ≡ map channel_of (all_tunnels w)) view has.tunnels)
+    (subst (λ (w : WorldState). inside.topology.places.items ≡ places w) view has.topology.places)
+    (subst (λ (w : WorldState). inside.topology.tunnels.items ≡ map channel_of (all_tunnels w)) view has.topology.tunnels)
     ∙ (ap (λ (w : WorldState). Some (record w { boxes = set w.boxes who step.after; lanes = all_sent inside.topology who (without_front w.lanes lane) step.sent })) (sym view)
     ∙ ap (λ (l : List (List Tagged)). Some (record (world_state inside) { boxes = set inside.boxes.items who step.after; lanes = l })) (sym lanes_is))
 
@@ -153,8 +153,8 @@ pub act_made : (inside : Inside) (world : WorldState) (who : ℕ) (event : Event
     → step_by world who event ≡ Some (record (world_state inside) { boxes = set inside.boxes.items who step.after; lanes = lanes })
 act_made inside world who event step lanes has view other goes lanes_is =
     act_is world inside.topology who event step other goes
-    (subst (λ (w : WorldState). inside.topology.places.items ≡ places w) view has.places)
-    (subst (λ (w : WorldState). inside.topology.tunnels.items ≡ map channel_of (all_tunnels w)) view has.tunnels)
+    (subst (λ (w : WorldState). inside.topology.places.items ≡ places w) view has.topology.places)
+    (subst (λ (w : WorldState). inside.topology.tunnels.items ≡ map channel_of (all_tunnels w)) view has.topology.tunnels)
     ∙ (ap (λ (w : WorldState). Some (put w inside.topology who step)) (sym view)
     ∙ ap (λ (l : List (List Tagged)). Some (record (world_state inside) { boxes = set inside.boxes.items who step.after; lanes = l })) (sym lanes_is))
 
@@ -164,11 +164,7 @@ lanes_tables inside lanes has same =
     let signals : signals_of inside.lanes.items ≡ signals_of lanes.items = sym same in
     record {
       channels = has.channels;
-      places = has.places;
-      tunnels = has.tunnels;
-      found = has.found;
-      few = has.few;
-      homes = has.homes;
+      topology = has.topology;
       lanes = sym (length-map lanes.items (λ (lane : Queue Tagged). lane.items))
           ∙ (ap (λ (l : List (List Tagged)). length l) same ∙ (length-map inside.lanes.items (λ (lane : Queue Tagged). lane.items) ∙ has.lanes));
       waiting = subst (λ (l : List (List Tagged)). IsWaiting inside.topology l inside.waiting) signals has.waiting;
@@ -198,11 +194,7 @@ step_tables inside world who event boxes lanes waiting ringless has view here ho
     let kept : IsSound next = stays_sound world next who event sound here goes in
     record {
       channels = has.channels;
-      places = has.places;
-      tunnels = has.tunnels;
-      found = has.found;
-      few = has.few;
-      homes = has.homes ∙ sym homes;
+      topology = subst (λ (n : ℕ). IsTopologyOf inside.topology inside.channels.items n) (sym homes) has.topology;
       lanes = sym (length-map lanes.items (λ (lane : Queue Tagged). lane.items)) ∙ kept.numbered.lanes;
       waiting = waits;
       sound = kept;

@@ -5,9 +5,10 @@ use Rattle.mc_world.specs.Lanes.{numbers_of, signals_of}
 use Rattle.mc_world.specs.Waiting.{IsWaiting}
 use Rattle.mc_model.specs.Rings.{IsLeastOnRing}
 use Rattle.mc_model.specs.Sound.{IsSound}
-use Rattle.mc_model.specs.Worlds.{AreChannels, TunnelPlace, WorldState, is_place, tunnels_from, tunnels_within, places_among}
+use Rattle.mc_model.specs.Worlds.{AreChannels, ChannelState, TunnelPlace, WorldState, is_place, tunnels_from, tunnels_within, places_among}
 use Rattle.mc_model.specs.declared.channel.Tunnel.{Tunnel}
 use Rattle.mc_world.specs.declared.network.World.TheInside.{Inside}
+use Rattle.mc_world.specs.declared.topology.Topology.{Topology}
 
 abbrev pub world_state : Inside → WorldState
 world_state inside = record { boxes = inside.boxes.items; channels = inside.channels.items; lanes = map (λ lane. lane.items) inside.lanes.items }
@@ -20,14 +21,18 @@ channel_of tunnel = (tunnel.channel, tunnel.within)
 abbrev pub tunnels_by : ℕ → List Tunnel → List (ℕ × ℕ)
 tunnels_by channel tunnels = map channel_of (tunnels_within channel 0 tunnels)
 
--- the channels are within the limits, places and channels are found by number, numbers of slots by their boxes, those numbers fit, each channel has its two lanes, flags and counts say what waits on these, the world is sound, and it has no ring where that is remembered
+-- the tables of these channels and of so many boxes: places and channels are found by number, numbers of slots by their boxes, and those numbers fit
+pub record IsTopologyOf (topology : Topology) (channels : List ChannelState) (boxes : ℕ) : Type 0 where
+  pub places : topology.places.items ≡ places_among channels
+  pub tunnels : topology.tunnels.items ≡ map channel_of (tunnels_from 0 channels)
+  pub found : (who local : ℕ) → slice_get (numbers_of topology who) local ≡ position (is_place (who, local)) topology.places.items
+  pub few : length topology.places.items ≤ 2 ^ 32
+  pub homes : length topology.numbers.items ≡ boxes
+
+-- the channels are within the limits, the tables are those of the channels and boxes, each channel has its two lanes, flags and counts say what waits on these, the world is sound, and it has no ring where that is remembered
 pub record HasTables (inside : Inside) : Type 0 where
   pub channels : AreChannels inside.channels.items
-  pub places : inside.topology.places.items ≡ places_among inside.channels.items
-  pub tunnels : inside.topology.tunnels.items ≡ map channel_of (tunnels_from 0 inside.channels.items)
-  pub found : (who local : ℕ) → slice_get (numbers_of inside.topology who) local ≡ position (is_place (who, local)) inside.topology.places.items
-  pub few : length inside.topology.places.items ≤ 2 ^ 32
-  pub homes : length inside.topology.numbers.items ≡ length inside.boxes.items
+  pub topology : IsTopologyOf inside.topology inside.channels.items (length inside.boxes.items)
   pub lanes : length inside.lanes.items ≡ 2 * length inside.channels.items
   pub waiting : IsWaiting inside.topology (signals_of inside.lanes.items) inside.waiting
   pub sound : IsSound (world_state inside)

@@ -14,11 +14,7 @@ invariant_of-self c =
     let has = c.self.invariant in
     record {
       channels = has.channels;
-      places = has.places;
-      tunnels = has.tunnels;
-      found = has.found;
-      few = has.few;
-      homes = has.homes;
+      topology = has.topology;
       lanes = has.lanes;
       waiting = has.waiting;
       sound = has.sound;

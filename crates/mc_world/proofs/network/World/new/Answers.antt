@@ -32,14 +32,16 @@ invariant_of-result c =
     let most : length c.args.channels.items ≤ 2 ^ 28 = c.requires.channels.few in
     record {
       channels = c.requires.channels;
-      places = places;
-      tunnels = search rules;
-      found = λ who local.
-          found_by (first_world c.args.boxes.items c.args.channels.items) (record { places = c.in_ok-places.places; tunnels = c.in_ok-tunnels.tunnels; numbers = c.in_ok-numbers.numbers }) who local
-          c.requires.numbered numbers
-          ∙ ap (position (is_place (who, local))) (sym places);
-      few = rw places (omega arith);
-      homes = sym (length-map c.in_ok-numbers.numbers.items (λ (numbers : Vec ℕ Global). numbers.items)) ∙ (ap (λ (l : List (List ℕ)). length l) numbers ∙ length-map c.args.boxes.items origins);
+      topology = record {
+        places = places;
+        tunnels = search rules;
+        found = λ who local.
+            found_by (first_world c.args.boxes.items c.args.channels.items) (record { places = c.in_ok-places.places; tunnels = c.in_ok-tunnels.tunnels; numbers = c.in_ok-numbers.numbers }) who local
+            c.requires.numbered numbers
+            ∙ ap (position (is_place (who, local))) (sym places);
+        few = rw places (omega arith);
+        homes = sym (length-map c.in_ok-numbers.numbers.items (λ (numbers : Vec ℕ Global). numbers.items)) ∙ (ap (λ (l : List (List ℕ)). length l) numbers ∙ length-map c.args.boxes.items origins);
+      };
       lanes = omega arith;
       waiting = record {
         counted = c.in_ok-waiting.ensures.counted;

@@ -85,13 +85,13 @@ relay-requires-clause-room c k d below s is =
     c.deref_mut.ensures.value c.make_room_by.auto.lanes c.deref_mut-2.ensures.value c.send_take.new.sends.short
     (take_room c.args.self.now c.self.inside.topology c.make_room_by.new.lanes c.args.who c.args.local c.in-Some.slot SENDS_LIMIT (partner_of c.args.self.now c.in-Some.slot) c.in-Some-front_in.signal _ (c.requires.sound.boxes c.args.who c.requires.here) goes
     (sym c.number.ensures ∙ c.in-Some.is) refl
-    (λ other. c.self.invariant.found c.args.who other ∙ (ap (position (is_place (c.args.who, other))) c.self.invariant.places ∙ ap (λ (w : WorldState). number w c.args.who other) c.self.view_is))
+    (λ other. c.self.invariant.topology.found c.args.who other ∙ (ap (position (is_place (c.args.who, other))) c.self.invariant.topology.places ∙ ap (λ (w : WorldState). number w c.args.who other) c.self.view_is))
     c.in_ok-make_room_by.ensures.own
     (room_beside c.make_room_by.new.lanes c.self.inside.topology SENDS_LIMIT c.sender_beside.result.1 (partner_of c.args.self.now c.in-Some.slot) c.sender_beside.ensures.partner c.in_ok-make_room_by.ensures.partner) k d below s is)
 
 pub relay-requires-clause-senders : goal.relay-requires-clause-senders
 relay-requires-clause-senders c =
-    let found = λ (other : ℕ). c.self.invariant.found c.args.who other ∙ (ap (position (is_place (c.args.who, other))) c.self.invariant.places ∙ ap (λ (w : WorldState). number w c.args.who other) c.self.view_is) in
+    let found = λ (other : ℕ). c.self.invariant.topology.found c.args.who other ∙ (ap (position (is_place (c.args.who, other))) c.self.invariant.topology.places ∙ ap (λ (w : WorldState). number w c.args.who other) c.self.view_is) in
     record {
       own = found c.args.local ∙ (sym c.number.ensures ∙ c.in-Some.is);
       partner = found c.sender_beside.result.0 ∙ c.sender_beside.ensures.number;
@@ -99,7 +99,7 @@ relay-requires-clause-senders c =
 
 pub relay-requires-clause-here : goal.relay-requires-clause-here
 relay-requires-clause-here c =
-    subst (λ (l : List (ℕ × ℕ)). c.in-Some.slot < length l) (sym c.self.invariant.places)
+    subst (λ (l : List (ℕ × ℕ)). c.in-Some.slot < length l) (sym c.self.invariant.topology.places)
     (subst (λ (w : WorldState). c.in-Some.slot < slot_count w) (sym c.self.view_is) ((number_is c.args.self.now c.args.who c.args.local c.in-Some.slot (sym c.number.ensures ∙ c.in-Some.is)).0))
 
 -- the world that was left is the next one
@@ -120,7 +120,7 @@ stepped c =
     subst (λ (box : BoxState). box_event box (Take c.args.local) (Some c.in-Some-front_in.signal) ≡ Some (record { sent = sends_of c.send_take.new.sends; after = c.send_take.new.self })) actor
     (adds_all _ _ c.none-sends.result c.send_take.new.sends c.none-sends.ensures c.send_take.ensures.event) in
     let lane : lane_by c.self.inside.topology c.in-Some.slot ≡ lane_of c.args.self.now c.in-Some.slot =
-    lane_same (world_state c.self.inside) c.self.inside.topology c.in-Some.slot c.self.invariant.tunnels ∙ ap (λ (w : WorldState). lane_of w c.in-Some.slot) c.self.view_is in
+    lane_same (world_state c.self.inside) c.self.inside.topology c.in-Some.slot c.self.invariant.topology.tunnels ∙ ap (λ (w : WorldState). lane_of w c.in-Some.slot) c.self.view_is in
     take_made c.self.inside c.args.self.now c.args.who c.args.local c.in-Some.slot (lane_by c.self.inside.topology c.in-Some.slot) c.in-Some-front_in.signal (record { sent = sends_of c.send_take.new.sends; after = c.send_take.new.self }) _
     c.self.invariant c.self.view_is (sym c.number.ensures ∙ c.in-Some.is) (front_found c.args.self.now c.in-Some.slot _ _ _ _ c.toward-toward.ensures.lane c.toward-toward.ensures.tunnel c.front_in.ensures c.in-Some-front_in.is) lane goes lanes
 
@@ -147,9 +147,9 @@ relay-requires-clause-served c =
 pub relay-requires-clause-lane : goal.relay-requires-clause-lane
 relay-requires-clause-lane c =
     c.toward-toward.ensures.lane
-    ∙ sym (lane_same (world_state c.self.inside) c.self.inside.topology c.in-Some.slot c.self.invariant.tunnels ∙ ap (λ (w : WorldState). lane_of w c.in-Some.slot) c.self.view_is)
+    ∙ sym (lane_same (world_state c.self.inside) c.self.inside.topology c.in-Some.slot c.self.invariant.topology.tunnels ∙ ap (λ (w : WorldState). lane_of w c.in-Some.slot) c.self.view_is)
 
 pub relay-requires-clause-tunnel : goal.relay-requires-clause-tunnel
 relay-requires-clause-tunnel c =
     c.toward-toward.ensures.tunnel
-    ∙ sym (tunnel_same (world_state c.self.inside) c.self.inside.topology c.in-Some.slot c.self.invariant.tunnels ∙ ap (λ (w : WorldState). (tunnel_of w c.in-Some.slot).within) c.self.view_is)
+    ∙ sym (tunnel_same (world_state c.self.inside) c.self.inside.topology c.in-Some.slot c.self.invariant.topology.tunnels ∙ ap (λ (w : WorldState). (tunnel_of w c.in-Some.slot).within) c.self.view_is)

@@ -12,15 +12,15 @@ toward-requires c = tunnel_below c.self.inside c.args.slot c.self.invariant (rw 
 
 pub returns-clause-lane : goal.returns-clause-lane
 returns-clause-lane c =
-    c.toward.ensures.lane ∙ (lane_same (world_state c.self.inside) c.self.inside.topology c.args.slot c.self.invariant.tunnels ∙ ap (λ (w : WorldState). lane_of w c.args.slot) c.self.view_is)
+    c.toward.ensures.lane ∙ (lane_same (world_state c.self.inside) c.self.inside.topology c.args.slot c.self.invariant.topology.tunnels ∙ ap (λ (w : WorldState). lane_of w c.args.slot) c.self.view_is)
 
 pub returns-clause-tunnel : goal.returns-clause-tunnel
 returns-clause-tunnel c =
-    c.toward.ensures.tunnel ∙ (tunnel_same (world_state c.self.inside) c.self.inside.topology c.args.slot c.self.invariant.tunnels ∙ ap (λ (w : WorldState). (tunnel_of w c.args.slot).within) c.self.view_is)
+    c.toward.ensures.tunnel ∙ (tunnel_same (world_state c.self.inside) c.self.inside.topology c.args.slot c.self.invariant.topology.tunnels ∙ ap (λ (w : WorldState). (tunnel_of w c.args.slot).within) c.self.view_is)
 
 pub returns-clause-there : goal.returns-clause-there
 returns-clause-there c =
     let slot : c.args.slot < slot_count (world_state c.self.inside) = rw (← c.self.view_is) at c.requires in
-    let below : c.args.slot < length c.self.inside.topology.places.items = subst (λ (l : List (ℕ × ℕ)). c.args.slot < length l) (sym c.self.invariant.places) slot in
+    let below : c.args.slot < length c.self.inside.topology.places.items = subst (λ (l : List (ℕ × ℕ)). c.args.slot < length l) (sym c.self.invariant.topology.places) slot in
     rw (← c.self.view_is, c.toward.ensures.lane, length-map c.self.inside.lanes.items (λ (lane : Lane). lane.items))
     (lane_there c.self.inside.topology (length c.self.inside.lanes.items) c.args.slot (tables_laid c.self.inside c.self.invariant) below)
