@@ -1,5 +1,6 @@
 pub mod Fronts
 pub mod Lanes
+pub mod Parts
 pub mod Senders
 pub mod StepAnswers
 pub mod Tables

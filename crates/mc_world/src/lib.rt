@@ -9,5 +9,5 @@ mod waiting;
 
 pub use mc_laws::laws;
 pub use mc_model::{Channel, TUNNEL_LIMIT, Tunnel};
-pub use network::{StepFault, World};
+pub use network::{Parts, StepFault, World};
 pub use settled::Settled;

@@ -12,10 +12,11 @@ ghost use Rattle.mc_world.specs.Waiting.{take_waits, waiting_count, CountsTakes}
 ghost use Rattle.mc_model.specs.declared.channel.TheConstants.{TUNNEL_LIMIT};
 ghost use Rattle.mc_model.specs.Worlds.{AreChannels, first_world, slot_count, box_at, place, number, far, tunnel_of, front, lane_of, front_for, slot_of, goal_of, places_among, places_within, tunnels_from, tunnels_within};
 
+mod parts;
 mod rings;
 mod step;
 
-use crate::topology::{Topology, far, numbers_among};
+use crate::topology::{Topology, far, front_for, numbers_among};
 use crate::waiting::Waiting;
 use mc_box::{Event, MediaBox};
 use mc_lane::Lane;
@@ -23,6 +24,7 @@ use mc_model::{Channel, Tunnel};
 use mc_signal::{Signal, Tagged};
 use mc_slot::{Slot, SlotGoal};
 use mc_sums::Sums;
+pub use parts::Parts;
 use std::alloc::{AllocError, Global};
 use std::marker::Model;
 pub use step::StepFault;
@@ -268,16 +270,6 @@ fn can_shift(boxes: &[MediaBox]) -> bool
     ensures { result ≡ list_any (λ one. is_enabled one Event.Shift) boxes.now }
 {
     boxes.iter().any(|one| one.enabled(&Event::Shift))
-}
-
-// The front of a lane, where that is for the tunnel.
-fn front_for(lane: &Lane<Tagged>, tunnel: u8) -> Option<Signal>
-    ensures { result ≡ front_for tunnel lane.now.items }
-{
-    match lane.front() {
-        Some(first) if first.tunnel == tunnel => Some(first.signal),
-        _ => None,
-    }
 }
 
 // Whether each of these lanes is empty.

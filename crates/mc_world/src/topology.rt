@@ -3,9 +3,11 @@
 ghost use Rattle.std.specs.Prelude.{◌≡◌, ◌<◌, ◌/◌, IfOk, length, map};
 ghost use Rattle.std.specs.List.{slice_get};
 ghost use Rattle.mc_world.specs.Lanes.{lane_by, numbers_of, origins, tunnel_by};
-ghost use Rattle.mc_model.specs.Worlds.{far};
+ghost use Rattle.mc_model.specs.Worlds.{far, front_for};
 
 use mc_box::MediaBox;
+use mc_lane::Lane;
+use mc_signal::{Signal, Tagged};
 use std::alloc::{AllocError, Global};
 
 /// The tables of a world: the box and local number of each slot, for each tunnel its channel and its number within
@@ -54,6 +56,16 @@ pub fn far(slot: u32) -> u32
         slot + 1
     } else {
         slot - 1
+    }
+}
+
+/// The front of a lane, where that is for the tunnel.
+pub fn front_for(lane: &Lane<Tagged>, tunnel: u8) -> Option<Signal>
+    ensures { result ≡ front_for tunnel lane.now.items }
+{
+    match lane.front() {
+        Some(first) if first.tunnel == tunnel => Some(first.signal),
+        _ => None,
     }
 }
 

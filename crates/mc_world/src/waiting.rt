@@ -2,10 +2,12 @@
 
 ghost use Rattle.std.specs.Prelude.{◌≡◌, ◌^◌, ◌<◌, ◌≤◌, true, false, IfOk, length, replicate, slice_index_or, slice_set};
 ghost use Rattle.std.specs.List.{slice_get};
-ghost use Rattle.mc_world.specs.Lanes.{HasNumbers, numbers_of};
-ghost use Rattle.mc_world.specs.Waiting.{flag_count, flag_of, AreFlagsCounted};
+ghost use Rattle.mc_world.specs.Lanes.{HasNumbers, IsLaid, numbers_of, signals_of};
+ghost use Rattle.mc_world.specs.Waiting.{flag_count, flag_of, waits_by, AreFlagsCounted, IsWaiting};
 
-use crate::topology::Topology;
+use crate::topology::{Topology, front_for};
+use mc_lane::Lane;
+use mc_signal::Tagged;
 use mc_sums::Sums;
 use std::alloc::{AllocError, Global};
 
@@ -28,6 +30,25 @@ impl Waiting {
         let counts = vec![in alloc; 0; topology.numbers.len()]?;
         let takes = Sums::new(alloc, counts)?;
         Ok(Waiting { flags, takes })
+    }
+
+    /// The flags and counts of these lanes.
+    pub fn of(
+        alloc: Global,
+        topology: &Topology,
+        lanes: &[Lane<Tagged>],
+    ) -> Result<Waiting, AllocError>
+        requires laid { IsLaid topology.now (length lanes.now) }
+        requires few { length topology.now.numbers.items ≤ 2 ^ 32 }
+        ensures { IfOk result (λ waiting. IsWaiting topology.now (signals_of lanes.now) waiting) }
+    {
+        let mut waiting = Waiting::new(alloc, topology)?;
+        for slot in 0..topology.places.len() {
+            if waits(topology, lanes, slot as u32) {
+                waiting.set(topology, slot as u32);
+            }
+        }
+        Ok(waiting)
     }
 
     /// The flag of a slot that has none is set.
@@ -90,4 +111,14 @@ impl Waiting {
         }
         unreachable!()
     }
+}
+
+// Whether the front of the lane that leads to a slot is for the slot.
+fn waits(topology: &Topology, lanes: &[Lane<Tagged>], slot: u32) -> bool
+    requires laid { IsLaid topology.now (length lanes.now) }
+    requires here { slot < length topology.now.places.items }
+    ensures { result ≡ waits_by topology.now (signals_of lanes.now) slot }
+{
+    let (lane, tunnel) = topology.toward(slot);
+    front_for(&lanes[lane], tunnel).is_some()
 }
