@@ -25,7 +25,7 @@ boxes_few world sound = elim (cases_lt (2 ^ 32) (length world.boxes)) [
 pub of-requires-clause-laid : goal.of-requires-clause-laid
 of-requires-clause-laid c =
     subst (λ (n : ℕ). IsLaid c.args.parts.topology n) (length-map c.args.parts.lanes.items (λ (lane : Lane). lane.items) ∙ ap (λ (l : List Lane). length l) (sym c.deref.ensures.value))
-    (topology_laid (parts_state c.args.parts) c.args.parts.topology c.requires.frame.topology c.requires.sound)
+    (topology_laid (parts_state c.args.parts) c.args.parts.topology c.requires.frame.0.1 c.requires.sound)
 
 pub of-requires-clause-few : goal.of-requires-clause-few
-of-requires-clause-few c = omega (arith, c.requires.frame.topology.homes, boxes_few (parts_state c.args.parts) c.requires.sound)
+of-requires-clause-few c = omega (arith, c.requires.frame.0.1.homes, boxes_few (parts_state c.args.parts) c.requires.sound)
