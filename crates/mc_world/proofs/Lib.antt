@@ -10,5 +10,6 @@ mod TopologyLanes
 mod LaneFlags
 pub mod TakeSends
 mod Ringless
+mod PartnerTables
 mod WorldSteps
 mod Waits

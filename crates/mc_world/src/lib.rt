@@ -3,6 +3,7 @@
 
 mod lanes;
 mod network;
+mod ringing;
 mod settled;
 mod topology;
 mod waiting;
@@ -10,4 +11,5 @@ mod waiting;
 pub use mc_laws::laws;
 pub use mc_model::{Channel, TUNNEL_LIMIT, Tunnel};
 pub use network::{Parts, StepFault, World};
+pub use ringing::least_on_ring;
 pub use settled::Settled;
