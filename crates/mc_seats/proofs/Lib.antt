@@ -2,4 +2,3 @@ pub mod Lists
 pub mod Changes
 pub mod Halves
 pub mod Looks
-pub mod Cleared

@@ -12,7 +12,7 @@ use Rattle.mc_seats.specs.Seats.{AreLookedAt, CanRun, EachListed, HaveWork, IsLo
 use Rattle.mc_seats.specs.declared.seat.Seat.{Seat}
 use Rattle.mc_worker.specs.Account.{IsWork}
 use Rattle.mc_worker.specs.Ready.{IsAllowed, IsReady, IsShaped}
-use Rattle.mc_worker.specs.Rounds.{HasWork}
+use Rattle.mc_worker.specs.Rounds.{HasWaitingWork}
 use Rattle.mc_worker.specs.declared.limit.TheConstants.{FIRST_STAMP_LIMIT}
 use Rattle.mc_worker.specs.declared.logged.Logged.{Logged}
 use Rattle.mc_worker.specs.declared.worker.Worker.{Worker}
@@ -20,14 +20,6 @@ use Rattle.mc_seats.proofs.Lists.{listed_first, listed_else, listed_more, listed
 use Rattle.mc_seats.proofs.Changes.{first_changed, none_changed, whole_changed}
 
 -- ---- one box
-
--- a worker of which only the ends by which it takes have changed is as ready
-pub ready_still : (old new : Worker) → new ≡ record old { ins = new.ins } → IsShaped new → IsReady old → IsReady new
-ready_still old new kept shaped ready = record {
-  shaped = shaped;
-  allowed = subst (λ (w : Worker). AllByRecursion (IsAllowed w.part) w.stimuli.items) (sym kept) ready.allowed;
-  shifts = subst (λ (w : Worker). w.shifts ≤ SHIFT_LIMIT) (sym kept) ready.shifts;
-}
 
 cleared_ready : (worker : Worker) (log : Queue Logged) → IsReady worker → IsReady (cleared worker log)
 cleared_ready worker log ready = record {
@@ -44,20 +36,9 @@ cleared_ready worker log ready = record {
   shifts = ready.shifts;
 }
 
-pub cleared_shaped : (worker : Worker) (log : Queue Logged) → IsReady worker → IsShaped (cleared worker log)
-cleared_shaped worker log ready = let cleared_is = cleared_ready worker log ready in cleared_is.shaped
-
--- a box that was made ready for a round, and then looked at
-pub looked_at : (old : Seat) (log : Queue Logged) (after : Worker) → IsReady old.worker → log.items ≡ [] → after ≡ record (cleared old.worker log) { ins = after.ins } → IsWork (cleared old.worker log) after [] → IsShaped after
-    → IsLookedAt old (record { worker = after; end = None })
-looked_at old log after ready empty kept work shaped =
-    let logs : after.log ≡ log = ap (λ (w : Worker). w.log) kept in
-    record {
-      log = ap (λ (l : Queue Logged). l.items) logs ∙ empty;
-      kept = ap (λ (w : Worker). let seat : Seat = record { worker = w; end = None } in seat) (kept ∙ ap (λ (l : Queue Logged). record (cleared old.worker l) { ins = after.ins }) (sym logs));
-      work = subst (λ (l : Queue Logged). IsWork (cleared old.worker l) after []) (sym logs) work;
-      ready = ready_still (cleared old.worker log) after kept shaped (cleared_ready old.worker log ready);
-    }
+-- a box that was made ready for a round
+pub looked_at : (old : Seat) (log : Queue Logged) → IsReady old.worker → log.items ≡ [] → IsLookedAt old (record { worker = cleared old.worker log; end = None })
+looked_at old log ready empty = record { log = empty; kept = refl; ready = cleared_ready old.worker log ready }
 
 -- ---- a box that is added where it has work
 
@@ -85,19 +66,19 @@ pub record HasLooked (retries : Bool) (first : ℕ) (listed : List ℕ) (old : L
   pub looked : ChangesPart IsLookedAt 0 listed old new
 
 work_more : (retries answer : Bool) (who : ℕ) (rest more : List ℕ) (now new : List Seat) (b : Seat) (k : ℕ) (seat : Seat)
-    → who < length now → is_listed rest who ≡ false → is_listed more who ≡ false → MatchBool answer (HasWork retries b.worker) (HasWork retries b.worker → ⊥)
+    → who < length now → is_listed rest who ≡ false → is_listed more who ≡ false → MatchBool answer (HasWaitingWork retries b.worker) (HasWaitingWork retries b.worker → ⊥)
     → HaveWork retries rest new more → ChangesPart IsLookedAt 0 rest (slice_set now who b) new → slice_get new k ≡ Some seat
-    → MatchBool (is_listed ((if answer then who ∷ [] else []) ++ more) k) ((is_listed (who ∷ rest) k ≡ true) × HasWork retries seat.worker) (is_listed (who ∷ rest) k ≡ true → HasWork retries seat.worker → ⊥)
+    → MatchBool (is_listed ((if answer then who ∷ [] else []) ++ more) k) ((is_listed (who ∷ rest) k ≡ true) × HasWaitingWork retries seat.worker) (is_listed (who ∷ rest) k ≡ true → HasWaitingWork retries seat.worker → ⊥)
 work_more retries answer who rest more now new b k seat within none no_more has work looked at = elim (cases_eq who k) [
   | inl same ↦
       let here : slice_get new who ≡ Some seat = ap (slice_get new) same ∙ at in
       let off : is_listed rest (0 + who) ≡ false = ap (is_listed rest) (zero-add who) ∙ none in
       let put : seat ≡ b = subst (λ (t : Bool). MatchBool t (IsLookedAt b seat) (seat ≡ b)) off (looked.each who b seat (set_here now who b within) here) in
-      let answered : MatchBool answer (HasWork retries seat.worker) (HasWork retries seat.worker → ⊥) =
-      subst (λ (s : Seat). MatchBool answer (HasWork retries s.worker) (HasWork retries s.worker → ⊥)) (sym put) has in
-      subst (λ (n : ℕ). MatchBool (is_listed ((if answer then who ∷ [] else []) ++ more) n) ((is_listed (who ∷ rest) n ≡ true) × HasWork retries seat.worker) (is_listed (who ∷ rest) n ≡ true → HasWork retries seat.worker → ⊥)) same
-      (work_here answer who rest more (HasWork retries seat.worker) answered no_more)
-  | inr other ↦ work_else answer who k rest more (HasWork retries seat.worker) other (work k seat at)
+      let answered : MatchBool answer (HasWaitingWork retries seat.worker) (HasWaitingWork retries seat.worker → ⊥) =
+      subst (λ (s : Seat). MatchBool answer (HasWaitingWork retries s.worker) (HasWaitingWork retries s.worker → ⊥)) (sym put) has in
+      subst (λ (n : ℕ). MatchBool (is_listed ((if answer then who ∷ [] else []) ++ more) n) ((is_listed (who ∷ rest) n ≡ true) × HasWaitingWork retries seat.worker) (is_listed (who ∷ rest) n ≡ true → HasWaitingWork retries seat.worker → ⊥)) same
+      (work_here answer who rest more (HasWaitingWork retries seat.worker) answered no_more)
+  | inr other ↦ work_else answer who k rest more (HasWaitingWork retries seat.worker) other (work k seat at)
 ]
 
 rises_more : (answer : Bool) (first who limit : ℕ) (more : List ℕ) → first ≤ who → who < limit → RisesFrom (suc who) limit more → RisesFrom first limit ((if answer then who ∷ [] else []) ++ more)
@@ -105,7 +86,7 @@ rises_more true first who limit more above below r = (above, below, r)
 rises_more false first who limit more above below r = sooner first (suc who) limit more (omega arith) r
 
 looked_more : (retries answer : Bool) (first who : ℕ) (rest more : List ℕ) (now new : List Seat) (a b : Seat)
-    → first ≤ who → who < length now → RisesFrom (suc who) (length now) rest → slice_get now who ≡ Some a → IsLookedAt a b → MatchBool answer (HasWork retries b.worker) (HasWork retries b.worker → ⊥)
+    → first ≤ who → who < length now → RisesFrom (suc who) (length now) rest → slice_get now who ≡ Some a → IsLookedAt a b → MatchBool answer (HasWaitingWork retries b.worker) (HasWaitingWork retries b.worker → ⊥)
     → HasLooked retries (suc who) rest (slice_set now who b) more new → HasLooked retries first (who ∷ rest) now ((if answer then who ∷ [] else []) ++ more) new
 looked_more retries answer first who rest more now new a b above within r here looks has p =
     let none = none_again who (length now) rest r in
@@ -128,7 +109,7 @@ looking retries listed seats rises ready = record { first = 0; rises = rises; re
 
 -- one box more was looked at
 pub looked_one : (retries answer : Bool) (listed : List ℕ) (who : ℕ) (rest : List ℕ) (old now : List Seat) (found : List ℕ) (a b : Seat)
-    → IsLooking retries listed (who ∷ rest) old now found → slice_get now who ≡ Some a → IsLookedAt a b → MatchBool answer (HasWork retries b.worker) (HasWork retries b.worker → ⊥)
+    → IsLooking retries listed (who ∷ rest) old now found → slice_get now who ≡ Some a → IsLookedAt a b → MatchBool answer (HasWaitingWork retries b.worker) (HasWaitingWork retries b.worker → ⊥)
     → IsLooking retries listed rest old (slice_set now who b) (found ++ (if answer then who ∷ [] else []))
 looked_one retries answer listed who rest old now found a b s here looks has =
     let others : RisesFrom (suc who) (length now) rest = s.rises.2 in
@@ -177,7 +158,7 @@ found_can retries listed found old new work looked who b on at =
     let within : who < length new = slice_get_within new who b at in
     let count = looked.count in
     let before : slice_get old who ≡ Some (get_or old who b) = slice_get-get_or old who b (omega arith) in
-    let is = found_listed (is_listed found who) ((is_listed listed who ≡ true) × HasWork retries b.worker) (is_listed listed who ≡ true → HasWork retries b.worker → ⊥) on (work who b at) in
+    let is = found_listed (is_listed found who) ((is_listed listed who ≡ true) × HasWaitingWork retries b.worker) (is_listed listed who ≡ true → HasWaitingWork retries b.worker → ⊥) on (work who b at) in
     begins (get_or old who b) b (found_listed (is_listed listed who) (IsLookedAt (get_or old who b) b) (b ≡ get_or old who b) is.0 (looked.each who (get_or old who b) b before at))
 
 -- ---- the box at a place of the list
@@ -194,7 +175,7 @@ looks_next retries listed i old now found d within s =
 
 -- when it was looked at, the others are left
 pub looks_on : (retries answer : Bool) (listed : List ℕ) (i : ℕ) (old now : List Seat) (found more : List ℕ) (d b : Seat) → i < length listed → IsLooking retries listed (drop i listed) old now found
-    → IsLookedAt (get_or now (get_or listed i 0) d) b → MatchBool answer (HasWork retries b.worker) (HasWork retries b.worker → ⊥) → more ≡ found ++ (if answer then get_or listed i 0 ∷ [] else [])
+    → IsLookedAt (get_or now (get_or listed i 0) d) b → MatchBool answer (HasWaitingWork retries b.worker) (HasWaitingWork retries b.worker → ⊥) → more ≡ found ++ (if answer then get_or listed i 0 ∷ [] else [])
     → IsLooking retries listed (drop (i + 1) listed) old (slice_set now (get_or listed i 0) b) more
 looks_on retries answer listed i old now found more d b within s looks has added =
     let next = next_looking retries listed i old now found within s in

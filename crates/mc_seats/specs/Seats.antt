@@ -4,9 +4,8 @@ use Rattle.mc_box.specs.BoxShapes.{box_shape}
 use Rattle.mc_lane.specs.Queue.{Queue}
 use Rattle.mc_seats.specs.Numbers.{is_listed}
 use Rattle.mc_seats.specs.declared.seat.Seat.{Seat}
-use Rattle.mc_worker.specs.Account.{IsWork}
 use Rattle.mc_worker.specs.Ready.{IsReady}
-use Rattle.mc_worker.specs.Rounds.{AllIdle, HasStopped, HasWork, IsRound}
+use Rattle.mc_worker.specs.Rounds.{AllIdle, HasStopped, HasWaitingWork, HasWork, IsRound}
 use Rattle.mc_worker.specs.declared.limit.TheConstants.{FIRST_STAMP_LIMIT, TURN_LIMIT}
 use Rattle.mc_worker.specs.declared.logged.Logged.{Logged}
 use Rattle.mc_worker.specs.declared.stop.RoundEnd.{RoundEnd}
@@ -28,20 +27,19 @@ pub record ChangesListed (R : Seat → Seat → Type 0) (listed : List ℕ) (old
 abbrev pub cleared : Worker → Queue Logged → Worker
 cleared worker log = record worker { log = log; stamp = 0 }
 
--- a box was made ready for a round and looked at: its log is empty, its stamp is 0, and of the rest only what its ends know of their rings may have changed
+-- a box was made ready for a round: its log is empty, its stamp is 0, it has no end yet, and the rest is as it was
 pub record IsLookedAt (old new : Seat) : Type 0 where
   pub log : new.worker.log.items ≡ []
-  pub kept : new ≡ record { worker = record old.worker { ins = new.worker.ins; log = new.worker.log; stamp = 0 }; end = None }
-  pub work : IsWork (cleared old.worker new.worker.log) new.worker []
+  pub kept : new ≡ record { worker = cleared old.worker new.worker.log; end = None }
   pub ready : IsReady new.worker
 
 abbrev pub AreLookedAt : List ℕ → List Seat → List Seat → Type 0
 AreLookedAt listed old new = ChangesListed IsLookedAt listed old new
 
--- the boxes that were found are just those listed ones that have work
+-- the boxes that were found are just those listed ones for which something waits
 abbrev pub HaveWork : Bool → List ℕ → List Seat → List ℕ → Type 0
 HaveWork retries listed seats found = (who : ℕ) (seat : Seat) → slice_get seats who ≡ Some seat
-    → MatchBool (is_listed found who) ((is_listed listed who ≡ true) × HasWork retries seat.worker) (is_listed listed who ≡ true → HasWork retries seat.worker → ⊥)
+    → MatchBool (is_listed found who) ((is_listed listed who ≡ true) × HasWaitingWork retries seat.worker) (is_listed listed who ≡ true → HasWaitingWork retries seat.worker → ⊥)
 
 -- ---- a round
 
@@ -64,9 +62,3 @@ pub record IsRan (retries : Bool) (old new : Seat) : Type 0 where
 
 abbrev pub AreRun : Bool → List ℕ → List Seat → List Seat → Type 0
 AreRun retries found old new = ChangesListed (IsRan retries) found old new
-
--- ---- both, one after the other
-
--- where a box was looked at and then made a round, the round's account leads from the box as it was made ready
-abbrev pub RunsFromCleared : Type 0
-RunsFromCleared = (retries : Bool) (a b c : Seat) → IsLookedAt a b → (ran : IsRan retries b c) → IsRound retries (cleared a.worker b.worker.log) c.worker ran.end

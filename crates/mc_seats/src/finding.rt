@@ -4,16 +4,16 @@ ghost use Rattle.std.specs.Prelude.{◌≡◌, ◌+◌, ◌≤◌, ◌<◌, ◌+
 ghost use Rattle.mc_seats.specs.Numbers.{Rises};
 ghost use Rattle.mc_seats.specs.Seats.{AreLookedAt, CanRun, EachListed, HaveWork, IsLookedAt};
 ghost use Rattle.mc_worker.specs.Ready.{IsReady};
-ghost use Rattle.mc_worker.specs.Rounds.{HasWork};
+ghost use Rattle.mc_worker.specs.Rounds.{HasWaitingWork};
 
 use crate::seat::Seat;
 use mc_lane::Lane;
 use mc_worker::Logged;
 use std::alloc::AllocError;
 
-/// Finds those of the listed boxes that have work: a command, a shift, a signal at some channel end, or, where retries
-/// are asked for, a retry that is owed. Each listed box is made ready for a round: its log is emptied, its stamp is 0,
-/// and the end of its last round is forgotten. It looks at no other box.
+/// Finds those of the listed boxes that have work while all rings are empty: a command, a shift, a signal in an inbox,
+/// or, where retries are asked for, a retry that is owed. Each listed box is made ready for a round: its log is emptied,
+/// its stamp is 0, and the end of its last round is forgotten. It looks at no other box, and at no ring.
 ///
 /// It fails only for want of memory for the numbers of all listed boxes, and changes no seat then.
 pub fn find_work(
@@ -58,13 +58,13 @@ fn look_at_each(seats: &mut [Seat], retries: bool, listed: &[u32], found: &mut V
 // Makes a box ready for a round, and asks whether it has work.
 fn look_at(seat: &mut Seat, retries: bool) -> bool
     requires { IsReady seat.old.worker }
-    ensures work { MatchBool result (HasWork retries seat.new.worker) (HasWork retries seat.new.worker → ⊥) }
+    ensures work { MatchBool result (HasWaitingWork retries seat.new.worker) (HasWaitingWork retries seat.new.worker → ⊥) }
     ensures looked { IsLookedAt seat.old seat.new }
 {
     empty(&mut seat.worker.log);
     seat.worker.stamp = 0;
     seat.end = None;
-    seat.worker.has_work(retries)
+    seat.worker.has_waiting_work(retries)
 }
 
 // Takes all entries off a log.

@@ -3,7 +3,6 @@
 #![tactic(auto)]
 
 mod finding;
-pub mod laws;
 pub mod limit;
 mod running;
 mod seat;

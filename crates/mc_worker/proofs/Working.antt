@@ -1,5 +1,5 @@
 -- Whether there is work, and a round that had some.
-use Rattle.std.proofs.Common.{◌≡◌, ◌≢◌, ℕ, zero, suc, ◌≤◌, ◌<◌, ◌==◌, ◌⊎◌, inl, inr, IfSome, IfNone, Bool, true, false, Option, Some, None, MatchBool, IsTrue, is_some, if◌then◌else◌, List, [], ◌∷◌, ◌++◌, map, length, refl, sym, ◌∙◌, ap, subst, arith}
+use Rattle.std.proofs.Common.{◌≡◌, ◌≢◌, ℕ, zero, suc, ◌≤◌, ◌<◌, ◌==◌, ◌⊎◌, inl, inr, IfSome, IfNone, Bool, true, false, Option, Some, None, MatchBool, IsTrue, is_some, if◌then◌else◌, List, [], ◌∷◌, ◌++◌, map, length, slice_get, refl, sym, ◌∙◌, ap, subst, arith}
 use Rattle.std.proofs.lemmas.Bool.{and_parts, cases_lt}
 use Rattle.std.proofs.lemmas.List.{append-nil, length-map}
 use Rattle.mc_box.specs.BoxEvents.{is_enabled}
@@ -14,7 +14,8 @@ use Rattle.mc_port.specs.declared.stamped.Stamped.{Stamped}
 use Rattle.mc_signal.specs.declared.Tagged.{Tagged}
 use Rattle.mc_worker.specs.Account.{IsAccount, in_at, owed_below, owed_retry_of}
 use Rattle.mc_worker.specs.Ends.{InAccount, InEnd, IsIdle, Passed, next_in, unclaimed}
-use Rattle.mc_worker.specs.Rounds.{AllIdle, HasWork, HasStopped, IsRound, OwesRetry, by_retry, by_shift, by_signal, by_stimulus}
+use Rattle.mc_worker.specs.Boxes.{AreEmpty, box_of}
+use Rattle.mc_worker.specs.Rounds.{AllIdle, HasWaitingWork, HasWork, HasStopped, IsRound, OwesRetry, by_retry, by_shift, by_signal, by_stimulus, waiting_retry, waiting_shift, waiting_signal, waiting_stimulus}
 use Rattle.mc_worker.specs.Turns.{AllPassed, is_memory}
 use Rattle.mc_worker.specs.declared.stop.RoundEnd.{RoundEnd}
 use Rattle.mc_worker.specs.declared.stop.Stop.{Stop}
@@ -50,6 +51,28 @@ pub work_found : (found : Option (ℕ × Stamped)) (retries : Bool) (a b : Worke
     → AllPassed 0 passed a b → MatchBool (is_some found) (HasWork retries b) (HasWork retries b → ⊥)
 work_found (Some f) retries a b passed none cant unowed ports there next last all = by_signal f.0 f.1 (omega (arith, there, ports)) next
 work_found None retries a b passed none cant unowed ports there next last all = no_work retries a b none cant unowed (λ e h. all e (omega (arith, last, ports, h)))
+
+-- ---- what waits before any ring is looked at
+
+none_waits : (retries : Bool) (w : Worker) → w.stimuli.items ≡ [] → NoShift w → (IsTrue retries × OwesRetry w.part → ⊥) → AreEmpty w.inboxes → HasWaitingWork retries w → ⊥
+none_waits retries w none cant unowed empty (waiting_stimulus some) = some none
+none_waits retries w none (inl off) unowed empty (waiting_shift less on) = cc
+none_waits retries w none (inr most) unowed empty (waiting_shift less on) = absurd (omega (arith, most, less))
+none_waits retries w none cant unowed empty (waiting_signal end some) = some (empty end)
+none_waits retries w none cant unowed empty (waiting_retry on owes) = unowed (on, owes)
+
+first_some : (tagged : Tagged) (lane : List Tagged) → slice_get lane 0 ≡ Some tagged → lane ≢ []
+first_some tagged [] is = cc
+first_some tagged (one ∷ lane) is = λ none. absurd (not_nil none)
+  where
+    not_nil : one ∷ lane ≡ [] → ⊥
+    not_nil e = cc
+
+-- something waits just where an inbox has something, where there is nothing else
+pub waiting_found : (found : Option (ℕ × Tagged)) (retries : Bool) (w : Worker) → w.stimuli.items ≡ [] → NoShift w → (IsTrue retries × OwesRetry w.part → ⊥)
+    → IfSome found (λ f. slice_get (box_of w.inboxes f.0) 0 ≡ Some f.1) → IfNone found (AreEmpty w.inboxes) → MatchBool (is_some found) (HasWaitingWork retries w) (HasWaitingWork retries w → ⊥)
+waiting_found (Some f) retries w none cant unowed first empty = waiting_signal f.0 (first_some f.1 (box_of w.inboxes f.0) first)
+waiting_found None retries w none cant unowed first empty = none_waits retries w none cant unowed empty
 
 -- ---- a round that had work, and made no turn
 

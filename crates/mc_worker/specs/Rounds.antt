@@ -76,3 +76,10 @@ pub data HasWork (retries : Bool) (worker : Worker) : Type 0 where
   by_shift : worker.shifts < SHIFT_LIMIT → IsTrue (is_enabled worker.part Shift) → HasWork retries worker
   by_signal : (end : ℕ) (item : Stamped) → end < length worker.ins.items → next_in (in_at worker end) ≡ Some item → HasWork retries worker
   by_retry : IsTrue retries → OwesRetry worker.part → HasWork retries worker
+
+-- the same before any ring is looked at: a command, a shift, a signal in an inbox, or, where retries are asked for, one that is owed
+pub data HasWaitingWork (retries : Bool) (worker : Worker) : Type 0 where
+  waiting_stimulus : worker.stimuli.items ≢ [] → HasWaitingWork retries worker
+  waiting_shift : worker.shifts < SHIFT_LIMIT → IsTrue (is_enabled worker.part Shift) → HasWaitingWork retries worker
+  waiting_signal : (end : ℕ) → (in_at worker end).inbox ≢ [] → HasWaitingWork retries worker
+  waiting_retry : IsTrue retries → OwesRetry worker.part → HasWaitingWork retries worker

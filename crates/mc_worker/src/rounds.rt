@@ -4,7 +4,7 @@ ghost use Rattle.std.specs.Prelude.{◌≡◌, ◌<◌, ◌≤◌, ◌↔◌, []
 ghost use Rattle.mc_box.specs.BoxShapes.{box_shape};
 ghost use Rattle.mc_worker.specs.Account.{IsWork};
 ghost use Rattle.mc_worker.specs.Ready.{IsReady, IsShaped};
-ghost use Rattle.mc_worker.specs.Rounds.{AllIdle, HasWork, HasStopped, IsRound};
+ghost use Rattle.mc_worker.specs.Rounds.{AllIdle, HasWaitingWork, HasWork, HasStopped, IsRound};
 ghost use Rattle.mc_worker.specs.Turns.{AreTurns, IsUnderWay};
 ghost use Rattle.mc_worker.specs.declared.limit.TheConstants.{FIRST_STAMP_LIMIT, TURN_LIMIT};
 ghost use Rattle.mc_worker.specs.declared.stop.Stop.{Stop};
@@ -60,6 +60,17 @@ impl Worker {
             }
         }
         Stop::Spent
+    }
+
+    /// Whether there is something to do before any ring is looked at: a stimulus, a shift, a signal in an inbox, or, where
+    /// retries are asked for, a retry that is owed. Where all rings are empty that is all the work there is.
+    pub fn has_waiting_work(&self, retries: bool) -> bool
+        ensures { MatchBool result (HasWaitingWork retries self.now) (HasWaitingWork retries self.now → ⊥) }
+    {
+        if !self.stimuli.is_empty() || self.can_shift() || self.owes(retries) {
+            return true;
+        }
+        self.inboxes.first().is_some()
     }
 
     /// Whether a round would find something to do: a stimulus, a shift, a signal at some channel end, or, where retries
