@@ -1,6 +1,6 @@
-mod Lists
-mod Pairs
-mod OnLanes
-mod Rising
-mod Reached
-mod Gathered
+pub mod Lists
+pub mod Pairs
+pub mod OnLanes
+pub mod Rising
+pub mod Reached
+pub mod Gathered

@@ -13,15 +13,19 @@ use Rattle.mc_worker.specs.Carrying.{IsBroughtIn}
 use Rattle.mc_worker.specs.Ends.{InEnd, OutEnd}
 use Rattle.mc_worker.specs.Ready.{IsReady}
 
-abbrev Ins : Seat → ℕ → InEnd
+-- a box's channel ends where it takes
+abbrev pub Ins : Seat → ℕ → InEnd
 Ins seat = in_at seat.worker
 
-abbrev Outs : Seat → ℕ → OutEnd
+-- and where it gives
+abbrev pub Outs : Seat → ℕ → OutEnd
 Outs seat = out_at seat.worker
 
+-- they are those of its worker
 pub here_in : (seats : List Seat) (who end : ℕ) (seat : Seat) → slice_get seats who ≡ Some seat → in_view seats who end ≡ in_at seat.worker end
 here_in seats who end seat e = ap (λ (g : ℕ → InEnd). g end) (at_some Ins seats who seat (λ (t : ℕ). no_in) e)
 
+-- on both sides
 pub here_out : (seats : List Seat) (who end : ℕ) (seat : Seat) → slice_get seats who ≡ Some seat → out_view seats who end ≡ out_at seat.worker end
 here_out seats who end seat e = ap (λ (g : ℕ → OutEnd). g end) (at_some Outs seats who seat (λ (t : ℕ). no_out) e)
 
@@ -49,10 +53,12 @@ outs_set seats i a a' who end at same (inl is) =
     subst (λ (n : ℕ). out_view (slice_set seats i a') n end ≡ out_view seats n end) (sym is) (here_out (slice_set seats i a') i end a' (set_here seats i a a' at) ∙ (same is ∙ sym (here_out seats i end a at)))
 outs_set seats i a a' who end at same (inr off) = else_out seats i who end a' off
 
-abbrev in_names_of : Seat → List RingName
+-- the names of a box's rings, where it takes
+abbrev pub in_names_of : Seat → List RingName
 in_names_of seat = map in_ring seat.worker.ins.items
 
-abbrev out_names_of : Seat → List RingName
+-- and where it gives
+abbrev pub out_names_of : Seat → List RingName
 out_names_of seat = map out_ring seat.worker.outs.items
 
 ready_by : (seats : List Seat) (i : ℕ) (a new : Seat) (who : ℕ) (seat : Seat) → slice_get seats i ≡ Some a → AreReady seats → IsReady new.worker → slice_get (slice_set seats i new) who ≡ Some seat

@@ -1,17 +1,19 @@
 // Lists of boxes, in rising order.
 
-ghost use Rattle.std.specs.Prelude.{◌≡◌, ◌==◌, ◌||◌, ◌<◌, ◌≤◌, ◌^◌, ℕ, nat_lt, OnOk};
+ghost use Rattle.std.specs.Prelude.{◌≡◌, ◌==◌, ◌||◌, ◌<◌, ◌≤◌, ◌^◌, ℕ, nat_lt, OnErr, OnOk};
 ghost use Rattle.mc_seats.specs.Numbers.{Rises, is_listed};
 
 use std::alloc::AllocError;
 
-/// Puts a box into a list of so many boxes, if it isn't there.
+/// Puts a box into a list of so many boxes, if it isn't there. It fails only for want of memory, and the list stays as it was
+/// then.
 pub fn list_box(listed: &mut Vec<u32>, who: u32, boxes: usize) -> Result<(), AllocError>
     requires there { who < boxes }
     requires rises { Rises boxes listed.old.items }
     ensures listed { OnOk result ((other : ℕ) → is_listed listed.new.items other
         ≡ (who == other || is_listed listed.old.items other)) }
     ensures rises { OnOk result (Rises boxes listed.new.items) }
+    ensures kept { OnErr result (listed.new.items ≡ listed.old.items) }
 {
     match listed.binary_search(&who) {
         Ok(_) => Ok(()),
