@@ -253,10 +253,11 @@ stops_at_version world batch state at used allowed out =
 -- ---- where a settle stops
 
 -- the places of slots stay
-placed_same : (world last : WorldState) (turns : List Turn) (s : ℕ) → IsSound world → run world turns ≡ Some last → place last s ≡ place world s
+pub placed_same : (world last : WorldState) (turns : List Turn) (s : ℕ) → IsSound world → run world turns ≡ Some last → place last s ≡ place world s
 placed_same world last turns s sound goes = ap (λ (channels : List ChannelState). slice_index_or (places_among channels) s (0, 0)) (run_keeps_shape world last turns sound goes).channels
 
-heard_inside : (world : WorldState) (turn : Turn) (at : ℕ) → heard_slot world turn ≡ Some at → at < slot_count world
+-- the slot that hears a turn is one of the world's
+pub heard_inside : (world : WorldState) (turn : Turn) (at : ℕ) → heard_slot world turn ≡ Some at → at < slot_count world
 heard_inside world turn at heard =
     let one = then_some (number world turn.who) (heard_local turn.event) at heard in
     (number_is world turn.who one.0 at one.2).0

@@ -1,5 +1,5 @@
 -- The Hear of a slot at the last version.
-use Rattle.std.proofs.Common.{◌≡◌, ◌&&◌, inl, inr, nat_lt, ℕ, Bool, true, false, length, Option, Some, None, IsSome, IsTrue, IsFalse, refl, sym, ◌∙◌, subst}
+use Rattle.std.proofs.Common.{◌≡◌, ◌&&◌, ◌<◌, inl, inr, nat_lt, ℕ, Bool, true, false, length, Option, Some, None, IsSome, IsTrue, IsFalse, refl, sym, ◌∙◌, subst}
 use Rattle.std.proofs.lemmas.Bool.{and_parts}
 use Rattle.mc_box.specs.BoxEvents.{is_version_end}
 use Rattle.mc_box.specs.BoxShapes.{is_device}
@@ -31,16 +31,21 @@ local_by Shift world who ends = absurd (cc)
 some_is : (a b : ℕ) → Some a ≡ Some b → a ≡ b
 some_is a b is = cc
 
--- which has a number
+-- each slot of a box has its number
+pub has_number : (world : WorldState) (who local : ℕ) → IsSound world → who < length world.boxes → local < length (box_at world who).slots → number world who local ≡ None → ⊥
+has_number world who local sound below inside none =
+    let slot = sound.numbered.all who local below inside in
+    let there : number world who local ≡ Some slot.0 = subst (λ (p : ℕ × ℕ). number world p.0 p.1 ≡ Some slot.0) slot.2 (sound.numbered.once slot.0 slot.1) in
+    cc (there, none)
+
+-- so has the slot whose Hear ends its version
 pub hears_somewhere : (world : WorldState) (turn : Turn) (local : ℕ) → IsSound world → IsTrue (ends_version world turn) → heard_local turn.event ≡ Some local → number world turn.who local ≡ None → ⊥
 hears_somewhere world turn local sound ends is none =
     let one = and_parts (nat_lt turn.who (length world.boxes)) (ends_version_at world turn.who turn.event) ends in
     let found = local_by turn.event world turn.who one.1 in
     let same : found.0 ≡ local = some_is found.0 local (sym found.1 ∙ is) in
     let inside : is_slot (box_at world turn.who) local ≡ true = subst (λ (l : ℕ). is_slot (box_at world turn.who) l ≡ true) same found.2 in
-    let slot = sound.numbered.all turn.who local (box_inside world turn.who one.0) (slot_inside (box_at world turn.who) local inside) in
-    let there : number world turn.who local ≡ Some slot.0 = subst (λ (p : ℕ × ℕ). number world p.0 p.1 ≡ Some slot.0) slot.2 (sound.numbered.once slot.0 slot.1) in
-    cc (there, none)
+    has_number world turn.who local sound (box_inside world turn.who one.0) (slot_inside (box_at world turn.who) local inside) none
 
 -- an option is not both some and none
 some_none : (o : Option WorldState) → IsSome o → o ≡ None → ⊥

@@ -3,11 +3,11 @@ pub mod Candidates
 mod Counting
 mod DrawsEnd
 mod Dropping
-mod Endings
+pub mod Endings
 mod Finds
 pub mod ForEach
 pub mod Fronts
-mod Hears
+pub mod Hears
 mod Kth
 pub mod LeftCommands
 mod Making

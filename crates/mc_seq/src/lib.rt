@@ -19,3 +19,4 @@ pub use commands::{Commands, all_commands, drop_command, next_command};
 pub use drawing::settle_one;
 pub use fault::{SettleFault, Stopped, StoppedBox};
 pub use plain::settle_plainly;
+pub use stopping::{Ending, answer};

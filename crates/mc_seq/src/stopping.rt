@@ -24,20 +24,20 @@ pub enum Draw {
     VersionEnd(u32),
 }
 
-// How a settle ends.
+/// How a settle ends.
 #[derive(Clone, Copy, PartialEq, Eq, Debug)]
 pub enum Ending {
-    // Nothing can come, and no round of retries is due.
+    /// Nothing can come, and no round of retries is due.
     Rest,
-    // This is the least slot on a ring.
+    /// This is the least slot on a ring.
     Ring(u32),
-    // This box has made all its Shifts, and has one more enabled.
+    /// This box has made all its Shifts, and has one more enabled.
     Restless(u32),
-    // The Hear of this slot was drawn, which has the last version.
+    /// The next command is the Hear of this slot, which has the last version.
     LastVersion(u32),
 }
 
-// What a settle answers at its end.
+/// What a settle answers at its end: the world with its turns, or why it stopped, with the turns until then.
 pub fn answer(settled: Settled, ending: Ending) -> Result<Settled, SettleFault>
     requires { IsInside settled.world ending }
     ensures { Answered settled ending result }

@@ -9,7 +9,7 @@ mod Tables
 mod TopologyLanes
 mod LaneFlags
 pub mod TakeSends
-mod Ringless
+pub mod Ringless
 mod PartnerTables
 mod WorldSteps
 mod Waits
