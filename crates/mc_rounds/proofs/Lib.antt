@@ -1,2 +1,18 @@
+pub mod Plays
+pub mod TurnKinds
+pub mod SeatCommands
+pub mod PlayedRounds
+pub mod GoingOn
+pub mod Retried
+pub mod AtLast
+pub mod NoRings
+pub mod Settled
+mod PartnerTable
+mod Rests
+mod Enlisting
+mod LastHears
+mod SettleEnds
+mod Shifters
 mod DrawsStop
 mod UsedUp
+pub mod TeamLogs

@@ -1,1 +1,5 @@
+pub mod Frames
+pub mod Playing
+pub mod Settling
 pub mod Stops
+pub mod Teams

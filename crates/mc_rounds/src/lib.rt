@@ -2,6 +2,10 @@
 #![tactic(auto)]
 
 pub mod limit;
+mod playing;
+mod resting;
 mod settling;
+mod team;
 
 pub use settling::settle_rounds;
+pub use team::{RoundLog, Team};
