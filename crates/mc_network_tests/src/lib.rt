@@ -3,6 +3,8 @@
 #![tactic(auto)]
 
 #[cfg(test)]
+mod equal;
+#[cfg(test)]
 mod fault;
 #[cfg(test)]
 mod networks;
@@ -14,3 +16,5 @@ mod programs;
 mod settles;
 #[cfg(test)]
 mod steps;
+#[cfg(test)]
+mod teams;

@@ -1,29 +1,27 @@
 // A network as it is laid out, and the numbers that its slots have then.
 
-use mc_box::Kind;
-use mc_plan::{BoxPlan, Plan, PlanFault};
-use mc_signal::{CodecList, Medium};
+use crate::fault::TestFault;
+use crate::networks::{add, device, feature, join};
+use mc_plan::Plan;
+use mc_signal::Medium;
 use mc_world::World;
 use std::process::Abort;
 
-fn planned(kind: Kind) -> BoxPlan {
-    BoxPlan {
-        kind,
-        codecs: CodecList::none(),
-        sends: CodecList::none(),
-        first_version: 1,
-    }
+// The last channel gets a tunnel more, and there is one with two tunnels.
+fn widen(plan: &mut Plan, feature: u32, callee: u32) -> Result<(), TestFault> {
+    plan.widen(Medium::Video)?;
+    plan.join(feature, callee, &[Medium::Audio, Medium::Video])?;
+    Ok(())
 }
 
 // Two devices with a feature between them, whose number is the answer.
-fn lay_out(plan: &mut Plan) -> Result<u32, PlanFault> {
-    let caller = plan.add(planned(Kind::Device))?;
-    let callee = plan.add(planned(Kind::Device))?;
-    let feature = plan.add(planned(Kind::Feature))?;
-    plan.join(caller, feature, &[Medium::Audio])?;
-    plan.widen(Medium::Video)?;
-    plan.join(feature, callee, &[Medium::Audio, Medium::Video])?;
-    Ok(feature)
+fn lay_out(plan: &mut Plan) -> Result<u32, TestFault> {
+    let caller = add(plan, device())?;
+    let callee = add(plan, device())?;
+    let between = add(plan, feature())?;
+    join(plan, caller, between)?;
+    widen(plan, between, callee)?;
+    Ok(between)
 }
 
 // The feature has slots 0 and 1 to the caller, and 2 and 3 to the callee.
@@ -46,7 +44,7 @@ fn has_places(rt: &impl Abort, world: &World) {
 }
 
 #[test]
-fn a_feature_stands_between_two_devices(rt: HostRuntime) -> Result<(), PlanFault> {
+fn a_feature_stands_between_two_devices(rt: HostRuntime) -> Result<(), TestFault> {
     let mut plan = Plan::new(rt.alloc());
     let feature = lay_out(&mut plan)?;
     assert!(rt; plan.slots(feature) == 4);

@@ -2,12 +2,14 @@
 
 ghost use Rattle.std.specs.Prelude.{◌<◌};
 
+use crate::equal::is_equal;
 use crate::fault::TestFault;
-use crate::networks::{device, feature, two_devices, two_features};
+use crate::networks::{add, device, feature, join, row, two_features};
 use crate::programs::{drawn_program, flipping};
 use mc_box::limit::{LAST_VERSION, SHIFT_LIMIT};
 use mc_box::{Change, Event, MediaChange, Turn};
 use mc_plan::{BoxPlan, Plan};
+use mc_rule::Program;
 use mc_seq::{SettleFault, fits, settle_one, settle_plainly};
 use mc_signal::Medium;
 use mc_slot::{Goal, State};
@@ -15,103 +17,6 @@ use mc_text::Draws;
 use mc_world::{Settled, World};
 use std::alloc::{AllocError, Global};
 use std::process::Abort;
-
-const fn turn(who: u32, event: Event) -> Turn {
-    Turn { who, event }
-}
-
-// A settle by draws, of a batch that may be settled.
-fn settle<R: Abort + AllocGlobal>(
-    rt: &R,
-    world: World,
-    batch: &[Turn],
-    draws: &mut Draws,
-) -> Result<Settled, SettleFault> {
-    assert!(rt; fits(&world, batch));
-    settle_one(rt.alloc(), world, batch, draws)
-}
-
-// A settle by draws makes just these turns, and leaves the draws at this state.
-fn settles_by<R: Abort + AllocGlobal>(
-    rt: &R,
-    world: World,
-    batch: &[Turn],
-    state: u32,
-    want: &[Turn],
-    after: u32,
-) -> Result<(), TestFault> {
-    let mut draws = Draws { state };
-    match settle(rt, world, batch, &mut draws) {
-        Ok(done) => {
-            assert_eq!(rt; done.turns.as_slice(), want);
-            assert_eq!(rt; draws.state, after);
-        }
-        Err(_) => assert!(rt; false),
-    }
-    Ok(())
-}
-
-// The state of the draws after so many.
-fn drawn_from(state: u32, count: u32) -> u32 {
-    let mut draws = Draws { state };
-    for _done in 0..count {
-        let _ = draws.draw();
-    }
-    draws.state
-}
-
-#[test]
-fn a_call_is_settled_by_draws(rt: HostRuntime) -> Result<(), TestFault> {
-    let open = turn(0, Event::Set(Change::End(0, Goal::Open)));
-    let hold = turn(1, Event::Set(Change::End(0, Goal::Hold)));
-    let one = turn(0, Event::Take(0));
-    let two = turn(1, Event::Take(0));
-    settles_by(
-        &rt,
-        two_devices(rt.alloc())?,
-        &[open, hold],
-        1,
-        &[open, hold, two, one, two, one],
-        drawn_from(1, 6),
-    )
-}
-
-#[test]
-fn a_refused_call_is_settled_by_draws(rt: HostRuntime) -> Result<(), TestFault> {
-    let open = turn(0, Event::Set(Change::End(0, Goal::Open)));
-    let one = turn(0, Event::Take(0));
-    let two = turn(1, Event::Take(0));
-    let again = turn(0, Event::Retry(0));
-    settles_by(
-        &rt,
-        two_devices(rt.alloc())?,
-        &[open],
-        1,
-        &[open, two, one, two, again, two, one, two],
-        drawn_from(1, 7),
-    )
-}
-
-#[test]
-fn draws_stop_at_a_ring(rt: HostRuntime) -> Result<(), TestFault> {
-    let link = turn(0, Event::Set(Change::Link(0, 1)));
-    let back = turn(1, Event::Set(Change::Link(0, 1)));
-    let mut draws = Draws { state: 1 };
-    let world = two_features(rt.alloc())?;
-    let batch = [link, back];
-    let outcome = settle(&rt, world, &batch, &mut draws);
-    match &outcome {
-        Err(SettleFault::Ring(stop)) => {
-            assert_eq!(rt; stop.at, 0);
-            assert_eq!(rt; stop.turns.as_slice(), [link, back].as_slice());
-            assert_eq!(rt; draws.state, drawn_from(1, 2));
-        }
-        _ => assert!(rt; false),
-    }
-    Ok(())
-}
-
-// ---- beside the plain settle
 
 // How a settle ended.
 #[derive(Clone, Copy, PartialEq, Eq, Debug)]
@@ -184,6 +89,141 @@ fn by_lists(alloc: Global, world: World, batch: &[Turn], state: u32) -> Outcome 
     outcome_of(alloc, settled, draws.state)
 }
 
+// An outcome has this end, these turns, and this state of the draws.
+fn comes_to(rt: &impl Abort, done: &Outcome, ending: Ending, turns: &[Turn], draws: u32) {
+    is_equal(rt, &done.ending, &ending);
+    is_equal(rt, &done.turns.as_slice(), &turns);
+    is_equal(rt, &done.draws, &draws);
+}
+
+// ---- what was settled by hand
+
+const OPEN: Turn = Turn {
+    who: 0,
+    event: Event::Set(Change::End(0, Goal::Open)),
+};
+
+const HOLD: Turn = Turn {
+    who: 1,
+    event: Event::Set(Change::End(0, Goal::Hold)),
+};
+
+const ONE: Turn = Turn {
+    who: 0,
+    event: Event::Take(0),
+};
+
+const TWO: Turn = Turn {
+    who: 1,
+    event: Event::Take(0),
+};
+
+const AGAIN: Turn = Turn {
+    who: 0,
+    event: Event::Retry(0),
+};
+
+const LINK: Turn = Turn {
+    who: 0,
+    event: Event::Set(Change::Link(0, 1)),
+};
+
+const BACK: Turn = Turn {
+    who: 1,
+    event: Event::Set(Change::Link(0, 1)),
+};
+
+const SHIFT: Turn = Turn {
+    who: 1,
+    event: Event::Shift,
+};
+
+// The state of the draws after so many.
+fn drawn_from(state: u32, count: u32) -> u32 {
+    let mut draws = Draws { state };
+    for _done in 0..count {
+        let _ = draws.draw();
+    }
+    draws.state
+}
+
+// From the first state of the draws, a world and a batch come to this end by these turns, with so many draws.
+fn settles_by<R: Abort + AllocGlobal>(
+    rt: &R,
+    world: World,
+    batch: &[Turn],
+    ending: Ending,
+    turns: &[Turn],
+    draws: u32,
+) {
+    let done = by_counts(rt.alloc(), world, batch, 1);
+    comes_to(rt, &done, ending, turns, drawn_from(1, draws));
+}
+
+// Batches of two devices, the turns that they come to rest by, and the number of draws.
+const CALLS: [(&[Turn], &[Turn], u32); 2] = [
+    // a call
+    (&[OPEN, HOLD], &[OPEN, HOLD, TWO, ONE, TWO, ONE], 6),
+    // a refused call
+    (&[OPEN], &[OPEN, TWO, ONE, TWO, AGAIN, TWO, ONE, TWO], 7),
+];
+
+#[test]
+fn calls_are_settled_by_draws(rt: HostRuntime) -> Result<(), TestFault> {
+    for (batch, turns, draws) in CALLS {
+        let world = row(rt.alloc(), 1)?;
+        settles_by(&rt, world, batch, Ending::Rest, turns, draws);
+    }
+    Ok(())
+}
+
+#[test]
+fn draws_stop_at_a_ring(rt: HostRuntime) -> Result<(), TestFault> {
+    let world = two_features(rt.alloc())?;
+    settles_by(&rt, world, &[LINK, BACK], Ending::Ring(0), &[LINK, BACK], 2);
+    Ok(())
+}
+
+fn lay_feature(plan: &mut Plan) -> Result<(), TestFault> {
+    add(plan, device())?;
+    add(plan, feature())?;
+    join(plan, 0, 1)
+}
+
+// A feature beside a device, with this program of two states that lead to each other.
+fn two_states(alloc: Global, program: Program) -> Result<World, TestFault> {
+    let mut plan = Plan::new(alloc);
+    lay_feature(&mut plan)?;
+    let mut layout = plan.layout()?;
+    let _ = layout.program(1, program);
+    Ok(layout.world()?)
+}
+
+// What the program waits for, how its settle ends, by which turns, and the number of draws.
+const PROGRAMS: [(State, Ending, &[Turn], u32); 2] = [
+    // it makes all its shifts
+    (
+        State::Closed,
+        Ending::Restless(1),
+        &[SHIFT; SHIFT_LIMIT as usize],
+        256,
+    ),
+    // it comes to rest
+    (State::Opened, Ending::Rest, &[SHIFT], 1),
+];
+
+#[test]
+fn programs_go_on_until_they_rest(rt: HostRuntime) -> Result<(), TestFault> {
+    for (waits, ending, turns, draws) in PROGRAMS {
+        let program = flipping(rt.alloc(), waits)?;
+        let world = two_states(rt.alloc(), program)?;
+        settles_by(&rt, world, &[], ending, turns, draws);
+    }
+    Ok(())
+}
+
+// ---- beside the plain settle
+
 // A draw below a limit; 0 where that is 0.
 pub fn below(draws: &mut Draws, limit: u32) -> u32
     ensures { 0 < limit → result < limit }
@@ -208,11 +248,14 @@ fn drawn_plan(alloc: Global, draws: &mut Draws) -> Result<Plan, TestFault> {
     let features = below(draws, 3) == 0;
     let boxes = 2 + below(draws, if features { 2 } else { 4 });
     for _planned in 0..boxes {
-        plan.add(if features {
-            feature()
-        } else {
-            drawn_box(draws)
-        })?;
+        add(
+            &mut plan,
+            if features {
+                feature()
+            } else {
+                drawn_box(draws)
+            },
+        )?;
     }
     for _channel in 0..=below(draws, 6) {
         let from = below(draws, boxes);
@@ -278,14 +321,15 @@ fn drawn_command(draws: &mut Draws) -> Turn {
         6 => Event::Media(MediaChange::Hear(local, on)),
         _ => Event::Media(MediaChange::Talk(local, on)),
     };
-    turn(who, event)
+    Turn { who, event }
 }
 
 // The same, or a Tell of one of three words.
 fn drawn_order(draws: &mut Draws) -> Turn {
     if below(draws, 3) == 0 {
         let who = below(draws, 5);
-        return turn(who, Event::Tell(below(draws, 3) as u8));
+        let event = Event::Tell(below(draws, 3) as u8);
+        return Turn { who, event };
     }
     drawn_command(draws)
 }
@@ -315,42 +359,67 @@ fn drawn_orders(alloc: Global, world: &World, draws: &mut Draws) -> Result<Vec<T
     Ok(batch)
 }
 
+// A world that is drawn from a seed, a batch that it allows, and the state of the draws then.
+#[derive(Drop)]
+struct Case {
+    world: World,
+    batch: Vec<Turn>,
+    state: u32,
+}
+
+fn drawn_case(alloc: Global, seed: u32) -> Result<Case, TestFault> {
+    let mut draws = Draws { state: seed };
+    let world = drawn_world(alloc, &mut draws)?;
+    let batch = drawn_batch(alloc, &world, &mut draws)?;
+    let state = draws.state;
+    Ok(Case {
+        world,
+        batch,
+        state,
+    })
+}
+
+// The same with programs.
+fn programmed_case(alloc: Global, seed: u32) -> Result<Case, TestFault> {
+    let mut draws = Draws { state: seed };
+    let world = programmed_world(alloc, &mut draws)?;
+    let batch = drawn_orders(alloc, &world, &mut draws)?;
+    let state = draws.state;
+    Ok(Case {
+        world,
+        batch,
+        state,
+    })
+}
+
+// Both settles of one case, which is drawn twice, come to the same.
+fn compared(rt: &impl Abort, alloc: Global, case: Case, again: Case) -> Outcome {
+    let fast = by_counts(alloc, case.world, &case.batch, case.state);
+    let plain = by_lists(alloc, again.world, &again.batch, again.state);
+    comes_to(rt, &fast, plain.ending, &plain.turns, plain.draws);
+    fast
+}
+
 #[test]
 fn settles_are_the_plain_ones(rt: HostRuntime) -> Result<(), TestFault> {
+    let alloc = rt.alloc();
     for seed in 0..2_000 {
-        let mut draws = Draws { state: seed };
-        let world = drawn_world(rt.alloc(), &mut draws)?;
-        let batch = drawn_batch(rt.alloc(), &world, &mut draws)?;
-        let again = drawn_world(rt.alloc(), &mut Draws { state: seed })?;
-        let fast = by_counts(rt.alloc(), world, &batch, draws.state);
-        let plain = by_lists(rt.alloc(), again, &batch, draws.state);
-        assert_eq!(rt; fast.ending, plain.ending);
-        assert_eq!(rt; fast.turns.as_slice(), plain.turns.as_slice());
-        assert_eq!(rt; fast.draws, plain.draws);
+        let case = drawn_case(alloc, seed)?;
+        let again = drawn_case(alloc, seed)?;
+        let _ = compared(&rt, alloc, case, again);
     }
     Ok(())
 }
 
-// Both settles of a drawn world with programs and a drawn batch, which come to the same.
-fn compared<R: Abort + AllocGlobal>(rt: &R, seed: u32) -> Result<Outcome, TestFault> {
-    let mut draws = Draws { state: seed };
-    let world = programmed_world(rt.alloc(), &mut draws)?;
-    let batch = drawn_orders(rt.alloc(), &world, &mut draws)?;
-    let again = programmed_world(rt.alloc(), &mut Draws { state: seed })?;
-    let fast = by_counts(rt.alloc(), world, &batch, draws.state);
-    let plain = by_lists(rt.alloc(), again, &batch, draws.state);
-    assert_eq!(rt; fast.ending, plain.ending);
-    assert_eq!(rt; fast.turns.as_slice(), plain.turns.as_slice());
-    assert_eq!(rt; fast.draws, plain.draws);
-    Ok(fast)
-}
-
 #[test]
 fn settles_with_programs_are_the_plain_ones(rt: HostRuntime) -> Result<(), TestFault> {
+    let alloc = rt.alloc();
     let mut restless = 0u32;
     let mut shifted = 0u32;
     for seed in 0..1_500 {
-        let done = compared(&rt, seed)?;
+        let case = programmed_case(alloc, seed)?;
+        let again = programmed_case(alloc, seed)?;
+        let done = compared(&rt, alloc, case, again);
         if matches!(done.ending, Ending::Restless(_)) {
             restless = restless.saturating_add(1);
         }
@@ -366,36 +435,4 @@ fn settles_with_programs_are_the_plain_ones(rt: HostRuntime) -> Result<(), TestF
 
 fn has_shift(turns: &[Turn]) -> bool {
     turns.iter().any(|turn| matches!(turn.event, Event::Shift))
-}
-
-// A feature beside a device, with this program of two states that lead to each other.
-fn two_states(alloc: Global, waits: State) -> Result<World, TestFault> {
-    let mut plan = Plan::new(alloc);
-    plan.add(device())?;
-    plan.add(feature())?;
-    plan.join(0, 1, &[Medium::Audio])?;
-    let mut layout = plan.layout()?;
-    let program = flipping(alloc, waits)?;
-    let _ = layout.program(1, program);
-    Ok(layout.world()?)
-}
-
-#[test]
-fn a_program_makes_all_its_shifts(rt: HostRuntime) -> Result<(), TestFault> {
-    let world = two_states(rt.alloc(), State::Closed)?;
-    let done = by_counts(rt.alloc(), world, &[], 1);
-    assert_eq!(rt; done.ending, Ending::Restless(1));
-    assert_eq!(rt; done.turns.len(), SHIFT_LIMIT as usize);
-    assert_eq!(rt; done.draws, drawn_from(1, 256));
-    Ok(())
-}
-
-#[test]
-fn a_program_comes_to_rest(rt: HostRuntime) -> Result<(), TestFault> {
-    let world = two_states(rt.alloc(), State::Opened)?;
-    let done = by_counts(rt.alloc(), world, &[], 1);
-    assert_eq!(rt; done.ending, Ending::Rest);
-    assert_eq!(rt; done.turns.as_slice(), [turn(1, Event::Shift)].as_slice());
-    assert_eq!(rt; done.draws, drawn_from(1, 1));
-    Ok(())
 }

@@ -9,8 +9,9 @@ mod networks;
 mod programs;
 mod refusals;
 mod scenes;
+mod threads;
 
-use mc_io::{MemSink, MemSource, OpenGate};
+use mc_io::{Gate, MemSink, MemSource, OpenGate};
 use mc_top::{Done, media_top};
 use std::alloc::{AllocError, Global};
 use std::fmt::Debug;
@@ -51,14 +52,15 @@ pub fn is_equal_at<T: PartialEq + Debug>(rt: &impl Abort, got: &T, want: &T, tex
 }
 
 // The top call, of which nothing is said beforehand.
-fn top<R: Threads + Sync>(
+fn top<R: Threads + Sync, G: Gate + Sync>(
     rt: &R,
     alloc: Global,
     words: Vec<String>,
     source: &mut MemSource,
     sink: &mut MemSink,
+    gate: &G,
 ) -> Done {
-    media_top(rt, alloc, words, source, sink, &OpenGate)
+    media_top(rt, alloc, words, source, sink, gate)
 }
 
 // A call with these words, and what it wrote.
@@ -74,7 +76,7 @@ fn call<R: Threads + Sync>(
 {
     let mut sink = MemSink::new(alloc, ROOM, write_per_call, failing)?;
     let words = words_of(alloc, words)?;
-    let done = top(rt, alloc, words, source, &mut sink);
+    let done = top(rt, alloc, words, source, &mut sink, &OpenGate);
     let written = Vec::from_slice(alloc, &sink.bytes)?;
     Ok((done, written))
 }
@@ -90,6 +92,21 @@ fn run<R: Threads + Sync>(
     requires { 0 < write_per_call }
 {
     call(rt, alloc, &["run"], source, write_per_call, failing)
+}
+
+/// A call with these words on a text, which is read in pieces of so many bytes, and what it wrote.
+pub fn answered<R: Threads + Sync>(
+    rt: &R,
+    alloc: Global,
+    words: &[&str],
+    text: &[u8],
+    piece: usize,
+) -> Result<(Done, Vec<u8>), AllocError>
+    requires { 0 < piece }
+{
+    let bytes = Vec::from_slice(alloc, text)?;
+    let mut source = MemSource::new(bytes, piece, Vec::new(alloc));
+    call(rt, alloc, words, &mut source, ROOM, Vec::new(alloc))
 }
 
 /// A call with the word `run` on a text, read and written in small pieces: its status, and what it wrote.
@@ -234,10 +251,8 @@ fn is_settled<R: Threads + Sync + Abort>(
     alloc: Global,
     words: &[&str],
 ) -> Result<(), AllocError> {
-    let mut bytes = Vec::from_slice(alloc, PHONES.as_bytes())?;
-    bytes.extend_from_slice(b"settle\n")?;
-    let mut source = MemSource::new(bytes, 64, Vec::new(alloc));
-    let (done, written) = call(rt, alloc, words, &mut source, 64, Vec::new(alloc))?;
+    let text = format!(in alloc; "{PHONES}settle\n")?;
+    let (done, written) = answered(rt, alloc, words, text.as_bytes(), 64)?;
     is_equal(rt, &done.status, &0);
     is_equal(rt, &written.as_slice(), &CLOSED.as_bytes());
     Ok(())

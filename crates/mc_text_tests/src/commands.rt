@@ -1,6 +1,6 @@
 // Commands that are read or refused, and one that is printed.
-ghost use Rattle.std.specs.Prelude.{◌≡◌, IfOk, length};
-ghost use Rattle.mc_text.specs.NameLists.{slot_names};
+ghost use Rattle.std.specs.Prelude.{◌≡◌, IfOk, OnOk, length};
+ghost use Rattle.mc_text.specs.NameLists.{no_names, slot_names};
 ghost use Rattle.mc_box.specs.BoxShapes.{shape_of};
 ghost use Rattle.mc_script.specs.Places.{Fits};
 
@@ -13,16 +13,25 @@ use mc_text::{NameFault, Names};
 use std::alloc::{AllocError, Global};
 use std::process::Abort;
 
+fn add_both(names: &mut Names) -> Result<(), NameFault>
+    requires { names.old ≡ no_names }
+    ensures boxes { OnOk result (length names.new.boxes ≡ 2) }
+    ensures slots { OnOk result ((length (slot_names names.new 0) ≡ 1) × (length (slot_names names.new 1) ≡ 1)) }
+{
+    names.add_box(b"alice")?;
+    names.add_slot(0, b"a")?;
+    names.add_box(b"f")?;
+    names.add_slot(1, b"w")?;
+    Ok(())
+}
+
 // A device `alice` with a slot `a`, and a feature `f` with a slot `w`.
 fn example_names(alloc: Global) -> Result<Names, NameFault>
     ensures boxes { IfOk result (λ names. length names.boxes ≡ 2) }
     ensures slots { IfOk result (λ names. (length (slot_names names 0) ≡ 1) × (length (slot_names names 1) ≡ 1)) }
 {
     let mut names = Names::new(alloc);
-    names.add_box(b"alice")?;
-    names.add_slot(0, b"a")?;
-    names.add_box(b"f")?;
-    names.add_slot(1, b"w")?;
+    add_both(&mut names)?;
     Ok(names)
 }
 
@@ -68,17 +77,29 @@ fn new_example(alloc: Global) -> Result<Example, NameFault>
     }
 }
 
-#[test]
-fn a_command_is_printed(rt: HostRuntime) -> Result<(), NameFault> {
-    let names = example_names(rt.alloc())?;
+// The command that opens the first slot, as it is printed.
+fn printed(rt: &impl Abort, alloc: Global, names: &Names) -> Result<Vec<u8>, AllocError> {
+    assert!(rt; 0 < names.box_count());
+    assert!(rt; 0 < names.slot_count(0));
     let command = Command::Stimulus(Turn {
         who: 0,
         event: Event::Set(Change::End(0, Goal::Open)),
     });
-    let mut out = Vec::new(rt.alloc());
-    print_command(&names, &command, &mut out).map_err(NameFault::NoMemory)?;
-    assert!(rt; out.as_slice() == b"set alice a open".as_slice());
+    let mut out = Vec::new(alloc);
+    print_command(names, &command, &mut out)?;
+    Ok(out)
+}
+
+fn is_printed(rt: &impl Abort, alloc: Global, names: &Names) -> Result<(), NameFault> {
+    let out = printed(rt, alloc, names).map_err(NameFault::NoMemory)?;
+    is_equal(rt, &out.as_slice(), &b"set alice a open".as_slice());
     Ok(())
+}
+
+#[test]
+fn a_command_is_printed(rt: HostRuntime) -> Result<(), NameFault> {
+    let names = example_names(rt.alloc())?;
+    is_printed(&rt, rt.alloc(), &names)
 }
 
 // The number of the rule that a line breaks, or 0.

@@ -26,14 +26,14 @@ const NINE: &[u8] =
 // The number and the line of a fault.
 type Place = (u8, u32);
 
-// The network that a text declares, of which nothing is said beforehand.
-fn net_of(alloc: Global, text: &[u8]) -> Result<Net, NetFault> {
-    read_net(alloc, text, Tail::Nothing)
+/// The network that a text declares, of which nothing is said beforehand.
+pub fn net_of(alloc: Global, text: &[u8], tail: Tail) -> Result<Net, NetFault> {
+    read_net(alloc, text, tail)
 }
 
 // The number and the line of the fault of a text.
 fn fault_in(alloc: Global, text: &[u8]) -> Option<Place> {
-    match net_of(alloc, text).err()? {
+    match net_of(alloc, text, Tail::Nothing).err()? {
         NetFault::Line(fault) => Some((fault.number, fault.line)),
         _ => None,
     }
@@ -287,12 +287,16 @@ fn has_parts(rt: &impl Abort, net: &Net, length: usize) {
     is_equal(rt, &net.rest, &length);
 }
 
+// The text declares the network of the two phones.
+fn is_declared(rt: &impl Abort, alloc: Global, text: &[u8]) -> Result<(), NetFault> {
+    let net = net_of(alloc, text, Tail::Nothing)?;
+    has_parts(rt, &net, text.len());
+    Ok(())
+}
+
 #[test]
 fn two_phones_make_a_net(rt: HostRuntime) -> Result<(), NetFault> {
-    let alloc = rt.alloc();
-    let mut text = Vec::from_slice(alloc, PHONES)?;
+    let mut text = Vec::from_slice(rt.alloc(), PHONES)?;
     text.extend_from_slice(b"set alice a open\nset bob a hold\nsettle\nset alice a close")?;
-    let net = net_of(alloc, &text)?;
-    has_parts(&rt, &net, text.len());
-    Ok(())
+    is_declared(&rt, rt.alloc(), &text)
 }

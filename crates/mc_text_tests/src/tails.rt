@@ -1,5 +1,6 @@
 use crate::equal::is_equal;
-use mc_net::{NetFault, Tail, read_net};
+use crate::net::net_of;
+use mc_net::{NetFault, Tail};
 use std::alloc::{AllocError, Global};
 use std::process::Abort;
 
@@ -11,7 +12,7 @@ type Place = (u8, u32);
 
 // Where what isn't read of a text begins, or its fault.
 fn rest_of(alloc: Global, text: &[u8], tail: Tail) -> Result<usize, Place> {
-    match read_net(alloc, text, tail) {
+    match net_of(alloc, text, tail) {
         Ok(net) => Ok(net.rest),
         Err(NetFault::Line(fault)) => Err((fault.number, fault.line)),
         Err(NetFault::NoMemory(_)) => Err((0, 0)),

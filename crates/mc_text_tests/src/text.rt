@@ -31,8 +31,9 @@ fn codecs_and_words_get_numbers(rt: HostRuntime) -> Result<(), NameFault> {
 }
 
 // A box and its slot, by their numbers.
-fn add_both(names: &mut Names) -> Result<(u32, u8), NameFault> {
+fn add_both(rt: &impl Abort, names: &mut Names) -> Result<(u32, u8), NameFault> {
     let who = names.add_box(b"alice")?;
+    assert!(rt; (who as usize) < names.box_count());
     let slot = names.add_slot(who, b"a")?;
     Ok((who, slot))
 }
@@ -52,11 +53,16 @@ fn printed_slot(
     Ok(out)
 }
 
+// A box and its slot are printed by their names.
+fn are_printed(rt: &impl Abort, alloc: Global, names: &mut Names) -> Result<(), NameFault> {
+    let (who, slot) = add_both(rt, names)?;
+    let out = printed_slot(rt, alloc, names, who, slot).map_err(NameFault::NoMemory)?;
+    is_equal(rt, &out.as_slice(), &b"alice/a".as_slice());
+    Ok(())
+}
+
 #[test]
 fn a_slot_is_printed_with_its_box(rt: HostRuntime) -> Result<(), NameFault> {
     let mut names = Names::new(rt.alloc());
-    let (who, slot) = add_both(&mut names)?;
-    let out = printed_slot(&rt, rt.alloc(), &names, who, slot).map_err(NameFault::NoMemory)?;
-    is_equal(&rt, &out.as_slice(), &b"alice/a".as_slice());
-    Ok(())
+    are_printed(&rt, rt.alloc(), &mut names)
 }

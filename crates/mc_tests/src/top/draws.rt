@@ -1,8 +1,7 @@
 // Settles by draws that begin at a state that is told: which turns they make, in which order.
 
-use super::{ROOM, call, is_equal_at};
+use super::{answered, is_equal_at};
 use mc_box::{Change, Event, Turn};
-use mc_io::MemSource;
 use mc_script::JournalLine;
 use mc_slot::Goal;
 use std::alloc::{AllocError, Global};
@@ -53,9 +52,7 @@ fn is_kept<R: Threads + Sync + Abort>(
     printed: &str,
 ) -> Result<(), AllocError> {
     let text = format!(in alloc; "{PHONES}{script}")?;
-    let bytes = Vec::from_slice(alloc, text.as_bytes())?;
-    let mut source = MemSource::new(bytes, 64, Vec::new(alloc));
-    let (done, written) = call(rt, alloc, words, &mut source, ROOM, Vec::new(alloc))?;
+    let (done, written) = answered(rt, alloc, words, text.as_bytes(), 64)?;
     is_equal_at(rt, &done.status, &0, script);
     is_equal_at(rt, &&done.journal[..], &journal, script);
     is_equal_at(rt, &written.as_slice(), &printed.as_bytes(), script);

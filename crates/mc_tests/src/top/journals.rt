@@ -1,7 +1,6 @@
 // Journals: what `--journal` prints behind the settles, and what `check` says of a text with a journal.
 
-use super::{PHONES, ROOM, call, is_equal, is_equal_at};
-use mc_io::MemSource;
+use super::{PHONES, answered, is_equal_at};
 use std::alloc::{AllocError, Global};
 use std::process::Abort;
 use std::test::Fail;
@@ -16,9 +15,7 @@ fn is_answered<R: Threads + Sync + Abort>(
     status: u8,
     printed: &str,
 ) -> Result<(), AllocError> {
-    let bytes = Vec::from_slice(alloc, text.as_bytes())?;
-    let mut source = MemSource::new(bytes, 4096, Vec::new(alloc));
-    let (done, written) = call(rt, alloc, words, &mut source, ROOM, Vec::new(alloc))?;
+    let (done, written) = answered(rt, alloc, words, text.as_bytes(), 4096)?;
     is_equal_at(rt, &done.status, &status, text);
     is_equal_at(rt, &written.as_slice(), &printed.as_bytes(), text);
     Ok(())
@@ -420,21 +417,20 @@ fn behind<'a, R: Abort>(rt: &R, bytes: &'a [u8], count: usize) -> &'a [u8] {
     &bytes[count..]
 }
 
-// A call with these words prints a journal, which `check` accepts behind the call's text.
-fn is_accepted<R: Threads + Sync + Abort>(
+/// A call with these words on a text prints this and a journal, which `check` accepts behind the text.
+pub fn is_accepted<R: Threads + Sync + Abort>(
     rt: &R,
     alloc: Global,
     words: &[&str],
+    text: &str,
+    printed: &str,
 ) -> Result<(), AllocError> {
-    let bytes = Vec::from_slice(alloc, FEATURE.as_bytes())?;
-    let mut source = MemSource::new(bytes, 4096, Vec::new(alloc));
-    let (_, written) = call(rt, alloc, words, &mut source, ROOM, Vec::new(alloc))?;
-    let mut checked = Vec::from_slice(alloc, FEATURE.as_bytes())?;
-    checked.extend_from_slice(behind(rt, &written, FEATURE_PRINTED.len()))?;
-    let mut source = MemSource::new(checked, 4096, Vec::new(alloc));
-    let (done, written) = call(rt, alloc, &["check"], &mut source, ROOM, Vec::new(alloc))?;
-    is_equal(rt, &done.status, &0);
-    is_equal(rt, &written.as_slice(), &FEATURE_PRINTED.as_bytes());
+    let (_, written) = answered(rt, alloc, words, text.as_bytes(), 4096)?;
+    let mut checked = Vec::from_slice(alloc, text.as_bytes())?;
+    checked.extend_from_slice(behind(rt, &written, printed.len()))?;
+    let (done, written) = answered(rt, alloc, &["check"], &checked, 4096)?;
+    is_equal_at(rt, &done.status, &0, text);
+    is_equal_at(rt, &written.as_slice(), &printed.as_bytes(), text);
     Ok(())
 }
 
@@ -448,7 +444,7 @@ fn what_was_printed_is_accepted(rt: HostRuntime) -> Result<(), Fail> {
         &["one", "2147483647", "--journal"],
     ];
     for words in table {
-        is_accepted(&rt, rt.alloc(), words)?;
+        is_accepted(&rt, rt.alloc(), words, FEATURE, FEATURE_PRINTED)?;
     }
     Ok(())
 }

@@ -1,8 +1,7 @@
 // Who hears what: muted and unmuted phones, send lists, and scripts that stop at a last version.
 
-use super::{ROOM, call, is_equal, is_written};
+use super::{answered, is_equal, is_written};
 use mc_box::{Change, Event, Turn};
-use mc_io::MemSource;
 use mc_script::JournalLine;
 use mc_slot::Goal;
 use std::test::Fail;
@@ -163,10 +162,7 @@ fn a_stopped_script_keeps_its_turns(rt: HostRuntime) -> Result<(), Fail> {
     let alloc = rt.alloc();
     let text =
         "media 1\ndev alice 4294967295\ndev bob\nchan audio alice a bob a\nbegin\nsettle\nset alice a open\nhear alice a off\nsettle\n";
-    let bytes = Vec::from_slice(alloc, text.as_bytes())?;
-    let mut source = MemSource::new(bytes, 64, Vec::new(alloc));
-    let words = ["one", "0"];
-    let (done, written) = call(&rt, alloc, &words, &mut source, ROOM, Vec::new(alloc))?;
+    let (done, written) = answered(&rt, alloc, &["one", "0"], text.as_bytes(), 64)?;
     let set = Turn {
         who: 0,
         event: Event::Set(Change::End(0, Goal::Open)),

@@ -1,16 +1,15 @@
 // Networks of devices and features: links, paths of several tunnels, and rings.
 
-use super::{ROOM, call, is_equal, is_equal_at, is_written};
+use super::{answered, is_equal, is_equal_at, is_written};
 use mc_box::{Change, Event, Turn};
-use mc_io::MemSource;
 use mc_script::JournalLine;
 use std::alloc::{AllocError, Global};
 use std::process::Abort;
 use std::test::Fail;
 use std::thread::Threads;
 
-// A path of four tunnels: three features link their two slots each.
-const FOUR_TUNNELS: &str = "media 1\n\
+/// A path of four tunnels: three features link their two slots each.
+pub const FOUR_TUNNELS: &str = "media 1\n\
     codec g711\n\
     dev alice g711\n\
     feat f\n\
@@ -137,7 +136,8 @@ const AUDIO_AND_VIDEO: &str = "media 1\n\
     set bob v hold\n\
     settle\n";
 
-const TABLE: [(&str, u8, &str); 8] = [
+/// Networks, the status of a call, and what it prints.
+pub const TABLE: [(&str, u8, &str); 8] = [
     (
         AUDIO_AND_VIDEO,
         0,
@@ -189,10 +189,7 @@ fn is_drawn<R: Threads + Sync + Abort>(
     status: u8,
     printed: &str,
 ) -> Result<(), AllocError> {
-    let bytes = Vec::from_slice(alloc, text.as_bytes())?;
-    let mut source = MemSource::new(bytes, 64, Vec::new(alloc));
-    let words = ["one", state];
-    let (done, written) = call(rt, alloc, &words, &mut source, ROOM, Vec::new(alloc))?;
+    let (done, written) = answered(rt, alloc, &["one", state], text.as_bytes(), 64)?;
     is_equal_at(rt, &done.status, &status, text);
     is_equal_at(rt, &written.as_slice(), &printed.as_bytes(), text);
     Ok(())
@@ -220,10 +217,7 @@ fn linked(who: u32) -> JournalLine {
 #[test]
 fn a_ring_keeps_the_turns_before_it(rt: HostRuntime) -> Result<(), Fail> {
     let alloc = rt.alloc();
-    let bytes = Vec::from_slice(alloc, RING.as_bytes())?;
-    let mut source = MemSource::new(bytes, 64, Vec::new(alloc));
-    let words = ["one", "0"];
-    let (done, written) = call(&rt, alloc, &words, &mut source, ROOM, Vec::new(alloc))?;
+    let (done, written) = answered(&rt, alloc, &["one", "0"], RING.as_bytes(), 64)?;
     is_equal(&rt, &done.status, &7);
     is_equal(&rt, &done.due, &7);
     is_equal(&rt, &&done.journal[..], &&[linked(0), linked(1)][..]);

@@ -1,15 +1,14 @@
 // Programs of boxes: an exchange that swaps two calls, a prepaid box, and boxes that don't come to rest.
 ghost use Rattle.std.specs.Prelude.{◌<◌};
 
-use super::{ROOM, is_equal, is_written, run};
+use super::{answered, is_equal, is_written};
 use mc_box::{Event, Turn};
-use mc_io::MemSource;
 use mc_script::JournalLine;
 use std::alloc::{AllocError, Global};
 use std::test::Fail;
 
-// An exchange that links alice with bob or with carol, and keeps the other one on hold.
-const SWAP: &str = "media 1\n\
+/// An exchange that links alice with bob or with carol, and keeps the other one on hold.
+pub const SWAP: &str = "media 1\n\
     codec g711\n\
     dev alice g711\n\
     dev bob g711\n\
@@ -39,7 +38,8 @@ const SWAP: &str = "media 1\n\
     set bob a close\n\
     settle\n";
 
-const SWAPPED: &str = "settle 1\n\
+/// What is printed of it.
+pub const SWAPPED: &str = "settle 1\n\
     path alice/a bob/a open hold flowing audio\n\
     hears alice/a g711\n\
     hears bob/a g711\n\
@@ -287,9 +287,7 @@ const SHIFT: JournalLine = JournalLine::Turn(Turn {
 #[test]
 fn a_restless_box_makes_256_shifts(rt: HostRuntime) -> Result<(), Fail> {
     let alloc = rt.alloc();
-    let bytes = Vec::from_slice(alloc, RESTLESS.as_bytes())?;
-    let mut source = MemSource::new(bytes, 64, Vec::new(alloc));
-    let (done, written) = run(&rt, alloc, &mut source, ROOM, Vec::new(alloc))?;
+    let (done, written) = answered(&rt, alloc, &["run"], RESTLESS.as_bytes(), 64)?;
     is_equal(&rt, &done.status, &6);
     is_equal(&rt, &done.due, &6);
     is_equal(&rt, &done.journal.len(), &256);
@@ -303,9 +301,7 @@ fn a_restless_box_makes_256_shifts(rt: HostRuntime) -> Result<(), Fail> {
 #[test]
 fn a_guarded_box_makes_one_shift(rt: HostRuntime) -> Result<(), Fail> {
     let alloc = rt.alloc();
-    let bytes = Vec::from_slice(alloc, GUARDED.as_bytes())?;
-    let mut source = MemSource::new(bytes, 64, Vec::new(alloc));
-    let (done, _) = run(&rt, alloc, &mut source, ROOM, Vec::new(alloc))?;
+    let (done, _) = answered(&rt, alloc, &["run"], GUARDED.as_bytes(), 64)?;
     is_equal(&rt, &&done.journal[..], &&[SHIFT, JournalLine::Settled][..]);
     Ok(())
 }
