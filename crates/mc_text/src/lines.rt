@@ -18,6 +18,7 @@ pub fn line_end(text: &[u8], from: usize) -> usize
 }
 
 /// The first line of a text without its end, and what stands behind that end.
+#[inline]
 pub fn next_line(text: &[u8]) -> (&[u8], &[u8])
     requires { 0 < length text.now }
     ensures first { lines text.now ≡ result.0.now ∷ lines result.1.now }
@@ -62,8 +63,17 @@ fn line_len(bytes: &[u8]) -> usize
 {
     match bytes {
         [b'\n', ..] => 0,
-        _ => memchr(b'\n', bytes).unwrap_or(bytes.len()),
+        _ => search_line_end(bytes),
     }
+}
+
+// The same by a search. It stands apart, so that what tells an empty line is short.
+#[inline(never)]
+fn search_line_end(bytes: &[u8]) -> usize
+    ensures within { result ≤ length bytes.now }
+    ensures first { result ≡ position_or_len is_line_end bytes.now }
+{
+    memchr(b'\n', bytes).unwrap_or(bytes.len())
 }
 
 // How many bytes stand before the first space, or all where there is none.
