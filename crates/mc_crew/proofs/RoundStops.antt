@@ -1,8 +1,9 @@
 -- How a round ends for each box.
-use Rattle.std.proofs.Common.{◌≡◌, ◌≢◌, ◌⊎◌, inl, inr, ℕ, zero, suc, ◌+◌, ◌<◌, ◌≤◌, ◌++◌, ◌==◌, ◌&&◌, Bool, true, false, if◌then◌else◌, MatchOption, IsTrue, List, [], ◌∷◌, length, map, slice_get, slice_index_or, Some, None, refl, sym, ◌∙◌, ap, subst, arith}
-use Rattle.std.specs.List.{count_by}
+use Rattle.std.proofs.Common.{◌≡◌, ◌≢◌, ◌⊎◌, inl, inr, ℕ, zero, suc, ◌+◌, ◌<◌, ◌≤◌, ◌++◌, ◌==◌, ◌||◌, Bool, true, false, if◌then◌else◌, MatchOption, IsTrue, List, [], ◌∷◌, length, map, slice_get, slice_index_or, Some, None, refl, sym, ◌∙◌, ap, subst, arith}
+use Rattle.std.specs.List.{filter, list_any}
 use Rattle.std.proofs.lemmas.Bool.{both_ways}
 use Rattle.std.proofs.lemmas.List.{length-append}
+use Rattle.std.proofs.lemmas.List.Sums.{length-filter}
 use Rattle.mc_box.specs.BoxEvents.{is_command}
 use Rattle.mc_box.specs.Boxes.{BoxState}
 use Rattle.mc_box.specs.declared.event.Event.{Event}
@@ -52,11 +53,20 @@ all_events : (log : List Claimed) → length (events_that (λ (e : Event). true)
 all_events [] = refl
 all_events (claimed ∷ log) = ap suc (all_events log)
 
+-- where some pass a test, one does
+one_passes : (test : Turn → Bool) (turns : List Turn) → filter test turns ≢ [] → IsTrue (list_any test turns)
+one_passes test [] some = absurd (some refl)
+one_passes test (turn ∷ turns) some = here_or_later (test turn) turn (filter test turns) (list_any test turns) (one_passes test turns) some
+  where
+    here_or_later : (here : Bool) (turn : Turn) (passed : List Turn) (later : Bool) → (passed ≢ [] → IsTrue later) → (if here then turn ∷ passed else passed) ≢ [] → IsTrue (here || later)
+    here_or_later true turn passed later behind some = refl
+    here_or_later false turn passed later behind some = behind some
+
 -- a box with a log has made a turn
-some_turns : (turns : List Turn) (log : List Claimed) (who : ℕ) → AreOwn turns who log → length log ≢ 0 → turns ≢ []
-some_turns turns log who own some none =
-    some (sym (all_events log)
-    ∙ (sym (own_count turns log who (λ (e : Event). true) own) ∙ ap (λ (l : List Turn). count_by (λ (turn : Turn). true && turn.who == who) l) none))
+own_turn : (turns : List Turn) (log : List Claimed) (who : ℕ) → AreOwn turns who log → length log ≢ 0 → IsTrue (list_any (λ turn. turn.who == who) turns)
+own_turn turns log who own some = one_passes (λ turn. turn.who == who) turns (λ none. some (
+    sym (all_events log)
+    ∙ (sym (own_count turns log who (λ (e : Event). true) own) ∙ (sym (length-filter (λ (turn : Turn). turn.who == who) turns) ∙ ap (λ (l : List Turn). length l) none))))
 
 -- one whose log begins by a stimulus has used a command
 some_command : (log : List Claimed) → length log ≢ 0 → BeginsByStimulus log → 0 < length (events_that is_command log)
@@ -89,7 +99,7 @@ moved retries old new turns log who b c end round is some works own account stim
     let long : length log ≢ 0 = λ none. some (round.turns ∙ (ap (λ (l : List Claimed). length l) (sym is) ∙ none)) in
     record {
       works = works;
-      made = some_turns turns log who own long;
+      made = own_turn turns log who own long;
       used = λ off waits.
           let all : log ≡ round.account.rest = is ∙ all_rest retries b c end round off in
           fewer (events_that is_command log) (stimuli_at new who) (stimuli_at old who) account.stimuli

@@ -1,5 +1,6 @@
 -- What a round of a team is.
-use Rattle.std.specs.Prelude.{◌≡◌, ◌≢◌, ◌+◌, ◌<◌, ◌≤◌, ◌++◌, ◌&&◌, ℕ, Bool, false, if◌then◌else◌, List, [], ◌∷◌, count_by, length, map, slice_get, slice_index_or, MatchOption, Option, None, Some}
+use Rattle.std.specs.Prelude.{◌≡◌, ◌≢◌, ◌+◌, ◌<◌, ◌≤◌, ◌++◌, ◌&&◌, ◌==◌, ℕ, Bool, false, if◌then◌else◌, List, [], ◌∷◌, count_by, length, map, slice_get, slice_index_or, IsTrue, MatchOption, Option, None, Some}
+use Rattle.std.specs.List.{list_any}
 use Rattle.mc_box.specs.BoxEvents.{turn_of}
 use Rattle.mc_box.specs.declared.event.Turn.{Turn}
 use Rattle.mc_box.specs.declared.limit.TheConstants.{SHIFT_LIMIT}
@@ -20,7 +21,7 @@ use Rattle.mc_worker.specs.declared.stop.Stop.TheVariants.{Rested, Spent, NoMemo
 -- a box that had work made a turn, and, where no retries were asked for and it had commands, used one up
 pub record HasMoved (retries : Bool) (old new : TeamState) (turns : List Turn) (who : ℕ) : Type 0 where
   pub works : HasTeamWork retries old who
-  pub made : turns ≢ []
+  pub made : IsTrue (list_any (λ turn. turn.who == who) turns)
   pub used : retries ≡ false → stimuli_at old who ≢ [] → length (stimuli_at new who) < length (stimuli_at old who)
 
 -- how a round ended for a box: without a stop exactly where it had no work; never for want of memory, nor at a signal that it can't take

@@ -1,11 +1,11 @@
 -- Rounds behind the commands.
-use Rattle.std.proofs.Common.{◌≡◌, ◌<◌, ◌≤◌, ◌++◌, ℕ, Bool, true, false, is_some, IsTrue, List, [], ◌∷◌, length, drop, take, count_by, ◌-◌, slice_index_or, Option, Some, None, length-append, refl, ap, sym, ◌∙◌, subst, arith}
-use Rattle.std.specs.List.{list_all}
+use Rattle.std.proofs.Common.{◌≡◌, ◌<◌, ◌≤◌, ◌++◌, ◌==◌, ℕ, Bool, true, false, is_some, IsTrue, List, [], ◌∷◌, length, drop, take, count_by, ◌-◌, slice_index_or, Option, Some, None, length-append, refl, ap, sym, ◌∙◌, subst, arith}
+use Rattle.std.specs.List.{list_all, list_any}
 use Rattle.std.specs.Option.{MatchOption}
 use Rattle.std.specs.List.{slice_get}
 use Rattle.std.proofs.Math.Seq.{drop-append_seam}
 use Rattle.std.proofs.lemmas.List.{append-nil, length-drop, nil_from_length, take_all}
-use Rattle.std.proofs.lemmas.Bool.{and_from, and_parts}
+use Rattle.std.proofs.lemmas.Bool.{and_from, and_parts, both_ways}
 use Rattle.mc_box.specs.BoxEvents.{is_take}
 use Rattle.mc_box.specs.BoxEvents.{is_enabled}
 use Rattle.mc_box.specs.declared.event.Event.{Event}
@@ -76,7 +76,7 @@ some_added before after made is off = some_by made refl
 pub idle_then : (a b : TeamState) (before after : List Turn) (last : Option (ℕ × ℕ)) → NoneLeft a → (p : PlaysOn false a b before after last) → p.made ≡ [] → IsIdleTeam a
 idle_then a b before after last none p nothing who inside works =
     let moved = p.round.moved (last_none false a b before after last none p) who inside works in
-    moved.made nothing
+    both_ways (list_any (λ (turn : Turn). turn.who == who) p.made) (ap (list_any (λ (turn : Turn). turn.who == who)) nothing) moved.made
 
 -- and left no box with work
 work_before : (a b : TeamState) (who : ℕ) → a.world ≡ b.world → shifts_at b who ≡ shifts_at a who → stimuli_at b who ≡ [] → HasTeamWork false b who → HasTeamWork false a who
