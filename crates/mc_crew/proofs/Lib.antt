@@ -27,3 +27,10 @@ mod SameTeams
 mod Seating
 mod TakenInboxes
 mod TakenLanes
+mod ChangedLists
+mod Swaps
+mod Reseats
+mod Exchanges
+mod TakenSeats
+mod BoardedCrews
+mod SameChannels

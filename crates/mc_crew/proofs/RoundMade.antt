@@ -112,7 +112,7 @@ listed_next found lanes ran new before after carried goes = record { goes_on = g
 -- ---- what the calls say, together
 
 -- the items of a vector of which others were written to a slice
-written : (seats : Vec Seat Global) (ran : List Seat) → length ran ≡ length seats.items → (with_items seats ran).items ≡ ran
+pub written : (seats : Vec Seat Global) (ran : List Seat) → length ran ≡ length seats.items → (with_items seats ran).items ≡ ran
 written seats ran long = with_items_is seats ran (long ∙ sym seats.ok.0)
 
 -- so it is where they were written twice

@@ -47,14 +47,14 @@ names_long seats who seat at =
     sym (length-map seat.worker.ins.items in_ring) ∙ ap (λ (l : List RingName). length l) (sym (at_some in_names_of seats who seat [] at))
 
 -- so each has as many as the layout says
-ends_long : (ends : List (List ℕ)) (old new : List Seat) → length new ≡ length old → ((who : ℕ) → in_names new who ≡ in_names old who)
+pub ends_long : (ends : List (List ℕ)) (old new : List Seat) → length new ≡ length old → ((who : ℕ) → in_names new who ≡ in_names old who)
     → ((who : ℕ) (seat : Seat) → slice_get old who ≡ Some seat → length seat.worker.ins.items ≡ length (of_box ends who)) → (who : ℕ) (seat : Seat) → slice_get new who ≡ Some seat → length seat.worker.ins.items ≡ length (of_box ends who)
 ends_long ends old new long ins was who seat at =
     let a = there_is old who (subst (λ (n : ℕ). who < n) long (slice_get_within new who seat at)) in
     names_long new who seat at ∙ (ap (λ (l : List RingName). length l) (ins who) ∙ (sym (names_long old who a.0 a.1) ∙ was who a.0 a.1))
 
 -- a place speaks of boxes by their numbers alone
-placed_by : (old new : List BoxState) (channels : List ChannelState) (ends : List (List ℕ)) (places : List (List (ℕ × ℕ))) (s : ℕ) → IsPlacedAt old channels ends places s → IsPlacedAt new channels ends places s
+pub placed_by : (old new : List BoxState) (channels : List ChannelState) (ends : List (List ℕ)) (places : List (List (ℕ × ℕ))) (s : ℕ) → IsPlacedAt old channels ends places s → IsPlacedAt new channels ends places s
 placed_by old new channels ends places s p = record { end = p.end; at = p.at; lane = p.lane }
 
 -- the boxes are laid out as before

@@ -1,4 +1,6 @@
 pub mod Crews
+pub mod Berths
+pub mod Boarded
 pub mod Rounds
 pub mod Claims
 pub mod Laws

@@ -3,15 +3,20 @@
 #![tactic(auto)]
 
 mod adding;
+mod boarding;
 mod crew;
 mod disbanding;
+mod exchanging;
+mod fitting;
 pub mod laws;
 pub mod limit;
 mod manning;
 mod round;
 
 pub use adding::add;
+pub use boarding::{board, leave};
 pub use crew::Crew;
 pub use disbanding::{Discharged, disband};
+pub use fitting::fits;
 pub use manning::man;
 pub use round::make_round;
