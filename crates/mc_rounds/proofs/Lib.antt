@@ -15,4 +15,6 @@ mod SettleEnds
 mod Shifters
 mod DrawsStop
 mod UsedUp
+mod AloneTurns
+mod AloneEnds
 pub mod TeamLogs

@@ -4,13 +4,13 @@ mod Counting
 mod DrawsEnd
 mod Dropping
 pub mod Endings
-mod Finds
+pub mod Finds
 pub mod ForEach
 pub mod Fronts
 pub mod Hears
 mod Kth
 pub mod LeftCommands
-mod Making
+pub mod Making
 pub mod Nexts
 pub mod OneSchedule
 pub mod Retries

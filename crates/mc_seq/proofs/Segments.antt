@@ -47,7 +47,7 @@ besides_none (turn ∷ turns) who all =
     ap (λ (b : Bool). cond (b && turn.who == who) (turn ∷ commands_of who turns) (commands_of who turns)) (no_command turn.event both.0) ∙ besides_none turns who both.1
 
 -- behind other turns they change nothing of the commands
-commands_before : (one two : List Turn) (who : ℕ) → all_besides two ≡ true → commands_of who (one ++ two) ≡ commands_of who one
+pub commands_before : (one two : List Turn) (who : ℕ) → all_besides two ≡ true → commands_of who (one ++ two) ≡ commands_of who one
 commands_before one two who all =
     filter-append (λ (turn : Turn). is_command turn.event && turn.who == who) one two
     ∙ (ap (λ (turns : List Turn). commands_of who one ++ turns) (besides_none two who all) ∙ append-nil (commands_of who one))

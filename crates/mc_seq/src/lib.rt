@@ -19,4 +19,6 @@ pub use commands::{Commands, all_commands, drop_command, next_command};
 pub use drawing::settle_one;
 pub use fault::{SettleFault, Stopped, StoppedBox};
 pub use plain::settle_plainly;
-pub use stopping::{Ending, answer};
+pub use retrying::retry_by_box;
+pub use stopping::{Ending, answer, heard_slot};
+pub use turns::make;

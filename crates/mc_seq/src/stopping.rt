@@ -38,6 +38,7 @@ pub enum Ending {
 }
 
 /// What a settle answers at its end: the world with its turns, or why it stopped, with the turns until then.
+#[inline]
 pub fn answer(settled: Settled, ending: Ending) -> Result<Settled, SettleFault>
     requires { IsInside settled.world ending }
     ensures { Answered settled ending result }
@@ -87,7 +88,7 @@ fn stop_at(settled: Settled, at: u32) -> Stopped
     Stopped { at, place, turns }
 }
 
-// The slot of a Hear.
+/// The slot of a Hear that ends its version.
 pub fn heard_slot(world: &World, turn: Turn) -> u32
     requires { IsTrue (ends_version world.now turn) }
     ensures { heard_slot world.now turn ≡ Some result }
