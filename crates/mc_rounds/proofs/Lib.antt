@@ -18,3 +18,5 @@ mod UsedUp
 mod AloneTurns
 mod AloneEnds
 pub mod TeamLogs
+mod BehindPlaces
+mod BehindTurns

@@ -1,4 +1,5 @@
 pub mod Alone
+pub mod Behind
 pub mod Frames
 pub mod Playing
 pub mod Settling

@@ -2,6 +2,7 @@
 #![tactic(auto)]
 
 mod alone;
+mod behind;
 pub mod limit;
 mod playing;
 mod resting;
