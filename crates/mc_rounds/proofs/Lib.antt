@@ -5,7 +5,6 @@ pub mod PlayedRounds
 pub mod GoingOn
 pub mod Retried
 pub mod AtLast
-pub mod NoRings
 pub mod Settled
 mod PartnerTable
 mod Rests
@@ -15,6 +14,9 @@ mod SettleEnds
 mod Shifters
 mod DrawsStop
 mod UsedUp
+mod KeptPlaces
+mod StandIns
+mod LeadOn
 mod AloneTurns
 mod AloneEnds
 pub mod TeamLogs

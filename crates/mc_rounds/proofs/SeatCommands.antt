@@ -3,6 +3,7 @@ use Rattle.std.proofs.Common.{◌≡◌, ◌≢◌, ◌<◌, ◌≤◌, ◌+◌,
 use Rattle.std.proofs.lemmas.Bool.{cases_eq, cases_lt, ne_eqb}
 use Rattle.std.proofs.lemmas.Option.{get_or_from_slice_get, slice_get-get_or}
 use Rattle.mc_box.specs.declared.event.Event.{Event}
+use Rattle.mc_crew.specs.Crews.{OthersIdle}
 use Rattle.mc_crew.specs.Rounds.{round_stops, stop_of, stops_from}
 use Rattle.mc_rounds.proofs.TurnKinds.{either_false}
 use Rattle.mc_rounds.specs.Playing.{has_commands}
@@ -11,6 +12,7 @@ use Rattle.mc_seats.specs.declared.seat.Seat.{Seat}
 use Rattle.mc_team.proofs.Lists.{there_is}
 use Rattle.mc_team.proofs.Rising.{listed_at, listed_last}
 use Rattle.mc_team.specs.Crews.{stimuli_of}
+use Rattle.mc_worker.specs.Rounds.{waiting_stimulus}
 use Rattle.mc_worker.specs.declared.stop.Stop.TheVariants.{VersionEnd}
 
 -- ---- commands
@@ -53,6 +55,58 @@ no_command [] who none = refl
 no_command (seat ∷ seats) zero none = let both = either_false (not (length seat.worker.stimuli.items == 0)) (has_commands seats) none in is_nil seat.worker.stimuli.items both.0
 no_command (seat ∷ seats) (suc who) none = let both = either_false (not (length seat.worker.stimuli.items == 0)) (has_commands seats) none in no_command seats who both.1
 
+-- ---- commands of listed boxes
+
+either : (a b : Bool) → b ≡ false → (a || b) ≡ true → a ≡ true
+either true b off is = refl
+either false b off is = cc
+
+-- another box than the last of a list is among those before it
+listed_rest : (who other : ℕ) (found : List ℕ) → who ≢ other → is_listed (found ++ who ∷ []) other ≡ true → is_listed found other ≡ true
+listed_rest who other found off on = either (is_listed found other) (who == other) (ne_eqb who other off) (sym (listed_last who other found) ∙ on)
+
+-- none of these boxes has a command
+abbrev pub NoneCommanded : List ℕ → List Seat → Type 0
+NoneCommanded listed seats = (who : ℕ) (seat : Seat) → is_listed listed who ≡ true → slice_get seats who ≡ Some seat → seat.worker.stimuli.items ≡ []
+
+-- one more that has none
+pub none_commanded_more : (listed : List ℕ) (seats : List Seat) (who : ℕ) (d : Seat) → NoneCommanded listed seats → not (length (get_or seats who d).worker.stimuli.items == 0) ≡ false → NoneCommanded (listed ++ who ∷ []) seats
+none_commanded_more listed seats who d none here other seat on at = elim (cases_eq who other) [
+  | inl same ↦
+      let one : slice_get seats who ≡ Some seat = ap (slice_get seats) same ∙ at in
+      let is : get_or seats who d ≡ seat = get_or_from_slice_get seats who seat d one in
+      ap (λ (s : Seat). s.worker.stimuli.items) (sym is) ∙ is_nil (get_or seats who d).worker.stimuli.items here
+  | inr off ↦ none other seat (listed_rest who other listed off on) at
+]
+
+-- a box that has one
+pub command_there : (seats : List Seat) (who : ℕ) (d : Seat) → who < length seats → not (length (get_or seats who d).worker.stimuli.items == 0) ≡ true → has_commands seats ≡ true
+command_there [] who d inside some = absurd (omega (arith, inside))
+command_there (seat ∷ seats) zero d inside some = ap (λ (b : Bool). b || has_commands seats) some
+command_there (seat ∷ seats) (suc who) d inside some = later (not (length seat.worker.stimuli.items == 0)) (command_there seats who d (omega (arith, inside)) some)
+  where
+    later : (b : Bool) → has_commands seats ≡ true → (b || has_commands seats) ≡ true
+    later true is = refl
+    later false is = is
+
+-- none has one
+no_commands : (seats : List Seat) → ((who : ℕ) (seat : Seat) → slice_get seats who ≡ Some seat → seat.worker.stimuli.items ≡ []) → has_commands seats ≡ false
+no_commands [] none = refl
+no_commands (seat ∷ seats) none =
+    ap (λ (events : List Event). not (length events == 0) || has_commands seats) (none 0 seat refl) ∙ no_commands seats (λ who one at. none (suc who) one at)
+
+-- where no listed box has one, none has: the others have no work
+pub none_listed : (seats : List Seat) (listed : List ℕ) → NoneCommanded listed seats → OthersIdle false seats listed → has_commands seats ≡ false
+none_listed seats listed none idle = no_commands seats (λ who seat at. by_list who seat (is_listed listed who) refl at)
+  where
+    idle_nil : (who : ℕ) (seat : Seat) (events : List Event) → seat.worker.stimuli.items ≡ events → is_listed listed who ≡ false → slice_get seats who ≡ Some seat → seat.worker.stimuli.items ≡ []
+    idle_nil who seat [] is off at = is
+    idle_nil who seat (event ∷ events) is off at = absurd (idle who seat at off (waiting_stimulus (λ nothing. let both : event ∷ events ≡ [] = sym is ∙ nothing in cc)))
+
+    by_list : (who : ℕ) (seat : Seat) (on : Bool) → is_listed listed who ≡ on → slice_get seats who ≡ Some seat → seat.worker.stimuli.items ≡ []
+    by_list who seat true on at = none who seat on at
+    by_list who seat false off at = idle_nil who seat seat.worker.stimuli.items refl off at
+
 -- ---- stops
 
 -- the stop of a box, by its number
@@ -89,13 +143,6 @@ none_at_more found seats who d none inside here other seat local on at = elim (c
       λ stop. here local (ap (λ (s : Seat). stop_of s.end) is ∙ stop)
   | inr off ↦ none other seat local (listed_rest who other found off on) at
 ]
-  where
-    either : (a b : Bool) → b ≡ false → (a || b) ≡ true → a ≡ true
-    either true b off is = refl
-    either false b off is = cc
-
-    listed_rest : (who other : ℕ) (found : List ℕ) → who ≢ other → is_listed (found ++ who ∷ []) other ≡ true → is_listed found other ≡ true
-    listed_rest who other found off on = either (is_listed found other) (who == other) (ne_eqb who other off) (sym (listed_last who other found) ∙ on)
 
 -- in the list of stops
 stop_by : (found : List ℕ) (seats : List Seat) (who local : ℕ) (seat : Seat) (listed : Bool) → is_listed found who ≡ listed → NoneAtLast found seats → slice_get seats who ≡ Some seat

@@ -1,10 +1,13 @@
 -- What a settle in rounds answers, by how its turns ended.
-use Rattle.std.proofs.Common.{◌≡◌, ℕ, List, Result, Ok, Err, IfOk, IfErr, ap, sym, ◌∙◌, subst}
+use Rattle.std.proofs.Common.{◌≡◌, ℕ, List, [], Option, Result, Ok, Err, IfOk, IfErr, ap, sym, ◌∙◌, subst}
 use Rattle.mc_box.specs.declared.event.Turn.{Turn}
 use Rattle.mc_crew.specs.Crews.{TeamState, new_team}
 use Rattle.mc_model.specs.Settles.{IsSettled, IsStopped}
 use Rattle.mc_model.specs.Sound.{IsSound}
 use Rattle.mc_model.specs.Worlds.{WorldState, place}
+use Rattle.mc_rounds.proofs.LeadOn.{given_batch}
+use Rattle.mc_rounds.proofs.Settled.{plays_from}
+use Rattle.mc_rounds.specs.Playing.{Plays, UsesUp}
 use Rattle.mc_rounds.specs.Settling.{EndsSettle, HasBatch}
 use Rattle.mc_rounds.specs.Stops.{Stops, StopsAtLast, StopsOnRing, StopsUnrested}
 use Rattle.mc_seq.proofs.Endings.{heard_inside, placed_same}
@@ -38,14 +41,15 @@ pub record EndsAs (world : WorldState) (batch : List Turn) (settled : Settled) (
   pub sound : IsSound world
   pub ended : EndsSettle world batch settled.turns.items settled.world ending
 
--- a team that was manned for a world, and then got a batch, ends as its turns do
-pub ends_as : (world given : WorldState) (batch : List Turn) (settled : Settled) (manned ready done : TeamState) (ending : Ending) → IsSound world → given ≡ world → manned ≡ new_team given → HasBatch manned.world batch ready
-    → ((start : WorldState) (commands : List Turn) → HasBatch start commands ready → EndsSettle start commands settled.turns.items done.world ending) → settled.world ≡ done.world → EndsAs world batch settled ending
-ends_as world given batch settled manned ready done ending sound same new has ends last = record {
+-- a team that was manned for a world, got a batch, and made its first turns, ends as the turns behind these do
+pub ends_as : (world given : WorldState) (batch before turns : List Turn) (settled : Settled) (manned ready used done : TeamState) (last : Option (ℕ × ℕ)) (ending : Ending) → IsSound world → given ≡ world → manned ≡ new_team given → HasBatch manned.world batch ready
+    → UsesUp ready used before turns last → before ≡ [] → ((start : WorldState) (commands : List Turn) (begun : TeamState) → HasBatch start commands begun → Plays begun used turns → EndsSettle start commands settled.turns.items done.world ending)
+    → settled.world ≡ done.world → EndsAs world batch settled ending
+ends_as world given batch before turns settled manned ready used done last ending sound same new has uses none ends is = record {
   sound = sound;
   ended =
-      subst (λ (w : WorldState). EndsSettle world batch settled.turns.items w ending) (sym last)
-      (ends world batch (subst (λ (w : WorldState). HasBatch w batch ready) (ap (λ (team : TeamState). team.world) new ∙ same) has));
+      subst (λ (w : WorldState). EndsSettle world batch settled.turns.items w ending) (sym is)
+      (ends world batch ready (given_batch world given batch manned ready same new has) (plays_from ready used before turns last uses none));
 }
 
 -- the slot at which a settle ended is one of the world's

@@ -6,9 +6,11 @@ mod behind;
 pub mod limit;
 mod playing;
 mod resting;
+mod settler;
 mod settling;
+mod standing_in;
 mod team;
 
 pub use alone::settle_alone;
-pub use settling::settle_rounds;
+pub use settler::{Settler, settle_rounds};
 pub use team::{RoundLog, Team};

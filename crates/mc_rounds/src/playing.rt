@@ -1,16 +1,14 @@
 // Rounds of a crew, one after another.
 
 ghost use Rattle.std.specs.Prelude.{◌≡◌, ◌≢◌, ℕ, length, Some, None, IfNone, IfOk, IfSome, OnOk, slice_index_or};
-ghost use Rattle.std.specs.List.{list_any};
 ghost use Rattle.mc_box.specs.BoxEvents.{is_shift};
-ghost use Rattle.mc_box.specs.LinkFree.{is_linking};
 ghost use Rattle.mc_crew.specs.Crews.{IsCrew, crew_state};
 ghost use Rattle.mc_crew.specs.Rounds.{round_stops, stop_of};
 ghost use Rattle.mc_laws.specs.Measures.{IsRingFree};
 ghost use Rattle.mc_rounds.specs.Playing.{GoesOn, NoneLeft, PlaysOn, UsesUp, has_commands, some_shift};
 ghost use Rattle.mc_seats.specs.Numbers.{Rises};
 
-use mc_box::{Change, Event, Turn};
+use mc_box::{Event, Turn};
 use mc_crew::{Crew, make_round};
 use mc_io::Gate;
 use mc_seats::Seat;
@@ -75,7 +73,7 @@ pub fn use_up<R: Threads + Sync, G: Gate + Sync>(
     ensures crew { OnOk result (IsCrew crew.new) }
     ensures used { IfOk result (UsesUp (crew_state crew.old) (crew_state crew.new) turns.old.items turns.new.items) }
 {
-    'rounds: while has_commands(&crew.seats) {
+    'rounds: while has_commands(crew) {
         let last = play(rt, gate, false, crew, turns)?;
         if last.is_some() {
             return Ok(last);
@@ -84,11 +82,17 @@ pub fn use_up<R: Threads + Sync, G: Gate + Sync>(
     Ok(None)
 }
 
-// Whether a command is left to some box.
-fn has_commands(seats: &[Seat]) -> bool
-    ensures { result ≡ has_commands seats.now }
+// Whether a command is left to some box. Only boxes that are listed may have one.
+fn has_commands(crew: &Crew) -> bool
+    requires { IsCrew crew.now }
+    ensures { result ≡ has_commands crew.now.seats.items }
 {
-    seats.iter().any(|seat| !seat.worker.stimuli.is_empty())
+    for who in &crew.listed {
+        if !crew.seats[*who as usize].worker.stimuli.is_empty() {
+            return true;
+        }
+    }
+    false
 }
 
 /// Rounds behind the commands, to the first in which a Shift comes, or until no box has work. Whether a Shift came. There
@@ -131,18 +135,4 @@ fn is_shift(event: Event) -> bool
     ensures { result ≡ is_shift event }
 {
     matches!(event, Event::Shift)
-}
-
-/// Whether some of these turns may link slots.
-pub fn links(turns: &[Turn]) -> bool
-    ensures { result ≡ list_any (λ turn. is_linking turn.event) turns.now }
-{
-    turns.iter().any(|turn| is_linking(turn.event))
-}
-
-// Whether an event may link slots.
-fn is_linking(event: Event) -> bool
-    ensures { result ≡ is_linking event }
-{
-    matches!(event, Event::Set(Change::Link(..)) | Event::Shift)
 }

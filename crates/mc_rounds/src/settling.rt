@@ -1,97 +1,29 @@
-// A settle in rounds.
+// The commands of a settle, and the rounds behind them.
 
-ghost use Rattle.std.specs.Prelude.{◌≡◌, ◌≤◌, ◌||◌, List, [], false, length, Some, IfErr, IfOk, OnOk, position};
-ghost use Rattle.std.specs.List.{list_any};
+ghost use Rattle.std.specs.Prelude.{◌≡◌, ◌≤◌, ◌||◌, List, length, Some, IfOk, MatchOption, OnOk, position};
 ghost use Rattle.mc_box.specs.BoxEvents.{is_enabled};
-ghost use Rattle.mc_box.specs.LinkFree.{is_linking};
 ghost use Rattle.mc_crew.specs.Crews.{IsCrew, TeamState, crew_state, new_team};
 ghost use Rattle.mc_crew.specs.declared.limit.TheConstants.{CREW_LIMIT};
-ghost use Rattle.mc_model.specs.Paths.{has_ring};
-ghost use Rattle.mc_model.specs.Settles.{IsSettled};
 ghost use Rattle.mc_model.specs.Shapes.{AreAllowed};
 ghost use Rattle.mc_model.specs.Worlds.{WorldState, number};
 ghost use Rattle.mc_rounds.specs.Frames.{FitsCrew};
 ghost use Rattle.mc_rounds.specs.Playing.{IsAtLast, NoneLeft, Plays, Retries};
 ghost use Rattle.mc_rounds.specs.Settling.{EndsSettle, HasBatch};
-ghost use Rattle.mc_rounds.specs.Stops.{Stops};
-ghost use Rattle.mc_rounds.specs.declared.limit.TheConstants.{BOX_LIMIT};
 ghost use Rattle.mc_model.specs.Sound.{IsSound};
 ghost use Rattle.mc_seq.specs.Restless.{IsFirstShifterOr};
 ghost use Rattle.mc_world.specs.Parts.{HasFrame, parts_state};
 
-use crate::playing::{has_shift, links, play, use_up};
+use crate::playing::{has_shift, play};
 use crate::resting::come_to_rest;
 use mc_box::{Event, Turn};
 use mc_crew::{Crew, add, disband, man};
 use mc_io::Gate;
 use mc_seats::Seat;
-use mc_seq::{Ending, SettleFault, answer, settle_one};
-use mc_text::Draws;
-use mc_world::{Parts, Settled, World};
+use mc_seq::Ending;
+use mc_world::{Parts, World};
 use std::alloc::{AllocError, Global};
 use std::mem;
 use std::thread::Threads;
-
-/// Settles a batch, with the boxes' turns in any order. Which interleaving of the boxes its turns are no clause tells: any
-/// settled segment may be the answer, and any turns that stop with their cause.
-///
-/// A batch that speaks to two boxes or more is settled in rounds, in which each box that has work runs on whatever thread
-/// is free. For the commands of a single box no thread pays: these are settled on the thread that calls.
-///
-/// The world allows each command, and has few boxes. It always ends: at rest, at a ring of links that the batch or a
-/// Shift left, at a box that has made all its Shifts and has one more enabled, or at a Hear of a descriptor that has
-/// the last version; or for want of memory.
-pub fn settle_rounds<R: Threads + Sync, G: Gate + Sync>(
-    rt: &R,
-    alloc: Global,
-    gate: &G,
-    world: World,
-    batch: &[Turn],
-) -> Result<Settled, SettleFault>
-    requires allowed { AreAllowed world batch.now }
-    requires few { length world.boxes ≤ BOX_LIMIT }
-    ensures settled { IfOk result (λ done. IsSettled world batch.now done.turns.items done.world) }
-    ensures stops { IfErr result (Stops world batch.now) }
-{
-    if speaks_to_two(batch) {
-        return settle_on_threads(rt, alloc, gate, world, batch);
-    }
-    let mut draws = Draws { state: 0 };
-    settle_one(alloc, world, batch, &mut draws)
-}
-
-// Whether these commands are for two boxes or more.
-fn speaks_to_two(batch: &[Turn]) -> bool {
-    match batch.first() {
-        Some(first) => batch.iter().any(|turn| turn.who != first.who),
-        None => false,
-    }
-}
-
-// The same in rounds. While commands are left, each round makes one of each box that has one. Behind them come rounds
-// until no box has work, and then one in which each retry that is owed comes first, once and again whenever a Shift came
-// since.
-fn settle_on_threads<R: Threads + Sync, G: Gate + Sync>(
-    rt: &R,
-    alloc: Global,
-    gate: &G,
-    world: World,
-    batch: &[Turn],
-) -> Result<Settled, SettleFault>
-    requires allowed { AreAllowed world batch.now }
-    requires few { length world.boxes ≤ BOX_LIMIT }
-    ensures settled { IfOk result (λ done. IsSettled world batch.now done.turns.items done.world) }
-    ensures stops { IfErr result (Stops world batch.now) }
-{
-    let linked = world.ring().is_some();
-    let mut frame = world.into_parts();
-    let mut crew = man_all(alloc, &mut frame)?;
-    enlist(&mut crew, batch)?;
-    let mut turns = Vec::new(alloc);
-    let ending = settle(rt, alloc, gate, &frame, linked, &mut crew, &mut turns)?;
-    let world = dismiss(alloc, frame, crew)?;
-    answer(Settled { world, turns }, ending)
-}
 
 // A crew of the boxes, channels and lanes of these parts, which keep the tables.
 pub(crate) fn man_all(alloc: Global, frame: &mut Parts) -> Result<Crew, AllocError>
@@ -122,8 +54,8 @@ pub(crate) fn dismiss(alloc: Global, frame: Parts, crew: Crew) -> Result<World, 
     World::from_parts(alloc, frame)
 }
 
-// Adds the commands of a batch.
-fn enlist(crew: &mut Crew, batch: &[Turn]) -> Result<(), AllocError>
+/// Adds the commands of a batch.
+pub fn enlist(crew: &mut Crew, batch: &[Turn]) -> Result<(), AllocError>
     requires crew { IsCrew crew.old }
     requires allowed { AreAllowed (crew_state crew.old).world batch.now }
     requires new { crew_state crew.old ≡ new_team (crew_state crew.old).world }
@@ -137,37 +69,29 @@ fn enlist(crew: &mut Crew, batch: &[Turn]) -> Result<(), AllocError>
     Ok(())
 }
 
-// Makes all the turns of a settle.
-fn settle<R: Threads + Sync, G: Gate + Sync>(
+/// The end of a settle behind its commands, or where a box stopped at a last version: in rounds, until no box has work, and
+/// then one in which each retry that is owed comes first, once and again whenever a Shift came since.
+pub fn end_in_rounds<R: Threads + Sync, G: Gate + Sync>(
     rt: &R,
     alloc: Global,
     gate: &G,
     frame: &Parts,
-    linked: bool,
+    last: Option<(u32, u8)>,
     crew: &mut Crew,
     turns: &mut Vec<Turn>,
 ) -> Result<Ending, AllocError>
     requires crew { IsCrew crew.old }
     requires frame { FitsCrew frame.now crew.old }
-    requires none_yet { turns.old.items ≡ [] }
-    requires free { linked ≡ false → has_ring (crew_state crew.old).world ≡ false }
+    requires last { MatchOption last (NoneLeft (crew_state crew.old)) (IsAtLast (crew_state crew.old)) }
     ensures crew { OnOk result (IsCrew crew.new) }
-    ensures frame { OnOk result (FitsCrew frame.now crew.new) }
-    ensures ended { IfOk result (λ ending. (world : WorldState) (batch : List Turn) → HasBatch world batch (crew_state crew.old)
+    ensures ended { IfOk result (λ ending. (world : WorldState) (batch : List Turn) (start : TeamState)
+        → HasBatch world batch start → Plays start (crew_state crew.old) turns.old.items
         → EndsSettle world batch turns.new.items (crew_state crew.new).world ending) }
 {
-    if let Some((who, local)) = use_up(rt, gate, crew, turns)? {
-        return Ok(Ending::LastVersion(number(frame, crew, who, local)));
+    match last {
+        Some((who, local)) => Ok(Ending::LastVersion(number(frame, crew, who, local))),
+        None => finish(rt, alloc, gate, frame, crew, turns),
     }
-    let linked = links_since(linked, turns);
-    finish(rt, alloc, gate, frame, linked, crew, turns)
-}
-
-// Whether slots may have been linked before these turns, or in them.
-fn links_since(linked: bool, turns: &[Turn]) -> bool
-    ensures { result ≡ (linked || list_any (λ turn. is_linking turn.event) turns.now) }
-{
-    linked || links(turns)
 }
 
 // The number of a slot that is at its last version.
@@ -189,21 +113,20 @@ fn finish<R: Threads + Sync, G: Gate + Sync>(
     alloc: Global,
     gate: &G,
     frame: &Parts,
-    linked: bool,
     crew: &mut Crew,
     turns: &mut Vec<Turn>,
 ) -> Result<Ending, AllocError>
     requires crew { IsCrew crew.old }
     requires frame { FitsCrew frame.now crew.old }
     requires used_up { NoneLeft (crew_state crew.old) }
-    requires free { linked ≡ false → has_ring (crew_state crew.old).world ≡ false }
     ensures crew { OnOk result (IsCrew crew.new) }
     ensures frame { OnOk result (FitsCrew frame.now crew.new) }
     ensures ended { IfOk result (λ ending. (world : WorldState) (batch : List Turn) (start : TeamState)
         → HasBatch world batch start → Plays start (crew_state crew.old) turns.old.items
         → EndsSettle world batch turns.new.items (crew_state crew.new).world ending) }
 {
-    let mut linked = linked;
+    // Slots may have been linked before the commands, and by them.
+    let mut linked = true;
     let mut due = true;
     'rests: loop {
         let rest = come_to_rest(rt, alloc, gate, frame, linked, crew, turns)?;

@@ -23,8 +23,8 @@ use crate::stop::Stop;
 use mc_box::Turn;
 use mc_io::Gate;
 use mc_path::paths;
+use mc_rounds::Settler;
 use mc_rounds::limit::BOX_LIMIT;
-use mc_rounds::settle_rounds;
 use mc_script::{Batch, JournalLine};
 use mc_seq::{SettleFault, Stopped, StoppedBox, settle_one};
 use mc_text::{Draws, Names};
@@ -89,6 +89,7 @@ impl Progress {
         rt: &R,
         alloc: Global,
         gate: &G,
+        settler: &mut Settler,
         report: Report,
         names: &Names,
         number: u32,
@@ -107,7 +108,7 @@ impl Progress {
         world.keeps();
         let boxes = names.box_count();
         prove!(boxes <= BOX_LIMIT);
-        match settle_batch(rt, alloc, gate, world, batch, &mut draws) {
+        match settle_batch(rt, alloc, gate, settler, world, batch, &mut draws) {
             Ok(settled) => {
                 log(&settled.turns, &mut journal)?;
                 let views = paths(alloc, &settled.world)?;
@@ -145,6 +146,7 @@ fn settle_batch<R: Threads + Sync, G: Gate + Sync>(
     rt: &R,
     alloc: Global,
     gate: &G,
+    settler: &mut Settler,
     world: World,
     batch: &[Turn],
     draws: &mut Option<Draws>,
@@ -159,7 +161,7 @@ fn settle_batch<R: Threads + Sync, G: Gate + Sync>(
 {
     match draws {
         Some(draws) => settle_one(alloc, world, batch, draws),
-        None => settle_rounds(rt, alloc, gate, world, batch),
+        None => settler.settle(rt, alloc, gate, world, batch),
     }
 }
 
@@ -267,10 +269,20 @@ pub fn run_script<R: Threads + Sync, G: Gate + Sync>(
     world.keeps();
     let opening = print_opening(alloc, report, &world)?;
     let mut progress = Progress::new(alloc, world, draws, opening);
+    let mut settler = Settler::new();
     for index in 0..batches.len() {
         let batch = &batches[index];
         let number = (index + 1) as u32;
-        match progress.settle(rt, alloc, gate, report, names, number, &batch.turns)? {
+        match progress.settle(
+            rt,
+            alloc,
+            gate,
+            &mut settler,
+            report,
+            names,
+            number,
+            &batch.turns,
+        )? {
             Outcome::Settled(next) => progress = next,
             Outcome::Stopped(run) => return Ok(run),
         }

@@ -1,7 +1,6 @@
-use Rattle.std.proofs.Common.{false, sym, ◌∙◌, ap}
+use Rattle.std.proofs.Common.{false, sym, ◌∙◌}
 use Rattle.mc_crew.specs.Crews.{crew_state}
 use Rattle.mc_rounds.proofs.PlayedRounds.{begins, goes_on, used_all, used_to_last, uses_some}
-use Rattle.mc_rounds.specs.Playing.{has_commands}
 use Rattle.mc_rounds.proofs.playing.use_up.Goals as goal
 
 pub rounds-init : goal.rounds-init
@@ -17,7 +16,7 @@ returns-then-is_some-clause-used g c =
 pub rounds-smaller : goal.rounds-smaller
 rounds-smaller g c =
     uses_some c.rounds.crew c.play.new.crew c.rounds.turns.items c.play.new.turns.items c.in_ok-last.last c.rounds.invariant.crew c.in_ok-last.ensures.played (sym c.is_some.ensures ∙ c.if-is_some.false)
-    (ap has_commands (sym c.deref.ensures.value) ∙ (sym c.has_commands.ensures ∙ c.rounds-test.true))
+    (sym c.has_commands.ensures ∙ c.rounds-test.true)
 
 pub rounds-preserved : goal.rounds-preserved
 rounds-preserved g c = record {
@@ -27,4 +26,4 @@ rounds-preserved g c = record {
 
 pub returns-clause-used : goal.returns-clause-used
 returns-clause-used g c = used_all (crew_state c.args.crew.now) c.rounds.crew c.args.turns.now.items c.rounds.turns.items c.rounds.invariant.played
-    (ap has_commands (sym c.deref.ensures.value) ∙ (sym c.has_commands.ensures ∙ c.rounds-test.false))
+    (sym c.has_commands.ensures ∙ c.rounds-test.false)
