@@ -72,14 +72,18 @@ class Runner:
         self.input.write(text)
         self.input.flush()
 
-    def run(self, words, environment=None, descriptors=()):
+    def run(self, words, environment=None, descriptors=(), redirected=None):
+        """Runs it with these words, and, if need be, with descriptors that it inherits, and redirected as a shell does it."""
         for file in (self.input, self.output, self.error):
             file.seek(0)
         self.output.truncate()
         self.error.truncate()
+        command = [self.program, *words]
+        if redirected:
+            command = ['bash', '-c', 'exec "$@" ' + redirected, 'bash', *command]
         start = time.monotonic()
-        process = subprocess.Popen([self.program, *words], stdin=self.input, stdout=self.output, stderr=self.error,
-                                   env=environment, pass_fds=descriptors)
+        process = subprocess.Popen(command, stdin=self.input, stdout=self.output, stderr=self.error, env=environment,
+                                   pass_fds=descriptors)
         ends = os.pidfd_open(process.pid)
         in_time = select.select([ends], [], [], self.seconds)[0]
         os.close(ends)
