@@ -272,29 +272,53 @@ fn a_first_pair_of_dashes_says_nothing(rt: HostRuntime) -> Result<(), Fail> {
     Ok(())
 }
 
-#[test]
-fn the_second_read_fails(rt: HostRuntime) -> Result<(), Fail> {
-    let alloc = rt.alloc();
-    let bytes = Vec::from_slice(alloc, PHONES.as_bytes())?;
-    let mut source = MemSource::new(bytes, 64, vec![in alloc; 2]?);
-    let (done, written) = run(&rt, alloc, &mut source, 64, Vec::new(alloc))?;
-    is_equal(&rt, &done.status, &4);
-    assert!(rt; written.is_empty());
-    Ok(())
+// A call by draws on two phones of which one calls the other: the source gives 64 bytes a call and fails at these, the sink
+// takes 10 and fails at those.
+fn call_that_fails<R: Threads + Sync>(
+    rt: &R,
+    alloc: Global,
+    reads: Vec<u64>,
+    writes: Vec<u64>,
+) -> Result<(Done, Vec<u8>), AllocError> {
+    let mut bytes = Vec::from_slice(alloc, PHONES.as_bytes())?;
+    bytes.extend_from_slice(b"set alice a open\nset bob a hold\nsettle\n")?;
+    let mut source = MemSource::new(bytes, 64, reads);
+    call(rt, alloc, &["one", "0"], &mut source, 10, writes)
 }
 
 #[test]
-fn the_second_write_fails(rt: HostRuntime) -> Result<(), Fail> {
+fn a_failed_read_prints_nothing(rt: HostRuntime) -> Result<(), Fail> {
     let alloc = rt.alloc();
-    let mut bytes = Vec::from_slice(alloc, PHONES.as_bytes())?;
-    bytes.extend_from_slice(b"set alice a open\nset bob a hold\nsettle\n")?;
-    let mut source = MemSource::new(bytes, 64, Vec::new(alloc));
-    let words = ["one", "0"];
-    let (done, written) = call(&rt, alloc, &words, &mut source, 10, vec![in alloc; 2]?)?;
-    is_equal(&rt, &done.status, &5);
-    is_equal(&rt, &done.due, &0);
-    is_equal(&rt, &done.journal.len(), &7);
-    is_equal(&rt, &written.as_slice(), &b"settle 1\np".as_slice());
+    for number in [1, 2, 3, 4] {
+        let reads = vec![in alloc; number]?;
+        let (done, written) = call_that_fails(&rt, alloc, reads, Vec::new(alloc))?;
+        is_equal(&rt, &done.status, &4);
+        assert!(rt; written.is_empty());
+    }
+    Ok(())
+}
+
+// Which call of the sink fails, the status, and how many bytes are written. There are nine calls.
+const FAILED_WRITES: [(u64, u8, usize); 5] = [
+    (1, 5, 0),
+    (2, 5, 10),
+    (5, 5, 40),
+    (9, 5, 80),
+    (10, 0, 88),
+];
+
+#[test]
+fn a_failed_write_leaves_a_beginning(rt: HostRuntime) -> Result<(), Fail> {
+    let alloc = rt.alloc();
+    for (number, status, length) in FAILED_WRITES {
+        let writes = vec![in alloc; number]?;
+        let (done, written) = call_that_fails(&rt, alloc, Vec::new(alloc), writes)?;
+        is_equal(&rt, &done.status, &status);
+        is_equal(&rt, &done.due, &0);
+        is_equal(&rt, &done.journal.len(), &7);
+        is_equal(&rt, &written.len(), &length);
+        assert!(rt; FLOWING.as_bytes().starts_with(&written));
+    }
     Ok(())
 }
 
