@@ -257,14 +257,15 @@ fn pick(sitting: &Sitting, draws: &mut Draws) -> Option<Turn>
     ))
 }
 
-// A draw modulo a count. Few are counted as a rule, and a remainder by a constant takes no division.
+// A draw modulo a count. One or two are counted as a rule, and a remainder by a constant takes no division.
 fn modulo(draw: u32, count: u64) -> u64
     requires { 0 < count }
     ensures { result ≡ draw % count }
 {
+    if count <= 2 {
+        return u64::from(draw % 2) * (count - 1);
+    }
     match count {
-        1 => 0,
-        2 => u64::from(draw % 2),
         3 => u64::from(draw % 3),
         4 => u64::from(draw % 4),
         _ => short_modulo(draw, count),

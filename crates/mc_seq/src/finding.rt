@@ -90,6 +90,7 @@ fn kth_command(left: &Commands, k: u64) -> Turn
 }
 
 // The k-th Take.
+#[inline(always)]
 fn kth_take(world: &World, k: u64) -> Turn
     requires { k < length (all_takes world.now) }
     ensures { slice_get (all_takes world.now) k ≡ Some result }
