@@ -99,12 +99,12 @@ fn change_box(worker: &mut Worker, part: &mut MediaBox)
     ensures part { part.new ≡ worker.old.part }
 {
     mem::swap(&mut worker.part, part);
-    forget(&mut worker.stimuli);
+    empty(&mut worker.stimuli);
     worker.shifts = 0;
 }
 
 // Takes all commands off a list.
-fn forget(commands: &mut Lane<Event>)
+fn empty(commands: &mut Lane<Event>)
     ensures { commands.new.items ≡ [] }
 {
     while let Some(_command) = commands.pop() {}

@@ -11,7 +11,7 @@ use mc_seats::Seat;
 use mc_worker::Places;
 
 /// Whether a crew's seats are laid out for these channels, and these boxes have their places in them. It compares.
-pub fn fits(crew: &Crew, boxes: &[MediaBox], channels: &[Channel]) -> bool
+pub fn has_seats_for(crew: &Crew, boxes: &[MediaBox], channels: &[Channel]) -> bool
     ensures { IsTrue result ↔ ((crew.now.channels.items ≡ channels.now) × FitSeats crew.now.seats.items boxes.now) }
 {
     are_same_channels(&crew.channels, channels) && fit_seats(&crew.seats, boxes)

@@ -17,6 +17,6 @@ pub use adding::add;
 pub use boarding::{board, leave};
 pub use crew::Crew;
 pub use disbanding::{Discharged, disband};
-pub use fitting::fits;
+pub use fitting::has_seats_for;
 pub use manning::man;
 pub use round::make_round;

@@ -12,7 +12,7 @@ use Rattle.mc_model.specs.Worlds.{WorldState, place}
 use Rattle.mc_rounds.proofs.BehindPlaces.{place_stays}
 use Rattle.mc_rounds.proofs.Plays.{commands_both, count_both}
 use Rattle.mc_rounds.proofs.TurnKinds.{either_false}
-use Rattle.mc_rounds.specs.Behind.{IsBoxBehind, IsFaultBehind, IsStopBehind, LeadsTo}
+use Rattle.mc_rounds.specs.Behind.{IsBoxBehind, IsFaultBehind, IsStopBehind, BeginsSettle}
 use Rattle.mc_rounds.specs.Playing.{some_shift}
 use Rattle.mc_rounds.specs.Stops.{Stops, StopsAtLast, StopsOnRing, StopsUnrested}
 use Rattle.mc_seq.proofs.Runs.{run-append}
@@ -36,11 +36,11 @@ run_parts (turn ∷ one) two world last goes =
     (rest.0, ap (option_and_then (λ (next : WorldState). run next one)) first.1 ∙ rest.1, rest.2)
 
 -- turns behind others lead on from where these led
-runs_behind : (start world last : WorldState) (batch before turns : List Turn) → LeadsTo start batch before world → run world turns ≡ Some last → run start (before ++ turns) ≡ Some last
+runs_behind : (start world last : WorldState) (batch before turns : List Turn) → BeginsSettle start batch before world → run world turns ≡ Some last → run start (before ++ turns) ≡ Some last
 runs_behind start world last batch before turns leads goes = run-append before turns start world leads.runs ∙ goes
 
 -- behind the commands of a batch, with none among them, they use it up
-used_behind : (start world : WorldState) (batch before turns : List Turn) → LeadsTo start batch before world → UseUp [] turns → UseUp batch (before ++ turns)
+used_behind : (start world : WorldState) (batch before turns : List Turn) → BeginsSettle start batch before world → UseUp [] turns → UseUp batch (before ++ turns)
 used_behind start world batch before turns leads none who =
     commands_both who before turns ∙ (ap (λ (t : List Turn). commands_of who before ++ t) (none who) ∙ (append-nil (commands_of who before) ∙ leads.used_up who))
 
@@ -56,7 +56,7 @@ resting_by : (world : WorldState) → IsTrue (rests world) → Resting world
 resting_by world is = let both = rests_parts (is_quiet world) (can_shift world) is in record { quiet = both.0; no_shift = both.1 }
 
 -- what settles no commands behind turns that used a batch up settles that batch
-pub settled_behind : (start world last : WorldState) (batch before turns all : List Turn) → LeadsTo start batch before world → IsSettled world [] turns last → all ≡ before ++ turns → IsSettled start batch all last
+pub settled_behind : (start world last : WorldState) (batch before turns all : List Turn) → BeginsSettle start batch before world → IsSettled world [] turns last → all ≡ before ++ turns → IsSettled start batch all last
 settled_behind start world last batch before turns all leads settled are =
     let moment : ℕ = settled.moment in
     let begun : List Turn = take moment turns in
@@ -80,7 +80,7 @@ none_used : (world last : WorldState) (turns : List Turn) → IsStopped world []
 none_used world last turns stopped who = none_taken (length (commands_of who turns)) (commands_of who turns) (stopped.commands who)
 
 -- behind those that used a batch up they stopped within that batch
-stopped_behind : (start world last : WorldState) (batch before turns : List Turn) → LeadsTo start batch before world → IsStopped world [] turns last → IsStopped start batch (before ++ turns) last
+stopped_behind : (start world last : WorldState) (batch before turns : List Turn) → BeginsSettle start batch before world → IsStopped world [] turns last → IsStopped start batch (before ++ turns) last
 stopped_behind start world last batch before turns leads stopped = record {
   runs = runs_behind start world last batch before turns leads stopped.runs;
   commands = λ who.
@@ -107,7 +107,7 @@ unshifted (turn ∷ turns) who none =
     not_counted (is_shift turn.event) (turn.who == who) (count_by (is_shift_of who) (turn ∷ turns)) (count_by (is_shift_of who) turns) (sum_by-cons (λ (t : Turn). cond (is_shift_of who t) 1 0) turn turns) parts.0 (unshifted turns who parts.1)
 
 -- so the box that made all its Shifts behind them made all its Shifts
-restless_behind : (start world last : WorldState) (batch before turns : List Turn) (at : ℕ) → LeadsTo start batch before world → IsRestless turns last at → IsRestless (before ++ turns) last at
+restless_behind : (start world last : WorldState) (batch before turns : List Turn) (at : ℕ) → BeginsSettle start batch before world → IsRestless turns last at → IsRestless (before ++ turns) last at
 restless_behind start world last batch before turns at leads restless = record {
   quiet = restless.quiet;
   no_ring = restless.no_ring;
@@ -126,7 +126,7 @@ no_version_end : (world : WorldState) (turns : List Turn) (at : ℕ) → StopsAt
 no_version_end world turns at stops = nothing_next (length (commands_of stops.meets.turn.who turns)) stops.meets.turn stops.meets.next
 
 -- a ring that is left behind them is left of the batch
-ring_behind : (start world : WorldState) (batch before turns : List Turn) (at : ℕ) → LeadsTo start batch before world → StopsOnRing world [] turns at → StopsOnRing start batch (before ++ turns) at
+ring_behind : (start world : WorldState) (batch before turns : List Turn) (at : ℕ) → BeginsSettle start batch before world → StopsOnRing world [] turns at → StopsOnRing start batch (before ++ turns) at
 ring_behind start world batch before turns at leads stops = record {
   last = stops.last;
   stopped = stopped_behind start world stops.last batch before turns leads stops.stopped;
@@ -135,7 +135,7 @@ ring_behind start world batch before turns at leads stops = record {
 }
 
 -- and so is a box that doesn't come to rest
-unrested_behind : (start world : WorldState) (batch before turns : List Turn) (at : ℕ) → LeadsTo start batch before world → StopsUnrested world [] turns at → StopsUnrested start batch (before ++ turns) at
+unrested_behind : (start world : WorldState) (batch before turns : List Turn) (at : ℕ) → BeginsSettle start batch before world → StopsUnrested world [] turns at → StopsUnrested start batch (before ++ turns) at
 unrested_behind start world batch before turns at leads stops = record {
   last = stops.last;
   stopped = stopped_behind start world stops.last batch before turns leads stops.stopped;
@@ -144,26 +144,26 @@ unrested_behind start world batch before turns at leads stops = record {
 }
 
 -- a slot that is told has the place that it had before them
-placed_behind : (start world : WorldState) (batch before : List Turn) (old new : Stopped) → LeadsTo start batch before world → IsStopBehind before old new → IsPlaced world old → IsPlaced start new
+placed_behind : (start world : WorldState) (batch before : List Turn) (old new : Stopped) → BeginsSettle start batch before world → IsStopBehind before old new → IsPlaced world old → IsPlaced start new
 placed_behind start world batch before old new leads behind placed =
     behind.place_is ∙ (placed ∙ (place_stays start world before old.at leads.runs ∙ ap (place start) (sym behind.at_is)))
 
 -- ---- faults
 
-ring_told : (start world : WorldState) (batch before : List Turn) (old new : Stopped) → LeadsTo start batch before world → IsStopBehind before old new → Stops world [] (Ring old) → Stops start batch (Ring new)
+ring_told : (start world : WorldState) (batch before : List Turn) (old new : Stopped) → BeginsSettle start batch before world → IsStopBehind before old new → Stops world [] (Ring old) → Stops start batch (Ring new)
 ring_told start world batch before old new leads behind stops = (
   subst (λ (a : ℕ). StopsOnRing start batch new.turns.items a) (sym behind.at_is)
       (subst (λ (t : List Turn). StopsOnRing start batch t old.at) (sym behind.turns_are) (ring_behind start world batch before old.turns.items old.at leads stops.0)),
   placed_behind start world batch before old new leads behind stops.1,
 )
 
-restless_told : (start world : WorldState) (batch before : List Turn) (old new : StoppedBox) → LeadsTo start batch before world → IsBoxBehind before old new → Stops world [] (Restless old) → Stops start batch (Restless new)
+restless_told : (start world : WorldState) (batch before : List Turn) (old new : StoppedBox) → BeginsSettle start batch before world → IsBoxBehind before old new → Stops world [] (Restless old) → Stops start batch (Restless new)
 restless_told start world batch before old new leads behind stops =
     subst (λ (a : ℕ). StopsUnrested start batch new.turns.items a) (sym behind.at_is)
     (subst (λ (t : List Turn). StopsUnrested start batch t old.at) (sym behind.turns_are) (unrested_behind start world batch before old.turns.items old.at leads stops))
 
 -- what stops no commands behind turns that used a batch up stops that batch
-pub stops_behind : (old new : SettleFault) (start world : WorldState) (batch before : List Turn) → LeadsTo start batch before world → Stops world [] old → IsFaultBehind before old new → Stops start batch new
+pub stops_behind : (old new : SettleFault) (start world : WorldState) (batch before : List Turn) → BeginsSettle start batch before world → Stops world [] old → IsFaultBehind before old new → Stops start batch new
 stops_behind (VersionEnd old) new start world batch before leads stops behind = absurd (no_version_end world old.turns.items old.at stops.0)
 stops_behind (Ring old) (VersionEnd new) start world batch before leads stops behind = absurd behind
 stops_behind (Ring old) (Ring new) start world batch before leads stops behind = ring_told start world batch before old new leads behind stops

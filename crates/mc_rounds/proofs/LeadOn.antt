@@ -7,7 +7,7 @@ use Rattle.mc_crew.specs.Crews.{TeamState, new_team}
 use Rattle.mc_model.specs.Settles.{IsSettled, commands_of}
 use Rattle.mc_model.specs.Steps.{run}
 use Rattle.mc_model.specs.Worlds.{WorldState}
-use Rattle.mc_rounds.specs.Behind.{LeadsTo}
+use Rattle.mc_rounds.specs.Behind.{BeginsSettle}
 use Rattle.mc_rounds.specs.Playing.{IsAtLast, NoneLeft, Plays, some_shift}
 use Rattle.mc_rounds.specs.Settling.{HasBatch}
 use Rattle.mc_rounds.specs.Stops.{Stops}
@@ -22,7 +22,7 @@ used_batch world start used batch turns has plays none who =
     ∙ (ap (λ (events : List Event). commands_of who turns ++ map (turn_of who) events) (sym (none who)) ∙ (plays.commands who ∙ has.commands who))
 
 -- so where they have no Shift the settle may go on from there
-pub leads_on : (world last : WorldState) (start used : TeamState) (batch turns : List Turn) → HasBatch world batch start → Plays start used turns → NoneLeft used → some_shift turns ≡ false → last ≡ used.world → LeadsTo world batch turns last
+pub leads_on : (world last : WorldState) (start used : TeamState) (batch turns : List Turn) → HasBatch world batch start → Plays start used turns → NoneLeft used → some_shift turns ≡ false → last ≡ used.world → BeginsSettle world batch turns last
 leads_on world last start used batch turns has plays none off same = record {
   runs = ap (λ (w : WorldState). run w turns) (sym has.same) ∙ (plays.runs ∙ ap Some (sym same));
   used_up = used_batch world start used batch turns has plays none;
@@ -38,13 +38,13 @@ pub none_at_last : (team : TeamState) (last : Option (ℕ × ℕ)) → last ≡ 
 none_at_last team last is ended = subst (λ (o : Option (ℕ × ℕ)). MatchOption o (NoneLeft team) (IsAtLast team)) is ended
 
 -- so what goes on from there settles the batch
-pub settles_on : (result : Result Settled SettleFault) (start last : WorldState) (batch turns : List Turn) → LeadsTo start batch turns last
-    → IfOk result (λ done. (begun : WorldState) (commands : List Turn) → LeadsTo begun commands turns last → IsSettled begun commands done.turns.items done.world) → IfOk result (λ done. IsSettled start batch done.turns.items done.world)
+pub settles_on : (result : Result Settled SettleFault) (start last : WorldState) (batch turns : List Turn) → BeginsSettle start batch turns last
+    → IfOk result (λ done. (begun : WorldState) (commands : List Turn) → BeginsSettle begun commands turns last → IsSettled begun commands done.turns.items done.world) → IfOk result (λ done. IsSettled start batch done.turns.items done.world)
 settles_on (Ok done) start last batch turns leads settles = settles start batch leads
 settles_on (Err fault) start last batch turns leads settles = tt
 
 -- or stops it
-pub stops_on : (result : Result Settled SettleFault) (start last : WorldState) (batch turns : List Turn) → LeadsTo start batch turns last
-    → IfErr result (λ fault. (begun : WorldState) (commands : List Turn) → LeadsTo begun commands turns last → Stops begun commands fault) → IfErr result (Stops start batch)
+pub stops_on : (result : Result Settled SettleFault) (start last : WorldState) (batch turns : List Turn) → BeginsSettle start batch turns last
+    → IfErr result (λ fault. (begun : WorldState) (commands : List Turn) → BeginsSettle begun commands turns last → Stops begun commands fault) → IfErr result (Stops start batch)
 stops_on (Ok done) start last batch turns leads stops = tt
 stops_on (Err fault) start last batch turns leads stops = stops start batch leads

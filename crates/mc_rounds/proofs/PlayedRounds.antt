@@ -10,7 +10,7 @@ use Rattle.mc_crew.specs.declared.crew.Crew.{Crew}
 use Rattle.mc_laws.proofs.ShapesKept.{run_keeps_shape}
 use Rattle.mc_rounds.proofs.Plays.{fewer_commands, plays_both, plays_none}
 use Rattle.mc_rounds.proofs.SeatCommands.{no_command, some_command}
-use Rattle.mc_rounds.specs.Playing.{IsAtLast, Plays, PlaysOn, PlaysRound, UsesUp, commands_left, has_commands}
+use Rattle.mc_rounds.specs.Playing.{IsAtLast, Plays, PlaysOn, PlaysRound, UsesUp, command_total, has_commands}
 use Rattle.mc_seats.specs.declared.seat.Seat.{Seat}
 use Rattle.mc_team.specs.Carries.{AreReady}
 use Rattle.mc_team.specs.Crews.{shifts_of}
@@ -118,7 +118,7 @@ none_of (Some at) is = absurd cc
 
 -- while commands are left a round that stops at no last version uses some up
 pub uses_some : (a b : Crew) (before after : List Turn) (last : Option (ℕ × ℕ)) → IsCrew a → PlaysOn false (crew_state a) (crew_state b) before after last → is_some last ≡ false → has_commands a.seats.items ≡ true
-    → commands_left (crew_state b) < commands_left (crew_state a)
+    → command_total (crew_state b) < command_total (crew_state a)
 uses_some a b before after last is played none some =
     let has = some_command a.seats.items some in
     let below : has.who < length (crew_state a).world.boxes = let inside = has.inside in omega (arith, length-map a.seats.items (λ (seat : Seat). seat.worker.part)) in

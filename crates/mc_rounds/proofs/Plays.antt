@@ -11,7 +11,7 @@ use Rattle.mc_box.specs.declared.limit.TheConstants.{SHIFT_LIMIT}
 use Rattle.mc_crew.specs.Crews.{TeamState, shifts_at, stimuli_at}
 use Rattle.mc_laws.proofs.Sums.{total_le}
 use Rattle.mc_model.specs.Settles.{commands_of, is_shift_of}
-use Rattle.mc_rounds.specs.Playing.{NoneLeft, Plays, commands_left, shifts_left, some_shift}
+use Rattle.mc_rounds.specs.Playing.{NoneLeft, Plays, command_total, spare_shifts, some_shift}
 use Rattle.mc_seq.proofs.Runs.{run-append}
 use Rattle.mc_turn.specs.Sums.{total}
 
@@ -87,9 +87,9 @@ total_less f g (suc k) s inside less one = elim (cases_eq s k) [
 
 -- as many boxes in each world
 pub fewer_commands : (old new : TeamState) (made : List Turn) (who : ℕ) → Plays old new made → length new.world.boxes ≡ length old.world.boxes → who < length old.world.boxes
-    → length (stimuli_at new who) < length (stimuli_at old who) → commands_left new < commands_left old
+    → length (stimuli_at new who) < length (stimuli_at old who) → command_total new < command_total old
 fewer_commands old new made who p count inside less =
-    subst (λ (n : ℕ). total (λ (k : ℕ). length (stimuli_at new k)) n < commands_left old) (sym count)
+    subst (λ (n : ℕ). total (λ (k : ℕ). length (stimuli_at new k)) n < command_total old) (sym count)
     (total_less (λ (k : ℕ). length (stimuli_at new k)) (λ (k : ℕ). length (stimuli_at old k)) (length old.world.boxes) who inside (λ k below. no_more old new made k p) less)
 
 -- ---- Shifts
@@ -99,9 +99,9 @@ shift_less : (old new count limit : ℕ) → new ≡ old + count → new ≤ lim
 shift_less old new count limit is few = omega arith
 
 -- no round leaves more Shifts to make
-pub no_more_shifts : (old new : TeamState) (made : List Turn) → Plays old new made → length new.world.boxes ≡ length old.world.boxes → shifts_left new ≤ shifts_left old
+pub no_more_shifts : (old new : TeamState) (made : List Turn) → Plays old new made → length new.world.boxes ≡ length old.world.boxes → spare_shifts new ≤ spare_shifts old
 no_more_shifts old new made p count =
-    subst (λ (n : ℕ). total (λ (k : ℕ). SHIFT_LIMIT - shifts_at new k) n ≤ shifts_left old) (sym count)
+    subst (λ (n : ℕ). total (λ (k : ℕ). SHIFT_LIMIT - shifts_at new k) n ≤ spare_shifts old) (sym count)
     (total_le (λ (k : ℕ). SHIFT_LIMIT - shifts_at new k) (λ (k : ℕ). SHIFT_LIMIT - shifts_at old k) (length old.world.boxes)
     (λ k below. shift_less (shifts_at old k) (shifts_at new k) (count_by (is_shift_of k) made) SHIFT_LIMIT (p.shifts k) (p.few_shifts k)))
 

@@ -20,7 +20,7 @@ use Rattle.mc_rounds.proofs.PlayedRounds.{PlaysBehind, begins, behind_both, same
 use Rattle.mc_rounds.proofs.Plays.{no_more_shifts, shift_there, total_less}
 use Rattle.mc_rounds.proofs.TurnKinds.{both_take, takes_besides}
 use Rattle.mc_rounds.specs.Frames.{FitsCrew}
-use Rattle.mc_rounds.specs.Playing.{ComesToRest, GoesOn, NoneLeft, Plays, all_take, shifts_left, some_shift}
+use Rattle.mc_rounds.specs.Playing.{RestsInRounds, GoesOn, NoneLeft, Plays, all_take, spare_shifts, some_shift}
 use Rattle.mc_seats.specs.declared.seat.Seat.{Seat}
 use Rattle.mc_team.specs.Crews.{shifts_of}
 use Rattle.mc_turn.specs.Sums.{total}
@@ -70,7 +70,7 @@ shifter_inside seats who some = elim (cases_lt who (length seats)) [
 ]
 
 -- each Shift leaves fewer to come
-pub fewer_shifts : (a b : Crew) (made : List Turn) → IsCrew a → Plays (crew_state a) (crew_state b) made → some_shift made ≡ true → shifts_left (crew_state b) < shifts_left (crew_state a)
+pub fewer_shifts : (a b : Crew) (made : List Turn) → IsCrew a → Plays (crew_state a) (crew_state b) made → some_shift made ≡ true → spare_shifts (crew_state b) < spare_shifts (crew_state a)
 fewer_shifts a b made is p some =
     let shift = shift_there made some in
     let one = shift.some in
@@ -79,7 +79,7 @@ fewer_shifts a b made is p some =
     let few = p.few_shifts shift.who in
     let there = shifter_inside b.seats.items shift.who (omega (arith, counted, one)) in
     let inside : shift.who < length (crew_state a).world.boxes = omega (arith, there, count, length-map b.seats.items (λ (seat : Seat). seat.worker.part)) in
-    subst (λ (n : ℕ). total (λ (k : ℕ). SHIFT_LIMIT - shifts_at (crew_state b) k) n < shifts_left (crew_state a)) (sym count)
+    subst (λ (n : ℕ). total (λ (k : ℕ). SHIFT_LIMIT - shifts_at (crew_state b) k) n < spare_shifts (crew_state a)) (sym count)
     (total_less (λ (k : ℕ). SHIFT_LIMIT - shifts_at (crew_state b) k) (λ (k : ℕ). SHIFT_LIMIT - shifts_at (crew_state a) k) (length (crew_state a).world.boxes) shift.who inside
     (λ k below. let more = p.shifts k in omega (arith, more)) (omega (arith, counted, one, few)))
 
@@ -89,7 +89,7 @@ fewer_shifts a b made is p some =
 pub record CameOn (old new : TeamState) (before after : List Turn) (shifted : Bool) : Type 0 where
   pub behind : PlaysBehind old new before after
   pub none : NoneLeft new
-  pub fewer : MatchBool shifted (shifts_left new < shifts_left old) (IsTrue (all_take behind.made))
+  pub fewer : MatchBool shifted (spare_shifts new < spare_shifts old) (IsTrue (all_take behind.made))
 
 -- none at all
 pub rests_begin : (crew : Crew) (turns : List Turn) → IsCrew crew → NoneLeft (crew_state crew) → CameOn (crew_state crew) (crew_state crew) turns turns false
@@ -114,7 +114,7 @@ rests_more a b c first before after shifted is_a is_b so_far q = record {
 -- ---- how they end
 
 -- at a ring
-pub rests_on_ring : (a b : TeamState) (first before : List Turn) (ring : Option ℕ) (shifted : Bool) → CameOn a b first before shifted → IsLeastOnRing b.world ring → is_some ring ≡ true → ComesToRest a b first before ring shifted
+pub rests_on_ring : (a b : TeamState) (first before : List Turn) (ring : Option ℕ) (shifted : Bool) → CameOn a b first before shifted → IsLeastOnRing b.world ring → is_some ring ≡ true → RestsInRounds a b first before ring shifted
 rests_on_ring a b first before None shifted so_far least some = absurd cc
 rests_on_ring a b first before (Some at) shifted so_far least some = record {
   made = so_far.behind.made;
@@ -132,7 +132,7 @@ fewer_still a b c false one two less take fewer = both_take one two fewer take
 
 -- or with a stretch in which no Shift came
 pub rests_idle : (a : TeamState) (b c : Crew) (first before after : List Turn) (ring : Option ℕ) (shifted : Bool) → IsCrew b → CameOn a (crew_state b) first before shifted → GoesOn (crew_state b) (crew_state c) before after false
-    → IsRingFree (crew_state b).world → is_some ring ≡ false → ComesToRest a (crew_state c) first after ring shifted
+    → IsRingFree (crew_state b).world → is_some ring ≡ false → RestsInRounds a (crew_state c) first after ring shifted
 rests_idle a b c first before after (Some at) shifted is so_far q free none = absurd cc
 rests_idle a b c first before after None shifted is so_far q free none =
     let behind = both_behind a (crew_state b) (crew_state c) first before after false so_far.behind q in
@@ -142,6 +142,6 @@ rests_idle a b c first before after None shifted is so_far q free none =
       plays = behind.plays;
       none = q.none;
       ended = (q.ended.0, rest_keeps_rings (crew_state b).world (crew_state c).world q.made free.sound (takes_besides q.made q.ended.1) q.plays.runs ∙ free.free);
-      fewer = fewer_still (shifts_left a) (shifts_left (crew_state b)) (shifts_left (crew_state c)) shifted so_far.behind.made q.made
+      fewer = fewer_still (spare_shifts a) (spare_shifts (crew_state b)) (spare_shifts (crew_state c)) shifted so_far.behind.made q.made
           (no_more_shifts (crew_state b) (crew_state c) q.made q.plays (same_count b (crew_state c) q.made is q.plays)) q.ended.1 so_far.fewer;
     }

@@ -22,7 +22,7 @@ use Rattle.mc_rounds.proofs.PlayedRounds.{same_count}
 use Rattle.mc_rounds.proofs.Plays.{count_both, no_more_shifts, none_made, none_still, plays_both}
 use Rattle.mc_rounds.proofs.Rests.{fewer_shifts}
 use Rattle.mc_rounds.proofs.TurnKinds.{either_false, takes_and_retries, takes_besides, takes_unretried}
-use Rattle.mc_rounds.specs.Playing.{ComesToRest, IsIdleTeam, NoneLeft, Plays, PlaysOn, Retries, all_take, shifts_left, some_shift}
+use Rattle.mc_rounds.specs.Playing.{RestsInRounds, IsIdleTeam, NoneLeft, Plays, PlaysOn, Retries, all_take, spare_shifts, some_shift}
 use Rattle.mc_rounds.specs.Settling.{EndsSettle, HasBatch, rests_left}
 use Rattle.mc_seq.proofs.Runs.{run-append}
 use Rattle.mc_seq.proofs.Segments.{Resting, settled_at}
@@ -127,14 +127,14 @@ plays_more : (a b c : TeamState) (before after made : List Turn) → Plays a b b
 plays_more a b c before after made p q added = subst (λ (t : List Turn). Plays a c t) (sym added) (plays_both a b c before made p q)
 
 -- retries are due behind it if they were, or if a Shift came
-pub went_rest : (first b c : TeamState) (begun before after : List Turn) (due shifted : Bool) (ring : Option ℕ) → HasWentOn first begun b before due → ComesToRest b c before after ring shifted → HasWentOn first begun c after (due || shifted)
+pub went_rest : (first b c : TeamState) (begun before after : List Turn) (due shifted : Bool) (ring : Option ℕ) → HasWentOn first begun b before due → RestsInRounds b c before after ring shifted → HasWentOn first begun c after (due || shifted)
 went_rest first b c begun before after due shifted ring went came world batch start has p =
     let so_far = went world batch start has p in
     record {
       plays = plays_more start b c before after came.made so_far.plays came.plays came.added;
       retried = λ is.
           let both = either_false due shifted is in
-          rested_more world b.world c.world batch before after came.made (so_far.retried both.0) came.added came.plays.runs (MatchBool-at_false (shifts_left c < shifts_left b) (IsTrue (all_take came.made)) both.1 came.fewer);
+          rested_more world b.world c.world batch before after came.made (so_far.retried both.0) came.added came.plays.runs (MatchBool-at_false (spare_shifts c < spare_shifts b) (IsTrue (all_take came.made)) both.1 came.fewer);
     }
 
 -- ---- its ends
@@ -196,14 +196,14 @@ went_retry first d crew begun after last due shifted is went none idle unshifted
         goes = retries.plays.runs;
         used = used_up world batch after start (crew_state crew) has so_far.plays none;
         counts = retries.retried;
-        besides = MatchBool-at_false (shifts_left d < shifts_left (crew_state crew)) (IsTrue (list_all (λ (turn : Turn). takes_or_retries turn.event) retries.made)) off retries.kinds;
+        besides = MatchBool-at_false (spare_shifts d < spare_shifts (crew_state crew)) (IsTrue (list_all (λ (turn : Turn). takes_or_retries turn.event) retries.made)) off retries.kinds;
       };
     }
 
 -- it makes no ring where no Shift came in it
 pub free_retry : (crew : Crew) (d : TeamState) (before after : List Turn) (shifted : Bool) → IsCrew crew → Retries (crew_state crew) d before after shifted → has_ring (crew_state crew).world ≡ false → shifted ≡ false → has_ring d.world ≡ false
 free_retry crew d before after shifted is retries free off =
-    let besides = MatchBool-at_false (shifts_left d < shifts_left (crew_state crew)) (IsTrue (list_all (λ (turn : Turn). takes_or_retries turn.event) retries.made)) off retries.kinds in
+    let besides = MatchBool-at_false (spare_shifts d < spare_shifts (crew_state crew)) (IsTrue (list_all (λ (turn : Turn). takes_or_retries turn.event) retries.made)) off retries.kinds in
     rest_keeps_rings (crew_state crew).world d.world retries.made is.stand.sound besides retries.plays.runs ∙ free
 
 -- what a round of retries is
@@ -244,12 +244,12 @@ less_or true new old P m no_more = m
 less_or false new old P m no_more = no_more
 
 -- so with each round of retries fewer rests are left
-pub rests_fewer : (b c d : Crew) (before after last : List Turn) (due shifted again : Bool) (ring : Option ℕ) → IsCrew b → IsCrew c → ComesToRest (crew_state b) (crew_state c) before after ring shifted → Retries (crew_state c) (crew_state d) after last again
+pub rests_fewer : (b c d : Crew) (before after last : List Turn) (due shifted again : Bool) (ring : Option ℕ) → IsCrew b → IsCrew c → RestsInRounds (crew_state b) (crew_state c) before after ring shifted → Retries (crew_state c) (crew_state d) after last again
     → (due || shifted) ≡ true → rests_left (crew_state d) again < rests_left (crew_state b) due
 rests_fewer b c d before after last due shifted again ring is_b is_c came retries on =
-    less_by (shifts_left (crew_state b)) (shifts_left (crew_state c)) (shifts_left (crew_state d)) due shifted again on
-    (less_or shifted (shifts_left (crew_state c)) (shifts_left (crew_state b)) (IsTrue (all_take came.made)) came.fewer (no_more_shifts (crew_state b) (crew_state c) came.made came.plays (same_count b (crew_state c) came.made is_b came.plays)))
-    (less_or again (shifts_left (crew_state d)) (shifts_left (crew_state c)) (IsTrue (list_all (λ turn. takes_or_retries turn.event) retries.made)) retries.kinds
+    less_by (spare_shifts (crew_state b)) (spare_shifts (crew_state c)) (spare_shifts (crew_state d)) due shifted again on
+    (less_or shifted (spare_shifts (crew_state c)) (spare_shifts (crew_state b)) (IsTrue (all_take came.made)) came.fewer (no_more_shifts (crew_state b) (crew_state c) came.made came.plays (same_count b (crew_state c) came.made is_b came.plays)))
+    (less_or again (spare_shifts (crew_state d)) (spare_shifts (crew_state c)) (IsTrue (list_all (λ turn. takes_or_retries turn.event) retries.made)) retries.kinds
     (no_more_shifts (crew_state c) (crew_state d) retries.made retries.plays (same_count c (crew_state d) retries.made is_c retries.plays)))
 
 -- a rest without a ring

@@ -11,7 +11,7 @@ use Rattle.mc_seq.specs.declared.fault.StoppedBox.{StoppedBox}
 use Rattle.mc_settings.specs.Batches.{UseUp}
 
 -- turns that lead from a world to another, use a batch up, and have no Shift
-pub record LeadsTo (start : WorldState) (batch turns : List Turn) (world : WorldState) : Type 0 where
+pub record BeginsSettle (start : WorldState) (batch turns : List Turn) (world : WorldState) : Type 0 where
   pub runs : run start turns ≡ Some world
   pub used_up : UseUp batch turns
   pub no_shift : some_shift turns ≡ false

@@ -54,8 +54,8 @@ abbrev pub has_commands : List Seat → Bool
 has_commands seats = list_any (λ seat. not (length seat.worker.stimuli.items == 0)) seats
 
 -- how many are left
-abbrev pub commands_left : TeamState → ℕ
-commands_left team = total (λ who. length (stimuli_at team who)) (length team.world.boxes)
+abbrev pub command_total : TeamState → ℕ
+command_total team = total (λ who. length (stimuli_at team who)) (length team.world.boxes)
 
 -- rounds that used them up, or went on until a box stopped at its last version
 pub record UsesUp (old new : TeamState) (before after : List Turn) (last : Option (ℕ × ℕ)) : Type 0 where
@@ -82,8 +82,8 @@ abbrev pub some_shift : List Turn → Bool
 some_shift turns = list_any (λ turn. is_shift turn.event) turns
 
 -- how many Shifts the boxes may still make
-abbrev pub shifts_left : TeamState → ℕ
-shifts_left team = total (λ who. SHIFT_LIMIT - shifts_at team who) (length team.world.boxes)
+abbrev pub spare_shifts : TeamState → ℕ
+spare_shifts team = total (λ who. SHIFT_LIMIT - shifts_at team who) (length team.world.boxes)
 
 -- rounds of Takes and Shifts, to the first with a Shift, or until no box has work
 pub record GoesOn (old new : TeamState) (before after : List Turn) (shifted : Bool) : Type 0 where
@@ -95,13 +95,13 @@ pub record GoesOn (old new : TeamState) (before after : List Turn) (shifted : Bo
   pub ended : MatchBool shifted (IsTrue (some_shift made)) (IsIdleTeam new × IsTrue (all_take made))
 
 -- rounds of Takes and Shifts to a ring, or until no box has work, and there is no ring; and whether a Shift came
-pub record ComesToRest (old new : TeamState) (before after : List Turn) (ring : Option ℕ) (shifted : Bool) : Type 0 where
+pub record RestsInRounds (old new : TeamState) (before after : List Turn) (ring : Option ℕ) (shifted : Bool) : Type 0 where
   pub made : List Turn
   pub added : after ≡ before ++ made
   pub plays : Plays old new made
   pub none : NoneLeft new
   pub ended : MatchOption ring (IsIdleTeam new × (has_ring new.world ≡ false)) (λ at. IsFirstOnRing new.world at)
-  pub fewer : MatchBool shifted (shifts_left new < shifts_left old) (IsTrue (all_take made))
+  pub fewer : MatchBool shifted (spare_shifts new < spare_shifts old) (IsTrue (all_take made))
 
 -- ---- retries
 
@@ -112,4 +112,4 @@ pub record Retries (old new : TeamState) (before after : List Turn) (shifted : B
   pub plays : Plays old new made
   pub none : NoneLeft new
   pub retried : (who local : ℕ) → count_by (is_retry_of who local) made ≡ (if world_owes old.world who local then 1 else 0)
-  pub kinds : MatchBool shifted (shifts_left new < shifts_left old) (IsTrue (list_all (λ turn. takes_or_retries turn.event) made))
+  pub kinds : MatchBool shifted (spare_shifts new < spare_shifts old) (IsTrue (list_all (λ turn. takes_or_retries turn.event) made))

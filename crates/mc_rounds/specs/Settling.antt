@@ -7,7 +7,7 @@ use Rattle.mc_model.specs.Rings.{IsFirstOnRing}
 use Rattle.mc_model.specs.Settles.{IsSettled, IsStopped, MeetsLast, commands_of}
 use Rattle.mc_model.specs.Sound.{IsSound}
 use Rattle.mc_model.specs.Worlds.{WorldState}
-use Rattle.mc_rounds.specs.Playing.{shifts_left}
+use Rattle.mc_rounds.specs.Playing.{spare_shifts}
 use Rattle.mc_seq.specs.Restless.{IsRestless}
 use Rattle.mc_seq.specs.declared.stopping.Ending.{Ending}
 use Rattle.mc_seq.specs.declared.stopping.Ending.TheVariants.{LastVersion, Rest, Restless, Ring}
@@ -29,4 +29,4 @@ EndsSettle world batch turns last (LastVersion at) = IsStopped world batch turns
 
 -- what may still come: two for each Shift, and one where a round of retries is due
 abbrev pub rests_left : TeamState → Bool → ℕ
-rests_left team due = 2 * shifts_left team + (if due then 1 else 0)
+rests_left team due = 2 * spare_shifts team + (if due then 1 else 0)

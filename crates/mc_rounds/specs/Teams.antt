@@ -15,8 +15,8 @@ use Rattle.mc_worker.specs.declared.logged.Logged.{Logged}
 -- ---- the turns, as the logs have them
 
 -- what stands in each log
-abbrev pub lists_of : List (Vec Logged Global) → List (List Logged)
-lists_of logs = map (λ (log : Vec Logged Global). log.items) logs
+abbrev pub log_lists : List (Vec Logged Global) → List (List Logged)
+log_lists logs = map (λ (log : Vec Logged Global). log.items) logs
 
 -- the turn of an entry of these logs
 abbrev pub logged_turn : List (List Logged) → Key → Turn
@@ -32,7 +32,7 @@ pub record AreTurnsOf (logs : List (List Logged)) (turns : List Turn) : Type 0 w
 
 -- the turns of a round are those of its logs
 abbrev pub AreLogged : RoundLog → Type 0
-AreLogged log = AreTurnsOf (lists_of log.logs.items) log.turns.items
+AreLogged log = AreTurnsOf (log_lists log.logs.items) log.turns.items
 
 -- ---- the logs, as seats keep them
 

@@ -3,7 +3,7 @@
 ghost use Rattle.std.specs.Prelude.{◌≡◌, ◌++◌, List, [], IfErr, IfOk};
 ghost use Rattle.mc_model.specs.Settles.{IsSettled};
 ghost use Rattle.mc_model.specs.Worlds.{WorldState};
-ghost use Rattle.mc_rounds.specs.Behind.{IsBoxBehind, IsFaultBehind, IsStopBehind, LeadsTo};
+ghost use Rattle.mc_rounds.specs.Behind.{IsBoxBehind, IsFaultBehind, IsStopBehind, BeginsSettle};
 ghost use Rattle.mc_rounds.specs.Stops.{Stops};
 
 use crate::alone::settle_alone;
@@ -18,9 +18,9 @@ use std::alloc::{AllocError, Global};
 /// It ends as the settle of the whole batch: at rest, at a ring, or at a box that has made all its Shifts and has one
 /// more enabled; or for want of memory, also for all the turns in one list.
 pub fn settle_behind(alloc: Global, world: World, before: Vec<Turn>) -> Result<Settled, SettleFault>
-    ensures settled { IfOk result (λ done. (start : WorldState) (batch : List Turn) → LeadsTo start batch before.items world
+    ensures settled { IfOk result (λ done. (start : WorldState) (batch : List Turn) → BeginsSettle start batch before.items world
         → IsSettled start batch done.turns.items done.world) }
-    ensures stops { IfErr result (λ fault. (start : WorldState) (batch : List Turn) → LeadsTo start batch before.items world
+    ensures stops { IfErr result (λ fault. (start : WorldState) (batch : List Turn) → BeginsSettle start batch before.items world
         → Stops start batch fault) }
 {
     match settle_rest(alloc, world) {

@@ -5,7 +5,7 @@ ghost use Rattle.mc_crew.specs.Crews.{IsCrew, crew_state};
 ghost use Rattle.mc_model.specs.Paths.{has_ring, partner_of};
 ghost use Rattle.mc_model.specs.Worlds.{slot_count};
 ghost use Rattle.mc_model.specs.Rings.{IsLeastOnRing};
-ghost use Rattle.mc_rounds.specs.Playing.{ComesToRest, NoneLeft};
+ghost use Rattle.mc_rounds.specs.Playing.{RestsInRounds, NoneLeft};
 ghost use Rattle.mc_rounds.specs.Frames.{FitsCrew};
 ghost use Rattle.mc_world.specs.Rings.{ArePartners};
 
@@ -28,7 +28,7 @@ pub struct Rest {
 
 /// Rounds behind the commands, to a ring, or until no box has work. There may be a ring before them only where slots were
 /// linked.
-pub fn come_to_rest<R: Threads + Sync, G: Gate + Sync>(
+pub fn rest_in_rounds<R: Threads + Sync, G: Gate + Sync>(
     rt: &R,
     alloc: Global,
     gate: &G,
@@ -43,7 +43,7 @@ pub fn come_to_rest<R: Threads + Sync, G: Gate + Sync>(
     requires free { linked ≡ false → has_ring (crew_state crew.old).world ≡ false }
     ensures crew { OnOk result (IsCrew crew.new) }
     ensures frame { OnOk result (FitsCrew frame.now crew.new) }
-    ensures came { IfOk result (λ rest. ComesToRest (crew_state crew.old) (crew_state crew.new)
+    ensures came { IfOk result (λ rest. RestsInRounds (crew_state crew.old) (crew_state crew.new)
         turns.old.items turns.new.items rest.ring rest.shifted) }
 {
     let mut linked = linked;

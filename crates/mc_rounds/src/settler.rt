@@ -19,7 +19,7 @@ use crate::playing::{has_shift, use_up};
 use crate::settling::{end_in_rounds, enlist};
 use crate::standing_in::man_anew;
 use mc_box::Turn;
-use mc_crew::{Crew, board, fits, leave};
+use mc_crew::{Crew, board, has_seats_for, leave};
 use mc_io::Gate;
 use mc_seats::limit::THREAD_SHARE;
 use mc_seq::{SettleFault, answer};
@@ -135,7 +135,7 @@ impl Settler {
         ensures fits { IfSome result (λ crew. FitSeats crew.seats.items frame.now.boxes.items) }
     {
         let crew = self.crew.take()?;
-        if fits(&crew, &frame.boxes, &frame.channels) {
+        if has_seats_for(&crew, &frame.boxes, &frame.channels) {
             return Some(crew);
         }
         None

@@ -14,7 +14,7 @@ ghost use Rattle.mc_seq.specs.Restless.{IsFirstShifterOr};
 ghost use Rattle.mc_world.specs.Parts.{HasFrame, parts_state};
 
 use crate::playing::{has_shift, play};
-use crate::resting::come_to_rest;
+use crate::resting::rest_in_rounds;
 use mc_box::{Event, Turn};
 use mc_crew::{Crew, add, disband, man};
 use mc_io::Gate;
@@ -129,7 +129,7 @@ fn finish<R: Threads + Sync, G: Gate + Sync>(
     let mut linked = true;
     let mut due = true;
     'rests: loop {
-        let rest = come_to_rest(rt, alloc, gate, frame, linked, crew, turns)?;
+        let rest = rest_in_rounds(rt, alloc, gate, frame, linked, crew, turns)?;
         if let Some(at) = rest.ring {
             return Ok(Ending::Ring(at));
         }

@@ -5,7 +5,7 @@ ghost use Rattle.mc_crew.specs.Crews.{new_team, with_command};
 ghost use Rattle.mc_crew.specs.Rounds.{IsTeamRound, round_stops, stop_of};
 ghost use Rattle.mc_crew.specs.declared.limit.TheConstants.{CREW_LIMIT};
 ghost use Rattle.mc_model.specs.Shapes.{is_allowed};
-ghost use Rattle.mc_rounds.specs.Teams.{AreLogged, lists_of, round_logs};
+ghost use Rattle.mc_rounds.specs.Teams.{AreLogged, log_lists, round_logs};
 ghost use Rattle.mc_seats.specs.Numbers.{Rises, is_listed};
 
 use crate::settling::{dismiss, man_all};
@@ -112,7 +112,7 @@ impl Team {
 fn logs_of(alloc: Global, seats: &[Seat], found: &[u32]) -> Result<Vec<Vec<Logged>>, AllocError>
     requires few { length seats.now ≤ CREW_LIMIT }
     requires found { Rises (length seats.now) found.now }
-    ensures { IfOk result (λ logs. lists_of logs.items ≡ round_logs found.now seats.now) }
+    ensures { IfOk result (λ logs. log_lists logs.items ≡ round_logs found.now seats.now) }
 {
     let mut logs = Vec::with_capacity(alloc, seats.len())?;
     for who in 0..seats.len() {

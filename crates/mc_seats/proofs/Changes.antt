@@ -5,7 +5,7 @@ use Rattle.std.proofs.lemmas.List.{drop_all, drop_more}
 use Rattle.std.proofs.lemmas.Option.{slice_get_within, slice_get-get_or}
 use Rattle.mc_seats.specs.Numbers.{Rises, RisesFrom, is_listed}
 use Rattle.mc_seats.specs.Parts.{AreRunPart, CanRunPart, ChangesPart}
-use Rattle.mc_seats.specs.Seats.{CanRun, ChangesListed, EachListed, IsRan}
+use Rattle.mc_seats.specs.Seats.{CanMakeRound, ChangesListed, EachListed, IsRan}
 use Rattle.mc_seats.specs.declared.seat.Seat.{Seat}
 use Rattle.mc_seats.proofs.Lists.{listed_first, listed_else, listed_more, listed_off, none_again, set_here, set_else, sooner}
 
@@ -56,7 +56,7 @@ whole_changed R listed old new p = record {
   each = λ who a b q r. subst (λ (n : ℕ). MatchBool (is_listed listed n) (R a b) (b ≡ a)) (zero-add who) (p.each who a b q r);
 }
 
-pub whole_can : (found : List ℕ) (seats : List Seat) → Rises (length seats) found → EachListed CanRun found seats → CanRunPart 0 found seats
+pub whole_can : (found : List ℕ) (seats : List Seat) → Rises (length seats) found → EachListed CanMakeRound found seats → CanRunPart 0 found seats
 whole_can found seats rises can = record {
   rises = subst (λ (n : ℕ). RisesFrom 0 n found) (sym (zero-add (length seats))) rises;
   ready = λ i seat on at. can i seat (ap (is_listed found) (sym (zero-add i)) ∙ on) at;
@@ -106,12 +106,12 @@ pub all_ran : (retries : Bool) (base i : ℕ) (found : List ℕ) (old now : List
 all_ran retries base i found old now past s = none_left retries base found old now (subst (λ (l : List ℕ). IsRunning retries base found l old now) (drop_all i found past) s)
 
 -- the box that comes next may run
-pub next_can : (base who i : ℕ) (rest : List ℕ) (now : List Seat) (a : Seat) → base + i ≡ who → CanRunPart base (who ∷ rest) now → slice_get now i ≡ Some a → CanRun a.worker
+pub next_can : (base who i : ℕ) (rest : List ℕ) (now : List Seat) (a : Seat) → base + i ≡ who → CanRunPart base (who ∷ rest) now → slice_get now i ≡ Some a → CanMakeRound a.worker
 next_can base who i rest now a number can here = can.ready i a (ap (is_listed (who ∷ rest)) number ∙ listed_first who rest) here
 
 -- the box at a place of the list may run, and when it has, the others are left
 pub runs_next : (retries : Bool) (base i : ℕ) (found : List ℕ) (old now : List Seat) (d : Seat) → i < length found → IsRunning retries base found (drop i found) old now
-    → CanRun (get_or now (get_or found i 0 - base) d).worker
+    → CanMakeRound (get_or now (get_or found i 0 - base) d).worker
 runs_next retries base i found old now d within s =
     let next = next_running retries base i found old now within s in
     let above : base ≤ get_or found i 0 = next.can.rises.0 in

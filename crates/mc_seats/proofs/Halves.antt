@@ -4,7 +4,7 @@ use Rattle.std.proofs.lemmas.Bool.{cases_lt}
 use Rattle.std.proofs.lemmas.Option.{slice_get_within}
 use Rattle.mc_seats.specs.Numbers.{RisesFrom, is_listed}
 use Rattle.mc_seats.specs.Parts.{CanRunPart, ChangesPart}
-use Rattle.mc_seats.specs.Seats.{CanRun}
+use Rattle.mc_seats.specs.Seats.{CanMakeRound}
 use Rattle.mc_seats.specs.declared.seat.Seat.{Seat}
 use Rattle.mc_seats.proofs.Lists.{back_rises, cut_above, cut_below, front_rises, get_before, get_behind, listed_above, listed_before, listed_behind, listed_below}
 

@@ -8,7 +8,7 @@ use Rattle.mc_box.specs.declared.limit.TheConstants.{SHIFT_LIMIT}
 use Rattle.mc_lane.specs.Queue.{Queue}
 use Rattle.mc_seats.specs.Numbers.{Rises, RisesFrom, is_listed}
 use Rattle.mc_seats.specs.Parts.{ChangesPart}
-use Rattle.mc_seats.specs.Seats.{AreLookedAt, CanRun, EachListed, HaveWork, IsLookedAt, cleared}
+use Rattle.mc_seats.specs.Seats.{AreLookedAt, CanMakeRound, EachListed, HaveWork, IsLookedAt, cleared}
 use Rattle.mc_seats.specs.declared.seat.Seat.{Seat}
 use Rattle.mc_worker.specs.Account.{IsWork}
 use Rattle.mc_worker.specs.Ready.{IsAllowed, IsReady, IsShaped}
@@ -144,7 +144,7 @@ are_looked_at retries listed old now found p = whole_changed IsLookedAt listed o
 
 -- ---- what was found may run
 
-begins : (old new : Seat) → IsLookedAt old new → CanRun new.worker
+begins : (old new : Seat) → IsLookedAt old new → CanMakeRound new.worker
 begins old new looked = record {
   ready = looked.ready;
   stamp = let at : new.worker.stamp ≡ 0 = ap (λ (s : Seat). s.worker.stamp) looked.kept in omega (arith, at);
@@ -153,7 +153,7 @@ begins old new looked = record {
 found_listed : (t : Bool) (P Q : Type 0) → t ≡ true → MatchBool t P Q → P
 found_listed t P Q on m = subst (λ (b : Bool). MatchBool b P Q) on m
 
-pub found_can : (retries : Bool) (listed found : List ℕ) (old new : List Seat) → HaveWork retries listed new found → AreLookedAt listed old new → EachListed CanRun found new
+pub found_can : (retries : Bool) (listed found : List ℕ) (old new : List Seat) → HaveWork retries listed new found → AreLookedAt listed old new → EachListed CanMakeRound found new
 found_can retries listed found old new work looked who b on at =
     let within : who < length new = slice_get_within new who b at in
     let count = looked.count in

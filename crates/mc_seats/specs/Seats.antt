@@ -44,7 +44,7 @@ HaveWork retries listed seats found = (who : ℕ) (seat : Seat) → slice_get se
 -- ---- a round
 
 -- a round may be made
-pub record CanRun (worker : Worker) : Type 0 where
+pub record CanMakeRound (worker : Worker) : Type 0 where
   pub ready : IsReady worker
   pub stamp : worker.stamp ≤ FIRST_STAMP_LIMIT
 

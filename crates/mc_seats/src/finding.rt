@@ -2,7 +2,7 @@
 
 ghost use Rattle.std.specs.Prelude.{◌≡◌, ◌+◌, ◌≤◌, ◌<◌, ◌++◌, [], ◌∷◌, length, if◌then◌else◌, vec_capacity, vec_len, MatchBool, OnErr, OnOk};
 ghost use Rattle.mc_seats.specs.Numbers.{Rises};
-ghost use Rattle.mc_seats.specs.Seats.{AreLookedAt, CanRun, EachListed, HaveWork, IsLookedAt};
+ghost use Rattle.mc_seats.specs.Seats.{AreLookedAt, CanMakeRound, EachListed, HaveWork, IsLookedAt};
 ghost use Rattle.mc_worker.specs.Ready.{IsReady};
 ghost use Rattle.mc_worker.specs.Rounds.{HasWaitingWork};
 
@@ -30,7 +30,7 @@ pub fn find_work(
     // Of the seats nothing else changes than what is said of those that are listed.
     ensures looked { OnOk result (AreLookedAt listed.now seats.old seats.new) }
     // So a round of those that were found can be made.
-    ensures can_run { OnOk result (EachListed CanRun found.new.items seats.new) }
+    ensures can_run { OnOk result (EachListed CanMakeRound found.new.items seats.new) }
     ensures refused { OnErr result ((seats.new ≡ seats.old) × (found.new.items ≡ [])) }
 {
     found.clear();

@@ -4,7 +4,7 @@ ghost use Rattle.std.specs.Prelude.{◌+◌, ◌<◌, length};
 ghost use Rattle.std.specs.Thread.{IsSync};
 ghost use Rattle.mc_seats.specs.Numbers.{Rises};
 ghost use Rattle.mc_seats.specs.Parts.{AreRunPart, CanRunPart};
-ghost use Rattle.mc_seats.specs.Seats.{AreRun, CanRun, EachListed, IsRan};
+ghost use Rattle.mc_seats.specs.Seats.{AreRun, CanMakeRound, EachListed, IsRan};
 
 use crate::limit::THREAD_SHARE;
 use crate::seat::Seat;
@@ -21,7 +21,7 @@ pub fn run_found<R: Threads + Sync, G: Gate + Sync>(
     found: &[u32],
 )
     requires rises { Rises (length seats.old) found.now }
-    requires can_run { EachListed CanRun found.now seats.old }
+    requires can_run { EachListed CanMakeRound found.now seats.old }
     ensures { AreRun retries found.now seats.old seats.new }
 {
     let at_once = two_have_commands(found, seats);
@@ -74,7 +74,7 @@ fn run_each<G: Gate>(gate: &G, retries: bool, found: &[u32], base: usize, seats:
 
 // One round of one box.
 fn run_seat<G: Gate>(gate: &G, retries: bool, seat: &mut Seat)
-    requires { CanRun seat.old.worker }
+    requires { CanMakeRound seat.old.worker }
     ensures { IsRan retries seat.old seat.new }
 {
     seat.end = Some(seat.worker.round(gate, retries));

@@ -1,13 +1,13 @@
 use Rattle.std.proofs.Common.{List, ℕ, sym, subst}
 use Rattle.std.proofs.lemmas.Result.{on_ok_weaker}
-use Rattle.mc_seats.specs.Seats.{AreLookedAt, AreRun, CanRun, EachListed, HaveWork}
+use Rattle.mc_seats.specs.Seats.{AreLookedAt, AreRun, CanMakeRound, EachListed, HaveWork}
 use Rattle.mc_crew.proofs.round.run_listed.Goals as goal
 
 pub find_work-requires-clause-ready : goal.find_work-requires-clause-ready
 find_work-requires-clause-ready g c who seat on at = c.requires.ready who seat at
 
 pub run_found-requires-clause-can_run : goal.run_found-requires-clause-can_run
-run_found-requires-clause-can_run g c κs within = subst (λ (l : List ℕ). EachListed CanRun l c.find_work.new.seats) (sym c.deref-2.ensures.value) c.in_ok-find_work.ensures.can_run
+run_found-requires-clause-can_run g c κs within = subst (λ (l : List ℕ). EachListed CanMakeRound l c.find_work.new.seats) (sym c.deref-2.ensures.value) c.in_ok-find_work.ensures.can_run
 
 pub returns-clause-run : goal.returns-clause-run
 returns-clause-run g c =

@@ -1,6 +1,6 @@
 use Rattle.mc_crew.specs.Crews.{IsCrew, crew_state}
 use Rattle.mc_rounds.proofs.PlayedRounds.{PlaysBehind}
-use Rattle.mc_rounds.specs.Playing.{commands_left}
+use Rattle.mc_rounds.specs.Playing.{command_total}
 use Rattle.mc_rounds.proofs.playing.use_up.Given as goal
 
 -- rounds led here
@@ -12,4 +12,4 @@ invariant-rounds g l = record {
 
 -- and each leaves fewer commands
 abbrev pub decreases-rounds : goal.decreases-rounds
-decreases-rounds g l = commands_left (crew_state l.crew)
+decreases-rounds g l = command_total (crew_state l.crew)

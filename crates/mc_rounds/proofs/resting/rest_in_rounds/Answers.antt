@@ -1,9 +1,9 @@
 use Rattle.std.proofs.Common.{◌∙◌, sym, subst}
 use Rattle.mc_crew.specs.Crews.{crew_state}
 use Rattle.mc_rounds.proofs.Rests.{fewer_shifts, fits_still, free_by, rests_begin, rests_idle, rests_more, rests_on_ring}
-use Rattle.mc_rounds.proofs.resting.come_to_rest.Goals.{then-is_some-via-then-is_some, then-is_some-via-else-is_some+in_ok-go_on+then-not-branch}
+use Rattle.mc_rounds.proofs.resting.rest_in_rounds.Goals.{then-is_some-via-then-is_some, then-is_some-via-else-is_some+in_ok-go_on+then-not-branch}
 use Rattle.mc_rounds.specs.Playing.{GoesOn}
-use Rattle.mc_rounds.proofs.resting.come_to_rest.Goals as goal
+use Rattle.mc_rounds.proofs.resting.rest_in_rounds.Goals as goal
 
 pub stretches-init : goal.stretches-init
 stretches-init g c = record {

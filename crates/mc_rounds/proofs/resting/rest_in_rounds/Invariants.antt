@@ -3,8 +3,8 @@ use Rattle.mc_crew.specs.Crews.{IsCrew, crew_state}
 use Rattle.mc_model.specs.Paths.{has_ring}
 use Rattle.mc_rounds.proofs.Rests.{CameOn}
 use Rattle.mc_rounds.specs.Frames.{FitsCrew}
-use Rattle.mc_rounds.specs.Playing.{shifts_left}
-use Rattle.mc_rounds.proofs.resting.come_to_rest.Given as goal
+use Rattle.mc_rounds.specs.Playing.{spare_shifts}
+use Rattle.mc_rounds.proofs.resting.rest_in_rounds.Given as goal
 
 -- stretches led here
 abbrev pub invariant-stretches : goal.invariant-stretches
@@ -17,4 +17,4 @@ invariant-stretches g l = record {
 
 -- and each had a Shift
 abbrev pub decreases-stretches : goal.decreases-stretches
-decreases-stretches g l = shifts_left (crew_state l.crew)
+decreases-stretches g l = spare_shifts (crew_state l.crew)
