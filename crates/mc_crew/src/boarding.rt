@@ -21,9 +21,9 @@ use mc_worker::Worker;
 use std::alloc::{AllocError, Global};
 use std::mem;
 
-/// Boxes take their seats, and what is under way on the lanes comes into the inboxes. What stood in their stead in the seats
-/// is left in the list of boxes, and the lanes are empty then. Every box is listed. It fails only for want of memory for that
-/// list, and nothing has moved then.
+/// Boxes take their seats, and what is under way on the lanes comes into the inboxes. What stood in their stead in the
+/// seats is left in the list of boxes, and the lanes are empty then. Every box is listed. It fails only for want of memory
+/// for that list, and nothing has moved then.
 pub fn board(
     alloc: Global,
     crew: &mut Crew,
@@ -34,7 +34,8 @@ pub fn board(
     requires fit { FitSeats crew.old.seats.items boxes.old }
     requires sound { IsSound (world_with boxes.old crew.old.channels.items lanes.old) }
     ensures crew { OnOk result (IsCrew crew.new) }
-    ensures team { OnOk result (crew_state crew.new ≡ new_team (world_with boxes.old crew.old.channels.items lanes.old)) }
+    ensures team { OnOk result (crew_state crew.new
+        ≡ new_team (world_with boxes.old crew.old.channels.items lanes.old)) }
     ensures empty { OnOk result (AreEmpty (items_of lanes.new)) }
     ensures boxes { OnOk result (length boxes.new ≡ length boxes.old) }
     ensures lanes { OnOk result (length lanes.new ≡ length lanes.old) }
@@ -75,7 +76,8 @@ fn change(
     requires boxes { length boxes.old ≡ length seats.old }
     requires ends { CanExchange (inner_lists ends.now) seats.old (length lanes.old) }
     requires clear { IsTrue clear → AreEmpty (items_of lanes.old) }
-    ensures seats { AreBoarded (inner_lists ends.now) boxes.old seats.old seats.new (items_of lanes.old) (items_of lanes.new) }
+    ensures seats { AreBoarded (inner_lists ends.now) boxes.old seats.old seats.new
+        (items_of lanes.old) (items_of lanes.new) }
     ensures boxes { boxes.new ≡ parts_of seats.old }
 {
     reseat(seats, boxes);

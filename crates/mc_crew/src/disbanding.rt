@@ -29,7 +29,8 @@ pub struct Discharged {
 /// lost. It fails only for want of memory.
 pub fn disband(alloc: Global, crew: Crew) -> Result<Discharged, AllocError>
     requires { IsCrew crew }
-    ensures { IfOk result (λ parts. world_with parts.boxes.items parts.channels.items parts.lanes.items ≡ (crew_state crew).world) }
+    ensures { IfOk result (λ parts. world_with parts.boxes.items parts.channels.items parts.lanes.items
+        ≡ (crew_state crew).world) }
 {
     let Crew {
         channels,

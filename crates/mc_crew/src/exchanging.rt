@@ -12,9 +12,9 @@ use mc_worker::Inboxes;
 use std::alloc::Global;
 use std::mem;
 
-/// What is under way on each lane comes into the inbox to which it leads, and what waits there goes on the lane. Each keeps
-/// its room, and no memory is taken. Inboxes and lanes that have nothing are left alone, and where it is known that no lane has
-/// anything, none is looked at.
+/// What is under way on each lane comes into the inbox to which it leads, and what waits there goes on the lane. Each
+/// keeps its room, and no memory is taken. Inboxes and lanes that have nothing are left alone, and where it is known that
+/// no lane has anything, none is looked at.
 pub(crate) fn exchange(
     alloc: Global,
     clear: bool,
@@ -103,7 +103,8 @@ fn exchange_with(alloc: Global, inboxes: &mut Inboxes, own: &[u32], lanes: &mut 
 // Each of some lanes changes places with the one of its number among the others.
 fn swap_each(waiting: &mut [Lane<Tagged>], own: &[u32], lanes: &mut [Lane<Tagged>])
     requires { LeadThere own.now (length waiting.old) (length lanes.old) }
-    ensures { HaveSwapped own.now (items_of waiting.old) (items_of waiting.new) (items_of lanes.old) (items_of lanes.new) }
+    ensures { HaveSwapped own.now (items_of waiting.old) (items_of waiting.new)
+        (items_of lanes.old) (items_of lanes.new) }
 {
     for end in 0..own.len() {
         swap_one(waiting, end, lanes, own[end] as usize);

@@ -18,10 +18,10 @@ use std::alloc::{AllocError, Global};
 /// It ends as the settle of the whole batch: at rest, at a ring, or at a box that has made all its Shifts and has one
 /// more enabled; or for want of memory, also for all the turns in one list.
 pub fn settle_behind(alloc: Global, world: World, before: Vec<Turn>) -> Result<Settled, SettleFault>
-    ensures settled { IfOk result (λ done. (start : WorldState) (batch : List Turn) → BeginsSettle start batch before.items world
-        → IsSettled start batch done.turns.items done.world) }
-    ensures stops { IfErr result (λ fault. (start : WorldState) (batch : List Turn) → BeginsSettle start batch before.items world
-        → Stops start batch fault) }
+    ensures settled { IfOk result (λ done. (start : WorldState) (batch : List Turn)
+        → BeginsSettle start batch before.items world → IsSettled start batch done.turns.items done.world) }
+    ensures stops { IfErr result (λ fault. (start : WorldState) (batch : List Turn)
+        → BeginsSettle start batch before.items world → Stops start batch fault) }
 {
     match settle_rest(alloc, world) {
         Ok(Settled { world, turns }) => {

@@ -26,7 +26,8 @@ pub fn play<R: Threads + Sync, G: Gate + Sync>(
 ) -> Result<Option<(u32, u8)>, AllocError>
     requires { IsCrew crew.old }
     ensures crew { OnOk result (IsCrew crew.new) }
-    ensures played { IfOk result (PlaysOn retries (crew_state crew.old) (crew_state crew.new) turns.old.items turns.new.items) }
+    ensures played { IfOk result (PlaysOn retries (crew_state crew.old) (crew_state crew.new)
+        turns.old.items turns.new.items) }
 {
     make_round(rt, gate, retries, crew, turns)?;
     Ok(last_version(&crew.seats, &crew.found))
@@ -35,8 +36,10 @@ pub fn play<R: Threads + Sync, G: Gate + Sync>(
 // The first of these boxes that stopped at a last version, and the slot.
 fn last_version(seats: &[Seat], found: &[u32]) -> Option<(u32, u8)>
     requires { Rises (length seats.now) found.now }
-    ensures some { IfSome result (λ at. slice_index_or (round_stops found.now seats.now) at.0 None ≡ Some (Stop.VersionEnd at.1)) }
-    ensures none { IfNone result ((who : ℕ) (local : ℕ) → slice_index_or (round_stops found.now seats.now) who None ≢ Some (Stop.VersionEnd local)) }
+    ensures some { IfSome result (λ at.
+        slice_index_or (round_stops found.now seats.now) at.0 None ≡ Some (Stop.VersionEnd at.1)) }
+    ensures none { IfNone result ((who : ℕ) (local : ℕ)
+        → slice_index_or (round_stops found.now seats.now) who None ≢ Some (Stop.VersionEnd local)) }
 {
     for who in found {
         if let Some(local) = slot_at_last(&seats[*who as usize].end) {

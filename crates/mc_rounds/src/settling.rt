@@ -161,7 +161,8 @@ fn retry<R: Threads + Sync, G: Gate + Sync>(
     requires crew { IsCrew crew.old }
     requires used_up { NoneLeft (crew_state crew.old) }
     ensures crew { OnOk result (IsCrew crew.new) }
-    ensures retried { IfOk result (Retries (crew_state crew.old) (crew_state crew.new) turns.old.items turns.new.items) }
+    ensures retried { IfOk result (Retries (crew_state crew.old) (crew_state crew.new)
+        turns.old.items turns.new.items) }
 {
     let before = turns.len();
     if play(rt, gate, true, crew, turns)?.is_some() {

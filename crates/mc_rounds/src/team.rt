@@ -87,7 +87,8 @@ impl Team {
         gate: &G,
         retries: bool,
     ) -> Result<(Team, RoundLog), AllocError>
-        ensures round { IfOk result (λ answer. IsTeamRound retries self answer.0 answer.1.turns.items answer.1.stops.items) }
+        ensures round { IfOk result (λ answer.
+            IsTeamRound retries self answer.0 answer.1.turns.items answer.1.stops.items) }
         ensures logs { IfOk result (λ answer. AreLogged answer.1) }
     {
         let Team { frame, mut crew } = self;
