@@ -23,7 +23,7 @@ use std::thread::Threads;
 /// are owed first where they are asked for. What the boxes send to each other in the round they may take in it, or it waits
 /// for the next one. The round's turns are one run of the world, and come behind those before.
 ///
-/// It fails only for want of memory. The crew is of no more use then.
+/// It fails only for want of memory. The crew is of no more use then, and a part of the round's turns may have come.
 pub fn make_round<R: Threads + Sync, G: Gate + Sync>(
     rt: &R,
     gate: &G,

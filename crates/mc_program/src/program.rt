@@ -125,7 +125,8 @@ impl Block {
     }
 
     /// Reads `when is SLOT STATE TARGET` or `when told WORD TARGET` from the second word on. Fault 5 where no part is
-    /// open. A told word that is new gets a number. Memory runs out only where the line breaks no rule.
+    /// open. A told word that is new gets a number. Memory runs out only where the line breaks no rule; the word may
+    /// have its number then.
     pub fn read_when<'a>(&mut self, names: &mut Names, words: Words<'a>) -> Result<(), ReadFault>
         requires { FitsBox names.old self.old }
         ensures when { BlockReadsWhen names.old self.old words.entry result (names.new, self.new) }

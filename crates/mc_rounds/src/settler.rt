@@ -63,7 +63,8 @@ impl Settler {
     ///
     /// The world allows each command, and has few boxes; it may be another one than that of the settle before. It always
     /// ends: at rest, at a ring of links that the batch or a Shift left, at a box that has made all its Shifts and has one
-    /// more enabled, or at a Hear of a descriptor that has the last version; or for want of memory.
+    /// more enabled, or at a Hear of a descriptor that has the last version; or for want of memory. Whatever it answers,
+    /// it can be called again.
     pub fn settle<R: Threads + Sync, G: Gate + Sync>(
         &mut self,
         rt: &R,

@@ -44,7 +44,7 @@ struct Sitting {
 ///
 /// The world allows each command. It always ends: at rest, at a ring of links that the batch or a Shift left, at a box
 /// that has made all its Shifts and has one more enabled, or at a Hear of a descriptor that has the last version; or
-/// for want of memory.
+/// for want of memory, and then the draws may have gone on.
 ///
 /// The world and the commands that are left keep how many candidates each box has, in trees of sums. So the time of a
 /// turn hangs on its box, and beside that on the network's size by its logarithm alone.

@@ -39,7 +39,9 @@ fn retry_box(settled: &mut Settled, who: u32) -> Result<(), AllocError>
     Ok(())
 }
 
-/// Makes each retry that is owed at the beginning, by box and local slot in rising order. It fails only for want of memory.
+/// Makes each retry that is owed at the beginning, by box and local slot in rising order.
+///
+/// It fails only for want of memory. Some of the retries may have been made and written down then.
 pub fn retry_by_box(settled: &mut Settled) -> Result<(), AllocError>
     ensures rings { OnOk result (has_ring settled.new.world ≡ has_ring settled.old.world) }
     ensures made { OnOk result (MadeAll settled.old settled.new (retries_by_box settled.old.world)) }

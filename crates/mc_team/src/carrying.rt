@@ -19,6 +19,8 @@ use std::alloc::AllocError;
 
 /// Carries what is under way on each lane that leads to one of these boxes, or from one. A box is listed where
 /// something is in an inbox of it then.
+///
+/// It fails only for want of memory. A part of it may have been carried then, and the list may lack boxes.
 pub fn carry_all(
     seats: &mut [Seat],
     lanes: &[LaneEnds],

@@ -21,7 +21,7 @@ pub fn list_box(listed: &mut Vec<u32>, who: u32, boxes: usize) -> Result<(), All
     }
 }
 
-/// Lists all of so many boxes.
+/// Lists all of so many boxes. It fails only for want of memory, and the list may have any part of them then.
 pub fn list_all(listed: &mut Vec<u32>, boxes: usize) -> Result<(), AllocError>
     requires { boxes ≤ 2 ^ 32 }
     ensures listed { OnOk result ((other : ℕ) → is_listed listed.new.items other ≡ nat_lt other boxes) }

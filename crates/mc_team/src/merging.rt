@@ -13,7 +13,9 @@ use mc_worker::Logged;
 use std::alloc::AllocError;
 
 /// Puts the turns of the logs of these boxes behind those before, in the order of their stamps, and of the boxes where
-/// stamps are the same. The keys are kept for their room. It fails only for want of memory.
+/// stamps are the same. The keys are kept for their room.
+///
+/// It fails only for want of memory. A part of the turns may have come then, and nothing is said of the keys.
 pub fn merge(
     seats: &[Seat],
     found: &[u32],
