@@ -169,8 +169,8 @@ impl StatePart {
     }
 
     /// Reads `when is SLOT STATE TARGET` or `when told WORD TARGET` from the second word on, in a program with these
-    /// states. A told word that is new gets a number. Memory runs out only where the line breaks no rule; the word may
-    /// have its number then.
+    /// states. A told word that is new gets a number. Memory runs out only where the line breaks no rule; the part is as
+    /// it was then, and the word may have its number.
     pub fn read_when<'a>(
         &mut self,
         names: &mut Names,
@@ -181,6 +181,7 @@ impl StatePart {
         requires who { who < length names.old.boxes }
         requires states { length states.now ≤ STATE_LIMIT }
         ensures when { ReadsWhen names.old who (words_of states.now) self.old words.entry result (names.new, self.new) }
+        ensures kept { OnErr result (self.new ≡ self.old) }
         ensures goals { self.new.goals ≡ self.old.goals }
         ensures boxes { OnOk result (names.new.boxes ≡ names.old.boxes) }
         ensures slots { OnOk result (names.new.slots ≡ names.old.slots) }
@@ -207,6 +208,7 @@ impl StatePart {
         requires who { who < length names.now.boxes }
         requires states { length states.now ≤ STATE_LIMIT }
         ensures is { ReadsWhenIs names.now who (words_of states.now) self.old words.entry result self.new }
+        ensures kept { OnErr result (self.new ≡ self.old) }
         ensures goals { self.new.goals ≡ self.old.goals }
     {
         let transition = self.when_is_line(names, who, states, words)?;
@@ -222,6 +224,7 @@ impl StatePart {
     ) -> Result<(), ReadFault>
         requires { length states.now ≤ STATE_LIMIT }
         ensures told { ReadsWhenTold names.old (words_of states.now) self.old words.entry result (names.new, self.new) }
+        ensures kept { OnErr result (self.new ≡ self.old) }
         ensures goals { self.new.goals ≡ self.old.goals }
         ensures boxes { OnOk result (names.new.boxes ≡ names.old.boxes) }
         ensures slots { OnOk result (names.new.slots ≡ names.old.slots) }

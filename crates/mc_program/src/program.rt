@@ -125,11 +125,12 @@ impl Block {
     }
 
     /// Reads `when is SLOT STATE TARGET` or `when told WORD TARGET` from the second word on. Fault 5 where no part is
-    /// open. A told word that is new gets a number. Memory runs out only where the line breaks no rule; the word may
-    /// have its number then.
+    /// open. A told word that is new gets a number. Memory runs out only where the line breaks no rule; the program is
+    /// as it was then, and the word may have its number.
     pub fn read_when<'a>(&mut self, names: &mut Names, words: Words<'a>) -> Result<(), ReadFault>
         requires { FitsBox names.old self.old }
         ensures when { BlockReadsWhen names.old self.old words.entry result (names.new, self.new) }
+        ensures kept { OnErr result (self.new ≡ self.old) }
         ensures fits { OnOk result (FitsBox names.new self.new) }
         ensures boxes { OnOk result (names.new.boxes ≡ names.old.boxes) }
         ensures slots { OnOk result (names.new.slots ≡ names.old.slots) }
