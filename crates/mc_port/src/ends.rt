@@ -120,7 +120,7 @@ impl InPort {
 }
 
 /// Moves what is left in a ring into a lane, without its stamps, where both ends are at hand. It fails only for want of
-/// memory, and moves nothing then.
+/// memory, and moves nothing then; the taking end may know of more of what was given.
 pub fn drain_beside(
     from: &mut OutPort,
     to: &mut InPort,
