@@ -21,7 +21,8 @@ use std::thread::Threads;
 
 /// Makes a round of each box that has work: it is at most 64 turns of each, on whatever thread is free, the retries that
 /// are owed first where they are asked for. What the boxes send to each other in the round they may take in it, or it waits
-/// for the next one. The round's turns are one run of the world, and come behind those before.
+/// for the next one. The round's turns are one run of the world, and come behind those before. Where there are none before,
+/// two boxes that have commands begin on two threads.
 ///
 /// It fails only for want of memory. The crew is of no more use then, and a part of the round's turns may have come.
 pub fn make_round<R: Threads + Sync, G: Gate + Sync>(
@@ -38,6 +39,7 @@ pub fn make_round<R: Threads + Sync, G: Gate + Sync>(
     ensures merged { OnOk result (AreMergedTurns crew.new turns.old.items turns.new.items) }
     ensures found { OnOk result (Rises (length crew.new.seats.items) crew.new.found.items) }
 {
+    let begins = turns.is_empty();
     list_for(retries, &mut crew.listed, crew.seats.len())?;
     run_listed(
         rt,
@@ -46,6 +48,7 @@ pub fn make_round<R: Threads + Sync, G: Gate + Sync>(
         &mut crew.seats,
         &mut crew.listed,
         &mut crew.found,
+        begins,
     )?;
     carry_all(
         &mut crew.seats,
@@ -81,6 +84,7 @@ fn run_listed<R: Threads + Sync, G: Gate + Sync>(
     seats: &mut [Seat],
     listed: &mut Vec<u32>,
     found: &mut Vec<u32>,
+    begins: bool,
 ) -> Result<(), AllocError>
     requires rises { Rises (length seats.old) listed.old.items }
     requires ready { AreReady seats.old }
@@ -93,7 +97,7 @@ fn run_listed<R: Threads + Sync, G: Gate + Sync>(
     ensures listed { OnOk result (GoOn found.new.items listed.new.items seats.new) }
 {
     find_work(seats, retries, listed, found)?;
-    run_found(rt, gate, retries, seats, found);
+    run_found(rt, gate, retries, seats, found, begins);
     none_refused(seats, found)?;
     list_unrested(seats, found, listed)
 }

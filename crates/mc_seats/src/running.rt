@@ -12,19 +12,21 @@ use mc_io::Gate;
 use std::thread::{Threads, join_mut};
 
 /// A round of each box that was found, by one call of `Worker::round`, whose answer its seat keeps. All other seats
-/// stay as they are. The boxes run on threads of their own where that pays, and no order is promised.
+/// stay as they are. The boxes run on threads of their own where that pays, and no order is promised. Where the boxes begin
+/// with this round, two threads are taken for two boxes that have commands.
 pub fn run_found<R: Threads + Sync, G: Gate + Sync>(
     rt: &R,
     gate: &G,
     retries: bool,
     seats: &mut [Seat],
     found: &[u32],
+    begins: bool,
 )
     requires rises { Rises (length seats.old) found.now }
     requires can_run { EachListed CanMakeRound found.now seats.old }
     ensures { AreRun retries found.now seats.old seats.new }
 {
-    let at_once = two_have_commands(found, seats);
+    let at_once = begins && two_have_commands(found, seats);
     run_part(rt, gate, retries, found, 0, at_once, seats);
 }
 
