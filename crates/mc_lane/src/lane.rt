@@ -36,6 +36,8 @@ impl<T: Copy> Lane<T> {
 
     /// Sees to it that so many more items can be pushed. It never gives room back, and fails only for want of
     /// memory, never where the room is there.
+    // Inlined, since nearly every call finds the room there.
+    #[inline(always)]
     pub fn reserve(&mut self, more: usize) -> Result<(), AllocError>
         ensures items { self.new.items ≡ self.old.items }
         ensures kept { self.old.spare ≤ self.new.spare }
