@@ -1,6 +1,6 @@
 // Lists of boxes, in rising order.
 
-ghost use Rattle.std.specs.Prelude.{◌≡◌, ◌==◌, ◌||◌, ◌<◌, ◌≤◌, ◌^◌, ℕ, nat_lt, OnErr, OnOk};
+ghost use Rattle.std.specs.Prelude.{◌≡◌, ◌==◌, ◌||◌, ◌<◌, ◌≤◌, ◌^◌, ℕ, length, nat_lt, slice_index_or, IsTrue, OnErr, OnOk};
 ghost use Rattle.mc_seats.specs.Numbers.{Rises, is_listed};
 
 use std::alloc::AllocError;
@@ -15,9 +15,22 @@ pub fn list_box(listed: &mut Vec<u32>, who: u32, boxes: usize) -> Result<(), All
     ensures rises { OnOk result (Rises boxes listed.new.items) }
     ensures kept { OnErr result (listed.new.items ≡ listed.old.items) }
 {
+    if has_own_place(listed, who) {
+        return Ok(());
+    }
     match listed.binary_search(&who) {
         Ok(_) => Ok(()),
         Err(at) => Ok(listed.insert(at, who)?),
+    }
+}
+
+// Whether a box stands in a list at the place of its number, as each does where all are listed.
+fn has_own_place(listed: &[u32], who: u32) -> bool
+    ensures { IsTrue result → (who < length listed.now) × (slice_index_or listed.now who 0 ≡ who) }
+{
+    match listed.get(who as usize) {
+        Some(there) => *there == who,
+        None => false,
     }
 }
 

@@ -1,7 +1,8 @@
 // The logs of a round, as one list of turns.
 
 ghost use Rattle.std.specs.Prelude.{◌≡◌, ◌^◌, ◌<◌, ◌++◌, flat_map, length, map, All, OnOk};
-ghost use Rattle.mc_order.specs.Keys.{IsOrdered, keys_of};
+ghost use Rattle.std.specs.List.Sorted.{IsPermutation, IsSorted};
+ghost use Rattle.mc_order.specs.Keys.{IsOrdered, key_cmp, keys_of};
 ghost use Rattle.mc_seats.specs.Numbers.{Rises};
 ghost use Rattle.mc_team.specs.Logs.{AreLogsShort, IsEntryOf, log_stamps, own_keys, round_stamps, turn_of_key};
 
@@ -29,8 +30,20 @@ pub fn merge(
         ≡ turns.old.items ++ map (turn_of_key seats.now) keys.new.items) }
 {
     gather(seats, found, keys)?;
-    sort_keys(keys);
+    sort_gathered(found.len(), keys)?;
     add_turns(seats, keys, turns)
+}
+
+// Sorts the entries of so many logs. Those of two logs are two runs, which a stable sort finds and merges.
+fn sort_gathered(logs: usize, keys: &mut Vec<Key>) -> Result<(), AllocError>
+    ensures permutation { IsPermutation keys.old.items keys.new.items }
+    ensures sorted { OnOk result (IsSorted key_cmp keys.new.items) }
+{
+    if logs == 2 {
+        return keys.sort();
+    }
+    sort_keys(keys);
+    Ok(())
 }
 
 // The entries of the logs of these boxes.
