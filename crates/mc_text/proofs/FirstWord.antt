@@ -62,6 +62,10 @@ module _ (p : ℕ → Bool) where
       let here : 0 < first_len (drop start line) = rw is (stops line before_end) in
       (here, sym (pieces-spaces line) ∙ rw (← is) (pieces-first (drop start line) here))
 
+  -- the same, of a length that is known
+  pub cut_word : (line : List ℕ) (start len : ℕ) → position (λ byte. not (p byte)) line ≡ Some start → len ≡ first_len (drop start line) → pieces line ≡ take len (drop start line) ∷ pieces (drop len (drop start line))
+  cut_word line start len found is = rw is (first_piece line start found).1
+
 -- the first word behind `from` stands from `start` to `end`
 pub record IsFirstWord (p : ℕ → Bool) (line : List ℕ) (from start end : ℕ) : Type 0 where
   pub some : start < end

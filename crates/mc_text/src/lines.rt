@@ -76,8 +76,8 @@ fn search_line_end(bytes: &[u8]) -> usize
     memchr(b'\n', bytes).unwrap_or(bytes.len())
 }
 
-// How many bytes stand before the first space, or all where there is none.
-fn word_len(bytes: &[u8]) -> usize
+/// How many bytes stand before the first space, or all where there is none.
+pub fn word_len(bytes: &[u8]) -> usize
     ensures within { result ≤ length bytes.now }
     ensures first { result ≡ position_or_len is_space bytes.now }
 {
@@ -90,8 +90,8 @@ fn first_space(bytes: &[u8]) -> Option<usize>
     bytes.iter().position(|byte| *byte == b' ')
 }
 
-// Where the first byte stands that is no space.
-fn first_other(bytes: &[u8]) -> Option<usize>
+/// Where the first byte stands that is no space.
+pub fn first_other(bytes: &[u8]) -> Option<usize>
     ensures { result ≡ position (λ byte. not (byte == 32)) bytes.now }
 {
     bytes.iter().position(|byte| *byte != b' ')

@@ -1,8 +1,9 @@
 //! A list of names, none of them twice.
 
-ghost use Rattle.std.specs.Prelude.{◌≡◌, ◌<◌, [], length, OnOk, OnErr, IsTrue, Some, None, slice_index_or};
+ghost use Rattle.std.specs.Prelude.{◌≡◌, ◌<◌, [], length, OnOk, OnErr, IsTrue, Some, None, position, slice_index_or};
 ghost use Rattle.std.specs.List.{slice_get};
 ghost use Rattle.std.specs.Option.{option_copied};
+ghost use Rattle.std.specs.Str.{bytes_eq};
 ghost use Rattle.mc_text.specs.Adding.{add_name, GivesNumber};
 ghost use Rattle.mc_text.specs.NameLists.{place_of, with_name};
 ghost use Rattle.mc_text.specs.Spelling.{is_name};
@@ -11,6 +12,9 @@ use crate::name_fault::NameFault;
 use indexmap::IndexSet;
 use std::alloc::{AllocError, Global};
 use std::marker::Model;
+
+// The most names among which one is found by comparing each with it.
+const FEW_NAMES: usize = 4;
 
 /// Names in the order in which they were added, none of them twice. A name's number is its place.
 #[derive(Drop)]
@@ -49,10 +53,13 @@ impl NameList {
         self.names.len()
     }
 
-    /// The number of a name.
+    /// The number of a name. Among few names each is compared with it, which takes less time than a look-up by hash.
     pub fn find(&self, name: &[u8]) -> Option<usize>
         ensures { result ≡ place_of self.now name.now }
     {
+        if self.names.len() <= FEW_NAMES {
+            return place_among(self.names.as_slice(), name);
+        }
         self.names.get_index_of(name)
     }
 
@@ -110,4 +117,11 @@ impl NameList {
         self.push(name).map_err(NameFault::NoMemory)?;
         Ok(number)
     }
+}
+
+// The place of a name among these, by comparing it with each.
+fn place_among(names: &[Vec<u8>], name: &[u8]) -> Option<usize>
+    ensures { result ≡ position (λ own. bytes_eq name.now own.items) names.now }
+{
+    names.iter().position(|own| name == own.as_slice())
 }

@@ -6,7 +6,7 @@ ghost use Rattle.std.specs.Option.{option_copied};
 ghost use Rattle.std.specs.Iterator.{YieldsFirstRef, item_count};
 ghost use Rattle.mc_text.specs.Lines.{words};
 
-use crate::lines::{next_word, rest_of};
+use crate::lines::{first_other, rest_of, word_len};
 use std::marker::Model;
 
 /// The words of a line that are still to be read.
@@ -37,14 +37,11 @@ impl<'a> Words<'a> {
         ensures word { option_copied result ≡ slice_get self.old 0 }
         ensures rest { self.new ≡ drop 1 self.old }
     {
-        match next_word(self.rest, 0) {
-            None => None,
-            Some((start, end)) => {
-                let (front, rest) = self.rest.split_at(end);
-                self.rest = rest;
-                Some(rest_of(front, start))
-            }
-        }
+        let start = first_other(self.rest)?;
+        let words = rest_of(self.rest, start);
+        let (word, rest) = words.split_at(word_len(words));
+        self.rest = rest;
+        Some(word)
     }
 
     /// The same words, to be read anew from here.
