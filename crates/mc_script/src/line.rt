@@ -87,10 +87,15 @@ pub fn begins_hash(word: &[u8]) -> bool
     }
 }
 
+// It looks at every byte, so that many are looked at at once: to stop at the first strange one would take longer.
 fn has_strange_byte(line: &[u8]) -> bool
     ensures { result ≡ list_any (λ byte. not (is_plain byte)) line.now }
 {
-    line.iter().any(|byte| !is_plain(*byte))
+    let mut strange = false;
+    for byte in line {
+        strange |= !is_plain(*byte);
+    }
+    strange
 }
 
 fn is_plain(byte: u8) -> bool
