@@ -4,11 +4,11 @@ ghost use Rattle.std.specs.Prelude.{◌≡◌};
 ghost use Rattle.std.specs.Option.{option_copied};
 ghost use Rattle.mc_script.specs.Places.{fixed_word};
 ghost use Rattle.mc_lines.specs.LineReadings.{overlong};
-ghost use Rattle.mc_lines.specs.Rules.{begins_digit, is_second, is_skipped, is_version, spelt_medium};
+ghost use Rattle.mc_lines.specs.Rules.{begins_digit, is_second, is_version, spelt_medium};
 
 use mc_program::ReadFault;
+use mc_script::LineFault;
 use mc_script::rule::{GIVEN_TWICE, LIMIT_PASSED, NAME_TOO_LONG, WRONG_WORD};
-use mc_script::{LineFault, begins_hash};
 use mc_signal::Medium;
 use mc_text::Words;
 
@@ -42,16 +42,6 @@ pub fn begins_digit(word: &[u8]) -> bool
     match word {
         [] => false,
         [first, ..] => b'0' <= *first && *first <= b'9',
-    }
-}
-
-/// Whether a line with these words is blank or a comment.
-pub fn is_skipped<'a>(mut words: Words<'a>) -> bool
-    ensures { result ≡ is_skipped words.entry }
-{
-    match words.next_word() {
-        None => true,
-        Some(word) => begins_hash(word),
     }
 }
 

@@ -1,6 +1,6 @@
 //! The lines of a text, one after the other, and what they declare.
 
-ghost use Rattle.std.specs.Prelude.{◌≡◌, ◌+◌, ◌<◌, ◌^◌, length, OnOk, map};
+ghost use Rattle.std.specs.Prelude.{◌≡◌, ◌+◌, ◌<◌, ◌^◌, ◌∷◌, length, OnOk, map};
 ghost use Rattle.std.specs.Option.{option_copied};
 ghost use Rattle.mc_lines.specs.BoxLines.{box_seen};
 ghost use Rattle.mc_lines.specs.Forms.{IsInForm};
@@ -16,14 +16,14 @@ mod programs;
 mod sends;
 
 use crate::keyword::keyword_of;
-use crate::places::{is_second, is_skipped, is_version};
+use crate::places::{is_second, is_version};
 use crate::section::{Keyword, Section};
 use crate::tail::Tail;
 use mc_box::Shape;
 use mc_plan::Plan;
 use mc_program::{Block, ReadFault, is_unfinished};
 use mc_script::rule::{NO_BEGIN, NO_VERSION_LINE, TEXT_TOO_LONG, UNFINISHED, WRONG_WORD};
-use mc_script::{Command, LineFault, check_bytes};
+use mc_script::{Command, LineFault, begins_hash, check_bytes};
 use mc_text::{Names, Words};
 use std::alloc::Global;
 use std::marker::Model;
@@ -137,20 +137,16 @@ impl Reader {
         }
     }
 
-    // Reads a line of words behind the version line.
-    fn read_words<'a>(&mut self, mut words: Words<'a>) -> Result<(), ReadFault>
+    // Reads a line of words behind the version line. The words are those behind the first.
+    fn read_words<'a>(&mut self, first: &[u8], words: Words<'a>) -> Result<(), ReadFault>
         requires { IsInForm self.old }
-        ensures declared { ReadsWords self.old words.entry result self.new }
+        ensures declared { ReadsWords self.old (first.now ∷ words.entry) result self.new }
         ensures in_form { OnOk result (IsInForm self.new) }
     {
-        let unknown = Err(ReadFault::Line(LineFault { number: WRONG_WORD }));
-        let Some(first) = words.next_word() else {
-            return unknown;
-        };
-        let Some(kind) = keyword_of(first) else {
-            return unknown;
-        };
-        self.read_kind(kind, words)
+        match keyword_of(first) {
+            Some(kind) => self.read_kind(kind, words),
+            None => Err(ReadFault::Line(LineFault { number: WRONG_WORD })),
+        }
     }
 
     // Reads the first line of words, which must be the version line.
@@ -169,20 +165,24 @@ impl Reader {
         Ok(())
     }
 
-    // Reads the words of a line, if it isn't skipped.
+    // Reads the words of a line, if it is neither blank nor a comment.
     #[tactic(auto, using(crate::proofs::Entries::after_skipped, crate::proofs::Entries::after_version))]
-    fn read_entry<'a>(&mut self, words: Words<'a>) -> Result<(), ReadFault>
+    fn read_entry<'a>(&mut self, mut words: Words<'a>) -> Result<(), ReadFault>
         requires { IsInForm self.old }
         ensures declared { ReadsEntry self.old words.entry result self.new }
         ensures in_form { OnOk result (IsInForm self.new) }
     {
-        if is_skipped(words.again()) {
+        let all = words.again();
+        let Some(first) = words.next_word() else {
+            return Ok(());
+        };
+        if begins_hash(first) {
             return Ok(());
         }
         if self.versioned {
-            return self.read_words(words);
+            return self.read_words(first, words);
         }
-        self.read_version(words)
+        self.read_version(all)
     }
 
     /// Reads the next line of a text of `total` bytes, with so many bytes before it.
