@@ -1,5 +1,5 @@
 // A whole text read, a whole output written.
-ghost use Rattle.std.specs.Prelude.{◌≡◌, ◌+◌, ◌^◌, ◌<◌, ◌≤◌, ℕ, List, is_err, take, length, vec_len, IfOk, IfSome, OnOk, OnErr};
+ghost use Rattle.std.specs.Prelude.{◌≡◌, ◌+◌, ◌^◌, ◌<◌, ◌≤◌, ℕ, List, is_err, take, length, vec_capacity, vec_len, IfOk, IfSome, OnOk, OnErr};
 ghost use Rattle.std.specs.Io.KnownBytes.{Appends, Consumes, IsAtEnd};
 ghost use Rattle.mc_io.specs.Faults.{faults_after, is_failed_read};
 ghost use Rattle.mc_io.specs.Bytes.{AppendsPart, ConsumesAtMost};
@@ -58,7 +58,7 @@ pub fn read_up_to<S: Source>(
     let mut chunk = [0; CHUNK];
     while text.len() <= limit {
         let room = CHUNK.min(limit + 1 - text.len());
-        text.reserve(room)?;
+        make_room(&mut text, room)?;
         let count = source.read(&mut chunk[..room])?;
         if count == 0 {
             break;
@@ -66,6 +66,18 @@ pub fn read_up_to<S: Source>(
         text.extend_from_slice(&chunk[..count]).unwrap();
     }
     Ok(text)
+}
+
+// Makes room for so many bytes more. A text that has outgrown its room grows by half of itself, not by all: so less is
+// asked for, and it more often stays where it is.
+fn make_room(text: &mut Vec<u8>, more: usize) -> Result<(), AllocError>
+    ensures items { text.new.items ≡ text.old.items }
+    ensures room { OnOk result (vec_len text.new + more ≤ vec_capacity text.new) }
+{
+    if more <= text.capacity() - text.len() {
+        return Ok(());
+    }
+    text.reserve_exact(more.max(text.len() / 2))
 }
 
 /// Writes all these bytes, or fails once a part of them is written.
