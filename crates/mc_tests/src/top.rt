@@ -1,6 +1,4 @@
 // Whole calls over sources and sinks in memory: what is written, and the status.
-ghost use Rattle.std.specs.Prelude.{◌<◌};
-
 mod draws;
 mod journals;
 mod limits;
@@ -12,33 +10,42 @@ mod scenes;
 mod threads;
 
 use mc_io::{Gate, MemSink, MemSource, OpenGate};
+use mc_script::JournalLine;
 use mc_top::{Done, media_top};
 use std::alloc::{AllocError, Global};
 use std::fmt::Debug;
 use std::process::Abort;
-use std::test::Fail;
 use std::thread::Threads;
 
 const ROOM: usize = 1048576;
 
-const PHONES: &str =
+/// Two phones.
+pub const PHONES: &str =
     "media 1\ncodec g711\ncodec g729\ndev alice g711 g729\ndev bob g729\nchan audio alice a bob a\nbegin\n";
 
 // As above, but that alice has one codec alone, which bob has not.
 const ONE_CODEC: &str =
     "media 1\ncodec g711\ncodec g729\ndev alice g711\ndev bob g729\nchan audio alice a bob a\nbegin\n";
 
-const FLOWING: &str =
+/// What a call of the one to the other prints.
+pub const FLOWING: &str =
     "settle 1\npath alice/a bob/a open hold flowing audio\nhears alice/a g729\nhears bob/a g729\n";
 
 const CLOSED: &str = "settle 1\npath alice/a bob/a close close closed audio\n";
 
-fn words_of(alloc: Global, words: &[&str]) -> Result<Vec<String>, AllocError> {
-    let mut made = Vec::new(alloc);
-    for word in words {
-        made.push(String::from_str(alloc, word)?)?;
-    }
-    Ok(made)
+/// The beginning of a text, the rest of it, the status of a call on it, and what it prints.
+pub type Row = (&'static str, &'static str, u8, &'static str);
+
+/// How often a piece of a text stands there, and the piece. `%` stands for its number, from 0 on, and `^` for the next.
+pub type Piece = (u32, &'static str);
+
+/// How a call ended, what it wrote, and how far it read.
+#[derive(Drop)]
+pub struct Ended {
+    pub done: Done,
+    pub written: Vec<u8>,
+    pub reads: u64,
+    pub at: usize,
 }
 
 /// The values are compared, and both shown where they differ.
@@ -49,6 +56,26 @@ pub fn is_equal<T: PartialEq + Debug>(rt: &impl Abort, got: &T, want: &T) {
 /// The same, with the text that the values belong to.
 pub fn is_equal_at<T: PartialEq + Debug>(rt: &impl Abort, got: &T, want: &T, text: &str) {
     assert_eq!(rt; *got, *want, "at {text}");
+}
+
+fn words_of(alloc: Global, words: &[&str]) -> Result<Vec<String>, AllocError> {
+    let mut made = Vec::new(alloc);
+    for word in words {
+        made.push(String::from_str(alloc, word)?)?;
+    }
+    Ok(made)
+}
+
+// Gives a text in pieces of 64 bytes, but that the call of this number fails. The first is 1, and 0 is none.
+fn source_of(alloc: Global, text: &[u8], failing: u64) -> Result<MemSource, AllocError> {
+    let failing = vec![in alloc; failing]?;
+    let bytes = Vec::from_slice(alloc, text)?;
+    Ok(MemSource::new(bytes, 64, failing))
+}
+
+// Takes pieces of 10 bytes, but that the call of this number fails.
+fn sink_of(alloc: Global, failing: u64) -> Result<MemSink, AllocError> {
+    MemSink::new(alloc, ROOM, 10, vec![in alloc; failing]?)
 }
 
 // The top call, of which nothing is said beforehand.
@@ -63,132 +90,200 @@ fn top<R: Threads + Sync, G: Gate + Sync>(
     media_top(rt, alloc, words, source, sink, gate)
 }
 
-// A call with these words, and what it wrote.
-fn call<R: Threads + Sync>(
+/// A call with these words on a text under this gate. Its read and its write of these numbers fail: 0 is none's.
+pub fn call<R: Threads + Sync, G: Gate + Sync>(
     rt: &R,
     alloc: Global,
+    gate: &G,
     words: &[&str],
-    source: &mut MemSource,
-    write_per_call: usize,
-    failing: Vec<u64>,
-) -> Result<(Done, Vec<u8>), AllocError>
-    requires { 0 < write_per_call }
-{
-    let mut sink = MemSink::new(alloc, ROOM, write_per_call, failing)?;
+    text: &[u8],
+    failing_read: u64,
+    failing_write: u64,
+) -> Result<Ended, AllocError> {
+    let mut source = source_of(alloc, text, failing_read)?;
+    let mut sink = sink_of(alloc, failing_write)?;
     let words = words_of(alloc, words)?;
-    let done = top(rt, alloc, words, source, &mut sink, &OpenGate);
-    let written = Vec::from_slice(alloc, &sink.bytes)?;
-    Ok((done, written))
+    let done = top(rt, alloc, words, &mut source, &mut sink, gate);
+    let MemSink { bytes, .. } = sink;
+    Ok(Ended {
+        done,
+        written: bytes,
+        reads: source.calls,
+        at: source.at,
+    })
 }
 
-// A call with the word `run`, and what it wrote.
-fn run<R: Threads + Sync>(
-    rt: &R,
-    alloc: Global,
-    source: &mut MemSource,
-    write_per_call: usize,
-    failing: Vec<u64>,
-) -> Result<(Done, Vec<u8>), AllocError>
-    requires { 0 < write_per_call }
-{
-    call(rt, alloc, &["run"], source, write_per_call, failing)
-}
-
-/// A call with these words on a text, which is read in pieces of so many bytes, and what it wrote.
+/// A call with these words on a text.
 pub fn answered<R: Threads + Sync>(
     rt: &R,
     alloc: Global,
     words: &[&str],
     text: &[u8],
-    piece: usize,
-) -> Result<(Done, Vec<u8>), AllocError>
-    requires { 0 < piece }
-{
-    let bytes = Vec::from_slice(alloc, text)?;
-    let mut source = MemSource::new(bytes, piece, Vec::new(alloc));
-    call(rt, alloc, words, &mut source, ROOM, Vec::new(alloc))
+) -> Result<Ended, AllocError> {
+    call(rt, alloc, &OpenGate, words, text, 0, 0)
 }
 
-/// A call with the word `run` on a text, read and written in small pieces: its status, and what it wrote.
-pub fn written<R: Threads + Sync>(
+/// A call with these words on a text ends with this status, and prints this.
+pub fn is_answered<R: Threads + Sync + Abort>(
     rt: &R,
     alloc: Global,
-    text: &str,
-) -> Result<(u8, Vec<u8>), AllocError> {
-    let bytes = Vec::from_slice(alloc, text.as_bytes())?;
-    let mut source = MemSource::new(bytes, 64, Vec::new(alloc));
-    let (done, written) = run(rt, alloc, &mut source, 10, Vec::new(alloc))?;
-    Ok((done.status, written))
-}
-
-/// A call with this text writes this and ends with this status.
-pub fn is_written<R: Threads + Sync + Abort>(
-    rt: &R,
-    alloc: Global,
+    words: &[&str],
     text: &str,
     status: u8,
     printed: &str,
     name: &str,
 ) -> Result<(), AllocError> {
-    let (ended, output) = written(rt, alloc, text)?;
-    is_equal_at(rt, &ended, &status, name);
-    is_equal_at(rt, &output.as_slice(), &printed.as_bytes(), name);
+    let call = answered(rt, alloc, words, text.as_bytes())?;
+    is_equal_at(rt, &call.done.status, &status, name);
+    is_equal_at(rt, &call.written.as_slice(), &printed.as_bytes(), name);
     Ok(())
 }
 
-// The beginning of a text, its script, and what is written.
-const CALLS: [(&str, &str, &str); 13] = [
-    (PHONES, "", ""),
-    (PHONES, "set alice a open\n", ""),
-    (PHONES, "settle\n", CLOSED),
-    (PHONES, "settle", CLOSED),
-    (PHONES, "\n# nobody calls\n  settle  \n", CLOSED),
+/// A call with these words on the text of each row ends and prints as the row says.
+pub fn are_answered<R: Threads + Sync + Abort>(
+    rt: &R,
+    alloc: Global,
+    words: &[&str],
+    rows: &[Row],
+) -> Result<(), AllocError> {
+    for (before, rest, status, printed) in rows {
+        let text = format!(in alloc; "{before}{rest}")?;
+        is_answered(rt, alloc, words, text.as_str(), *status, printed, rest)?;
+    }
+    Ok(())
+}
+
+/// With these words nothing is read: the call ends with this status, and prints this.
+pub fn is_answered_unread<R: Threads + Sync + Abort>(
+    rt: &R,
+    alloc: Global,
+    words: &[&str],
+    status: u8,
+    printed: &str,
+) -> Result<(), AllocError> {
+    let call = answered(rt, alloc, words, b"fly\n")?;
+    is_equal(rt, &call.done.status, &status);
+    is_equal(rt, &call.reads, &0);
+    is_equal(rt, &call.written.as_slice(), &printed.as_bytes());
+    Ok(())
+}
+
+/// A call with these words on a text is due to end with this status and does, keeps this journal, and prints this.
+pub fn is_kept<R: Threads + Sync + Abort>(
+    rt: &R,
+    alloc: Global,
+    words: &[&str],
+    text: &str,
+    status: u8,
+    journal: &[JournalLine],
+    printed: &str,
+) -> Result<(), AllocError> {
+    let call = answered(rt, alloc, words, text.as_bytes())?;
+    is_equal(rt, &call.done.status, &status);
+    is_equal(rt, &call.done.due, &status);
+    is_equal(rt, &&call.done.journal[..], &journal);
+    is_equal(rt, &call.written.as_slice(), &printed.as_bytes());
+    Ok(())
+}
+
+// The text with a number in place of each such sign.
+fn with_number(alloc: Global, text: &str, sign: &str, number: u32) -> Result<String, AllocError> {
+    let digits = format!(in alloc; "{number}")?;
+    text.replace(alloc, sign, digits.as_str())
+}
+
+// Adds a piece so many times, with its numbers.
+fn add_piece(alloc: Global, count: u32, piece: &str, text: &mut String) -> Result<(), AllocError> {
+    for number in 0..count {
+        let once = with_number(alloc, piece, "%", number)?;
+        let both = with_number(alloc, once.as_str(), "^", number + 1)?;
+        text.push_str(both.as_str())?;
+    }
+    Ok(())
+}
+
+/// The text of these pieces.
+pub fn text_of(alloc: Global, pieces: &[(u32, &str)]) -> Result<String, AllocError> {
+    let mut text = String::new(alloc);
+    for (count, piece) in pieces {
+        add_piece(alloc, *count, piece, &mut text)?;
+    }
+    Ok(text)
+}
+
+/// A call with these words on the text of these pieces ends with this status, and prints this.
+pub fn is_answered_in_pieces<R: Threads + Sync + Abort>(
+    rt: &R,
+    alloc: Global,
+    words: &[&str],
+    pieces: &[(u32, &str)],
+    status: u8,
+    printed: &str,
+    name: &str,
+) -> Result<(), AllocError> {
+    let text = text_of(alloc, pieces)?;
+    is_answered(rt, alloc, words, text.as_str(), status, printed, name)
+}
+
+const CALLS: [Row; 13] = [
+    (PHONES, "", 0, ""),
+    (PHONES, "set alice a open\n", 0, ""),
+    (PHONES, "settle\n", 0, CLOSED),
+    (PHONES, "settle", 0, CLOSED),
+    (PHONES, "\n# nobody calls\n  settle  \n", 0, CLOSED),
     (
         "media 1\ndev b\ndev a\nchan video a x b y\nbegin\n",
         "settle\n",
+        0,
         "settle 1\npath a/x b/y close close closed video\n",
     ),
     (
         PHONES,
         "set alice a open\nset bob a hold\nsettle\n",
+        0,
         FLOWING,
     ),
-    (PHONES, "set alice a open\nset bob a hold\nsettle", FLOWING),
+    (
+        PHONES,
+        "set alice a open\nset bob a hold\nsettle",
+        0,
+        FLOWING,
+    ),
     (
         ONE_CODEC,
         "set alice a open\nset bob a open\nsettle\n",
+        0,
         "settle 1\npath alice/a bob/a open open flowing audio\nhears alice/a none\nhears bob/a none\n",
     ),
     (
         PHONES,
         "set alice a open\nsettle\n",
+        0,
         "settle 1\npath alice/a bob/a open close closed audio\n",
     ),
     (
         PHONES,
         "set alice a hold\nset bob a hold\nsettle\n",
+        0,
         "settle 1\npath alice/a bob/a hold hold closed audio\n",
     ),
     (
         PHONES,
         "set alice a open\nset alice a close\nset bob a hold\nsettle\n",
+        0,
         "settle 1\npath alice/a bob/a close hold closed audio\n",
     ),
     (
         PHONES,
         "set alice a open\nset bob a hold\nsettle\nset alice a hold\nsettle\n",
+        0,
         "settle 1\npath alice/a bob/a open hold flowing audio\nhears alice/a g729\nhears bob/a g729\nsettle 2\npath alice/a bob/a hold hold flowing audio\nhears alice/a g729\nhears bob/a g729\n",
     ),
 ];
 
 #[test]
-fn calls_and_what_they_print(rt: HostRuntime) -> Result<(), Fail> {
-    let alloc = rt.alloc();
-    for (network, script, printed) in CALLS {
-        let text = format!(in alloc; "{network}{script}")?;
-        is_written(&rt, alloc, text.as_str(), 0, printed, text.as_str())?;
-    }
-    Ok(())
+fn calls_and_what_they_print(rt: HostRuntime) -> Result<(), AllocError> {
+    are_answered(&rt, rt.alloc(), &["run"], &CALLS)
 }
 
 const OTHER_WORDS: [&[&str]; 28] = [
@@ -222,121 +317,95 @@ const OTHER_WORDS: [&[&str]; 28] = [
     &["--version"],
 ];
 
-// What is written for these words is how the program is called, and nothing is read.
-fn is_usage<R: Threads + Sync + Abort>(
+/// What is printed for these words is how the program is called, and nothing is read.
+pub fn are_no_command<R: Threads + Sync + Abort>(
     rt: &R,
     alloc: Global,
-    words: &[&str],
+    table: &[&[&str]],
 ) -> Result<(), AllocError> {
-    let bytes = Vec::from_slice(alloc, PHONES.as_bytes())?;
-    let mut source = MemSource::new(bytes, 64, Vec::new(alloc));
-    let (done, written) = call(rt, alloc, words, &mut source, 64, Vec::new(alloc))?;
-    is_equal(rt, &done.status, &2);
-    is_equal(rt, &written.as_slice(), &b"usage\n".as_slice());
-    is_equal(rt, &source.calls, &0);
-    Ok(())
-}
-
-#[test]
-fn other_words_are_no_command(rt: HostRuntime) -> Result<(), Fail> {
-    for words in OTHER_WORDS {
-        is_usage(&rt, rt.alloc(), words)?;
-    }
-    Ok(())
-}
-
-// A call with these words settles two phones that nobody told anything.
-fn is_settled<R: Threads + Sync + Abort>(
-    rt: &R,
-    alloc: Global,
-    words: &[&str],
-) -> Result<(), AllocError> {
-    let text = format!(in alloc; "{PHONES}settle\n")?;
-    let (done, written) = answered(rt, alloc, words, text.as_bytes(), 64)?;
-    is_equal(rt, &done.status, &0);
-    is_equal(rt, &written.as_slice(), &CLOSED.as_bytes());
-    Ok(())
-}
-
-#[test]
-fn a_first_pair_of_dashes_says_nothing(rt: HostRuntime) -> Result<(), Fail> {
-    let table: [&[&str]; 4] = [
-        &["--", "run"],
-        &["run", "--"],
-        &["--", "one", "1"],
-        &["one", "--", "1"],
-    ];
     for words in table {
-        is_settled(&rt, rt.alloc(), words)?;
+        is_answered_unread(rt, alloc, words, 2, "usage\n")?;
     }
     Ok(())
-}
-
-// A call by draws on two phones of which one calls the other: the source gives 64 bytes a call and fails at these, the sink
-// takes 10 and fails at those.
-fn call_that_fails<R: Threads + Sync>(
-    rt: &R,
-    alloc: Global,
-    reads: Vec<u64>,
-    writes: Vec<u64>,
-) -> Result<(Done, Vec<u8>), AllocError> {
-    let mut bytes = Vec::from_slice(alloc, PHONES.as_bytes())?;
-    bytes.extend_from_slice(b"set alice a open\nset bob a hold\nsettle\n")?;
-    let mut source = MemSource::new(bytes, 64, reads);
-    call(rt, alloc, &["one", "0"], &mut source, 10, writes)
 }
 
 #[test]
-fn a_failed_read_prints_nothing(rt: HostRuntime) -> Result<(), Fail> {
-    let alloc = rt.alloc();
-    for number in [1, 2, 3, 4] {
-        let reads = vec![in alloc; number]?;
-        let (done, written) = call_that_fails(&rt, alloc, reads, Vec::new(alloc))?;
-        is_equal(&rt, &done.status, &4);
-        assert!(rt; written.is_empty());
-    }
-    Ok(())
+fn other_words_are_no_command(rt: HostRuntime) -> Result<(), AllocError> {
+    are_no_command(&rt, rt.alloc(), &OTHER_WORDS)
 }
 
-// Which call of the sink fails, the status, and how many bytes are written. There are nine calls.
-const FAILED_WRITES: [(u64, u8, usize); 5] = [
-    (1, 5, 0),
-    (2, 5, 10),
-    (5, 5, 40),
-    (9, 5, 80),
-    (10, 0, 88),
+const DASHES: [&[&str]; 4] = [
+    &["--", "run"],
+    &["run", "--"],
+    &["--", "one", "1"],
+    &["one", "--", "1"],
 ];
 
 #[test]
-fn a_failed_write_leaves_a_beginning(rt: HostRuntime) -> Result<(), Fail> {
-    let alloc = rt.alloc();
-    for (number, status, length) in FAILED_WRITES {
-        let writes = vec![in alloc; number]?;
-        let (done, written) = call_that_fails(&rt, alloc, Vec::new(alloc), writes)?;
-        is_equal(&rt, &done.status, &status);
-        is_equal(&rt, &done.due, &0);
-        is_equal(&rt, &done.journal.len(), &7);
-        is_equal(&rt, &written.len(), &length);
-        assert!(rt; FLOWING.as_bytes().starts_with(&written));
+fn a_first_pair_of_dashes_says_nothing(rt: HostRuntime) -> Result<(), AllocError> {
+    for words in &DASHES {
+        are_answered(&rt, rt.alloc(), words, &[(PHONES, "settle\n", 0, CLOSED)])?;
     }
     Ok(())
 }
 
+/// Two phones of which one calls the other. Their text is given in three pieces, and the fourth read finds its end.
+pub const CALLED: &str =
+    "media 1\ncodec g711\ncodec g729\ndev alice g711 g729\ndev bob g729\nchan audio alice a bob a\nbegin\nset alice a open\nset bob a hold\nsettle\n";
+
+// Which call of the source fails and which of the sink, from 1 on: the status, the due one, how many turns are kept, and
+// how many bytes are written. There are nine writes.
+const FAILURES: [(u64, u64, u8, u8, usize, usize); 9] = [
+    (1, 0, 4, 4, 0, 0),
+    (2, 0, 4, 4, 0, 0),
+    (3, 0, 4, 4, 0, 0),
+    (4, 0, 4, 4, 0, 0),
+    (0, 1, 5, 0, 7, 0),
+    (0, 2, 5, 0, 7, 10),
+    (0, 5, 5, 0, 7, 40),
+    (0, 9, 5, 0, 7, 80),
+    (0, 10, 0, 0, 7, 88),
+];
+
+// What is written of a call by draws in which these calls of the source and the sink fail is a beginning of the whole.
 #[test]
-fn a_text_past_the_limit_is_not_read_on(rt: HostRuntime) -> Result<(), Fail> {
-    let alloc = rt.alloc();
-    let mut bytes = Vec::from_slice(alloc, PHONES.as_bytes())?;
-    for _ in 0..150_000 {
-        bytes.extend_from_slice(b"settle\n")?;
+fn a_failed_read_prints_nothing_and_a_failed_write_a_beginning(
+    rt: HostRuntime,
+) -> Result<(), AllocError> {
+    for (read, write, status, due, turns, length) in &FAILURES {
+        let call = call(
+            &rt,
+            rt.alloc(),
+            &OpenGate,
+            &["one", "0"],
+            CALLED.as_bytes(),
+            *read,
+            *write,
+        )?;
+        let got = (
+            call.done.status,
+            call.done.due,
+            call.done.journal.len(),
+            call.written.len(),
+        );
+        is_equal(&rt, &got, &(*status, *due, *turns, *length));
+        assert!(rt; FLOWING.as_bytes().starts_with(&call.written));
     }
-    let mut source = MemSource::new(bytes, 4096, Vec::new(alloc));
-    let (done, written) = run(&rt, alloc, &mut source, 64, Vec::new(alloc))?;
-    is_equal(&rt, &done.status, &1);
+    Ok(())
+}
+
+const LONG: [Piece; 2] = [(1, PHONES), (150_000, "settle\n")];
+
+#[test]
+fn a_text_past_the_limit_is_not_read_on(rt: HostRuntime) -> Result<(), AllocError> {
+    let text = text_of(rt.alloc(), &LONG)?;
+    let call = answered(&rt, rt.alloc(), &["run"], text.as_bytes())?;
+    is_equal(&rt, &call.done.status, &1);
+    is_equal(&rt, &call.at, &1_048_577);
     is_equal(
         &rt,
-        &written.as_slice(),
+        &call.written.as_slice(),
         &b"fault 14 line 4104\n".as_slice(),
     );
-    is_equal(&rt, &source.at, &1_048_577);
     Ok(())
 }

@@ -1,25 +1,11 @@
 // Journals: what `--journal` prints behind the settles, and what `check` says of a text with a journal.
 
-use super::{PHONES, answered, is_equal_at};
+use super::{
+    CALLED, PHONES, Piece, Row, answered, are_answered, is_answered_in_pieces, is_equal_at,
+};
 use std::alloc::{AllocError, Global};
 use std::process::Abort;
-use std::test::Fail;
 use std::thread::Threads;
-
-// A call with these words on a text ends with this status, and prints this.
-fn is_answered<R: Threads + Sync + Abort>(
-    rt: &R,
-    alloc: Global,
-    words: &[&str],
-    text: &str,
-    status: u8,
-    printed: &str,
-) -> Result<(), AllocError> {
-    let (done, written) = answered(rt, alloc, words, text.as_bytes(), 4096)?;
-    is_equal_at(rt, &done.status, &status, text);
-    is_equal_at(rt, &written.as_slice(), &printed.as_bytes(), text);
-    Ok(())
-}
 
 // Words, a script of the two phones, and what is printed.
 const PRINTED: [(&[&str], &str, &str); 6] = [
@@ -80,11 +66,9 @@ const PRINTED: [(&[&str], &str, &str); 6] = [
 ];
 
 #[test]
-fn the_flag_prints_the_journal_behind_the_settles(rt: HostRuntime) -> Result<(), Fail> {
-    let alloc = rt.alloc();
-    for (words, script, printed) in PRINTED {
-        let text = format!(in alloc; "{PHONES}{script}")?;
-        is_answered(&rt, alloc, words, text.as_str(), 0, printed)?;
+fn the_flag_prints_the_journal_behind_the_settles(rt: HostRuntime) -> Result<(), AllocError> {
+    for (words, script, printed) in &PRINTED {
+        are_answered(&rt, rt.alloc(), words, &[(PHONES, script, 0, printed)])?;
     }
     Ok(())
 }
@@ -119,32 +103,6 @@ const FEATURE: &str = "media 1\n\
     set bob a close\n\
     settle\n";
 
-const FEATURE_JOURNAL: &str = "turn link f w e\n\
-    turn set alice a open\n\
-    turn set bob a hold\n\
-    turn take f w\n\
-    turn take bob a\n\
-    turn take f e\n\
-    turn take alice a\n\
-    turn take f e\n\
-    turn take f w\n\
-    turn take alice a\n\
-    turn take bob a\n\
-    settle\n\
-    turn set bob a close\n\
-    turn take f e\n\
-    turn take bob a\n\
-    turn take alice a\n\
-    turn take f w\n";
-
-const RETRIED: &str = "turn retry alice a\n\
-    turn take f w\n\
-    turn take bob a\n\
-    turn take f e\n\
-    turn take bob a\n\
-    turn take alice a\n\
-    turn take f w\n";
-
 const FEATURE_PRINTED: &str = "settle 1\n\
     path alice/a bob/a open hold flowing audio\n\
     hears alice/a g711\n\
@@ -152,12 +110,10 @@ const FEATURE_PRINTED: &str = "settle 1\n\
     settle 2\n\
     path alice/a bob/a open close closed audio\n";
 
-// The script of an accepted call.
-const CALL: &str = "set alice a open\nset bob a hold\nsettle\n";
-
-// What stands behind that script, the status, and what is printed.
-const CHECKED: [(&str, u8, &str); 22] = [
+// A text, what stands behind it, the status, and what is printed.
+const CHECKED: [Row; 26] = [
     (
+        CALLED,
         "journal\n\
         turn set alice a open\n\
         turn set bob a hold\n\
@@ -171,6 +127,7 @@ const CHECKED: [(&str, u8, &str); 22] = [
     ),
     // Blank lines, comments and spare spaces say nothing, and the last line may lack its end.
     (
+        CALLED,
         "  journal\n\n\
         turn  set alice a open\n\
         # bob accepts\n \
@@ -185,6 +142,7 @@ const CHECKED: [(&str, u8, &str); 22] = [
     ),
     // The fifth turn twice.
     (
+        CALLED,
         "journal\n\
         turn set alice a open\n\
         turn set bob a hold\n\
@@ -198,6 +156,7 @@ const CHECKED: [(&str, u8, &str); 22] = [
         "fault 31 turn 6\n",
     ),
     (
+        CALLED,
         "journal\n\
         turn set alice a open\n\
         turn set bob a hold\n\
@@ -207,6 +166,7 @@ const CHECKED: [(&str, u8, &str); 22] = [
         "fault 35 turn 5\n",
     ),
     (
+        CALLED,
         "journal\n\
         turn set alice a open\n\
         turn set bob a hold\n\
@@ -218,6 +178,7 @@ const CHECKED: [(&str, u8, &str); 22] = [
     ),
     // The first turn twice.
     (
+        CALLED,
         "journal\n\
         turn set alice a open\n\
         turn set alice a open\n\
@@ -232,6 +193,7 @@ const CHECKED: [(&str, u8, &str); 22] = [
     ),
     // A command that isn't bob's.
     (
+        CALLED,
         "journal\n\
         turn set alice a open\n\
         turn set bob a open\n\
@@ -241,12 +203,14 @@ const CHECKED: [(&str, u8, &str); 22] = [
     ),
     // A box that isn't there.
     (
+        CALLED,
         "journal\nturn take zed a\nturn set bob a hold\n",
         8,
         "fault 32 turn 1\n",
     ),
     // A retry that isn't owed.
     (
+        CALLED,
         "journal\n\
         turn set alice a open\n\
         turn set bob a hold\n\
@@ -261,6 +225,7 @@ const CHECKED: [(&str, u8, &str); 22] = [
     ),
     // A shift of a phone.
     (
+        CALLED,
         "journal\n\
         turn set alice a open\n\
         turn set bob a hold\n\
@@ -274,6 +239,7 @@ const CHECKED: [(&str, u8, &str); 22] = [
     ),
     // A turn behind the last settle.
     (
+        CALLED,
         "journal\n\
         turn set alice a open\n\
         turn set bob a hold\n\
@@ -288,6 +254,7 @@ const CHECKED: [(&str, u8, &str); 22] = [
     ),
     // A settle too many, a bad line behind the last settle, and a command left out.
     (
+        CALLED,
         "journal\n\
         turn set alice a open\n\
         turn set bob a hold\n\
@@ -301,6 +268,7 @@ const CHECKED: [(&str, u8, &str); 22] = [
         "fault 33 turn 7\n",
     ),
     (
+        CALLED,
         "journal\n\
         turn set alice a open\n\
         turn set bob a hold\n\
@@ -314,6 +282,7 @@ const CHECKED: [(&str, u8, &str); 22] = [
         "fault 32 turn 7\n",
     ),
     (
+        CALLED,
         "journal\n\
         turn set alice a open\n\
         turn take bob a\n\
@@ -324,97 +293,142 @@ const CHECKED: [(&str, u8, &str); 22] = [
         "fault 33 turn 5\n",
     ),
     // No journal, in three ways.
-    ("journal\n", 8, "fault 35 turn 1\n"),
-    ("journal", 8, "fault 35 turn 1\n"),
-    ("", 8, "fault 35 turn 1\n"),
+    (CALLED, "journal\n", 8, "fault 35 turn 1\n"),
+    (CALLED, "journal", 8, "fault 35 turn 1\n"),
+    (CALLED, "", 8, "fault 35 turn 1\n"),
     // Lines of a journal that are none.
-    ("journal\nsettle 1\n", 8, "fault 32 turn 1\n"),
-    ("journal\njournal\n", 8, "fault 32 turn 1\n"),
-    ("journal\nset alice a open\n", 8, "fault 32 turn 1\n"),
+    (CALLED, "journal\nsettle 1\n", 8, "fault 32 turn 1\n"),
+    (CALLED, "journal\njournal\n", 8, "fault 32 turn 1\n"),
+    (
+        CALLED,
+        "journal\nset alice a open\n",
+        8,
+        "fault 32 turn 1\n",
+    ),
     // The line `journal` has one word, and the bytes of a text.
-    ("journal now\n", 1, "fault 7 line 11\n"),
-    ("journal\t\n", 1, "fault 3 line 11\n"),
+    (CALLED, "journal now\n", 1, "fault 7 line 11\n"),
+    (CALLED, "journal\t\n", 1, "fault 3 line 11\n"),
+    // A text without settles has an empty journal.
+    (PHONES, "", 0, ""),
+    // A call through a feature, whose last settle comes at the end, or early.
+    (
+        FEATURE,
+        "journal\n\
+        turn link f w e\n\
+        turn set alice a open\n\
+        turn set bob a hold\n\
+        turn take f w\n\
+        turn take bob a\n\
+        turn take f e\n\
+        turn take alice a\n\
+        turn take f e\n\
+        turn take f w\n\
+        turn take alice a\n\
+        turn take bob a\n\
+        settle\n\
+        turn set bob a close\n\
+        turn take f e\n\
+        turn take bob a\n\
+        turn take alice a\n\
+        turn take f w\n\
+        turn retry alice a\n\
+        turn take f w\n\
+        turn take bob a\n\
+        turn take f e\n\
+        turn take bob a\n\
+        turn take alice a\n\
+        turn take f w\n\
+        settle\n",
+        0,
+        FEATURE_PRINTED,
+    ),
+    (
+        FEATURE,
+        "journal\n\
+        turn link f w e\n\
+        turn set alice a open\n\
+        turn set bob a hold\n\
+        turn take f w\n\
+        turn take bob a\n\
+        turn take f e\n\
+        turn take alice a\n\
+        turn take f e\n\
+        turn take f w\n\
+        turn take alice a\n\
+        turn take bob a\n\
+        settle\n\
+        turn set bob a close\n\
+        turn take f e\n\
+        turn take bob a\n\
+        turn take alice a\n\
+        turn take f w\n\
+        settle\n\
+        turn retry alice a\n\
+        turn take f w\n\
+        turn take bob a\n\
+        turn take f e\n\
+        turn take bob a\n\
+        turn take alice a\n\
+        turn take f w\n",
+        8,
+        "fault 33 turn 17\n",
+    ),
+    // A signal behind another tunnel's is not taken: the front of the lane is for the first tunnel.
+    (
+        VIDEO,
+        "journal\n\
+        turn set alice a open\n\
+        turn set alice v open\n\
+        turn take bob v\n",
+        8,
+        "fault 31 turn 3\n",
+    ),
 ];
 
 #[test]
-fn a_journal_is_accepted_or_its_first_fault_is_named(rt: HostRuntime) -> Result<(), Fail> {
-    let alloc = rt.alloc();
-    for (journal, status, printed) in CHECKED {
-        let text = format!(in alloc; "{PHONES}{CALL}{journal}")?;
-        is_answered(&rt, alloc, &["check"], text.as_str(), status, printed)?;
-    }
-    Ok(())
-}
-
-#[test]
-fn a_text_without_settles_has_an_empty_journal(rt: HostRuntime) -> Result<(), Fail> {
-    let alloc = rt.alloc();
-    is_answered(&rt, alloc, &["check"], PHONES, 0, "")?;
-    is_answered(&rt, alloc, &["--", "check"], PHONES, 0, "")?;
-    Ok(())
-}
-
-#[test]
-fn a_call_through_a_feature_is_checked(rt: HostRuntime) -> Result<(), Fail> {
-    let alloc = rt.alloc();
-    let good = format!(in alloc; "{FEATURE}journal\n{FEATURE_JOURNAL}{RETRIED}settle\n")?;
-    is_answered(&rt, alloc, &["check"], good.as_str(), 0, FEATURE_PRINTED)?;
-    let early = format!(in alloc; "{FEATURE}journal\n{FEATURE_JOURNAL}settle\n{RETRIED}")?;
-    is_answered(
-        &rt,
-        alloc,
-        &["check"],
-        early.as_str(),
-        8,
-        "fault 33 turn 17\n",
-    )?;
-    Ok(())
-}
-
-// The front of the lane is for the first tunnel.
-#[test]
-fn a_signal_behind_another_tunnels_is_not_taken(rt: HostRuntime) -> Result<(), Fail> {
-    let alloc = rt.alloc();
-    let journal = "turn set alice a open\nturn set alice v open\nturn take bob v\n";
-    let text = format!(in alloc; "{VIDEO}journal\n{journal}")?;
-    is_answered(
-        &rt,
-        alloc,
-        &["check"],
-        text.as_str(),
-        8,
-        "fault 31 turn 3\n",
-    )?;
-    Ok(())
+fn a_journal_is_accepted_or_its_first_fault_is_named(rt: HostRuntime) -> Result<(), AllocError> {
+    are_answered(&rt, rt.alloc(), &["check"], &CHECKED)?;
+    are_answered(&rt, rt.alloc(), &["--", "check"], &[(PHONES, "", 0, "")])
 }
 
 // The journal alone passes the limit of the whole input, in its comments.
+const LONG: [Piece; 3] = [
+    (1, CALLED),
+    (1, "journal\nturn set alice a open\n"),
+    (
+        65_537,
+        "#0123456789012345678901234567890123456789012345678901234567890123456789012345678901234567890123456789\
+        0123456789012345678901234567890123456789012345678901234567890123456789012345678901234567890123456789\
+        012345678901234567890123456789012345678901234567891234\n",
+    ),
+];
+
 #[test]
-fn a_journal_past_the_limit_has_a_bad_line(rt: HostRuntime) -> Result<(), Fail> {
-    let alloc = rt.alloc();
-    let mut text = format!(in alloc; "{PHONES}{CALL}journal\nturn set alice a open\n")?;
-    for _ in 0..=65_536 {
-        text.push_str("#")?;
-        for _ in 0..25 {
-            text.push_str("0123456789")?;
-        }
-        text.push_str("1234\n")?;
-    }
-    is_answered(
+fn a_journal_past_the_limit_has_a_bad_line(rt: HostRuntime) -> Result<(), AllocError> {
+    is_answered_in_pieces(
         &rt,
-        alloc,
+        rt.alloc(),
         &["check"],
-        text.as_str(),
+        &LONG,
         8,
         "fault 32 turn 2\n",
-    )?;
-    Ok(())
+        "a long journal",
+    )
 }
 
-// What stands behind the first bytes, so many of them.
-fn behind<'a, R: Abort>(rt: &R, bytes: &'a [u8], count: usize) -> &'a [u8] {
-    assert!(rt; count <= bytes.len());
-    &bytes[count..]
+// The text with what a call with these words on it writes behind what is printed.
+fn with_journal<R: Threads + Sync + Abort>(
+    rt: &R,
+    alloc: Global,
+    words: &[&str],
+    text: &str,
+    printed: &str,
+) -> Result<Vec<u8>, AllocError> {
+    let call = answered(rt, alloc, words, text.as_bytes())?;
+    assert!(rt; printed.len() <= call.written.len());
+    let mut checked = Vec::from_slice(alloc, text.as_bytes())?;
+    checked.extend_from_slice(&call.written[printed.len()..])?;
+    Ok(checked)
 }
 
 /// A call with these words on a text prints this and a journal, which `check` accepts behind the text.
@@ -425,25 +439,23 @@ pub fn is_accepted<R: Threads + Sync + Abort>(
     text: &str,
     printed: &str,
 ) -> Result<(), AllocError> {
-    let (_, written) = answered(rt, alloc, words, text.as_bytes(), 4096)?;
-    let mut checked = Vec::from_slice(alloc, text.as_bytes())?;
-    checked.extend_from_slice(behind(rt, &written, printed.len()))?;
-    let (done, written) = answered(rt, alloc, &["check"], &checked, 4096)?;
-    is_equal_at(rt, &done.status, &0, text);
-    is_equal_at(rt, &written.as_slice(), &printed.as_bytes(), text);
+    let checked = with_journal(rt, alloc, words, text, printed)?;
+    let call = answered(rt, alloc, &["check"], &checked)?;
+    is_equal_at(rt, &call.done.status, &0, text);
+    is_equal_at(rt, &call.written.as_slice(), &printed.as_bytes(), text);
     Ok(())
 }
 
 // Whichever interleaving it is that `run` makes.
 #[test]
-fn what_was_printed_is_accepted(rt: HostRuntime) -> Result<(), Fail> {
+fn what_was_printed_is_accepted(rt: HostRuntime) -> Result<(), AllocError> {
     let table: [&[&str]; 4] = [
         &["run", "--journal"],
         &["one", "0", "--journal"],
         &["one", "1", "--journal"],
         &["one", "2147483647", "--journal"],
     ];
-    for words in table {
+    for words in &table {
         is_accepted(&rt, rt.alloc(), words, FEATURE, FEATURE_PRINTED)?;
     }
     Ok(())

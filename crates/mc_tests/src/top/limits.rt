@@ -1,12 +1,9 @@
 // Each limit of a text, reached and passed.
 
-use super::is_written;
+use super::{Piece, is_answered_in_pieces};
 use std::alloc::{AllocError, Global};
-use std::test::Fail;
-
-// The beginning of a text, how many lines follow, such a line with `#` for its number, the rest of the text, and what
-// is written.
-type Row = (&'static str, u32, &'static str, &'static str, &'static str);
+use std::process::Abort;
+use std::thread::Threads;
 
 const PAIR: &str = "dev a\ndev b\nchan audio a x b y\nbegin\n";
 
@@ -25,58 +22,63 @@ const CODECS: &str = "media 1\n\
     dev a";
 
 // The part of a state with sixteen words of its own.
-const SIXTEEN_WORDS: &str = "state s#\n\
-    when told a# s0\n\
-    when told b# s0\n\
-    when told c# s0\n\
-    when told d# s0\n\
-    when told e# s0\n\
-    when told f# s0\n\
-    when told g# s0\n\
-    when told h# s0\n\
-    when told i# s0\n\
-    when told j# s0\n\
-    when told k# s0\n\
-    when told l# s0\n\
-    when told m# s0\n\
-    when told n# s0\n\
-    when told o# s0\n\
-    when told p# s0\n";
+const SIXTEEN_WORDS: &str = "state s%\n\
+    when told a% s0\n\
+    when told b% s0\n\
+    when told c% s0\n\
+    when told d% s0\n\
+    when told e% s0\n\
+    when told f% s0\n\
+    when told g% s0\n\
+    when told h% s0\n\
+    when told i% s0\n\
+    when told j% s0\n\
+    when told k% s0\n\
+    when told l% s0\n\
+    when told m% s0\n\
+    when told n% s0\n\
+    when told o% s0\n\
+    when told p% s0\n";
 
 // Eight channels of two boxes.
-const EIGHT_CHANNELS: &str = "chan audio l# a r# a\n\
-    chan video l# b r# b\n\
-    chan audio l# c r# c\n\
-    chan video l# d r# d\n\
-    chan audio l# e r# e\n\
-    chan video l# f r# f\n\
-    chan audio l# g r# g\n\
-    chan video l# h r# h\n";
+const EIGHT_CHANNELS: &str = "chan audio l% a r% a\n\
+    chan video l% b r% b\n\
+    chan audio l% c r% c\n\
+    chan video l% d r% d\n\
+    chan audio l% e r% e\n\
+    chan video l% f r% f\n\
+    chan audio l% g r% g\n\
+    chan video l% h r% h\n";
+
+const COMMENT: &str = "# twenty-five bytes here\n";
 
 const CLOSED: &str = "settle 1\npath a/x b/y close close closed audio\n";
 
-const ROWS: [Row; 33] = [
+// The beginning of a text, how often a piece follows, the piece, the rest of the text, and what is written.
+type Counted = (&'static str, u32, &'static str, &'static str, &'static str);
+
+const ROWS: [Counted; 33] = [
     // codec names
-    ("media 1\n", 64, "codec c#\n", PAIR, ""),
-    ("media 1\n", 65, "codec c#\n", PAIR, "fault 14 line 66\n"),
+    ("media 1\n", 64, "codec c%\n", PAIR, ""),
+    ("media 1\n", 65, "codec c%\n", PAIR, "fault 14 line 66\n"),
     (
         "media 1\n",
         64,
-        "codec c#\n",
+        "codec c%\n",
         "codec abcdefghijklmnopq\n",
         "fault 14 line 66\n",
     ),
     // codecs of a list
-    (CODECS, 8, " c#", "\ndev b\nchan audio a x b y\nbegin\n", ""),
-    (CODECS, 9, " c#", "\n", "fault 14 line 11\n"),
+    (CODECS, 8, " c%", "\ndev b\nchan audio a x b y\nbegin\n", ""),
+    (CODECS, 9, " c%", "\n", "fault 14 line 11\n"),
     // boxes
-    ("media 1\n", 256, "dev d#\n", "begin\n", ""),
-    ("media 1\n", 257, "dev d#\n", "", "fault 14 line 258\n"),
-    ("media 1\n", 256, "feat f#\n", "begin\n", ""),
+    ("media 1\n", 256, "dev d%\n", "begin\n", ""),
+    ("media 1\n", 257, "dev d%\n", "", "fault 14 line 258\n"),
+    ("media 1\n", 256, "feat f%\n", "begin\n", ""),
     (
         "media 1\n",
         256,
-        "feat f#\n",
+        "feat f%\n",
         "dev d\n",
         "fault 14 line 258\n",
     ),
@@ -84,21 +86,21 @@ const ROWS: [Row; 33] = [
     (
         "media 1\ndev a\ndev b\n",
         64,
-        "chan audio a s# b s#\n",
+        "chan audio a s% b s%\n",
         "begin\n",
         "",
     ),
     (
         "media 1\ndev a\ndev b\n",
         65,
-        "chan audio a s# b s#\n",
+        "chan audio a s% b s%\n",
         "",
         "fault 14 line 68\n",
     ),
     (
         "media 1\ndev a\ndev b\ndev c\n",
         64,
-        "chan audio a s# b s#\n",
+        "chan audio a s% b s%\n",
         "chan audio c s a s\n",
         "fault 14 line 69\n",
     ),
@@ -197,75 +199,87 @@ const ROWS: [Row; 33] = [
     ),
 ];
 
-// The line so many times, with the numbers from 0 on in the place of `#`.
-fn numbered(alloc: Global, count: u32, line: &str) -> Result<String, AllocError> {
-    let mut lines = String::new(alloc);
-    for number in 0..count {
-        let digits = format!(in alloc; "{number}")?;
-        let numbered = line.replace(alloc, "#", digits.as_str())?;
-        lines.push_str(numbered.as_str())?;
-    }
-    Ok(lines)
-}
+// The phones are 45 bytes in five lines, and with 41,941 comments of 25 bytes the six of `settle` end at the limit.
+const LONG_ROWS: [Counted; 4] = [
+    (PHONES, 41_941, COMMENT, "settle", CLOSED),
+    (PHONES, 41_941, COMMENT, "settle\n", "fault 1 line 41947\n"),
+    (
+        PHONES,
+        41_941,
+        COMMENT,
+        "settle now\r\nfly\n",
+        "fault 1 line 41947\n",
+    ),
+    (PHONES, 42_000, COMMENT, "fly\n", "fault 1 line 41947\n"),
+];
 
-// A program of so many states.
-fn states(alloc: Global, count: u32) -> Result<String, AllocError> {
-    let names = numbered(alloc, count, " s#")?;
-    let parts = numbered(alloc, count, "state s#\n")?;
-    format!(in alloc; "media 1\nfeat f\nprog f{names}\n{parts}begin\n")
-}
+const STATES: [Piece; 5] = [
+    (1, "media 1\nfeat f\nprog f"),
+    (64, " s%"),
+    (1, "\n"),
+    (64, "state s%\n"),
+    (1, "begin\n"),
+];
 
-// 256 boxes, 1,024 channels and what stands behind them.
-fn channels(alloc: Global, rest: &str) -> Result<String, AllocError> {
-    let boxes = numbered(alloc, 128, "dev l#\ndev r#\n")?;
-    let channels = numbered(alloc, 128, EIGHT_CHANNELS)?;
-    format!(in alloc; "media 1\n{boxes}{channels}{rest}")
-}
+const STATE_TOO_MANY: [Piece; 5] = [
+    (1, "media 1\nfeat f\nprog f"),
+    (65, " s%"),
+    (1, "\n"),
+    (65, "state s%\n"),
+    (1, "begin\n"),
+];
 
-// So many comments of 25 bytes between the phones, which are 45 bytes in five lines, and what follows.
-fn long_text(alloc: Global, count: usize, rest: &str) -> Result<String, AllocError> {
-    let comments = "# twenty-five bytes here\n".repeat(alloc, count)?;
-    format!(in alloc; "{PHONES}{comments}{rest}")
-}
+const CHANNELS: [Piece; 4] = [
+    (1, "media 1\n"),
+    (128, "dev l%\ndev r%\n"),
+    (128, EIGHT_CHANNELS),
+    (1, "begin\n"),
+];
 
-#[test]
-fn counts_reach_their_limits_and_pass_them(rt: HostRuntime) -> Result<(), Fail> {
-    let alloc = rt.alloc();
-    for (before, count, line, rest, printed) in ROWS {
-        let lines = numbered(alloc, count, line)?;
-        let text = format!(in alloc; "{before}{lines}{rest}")?;
+const CHANNEL_TOO_MANY: [Piece; 4] = [
+    (1, "media 1\n"),
+    (128, "dev l%\ndev r%\n"),
+    (128, EIGHT_CHANNELS),
+    (1, "chan audio l0 z r0 z\n"),
+];
+
+// A call on the text of each row prints what the row says.
+fn are_counted<R: Threads + Sync + Abort>(
+    rt: &R,
+    alloc: Global,
+    rows: &[Counted],
+) -> Result<(), AllocError> {
+    for (before, count, line, rest, printed) in rows {
+        let pieces = [(1, *before), (*count, *line), (1, *rest)];
         let status = u8::from(printed.starts_with("fault"));
-        let name = format!(in alloc; "{count} of {line}")?;
-        is_written(&rt, alloc, text.as_str(), status, printed, name.as_str())?;
+        is_answered_in_pieces(rt, alloc, &["run"], &pieces, status, printed, line)?;
     }
     Ok(())
 }
 
 #[test]
-fn states_channels_and_bytes_reach_their_limits_and_pass_them(rt: HostRuntime) -> Result<(), Fail> {
+fn counts_reach_their_limits_and_pass_them(rt: HostRuntime) -> Result<(), AllocError> {
+    are_counted(&rt, rt.alloc(), &ROWS)
+}
+
+#[test]
+fn states_channels_and_bytes_reach_their_limits_and_pass_them(
+    rt: HostRuntime,
+) -> Result<(), AllocError> {
     let alloc = rt.alloc();
-    for (count, status, printed) in [(64, 0, ""), (65, 1, "fault 14 line 3\n")] {
-        let text = states(alloc, count)?;
-        is_written(&rt, alloc, text.as_str(), status, printed, "states")?;
-    }
-    let table = [
-        ("begin\n", 0, ""),
-        ("chan audio l0 z r0 z\n", 1, "fault 14 line 1282\n"),
-    ];
-    for (rest, status, printed) in table {
-        let text = channels(alloc, rest)?;
-        is_written(&rt, alloc, text.as_str(), status, printed, rest)?;
-    }
-    // with 41,941 comments the six bytes of `settle` end at the limit
-    let table = [
-        (41_941, "settle", 0, CLOSED),
-        (41_941, "settle\n", 1, "fault 1 line 41947\n"),
-        (41_941, "settle now\r\nfly\n", 1, "fault 1 line 41947\n"),
-        (42_000, "fly\n", 1, "fault 1 line 41947\n"),
-    ];
-    for (count, rest, status, printed) in table {
-        let text = long_text(alloc, count, rest)?;
-        is_written(&rt, alloc, text.as_str(), status, printed, rest)?;
-    }
-    Ok(())
+    are_counted(&rt, alloc, &LONG_ROWS)?;
+    is_answered_in_pieces(&rt, alloc, &["run"], &STATES, 0, "", "states")?;
+    let printed = "fault 14 line 3\n";
+    is_answered_in_pieces(&rt, alloc, &["run"], &STATE_TOO_MANY, 1, printed, "states")?;
+    is_answered_in_pieces(&rt, alloc, &["run"], &CHANNELS, 0, "", "channels")?;
+    let printed = "fault 14 line 1282\n";
+    is_answered_in_pieces(
+        &rt,
+        alloc,
+        &["run"],
+        &CHANNEL_TOO_MANY,
+        1,
+        printed,
+        "channels",
+    )
 }

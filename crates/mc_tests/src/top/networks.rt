@@ -1,12 +1,9 @@
 // Networks of devices and features: links, paths of several tunnels, and rings.
 
-use super::{answered, is_equal, is_equal_at, is_written};
+use super::{Piece, Row, are_answered, is_answered_in_pieces, is_kept};
 use mc_box::{Change, Event, Turn};
 use mc_script::JournalLine;
-use std::alloc::{AllocError, Global};
-use std::process::Abort;
-use std::test::Fail;
-use std::thread::Threads;
+use std::alloc::AllocError;
 
 /// A path of four tunnels: three features link their two slots each.
 pub const FOUR_TUNNELS: &str = "media 1\n\
@@ -137,142 +134,169 @@ const AUDIO_AND_VIDEO: &str = "media 1\n\
     settle\n";
 
 /// Networks, the status of a call, and what it prints.
-pub const TABLE: [(&str, u8, &str); 8] = [
+pub const TABLE: [Row; 8] = [
     (
         AUDIO_AND_VIDEO,
+        "",
         0,
         "settle 1\npath alice/a bob/a open hold flowing audio\nhears alice/a g711\nhears bob/a g711\npath alice/v bob/v open hold flowing video\nhears alice/v g711\nhears bob/v g711\n",
     ),
     (
         FOUR_TUNNELS,
+        "",
         0,
         "settle 1\npath alice/a bob/a open open flowing audio\nhears alice/a g711\nhears bob/a g711\n",
     ),
     (
         HELD_THEN_REFUSED,
+        "",
         0,
         "settle 1\npath alice/a f/w open hold flowing audio\nhears alice/a none\nhears f/w none\npath f/e bob/a close close closed audio\nsettle 2\npath alice/a bob/a open close closed audio\n",
     ),
     (
         MOVED,
+        "",
         0,
         "settle 1\npath alice/a bob/a open hold flowing audio\nhears alice/a g711\nhears bob/a g711\npath carol/a f/c hold close closed audio\nsettle 2\npath alice/a carol/a open hold flowing audio\nhears alice/a g711\nhears carol/a g711\npath bob/a f/b hold hold flowing audio\nhears bob/a none\nhears f/b none\n",
     ),
     (
         MOVED_BETWEEN,
+        "",
         0,
         "settle 1\npath alice/a bob/a open hold flowing audio\nhears alice/a g711\nhears bob/a g711\npath f/q g/q close close closed audio\nsettle 2\npath alice/a bob/a open hold flowing audio\nhears alice/a g711\nhears bob/a g711\npath f/p g/p hold hold flowing audio\nhears f/p none\nhears g/p none\n",
     ),
-    (RING, 7, "ring x/a\n"),
-    (LATER_RING, 7, "ring y/b\n"),
+    (RING, "", 7, "ring x/a\n"),
+    (LATER_RING, "", 7, "ring y/b\n"),
     (
         NO_RING,
+        "",
         0,
         "settle 1\npath y/a y/b hold close closed audio\n",
     ),
 ];
 
 #[test]
-fn links_make_paths_and_rings(rt: HostRuntime) -> Result<(), Fail> {
-    for (text, status, printed) in TABLE {
-        is_written(&rt, rt.alloc(), text, status, printed, text)?;
-    }
-    Ok(())
-}
-
-// A call by draws from this state on prints this, and ends with this status.
-fn is_drawn<R: Threads + Sync + Abort>(
-    rt: &R,
-    alloc: Global,
-    state: &str,
-    text: &str,
-    status: u8,
-    printed: &str,
-) -> Result<(), AllocError> {
-    let (done, written) = answered(rt, alloc, &["one", state], text.as_bytes(), 64)?;
-    is_equal_at(rt, &done.status, &status, text);
-    is_equal_at(rt, &written.as_slice(), &printed.as_bytes(), text);
-    Ok(())
+fn links_make_paths_and_rings(rt: HostRuntime) -> Result<(), AllocError> {
+    are_answered(&rt, rt.alloc(), &["run"], &TABLE)
 }
 
 // The commands alone decide what is printed of these texts, wherever the draws begin.
 #[test]
-fn other_draws_print_the_same(rt: HostRuntime) -> Result<(), Fail> {
-    for state in ["1", "2", "3", "1000000007", "2147483647"] {
-        for (text, status, printed) in TABLE {
-            is_drawn(&rt, rt.alloc(), state, text, status, printed)?;
-        }
+fn other_draws_print_the_same(rt: HostRuntime) -> Result<(), AllocError> {
+    for state in &["1", "2", "3", "1000000007", "2147483647"] {
+        are_answered(&rt, rt.alloc(), &["one", state], &TABLE)?;
     }
     Ok(())
 }
 
-// The turn in which a box links its first two slots.
-fn linked(who: u32) -> JournalLine {
+// The turns in which two boxes link their first two slots each.
+const LINKED: [JournalLine; 2] = [
     JournalLine::Turn(Turn {
-        who,
+        who: 0,
         event: Event::Set(Change::Link(0, 1)),
-    })
-}
+    }),
+    JournalLine::Turn(Turn {
+        who: 1,
+        event: Event::Set(Change::Link(0, 1)),
+    }),
+];
 
 #[test]
-fn a_ring_keeps_the_turns_before_it(rt: HostRuntime) -> Result<(), Fail> {
-    let alloc = rt.alloc();
-    let (done, written) = answered(&rt, alloc, &["one", "0"], RING.as_bytes(), 64)?;
-    is_equal(&rt, &done.status, &7);
-    is_equal(&rt, &done.due, &7);
-    is_equal(&rt, &&done.journal[..], &&[linked(0), linked(1)][..]);
-    is_equal(&rt, &written.as_slice(), &b"ring x/a\n".as_slice());
-    Ok(())
-}
-
-// Two phones with 254 features in a row between them, of which each is to link its two slots.
-fn chain(alloc: Global) -> Result<String, AllocError> {
-    let mut text = String::from_str(alloc, "media 1\ncodec g711\ndev alice g711\ndev bob g711\n")?;
-    for number in 1..255 {
-        let line = format!(in alloc; "feat f{number}\n")?;
-        text.push_str(line.as_str())?;
-    }
-    text.push_str("chan audio alice a f1 w\n")?;
-    for number in 1..254 {
-        let next = number + 1;
-        let line = format!(in alloc; "chan audio f{number} e f{next} w\n")?;
-        text.push_str(line.as_str())?;
-    }
-    text.push_str("chan audio f254 e bob a\nbegin\n")?;
-    for number in 1..255 {
-        let line = format!(in alloc; "link f{number} w e\n")?;
-        text.push_str(line.as_str())?;
-    }
-    Ok(text)
-}
-
-#[test]
-fn a_call_over_254_features_is_made_and_ended_ten_times(rt: HostRuntime) -> Result<(), Fail> {
-    let alloc = rt.alloc();
-    let mut text = chain(alloc)?;
-    let mut printed = String::new(alloc);
-    text.push_str("set bob a hold\n")?;
-    for number in 1..21 {
-        let (goal, rest) = if number % 2 == 1 {
-            (
-                "open",
-                "hold flowing audio\nhears alice/a g711\nhears bob/a g711\n",
-            )
-        } else {
-            ("close", "hold closed audio\n")
-        };
-        let lines = format!(in alloc; "set alice a {goal}\nsettle\n")?;
-        text.push_str(lines.as_str())?;
-        let lines = format!(in alloc; "settle {number}\npath alice/a bob/a {goal} {rest}")?;
-        printed.push_str(lines.as_str())?;
-    }
-    is_written(
+fn a_ring_keeps_the_turns_before_it(rt: HostRuntime) -> Result<(), AllocError> {
+    is_kept(
         &rt,
-        alloc,
-        text.as_str(),
+        rt.alloc(),
+        &["one", "0"],
+        RING,
+        7,
+        &LINKED,
+        "ring x/a\n",
+    )
+}
+
+// Two phones with 254 features in a row between them, of which each is to link its two slots: one calls the other ten
+// times.
+const CHAIN: [Piece; 8] = [
+    (1, "media 1\ncodec g711\ndev alice g711\ndev bob g711\n"),
+    (254, "feat f%\n"),
+    (1, "chan audio alice a f0 w\n"),
+    (253, "chan audio f% e f^ w\n"),
+    (1, "chan audio f253 e bob a\nbegin\n"),
+    (254, "link f% w e\n"),
+    (1, "set bob a hold\n"),
+    (10, "set alice a open\nsettle\nset alice a close\nsettle\n"),
+];
+
+const CHAIN_PRINTED: &str = "settle 1\n\
+    path alice/a bob/a open hold flowing audio\n\
+    hears alice/a g711\n\
+    hears bob/a g711\n\
+    settle 2\n\
+    path alice/a bob/a close hold closed audio\n\
+    settle 3\n\
+    path alice/a bob/a open hold flowing audio\n\
+    hears alice/a g711\n\
+    hears bob/a g711\n\
+    settle 4\n\
+    path alice/a bob/a close hold closed audio\n\
+    settle 5\n\
+    path alice/a bob/a open hold flowing audio\n\
+    hears alice/a g711\n\
+    hears bob/a g711\n\
+    settle 6\n\
+    path alice/a bob/a close hold closed audio\n\
+    settle 7\n\
+    path alice/a bob/a open hold flowing audio\n\
+    hears alice/a g711\n\
+    hears bob/a g711\n\
+    settle 8\n\
+    path alice/a bob/a close hold closed audio\n\
+    settle 9\n\
+    path alice/a bob/a open hold flowing audio\n\
+    hears alice/a g711\n\
+    hears bob/a g711\n\
+    settle 10\n\
+    path alice/a bob/a close hold closed audio\n\
+    settle 11\n\
+    path alice/a bob/a open hold flowing audio\n\
+    hears alice/a g711\n\
+    hears bob/a g711\n\
+    settle 12\n\
+    path alice/a bob/a close hold closed audio\n\
+    settle 13\n\
+    path alice/a bob/a open hold flowing audio\n\
+    hears alice/a g711\n\
+    hears bob/a g711\n\
+    settle 14\n\
+    path alice/a bob/a close hold closed audio\n\
+    settle 15\n\
+    path alice/a bob/a open hold flowing audio\n\
+    hears alice/a g711\n\
+    hears bob/a g711\n\
+    settle 16\n\
+    path alice/a bob/a close hold closed audio\n\
+    settle 17\n\
+    path alice/a bob/a open hold flowing audio\n\
+    hears alice/a g711\n\
+    hears bob/a g711\n\
+    settle 18\n\
+    path alice/a bob/a close hold closed audio\n\
+    settle 19\n\
+    path alice/a bob/a open hold flowing audio\n\
+    hears alice/a g711\n\
+    hears bob/a g711\n\
+    settle 20\n\
+    path alice/a bob/a close hold closed audio\n";
+
+#[test]
+fn a_call_over_254_features_is_made_and_ended_ten_times(rt: HostRuntime) -> Result<(), AllocError> {
+    is_answered_in_pieces(
+        &rt,
+        rt.alloc(),
+        &["run"],
+        &CHAIN,
         0,
-        printed.as_str(),
+        CHAIN_PRINTED,
         "254 features",
-    )?;
-    Ok(())
+    )
 }

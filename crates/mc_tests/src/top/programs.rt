@@ -1,11 +1,9 @@
 // Programs of boxes: an exchange that swaps two calls, a prepaid box, and boxes that don't come to rest.
-ghost use Rattle.std.specs.Prelude.{◌<◌};
 
-use super::{answered, is_equal, is_written};
+use super::{Piece, Row, are_answered, is_answered_in_pieces, is_kept, text_of};
 use mc_box::{Event, Turn};
 use mc_script::JournalLine;
-use std::alloc::{AllocError, Global};
-use std::test::Fail;
+use std::alloc::AllocError;
 
 /// An exchange that links alice with bob or with carol, and keeps the other one on hold.
 pub const SWAP: &str = "media 1\n\
@@ -255,26 +253,24 @@ const GUARDED: &str = "media 1\n\
     begin\n\
     settle\n";
 
-const TABLE: [(&str, u8, &str); 7] = [
-    (SWAP, 0, SWAPPED),
-    (SET_OVER, 0, TAKEN_BACK),
-    (PREPAID, 0, PROMPTED),
-    (PAID_TOO_EARLY, 0, STILL_PROMPTED),
-    (RING_BY_A_PROGRAM, 7, "ring x/a\n"),
-    (RESTLESS, 6, "restless p\n"),
+const TABLE: [Row; 7] = [
+    (SWAP, "", 0, SWAPPED),
+    (SET_OVER, "", 0, TAKEN_BACK),
+    (PREPAID, "", 0, PROMPTED),
+    (PAID_TOO_EARLY, "", 0, STILL_PROMPTED),
+    (RING_BY_A_PROGRAM, "", 7, "ring x/a\n"),
+    (RESTLESS, "", 6, "restless p\n"),
     (
         GUARDED,
+        "",
         0,
         "settle 1\npath d/a p/a close close closed audio\n",
     ),
 ];
 
 #[test]
-fn programs_set_goals_and_links(rt: HostRuntime) -> Result<(), Fail> {
-    for (text, status, printed) in TABLE {
-        is_written(&rt, rt.alloc(), text, status, printed, text)?;
-    }
-    Ok(())
+fn programs_set_goals_and_links(rt: HostRuntime) -> Result<(), AllocError> {
+    are_answered(&rt, rt.alloc(), &["run"], &TABLE)
 }
 
 const P: u32 = 1;
@@ -285,86 +281,100 @@ const SHIFT: JournalLine = JournalLine::Turn(Turn {
 });
 
 #[test]
-fn a_restless_box_makes_256_shifts(rt: HostRuntime) -> Result<(), Fail> {
-    let alloc = rt.alloc();
-    let (done, written) = answered(&rt, alloc, &["run"], RESTLESS.as_bytes(), 64)?;
-    is_equal(&rt, &done.status, &6);
-    is_equal(&rt, &done.due, &6);
-    is_equal(&rt, &done.journal.len(), &256);
-    for line in &done.journal {
-        is_equal(&rt, line, &SHIFT);
-    }
-    is_equal(&rt, &written.as_slice(), &b"restless p\n".as_slice());
-    Ok(())
+fn a_restless_box_makes_256_shifts(rt: HostRuntime) -> Result<(), AllocError> {
+    is_kept(
+        &rt,
+        rt.alloc(),
+        &["run"],
+        RESTLESS,
+        6,
+        &[SHIFT; 256],
+        "restless p\n",
+    )
 }
 
 #[test]
-fn a_guarded_box_makes_one_shift(rt: HostRuntime) -> Result<(), Fail> {
-    let alloc = rt.alloc();
-    let (done, _) = answered(&rt, alloc, &["run"], GUARDED.as_bytes(), 64)?;
-    is_equal(&rt, &&done.journal[..], &&[SHIFT, JournalLine::Settled][..]);
-    Ok(())
+fn a_guarded_box_makes_one_shift(rt: HostRuntime) -> Result<(), AllocError> {
+    is_kept(
+        &rt,
+        rt.alloc(),
+        &["run"],
+        GUARDED,
+        0,
+        &[SHIFT, JournalLine::Settled],
+        "settle 1\npath d/a p/a close close closed audio\n",
+    )
 }
 
-const STATES: [&str; 64] = [
-    "a", "b", "c", "d", "e", "f", "g", "h", "i", "j", "k", "l", "m", "n", "o", "p", "q", "r", "s",
-    "t", "u", "v", "w", "x", "y", "z", "a0", "a1", "a2", "a3", "a4", "a5", "a6", "a7", "a8", "a9",
-    "b0", "b1", "b2", "b3", "b4", "b5", "b6", "b7", "b8", "b9", "c0", "c1", "c2", "c3", "c4", "c5",
-    "c6", "c7", "c8", "c9", "d0", "d1", "d2", "d3", "d4", "d5", "d6", "d7",
+// A state of 16 words, of which the last one leads on. The slot is closed.
+const STATE: &str = "state s%\n\
+    goal a close\n\
+    when told w0 s0\n\
+    when told w1 s0\n\
+    when told w2 s0\n\
+    when told w3 s0\n\
+    when told w4 s0\n\
+    when told w5 s0\n\
+    when told w6 s0\n\
+    when told w7 s0\n\
+    when told w8 s0\n\
+    when told w9 s0\n\
+    when told w10 s0\n\
+    when told w11 s0\n\
+    when told w12 s0\n\
+    when told w13 s0\n\
+    when told w14 s0\n\
+    when told w15 s^\n";
+
+// The slot is held in the last state alone, and its last word leads to the first one.
+const LAST_STATE: &str = "state s63\n\
+    goal a hold\n\
+    when told w0 s0\n\
+    when told w1 s0\n\
+    when told w2 s0\n\
+    when told w3 s0\n\
+    when told w4 s0\n\
+    when told w5 s0\n\
+    when told w6 s0\n\
+    when told w7 s0\n\
+    when told w8 s0\n\
+    when told w9 s0\n\
+    when told w10 s0\n\
+    when told w11 s0\n\
+    when told w12 s0\n\
+    when told w13 s0\n\
+    when told w14 s0\n\
+    when told w15 s0\n";
+
+const STATES: [Piece; 8] = [
+    (1, "media 1\ndev d\nfeat p\nchan audio d a p a\nprog p"),
+    (64, " s%"),
+    (1, "\n"),
+    (63, STATE),
+    (1, LAST_STATE),
+    (1, "begin\nset d a open\n"),
+    (63, "settle\ntell p w15\n"),
+    (1, "settle\n"),
 ];
 
-// The first part of a program of 64 states, with the line that lists them.
-fn listed_states(alloc: Global) -> Result<String, AllocError> {
-    let mut text = String::from_str(alloc, "media 1\ndev d\nfeat p\nchan audio d a p a\nprog p")?;
-    for state in STATES {
-        text.push_str(" ")?;
-        text.push_str(state)?;
-    }
-    text.push_str("\n")?;
-    Ok(text)
-}
-
-// Its parts: of the 16 words of a state the last one leads on, and the slot is held in the last state alone.
-fn parts(alloc: Global, text: &mut String) -> Result<(), AllocError> {
-    for number in 0..64 {
-        let state = STATES[number];
-        let goal = if number == 63 { "hold" } else { "close" };
-        let head = format!(in alloc; "state {state}\ngoal a {goal}\n")?;
-        text.push_str(head.as_str())?;
-        transitions(alloc, number, text)?;
-    }
-    Ok(())
-}
-
-fn transitions(alloc: Global, number: usize, text: &mut String) -> Result<(), AllocError>
-    requires { number < 64 }
-{
-    for word in 0..15 {
-        let line = format!(in alloc; "when told w{word} a\n")?;
-        text.push_str(line.as_str())?;
-    }
-    let next = if number < 63 { STATES[number + 1] } else { "a" };
-    let line = format!(in alloc; "when told w15 {next}\n")?;
-    text.push_str(line.as_str())?;
-    Ok(())
-}
+const STATES_PRINTED: [Piece; 2] = [
+    (63, "settle ^\npath d/a p/a open close closed audio\n"),
+    (
+        1,
+        "settle 64\npath d/a p/a open hold flowing audio\nhears d/a none\nhears p/a none\n",
+    ),
+];
 
 #[test]
-fn a_program_goes_through_64_states(rt: HostRuntime) -> Result<(), Fail> {
-    let alloc = rt.alloc();
-    let mut text = listed_states(alloc)?;
-    parts(alloc, &mut text)?;
-    text.push_str("begin\nset d a open\n")?;
-    let mut printed = String::new(alloc);
-    for number in 1..64 {
-        text.push_str("settle\ntell p w15\n")?;
-        let lines = format!(in alloc; "settle {number}\npath d/a p/a open close closed audio\n")?;
-        printed.push_str(lines.as_str())?;
-    }
-    text.push_str("settle\n")?;
-    printed.push_str(
-        "settle 64\npath d/a p/a open hold flowing audio\nhears d/a none\nhears p/a none\n",
-    )?;
-    is_written(&rt, alloc, text.as_str(), 0, printed.as_str(), "64 states")?;
-    Ok(())
+fn a_program_goes_through_64_states(rt: HostRuntime) -> Result<(), AllocError> {
+    let printed = text_of(rt.alloc(), &STATES_PRINTED)?;
+    is_answered_in_pieces(
+        &rt,
+        rt.alloc(),
+        &["run"],
+        &STATES,
+        0,
+        printed.as_str(),
+        "64 states",
+    )
 }

@@ -1,13 +1,12 @@
 // Texts that are refused: the number and the line that are written.
 
-use super::is_written;
+use super::{Row, are_answered, is_answered};
 use std::alloc::{AllocError, Global};
 use std::process::Abort;
-use std::test::Fail;
 use std::thread::Threads;
 
 // A line of a text, what stands in its place, and the number and the line of the fault.
-type Row = (&'static str, &'static str, u8, u32);
+type Fault = (&'static str, &'static str, u8, u32);
 
 // Two phones, which can be run.
 const PHONES: &str = "media 1\n\
@@ -21,7 +20,7 @@ const PHONES: &str = "media 1\n\
     set bob a hold\n\
     settle\n";
 
-const PHONE_ROWS: [Row; 36] = [
+const PHONE_ROWS: [Fault; 36] = [
     // A tunnel more, of the last channel.
     ("chan audio alice a bob a", "also video v v", 5, 6),
     ("set bob a hold", "also video v v", 5, 9),
@@ -112,7 +111,7 @@ const SWITCH: &str = "media 1\n\
     settle\n";
 
 // Codecs, boxes and channels.
-const NETWORK_ROWS: [Row; 38] = [
+const NETWORK_ROWS: [Fault; 38] = [
     ("dev alice g711 g729", "dev alice g711 G729", 4, 4),
     ("dev bob 7 g729", "dev bob 7 7 g729", 4, 5),
     ("dev bob 7 g729", "dev bob g729 7", 4, 5),
@@ -169,7 +168,7 @@ const NETWORK_ROWS: [Row; 38] = [
 ];
 
 // Programs, and the line that ends them.
-const PROGRAM_ROWS: [Row; 51] = [
+const PROGRAM_ROWS: [Fault; 51] = [
     ("prog f talk wait", "prog h talk wait", 4, 12),
     ("when told swap wait", "when told swap stop", 4, 16),
     ("when is w closed talk", "when is w closed Talk", 4, 21),
@@ -229,7 +228,7 @@ const PROGRAM_ROWS: [Row; 51] = [
 ];
 
 // Commands. Any program's word may be told to each box that has a program.
-const COMMAND_ROWS: [Row; 39] = [
+const COMMAND_ROWS: [Fault; 39] = [
     ("tell f swap", "tell h swap", 4, 24),
     ("tell f swap", "tell f talk", 4, 24),
     ("hear alice v off", "hear carol v off", 4, 25),
@@ -272,7 +271,7 @@ const COMMAND_ROWS: [Row; 39] = [
 ];
 
 // Lines that break several rules, and several such lines.
-const LEAST_ROWS: [Row; 21] = [
+const LEAST_ROWS: [Fault; 21] = [
     ("settle", "dev x zed", 4, 28),
     ("chan audio alice a f w", "chan sound carol", 4, 8),
     ("dev bob 7 g729", "dev bob 0 g722", 4, 5),
@@ -317,26 +316,37 @@ const LEAST_ROWS: [Row; 21] = [
 ];
 
 // Short texts, and the number and the line of the fault. The end of a text is one more line.
-const SHORT: [(&str, u8, u32); 15] = [
-    ("", 17, 1),
-    ("\n", 17, 2),
-    ("   \n# none", 17, 3),
-    ("fly\nmedia 1", 17, 1),
-    ("media 1", 16, 2),
-    ("media 1\n", 16, 2),
-    ("media 1\n\n# none\n", 16, 4),
-    ("media 1\nsettle\n", 16, 3),
-    ("media 1\nsettle\nbegin\n", 5, 3),
-    ("media 1\nfly", 5, 2),
+const SHORT: [Row; 15] = [
+    ("", "", 1, "fault 17 line 1\n"),
+    ("\n", "", 1, "fault 17 line 2\n"),
+    ("   \n# none", "", 1, "fault 17 line 3\n"),
+    ("fly\nmedia 1", "", 1, "fault 17 line 1\n"),
+    ("media 1", "", 1, "fault 16 line 2\n"),
+    ("media 1\n", "", 1, "fault 16 line 2\n"),
+    ("media 1\n\n# none\n", "", 1, "fault 16 line 4\n"),
+    ("media 1\nsettle\n", "", 1, "fault 16 line 3\n"),
+    ("media 1\nsettle\nbegin\n", "", 1, "fault 5 line 3\n"),
+    ("media 1\nfly", "", 1, "fault 5 line 2\n"),
     // no channel is declared yet
-    ("media 1\ncodec g711\ndev a g711\nalso audio a f\n", 5, 4),
-    ("media 1\n\n  # none\n  \nfly", 5, 5),
-    ("media 1\nfeat f\nprog f s\n", 15, 4),
-    ("media 1\nfeat f\nprog f s\nfly\n", 5, 4),
+    (
+        "media 1\ncodec g711\ndev a g711\nalso audio a f\n",
+        "",
+        1,
+        "fault 5 line 4\n",
+    ),
+    ("media 1\n\n  # none\n  \nfly", "", 1, "fault 5 line 5\n"),
+    ("media 1\nfeat f\nprog f s\n", "", 1, "fault 15 line 4\n"),
+    (
+        "media 1\nfeat f\nprog f s\nfly\n",
+        "",
+        1,
+        "fault 5 line 4\n",
+    ),
     (
         "media 1\ndev a\nfeat f\nchan audio a s f s\nprog f s\nstate s\n",
-        15,
-        7,
+        "",
+        1,
+        "fault 15 line 7\n",
     ),
 ];
 
@@ -347,8 +357,8 @@ const FLOWING: &str = "settle 1\n\
     hears bob/a g729\n";
 
 // Texts that can be run, and what is written for each.
-const RUN: [(&str, &str); 7] = [
-    (PHONES, FLOWING),
+const RUN: [Row; 7] = [
+    (PHONES, "", 0, FLOWING),
     // blank lines, comments and spare spaces
     (
         "# two phones\n\
@@ -369,6 +379,8 @@ const RUN: [(&str, &str); 7] = [
         \n\
         \x20settle\n\
         # no more",
+        "",
+        0,
         FLOWING,
     ),
     // a word may be a name in each list, fixed words too
@@ -382,6 +394,8 @@ const RUN: [(&str, &str); 7] = [
         set dev begin open\n\
         set begin set hold\n\
         settle\n",
+        "",
+        0,
         "settle 1\n\
         path dev/begin begin/set open hold flowing audio\n\
         hears dev/begin codec\n\
@@ -399,14 +413,16 @@ const RUN: [(&str, &str); 7] = [
         set desk cam open\n\
         set room-2_ cam open\n\
         settle\n",
+        "",
+        0,
         "settle 1\n\
         path room-2_/cam desk/cam open open flowing video\n\
         hears room-2_/cam h264\n\
         hears desk/cam vp8\n",
     ),
     // boxes without channels, and none at all
-    ("media 1\nbegin\n", ""),
-    ("media 1\ndev a\nbegin\nsettle", "settle 1\n"),
+    ("media 1\nbegin\n", "", 0, ""),
+    ("media 1\ndev a\nbegin\nsettle", "", 0, "settle 1\n"),
     // two devices of three
     (
         "media 1\n\
@@ -419,6 +435,8 @@ const RUN: [(&str, &str); 7] = [
         set c y open\n\
         set a x hold\n\
         settle\n",
+        "",
+        0,
         "settle 1\n\
         path a/x c/y hold open flowing audio\n\
         hears a/x g711\n\
@@ -453,66 +471,61 @@ const SWITCHED: [(&str, &str, &str); 4] = [
     ),
 ];
 
-// A call with this text is refused by this number and line.
-fn is_refused<R: Threads + Sync + Abort>(
-    rt: &R,
-    alloc: Global,
-    text: &str,
-    number: u8,
-    line: u32,
-    name: &str,
-) -> Result<(), AllocError> {
-    let printed = format!(in alloc; "fault {number} line {line}\n")?;
-    is_written(rt, alloc, text, 1, printed.as_str(), name)
-}
-
 // With each row's lines in place of its line, the text is refused by the row's number and line.
 fn are_refused<R: Threads + Sync + Abort>(
     rt: &R,
     alloc: Global,
     text: &str,
-    rows: &[Row],
+    rows: &[Fault],
 ) -> Result<(), AllocError> {
     for (line, instead, number, at) in rows {
         let faulty = text.replacen(alloc, *line, instead, 1)?;
-        is_refused(rt, alloc, faulty.as_str(), *number, *at, instead)?;
+        let printed = format!(in alloc; "fault {number} line {at}\n")?;
+        is_answered(
+            rt,
+            alloc,
+            &["run"],
+            faulty.as_str(),
+            1,
+            printed.as_str(),
+            instead,
+        )?;
     }
     Ok(())
 }
 
 #[test]
-fn the_first_faulty_line_is_named_by_the_least_rule(rt: HostRuntime) -> Result<(), Fail> {
-    let alloc = rt.alloc();
-    are_refused(&rt, alloc, PHONES, &PHONE_ROWS)?;
-    are_refused(&rt, alloc, SWITCH, &NETWORK_ROWS)?;
-    are_refused(&rt, alloc, SWITCH, &PROGRAM_ROWS)?;
-    are_refused(&rt, alloc, SWITCH, &COMMAND_ROWS)?;
-    are_refused(&rt, alloc, SWITCH, &LEAST_ROWS)?;
-    Ok(())
+fn the_first_faulty_line_is_named_by_the_least_rule(rt: HostRuntime) -> Result<(), AllocError> {
+    are_refused(&rt, rt.alloc(), PHONES, &PHONE_ROWS)?;
+    are_refused(&rt, rt.alloc(), SWITCH, &NETWORK_ROWS)?;
+    are_refused(&rt, rt.alloc(), SWITCH, &PROGRAM_ROWS)?;
+    are_refused(&rt, rt.alloc(), SWITCH, &COMMAND_ROWS)?;
+    are_refused(&rt, rt.alloc(), SWITCH, &LEAST_ROWS)
 }
 
 #[test]
-fn the_end_of_a_text_is_one_more_line(rt: HostRuntime) -> Result<(), Fail> {
-    for (text, number, line) in SHORT {
-        is_refused(&rt, rt.alloc(), text, number, line, text)?;
-    }
-    Ok(())
+fn the_end_of_a_text_is_one_more_line(rt: HostRuntime) -> Result<(), AllocError> {
+    are_answered(&rt, rt.alloc(), &["run"], &SHORT)
 }
 
 #[test]
-fn skipped_lines_and_spare_spaces_change_nothing(rt: HostRuntime) -> Result<(), Fail> {
-    for (text, printed) in RUN {
-        is_written(&rt, rt.alloc(), text, 0, printed, text)?;
-    }
-    Ok(())
+fn skipped_lines_and_spare_spaces_change_nothing(rt: HostRuntime) -> Result<(), AllocError> {
+    are_answered(&rt, rt.alloc(), &["run"], &RUN)
 }
 
 #[test]
-fn a_text_with_programs_is_run(rt: HostRuntime) -> Result<(), Fail> {
-    let alloc = rt.alloc();
-    for (line, instead, printed) in SWITCHED {
-        let text = SWITCH.replacen(alloc, line, instead, 1)?;
-        is_written(&rt, alloc, text.as_str(), 0, printed, instead)?;
+fn a_text_with_programs_is_run(rt: HostRuntime) -> Result<(), AllocError> {
+    for (line, instead, printed) in &SWITCHED {
+        let text = SWITCH.replacen(rt.alloc(), *line, instead, 1)?;
+        is_answered(
+            &rt,
+            rt.alloc(),
+            &["run"],
+            text.as_str(),
+            0,
+            printed,
+            instead,
+        )?;
     }
     Ok(())
 }

@@ -1,11 +1,7 @@
 // Modes that read nothing: what they print, and which words are theirs.
 
-use super::{ROOM, call, is_equal, is_equal_at, is_usage};
-use mc_io::MemSource;
-use std::alloc::{AllocError, Global};
-use std::process::Abort;
-use std::test::Fail;
-use std::thread::Threads;
+use super::{answered, are_no_command, is_answered_unread, is_equal};
+use std::alloc::AllocError;
 
 // Words, and what is printed for them.
 const PRINTED: [(&[&str], &str); 3] = [
@@ -68,36 +64,22 @@ const PRINTED: [(&[&str], &str); 3] = [
     ),
 ];
 
-// What a call with these words prints. It works, and nothing is read.
-fn printed<R: Threads + Sync + Abort>(
-    rt: &R,
-    alloc: Global,
-    words: &[&str],
-) -> Result<Vec<u8>, AllocError> {
-    let bytes = Vec::from_slice(alloc, b"fly\n")?;
-    let mut source = MemSource::new(bytes, 64, Vec::new(alloc));
-    let (done, written) = call(rt, alloc, words, &mut source, ROOM, Vec::new(alloc))?;
-    is_equal(rt, &done.status, &0);
-    is_equal(rt, &source.calls, &0);
-    Ok(written)
-}
-
 #[test]
-fn scenes_and_chains_read_nothing(rt: HostRuntime) -> Result<(), Fail> {
-    for (words, wanted) in PRINTED {
-        let written = printed(&rt, rt.alloc(), words)?;
-        is_equal_at(&rt, &written.as_slice(), &wanted.as_bytes(), wanted);
+fn scenes_and_chains_read_nothing(rt: HostRuntime) -> Result<(), AllocError> {
+    for (words, printed) in &PRINTED {
+        is_answered_unread(&rt, rt.alloc(), words, 0, printed)?;
     }
     Ok(())
 }
 
 #[test]
-fn the_most_chains_are_drawn_twice_alike(rt: HostRuntime) -> Result<(), Fail> {
-    let words = ["gen", "7", "50"];
-    let first = printed(&rt, rt.alloc(), &words)?;
-    let second = printed(&rt, rt.alloc(), &words)?;
-    is_equal(&rt, &first.as_slice(), &second.as_slice());
-    assert!(rt; first.starts_with(b"gen 7 50\nboxes "));
+fn the_most_chains_are_drawn_twice_alike(rt: HostRuntime) -> Result<(), AllocError> {
+    let first = answered(&rt, rt.alloc(), &["gen", "7", "50"], b"fly\n")?;
+    let second = answered(&rt, rt.alloc(), &["gen", "7", "50"], b"fly\n")?;
+    is_equal(&rt, &first.written.as_slice(), &second.written.as_slice());
+    is_equal(&rt, &(first.done.status, first.reads), &(0, 0));
+    is_equal(&rt, &(second.done.status, second.reads), &(0, 0));
+    assert!(rt; first.written.starts_with(b"gen 7 50\nboxes "));
     Ok(())
 }
 
@@ -121,9 +103,6 @@ const OTHER_WORDS: [&[&str]; 16] = [
 ];
 
 #[test]
-fn other_words_are_no_scene(rt: HostRuntime) -> Result<(), Fail> {
-    for words in OTHER_WORDS {
-        is_usage(&rt, rt.alloc(), words)?;
-    }
-    Ok(())
+fn other_words_are_no_scene(rt: HostRuntime) -> Result<(), AllocError> {
+    are_no_command(&rt, rt.alloc(), &OTHER_WORDS)
 }

@@ -3,13 +3,12 @@
 use super::journals::is_accepted;
 use super::networks::{FOUR_TUNNELS, TABLE};
 use super::programs::{SWAP, SWAPPED};
-use super::{FLOWING, PHONES, ROOM, call, is_equal, is_equal_at, top, words_of};
-use mc_io::{Gate, MemSink, MemSource, OpenGate};
+use super::{CALLED, FLOWING, Piece, answered, call, is_equal, text_of};
+use mc_io::{Gate, OpenGate};
 use std::alloc::{AllocError, Global};
 use std::hint::spin_loop;
 use std::process::Abort;
 use std::sync::atomic::{AtomicBool, Ordering};
-use std::test::Fail;
 use std::thread::Threads;
 
 // A call with the word `run` on a text under this gate ends well, and prints this.
@@ -20,13 +19,9 @@ fn is_run_under<R: Threads + Sync + Abort, G: Gate + Sync>(
     text: &str,
     printed: &str,
 ) -> Result<(), AllocError> {
-    let bytes = Vec::from_slice(alloc, text.as_bytes())?;
-    let mut source = MemSource::new(bytes, 4096, Vec::new(alloc));
-    let mut sink = MemSink::new(alloc, ROOM, ROOM, Vec::new(alloc))?;
-    let words = words_of(alloc, &["run"])?;
-    let done = top(rt, alloc, words, &mut source, &mut sink, gate);
-    is_equal(rt, &done.status, &0);
-    is_equal(rt, &sink.bytes.as_slice(), &printed.as_bytes());
+    let call = call(rt, alloc, gate, &["run"], text.as_bytes(), 0, 0)?;
+    is_equal(rt, &call.done.status, &0);
+    is_equal(rt, &call.written.as_slice(), &printed.as_bytes());
     Ok(())
 }
 
@@ -48,13 +43,12 @@ const FOUR_TUNNELS_FLOW: &str =
     "settle 1\npath alice/a bob/a open open flowing audio\nhears alice/a g711\nhears bob/a g711\n";
 
 #[test]
-fn slow_boxes_print_the_same(rt: HostRuntime) -> Result<(), Fail> {
+fn slow_boxes_print_the_same(rt: HostRuntime) -> Result<(), AllocError> {
     let gate = SlowGate {
         flag: AtomicBool::new(false),
     };
     is_run_under(&rt, rt.alloc(), &gate, FOUR_TUNNELS, FOUR_TUNNELS_FLOW)?;
-    is_run_under(&rt, rt.alloc(), &OpenGate, FOUR_TUNNELS, FOUR_TUNNELS_FLOW)?;
-    Ok(())
+    is_run_under(&rt, rt.alloc(), &OpenGate, FOUR_TUNNELS, FOUR_TUNNELS_FLOW)
 }
 
 // How often a box looks for the other at most. Between two looks it leaves its processor to others for a moment.
@@ -113,121 +107,79 @@ impl Gate for MeetingGate {
 
 // Each waits at its first turn for the other's, so they meet on two threads alone.
 #[test]
-fn two_boxes_run_at_once(rt: HostRuntime) -> Result<(), Fail> {
-    let alloc = rt.alloc();
+fn two_boxes_run_at_once(rt: HostRuntime) -> Result<(), AllocError> {
     let gate = MeetingGate {
         first: Guest::new(),
         second: Guest::new(),
     };
-    let text = format!(in alloc; "{PHONES}set alice a open\nset bob a hold\nsettle\n")?;
-    is_run_under(&rt, alloc, &gate, text.as_str(), FLOWING)?;
+    is_run_under(&rt, rt.alloc(), &gate, CALLED, FLOWING)?;
     assert!(rt; gate.first.met.load(Ordering::SeqCst));
     assert!(rt; gate.second.met.load(Ordering::SeqCst));
     Ok(())
 }
 
 #[test]
-fn journals_of_threads_are_accepted(rt: HostRuntime) -> Result<(), Fail> {
-    for (text, status, printed) in TABLE {
-        if status == 0 {
+fn journals_of_threads_are_accepted(rt: HostRuntime) -> Result<(), AllocError> {
+    for (text, _, status, printed) in &TABLE {
+        if *status == 0 {
             is_accepted(&rt, rt.alloc(), &["run", "--journal"], text, printed)?;
         }
     }
-    is_accepted(&rt, rt.alloc(), &["run", "--journal"], SWAP, SWAPPED)?;
-    Ok(())
+    is_accepted(&rt, rt.alloc(), &["run", "--journal"], SWAP, SWAPPED)
 }
 
-const CALLS: u32 = 64;
+// The left phones of a group of calls get this goal.
+const OPEN: &str = "set la% s open\nset lb% s open\nset lc% s open\nset ld% s open\n";
 
-// How many features the path of a call goes through.
-fn features_of(call: u32) -> u32 {
-    call % 4
-}
+const CLOSE: &str = "set la% s close\nset lb% s close\nset lc% s close\nset ld% s close\n";
 
-// The two phones of a call, and its features.
-fn add_boxes(alloc: Global, call: u32, text: &mut String) -> Result<(), AllocError> {
-    let line = format!(in alloc; "dev l{call} g711\ndev r{call} g711\n")?;
-    text.push_str(line.as_str())?;
-    for feature in 0..features_of(call) {
-        let line = format!(in alloc; "feat f{call}_{feature}\n")?;
-        text.push_str(line.as_str())?;
-    }
-    Ok(())
-}
-
-// The channels of a call, from its left phone on.
-fn add_channels(alloc: Global, call: u32, text: &mut String) -> Result<(), AllocError> {
-    let line = format!(in alloc; "chan audio l{call} s")?;
-    text.push_str(line.as_str())?;
-    for feature in 0..features_of(call) {
-        let line = format!(in alloc; " f{call}_{feature} w\nchan audio f{call}_{feature} e")?;
-        text.push_str(line.as_str())?;
-    }
-    let line = format!(in alloc; " r{call} s\n")?;
-    text.push_str(line.as_str())?;
-    Ok(())
-}
-
-// The links of a call, and its right phone's goal.
-fn add_links(alloc: Global, call: u32, text: &mut String) -> Result<(), AllocError> {
-    for feature in 0..features_of(call) {
-        let line = format!(in alloc; "link f{call}_{feature} w e\n")?;
-        text.push_str(line.as_str())?;
-    }
-    let line = format!(in alloc; "set r{call} s hold\n")?;
-    text.push_str(line.as_str())?;
-    Ok(())
-}
-
-// All left phones get this goal, and the network settles.
-fn add_settle(alloc: Global, goal: &str, text: &mut String) -> Result<(), AllocError> {
-    for call in 0..CALLS {
-        let line = format!(in alloc; "set l{call} s {goal}\n")?;
-        text.push_str(line.as_str())?;
-    }
-    text.push_str("settle\n")?;
-    Ok(())
-}
-
-// Calls side by side, with up to three features between the two phones of each.
-fn network(alloc: Global) -> Result<String, AllocError> {
-    let mut text = String::from_str(alloc, "media 1\ncodec g711\n")?;
-    for call in 0..CALLS {
-        add_boxes(alloc, call, &mut text)?;
-    }
-    for call in 0..CALLS {
-        add_channels(alloc, call, &mut text)?;
-    }
-    text.push_str("begin\n")?;
-    for call in 0..CALLS {
-        add_links(alloc, call, &mut text)?;
-    }
-    Ok(text)
-}
-
-// What a call with these words prints of a text.
-fn printed_of<R: Threads + Sync + Abort>(
-    rt: &R,
-    alloc: Global,
-    words: &[&str],
-    text: &str,
-) -> Result<Vec<u8>, AllocError> {
-    let bytes = Vec::from_slice(alloc, text.as_bytes())?;
-    let mut source = MemSource::new(bytes, 4096, Vec::new(alloc));
-    let (done, written) = call(rt, alloc, words, &mut source, ROOM, Vec::new(alloc))?;
-    is_equal_at(rt, &done.status, &0, "64 calls");
-    Ok(written)
-}
+// 64 calls side by side, in sixteen groups: with no feature between the two phones, with one, with two and with three.
+const CALLS: [Piece; 11] = [
+    (1, "media 1\ncodec g711\n"),
+    (
+        16,
+        "dev la% g711\ndev ra% g711\n\
+        dev lb% g711\ndev rb% g711\nfeat fb%_0\n\
+        dev lc% g711\ndev rc% g711\nfeat fc%_0\nfeat fc%_1\n\
+        dev ld% g711\ndev rd% g711\nfeat fd%_0\nfeat fd%_1\nfeat fd%_2\n",
+    ),
+    (
+        16,
+        "chan audio la% s ra% s\n\
+        chan audio lb% s fb%_0 w\nchan audio fb%_0 e rb% s\n\
+        chan audio lc% s fc%_0 w\nchan audio fc%_0 e fc%_1 w\nchan audio fc%_1 e rc% s\n\
+        chan audio ld% s fd%_0 w\nchan audio fd%_0 e fd%_1 w\nchan audio fd%_1 e fd%_2 w\nchan audio fd%_2 e rd% s\n",
+    ),
+    (1, "begin\n"),
+    (
+        16,
+        "set ra% s hold\n\
+        link fb%_0 w e\nset rb% s hold\n\
+        link fc%_0 w e\nlink fc%_1 w e\nset rc% s hold\n\
+        link fd%_0 w e\nlink fd%_1 w e\nlink fd%_2 w e\nset rd% s hold\n",
+    ),
+    (16, OPEN),
+    (1, "settle\n"),
+    (16, CLOSE),
+    (1, "settle\n"),
+    (16, OPEN),
+    (1, "settle\n"),
+];
 
 #[test]
-fn many_calls_print_what_draws_print(rt: HostRuntime) -> Result<(), Fail> {
-    let alloc = rt.alloc();
-    let mut text = network(alloc)?;
-    for goal in ["open", "close", "open"] {
-        add_settle(alloc, goal, &mut text)?;
-    }
-    let on_threads = printed_of(&rt, alloc, &["run"], text.as_str())?;
-    let by_draws = printed_of(&rt, alloc, &["one", "5"], text.as_str())?;
-    is_equal(&rt, &on_threads.as_slice(), &by_draws.as_slice());
+fn many_calls_print_what_draws_print(rt: HostRuntime) -> Result<(), AllocError> {
+    let text = text_of(rt.alloc(), &CALLS)?;
+    let on_threads = answered(&rt, rt.alloc(), &["run"], text.as_bytes())?;
+    let by_draws = answered(&rt, rt.alloc(), &["one", "5"], text.as_bytes())?;
+    is_equal(
+        &rt,
+        &(on_threads.done.status, by_draws.done.status),
+        &(0, 0),
+    );
+    is_equal(
+        &rt,
+        &on_threads.written.as_slice(),
+        &by_draws.written.as_slice(),
+    );
     Ok(())
 }
