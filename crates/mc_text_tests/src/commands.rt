@@ -1,105 +1,40 @@
 // Commands that are read or refused, and one that is printed.
-ghost use Rattle.std.specs.Prelude.{◌≡◌, IfOk, OnOk, length};
-ghost use Rattle.mc_text.specs.NameLists.{no_names, slot_names};
-ghost use Rattle.mc_box.specs.BoxShapes.{shape_of};
 ghost use Rattle.mc_script.specs.Places.{Fits};
 
-use crate::equal::is_equal;
-use mc_box::{BoxShape, Change, Event, Kind, Shape, Turn};
+use crate::equal::{is_count, is_equal, is_within};
+use crate::look::look_at_made;
+use crate::net::net_of;
+use mc_box::{Change, Event, Shape, Turn};
+use mc_net::{Net, NetFault, Tail};
 use mc_script::{Command, print_command, read_command};
-use mc_signal::Medium;
 use mc_slot::Goal;
-use mc_text::{NameFault, Names};
-use std::alloc::{AllocError, Global};
+use mc_text::Names;
+use std::alloc::Global;
 use std::process::Abort;
 
-fn add_both(names: &mut Names) -> Result<(), NameFault>
-    requires { names.old ≡ no_names }
-    ensures boxes { OnOk result (length names.new.boxes ≡ 2) }
-    ensures slots { OnOk result ((length (slot_names names.new 0) ≡ 1) × (length (slot_names names.new 1) ≡ 1)) }
-{
-    names.add_box(b"alice")?;
-    names.add_slot(0, b"a")?;
-    names.add_box(b"f")?;
-    names.add_slot(1, b"w")?;
-    Ok(())
-}
-
 // A device `alice` with a slot `a`, and a feature `f` with a slot `w`.
-fn example_names(alloc: Global) -> Result<Names, NameFault>
-    ensures boxes { IfOk result (λ names. length names.boxes ≡ 2) }
-    ensures slots { IfOk result (λ names. (length (slot_names names 0) ≡ 1) × (length (slot_names names 1) ≡ 1)) }
-{
-    let mut names = Names::new(alloc);
-    add_both(&mut names)?;
-    Ok(names)
-}
+const EXAMPLE: &[u8] = b"media 1\ndev alice\nfeat f\nchan audio alice a f w\nbegin\n";
 
-fn one_slot(alloc: Global, kind: Kind) -> Result<BoxShape, AllocError>
-    ensures { IfOk result (λ shape. length shape.media ≡ 1) }
-{
-    let mut media = Vec::new(alloc);
-    media.push(Medium::Audio)?;
-    Ok(BoxShape {
-        kind,
-        media,
-        programmed: false,
-    })
-}
-
-fn example_shape(alloc: Global) -> Result<Shape, AllocError>
-    ensures boxes { IfOk result (λ shape. length shape ≡ 2) }
-    ensures first { IfOk result (λ shape. length (shape_of shape 0).media ≡ 1) }
-    ensures second { IfOk result (λ shape. length (shape_of shape 1).media ≡ 1) }
-{
-    let mut boxes = Vec::new(alloc);
-    boxes.push(one_slot(alloc, Kind::Device)?)?;
-    boxes.push(one_slot(alloc, Kind::Feature)?)?;
-    Ok(Shape { boxes })
-}
-
-#[derive(Drop)]
-struct Example {
-    names: Names,
-    shape: Shape,
-}
-
-#[tactic(auto, using(crate::proofs::Example::fits_two))]
-fn new_example(alloc: Global) -> Result<Example, NameFault>
-    ensures { IfOk result (λ example. Fits example.names example.shape) }
-{
-    match example_shape(alloc) {
-        Ok(shape) => Ok(Example {
-            names: example_names(alloc)?,
-            shape,
-        }),
-        Err(wanting) => Err(NameFault::NoMemory(wanting)),
-    }
-}
-
-// The command that opens the first slot, as it is printed.
-fn printed(rt: &impl Abort, alloc: Global, names: &Names) -> Result<Vec<u8>, AllocError> {
-    assert!(rt; 0 < names.box_count());
-    assert!(rt; 0 < names.slot_count(0));
+// The command that opens the first slot is printed so.
+fn is_printed<R: Abort>(context: (&R, Global), net: &mut Net) {
+    let (rt, alloc) = context;
+    let names = &net.names;
+    is_within(rt, 0, names.box_count());
+    is_within(rt, 0, names.slot_count(0));
     let command = Command::Stimulus(Turn {
         who: 0,
         event: Event::Set(Change::End(0, Goal::Open)),
     });
     let mut out = Vec::new(alloc);
-    print_command(names, &command, &mut out)?;
-    Ok(out)
-}
-
-fn is_printed(rt: &impl Abort, alloc: Global, names: &Names) -> Result<(), NameFault> {
-    let out = printed(rt, alloc, names).map_err(NameFault::NoMemory)?;
+    let put = print_command(names, &command, &mut out);
+    is_equal(rt, &put.is_ok(), &true);
     is_equal(rt, &out.as_slice(), &b"set alice a open".as_slice());
-    Ok(())
 }
 
 #[test]
-fn a_command_is_printed(rt: HostRuntime) -> Result<(), NameFault> {
-    let names = example_names(rt.alloc())?;
-    is_printed(&rt, rt.alloc(), &names)
+fn a_command_is_printed(rt: HostRuntime) -> Result<(), NetFault> {
+    let net = net_of(rt.alloc(), EXAMPLE, Tail::Nothing);
+    look_at_made((&rt, rt.alloc()), net, is_printed)
 }
 
 // The number of the rule that a line breaks, or 0.
@@ -121,6 +56,20 @@ fn are_numbered(rt: &impl Abort, names: &Names, shape: &Shape, rows: &[(&[u8], u
     }
 }
 
+// The example's boxes have one slot each, by their names and by their shapes.
+#[tactic(auto, using(crate::proofs::Example::fits_two))]
+fn fits(rt: &impl Abort, names: &Names, shape: &Shape)
+    ensures { Fits names.now shape.now }
+{
+    is_count(rt, names.box_count(), 2);
+    is_count(rt, names.slot_count(0), 1);
+    is_count(rt, names.slot_count(1), 1);
+    let boxes = &shape.boxes;
+    is_count(rt, boxes.len(), 2);
+    is_count(rt, boxes[0].media.len(), 1);
+    is_count(rt, boxes[1].media.len(), 1);
+}
+
 const ROWS: [(&[u8], u8); 5] = [
     (b" set  alice a open ", 0),
     (b"set alice a", 6),
@@ -129,9 +78,14 @@ const ROWS: [(&[u8], u8); 5] = [
     (b"link f w w", 12),
 ];
 
+// The rows hold in the example.
+fn rows_hold<R: Abort>(rt: &R, net: &mut Net) {
+    fits(rt, &net.names, &net.shape);
+    are_numbered(rt, &net.names, &net.shape, &ROWS);
+}
+
 #[test]
-fn lines_are_read_or_refused(rt: HostRuntime) -> Result<(), NameFault> {
-    let example = new_example(rt.alloc())?;
-    are_numbered(&rt, &example.names, &example.shape, &ROWS);
-    Ok(())
+fn lines_are_read_or_refused(rt: HostRuntime) -> Result<(), NetFault> {
+    let net = net_of(rt.alloc(), EXAMPLE, Tail::Nothing);
+    look_at_made(&rt, net, rows_hold)
 }

@@ -1,7 +1,23 @@
+ghost use Rattle.std.specs.Prelude.{◌≡◌, ◌<◌};
+
 use std::fmt::Debug;
 use std::process::Abort;
 
 /// The values are compared, and both shown where they differ.
 pub fn is_equal<T: PartialEq + Debug>(rt: &impl Abort, got: &T, want: &T) {
     assert_eq!(rt; *got, *want);
+}
+
+/// The count is the wanted one, and a later call may rest on that.
+pub fn is_count(rt: &impl Abort, got: usize, want: usize)
+    ensures { got ≡ want }
+{
+    assert!(rt; got == want, "{got} in place of {want}");
+}
+
+/// The place is one of so many, and a later call may rest on that.
+pub fn is_within(rt: &impl Abort, place: usize, count: usize)
+    ensures { place < count }
+{
+    assert!(rt; place < count, "no place {place} of {count}");
 }

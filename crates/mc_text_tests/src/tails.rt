@@ -1,44 +1,22 @@
 use crate::equal::is_equal;
-use crate::net::net_of;
-use mc_net::{NetFault, Tail};
+use crate::net::{Place, rest_of};
+use mc_net::Tail;
 use std::alloc::{AllocError, Global};
 use std::process::Abort;
 
-// Two phones, in five lines.
-const PHONES: &[u8] = b"media 1\ndev alice\ndev bob\nchan audio alice a bob a\nbegin\n";
-
-// The number and the line of a fault.
-type Place = (u8, u32);
-
-// Where what isn't read of a text begins, or its fault.
-fn rest_of(alloc: Global, text: &[u8], tail: Tail) -> Result<usize, Place> {
-    match net_of(alloc, text, tail) {
-        Ok(net) => Ok(net.rest),
-        Err(NetFault::Line(fault)) => Err((fault.number, fault.line)),
-        Err(NetFault::NoMemory(_)) => Err((0, 0)),
-    }
+// Two phones, in five lines: a function, since each proof that names a constant is told all of its bytes.
+fn phones() -> &'static [u8] {
+    b"media 1\ndev alice\ndev bob\nchan audio alice a bob a\nbegin\n"
 }
 
-// What is read of a text that is put together of three ends there, or has this fault.
-fn ends_at(
-    rt: &impl Abort,
-    alloc: Global,
-    parts: (&[u8], &[u8], &[u8]),
-    tail: Tail,
-    want: Result<usize, Place>,
-) {
-    let got = match joined(alloc, parts.0, parts.1, parts.2) {
-        Ok(text) => rest_of(alloc, &text, tail),
-        Err(_) => Err((0, 0)),
-    };
-    is_equal(rt, &got, &want);
-}
+// Where what is read of a text ends, or its fault: where a journal may stand behind its commands, and where none may.
+type Ends = (Result<usize, Place>, Result<usize, Place>);
 
-fn joined(alloc: Global, first: &[u8], second: &[u8], third: &[u8]) -> Result<Vec<u8>, AllocError> {
-    let mut text = Vec::from_slice(alloc, first)?;
-    text.extend_from_slice(second)?;
-    text.extend_from_slice(third)?;
-    Ok(text)
+// The text that is put together of these parts ends so.
+fn ends_so(rt: &impl Abort, alloc: Global, parts: &[&[u8]], want: Ends) {
+    let with = rest_of(alloc, parts, Tail::Journal);
+    let without = rest_of(alloc, parts, Tail::Nothing);
+    is_equal(rt, &(with, without), &want);
 }
 
 // Commands of the two phones, what stands behind the line that ends them, and the line of the fault that they have
@@ -61,22 +39,9 @@ const ENDED: [(&[u8], &[u8], u32); 5] = [
 
 #[test]
 fn what_stands_behind_journal_is_not_read(rt: HostRuntime) {
-    for (commands, behind, line) in ENDED {
-        let rest = PHONES.len() + commands.len();
-        ends_at(
-            &rt,
-            rt.alloc(),
-            (PHONES, commands, behind),
-            Tail::Journal,
-            Ok(rest),
-        );
-        ends_at(
-            &rt,
-            rt.alloc(),
-            (PHONES, commands, behind),
-            Tail::Nothing,
-            Err((5, line)),
-        );
+    for (commands, behind, line) in &ENDED {
+        let want = (Ok(phones().len() + commands.len()), Err((5, *line)));
+        ends_so(&rt, rt.alloc(), &[phones(), *commands, *behind], want);
     }
 }
 
@@ -90,65 +55,44 @@ const UNENDED: [(&[u8], Option<Place>); 4] = [
 
 #[test]
 fn a_text_may_lack_its_journal(rt: HostRuntime) {
-    for (commands, fault) in UNENDED {
-        let want = match fault {
-            Some(place) => Err(place),
-            None => Ok(PHONES.len() + commands.len()),
-        };
-        ends_at(
-            &rt,
-            rt.alloc(),
-            (PHONES, commands, b""),
-            Tail::Journal,
-            want,
-        );
-        ends_at(
-            &rt,
-            rt.alloc(),
-            (PHONES, commands, b""),
-            Tail::Nothing,
-            want,
-        );
+    for (commands, fault) in &UNENDED {
+        let want = fault.map_or(Ok(phones().len() + commands.len()), Err);
+        ends_so(&rt, rt.alloc(), &[phones(), *commands], (want, want));
     }
 }
 
-// Texts that have a fault, with a journal behind their commands and without.
-const REFUSED: [(&[u8], &[u8], Place, Place); 8] = [
-    (b"", b"journal\n", (17, 1), (17, 1)),
-    (b"media 1\n", b"journal\nbegin\n", (5, 2), (5, 2)),
-    (b"media 1\n", b"journal x\nbegin\n", (5, 2), (5, 2)),
-    (PHONES, b"journal x\n", (7, 6), (5, 6)),
-    (PHONES, b"settle now\njournal\n", (7, 6), (7, 6)),
-    (PHONES, b"settle\njournal\t\n", (3, 7), (3, 7)),
-    (PHONES, b"Journal\n", (5, 6), (5, 6)),
-    (PHONES, b"begin\njournal\n", (5, 6), (5, 6)),
+// Lines that have a fault, where a journal may stand behind the commands and where none may.
+const WITHOUT_PHONES: [(&[u8], Place, Place); 3] = [
+    (b"journal\n", (17, 1), (17, 1)),
+    (b"media 1\njournal\nbegin\n", (5, 2), (5, 2)),
+    (b"media 1\njournal x\nbegin\n", (5, 2), (5, 2)),
 ];
+
+const BEHIND_PHONES: [(&[u8], Place, Place); 5] = [
+    (b"journal x\n", (7, 6), (5, 6)),
+    (b"settle now\njournal\n", (7, 6), (7, 6)),
+    (b"settle\njournal\t\n", (3, 7), (3, 7)),
+    (b"Journal\n", (5, 6), (5, 6)),
+    (b"begin\njournal\n", (5, 6), (5, 6)),
+];
+
+fn are_refused(rt: &impl Abort, alloc: Global, first: &[u8], rows: &[(&[u8], Place, Place)]) {
+    for (lines, with, without) in rows {
+        ends_so(rt, alloc, &[first, *lines], (Err(*with), Err(*without)));
+    }
+}
 
 #[test]
 fn journal_opens_a_line_behind_begin_alone(rt: HostRuntime) {
-    for (first, second, with, without) in REFUSED {
-        ends_at(
-            &rt,
-            rt.alloc(),
-            (first, second, b""),
-            Tail::Journal,
-            Err(with),
-        );
-        ends_at(
-            &rt,
-            rt.alloc(),
-            (first, second, b""),
-            Tail::Nothing,
-            Err(without),
-        );
-    }
+    are_refused(&rt, rt.alloc(), b"", &WITHOUT_PHONES);
+    are_refused(&rt, rt.alloc(), phones(), &BEHIND_PHONES);
 }
 
 // The two phones, and 4,081 comments of 256 bytes each, which are 1,048,874 bytes.
 fn long_text(alloc: Global) -> Result<Vec<u8>, AllocError> {
     let mut comment = [b'#'; 257];
     comment[256] = b'\n';
-    let mut text = Vec::from_slice(alloc, PHONES)?;
+    let mut text = Vec::from_slice(alloc, phones())?;
     for _ in 0..4081 {
         text.extend_from_slice(&comment)?;
     }
@@ -158,15 +102,7 @@ fn long_text(alloc: Global) -> Result<Vec<u8>, AllocError> {
 #[test]
 fn a_text_with_a_journal_may_be_longer(rt: HostRuntime) -> Result<(), AllocError> {
     let text = long_text(rt.alloc())?;
-    is_equal(
-        &rt,
-        &rest_of(rt.alloc(), &text, Tail::Journal),
-        &Ok(text.len()),
-    );
-    is_equal(
-        &rt,
-        &rest_of(rt.alloc(), &text, Tail::Nothing),
-        &Err((1, 4085)),
-    );
+    let want = (Ok(text.len()), Err((1, 4085)));
+    ends_so(&rt, rt.alloc(), &[&text], want);
     Ok(())
 }

@@ -1,6 +1,7 @@
-use crate::equal::is_equal;
+use crate::equal::{is_equal, is_within};
+use crate::look::look_at;
 use mc_text::{Draws, NameFault, Names};
-use std::alloc::{AllocError, Global};
+use std::alloc::Global;
 use std::process::Abort;
 
 #[test]
@@ -10,59 +11,53 @@ fn draws_are_the_published_ones(rt: HostRuntime) {
         16838, 5758, 10113, 17515, 31051, 5627, 23010, 7419, 16212, 4086, 2749, 12767, 9084, 12060,
         32225, 17543, 25089, 21183,
     ];
-    for want in first {
-        is_equal(&rt, &draws.draw(), &want);
+    for want in &first {
+        is_equal(&rt, &draws.draw(), want);
     }
 }
 
 // The first codec has number 0, and a told word keeps its number.
-fn get_numbers(rt: &impl Abort, names: &mut Names) -> Result<(), NameFault> {
+fn get_numbers<R: Abort>(rt: &R, names: &mut Names) -> Result<(), NameFault> {
     let codec = names.add_codec(b"g711")?;
-    is_equal(rt, &codec, &0);
     let word = names.add_told(b"paid")?;
-    is_equal(rt, &names.add_told(b"paid")?, &word);
+    let again = names.add_told(b"paid")?;
+    is_equal(rt, &(codec, again), &(0, word));
     Ok(())
 }
 
 #[test]
 fn codecs_and_words_get_numbers(rt: HostRuntime) -> Result<(), NameFault> {
-    let mut names = Names::new(rt.alloc());
-    get_numbers(&rt, &mut names)
+    look_at(&rt, Names::new(rt.alloc()), get_numbers)
 }
 
 // A box and its slot, by their numbers.
 fn add_both(rt: &impl Abort, names: &mut Names) -> Result<(u32, u8), NameFault> {
     let who = names.add_box(b"alice")?;
-    assert!(rt; (who as usize) < names.box_count());
+    is_within(rt, who as usize, names.box_count());
     let slot = names.add_slot(who, b"a")?;
     Ok((who, slot))
 }
 
-// A slot as it is printed.
-fn printed_slot(
-    rt: &impl Abort,
-    alloc: Global,
-    names: &Names,
-    who: u32,
-    slot: u8,
-) -> Result<Vec<u8>, AllocError> {
-    assert!(rt; (who as usize) < names.box_count());
-    assert!(rt; (slot as usize) < names.slot_count(who));
+// The slot is printed by these names.
+fn is_printed(rt: &impl Abort, alloc: Global, names: &Names, who: u32, slot: u8) {
+    is_within(rt, who as usize, names.box_count());
+    is_within(rt, slot as usize, names.slot_count(who));
     let mut out = Vec::new(alloc);
-    names.print_slot(who, slot, &mut out)?;
-    Ok(out)
+    let put = names.print_slot(who, slot, &mut out);
+    is_equal(rt, &put.is_ok(), &true);
+    is_equal(rt, &out.as_slice(), &b"alice/a".as_slice());
 }
 
 // A box and its slot are printed by their names.
-fn are_printed(rt: &impl Abort, alloc: Global, names: &mut Names) -> Result<(), NameFault> {
+fn are_printed<R: Abort>(context: (&R, Global), names: &mut Names) -> Result<(), NameFault> {
+    let (rt, alloc) = context;
     let (who, slot) = add_both(rt, names)?;
-    let out = printed_slot(rt, alloc, names, who, slot).map_err(NameFault::NoMemory)?;
-    is_equal(rt, &out.as_slice(), &b"alice/a".as_slice());
+    is_printed(rt, alloc, names, who, slot);
     Ok(())
 }
 
 #[test]
 fn a_slot_is_printed_with_its_box(rt: HostRuntime) -> Result<(), NameFault> {
-    let mut names = Names::new(rt.alloc());
-    are_printed(&rt, rt.alloc(), &mut names)
+    let names = Names::new(rt.alloc());
+    look_at((&rt, rt.alloc()), names, are_printed)
 }
