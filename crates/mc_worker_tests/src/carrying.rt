@@ -6,8 +6,8 @@ ghost use Rattle.mc_worker.specs.Ready.{IsReady};
 ghost use Rattle.mc_worker.specs.declared.limit.TheConstants.{FIRST_STAMP_LIMIT};
 
 use crate::equal::is_equal;
-use crate::phones::{phone, worker};
-use crate::rounds::{HOLDS, OPENS, many_signals};
+use crate::phones::{phone, phones, worker};
+use crate::rounds::{HOLDS, full_inboxes};
 use mc_io::OpenGate;
 use mc_port::{InPort, OutPort, Stamped, pair};
 use mc_signal::{CodecList, Descriptor, Medium, Signal, Tagged};
@@ -17,21 +17,15 @@ use std::process::Abort;
 use std::test::Fail;
 
 // Two phones whose channel ends are joined. The second one has an open and 64 describes in its inbox.
-fn phones(alloc: Global) -> Result<(Worker, Worker), AllocError>
+fn waiting_phones(alloc: Global) -> Result<(Worker, Worker), AllocError>
     ensures ready { IfOk result (λ both. IsReady both.0 × IsReady both.1) }
     ensures stamp { IfOk result (λ both. both.1.stamp ≡ 0) }
     ensures ends { IfOk result (λ both. (length both.0.ins.items ≡ 1) × (length both.1.outs.items ≡ 1)) }
     ensures ring { IfOk result (λ both. map out_ring both.1.outs.items ≡ map in_ring both.0.ins.items) }
 {
-    let (to_bob, from_alice) = pair(alloc)?;
-    let (to_alice, from_bob) = pair(alloc)?;
-    let alice = phone(alloc, 0, 1)?;
-    let bob = phone(alloc, 1, 1)?;
-    let alice = worker(alloc, alice, to_bob, from_bob, OPENS)?;
-    let mut bob = worker(alloc, bob, to_alice, from_alice, HOLDS)?;
-    let mut inboxes = Vec::new(alloc);
-    inboxes.push(many_signals(alloc)?)?;
-    bob.inboxes = Inboxes::new(inboxes);
+    let inboxes = full_inboxes(alloc)?;
+    let (alice, mut bob) = phones(alloc)?;
+    bob.inboxes = inboxes;
     Ok((alice, bob))
 }
 
@@ -63,25 +57,35 @@ fn is_answered(rt: &impl Abort, inboxes: &mut Inboxes)
     is_equal(rt, &inboxes.pop(0), &None);
 }
 
-#[test]
-fn a_ring_and_an_outbox_are_carried_in_order(rt: HostRuntime) -> Result<(), Fail> {
-    let (mut alice, mut bob) = phones(rt.alloc())?;
-    answer(&rt, &mut bob);
-    assert!(rt; bob.outboxes.has_items(0));
-    is_equal(&rt, &carry(&mut bob, 0, &mut alice, 0)?, &true);
-    is_equal(&rt, &carry(&mut bob, 0, &mut alice, 0)?, &true);
+// What has waited at the phone's ends comes to the other's in order, and nothing else.
+fn is_carried(rt: &impl Abort, bob: &mut Worker, alice: &mut Worker) -> Result<(), AllocError>
+    requires ready { IsReady bob.old × IsReady alice.old }
+    requires ends { (length bob.old.outs.items ≡ 1) × (length alice.old.ins.items ≡ 1) }
+    requires ring { map out_ring bob.old.outs.items ≡ map in_ring alice.old.ins.items }
+{
+    is_equal(rt, &carry(bob, 0, alice, 0)?, &true);
+    is_equal(rt, &carry(bob, 0, alice, 0)?, &true);
     is_equal(
-        &rt,
+        rt,
         &(alice.inboxes.is_empty(), alice.inboxes.count_ends()),
         &(false, 1),
     );
-    is_answered(&rt, &mut alice.inboxes);
+    is_answered(rt, &mut alice.inboxes);
     is_equal(
-        &rt,
+        rt,
         &(alice.inboxes.is_empty(), alice.inboxes.count_ends()),
         &(true, 0),
     );
-    is_equal(&rt, &carry(&mut bob, 0, &mut alice, 0)?, &false);
+    is_equal(rt, &carry(bob, 0, alice, 0)?, &false);
+    Ok(())
+}
+
+#[test]
+fn a_ring_and_an_outbox_are_carried_in_order(rt: HostRuntime) -> Result<(), Fail> {
+    let (mut alice, mut bob) = waiting_phones(rt.alloc())?;
+    answer(&rt, &mut bob);
+    assert!(rt; bob.outboxes.has_items(0));
+    is_carried(&rt, &mut bob, &mut alice)?;
     Ok(())
 }
 

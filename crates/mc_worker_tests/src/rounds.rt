@@ -1,14 +1,11 @@
 // Rounds of two phones whose channel ends are joined. Each expected log and stamp is by the rules of rounds.
 
-ghost use Rattle.std.specs.Prelude.{◌≡◌, ◌≤◌};
-ghost use Rattle.mc_worker.specs.Ready.{IsReady};
+ghost use Rattle.std.specs.Prelude.{◌≡◌, length, IfOk};
 
 use crate::equal::is_equal;
-use crate::phones::{phone, worker};
+use crate::phones::{lone_phone, phones, round};
 use mc_box::{Change, Event};
-use mc_io::OpenGate;
 use mc_lane::Lane;
-use mc_port::pair;
 use mc_signal::{CodecList, Descriptor, Medium, Signal, Tagged};
 use mc_slot::Goal;
 use mc_worker::{Inboxes, Logged, Stop, Worker};
@@ -49,17 +46,12 @@ fn is_accepted(rt: &impl Abort, alice: &mut Worker) {
 #[test]
 fn a_call_is_accepted_in_two_rounds(rt: HostRuntime) -> Result<(), Fail> {
     let alloc = rt.alloc();
-    let (to_bob, from_alice) = pair(alloc)?;
-    let (to_alice, from_bob) = pair(alloc)?;
-    let alice = phone(alloc, 0, 1)?;
-    let bob = phone(alloc, 1, 1)?;
-    let mut alice = worker(alloc, alice, to_bob, from_bob, OPENS)?;
-    let mut bob = worker(alloc, bob, to_alice, from_alice, HOLDS)?;
-    let end = alice.round(&OpenGate, false);
+    let (mut alice, mut bob) = phones(alloc)?;
+    let end = round(&mut alice);
     assert!(rt; matches!(end.stop, Stop::Rested));
     is_equal(&rt, &(end.turns, end.sent, end.took), &(1, 1, 0));
     has_logged(&rt, &mut alice.log, &[(1, OPENS)]);
-    let end = bob.round(&OpenGate, false);
+    let end = round(&mut bob);
     assert!(rt; matches!(end.stop, Stop::Rested));
     is_equal(&rt, &(end.turns, end.sent, end.took), &(2, 2, 1));
     has_logged(&rt, &mut bob.log, &[(1, HOLDS), (2, Event::Take(0))]);
@@ -78,8 +70,8 @@ fn far(version: u32) -> Descriptor {
     }
 }
 
-/// An open, and 64 describes behind it.
-pub fn many_signals(alloc: Global) -> Result<Lane<Tagged>, AllocError> {
+// An open, and 64 describes behind it.
+fn many_signals(alloc: Global) -> Result<Lane<Tagged>, AllocError> {
     let mut lane = Lane::new(alloc);
     lane.reserve(65)?;
     lane.push(Tagged {
@@ -96,22 +88,25 @@ pub fn many_signals(alloc: Global) -> Result<Lane<Tagged>, AllocError> {
     Ok(lane)
 }
 
+/// The inboxes of a phone with an open and 64 describes.
+pub fn full_inboxes(alloc: Global) -> Result<Inboxes, AllocError>
+    ensures { IfOk result (λ made. length made ≡ 1) }
+{
+    let mut lanes = Vec::new(alloc);
+    lanes.push(many_signals(alloc)?)?;
+    Ok(Inboxes::new(lanes))
+}
+
 #[test]
 fn a_round_has_64_turns(rt: HostRuntime) -> Result<(), Fail> {
-    let alloc = rt.alloc();
-    let (out, _far_in) = pair(alloc)?;
-    let (_far_out, taking) = pair(alloc)?;
-    let bob = phone(alloc, 1, 1)?;
-    let mut bob = worker(alloc, bob, out, taking, HOLDS)?;
-    let mut inboxes = Vec::new(alloc);
-    inboxes.push(many_signals(alloc)?)?;
-    assert!(rt; bob.ins.len() == 1);
-    bob.inboxes = Inboxes::new(inboxes);
-    let end = bob.round(&OpenGate, false);
+    let inboxes = full_inboxes(rt.alloc())?;
+    let (mut bob, _far_out, _far_in) = lone_phone(rt.alloc(), 1, HOLDS)?;
+    bob.inboxes = inboxes;
+    let end = round(&mut bob);
     assert!(rt; matches!(end.stop, Stop::Spent));
     is_equal(&rt, &(end.turns, end.took), &(64, 63));
     bob.stamp = 0;
-    let end = bob.round(&OpenGate, false);
+    let end = round(&mut bob);
     assert!(rt; matches!(end.stop, Stop::Rested));
     is_equal(&rt, &(end.turns, end.took), &(2, 2));
     Ok(())

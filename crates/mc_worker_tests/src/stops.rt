@@ -5,11 +5,10 @@ ghost use Rattle.mc_worker.specs.Ready.{IsReady};
 ghost use Rattle.mc_worker.specs.declared.limit.TheConstants.{FIRST_STAMP_LIMIT};
 
 use crate::equal::is_equal;
-use crate::phones::{phone, worker};
+use crate::phones::{lone_phone, round};
 use crate::rounds::HOLDS;
 use mc_box::{Event, MediaChange};
-use mc_io::OpenGate;
-use mc_port::{Stamped, pair};
+use mc_port::Stamped;
 use mc_signal::{CodecList, Descriptor, Medium, Signal};
 use mc_worker::{Stop, Worker};
 use std::process::Abort;
@@ -17,14 +16,10 @@ use std::test::Fail;
 
 #[test]
 fn a_hear_at_the_last_version_ends_a_round(rt: HostRuntime) -> Result<(), Fail> {
-    let alloc = rt.alloc();
-    let (out, _far_in) = pair(alloc)?;
-    let (_far_out, taking) = pair(alloc)?;
     let hears = Event::Media(MediaChange::Hear(0, true));
-    let last = phone(alloc, 0, u32::MAX)?;
-    let mut last = worker(alloc, last, out, taking, hears)?;
+    let (mut last, _far_out, _far_in) = lone_phone(rt.alloc(), u32::MAX, hears)?;
     assert!(rt; last.has_work(false));
-    let end = last.round(&OpenGate, false);
+    let end = round(&mut last);
     assert!(rt; matches!(end.stop, Stop::VersionEnd(0)));
     is_equal(&rt, &end.turns, &0);
     is_equal(&rt, &last.stimuli.front(), &Some(hears));
@@ -56,19 +51,15 @@ fn is_strange(rt: &impl Abort, phone: &mut Worker, item: Stamped, turns: u32)
     requires stamp { phone.old.stamp ≤ FIRST_STAMP_LIMIT }
     ensures { IsReady phone.new }
 {
-    let end = phone.round(&OpenGate, false);
+    let end = round(phone);
     assert!(rt; matches!(end.stop, Stop::Strange(0, tunnel) if tunnel == item.tunnel));
     is_equal(rt, &end.turns, &turns);
 }
 
 // A phone that finds this item in its ring leaves it there, in this round and in the next.
 fn stays(rt: &(impl Abort + AllocGlobal), item: Stamped) -> Result<(), Fail> {
-    let alloc = rt.alloc();
-    let (out, _far_in) = pair(alloc)?;
-    let (mut far_out, taking) = pair(alloc)?;
+    let (mut bob, mut far_out, _far_in) = lone_phone(rt.alloc(), 1, HOLDS)?;
     is_equal(rt, &far_out.give(item), &Ok(()));
-    let bob = phone(alloc, 1, 1)?;
-    let mut bob = worker(alloc, bob, out, taking, HOLDS)?;
     is_strange(rt, &mut bob, item, 1);
     bob.stamp = 0;
     is_strange(rt, &mut bob, item, 0);
