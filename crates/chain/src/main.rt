@@ -86,15 +86,20 @@ fn ask_paths(rt: &HostRuntime, world: &World, times: u32) -> Result<u64, ChainFa
 }
 
 // Does a job over a chain, and prints its count.
+fn work(rt: &HostRuntime, world: &mut World, job: Job, times: u32) -> Result<(), ChainFault> {
+    link_through(world)?;
+    let (count, counted) = match job {
+        Job::Calls => (make_calls(rt, world, times)?, "turns"),
+        Job::Rings => (ask_rings(world, times), "rings"),
+        Job::Paths => (ask_paths(rt, world, times)?, "paths"),
+    };
+    eprintln!(rt; "{count} {counted}")?;
+    Ok(())
+}
+
 fn run(rt: &HostRuntime, tunnels: u32, job: Job, times: u32) -> Result<(), ChainFault> {
     let mut world = chain(rt.alloc(), tunnels)?;
-    link_through(&mut world)?;
-    match job {
-        Job::Calls => eprintln!(rt; "{} turns", make_calls(rt, &mut world, times)?)?,
-        Job::Rings => eprintln!(rt; "{} rings", ask_rings(&world, times))?,
-        Job::Paths => eprintln!(rt; "{} paths", ask_paths(rt, &world, times)?)?,
-    }
-    Ok(())
+    work(rt, &mut world, job, times)
 }
 
 fn main(rt: HostRuntime) -> ExitCode {
