@@ -1,5 +1,5 @@
 // The top call.
-ghost use Rattle.std.specs.Prelude.{◌≡◌, ◌≢◌, ◌⊎◌, ◌==◌, ◌≤◌, ℕ, List, [], length, map, IfOk, IsFalse, IsTrue, Some};
+ghost use Rattle.std.specs.Prelude.{◌≡◌, ◌≢◌, ◌⊎◌, ◌==◌, ◌≤◌, ℕ, List, [], false, length, map, IfErr, IfOk, IsFalse, IsTrue, Some};
 ghost use Rattle.mc_io.specs.Bytes.{ConsumesAtMost};
 ghost use Rattle.mc_io.specs.Faults.{Rose, faults_after, is_failed_read};
 ghost use Rattle.mc_model.specs.Shapes.{AreAllAllowed};
@@ -9,14 +9,21 @@ ghost use Rattle.mc_net.specs.Texts.{IsFault};
 ghost use Rattle.mc_lines.specs.declared.limit.TheConstants.{COMMAND_LIMIT};
 ghost use Rattle.mc_lines.specs.declared.tail.Tail.TheVariants.{Journal};
 ghost use Rattle.mc_net.specs.declared.net.Net.{Net};
+ghost use Rattle.mc_replay.specs.Faults.{RefusesJournal};
+ghost use Rattle.mc_replay.specs.Journals.{HoldsAtSettles, IsJournal};
 ghost use Rattle.mc_scene.specs.Outputs.{scene_output};
 ghost use Rattle.mc_scene.specs.declared.scenes.Scene.{Scene};
-ghost use Rattle.mc_top.specs.Behind.{HasJournalFault};
-ghost use Rattle.mc_top.specs.Modes.{AsksToRead, IsWithinLimits, IsWorkable, reads, tail_of, text_for};
+ghost use Rattle.mc_script.specs.Places.{Fits};
+ghost use Rattle.mc_top.specs.Behind.{HasJournal, HasJournalFault, has_bad_tail, tail_lines};
+ghost use Rattle.mc_top.specs.Drawn.{FollowsDraws};
+ghost use Rattle.mc_top.specs.Journals.{IsJournalTo, ShowsCause};
+ghost use Rattle.mc_top.specs.Modes.{AsksToRead, IsWithinLimits, IsWorkable, draws_from, reads, report_of, tail_of, text_for};
+ghost use Rattle.mc_top.specs.Printed.{journal_text, run_text};
 ghost use Rattle.mc_top.specs.Reasons.{Explains, ExplainsDue};
 ghost use Rattle.mc_top.specs.Statuses.{IsDue, IsDueForMode, IsDueForText, due_by, judges_text, keeps_journal};
 ghost use Rattle.mc_top.specs.Top.{Delivers, EndsAs, GivesUp, HasReadWhole, IsTextFor, PrintsUsage, ReadsFor};
 ghost use Rattle.mc_words.specs.Commands.{IsCommand};
+ghost use Rattle.mc_words.specs.Commands.{prints_journal};
 ghost use Rattle.mc_words.specs.declared.words.Mode.{Mode};
 ghost use Rattle.mc_words.specs.declared.words.Mode.TheVariants.{Check, Scene as AScene};
 
@@ -29,13 +36,16 @@ use crate::status::{
     FAULTY_TEXT, JOURNAL_FAULT, NO_MEMORY, READ_FAULT, USAGE, WORKED, WRITE_FAULT,
 };
 use crate::stop::{due_by, reason_of};
+use mc_box::Shape;
 use mc_explain::Reason;
 use mc_io::{Gate, ReadFault, Sink, Source, read_up_to, write_whole};
 use mc_net::{JOURNAL_TEXT_LIMIT, Net, NetFault, TEXT_LIMIT, TextFault, read_net};
 use mc_replay::CheckFault;
 use mc_scene::{generated, scene_text};
-use mc_script::JournalLine;
+use mc_script::{Batch, JournalLine};
+use mc_text::Names;
 use mc_words::{Mode, read_mode};
+use mc_world::World;
 use std::alloc::{AllocError, Global};
 use std::thread::Threads;
 
@@ -150,7 +160,43 @@ fn refuse<K: Sink>(alloc: Global, mode: Mode, text: &[u8], fault: TextFault, sin
     }
 }
 
-// Runs the script of a network, and prints its journal where the mode asks for it.
+// Runs the script of the network that a text declares. Behind what it prints stands its journal, where the mode asks
+// for it.
+fn run_by_net<R: Threads + Sync, G: Gate + Sync>(
+    rt: &R,
+    alloc: Global,
+    gate: &G,
+    mode: Mode,
+    text: &[u8],
+    net: Net,
+) -> Result<Run, AllocError>
+    requires declares { DeclaresNet (tail_of mode) text.now net }
+    requires named { NamesAll net.names net.world }
+    requires allowed { AreAllAllowed net.world (map batch_turns net.batches.items) }
+    requires few { length net.batches.items ≤ COMMAND_LIMIT }
+    ensures ran { IfOk result (λ run.
+        IsJournalTo run.stop net.world (map batch_turns net.batches.items) run.journal.items) }
+    ensures drawn { IfOk result (λ run.
+        FollowsDraws (draws_from mode) run.stop net.world (map batch_turns net.batches.items) run.journal.items) }
+    ensures holds { IfOk result (λ run. HoldsAtSettles net.world run.journal.items) }
+    ensures shows { IfOk result (λ run. ShowsCause run.stop net.world (map batch_turns net.batches.items)) }
+    ensures output { IfOk result (λ run. run.output.items
+        ≡ run_text (report_of mode) (prints_journal mode) net.names net.world run.stop run.journal.items) }
+{
+    let Net {
+        world,
+        names,
+        batches,
+        ..
+    } = net;
+    world.keeps();
+    let draws = draws_from(mode);
+    let report = report_of(mode);
+    let run = run_script(rt, alloc, gate, report, &names, world, draws, &batches)?;
+    with_journal(alloc, mode.prints_journal(), &names, run)
+}
+
+// Runs the script of the network that a text declares, and writes what it prints.
 fn run_net<R: Threads + Sync, K: Sink, G: Gate + Sync>(
     rt: &R,
     alloc: Global,
@@ -171,22 +217,11 @@ fn run_net<R: Threads + Sync, K: Sink, G: Gate + Sync>(
     ensures reason { Explains result.reason result.status (K.written sink.old) (K.written sink.new) }
     ensures fault { K.faults sink.new ≡ faults_after (K.faults sink.old) (result.status == WRITE_FAULT) }
 {
-    let Net {
-        world,
-        names,
-        batches,
-        ..
-    } = net;
-    world.keeps();
-    let draws = draws_from(mode);
-    let report = report_of(mode);
-    let Ok(run) = run_script(rt, alloc, gate, report, &names, world, draws, &batches) else {
+    net.world.keeps();
+    let Ok(run) = run_by_net(rt, alloc, gate, mode, text, net) else {
         return give_up(alloc, NO_MEMORY, Reason::NoMemory);
     };
-    match with_journal(alloc, mode.prints_journal(), &names, run) {
-        Ok(run) => deliver_run(sink, run),
-        Err(_) => give_up(alloc, NO_MEMORY, Reason::NoMemory),
-    }
+    deliver_run(sink, run)
 }
 
 // Writes the line of a journal's first fault.
@@ -207,7 +242,58 @@ fn refuse_journal<K: Sink>(alloc: Global, number: u8, turn: u32, sink: &mut K) -
     }
 }
 
-// Checks the journal behind a text by the network that the text declares.
+// Checks the journal behind a text by a network's names, shapes, world and commands. Its lines, behind what is printed
+// for them.
+fn check_lines(
+    alloc: Global,
+    text: &[u8],
+    names: &Names,
+    shape: &Shape,
+    world: World,
+    batches: &[Batch],
+    rest: usize,
+) -> Result<(Vec<u8>, Vec<JournalLine>), CheckFault>
+    requires fits { Fits names.now shape.now }
+    requires named { NamesAll names.now world }
+    requires allowed { AreAllAllowed world (map batch_turns batches.now) }
+    ensures lines { IfOk result (λ both. both.1.items ≡ tail_lines names.now shape.now text.now rest) }
+    ensures whole { IfOk result (λ both. has_bad_tail names.now shape.now text.now rest ≡ false) }
+    ensures journal { IfOk result (λ both. IsJournal world (map batch_turns batches.now) both.1.items) }
+    ensures output { IfOk result (λ both. both.0.items ≡ journal_text names.now 1 world both.1.items) }
+    ensures refused { IfErr result (RefusesJournal world (map batch_turns batches.now)
+        (tail_lines names.now shape.now text.now rest) (has_bad_tail names.now shape.now text.now rest)) }
+{
+    let journal = journal_behind(alloc, names, shape, text, rest)?;
+    let output = check_script(alloc, names, world, batches, &journal)?;
+    Ok((output, journal.lines))
+}
+
+// The same by the network that the text declares.
+fn check_by_net(
+    alloc: Global,
+    text: &[u8],
+    net: Net,
+) -> Result<(Vec<u8>, Vec<JournalLine>), CheckFault>
+    requires fits { Fits net.names net.shape }
+    requires named { NamesAll net.names net.world }
+    requires allowed { AreAllAllowed net.world (map batch_turns net.batches.items) }
+    ensures has { IfOk result (λ both. HasJournal text.now net both.1.items) }
+    ensures journal { IfOk result (λ both. IsJournal net.world (map batch_turns net.batches.items) both.1.items) }
+    ensures output { IfOk result (λ both. both.0.items ≡ journal_text net.names 1 net.world both.1.items) }
+    ensures refused { IfErr result (RefusesJournal net.world (map batch_turns net.batches.items)
+        (tail_lines net.names net.shape text.now net.rest) (has_bad_tail net.names net.shape text.now net.rest)) }
+{
+    let Net {
+        world,
+        names,
+        shape,
+        batches,
+        rest,
+    } = net;
+    check_lines(alloc, text, &names, &shape, world, &batches, rest)
+}
+
+// Checks the journal behind a text by the network that the text declares, and writes what is printed for it.
 fn check_net<K: Sink>(alloc: Global, text: &[u8], net: Net, sink: &mut K) -> Done
     requires declares { DeclaresNet Journal text.now net }
     requires named { NamesAll net.names net.world }
@@ -218,19 +304,9 @@ fn check_net<K: Sink>(alloc: Global, text: &[u8], net: Net, sink: &mut K) -> Don
     ensures reason { Explains result.reason result.status (K.written sink.old) (K.written sink.new) }
     ensures fault { K.faults sink.new ≡ faults_after (K.faults sink.old) (result.status == WRITE_FAULT) }
 {
-    let Net {
-        world,
-        names,
-        shape,
-        batches,
-        rest,
-    } = net;
-    world.keeps();
-    let Ok(journal) = journal_behind(alloc, &names, &shape, text, rest) else {
-        return give_up(alloc, NO_MEMORY, Reason::NoMemory);
-    };
-    match check_script(alloc, &names, world, &batches, &journal) {
-        Ok(output) => deliver(sink, WORKED, &output, journal.lines, Reason::Worked),
+    net.world.keeps();
+    match check_by_net(alloc, text, net) {
+        Ok((output, lines)) => deliver(sink, WORKED, &output, lines, Reason::Worked),
         Err(CheckFault::At { number, turn }) => refuse_journal(alloc, number, turn, sink),
         Err(CheckFault::NoMemory(_)) => give_up(alloc, NO_MEMORY, Reason::NoMemory),
     }
