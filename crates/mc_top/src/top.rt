@@ -1,7 +1,8 @@
 // The top call.
-ghost use Rattle.std.specs.Prelude.{◌≡◌, ◌≢◌, ◌⊎◌, ◌==◌, ◌≤◌, ℕ, List, [], false, length, map, IfErr, IfOk, IsFalse, IsTrue, Some};
+ghost use Rattle.std.specs.Prelude.{◌≡◌, ◌≢◌, ◌⊎◌, ◌==◌, ◌≤◌, ℕ, List, [], false, length, map, All, IfErr, IfOk, IsFalse, IsTrue, None, Some};
 ghost use Rattle.mc_io.specs.Bytes.{ConsumesAtMost};
 ghost use Rattle.mc_io.specs.Faults.{Rose, faults_after, is_failed_read};
+ghost use Rattle.mc_journal.specs.Printed.{IsNamedLine};
 ghost use Rattle.mc_model.specs.Shapes.{AreAllAllowed};
 ghost use Rattle.mc_net.specs.Nets.{DeclaresNet, NamesAll, batch_turns};
 ghost use Rattle.mc_lines.specs.Rules.{read_limit};
@@ -160,8 +161,37 @@ fn refuse<K: Sink>(alloc: Global, mode: Mode, text: &[u8], fault: TextFault, sin
     }
 }
 
-// Runs the script of the network that a text declares. Behind what it prints stands its journal, where the mode asks
-// for it.
+// Runs a script. Behind what it prints stands its journal, where the mode asks for it: all that is in the journal of a
+// script that comes to its end is named.
+fn run_by_mode<R: Threads + Sync, G: Gate + Sync>(
+    rt: &R,
+    alloc: Global,
+    gate: &G,
+    mode: Mode,
+    names: &Names,
+    world: World,
+    batches: &[Batch],
+) -> Result<Run, AllocError>
+    requires named { NamesAll names.now world }
+    requires lines { (journal : List JournalLine) → IsJournalTo None world (map batch_turns batches.now) journal
+        → All (IsNamedLine names.now) journal }
+    requires allowed { AreAllAllowed world (map batch_turns batches.now) }
+    requires few { length batches.now ≤ COMMAND_LIMIT }
+    ensures ran { IfOk result (λ run. IsJournalTo run.stop world (map batch_turns batches.now) run.journal.items) }
+    ensures drawn { IfOk result (λ run.
+        FollowsDraws (draws_from mode) run.stop world (map batch_turns batches.now) run.journal.items) }
+    ensures holds { IfOk result (λ run. HoldsAtSettles world run.journal.items) }
+    ensures shows { IfOk result (λ run. ShowsCause run.stop world (map batch_turns batches.now)) }
+    ensures output { IfOk result (λ run. run.output.items
+        ≡ run_text (report_of mode) (prints_journal mode) names.now world run.stop run.journal.items) }
+{
+    let draws = draws_from(mode);
+    let report = report_of(mode);
+    let run = run_script(rt, alloc, gate, report, names, world, draws, batches)?;
+    with_journal(alloc, mode.prints_journal(), names, run)
+}
+
+// The same by the network that a text declares.
 fn run_by_net<R: Threads + Sync, G: Gate + Sync>(
     rt: &R,
     alloc: Global,
@@ -190,10 +220,7 @@ fn run_by_net<R: Threads + Sync, G: Gate + Sync>(
         ..
     } = net;
     world.keeps();
-    let draws = draws_from(mode);
-    let report = report_of(mode);
-    let run = run_script(rt, alloc, gate, report, &names, world, draws, &batches)?;
-    with_journal(alloc, mode.prints_journal(), &names, run)
+    run_by_mode(rt, alloc, gate, mode, &names, world, &batches)
 }
 
 // Runs the script of the network that a text declares, and writes what it prints.
