@@ -2,11 +2,11 @@
 #![tactic(auto)]
 
 ghost use Rattle.std.specs.Prelude.{◌≡◌, ◌+◌, ◌≤◌, Some, IsSome, IsTrue, length, map};
-ghost use Rattle.mc_slot.specs.EndTurn.{end_turn, live_turn, owes};
+ghost use Rattle.mc_slot.specs.EndTurn.{describe_newer, end_turn, live_turn, owes, select_newer};
 ghost use Rattle.mc_slot.specs.Moves.{is_live, slot_send_all};
 ghost use Rattle.mc_slot.specs.Sending.{Adds, HasPlaces, sends_of, pair_of};
 
-use mc_signal::{Descriptor, Sender, Signal, choose};
+use mc_signal::{Descriptor, Selector, Sender, Signal, choose};
 use mc_slot::{Goal, Sends, Slot, State};
 
 /// The turn of an end, pushed or not: sends what its goal lacks.
@@ -91,15 +91,38 @@ fn describe_anew(slot: &mut Slot, no: u8, own: Descriptor, me: &Sender, sends: &
     ensures len { sends.new.len ≡ sends.old.len + length (live_turn slot.old.state slot.old own me.now) }
 {
     if let Some(got) = slot.got {
-        let choice = choose(got, me);
-        if slot.sent != Some(own) {
-            slot.send(Signal::Describe(own));
-            sends.push(no, Signal::Describe(own));
-        }
-        if slot.sel_out != Some(choice) {
-            slot.send(Signal::Select(choice));
-            sends.push(no, Signal::Select(choice));
-        }
+        describe_newer(slot, no, own, sends);
+        select_newer(slot, no, choose(got, me), sends);
+    }
+}
+
+// A flowing slot sends its descriptor, where it differs from the last.
+fn describe_newer(slot: &mut Slot, no: u8, own: Descriptor, sends: &mut Sends)
+    requires flowing { slot.old.state ≡ State.Flowing }
+    requires room { HasPlaces sends.old (length (describe_newer slot.old.sent own)) }
+    ensures sends { Adds sends.old sends.new no (describe_newer slot.old.sent own) }
+    ensures after { slot_send_all slot.old (describe_newer slot.old.sent own) ≡ Some slot.new }
+    ensures len { sends.new.len ≡ sends.old.len + length (describe_newer slot.old.sent own) }
+    ensures flowing { slot.new.state ≡ State.Flowing }
+    ensures selector { slot.new.sel_out ≡ slot.old.sel_out }
+{
+    if slot.sent != Some(own) {
+        slot.send(Signal::Describe(own));
+        sends.push(no, Signal::Describe(own));
+    }
+}
+
+// A flowing slot sends a selector, where it differs from the last.
+fn select_newer(slot: &mut Slot, no: u8, choice: Selector, sends: &mut Sends)
+    requires flowing { slot.old.state ≡ State.Flowing }
+    requires room { HasPlaces sends.old (length (select_newer slot.old.sel_out choice)) }
+    ensures sends { Adds sends.old sends.new no (select_newer slot.old.sel_out choice) }
+    ensures after { slot_send_all slot.old (select_newer slot.old.sel_out choice) ≡ Some slot.new }
+    ensures len { sends.new.len ≡ sends.old.len + length (select_newer slot.old.sel_out choice) }
+{
+    if slot.sel_out != Some(choice) {
+        slot.send(Signal::Select(choice));
+        sends.push(no, Signal::Select(choice));
     }
 }
 
