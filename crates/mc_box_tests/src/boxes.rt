@@ -33,10 +33,12 @@ fn slot(origin: u32, medium: Medium) -> SlotSetup {
 // A box with three slots of audio and one of video, in that order.
 fn made(alloc: Global, kind: Kind, first_version: u32) -> Result<MediaBox, AllocError> {
     let mut slots = Vec::new(alloc);
-    slots.push(slot(0, Medium::Audio))?;
-    slots.push(slot(1, Medium::Audio))?;
-    slots.push(slot(2, Medium::Audio))?;
-    slots.push(slot(3, Medium::Video))?;
+    slots.extend_from_slice(&[
+        slot(0, Medium::Audio),
+        slot(1, Medium::Audio),
+        slot(2, Medium::Audio),
+        slot(3, Medium::Video),
+    ])?;
     let setup = Setup {
         kind,
         number: 0,
@@ -161,12 +163,20 @@ fn closes_through(rt: &impl Abort, part: &mut MediaBox) {
     has_state(rt, part, 1, State::Closing);
 }
 
+fn opens_and_closes_through(
+    rt: &impl Abort,
+    alloc: Global,
+    part: &mut MediaBox,
+) -> Result<(), Fail> {
+    opens_through(rt, alloc, part)?;
+    closes_through(rt, part);
+    Ok(())
+}
+
 #[test]
 fn a_link_passes_on_what_its_slots_take(rt: HostRuntime) -> Result<(), Fail> {
     let mut part = made(rt.alloc(), Kind::Feature, 1)?;
-    opens_through(&rt, rt.alloc(), &mut part)?;
-    closes_through(&rt, &mut part);
-    Ok(())
+    opens_and_closes_through(&rt, rt.alloc(), &mut part)
 }
 
 // Slot 2 is opened and holds from now on, and slot 0 still asks for media.
@@ -196,15 +206,19 @@ fn links_no_more(rt: &impl Abort, part: &MediaBox) {
     }
 }
 
+fn hands_over_and_back(rt: &impl Abort, alloc: Global, part: &mut MediaBox) -> Result<(), Fail> {
+    hands_over(rt, alloc, part)?;
+    has_goal(rt, part, 0, SlotGoal::Link(1));
+    has_goal(rt, part, 1, SlotGoal::Link(0));
+    has_goal(rt, part, 2, SlotGoal::End(Goal::Hold));
+    links_no_more(rt, part);
+    Ok(())
+}
+
 #[test]
 fn a_former_partner_holds(rt: HostRuntime) -> Result<(), Fail> {
     let mut part = made(rt.alloc(), Kind::Feature, 1)?;
-    hands_over(&rt, rt.alloc(), &mut part)?;
-    has_goal(&rt, &part, 0, SlotGoal::Link(1));
-    has_goal(&rt, &part, 1, SlotGoal::Link(0));
-    has_goal(&rt, &part, 2, SlotGoal::End(Goal::Hold));
-    links_no_more(&rt, &part);
-    Ok(())
+    hands_over_and_back(&rt, rt.alloc(), &mut part)
 }
 
 fn opens_and_asks_again(rt: &impl Abort, alloc: Global, part: &mut MediaBox) -> Result<(), Fail> {
@@ -240,12 +254,16 @@ fn is_accepted(rt: &impl Abort, alloc: Global, part: &mut MediaBox) -> Result<()
     acts(rt, alloc, part, talk, &[])
 }
 
+fn opens_and_hears(rt: &impl Abort, alloc: Global, part: &mut MediaBox) -> Result<(), Fail> {
+    opens_and_asks_again(rt, alloc, part)?;
+    hears_to_the_last(rt, alloc, part)?;
+    is_accepted(rt, alloc, part)?;
+    is_equal(rt, &(part.kind(), part.number()), &(Kind::Device, 0));
+    Ok(())
+}
+
 #[test]
 fn a_device_opens_hears_and_asks_again(rt: HostRuntime) -> Result<(), Fail> {
     let mut part = made(rt.alloc(), Kind::Device, 4294967294)?;
-    opens_and_asks_again(&rt, rt.alloc(), &mut part)?;
-    hears_to_the_last(&rt, rt.alloc(), &mut part)?;
-    is_accepted(&rt, rt.alloc(), &mut part)?;
-    is_equal(&rt, &(part.kind(), part.number()), &(Kind::Device, 0));
-    Ok(())
+    opens_and_hears(&rt, rt.alloc(), &mut part)
 }
