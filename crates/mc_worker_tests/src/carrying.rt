@@ -14,7 +14,6 @@ use mc_signal::{CodecList, Descriptor, Medium, Signal, Tagged};
 use mc_worker::{Inboxes, Worker, carry, carry_within};
 use std::alloc::{AllocError, Global};
 use std::process::Abort;
-use std::test::Fail;
 
 // Two phones whose channel ends are joined. The second one has an open and 64 describes in its inbox.
 fn waiting_phones(alloc: Global) -> Result<(Worker, Worker), AllocError>
@@ -80,13 +79,22 @@ fn is_carried(rt: &impl Abort, bob: &mut Worker, alice: &mut Worker) -> Result<(
     Ok(())
 }
 
-#[test]
-fn a_ring_and_an_outbox_are_carried_in_order(rt: HostRuntime) -> Result<(), Fail> {
-    let (mut alice, mut bob) = waiting_phones(rt.alloc())?;
-    answer(&rt, &mut bob);
+// Bob's answers come to alice in order.
+fn is_heard(rt: &impl Abort, bob: &mut Worker, alice: &mut Worker) -> Result<(), AllocError>
+    requires ready { IsReady bob.old × IsReady alice.old }
+    requires stamp { bob.old.stamp ≤ FIRST_STAMP_LIMIT }
+    requires ends { (length bob.old.outs.items ≡ 1) × (length alice.old.ins.items ≡ 1) }
+    requires ring { map out_ring bob.old.outs.items ≡ map in_ring alice.old.ins.items }
+{
+    answer(rt, bob);
     assert!(rt; bob.outboxes.has_items(0));
-    is_carried(&rt, &mut bob, &mut alice)?;
-    Ok(())
+    is_carried(rt, bob, alice)
+}
+
+#[test]
+fn a_ring_and_an_outbox_are_carried_in_order(rt: HostRuntime) -> Result<(), AllocError> {
+    let (mut alice, mut bob) = waiting_phones(rt.alloc())?;
+    is_heard(&rt, &mut bob, &mut alice)
 }
 
 fn open() -> Signal {
@@ -113,22 +121,30 @@ fn alone(alloc: Global, out: OutPort, taking: InPort) -> Result<Worker, AllocErr
     worker(alloc, phone, out, taking, HOLDS)
 }
 
+// An item in the ring of the phone's end comes into its own inbox.
+fn comes_back(rt: &impl Abort, phone: &mut Worker) -> Result<(), AllocError>
+    requires ready { IsReady phone.old }
+    requires ends { (length phone.old.outs.items ≡ 1) × (length phone.old.ins.items ≡ 1) }
+    requires ring { map out_ring phone.old.outs.items ≡ map in_ring phone.old.ins.items }
+{
+    is_equal(rt, &carry_within(phone, 0, 0)?, &true);
+    let tagged = Tagged {
+        tunnel: 0,
+        signal: open(),
+    };
+    is_equal(rt, &phone.inboxes.pop(0), &Some(tagged));
+    Ok(())
+}
+
 #[test]
-fn a_signal_is_carried_within_a_box(rt: HostRuntime) -> Result<(), Fail> {
-    let alloc = rt.alloc();
-    let (mut out, taking) = pair(alloc)?;
+fn a_signal_is_carried_within_a_box(rt: HostRuntime) -> Result<(), AllocError> {
+    let (mut out, taking) = pair(rt.alloc())?;
     let item = Stamped {
         stamp: 7,
         tunnel: 0,
         signal: open(),
     };
     is_equal(&rt, &out.give(item), &Ok(()));
-    let mut bob = alone(alloc, out, taking)?;
-    is_equal(&rt, &carry_within(&mut bob, 0, 0)?, &true);
-    let tagged = Tagged {
-        tunnel: 0,
-        signal: open(),
-    };
-    is_equal(&rt, &bob.inboxes.pop(0), &Some(tagged));
-    Ok(())
+    let mut bob = alone(rt.alloc(), out, taking)?;
+    comes_back(&rt, &mut bob)
 }

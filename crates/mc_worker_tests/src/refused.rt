@@ -1,6 +1,6 @@
 // Rounds to which memory is refused. `bench/refused` has each growth of memory fail in turn.
 
-ghost use Rattle.std.specs.Prelude.{◌≤◌};
+ghost use Rattle.std.specs.Prelude.{◌≡◌, ◌≤◌, IfOk};
 ghost use Rattle.mc_worker.specs.Ready.{IsReady};
 ghost use Rattle.mc_worker.specs.declared.limit.TheConstants.{FIRST_STAMP_LIMIT};
 
@@ -9,7 +9,8 @@ use crate::rounds::{HOLDS, OPENS, has_logged};
 use mc_box::Event;
 use mc_worker::limit::FIRST_STAMP_LIMIT;
 use mc_worker::{Stop, Worker};
-use std::test::Fail;
+use std::alloc::{AllocError, Global};
+use std::process::Abort;
 
 // A round, called again where memory was refused.
 fn round_again(worker: &mut Worker) -> Stop
@@ -23,17 +24,30 @@ fn round_again(worker: &mut Worker) -> Stop
     }
 }
 
+// Such a round of the phone rests, and leaves this log.
+fn rests_at_last(rt: &impl Abort, phone: &mut Worker, log: &[(u32, Event)])
+    requires ready { IsReady phone.old }
+    requires stamp { phone.old.stamp ≤ FIRST_STAMP_LIMIT }
+{
+    assert!(rt; matches!(round_again(phone), Stop::Rested));
+    has_logged(rt, &mut phone.log, log);
+}
+
+// Two phones, made again where memory was refused.
+fn phones_at_last(alloc: Global) -> Result<(Worker, Worker), AllocError>
+    ensures ready { IfOk result (λ both. IsReady both.0 × IsReady both.1) }
+    ensures stamps { IfOk result (λ both. (both.0.stamp ≡ 0) × (both.1.stamp ≡ 0)) }
+{
+    match phones(alloc) {
+        Ok(both) => Ok(both),
+        Err(_) => phones(alloc),
+    }
+}
+
 #[test]
-fn refused_memory_loses_nothing(rt: HostRuntime) -> Result<(), Fail> {
-    let alloc = rt.alloc();
-    let made = match phones(alloc) {
-        Ok(made) => made,
-        Err(_) => phones(alloc)?,
-    };
-    let (mut alice, mut bob) = made;
-    assert!(rt; matches!(round_again(&mut alice), Stop::Rested));
-    assert!(rt; matches!(round_again(&mut bob), Stop::Rested));
-    has_logged(&rt, &mut alice.log, &[(1, OPENS)]);
-    has_logged(&rt, &mut bob.log, &[(1, HOLDS), (2, Event::Take(0))]);
+fn refused_memory_loses_nothing(rt: HostRuntime) -> Result<(), AllocError> {
+    let (mut alice, mut bob) = phones_at_last(rt.alloc())?;
+    rests_at_last(&rt, &mut alice, &[(1, OPENS)]);
+    rests_at_last(&rt, &mut bob, &[(1, HOLDS), (2, Event::Take(0))]);
     Ok(())
 }

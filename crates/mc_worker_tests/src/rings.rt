@@ -7,8 +7,8 @@ use crate::equal::is_equal;
 use mc_lane::Lane;
 use mc_port::{InPort, OutPort, Stamped, drain_beside, pair};
 use mc_signal::{CodecList, Descriptor, Signal, Tagged};
+use std::alloc::AllocError;
 use std::process::Abort;
-use std::test::Fail;
 
 fn describe(version: u32) -> Signal {
     Signal::Describe(Descriptor {
@@ -61,18 +61,26 @@ fn is_drained(rt: &impl Abort, lane: &mut Lane<Tagged>) {
     is_equal(rt, &lane.pop(), &None);
 }
 
+// Sixteen items go through a ring, and then one more; the last two stay.
+fn is_filled_twice(rt: &impl Abort, out: &mut OutPort, taking: &mut InPort)
+    ensures out { out_ring out.new ≡ out_ring out.old }
+    ensures taking { in_ring taking.new ≡ in_ring taking.old }
+{
+    fill(rt, out);
+    is_equal(rt, &out.give(item(17)), &Err(item(17)));
+    is_equal(rt, &taking.peek(), &Some(item(1)));
+    empty(rt, taking);
+    is_equal(rt, &taking.take(), &None);
+    is_equal(rt, &out.give(item(17)), &Ok(()));
+    is_equal(rt, &taking.take(), &Some(item(17)));
+    is_equal(rt, &out.give(item(18)), &Ok(()));
+    is_equal(rt, &out.give(item(19)), &Ok(()));
+}
+
 #[test]
-fn a_ring_has_sixteen_places(rt: HostRuntime) -> Result<(), Fail> {
+fn a_ring_has_sixteen_places(rt: HostRuntime) -> Result<(), AllocError> {
     let (mut out, mut taking) = pair(rt.alloc())?;
-    fill(&rt, &mut out);
-    is_equal(&rt, &out.give(item(17)), &Err(item(17)));
-    is_equal(&rt, &taking.peek(), &Some(item(1)));
-    empty(&rt, &mut taking);
-    is_equal(&rt, &taking.take(), &None);
-    is_equal(&rt, &out.give(item(17)), &Ok(()));
-    is_equal(&rt, &taking.take(), &Some(item(17)));
-    is_equal(&rt, &out.give(item(18)), &Ok(()));
-    is_equal(&rt, &out.give(item(19)), &Ok(()));
+    is_filled_twice(&rt, &mut out, &mut taking);
     let mut lane = Lane::new(rt.alloc());
     drain_beside(&mut out, &mut taking, &mut lane)?;
     is_drained(&rt, &mut lane);

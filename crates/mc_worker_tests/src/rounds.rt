@@ -1,6 +1,8 @@
 // Rounds of two phones whose channel ends are joined. Each expected log and stamp is by the rules of rounds.
 
-ghost use Rattle.std.specs.Prelude.{◌≡◌, length, IfOk};
+ghost use Rattle.std.specs.Prelude.{◌≡◌, ◌≤◌, length, IfOk};
+ghost use Rattle.mc_worker.specs.Ready.{IsReady};
+ghost use Rattle.mc_worker.specs.declared.limit.TheConstants.{FIRST_STAMP_LIMIT};
 
 use crate::equal::is_equal;
 use crate::phones::{lone_phone, phones, round};
@@ -11,7 +13,6 @@ use mc_slot::Goal;
 use mc_worker::{Inboxes, Logged, Stop, Worker};
 use std::alloc::{AllocError, Global};
 use std::process::Abort;
-use std::test::Fail;
 
 pub const OPENS: Event = Event::Set(Change::End(0, Goal::Open));
 
@@ -43,18 +44,22 @@ fn is_accepted(rt: &impl Abort, alice: &mut Worker) {
     is_equal(rt, &alice.ins[0].take(), &None);
 }
 
+// A round of the phone rests after so many turns, signals that it sent and that it took, and leaves this log.
+fn rests(rt: &impl Abort, phone: &mut Worker, counts: (u32, u32, u32), log: &[(u32, Event)])
+    requires ready { IsReady phone.old }
+    requires stamp { phone.old.stamp ≤ FIRST_STAMP_LIMIT }
+{
+    let end = round(phone);
+    assert!(rt; matches!(end.stop, Stop::Rested));
+    is_equal(rt, &(end.turns, end.sent, end.took), &counts);
+    has_logged(rt, &mut phone.log, log);
+}
+
 #[test]
-fn a_call_is_accepted_in_two_rounds(rt: HostRuntime) -> Result<(), Fail> {
-    let alloc = rt.alloc();
-    let (mut alice, mut bob) = phones(alloc)?;
-    let end = round(&mut alice);
-    assert!(rt; matches!(end.stop, Stop::Rested));
-    is_equal(&rt, &(end.turns, end.sent, end.took), &(1, 1, 0));
-    has_logged(&rt, &mut alice.log, &[(1, OPENS)]);
-    let end = round(&mut bob);
-    assert!(rt; matches!(end.stop, Stop::Rested));
-    is_equal(&rt, &(end.turns, end.sent, end.took), &(2, 2, 1));
-    has_logged(&rt, &mut bob.log, &[(1, HOLDS), (2, Event::Take(0))]);
+fn a_call_is_accepted_in_two_rounds(rt: HostRuntime) -> Result<(), AllocError> {
+    let (mut alice, mut bob) = phones(rt.alloc())?;
+    rests(&rt, &mut alice, (1, 1, 0), &[(1, OPENS)]);
+    rests(&rt, &mut bob, (2, 2, 1), &[(1, HOLDS), (2, Event::Take(0))]);
     is_accepted(&rt, &mut alice);
     Ok(())
 }
@@ -97,17 +102,25 @@ pub fn full_inboxes(alloc: Global) -> Result<Inboxes, AllocError>
     Ok(Inboxes::new(lanes))
 }
 
+// A first round of the phone spends its turns, and a second one rests.
+fn spends_a_round(rt: &impl Abort, phone: &mut Worker)
+    requires ready { IsReady phone.old }
+    requires stamp { phone.old.stamp ≤ FIRST_STAMP_LIMIT }
+{
+    let end = round(phone);
+    assert!(rt; matches!(end.stop, Stop::Spent));
+    is_equal(rt, &(end.turns, end.took), &(64, 63));
+    phone.stamp = 0;
+    let end = round(phone);
+    assert!(rt; matches!(end.stop, Stop::Rested));
+    is_equal(rt, &(end.turns, end.took), &(2, 2));
+}
+
 #[test]
-fn a_round_has_64_turns(rt: HostRuntime) -> Result<(), Fail> {
+fn a_round_has_64_turns(rt: HostRuntime) -> Result<(), AllocError> {
     let inboxes = full_inboxes(rt.alloc())?;
     let (mut bob, _far_out, _far_in) = lone_phone(rt.alloc(), 1, HOLDS)?;
     bob.inboxes = inboxes;
-    let end = round(&mut bob);
-    assert!(rt; matches!(end.stop, Stop::Spent));
-    is_equal(&rt, &(end.turns, end.took), &(64, 63));
-    bob.stamp = 0;
-    let end = round(&mut bob);
-    assert!(rt; matches!(end.stop, Stop::Rested));
-    is_equal(&rt, &(end.turns, end.took), &(2, 2));
+    spends_a_round(&rt, &mut bob);
     Ok(())
 }

@@ -18,12 +18,20 @@ use std::test::Fail;
 fn a_hear_at_the_last_version_ends_a_round(rt: HostRuntime) -> Result<(), Fail> {
     let hears = Event::Media(MediaChange::Hear(0, true));
     let (mut last, _far_out, _far_in) = lone_phone(rt.alloc(), u32::MAX, hears)?;
-    assert!(rt; last.has_work(false));
-    let end = round(&mut last);
-    assert!(rt; matches!(end.stop, Stop::VersionEnd(0)));
-    is_equal(&rt, &end.turns, &0);
-    is_equal(&rt, &last.stimuli.front(), &Some(hears));
+    hears_no_more(&rt, &mut last, hears);
     Ok(())
+}
+
+// The phone has work, makes no turn for it, and keeps the command.
+fn hears_no_more(rt: &impl Abort, phone: &mut Worker, command: Event)
+    requires ready { IsReady phone.old }
+    requires stamp { phone.old.stamp ≤ FIRST_STAMP_LIMIT }
+{
+    assert!(rt; phone.has_work(false));
+    let end = round(phone);
+    assert!(rt; matches!(end.stop, Stop::VersionEnd(0)));
+    is_equal(rt, &end.turns, &0);
+    is_equal(rt, &phone.stimuli.front(), &Some(command));
 }
 
 // A descriptor of another phone.
@@ -56,15 +64,23 @@ fn is_strange(rt: &impl Abort, phone: &mut Worker, item: Stamped, turns: u32)
     is_equal(rt, &end.turns, &turns);
 }
 
-// A phone that finds this item in its ring leaves it there, in this round and in the next.
+// The phone leaves this item in its ring, in this round and in the next.
+fn leaves(rt: &impl Abort, phone: &mut Worker, item: Stamped)
+    requires ready { IsReady phone.old }
+    requires stamp { phone.old.stamp ≤ FIRST_STAMP_LIMIT }
+{
+    is_strange(rt, phone, item, 1);
+    phone.stamp = 0;
+    is_strange(rt, phone, item, 0);
+    assert!(rt; phone.ins.len() == 1);
+    is_equal(rt, &phone.ins[0].take(), &Some(item));
+}
+
+// A phone that finds this item in its ring leaves it there.
 fn stays(rt: &(impl Abort + AllocGlobal), item: Stamped) -> Result<(), Fail> {
     let (mut bob, mut far_out, _far_in) = lone_phone(rt.alloc(), 1, HOLDS)?;
     is_equal(rt, &far_out.give(item), &Ok(()));
-    is_strange(rt, &mut bob, item, 1);
-    bob.stamp = 0;
-    is_strange(rt, &mut bob, item, 0);
-    assert!(rt; bob.ins.len() == 1);
-    is_equal(rt, &bob.ins[0].take(), &Some(item));
+    leaves(rt, &mut bob, item);
     Ok(())
 }
 
