@@ -1,8 +1,8 @@
 //! The names of a text, and the numbers that they have.
 
-ghost use Rattle.std.specs.Prelude.{◌≡◌, ◌<◌, ◌≤◌, ◌++◌, [], length, IfSome, OnOk, OnErr, IsTrue, Ok, Some, codes, slice_index_or, take};
+ghost use Rattle.std.specs.Prelude.{◌≡◌, ◌<◌, ◌≤◌, ◌++◌, ◌∷◌, [], length, IfSome, OnOk, OnErr, IsTrue, Ok, Some, None, codes, slice_index_or, take};
 ghost use Rattle.mc_text.specs.Adding.{add_name, told_number, GivesNumber};
-ghost use Rattle.mc_text.specs.NameLists.{place_of, no_names, slot_names, slot_word, with_codec_name, with_box_name, with_slot_name, with_told_word};
+ghost use Rattle.mc_text.specs.NameLists.{place_of, no_names, slot_names, slot_word, with_name, with_codec_name, with_box_name, with_slot_name, with_told_word};
 ghost use Rattle.mc_text.specs.Spelling.{is_name};
 
 use crate::limit::{BOX_LIMIT, CODEC_LIMIT, SLOT_LIMIT, TOLD_LIMIT};
@@ -66,15 +66,9 @@ impl Names {
         ensures unchanged { OnErr result (self.new ≡ self.old) }
     {
         let number = self.boxes.place_for(BOX_LIMIT, name)?;
-        if self.slots.push(NameList::new(self.alloc)).is_err() {
-            return Err(NameFault::NoMemory(AllocError));
-        }
-        match self.boxes.push(name) {
+        match push_box(&mut self.boxes, &mut self.slots, name, self.alloc) {
             Ok(()) => Ok(number as u32),
-            Err(wanting) => {
-                self.slots.pop();
-                Err(NameFault::NoMemory(wanting))
-            }
+            Err(wanting) => Err(NameFault::NoMemory(wanting)),
         }
     }
 
@@ -229,6 +223,25 @@ impl Names {
         }
         put
     }
+}
+
+// Adds a new box last, with an empty list for its slots. The list has its room first, so that nothing is undone.
+fn push_box(
+    boxes: &mut NameList,
+    slots: &mut Vec<NameList>,
+    name: &[u8],
+    alloc: Global,
+) -> Result<(), AllocError>
+    requires name { IsTrue (is_name name.now) }
+    requires new { place_of boxes.old name.now ≡ None }
+    ensures boxes { OnOk result (boxes.new ≡ with_name boxes.old name.now) }
+    ensures slots { OnOk result (slots.new.items ≡ slots.old.items ++ [] ∷ []) }
+    ensures unchanged { OnErr result ((boxes.new ≡ boxes.old) × (slots.new.items ≡ slots.old.items)) }
+{
+    slots.reserve(1)?;
+    boxes.push(name)?;
+    slots.push_reserved(NameList::new(alloc));
+    Ok(())
 }
 
 // Appends two words with `/` between them. Want of memory may come in the middle.
