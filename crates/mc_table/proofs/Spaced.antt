@@ -1,5 +1,5 @@
 -- Words with a space before each but the first.
-use Rattle.std.proofs.Common.{◌≡◌, ◌≤◌, ℕ, List, [], ◌∷◌, ◌++◌, length, take, map, flat_map, refl, sym, ap, ◌∙◌, append-nil, append_assoc, take_all, Bor}
+use Rattle.std.proofs.Common.{◌≡◌, ◌≤◌, ℕ, List, [], ◌∷◌, ◌++◌, length, take, map, flat_map, refl, sym, ap, ◌∙◌, append-nil, append_assoc, take_all, take_at, Bor}
 use Rattle.std.specs.List.{join_with_byte}
 use Rattle.mc_table.specs.Words.{line_of}
 
@@ -19,3 +19,11 @@ pub line_is : (before first : List ℕ) (others : List (Bor (List ℕ))) (i : �
     → ((before ++ first) ++ flat_map behind_space (take i others)) ++ 10 ∷ [] ≡ before ++ line_of (first ∷ map bytes_of others)
 line_is before first others i past =
     rw (take_all i others past, join-cons first others) (append_assoc (before ++ first) (flat_map behind_space others) (10 ∷ []) ∙ append_assoc before first (flat_map behind_space others ++ 10 ∷ []) ∙ ap (λ (line : List ℕ). before ++ line) (sym (append_assoc first (flat_map behind_space others) (10 ∷ []))))
+
+-- what stood before is still the front
+pub begins : (before first more : List ℕ) → take (length before) ((before ++ first) ++ more) ≡ before
+begins before first more = rw (append_assoc before first more) (take_at before (first ++ more) (length before) refl)
+
+-- and still is, where more comes behind it
+pub begins_more : (before first more last : List ℕ) → take (length before) (((before ++ first) ++ more) ++ last) ≡ before
+begins_more before first more last = rw (append_assoc (before ++ first) more last) (begins before first (more ++ last))

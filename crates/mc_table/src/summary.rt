@@ -2,7 +2,6 @@
 ghost use Rattle.std.specs.Prelude.{◌≡◌, ◌≤◌, IfOk, cond, is_some};
 ghost use Rattle.mc_table.specs.Summaries.{closed_views, flowing_views, heard_ends, hearing_ends, print_summary};
 
-use crate::line::put_line;
 use mc_view::{EndView, PathView};
 use std::alloc::{AllocError, Global};
 
@@ -11,22 +10,13 @@ use std::alloc::{AllocError, Global};
 pub fn print_summary(alloc: Global, number: u32, views: &[PathView]) -> Result<Vec<u8>, AllocError>
     ensures { IfOk result (λ text. text.items ≡ print_summary number views.now) }
 {
-    let number = format!(in alloc; "{number}")?;
-    let flowing = format!(in alloc; "{}", flowing_views(views))?;
-    let closed = format!(in alloc; "{}", closed_views(views))?;
-    let heard = format!(in alloc; "{}", hearing_ends(views))?;
-    let words = [
-        number.as_bytes(),
-        b"flowing",
-        flowing.as_bytes(),
-        b"closed",
-        closed.as_bytes(),
-        b"heard",
-        heard.as_bytes(),
-    ];
-    let mut text = Vec::new(alloc);
-    put_line(b"settle", &words, &mut text)?;
-    Ok(text)
+    let flowing = flowing_views(views);
+    let closed = closed_views(views);
+    let heard = hearing_ends(views);
+    let line = format!(in alloc;
+        "settle {number} flowing {flowing} closed {closed} heard {heard}\n"
+    )?;
+    Ok(line.into_bytes())
 }
 
 fn flowing_views(views: &[PathView]) -> usize

@@ -1,7 +1,0 @@
-use Rattle.std.proofs.Common.{◌≡◌, ◌++◌, flat_map, take}
-use Rattle.mc_table.specs.Shown.{view_text}
-use Rattle.mc_table.proofs.settle.print_settle.Given as goal
-
--- the lines of the paths so far stand behind that of the settle
-abbrev pub invariant-loop-view : goal.invariant-loop-view
-invariant-loop-view l = l.text.items ≡ l.initial.text.items ++ flat_map (view_text l.names) (take l.view-index l.views)
