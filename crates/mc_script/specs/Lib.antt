@@ -3,3 +3,4 @@ pub mod Rules
 pub mod Meaning
 pub mod Printed
 pub mod Batches
+pub mod SlotLines

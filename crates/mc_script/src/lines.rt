@@ -1,11 +1,13 @@
 //! The lines of each kind of command, by the words behind the first.
 
-ghost use Rattle.std.specs.Prelude.{◌≡◌, ◌<◌, MatchResult, length};
+ghost use Rattle.std.specs.Prelude.{◌≡◌, ◌<◌, IfSome, MatchResult, None, Some, length};
 ghost use Rattle.std.specs.List.{slice_get};
+ghost use Rattle.std.specs.Option.{is_none, option_copied};
 ghost use Rattle.mc_slot.specs.Moves.{is_same_medium};
 ghost use Rattle.mc_box.specs.BoxShapes.{slot_medium};
 ghost use Rattle.mc_script.specs.Places.{box_named, slot_named, spelt_value, Fits};
 ghost use Rattle.mc_script.specs.Rules.{least_broken, set_rules, link_rules, media_rules, tell_rules, settle_rules, spelt_switch};
+ghost use Rattle.mc_script.specs.SlotLines.{IsPair, slot_rules};
 ghost use Rattle.mc_script.specs.Meaning.{ReadsAs, ReadsCommand};
 
 use crate::command::{Command, LineFault};
@@ -19,22 +21,15 @@ use mc_box::{BoxShape, Change, Event, MediaChange, Shape, Turn};
 use mc_text::{FirstWords, Names, Words};
 
 /// Reads `set BOX SLOT GOAL` from the box on.
+#[tactic(auto, using(crate::proofs::Missing::misses_third, crate::proofs::Missing::misses_box, crate::proofs::Missing::misses_value))]
 pub fn set_line<'a>(names: &Names, words: Words<'a>) -> Result<Command, LineFault>
     ensures { ReadsCommand names.now CommandWord.Set (set_rules names.now words.entry) words.entry result }
 {
     let parts = FirstWords::new(words);
     let who = known_box(names, parts.first)?;
     let goal = fixed_goal(parts.third)?;
-    let (Some(who), Some(slot), Some(goal)) = (who, parts.second, goal) else {
-        return Err(LineFault {
-            number: MISSING_WORD,
-        });
-    };
-    if parts.fourth.is_some() {
-        return Err(LineFault { number: EXTRA_WORD });
-    }
-    let local = known_slot(names, who, slot)?;
-    Ok(stimulus(who, Event::Set(Change::End(local, goal))))
+    let SlotLine { who, local, value } = slot_line(names, who, parts.second, goal, parts.fourth)?;
+    Ok(stimulus(who, Event::Set(Change::End(local, value))))
 }
 
 /// Reads `link BOX SLOT SLOT` from the box on, which must be a feature.
@@ -42,19 +37,11 @@ pub fn link_line<'a>(names: &Names, shape: &Shape, words: Words<'a>) -> Result<C
     requires { Fits names.now shape.now }
     ensures { ReadsCommand names.now CommandWord.Link (link_rules names.now shape.now words.entry) words.entry result }
 {
-    let parts = FirstWords::new(words);
-    let who = known_box(names, parts.first)?;
-    needs_feature(shape, who)?;
-    let (Some(who), Some(slot), Some(other)) = (who, parts.second, parts.third) else {
-        return Err(LineFault {
-            number: MISSING_WORD,
-        });
-    };
-    if parts.fourth.is_some() {
-        return Err(LineFault { number: EXTRA_WORD });
-    }
-    let local = known_slot(names, who, slot)?;
-    let other = known_slot(names, who, other)?;
+    let SlotLine {
+        who,
+        local,
+        value: other,
+    } = pair_line(names, shape, words)?;
     if local == other {
         return Err(LineFault { number: SAME_SLOT });
     }
@@ -64,16 +51,36 @@ pub fn link_line<'a>(names: &Names, shape: &Shape, words: Words<'a>) -> Result<C
     Ok(stimulus(who, Event::Set(Change::Link(local, other))))
 }
 
+// Two slots of a box, the box being a feature.
+#[tactic(auto, using(crate::proofs::Missing::misses_third, crate::proofs::Missing::misses_box, crate::proofs::Missing::misses_value))]
+fn pair_line<'a>(names: &Names, shape: &Shape, words: Words<'a>) -> Result<SlotLine<u8>, LineFault>
+    requires { Fits names.now shape.now }
+    ensures { MatchResult result (IsPair names.now shape.now words.entry)
+        (λ e. least_broken (link_rules names.now shape.now words.entry) ≡ Some e.number) }
+{
+    let parts = FirstWords::new(words);
+    let who = known_box(names, parts.first)?;
+    needs_feature(shape, who)?;
+    let SlotLine {
+        who,
+        local,
+        value: other,
+    } = slot_line(names, who, parts.second, parts.third, parts.fourth)?;
+    let other = known_slot(names, who, other)?;
+    Ok(SlotLine {
+        who,
+        local,
+        value: other,
+    })
+}
+
 /// Reads `hear BOX SLOT SWITCH` from the box on, which must be a device.
 pub fn hear_line<'a>(names: &Names, shape: &Shape, words: Words<'a>) -> Result<Command, LineFault>
     requires { Fits names.now shape.now }
     ensures { ReadsCommand names.now CommandWord.Hear (media_rules names.now shape.now words.entry) words.entry result }
 {
-    let switch = switch_line(names, shape, words)?;
-    Ok(stimulus(
-        switch.who,
-        Event::Media(MediaChange::Hear(switch.local, switch.on)),
-    ))
+    let SlotLine { who, local, value } = switch_line(names, shape, words)?;
+    Ok(stimulus(who, Event::Media(MediaChange::Hear(local, value))))
 }
 
 /// Reads `talk BOX SLOT SWITCH` from the box on, which must be a device.
@@ -81,14 +88,12 @@ pub fn talk_line<'a>(names: &Names, shape: &Shape, words: Words<'a>) -> Result<C
     requires { Fits names.now shape.now }
     ensures { ReadsCommand names.now CommandWord.Talk (media_rules names.now shape.now words.entry) words.entry result }
 {
-    let switch = switch_line(names, shape, words)?;
-    Ok(stimulus(
-        switch.who,
-        Event::Media(MediaChange::Talk(switch.local, switch.on)),
-    ))
+    let SlotLine { who, local, value } = switch_line(names, shape, words)?;
+    Ok(stimulus(who, Event::Media(MediaChange::Talk(local, value))))
 }
 
 /// Reads `tell BOX WORD` from the box on, which must have a program.
+#[tactic(auto, using(crate::proofs::Missing::misses_second, crate::proofs::Missing::misses_box))]
 pub fn tell_line<'a>(names: &Names, shape: &Shape, words: Words<'a>) -> Result<Command, LineFault>
     requires { Fits names.now shape.now }
     ensures { ReadsCommand names.now CommandWord.Tell (tell_rules names.now shape.now words.entry) words.entry result }
@@ -118,38 +123,60 @@ pub fn settle_line<'a>(mut words: Words<'a>) -> Result<Command, LineFault>
     }
 }
 
-// A switch of a device's slot, and whether it goes on.
-#[derive(Clone, Copy)]
-struct Switch {
-    who: u32,
-    local: u8,
-    on: bool,
-}
-
 // `BOX SLOT SWITCH`, the box being a device.
-fn switch_line<'a>(names: &Names, shape: &Shape, words: Words<'a>) -> Result<Switch, LineFault>
+#[tactic(auto, using(crate::proofs::Missing::misses_third, crate::proofs::Missing::misses_box, crate::proofs::Missing::misses_value))]
+fn switch_line<'a>(
+    names: &Names,
+    shape: &Shape,
+    words: Words<'a>,
+) -> Result<SlotLine<bool>, LineFault>
     requires { Fits names.now shape.now }
     ensures { MatchResult result
         (λ switch. (least_broken (media_rules names.now shape.now words.entry) ≡ None)
         × (box_named names.now (slice_get words.entry 0) ≡ Some switch.who)
         × (slot_named names.now (Some switch.who) (slice_get words.entry 1) ≡ Some switch.local)
-        × (spelt_value spelt_switch (slice_get words.entry 2) ≡ Some switch.on))
+        × (spelt_value spelt_switch (slice_get words.entry 2) ≡ Some switch.value))
         (λ e. least_broken (media_rules names.now shape.now words.entry) ≡ Some e.number) }
 {
     let parts = FirstWords::new(words);
     let who = known_box(names, parts.first)?;
     needs_device(shape, who)?;
     let on = fixed_switch(parts.third)?;
-    let (Some(who), Some(slot), Some(on)) = (who, parts.second, on) else {
+    slot_line(names, who, parts.second, on, parts.fourth)
+}
+
+// A slot of a box, and the value of the word behind it.
+struct SlotLine<T> {
+    who: u32,
+    local: u8,
+    value: T,
+}
+
+// What `BOX SLOT VALUE` says, whose box and value are known where their words are there.
+fn slot_line<T: Copy>(
+    names: &Names,
+    who: Option<u32>,
+    slot: Option<&[u8]>,
+    value: Option<T>,
+    left_over: Option<&[u8]>,
+) -> Result<SlotLine<T>, LineFault>
+    requires { IfSome who (λ known. known < length names.now.boxes) }
+    ensures { MatchResult result
+        (λ line. (who ≡ Some line.who) × (value ≡ Some line.value)
+        × (slot_named names.now who (option_copied slot.entry) ≡ Some line.local)
+        × (least_broken (slot_rules names.now who (option_copied slot.entry) (is_none value) (option_copied left_over.entry)) ≡ None))
+        (λ e. least_broken (slot_rules names.now who (option_copied slot.entry) (is_none value) (option_copied left_over.entry)) ≡ Some e.number) }
+{
+    let (Some(who), Some(slot), Some(value)) = (who, slot, value) else {
         return Err(LineFault {
             number: MISSING_WORD,
         });
     };
-    if parts.fourth.is_some() {
+    if left_over.is_some() {
         return Err(LineFault { number: EXTRA_WORD });
     }
     let local = known_slot(names, who, slot)?;
-    Ok(Switch { who, local, on })
+    Ok(SlotLine { who, local, value })
 }
 
 fn stimulus(who: u32, event: Event) -> Command
