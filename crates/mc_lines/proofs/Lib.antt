@@ -7,3 +7,4 @@ pub mod Joining
 pub mod Missing
 pub mod Sends
 pub mod Tails
+pub mod SlotWords

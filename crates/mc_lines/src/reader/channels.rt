@@ -1,9 +1,11 @@
 //! Lines that declare channels.
 
-ghost use Rattle.std.specs.Prelude.{◌≡◌, ◌<◌, [], IfOk, IfSome, IsTrue, OnOk, length};
-ghost use Rattle.std.specs.Option.{is_some};
+ghost use Rattle.std.specs.Prelude.{◌≡◌, ◌<◌, ◌&&◌, ◌||◌, [], if◌then◌else◌, IfOk, IfSome, IsTrue, OnOk, Some, length};
+ghost use Rattle.std.specs.Option.{is_some, option_copied};
 ghost use Rattle.mc_text.specs.NameLists.{place_of, slot_names};
-ghost use Rattle.mc_text.specs.Spelling.{is_name};
+ghost use Rattle.mc_text.specs.Spelling.{is_name, is_spelt};
+ghost use Rattle.mc_script.specs.Places.{is_misspelt, unless};
+ghost use Rattle.mc_lines.specs.Rules.{is_late};
 ghost use Rattle.mc_lines.specs.BoxLines.{CanJoin, CanWiden, IsOfLast, KnowsEnds, also_seen, channel_seen, check_join, check_widen, last_ends, slots_seen};
 ghost use Rattle.mc_plan.specs.Plans.{last_channel};
 ghost use Rattle.mc_lines.specs.Forms.{IsInForm};
@@ -37,7 +39,6 @@ pub struct ChannelLine<'a> {
 
 impl Reader {
     // What a `chan` line spells, in words that are known where they must be.
-    #[tactic(auto, using(crate::proofs::Missing::no_word_without_box, crate::proofs::Missing::no_fifth_without_first, crate::proofs::Missing::no_fifth_without_second, crate::proofs::Missing::no_fifth_without_third, crate::proofs::Missing::no_fifth_without_fourth))]
     fn channel_words<'a>(&self, words: Words<'a>) -> Result<ChannelLine<'a>, LineFault>
         ensures read { SpellsChannel self.now words.entry result }
         ensures known { IfOk result (KnowsEnds self.now) }
@@ -46,25 +47,15 @@ impl Reader {
         let from = known_box(&self.names, parts.second)?;
         let to = known_box(&self.names, parts.fourth)?;
         let medium = fixed_medium(parts.first)?;
-        if self.is_late(Section::Channels)
-            || from.is_some() && is_misspelt(parts.third)
-            || to.is_some() && is_misspelt(parts.fifth)
-        {
-            return Err(LineFault { number: WRONG_WORD });
-        }
         let Some(far_slot) = parts.fifth else {
-            return Err(LineFault {
-                number: MISSING_WORD,
-            });
+            return Err(self.missing_word(from, parts.third));
         };
-        if parts.sixth.is_some() {
-            return Err(LineFault { number: EXTRA_WORD });
-        }
         // where the fifth word is there, so are those before it
         let (Some(medium), Some(from), Some(slot), Some(to)) = (medium, from, parts.third, to)
         else {
             unreachable!()
         };
+        self.check_slots(slot, far_slot, parts.sixth)?;
         Ok(ChannelLine {
             medium,
             from,
@@ -72,6 +63,46 @@ impl Reader {
             to,
             far_slot,
         })
+    }
+
+    // Why a line of two slots isn't taken whose last word is missing: 5 where it comes too late or its first slot is
+    // misspelt, which is asked only where its box is known, and else 6.
+    fn missing_word(&self, from: Option<u32>, slot: Option<&[u8]>) -> LineFault
+        ensures { result ≡ record {
+          number =
+              if is_late self.now Section.Channels || (is_some from && is_misspelt (option_copied slot.entry)) then WRONG_WORD else MISSING_WORD;
+        } }
+    {
+        let number = if self.is_late(Section::Channels) || from.is_some() && is_misspelt(slot) {
+            WRONG_WORD
+        } else {
+            MISSING_WORD
+        };
+        LineFault { number }
+    }
+
+    // Whether the slots of a line may be spelt so, and no word is left over.
+    fn check_slots(
+        &self,
+        slot: &[u8],
+        far_slot: &[u8],
+        left_over: Option<&[u8]>,
+    ) -> Result<(), LineFault>
+        ensures checked { result ≡
+            if is_late self.now Section.Channels || is_misspelt (Some slot.now) || is_misspelt (Some far_slot.now) then Err (record { number = WRONG_WORD })
+            else unless (is_some (option_copied left_over.entry)) EXTRA_WORD tt }
+        ensures spelt { OnOk result (IsTrue (is_spelt slot.now) × IsTrue (is_spelt far_slot.now)) }
+    {
+        if self.is_late(Section::Channels)
+            || is_misspelt(Some(slot))
+            || is_misspelt(Some(far_slot))
+        {
+            return Err(LineFault { number: WRONG_WORD });
+        }
+        if left_over.is_some() {
+            return Err(LineFault { number: EXTRA_WORD });
+        }
+        Ok(())
     }
 
     // What a `chan` line declares.
@@ -135,7 +166,6 @@ impl Reader {
     }
 
     // What an `also` line spells, in words that are known where they must be.
-    #[tactic(auto, using(crate::proofs::Missing::no_third_without_first, crate::proofs::Missing::no_third_without_second))]
     fn also_words<'a>(&self, words: Words<'a>) -> Result<ChannelLine<'a>, LineFault>
         requires { IsInForm self.now }
         ensures read { SpellsAlso self.now words.entry result }
@@ -147,24 +177,14 @@ impl Reader {
         let Some((from, to)) = self.last_ends() else {
             return Err(LineFault { number: WRONG_WORD });
         };
-        if self.is_late(Section::Channels)
-            || is_misspelt(parts.second)
-            || is_misspelt(parts.third)
-        {
-            return Err(LineFault { number: WRONG_WORD });
-        }
         let Some(far_slot) = parts.third else {
-            return Err(LineFault {
-                number: MISSING_WORD,
-            });
+            return Err(self.missing_word(Some(from), parts.second));
         };
-        if parts.fourth.is_some() {
-            return Err(LineFault { number: EXTRA_WORD });
-        }
         // where the third word is there, so are those before it
         let (Some(medium), Some(slot)) = (medium, parts.second) else {
             unreachable!()
         };
+        self.check_slots(slot, far_slot, parts.fourth)?;
         Ok(ChannelLine {
             medium,
             from,
