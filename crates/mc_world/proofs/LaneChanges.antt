@@ -40,6 +40,15 @@ pub signals_added : (lanes : List Lane) (k : ℕ) (d new : Lane) (more : List Ta
     → signals_of (set lanes k new) ≡ set (signals_of lanes) k (get_or (signals_of lanes) k [] ++ more)
 signals_added lanes k d new more here added = rw (signals_of-set lanes k new, added, signals_at lanes k d here) refl
 
+-- each lane has as much room as before, or less, where this one has
+pub room_changed : (lanes : List Lane) (j : ℕ) (d new : Lane) (before after : ℕ) → after ≤ before → (before ≤ (get_or lanes j d).spare → after ≤ new.spare) → (k : ℕ) → HasRoom lanes k before
+    → HasRoom (set lanes j new) k after
+room_changed [] j d new before after less here k room e = omega (arith, less, room e)
+room_changed (lane ∷ lanes) zero d new before after less here zero room e = here (room e)
+room_changed (lane ∷ lanes) zero d new before after less here (suc k) room e = omega (arith, less, room e)
+room_changed (lane ∷ lanes) (suc j) d new before after less here zero room e = omega (arith, less, room e)
+room_changed (lane ∷ lanes) (suc j) d new before after less here (suc k) room e = room_changed lanes j d new before after less here k room e
+
 -- ---- a vector of lanes that is written as a slice
 
 -- as long as the vector, the slice is what the vector has then

@@ -11,7 +11,7 @@ use Rattle.mc_world.specs.Waiting.{AreFlagsCounted, AreFlagged, FirstServed, IsF
 use Rattle.mc_world.specs.declared.topology.Topology.{Topology}
 use Rattle.mc_world.specs.declared.waiting.Waiting.{Waiting}
 use Rattle.mc_world.proofs.FlagCounts.{counted_passed}
-use Rattle.mc_world.proofs.Flags.{flags_begun, flags_last, flags_next, flags_stay, next_is, none_next}
+use Rattle.mc_world.proofs.Flags.{IsNext, flags_begun, flags_last, flags_next, flags_stay, next_is, none_next}
 use Rattle.mc_world.proofs.LaneChanges.{Lane, signals_added, signals_at, signals_popped}
 use Rattle.mc_world.proofs.TopologyLanes.{lane_there}
 
@@ -57,15 +57,26 @@ taken_last topology lanes waiting after s k d new front takes front_is none flag
       (sym (left_is topology lanes waiting s k d new takes) ∙ none_left new.items front front_is none));
 }
 
--- another signal is, for a slot that gets the flag
+first_left : (topology : Topology) (lanes : List Lane) (waiting : Waiting) (s k : ℕ) (d new : Lane) (front : Option Tagged) (tagged : Tagged) → TakesFront topology lanes waiting s k d new
+    → front ≡ slice_get new.items 0 → front ≡ Some tagged → slice_get (drop 1 (get_or (signals_of lanes) (lane_by topology s) [])) 0 ≡ Some tagged
+first_left topology lanes waiting s k d new front tagged takes front_is some =
+    ap (λ (l : List Tagged). slice_get l 0) (sym (left_is topology lanes waiting s k d new takes)) ∙ (sym front_is ∙ some)
+
+-- another signal is, for a slot that is there
+pub next_left : (topology : Topology) (lanes : List Lane) (waiting : Waiting) (s k : ℕ) (d new : Lane) (front : Option Tagged) (tagged : Tagged) → TakesFront topology lanes waiting s k d new
+    → FirstServed topology (lane_by topology s) (drop 1 (get_or (signals_of lanes) (lane_by topology s) [])) → front ≡ slice_get new.items 0 → front ≡ Some tagged → IsNext topology s tagged
+next_left topology lanes waiting s k d new front tagged takes served front_is some =
+    next_is topology (length lanes) s (drop 1 (get_or (signals_of lanes) (lane_by topology s) [])) tagged takes.laid takes.here (first_left topology lanes waiting s k d new front tagged takes front_is some) served
+
+-- which gets the flag
 pub taken_next : (topology : Topology) (lanes : List Lane) (waiting after : Waiting) (s k next : ℕ) (d new : Lane) (front : Option Tagged) (tagged : Tagged) → TakesFront topology lanes waiting s k d new
     → FirstServed topology (lane_by topology s) (drop 1 (get_or (signals_of lanes) (lane_by topology s) [])) → front ≡ slice_get new.items 0 → front ≡ Some tagged
     → next ≡ s + 2 * tagged.tunnel - 2 * tunnel_by topology s → after.flags.items ≡ set (set waiting.flags.items s false) next true → after.takes ≡ waiting.takes → IsWaiting topology (signals_of (set lanes k new)) after
 taken_next topology lanes waiting after s k next d new front tagged takes served front_is some next_here flags same =
     let rest : List Tagged = drop 1 (get_or (signals_of lanes) (lane_by topology s) []) in
-    let first : slice_get (drop 1 (get_or (signals_of lanes) (lane_by topology s) [])) 0 ≡ Some tagged = ap (λ (l : List Tagged). slice_get l 0) (sym (left_is topology lanes waiting s k d new takes)) ∙ (sym front_is ∙ some) in
+    let first = first_left topology lanes waiting s k d new front tagged takes front_is some in
     let for : IsForBy topology (lane_by topology s) tagged next =
-    subst (λ (t : ℕ). IsForBy topology (lane_by topology s) tagged t) (sym next_here) (next_is topology (length lanes) s rest tagged takes.laid takes.here first served).for in
+    subst (λ (t : ℕ). IsForBy topology (lane_by topology s) tagged t) (sym next_here) (next_left topology lanes waiting s k d new front tagged takes served front_is some).for in
     record {
       counted = counted_passed topology waiting after s next takes.laid.numbers takes.table.counted takes.here for.inside (takes.laid.home s next takes.here for.inside (sym for.leads)) (takes.table.flagged s takes.here ∙ takes.some)
           (none_next topology (signals_of lanes) waiting.flags.items (length lanes) s next takes.laid takes.table.flagged takes.here takes.table.counted.flags (signals_lane topology lanes s takes.laid takes.here) takes.some for.inside for.leads)

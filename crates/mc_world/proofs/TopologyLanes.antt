@@ -19,7 +19,7 @@ use Rattle.mc_model.specs.Worlds.{TunnelPlace, WorldState, box_at, place, slot_c
 use Rattle.mc_world.specs.declared.network.World.TheInside.{Inside}
 use Rattle.mc_world.specs.declared.topology.Topology.{Topology}
 use Rattle.mc_laws.proofs.TunnelPlaces.{channel_in, two_each}
-use Rattle.mc_laws.proofs.Numbers.{far_side, half_in, number_is}
+use Rattle.mc_laws.proofs.Numbers.{far_in, far_side, found_at, half_in, number_is}
 
 -- ---- lanes that are there
 
@@ -31,6 +31,16 @@ pub lane_there : (topology : Topology) (count s : ℕ) → IsLaid topology count
 lane_there topology count s laid below =
     let tunnel : s / 2 < length topology.tunnels.items = half_in s (length topology.tunnels.items) (subst (λ (n : ℕ). s < n) laid.slots below) in
     lane_low (get_or topology.tunnels.items (s / 2) (0, 0)).0 (s % 2) (far s % 2) count (laid.lanes (s / 2) tunnel) (omega (arith, far_side s))
+
+-- the far slot of a box's slot is there
+pub away_there : (topology : Topology) (count who local away : ℕ) (numbers : List ℕ) → IsLaid topology count → numbers ≡ numbers_of topology who → local < length numbers → away ≡ far (get_or numbers local 0)
+    → away < length topology.places.items
+away_there topology count who local away numbers laid are below is =
+    let own : ℕ = get_or numbers local 0 in
+    let at : slice_get (numbers_of topology who) local ≡ Some own = ap (λ (l : List ℕ). slice_get l local) (sym are) ∙ slice_get-get_or numbers local 0 below in
+    let found = found_at topology.places.items who local own (sym (laid.numbers.found who local) ∙ at) in
+    subst (λ (t : ℕ). t < length topology.places.items) (sym is)
+    (subst (λ (n : ℕ). far own < n) (sym laid.slots) (far_in own (length topology.tunnels.items) (subst (λ (n : ℕ). own < n) laid.slots found.0)))
 
 tunnel_at : (found : List TunnelPlace) (t : ℕ) → get_or (map channel_of found) t (0, 0) ≡ channel_of (get_or found t no_tunnel)
 tunnel_at found t = get_or-map channel_of found t no_tunnel

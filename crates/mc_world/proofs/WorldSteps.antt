@@ -46,6 +46,11 @@ number_slot world who local s is =
     let found = number_is world who local s is in
     rw (found.1, found.2) refl
 
+-- a slot with a number has its place in the table
+pub slot_there : (inside : Inside) (world : WorldState) (who local s : ℕ) → HasTables inside → world_state inside ≡ world → number world who local ≡ Some s → s < length inside.topology.places.items
+slot_there inside world who local s has view is =
+    subst (λ (l : List (ℕ × ℕ)). s < length l) (sym has.topology.places) (subst (λ (w : WorldState). s < length (places w)) (sym view) ((number_is world who local s is).0))
+
 -- the front of the lane that leads to a slot
 pub front_is : (world : WorldState) (s lane tunnel : ℕ) (found : Option Signal) → lane ≡ lane_of world s → tunnel ≡ (tunnel_of world s).within
     → found ≡ front_for tunnel (get_or world.lanes lane []) → found ≡ front world s

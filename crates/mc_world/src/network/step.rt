@@ -1,11 +1,11 @@
 // One step of a world.
 
-ghost use Rattle.std.specs.Prelude.{◌≡◌, ◌↔◌, ◌<◌, ◌&&◌, ℕ, not, Some, None, false, length, IsFalse, IsTrue, OnOk, OnErr};
+ghost use Rattle.std.specs.Prelude.{◌≡◌, ◌↔◌, ◌<◌, ◌≤◌, ◌*◌, ◌&&◌, ℕ, [], not, Some, None, true, false, length, IfOk, IsFalse, IsTrue, OnOk, OnErr};
 ghost use Rattle.mc_box.specs.BoxEvents.{is_enabled, is_take, is_version_end, turn_of};
 ghost use Rattle.mc_box.specs.LinkFree.{is_linking};
 ghost use Rattle.mc_model.specs.Paths.{partner_of};
 ghost use Rattle.mc_model.specs.Sound.{IsSound};
-ghost use Rattle.mc_model.specs.Worlds.{box_at, number};
+ghost use Rattle.mc_model.specs.Worlds.{box_at, front, lane_of, number, tunnel_of};
 ghost use Rattle.mc_world.specs.StepAnswers.{Answers, CannotHappen, LacksVersion};
 ghost use Rattle.mc_model.specs.Steps.{ends_version_at, step, step_by};
 ghost use Rattle.mc_world.specs.declared.network.step.StepFault.TheVariants.{NoMemory};
@@ -15,8 +15,9 @@ use crate::lanes::{Senders, make_room, make_room_by, relay, send_lane};
 use mc_box::limit::LAST_VERSION;
 use mc_box::{Change, Event, MediaBox, MediaChange};
 use mc_lane::Lane;
+use mc_signal::Signal;
 use mc_slot::{SENDS_LIMIT, Sends, SlotGoal};
-use std::alloc::AllocError;
+use std::alloc::{AllocError, Global};
 
 /// Why a step isn't made.
 #[derive(Debug, Drop)]
@@ -84,16 +85,37 @@ impl World {
             own: (local, slot),
             partner: self.sender_beside(who, local, slot),
         };
-        make_room_by(&mut self.lanes, &self.topology, &senders, SENDS_LIMIT)?;
+        self.take_front(who, &senders, toward, signal)
+    }
+
+    // The first of these slots takes the front of its lane.
+    fn take_front(
+        &mut self,
+        who: u32,
+        senders: &Senders,
+        toward: (usize, u8),
+        signal: Signal,
+    ) -> Result<(), StepFault>
+        requires sound { IsSound self.old }
+        requires here { who < length self.old.boxes }
+        requires own { number self.old who senders.now.own.0 ≡ Some senders.now.own.1 }
+        requires partner { number self.old who senders.now.partner.0 ≡ Some senders.now.partner.1 }
+        requires beside { (partner : ℕ) → partner_of self.old senders.now.own.1 ≡ Some partner → senders.now.partner.1 ≡ partner }
+        requires lane { toward.0 ≡ lane_of self.old senders.now.own.1 }
+        requires tunnel { toward.1 ≡ (tunnel_of self.old senders.now.own.1).within }
+        requires front { front self.old senders.now.own.1 ≡ Some signal }
+        ensures { Answers self.old self.new (step_by self.old who (Event.Take senders.now.own.0)) false result }
+    {
+        make_room_by(&mut self.lanes, &self.topology, senders, SENDS_LIMIT)?;
         let actor = &mut self.boxes[who as usize];
         let mut sends = Sends::none();
-        actor.send_take(local, signal, &mut sends);
+        actor.send_take(senders.own.0, signal, &mut sends);
         relay(
             &mut self.lanes,
             &mut self.waiting,
             &self.topology,
             who,
-            &senders,
+            senders,
             toward,
             &sends,
         );
@@ -133,9 +155,21 @@ impl World {
             return Err(StepFault::VersionEnd);
         }
         let most = 2 * actor.slots().len();
+        self.act_enabled(who, event, most)
+    }
+
+    // The same where it's enabled, and ends no version. It sends so much at most.
+    fn act_enabled(&mut self, who: u32, event: Event, most: usize) -> Result<(), StepFault>
+        requires sound { IsSound self.old }
+        requires here { who < length self.old.boxes }
+        requires other { is_take event ≡ false }
+        requires enabled { is_enabled (box_at self.old who) event ≡ true }
+        requires goes_on { is_version_end (box_at self.old who) event ≡ false }
+        requires most { most ≡ 2 * length (box_at self.old who).slots }
+        ensures { Answers self.old self.new (step_by self.old who event) (ends_version_at self.old who event) result }
+    {
         make_room(&mut self.lanes, &self.topology, who, most)?;
-        let mut sends = Lane::new(self.alloc);
-        sends.reserve(most)?;
+        let mut sends = queue_for(self.alloc, most)?;
         let actor = &mut self.boxes[who as usize];
         if actor.act(event, &mut sends).is_err() {
             unreachable!()
@@ -150,6 +184,16 @@ impl World {
         self.ringless = stays_ringless(self.ringless, event);
         Ok(())
     }
+}
+
+// An empty queue with room for so much.
+fn queue_for(alloc: Global, most: usize) -> Result<Lane<(u8, Signal)>, AllocError>
+    ensures none { IfOk result (λ queue. queue.items ≡ []) }
+    ensures room { IfOk result (λ queue. most ≤ queue.spare) }
+{
+    let mut queue = Lane::new(alloc);
+    queue.reserve(most)?;
+    Ok(queue)
 }
 
 // Whether it stays remembered that there is no ring: an event that links slots may make one, and no other does.
