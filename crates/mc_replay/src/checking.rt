@@ -47,9 +47,13 @@ pub fn check<V: Viewer>(
         text.now.lines.items text.now.bad) }
 {
     let mut replay = Replay::new(alloc, world, batches)?;
-    let views = read_text(alloc, viewer, batches, text, &mut replay)?;
-    Ok(Checked { views })
+    let checked = read_text(alloc, viewer, batches, text, &mut replay);
+    discard(replay);
+    checked
 }
+
+// Drops a replay, which would be dear to prove beside what was read. By `drop` each type within would be proved, too.
+fn discard(_replay: Replay) {}
 
 // Reads a whole journal, and answers what is shown at its marks. The replay isn't dropped here, which would be dear to
 // prove at each return.
@@ -59,21 +63,22 @@ fn read_text<V: Viewer>(
     batches: &[Batch],
     text: &JournalText,
     replay: &mut Replay,
-) -> Result<Vec<Vec<PathView>>, CheckFault>
+) -> Result<Checked, CheckFault>
     requires fresh { IsFresh replay.old.segment.world (map batch_turns batches.now) replay.old }
     requires few { length text.now.lines.items < 2 ^ 32 - 1 }
-    ensures journal { IfOk result (λ views. IsJournal replay.old.segment.world (map batch_turns batches.now)
+    ensures journal { IfOk result (λ checked. IsJournal replay.old.segment.world (map batch_turns batches.now)
         text.now.lines.items) }
-    ensures whole { IfOk result (λ views. text.now.bad ≡ false) }
-    ensures shown { IfOk result (λ views. AreShown (V.shows viewer.now) replay.old.segment.world
-        text.now.lines.items (views_of views.items)) }
+    ensures whole { IfOk result (λ checked. text.now.bad ≡ false) }
+    ensures shown { IfOk result (λ checked. AreShown (V.shows viewer.now) replay.old.segment.world
+        text.now.lines.items (views_of checked.views.items)) }
+    ensures count { IfOk result (λ checked. length checked.views.items ≡ length batches.now) }
     ensures refused { IfErr result (RefusesJournal replay.old.segment.world (map batch_turns batches.now)
         text.now.lines.items text.now.bad) }
 {
     let mut views = Vec::new(alloc);
     read_lines(alloc, viewer, batches, &text.lines, replay, &mut views)?;
     replay.end(batches, text.bad)?;
-    Ok(views)
+    Ok(Checked { views })
 }
 
 // Reads the lines of a journal, and keeps what is shown at its marks.

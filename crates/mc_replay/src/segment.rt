@@ -54,12 +54,7 @@ pub fn begin(alloc: Global, world: World, batch: &[Turn]) -> Result<Segment, All
     requires { AreAllowed world batch.now }
     ensures { IfOk result (Follows world batch.now []) }
 {
-    world.keeps();
-    let left = all_commands(alloc, &world, batch)?;
-    let counts = count_all(&world);
-    let retries = no_retries(alloc, &world)?;
-    let mut moments = Vec::new(alloc);
-    keep_moment(&mut moments, &world, &left, counts, &retries)?;
+    let (left, counts, retries, moments) = first_parts(alloc, &world, batch)?;
     Ok(Segment {
         world,
         left,
@@ -67,6 +62,25 @@ pub fn begin(alloc: Global, world: World, batch: &[Turn]) -> Result<Segment, All
         retries,
         moments,
     })
+}
+
+// What the first segment has beside its world.
+fn first_parts(
+    alloc: Global,
+    world: &World,
+    batch: &[Turn],
+) -> Result<(Commands, Counts, Retries, Vec<Moment>), AllocError>
+    requires { AreAllowed world.now batch.now }
+    ensures { IfOk result (λ parts. Follows world.now batch.now []
+        (record { world = world.now; left = parts.0; counts = parts.1; retries = parts.2; moments = parts.3 })) }
+{
+    world.keeps();
+    let counts = count_all(world);
+    let retries = no_retries(alloc, world)?;
+    let left = all_commands(alloc, world, batch)?;
+    let mut moments = Vec::new(alloc);
+    keep_moment(&mut moments, world, &left, counts, &retries)?;
+    Ok((left, counts, retries, moments))
 }
 
 // Keeps a moment at which the world rests and the batch is used up.

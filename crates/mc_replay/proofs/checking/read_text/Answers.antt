@@ -5,7 +5,7 @@ use Rattle.mc_script.specs.Batches.{batch_turns}
 use Rattle.mc_script.specs.declared.command.JournalLine.{JournalLine}
 use Rattle.mc_replay.specs.Faults.{RefusesJournal}
 use Rattle.mc_replay.specs.Replays.{EndsJournal, HasReplayed, views_of}
-use Rattle.mc_replay.proofs.Reading.{all_shown, is_journal, refused_at_end}
+use Rattle.mc_replay.proofs.Reading.{all_shown, is_journal, one_each, refused_at_end}
 use Rattle.mc_replay.proofs.checking.read_text.Goals as goal
 
 pub returns-in_err-read_lines-clause-refused : goal.returns-in_err-read_lines-clause-refused
@@ -34,3 +34,7 @@ pub returns-clause-shown : goal.returns-clause-shown
 returns-clause-shown g c =
     all_shown (g.V.Viewer.shows c.args.viewer.now) c.args.replay.now.segment.world (map batch_turns c.args.batches.now) c.args.text.now.lines.items c.read_lines.new.replay (views_of c.read_lines.new.views.items)
     (subst (λ (lines : List JournalLine). HasReplayed (g.V.Viewer.shows c.args.viewer.now) c.args.replay.now.segment.world (map batch_turns c.args.batches.now) lines c.read_lines.new.replay (views_of c.read_lines.new.views.items)) c.deref.ensures.value c.in_ok-read_lines.ensures.read)
+
+pub returns-clause-count : goal.returns-clause-count
+returns-clause-count g c =
+    one_each (g.V.Viewer.shows c.args.viewer.now) c.args.replay.now.segment.world c.args.batches.now c.args.text.now.lines.items c.read_lines.new.views.items (returns-clause-journal g c) (returns-clause-shown g c)
