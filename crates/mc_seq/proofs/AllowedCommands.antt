@@ -1,5 +1,5 @@
 -- Commands that a world allows: each later world allows them too, and each can happen, unless it is a Hear at the last version.
-use Rattle.std.proofs.Common.{◌≡◌, ◌<◌, ◌==◌, ◌&&◌, inl, inr, if◌then◌else◌, nat_lt, ℕ, Bool, true, false, is_some, List, [], ◌∷◌, map, length, Option, Some, cond, refl, ap, sym, ◌∙◌, subst}
+use Rattle.std.proofs.Common.{◌≡◌, ◌<◌, ◌==◌, ◌&&◌, inl, inr, if◌then◌else◌, nat_lt, ℕ, zero, suc, get_or, Bool, true, false, is_some, List, [], ◌∷◌, map, length, Option, Some, cond, refl, ap, sym, ◌∙◌, subst, arith}
 use Rattle.std.specs.List.{list_all}
 use Rattle.std.proofs.lemmas.Bool.{and_parts}
 use Rattle.std.proofs.lemmas.List.{ext_get_or, length-map}
@@ -72,6 +72,17 @@ all_kept [] start now before sound shape allowed = refl
 all_kept (turn ∷ left) start now before sound shape allowed =
     let parts = and_parts (is_allowed start turn) (list_all (is_allowed start) left) allowed in
     both_there (is_allowed now turn) (list_all (is_allowed now) left) (allowed_kept start now turn before sound shape parts.0) (all_kept left start now before sound shape parts.1)
+
+-- each of what all pass passes
+pass_at : (p : Turn → Bool) (batch : List Turn) (i : ℕ) (d : Turn) → i < length batch → list_all p batch ≡ true → p (get_or batch i d) ≡ true
+pass_at p [] i d below all = absurd (omega arith)
+pass_at p (turn ∷ batch) zero d below all = (and_parts (p turn) (list_all p batch) all).0
+pass_at p (turn ∷ batch) (suc i) d below all = pass_at p batch i d (omega arith) (and_parts (p turn) (list_all p batch) all).1
+
+-- so the box of each command that a world allows is there
+pub box_there : (world : WorldState) (batch : List Turn) (i : ℕ) (d : Turn) → i < length batch → AreAllowed world batch → (get_or batch i d).who < length world.boxes
+box_there world batch i d below allowed =
+    box_inside world (get_or batch i d).who (allowed_parts world (get_or batch i d) (pass_at (is_allowed world) batch i d below allowed)).below
 
 -- ---- of those that are left
 

@@ -1,11 +1,12 @@
 -- Shifts among the candidates, and their counts: where no box has a program, and where one has.
-use Rattle.std.proofs.Common.{◌≡◌, ◌≢◌, ◌<◌, ◌≤◌, ◌+◌, ◌++◌, ◌==◌, ◌&&◌, ◌||◌, inl, inr, cond, if◌then◌else◌, nat_lt, ℕ, zero, suc, Bool, true, false, List, [], ◌∷◌, length, replicate, sum, take, slice_get, Option, Some, None, length-append, append-nil, refl, ap, sym, ◌∙◌, subst, arith}
+use Rattle.std.proofs.Common.{◌≡◌, ◌≢◌, ◌<◌, ◌≤◌, ◌+◌, ◌-◌, ◌++◌, ◌==◌, ◌&&◌, ◌||◌, inl, inr, cond, if◌then◌else◌, nat_lt, ℕ, zero, suc, Bool, true, false, List, [], ◌∷◌, length, replicate, sum, take, slice_get, Option, Some, None, length-append, append-nil, refl, ap, sym, ◌∙◌, subst, arith}
 use Rattle.std.specs.Prelude.{slice_index_or}
 use Rattle.std.specs.List.{list_any}
 use Rattle.std.specs.Option.{option_and_then, option_to_list}
-use Rattle.std.proofs.Math.ListN.{get_or}
+use Rattle.std.proofs.Math.ListN.{get_or, set, length-set}
 use Rattle.std.proofs.lemmas.Bool.{cases_eq}
 use Rattle.std.proofs.lemmas.Grind.{common_steps}
+use Rattle.std.proofs.lemmas.List.{get_or-set_same, get_or-set_other}
 use Rattle.mc_box.specs.BoxEvents.{is_command, is_enabled, is_shift}
 use Rattle.mc_box.specs.Boxes.{BoxState, no_box}
 use Rattle.mc_box.specs.declared.event.Event.TheVariants.{Shift}
@@ -22,8 +23,8 @@ use Rattle.mc_world.specs.Waiting.{CountsTakes}
 use Rattle.mc_signal.specs.Own.{address_of}
 use Rattle.mc_seq.specs.ForEach.{for_each}
 use Rattle.mc_seq.specs.Ready.{CountsEach, all_of_two, all_takes, next_commands, two_candidates}
-use Rattle.mc_seq.specs.Schedule.{all_candidates, candidates_of, command_candidates, left_by, next_of, shift_of, shift_turn, takes_of, without_next}
-use Rattle.mc_seq.specs.Spare.{AreKeptBut, AreShiftsCounted, AreShiftsKept, AreShiftsLong, others_of, spare_of}
+use Rattle.mc_seq.specs.Schedule.{all_candidates, candidates_of, command_candidates, left_by, next_of, shift_of, shift_turn, shifts_by, takes_of, without_next}
+use Rattle.mc_seq.specs.Spare.{AreCountedBut, AreKeptBut, AreShiftsCounted, AreShiftsKept, AreShiftsLong, others_of, spare_of}
 use Rattle.mc_box.specs.declared.limit.TheConstants.{SHIFT_LIMIT}
 use Rattle.mc_seq.specs.declared.shifting.Shifts.{Shifts}
 use Rattle.mc_seq.proofs.Finds.{takes_each}
@@ -194,6 +195,38 @@ kept_but (Some shifts) world next left turn sound goes kept =
 pub spare_same : (shifts : Option Shifts) (world next : WorldState) → length next.boxes ≡ length world.boxes → spare_of next shifts ≡ spare_of world shifts
 spare_same None world next boxes = ap (λ (n : ℕ). replicate n SHIFT_LIMIT) boxes
 spare_same (Some shifts) world next boxes = refl
+
+-- a Shift takes one from those of its box alone
+spare_long : (shift : Bool) (spare : List ℕ) (who count : ℕ) → length (if shift then set spare who count else spare) ≡ length spare
+spare_long true spare who count = length-set spare who count
+spare_long false spare who count = refl
+
+spare_other : (shift : Bool) (spare : List ℕ) (who other count : ℕ) → other ≢ who → get_or (if shift then set spare who count else spare) other 0 ≡ get_or spare other 0
+spare_other true spare who other count apart = get_or-set_other spare who other count 0 apart
+spare_other false spare who other count apart = refl
+
+-- so with the count of that box all are right
+pub recounted : (world : WorldState) (left : List Turn) (old new : Shifts) (turn : Turn) (spare : List ℕ) → AreCountedBut world left old turn.who → spare ≡ shifts_by turn old.spare.items → new.spare.items ≡ spare
+    → new.others ≡ set old.others turn.who (length (others_of world left spare turn.who)) → AreShiftsCounted world left new
+recounted world left old new turn spare but spare_is new_is others = record {
+  long = ap (λ (l : List ℕ). length l) new_is
+      ∙ (ap (λ (l : List ℕ). length l) spare_is ∙ (spare_long (is_shift turn.event) old.spare.items turn.who (get_or old.spare.items turn.who 0 - 1) ∙ but.long));
+  counted = subst (λ (l : List ℕ). CountsEach (others_of world left l) new.others (length world.boxes)) (sym new_is) (record {
+    long = ap (λ (l : List ℕ). length l) others ∙ (length-set old.others turn.who (length (others_of world left spare turn.who)) ∙ but.others_long);
+    counts = λ other below.
+        ap (λ (l : List ℕ). get_or l other 0) others
+        ∙ (elim (cases_eq other turn.who) [
+          | inl same ↦
+              subst (λ (w : ℕ). get_or (set old.others turn.who (length (others_of world left spare turn.who))) w 0 ≡ length (others_of world left spare w)) (sym same)
+              (get_or-set_same old.others turn.who (length (others_of world left spare turn.who)) 0 (omega (arith, but.there, but.others_long)))
+          | inr apart ↦
+              get_or-set_other old.others turn.who other (length (others_of world left spare turn.who)) 0 apart
+              ∙ (but.counts other below apart
+              ∙ ap (λ (n : ℕ). length (command_candidates left other ++ (if nat_lt 0 n && is_enabled (box_at world other) Shift then shift_turn other ∷ [] else [])))
+              (sym (ap (λ (l : List ℕ). get_or l other 0) spare_is ∙ spare_other (is_shift turn.event) old.spare.items turn.who other (get_or old.spare.items turn.who 0 - 1) apart)))
+        ]);
+  });
+}
 
 -- ---- behind a round
 

@@ -1,12 +1,13 @@
 -- The commands that are left of a batch, when so many of each box have come.
-use Rattle.std.proofs.Common.{◌≡◌, ◌≢◌, ◌<◌, ◌≤◌, ◌+◌, ◌-◌, ◌++◌, ◌==◌, inl, inr, cond, if◌then◌else◌, ℕ, zero, suc, Bool, true, false, List, [], ◌∷◌, length, map, replicate, slice_get, Option, Some, None, refl, ap, sym, ◌∙◌, subst, arith}
+use Rattle.std.proofs.Common.{◌≡◌, ◌≢◌, ◌<◌, ◌≤◌, ◌+◌, ◌-◌, ◌++◌, ◌==◌, inl, inr, cond, if◌then◌else◌, ℕ, zero, suc, Bool, true, false, List, [], ◌∷◌, length, map, replicate, take, slice_get, Vec, Global, append-nil, Option, Some, None, refl, ap, sym, ◌∙◌, subst, arith}
 use Rattle.std.specs.Option.{option_to_list}
 use Rattle.std.proofs.Math.ListN.{get_or, set, length-set}
 use Rattle.std.proofs.lemmas.Bool.{cases_eq}
 use Rattle.std.proofs.lemmas.Grind.{common_steps}
-use Rattle.std.proofs.lemmas.List.{get_or-set_same, get_or-set_other}
+use Rattle.std.proofs.lemmas.List.{get_or-set_same, get_or-set_other, map_push, replicate_more}
+use Rattle.std.proofs.lemmas.List.Elements.{filter_more}
 use Rattle.mc_box.specs.declared.event.Turn.{Turn}
-use Rattle.mc_seq.specs.Commands.{first_of, left_after, lowered, queue_at, turns_of, used_of}
+use Rattle.mc_seq.specs.Commands.{first_of, left_after, lowered, queue_at, queues_of, turns_of, used_of}
 use Rattle.mc_seq.specs.Ready.{CountsEach}
 use Rattle.mc_seq.specs.Schedule.{command_candidates, next_of, without_next}
 use Rattle.mc_seq.proofs.Nexts.{without_less}
@@ -323,3 +324,38 @@ first_counted queues batch used counts next boxes limit each none first same lon
       ∙ ap (λ (o : Option Turn). length (option_to_list o))
       (ap (λ (queue : List Turn). slice_get queue 0) (each who) ∙ (ap (slice_get (turns_of who batch)) (sym (none who)) ∙ sym (next_is batch used who))));
 }
+
+-- ---- the lists of all boxes
+
+-- one more empty list
+pub queue_more : (queues : List (Vec Turn Global)) (queue : Vec Turn Global) (n : ℕ) → queues_of queues ≡ replicate n [] → queue.items ≡ [] → queues_of (queues ++ queue ∷ []) ≡ replicate (n + 1) []
+queue_more queues queue n before none = rw (map_push (λ (q : Vec Turn Global). q.items) queues queue, before, none) (replicate_more n [])
+
+abbrev no_turns : List Turn
+no_turns = []
+
+-- of empty ones each is empty, and none is past the last
+pub none_queued : (n who : ℕ) → queue_at (replicate n no_turns) who ≡ no_turns
+none_queued zero who = refl
+none_queued (suc n) zero = refl
+none_queued (suc n) (suc who) = none_queued n who
+
+-- one more command of a box
+queue_step : (queues : List (List Turn)) (turn : Turn) (who : ℕ) (turns : List Turn) → turn.who < length queues → queue_at queues who ≡ turns
+    → queue_at (set queues turn.who (queue_at queues turn.who ++ turn ∷ [])) who ≡ turns ++ cond (turn.who == who) (turn ∷ []) []
+queue_step queues turn who turns inside is = elim (cases_eq who turn.who) [
+  | inl same ↦
+      subst (λ (w : ℕ). queue_at (set queues turn.who (queue_at queues turn.who ++ turn ∷ [])) w ≡ turns ++ cond (turn.who == w) (turn ∷ []) []) (sym same)
+      (get_or-set_same queues turn.who (queue_at queues turn.who ++ turn ∷ []) [] inside
+      ∙ (ap (λ (l : List Turn). l ++ turn ∷ []) (subst (λ (w : ℕ). queue_at queues w ≡ turns) same is) ∙ ap (λ (b : Bool). turns ++ cond b (turn ∷ []) []) (sym (test_same turn.who turn.who refl))))
+  | inr apart ↦
+      get_or-set_other queues turn.who who (queue_at queues turn.who ++ turn ∷ []) [] apart
+      ∙ (is ∙ (sym (append-nil turns) ∙ ap (λ (b : Bool). turns ++ cond b (turn ∷ []) []) (sym (test_apart turn.who who (λ same. apart (sym same))))))
+]
+
+pub queues_more : (batch : List Turn) (i : ℕ) (d : Turn) (old new : List (List Turn)) → i < length batch → ((d : Turn) → (get_or batch i d).who < length old)
+    → new ≡ set old (get_or batch i d).who (queue_at old (get_or batch i d).who ++ get_or batch i d ∷ []) → ((who : ℕ) → queue_at old who ≡ turns_of who (take i batch)) → (who : ℕ)
+    → queue_at new who ≡ turns_of who (take (i + 1) batch)
+queues_more batch i d old new below inside is each who =
+    ap (λ (l : List (List Turn)). queue_at l who) is
+    ∙ (queue_step old (get_or batch i d) who (turns_of who (take i batch)) (inside d) (each who) ∙ sym (filter_more (λ (t : Turn). t.who == who) batch i d below))

@@ -19,6 +19,7 @@ pub mod Rounds
 pub mod Runs
 pub mod Scheduled
 pub mod Segments
+mod SetCounts
 pub mod Shifts
 mod Sittings
 mod Unprogrammed

@@ -31,18 +31,16 @@ pub fn all_commands(alloc: Global, world: &World, batch: &[Turn]) -> Result<Comm
     ensures left { IfOk result (λ commands. commands_left commands ≡ batch.now) }
 {
     let boxes = world.boxes().len();
-    let queues = queues_by_box(alloc, world, batch)?;
-    let next = first_counts(alloc, world, &queues)?;
-    let next = Sums::new(alloc, next)?;
     let used = vec![in alloc; 0; boxes]?;
-    let count = batch.len();
-    let batch = Vec::from_slice(alloc, batch)?;
+    let kept = Vec::from_slice(alloc, batch)?;
+    let queues = queues_by_box(alloc, world, batch)?;
+    let next = first_sums(alloc, world, &queues)?;
     Ok(Commands {
-        batch,
+        batch: kept,
         queues,
         used,
         next,
-        count,
+        count: batch.len(),
     })
 }
 
@@ -122,7 +120,15 @@ fn queues_by_box(alloc: Global, world: &World, batch: &[Turn]) -> Result<Vec<Vec
     Ok(queues)
 }
 
-// Of each box 1 where it has a command, and else 0.
+// Which boxes have a command: 1 for one that has, else 0.
+fn first_sums(alloc: Global, world: &World, queues: &[Vec<Turn>]) -> Result<Sums, AllocError>
+    ensures { IfOk result (λ sums. CountsEach (first_of (queues_of queues.now)) sums (length world.now.boxes)) }
+{
+    let counts = first_counts(alloc, world, queues)?;
+    Sums::new(alloc, counts)
+}
+
+// The same as a list.
 fn first_counts(alloc: Global, world: &World, queues: &[Vec<Turn>]) -> Result<Vec<u64>, AllocError>
     ensures counts { IfOk result (λ counts. CountsEach (first_of (queues_of queues.now))
         counts.items (length world.now.boxes)) }

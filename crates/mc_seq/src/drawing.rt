@@ -61,8 +61,10 @@ pub fn settle_one(
 {
     world.keeps();
     let mut sitting = sit(alloc, world, batch)?;
-    let ending = settle(&mut sitting, draws)?;
-    answer(settled_by(sitting), ending)
+    let ended = settle(&mut sitting, draws);
+    let settled = settled_by(sitting);
+    let ending = ended?;
+    answer(settled, ending)
 }
 
 // Where a settle begins.

@@ -49,8 +49,10 @@ pub fn settle_plainly(
 {
     world.keeps();
     let mut sitting = sit(alloc, world, batch)?;
-    let ending = settle(alloc, &mut sitting, draws)?;
-    answer(settled_by(sitting), ending)
+    let ended = settle(alloc, &mut sitting, draws);
+    let settled = settled_by(sitting);
+    let ending = ended?;
+    answer(settled, ending)
 }
 
 // Where a settle begins.
