@@ -60,6 +60,25 @@ waiting_less old new before after at are others none less e = elim (cases_eq e a
   | inr off ↦ less e ∙ rw (others e off, are e) (grind arith)
 ]
 
+-- a box was changed, and its end is in the set just where it has something now
+pub waiting_as : (old new : List (List Tagged)) (before after : EndSet) (at : ℕ) (waits : Bool) → AreWaiting old before → ((e : ℕ) → e ≢ at → box_of new e ≡ box_of old e) → waits ≡ has_items (box_of new at)
+    → ((e : ℕ) → contains_end after e ≡ (if e == at then waits else contains_end before e)) → AreWaiting new after
+waiting_as old new before after at waits are others is set e = elim (cases_eq e at) [
+  | inl same ↦ set e ∙ rw (same, is) (grind arith)
+  | inr off ↦ set e ∙ rw (others e off, are e) (grind arith)
+]
+
+-- one end more was looked at
+pub waiting_so_far : (boxes : List (List Tagged)) (before after : EndSet) (at : ℕ) (waits : Bool) → ((e : ℕ) → contains_end before e ≡ (nat_lt e at && has_items (box_of boxes e))) → waits ≡ has_items (box_of boxes at)
+    → ((e : ℕ) → contains_end after e ≡ (if e == at then waits else contains_end before e)) → (e : ℕ) → contains_end after e ≡ (nat_lt e (at + 1) && has_items (box_of boxes e))
+waiting_so_far boxes before after at waits are is set e = elim (cases_eq e at) [
+  | inl same ↦ set e ∙ rw (same, is) (grind arith)
+  | inr off ↦
+      let other : (e == at) ≡ false = grind arith in
+      let below : nat_lt e (at + 1) ≡ nat_lt e at = grind arith in
+      set e ∙ rw (other, below) (are e)
+]
+
 -- a box that still has something had something
 pub waiting_still : (old new : List (List Tagged)) (waiting : EndSet) (at : ℕ) (taken : Option Tagged) → AreWaiting old waiting → ((e : ℕ) → e ≢ at → box_of new e ≡ box_of old e)
     → TakesFirst taken (box_of old at) (box_of new at) → has_items (box_of new at) ≡ true → AreWaiting new waiting

@@ -1,10 +1,10 @@
 -- What a round's turns say of themselves.
-use Rattle.std.specs.Prelude.{◌≡◌, ◌≢◌, Bool, true, false, IsTrue, ℕ, ◌+◌, ◌*◌, ◌≤◌, ◌<◌, List, [], ◌∷◌, map, max, length, Some, None}
-use Rattle.mc_box.specs.BoxEvents.{is_command, is_retry, is_take}
+use Rattle.std.specs.Prelude.{◌≡◌, ◌≢◌, Bool, true, false, IsTrue, ℕ, ◌+◌, ◌*◌, ◌≤◌, ◌<◌, List, [], ◌∷◌, map, max, length, slice_get, Some, None}
+use Rattle.mc_box.specs.BoxEvents.{is_command, is_enabled, is_retry, is_shift, is_take}
 use Rattle.mc_box.specs.Boxes.{BoxState}
 use Rattle.mc_box.specs.declared.event.Event.{Event}
 use Rattle.mc_box.specs.declared.event.Event.TheVariants.{Take}
-use Rattle.mc_box.specs.declared.limit.TheConstants.{SLOT_LIMIT}
+use Rattle.mc_box.specs.declared.limit.TheConstants.{SHIFT_LIMIT, SLOT_LIMIT}
 use Rattle.mc_log.specs.Entries.{Claimed, count_sent, event_of, events_that}
 use Rattle.mc_port.specs.Ends.{without_stamp}
 use Rattle.mc_port.specs.declared.stamped.Stamped.{Stamped}
@@ -86,6 +86,15 @@ pub record AreTurns (a b : Worker) (s t : Progress) : Type 0 where
   pub added : AreAdded s t log
   pub first : a.stimuli.items ≢ [] → BeginsByStimulus log
   pub no_retry : events_that is_retry log ≡ []
+
+-- what is made before anything is taken: the first stimulus, or a shift where none waits
+pub record IsNextAct (worker : Worker) (event : Event) : Type 0 where
+  pub enabled : is_enabled worker.part event ≡ true
+  pub no_take : is_take event ≡ false
+  pub no_retry : is_retry event ≡ false
+  pub first : IsTrue (is_command event) → slice_get worker.stimuli.items 0 ≡ Some event
+  pub shift : IsTrue (is_shift event) → worker.shifts < SHIFT_LIMIT
+  pub begins : worker.stimuli.items ≢ [] → IsTrue (is_command event)
 
 -- turns of these events, which take nothing and are no stimuli
 pub record AreRetried (a b : Worker) (s t : Progress) (events : List Event) : Type 0 where

@@ -73,8 +73,8 @@ impl Inboxes {
         ensures others { (e : ℕ) → e ≢ end → box_of self.new e ≡ box_of self.old e }
         ensures ends { length self.new ≡ length self.old }
     {
-        let tagged = pop_at(&mut self.lanes, usize::from(end));
-        if self.lanes[usize::from(end)].is_empty() {
+        let tagged = pop_at(&mut self.lanes, end as usize);
+        if !is_waiting(&self.lanes, end as usize) {
             self.waiting.remove(end);
         }
         tagged
@@ -216,9 +216,7 @@ fn waiting_in(lanes: &Vec<Lane<Tagged>>) -> EndSet
 {
     let mut waiting = EndSet::none();
     for end in 0..lanes.len() {
-        if !lanes[end].is_empty() {
-            waiting.insert(end as u8);
-        }
+        waiting.set(end as u8, is_waiting(lanes, end));
     }
     waiting
 }

@@ -1,5 +1,6 @@
 // The turns of a round, each after its memory was asked for.
 
+ghost use Rattle.std.specs.List.{AllByRecursion};
 ghost use Rattle.std.specs.Prelude.{◌≡◌, ◌≢◌, ◌⊎◌, ◌+◌, ◌<◌, ◌≤◌, ℕ, [], length, is_some, IsFalse, IsTrue, IfNone, IfSome, MatchOption, Some, false, slice_get};
 ghost use Rattle.mc_box.specs.BoxEvents.{is_command, is_enabled, is_shift, is_take, is_version_end};
 ghost use Rattle.mc_box.specs.Boxes.{slot_at};
@@ -9,10 +10,10 @@ ghost use Rattle.mc_slot.specs.Moves.{slot_take};
 ghost use Rattle.mc_worker.specs.Account.{IsWork, in_at};
 ghost use Rattle.mc_worker.specs.Boxes.{AreEmpty};
 ghost use Rattle.mc_worker.specs.Ends.{next_in};
-ghost use Rattle.mc_worker.specs.Ready.{IsShaped};
+ghost use Rattle.mc_worker.specs.Ready.{IsAllowed, IsShaped};
 ghost use Rattle.mc_worker.specs.Rounds.{HasStoppedAt};
 ghost use Rattle.mc_worker.specs.Stops.{ended_by};
-ghost use Rattle.mc_worker.specs.Turns.{AllPassed, AreTurns, IsOneTurn, IsUnderWay, is_memory};
+ghost use Rattle.mc_worker.specs.Turns.{AllPassed, AreTurns, IsNextAct, IsOneTurn, IsUnderWay, is_memory};
 ghost use Rattle.mc_worker.specs.declared.limit.TheConstants.{STAMP_LIMIT, TURN_LIMIT};
 
 use crate::limit::STAMP_LIMIT;
@@ -39,18 +40,46 @@ impl Worker {
         ensures stopped { IfSome result (λ stop. progress.new.turns ≡ progress.old.turns) }
         ensures cause { IfSome result (HasStoppedAt progress.new self.new) }
     {
-        let who = self.part.number();
-        if let Some(event) = self.stimuli.front() {
-            gate.reached(who, progress.turns + 1);
+        if let Some(event) = self.next_act() {
+            gate.reached(self.part.number(), progress.turns + 1);
             return self.turn_act(event, progress);
         }
-        if self.can_shift() {
-            gate.reached(who, progress.turns + 1);
-            return self.turn_act(Event::Shift, progress);
+        self.turn_found(gate, progress)
+    }
+
+    // What is made before anything is taken: the first stimulus, or else a shift that can be made.
+    fn next_act(&self) -> Option<Event>
+        requires { AllByRecursion (IsAllowed self.now.part) self.now.stimuli.items }
+        ensures some { IfSome result (IsNextAct self.now) }
+        ensures none { IfNone result ((self.now.stimuli.items ≡ []) × ((is_enabled self.now.part Event.Shift ≡ false)
+            ⊎ (SHIFT_LIMIT ≤ self.now.shifts))) }
+    {
+        if let Some(event) = self.stimuli.front() {
+            return Some(event);
         }
+        if self.can_shift() {
+            return Some(Event::Shift);
+        }
+        None
+    }
+
+    // A turn that takes what is next at the first channel end at which something is, or why there is none.
+    fn turn_found<G: Gate>(&mut self, gate: &G, progress: &mut Progress) -> Option<Stop>
+        requires under_way { IsUnderWay self.old progress.old }
+        requires fewer { progress.old.turns < TURN_LIMIT }
+        requires priority { self.old.stimuli.items ≡ [] }
+        requires no_shift { (is_enabled self.old.part Event.Shift ≡ false) ⊎ (SHIFT_LIMIT ≤ self.old.shifts) }
+        ensures turns { AreTurns self.old self.new progress.old progress.new }
+        ensures under_way { IsUnderWay self.new progress.new }
+        ensures passed { AllPassed progress.old.passed progress.new.passed self.old self.new }
+        ensures ports { length self.new.ins.items ≡ length self.old.ins.items }
+        ensures made { IfNone result (progress.new.turns ≡ progress.old.turns + 1) }
+        ensures stopped { IfSome result (λ stop. progress.new.turns ≡ progress.old.turns) }
+        ensures cause { IfSome result (HasStoppedAt progress.new self.new) }
+    {
         match self.look(progress) {
             Some(found) => {
-                gate.reached(who, progress.turns + 1);
+                gate.reached(self.part.number(), progress.turns + 1);
                 self.turn_at(found.0, found.1, progress)
             }
             None => Some(Stop::Rested),
