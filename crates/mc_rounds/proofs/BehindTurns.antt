@@ -1,5 +1,5 @@
 -- Settles that go on behind turns that used a batch up.
-use Rattle.std.proofs.Common.{◌≡◌, ◌+◌, ◌++◌, ◌&&◌, ◌==◌, cond, if◌then◌else◌, not, ℕ, zero, suc, Bool, true, false, IsTrue, List, [], ◌∷◌, Option, Some, length, take, drop, count_by, slice_get, append_assoc, append-nil, refl, ap, sym, ◌∙◌, subst, arith}
+use Rattle.std.proofs.Common.{◌≡◌, ◌+◌, ◌++◌, ◌&&◌, ◌==◌, cond, if◌then◌else◌, not, ℕ, zero, suc, Bool, true, false, IsTrue, List, [], ◌∷◌, Option, Some, Result, Ok, Err, IfOk, IfErr, length, take, drop, count_by, slice_get, append_assoc, append-nil, refl, ap, sym, ◌∙◌, subst, arith}
 use Rattle.std.specs.Option.{option_and_then, unwrap_or}
 use Rattle.std.proofs.lemmas.List.{take_all, take-append-drop}
 use Rattle.std.proofs.lemmas.List.Sums.{sum_by-cons}
@@ -24,6 +24,7 @@ use Rattle.mc_seq.specs.declared.fault.SettleFault.TheVariants.{NoMemory, Restle
 use Rattle.mc_seq.specs.declared.fault.Stopped.{Stopped}
 use Rattle.mc_seq.specs.declared.fault.StoppedBox.{StoppedBox}
 use Rattle.mc_settings.specs.Batches.{UseUp}
+use Rattle.mc_world.specs.declared.settled.Settled.{Settled}
 
 -- ---- runs in two parts
 
@@ -177,3 +178,18 @@ stops_behind (NoMemory old) (VersionEnd new) start world batch before leads stop
 stops_behind (NoMemory old) (Ring new) start world batch before leads stops behind = absurd behind
 stops_behind (NoMemory old) (Restless new) start world batch before leads stops behind = absurd behind
 stops_behind (NoMemory old) (NoMemory new) start world batch before leads stops behind = tt
+
+-- ---- the answer
+
+-- turns that were settled behind those before them settle the batch
+pub all_settled : (result : Result Settled SettleFault) (world : WorldState) (before : List Turn) (settled : Settled) → IsSettled world [] settled.turns.items settled.world → IfOk result (λ done. done.world ≡ settled.world)
+    → IfOk result (λ done. done.turns.items ≡ before ++ settled.turns.items) → IfOk result (λ done. (start : WorldState) (batch : List Turn) → BeginsSettle start batch before world → IsSettled start batch done.turns.items done.world)
+all_settled (Ok done) world before settled is same turns = λ start batch leads.
+    subst (λ (w : WorldState). IsSettled start batch done.turns.items w) (sym same) (settled_behind start world settled.world batch before settled.turns.items done.turns.items leads is turns)
+all_settled (Err fault) world before settled is same turns = tt
+
+-- and where there is no memory for them that is told
+pub all_stopped : (result : Result Settled SettleFault) (world : WorldState) (before : List Turn) → IfErr result (λ fault. (start : WorldState) (batch : List Turn) → Stops start batch fault)
+    → IfErr result (λ fault. (start : WorldState) (batch : List Turn) → BeginsSettle start batch before world → Stops start batch fault)
+all_stopped (Ok done) world before stops = tt
+all_stopped (Err fault) world before stops = λ start batch leads. stops start batch

@@ -1,11 +1,11 @@
 -- The places of boxes and lanes, which parts hold while a crew has these.
-use Rattle.std.proofs.Common.{◌≡◌, ℕ, List, length, Option, Some, Result, Ok, Err, IfOk, ap, sym, ◌∙◌, subst, arith}
+use Rattle.std.proofs.Common.{◌≡◌, ℕ, List, length, Option, Some, Result, Ok, Err, IfOk, OnErr, OnOk, ap, sym, ◌∙◌, subst, arith}
 use Rattle.std.specs.declared.alloc.AllocError.{AllocError}
 use Rattle.std.specs.Vec.{with_items}
 use Rattle.std.proofs.lemmas.List.{length-map, with_items_is}
 use Rattle.mc_box.specs.Boxes.{BoxState}
 use Rattle.mc_box.specs.declared.event.Turn.{Turn}
-use Rattle.mc_crew.specs.Crews.{IsCrew, TeamState, crew_state, new_team}
+use Rattle.mc_crew.specs.Crews.{IsCrew, TeamState, crew_state, new_team, with_command}
 use Rattle.mc_crew.specs.Manned.{world_with}
 use Rattle.mc_crew.specs.declared.crew.Crew.{Crew}
 use Rattle.mc_lane.specs.Queue.{Queue}
@@ -27,6 +27,18 @@ use Rattle.mc_world.specs.declared.network.parts.Parts.{Parts}
 -- the tables are those of the crew
 pub fits_places : (parts : Parts) (crew : Crew) → HoldsPlaces parts crew → FitsCrew parts crew
 fits_places parts crew holds = subst (λ (c : List ChannelState). FitsFrame parts c (length crew.seats.items)) holds.channels holds.frame.0
+
+-- and those of each crew of the same world
+fits_same : (parts : Parts) (a b : Crew) → (crew_state b).world ≡ (crew_state a).world → FitsCrew parts a → FitsCrew parts b
+fits_same parts a b same fits =
+    let boxes : length (crew_state b).world.boxes ≡ length (crew_state a).world.boxes = ap (λ (w : WorldState). length w.boxes) same in
+    let count : length b.seats.items ≡ length a.seats.items = omega (arith, boxes, length-map a.seats.items (λ (seat : Seat). seat.worker.part), length-map b.seats.items (λ (seat : Seat). seat.worker.part)) in
+    subst (λ (n : ℕ). FitsFrame parts b.channels.items n) (sym count) (subst (λ (c : List ChannelState). FitsFrame parts c (length a.seats.items)) (sym (ap (λ (w : WorldState). w.channels) same)) fits)
+
+-- so a command more leaves them as they are
+pub fits_added : (result : Result (Unit {0}) AllocError) (parts : Parts) (a b : Crew) (turn : Turn) → FitsCrew parts a → OnOk result (crew_state b ≡ with_command (crew_state a) turn) → OnErr result (crew_state b ≡ crew_state a) → FitsCrew parts b
+fits_added (Ok done) parts a b turn fits added kept = fits_same parts a b (ap (λ (team : TeamState). team.world) added) fits
+fits_added (Err e) parts a b turn fits added kept = fits_same parts a b (ap (λ (team : TeamState). team.world) kept) fits
 
 -- they are held for each crew of the same channels and as many boxes
 holds_for : (parts : Parts) (a b : Crew) → b.channels.items ≡ a.channels.items → length b.seats.items ≡ length a.seats.items → HoldsPlaces parts a → HoldsPlaces parts b

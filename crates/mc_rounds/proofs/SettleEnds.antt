@@ -1,14 +1,12 @@
 -- What a settle in rounds answers, by how its turns ended.
-use Rattle.std.proofs.Common.{◌≡◌, ℕ, List, [], Option, Result, Ok, Err, IfOk, IfErr, ap, sym, ◌∙◌, subst}
+use Rattle.std.proofs.Common.{◌≡◌, ℕ, List, Option, None, Some, Result, Ok, Err, IfOk, IfErr, IfSome, ap, sym, ◌∙◌, subst}
 use Rattle.mc_box.specs.declared.event.Turn.{Turn}
 use Rattle.mc_crew.specs.Crews.{TeamState, new_team}
 use Rattle.mc_model.specs.Settles.{IsSettled, IsStopped}
 use Rattle.mc_model.specs.Sound.{IsSound}
 use Rattle.mc_model.specs.Worlds.{WorldState, place}
-use Rattle.mc_rounds.proofs.LeadOn.{given_batch}
-use Rattle.mc_rounds.proofs.Settled.{plays_from}
-use Rattle.mc_rounds.specs.Playing.{Plays, UsesUp}
-use Rattle.mc_rounds.specs.Settling.{EndsSettle, HasBatch}
+use Rattle.mc_rounds.specs.Behind.{BeginsSettle, EndsRounds}
+use Rattle.mc_rounds.specs.Settling.{EndsSettle}
 use Rattle.mc_rounds.specs.Stops.{Stops, StopsAtLast, StopsOnRing, StopsUnrested}
 use Rattle.mc_seq.proofs.Endings.{heard_inside, placed_same}
 use Rattle.mc_seq.specs.Places.{Answered, IsInside, IsPlaced, TellsSlot}
@@ -40,21 +38,6 @@ told_place world batch turns settled at stop sound stopped tells =
 pub record EndsAs (world : WorldState) (batch : List Turn) (settled : Settled) (ending : Ending) : Type 0 where
   pub sound : IsSound world
   pub ended : EndsSettle world batch settled.turns.items settled.world ending
-
--- a team that was manned for a world, got a batch, and made its first turns, ends as the turns behind these do
-pub ends_as : (world given : WorldState) (batch before turns : List Turn) (settled : Settled) (manned ready used done : TeamState) (last : Option (ℕ × ℕ)) (ending : Ending) → IsSound world → given ≡ world → manned ≡ new_team given → HasBatch manned.world batch ready
-    → UsesUp ready used before turns last → before ≡ [] → ((start : WorldState) (commands : List Turn) (begun : TeamState) → HasBatch start commands begun → Plays begun used turns → EndsSettle start commands settled.turns.items done.world ending)
-    → settled.world ≡ done.world → EndsAs world batch settled ending
-ends_as world given batch before turns settled manned ready used done last ending sound same new has uses none ends is = record {
-  sound = sound;
-  ended =
-      subst (λ (w : WorldState). EndsSettle world batch settled.turns.items w ending) (sym is)
-      (ends world batch ready (given_batch world given batch manned ready same new has) (plays_from ready used before turns last uses none));
-}
-
--- the slot at which a settle ended is one of the world's
-pub ends_inside : (world : WorldState) (batch : List Turn) (settled : Settled) (ending : Ending) → EndsAs world batch settled ending → IsInside settled.world ending
-ends_inside world batch settled ending ends = end_inside ending world batch settled.turns.items settled.world ends.ended
 
 -- at rest the batch is settled
 answers_rest : (ending : Ending) (world : WorldState) (batch : List Turn) (settled done : Settled) → EndsAs world batch settled ending → Answered settled ending (Ok done) → IsSettled world batch done.turns.items done.world
@@ -111,3 +94,56 @@ answers_settled (Err fault) ending world batch settled ends answered = tt
 pub answers_stops : (result : Result Settled SettleFault) (ending : Ending) (world : WorldState) (batch : List Turn) (settled : Settled) → EndsAs world batch settled ending → Answered settled ending result → IfErr result (Stops world batch)
 answers_stops (Ok done) ending world batch settled ends answered = tt
 answers_stops (Err fault) ending world batch settled ends answered = answers_fault fault ending world batch settled ends answered
+
+-- ---- rounds, and what the calling thread may make of them
+
+-- a slot at which they ended is one of the world's
+pub rounds_inside : (ending : Option Ending) (world : WorldState) (batch turns : List Turn) (last done : WorldState) → done ≡ last → EndsRounds world batch turns last ending → IfSome ending (IsInside done)
+rounds_inside None world batch turns last done same ended = tt
+rounds_inside (Some ending) world batch turns last done same ended = subst (λ (w : WorldState). IsInside w ending) (sym same) (end_inside ending world batch turns last ended)
+
+-- those of a team that was manned for a world are of that world
+pub rounds_given : (world given last done : WorldState) (batch turns : List Turn) (manned : TeamState) (ending : Option Ending) → given ≡ world → manned ≡ new_team given → done ≡ last → EndsRounds manned.world batch turns last ending
+    → EndsRounds world batch turns done ending
+rounds_given world given last done batch turns manned ending same new is ended =
+    subst (λ (w : WorldState). EndsRounds world batch turns w ending) (sym is)
+    (subst (λ (w : WorldState). EndsRounds w batch turns last ending) (ap (λ (team : TeamState). team.world) new ∙ same) ended)
+
+-- what is answered of them settles the batch
+pub rounds_settled : (result : Result Settled SettleFault) (ending : Ending) (given : Option Ending) (settled : Settled) → given ≡ Some ending → Answered settled ending result
+    → IfOk result (λ done. (start : WorldState) (batch : List Turn) → IsSound start → EndsRounds start batch settled.turns.items settled.world given → IsSettled start batch done.turns.items done.world)
+rounds_settled (Ok done) ending given settled is answered = λ start batch sound ended.
+    answers_settled (Ok done) ending start batch settled (record { sound = sound; ended = subst (EndsRounds start batch settled.turns.items settled.world) is ended }) answered
+rounds_settled (Err fault) ending given settled is answered = tt
+
+-- or tells why it stopped
+pub rounds_stopped : (result : Result Settled SettleFault) (ending : Ending) (given : Option Ending) (settled : Settled) → given ≡ Some ending → Answered settled ending result
+    → IfErr result (λ fault. (start : WorldState) (batch : List Turn) → IsSound start → EndsRounds start batch settled.turns.items settled.world given → Stops start batch fault)
+rounds_stopped (Ok done) ending given settled is answered = tt
+rounds_stopped (Err fault) ending given settled is answered = λ start batch sound ended.
+    answers_stops (Err fault) ending start batch settled (record { sound = sound; ended = subst (EndsRounds start batch settled.turns.items settled.world) is ended }) answered
+
+-- and so does what goes on from them
+pub behind_settled : (result : Result Settled SettleFault) (given : Option Ending) (settled : Settled) → given ≡ None
+    → IfOk result (λ done. (start : WorldState) (batch : List Turn) → BeginsSettle start batch settled.turns.items settled.world → IsSettled start batch done.turns.items done.world)
+    → IfOk result (λ done. (start : WorldState) (batch : List Turn) → IsSound start → EndsRounds start batch settled.turns.items settled.world given → IsSettled start batch done.turns.items done.world)
+behind_settled (Ok done) given settled is settles = λ start batch sound ended. settles start batch (subst (EndsRounds start batch settled.turns.items settled.world) is ended)
+behind_settled (Err fault) given settled is settles = tt
+
+pub behind_stopped : (result : Result Settled SettleFault) (given : Option Ending) (settled : Settled) → given ≡ None
+    → IfErr result (λ fault. (start : WorldState) (batch : List Turn) → BeginsSettle start batch settled.turns.items settled.world → Stops start batch fault)
+    → IfErr result (λ fault. (start : WorldState) (batch : List Turn) → IsSound start → EndsRounds start batch settled.turns.items settled.world given → Stops start batch fault)
+behind_stopped (Ok done) given settled is stops = tt
+behind_stopped (Err fault) given settled is stops = λ start batch sound ended. stops start batch (subst (EndsRounds start batch settled.turns.items settled.world) is ended)
+
+-- a batch is settled where whatever they ended as is
+pub settled_so : (result : Result Settled SettleFault) (start last : WorldState) (batch turns : List Turn) (ending : Option Ending) → IsSound start → EndsRounds start batch turns last ending
+    → IfOk result (λ done. (begun : WorldState) (commands : List Turn) → IsSound begun → EndsRounds begun commands turns last ending → IsSettled begun commands done.turns.items done.world)
+    → IfOk result (λ done. IsSettled start batch done.turns.items done.world)
+settled_so (Ok done) start last batch turns ending sound ended settles = settles start batch sound ended
+settled_so (Err fault) start last batch turns ending sound ended settles = tt
+
+pub stopped_so : (result : Result Settled SettleFault) (start last : WorldState) (batch turns : List Turn) (ending : Option Ending) → IsSound start → EndsRounds start batch turns last ending
+    → IfErr result (λ fault. (begun : WorldState) (commands : List Turn) → IsSound begun → EndsRounds begun commands turns last ending → Stops begun commands fault) → IfErr result (Stops start batch)
+stopped_so (Ok done) start last batch turns ending sound ended stops = tt
+stopped_so (Err fault) start last batch turns ending sound ended stops = stops start batch sound ended

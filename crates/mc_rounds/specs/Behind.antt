@@ -1,13 +1,15 @@
 -- Turns that used a batch up, and what comes of them with others behind.
-use Rattle.std.specs.Prelude.{◌≡◌, ◌++◌, false, List, Some}
+use Rattle.std.specs.Prelude.{◌≡◌, ◌++◌, false, List, Option, None, Some}
 use Rattle.mc_box.specs.declared.event.Turn.{Turn}
 use Rattle.mc_model.specs.Steps.{run}
 use Rattle.mc_model.specs.Worlds.{WorldState}
 use Rattle.mc_rounds.specs.Playing.{some_shift}
+use Rattle.mc_rounds.specs.Settling.{EndsSettle}
 use Rattle.mc_seq.specs.declared.fault.SettleFault.{SettleFault}
 use Rattle.mc_seq.specs.declared.fault.SettleFault.TheVariants.{NoMemory, Restless, Ring, VersionEnd}
 use Rattle.mc_seq.specs.declared.fault.Stopped.{Stopped}
 use Rattle.mc_seq.specs.declared.fault.StoppedBox.{StoppedBox}
+use Rattle.mc_seq.specs.declared.stopping.Ending.{Ending}
 use Rattle.mc_settings.specs.Batches.{UseUp}
 
 -- turns that lead from a world to another, use a batch up, and have no Shift
@@ -15,6 +17,11 @@ pub record BeginsSettle (start : WorldState) (batch turns : List Turn) (world : 
   pub runs : run start turns ≡ Some world
   pub used_up : UseUp batch turns
   pub no_shift : some_shift turns ≡ false
+
+-- how the rounds of a batch ended, at this world; or that the settle may go on from there
+abbrev pub EndsRounds : WorldState → (batch turns : List Turn) → (last : WorldState) → Option Ending → Type 0
+EndsRounds world batch turns last None = BeginsSettle world batch turns last
+EndsRounds world batch turns last (Some ending) = EndsSettle world batch turns last ending
 
 -- the same slot, with these turns in front
 pub record IsStopBehind (before : List Turn) (old new : Stopped) : Type 0 where

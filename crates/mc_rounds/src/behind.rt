@@ -24,11 +24,30 @@ pub fn settle_behind(alloc: Global, world: World, before: Vec<Turn>) -> Result<S
         → BeginsSettle start batch before.items world → Stops start batch fault) }
 {
     match settle_rest(alloc, world) {
-        Ok(Settled { world, turns }) => {
-            let turns = turns_behind(before, turns)?;
-            Ok(Settled { world, turns })
-        }
-        Err(fault) => Err(fault_behind(before, fault)?),
+        Ok(settled) => settled_behind(before, settled),
+        Err(fault) => Err(told_behind(before, fault)),
+    }
+}
+
+// What was settled, whose turns come behind those before them.
+fn settled_behind(before: Vec<Turn>, settled: Settled) -> Result<Settled, SettleFault>
+    ensures world { IfOk result (λ done. done.world ≡ settled.world) }
+    ensures turns { IfOk result (λ done. done.turns.items ≡ before.items ++ settled.turns.items) }
+    ensures stops { IfErr result (λ fault. (start : WorldState) (batch : List Turn) → Stops start batch fault) }
+{
+    let Settled { world, turns } = settled;
+    let all = turns_behind(before, turns)?;
+    Ok(Settled { world, turns: all })
+}
+
+// The fault to tell, whose turns come behind those before them, where there is memory for them.
+fn told_behind(before: Vec<Turn>, fault: SettleFault) -> SettleFault
+    ensures { (start : WorldState) (world : WorldState) (batch : List Turn) → BeginsSettle start batch before.items world
+        → Stops world [] fault → Stops start batch result }
+{
+    match fault_behind(before, fault) {
+        Ok(told) => told,
+        Err(e) => SettleFault::NoMemory(e),
     }
 }
 

@@ -1,16 +1,19 @@
 // A settler, which keeps the seats of a network's boxes from one settle to the next.
 
-ghost use Rattle.std.specs.Prelude.{◌≡◌, ◌≤◌, false, length, IfErr, IfOk, IfSome, IsTrue, None};
+ghost use Rattle.std.specs.Prelude.{◌≡◌, ◌≤◌, [], List, false, length, IfErr, IfOk, IfSome, IsTrue, None, OnOk};
 ghost use Rattle.mc_crew.specs.Berths.{FitSeats, IsVacant};
 ghost use Rattle.mc_crew.specs.Crews.{IsCrew, crew_state, new_team};
 ghost use Rattle.mc_crew.specs.declared.limit.TheConstants.{CREW_LIMIT};
 ghost use Rattle.mc_model.specs.Settles.{IsSettled};
 ghost use Rattle.mc_model.specs.Shapes.{AreAllowed};
 ghost use Rattle.mc_model.specs.Sound.{IsSound};
+ghost use Rattle.mc_model.specs.Worlds.{WorldState};
+ghost use Rattle.mc_rounds.specs.Behind.{EndsRounds};
 ghost use Rattle.mc_rounds.specs.Frames.{HoldsPlaces};
 ghost use Rattle.mc_rounds.specs.Playing.{some_shift};
 ghost use Rattle.mc_rounds.specs.Stops.{Stops};
 ghost use Rattle.mc_rounds.specs.declared.limit.TheConstants.{BOX_LIMIT};
+ghost use Rattle.mc_seq.specs.Places.{IsInside};
 ghost use Rattle.mc_world.specs.Parts.{HasFrame, parts_state};
 
 use crate::alone::settle_alone;
@@ -22,7 +25,7 @@ use mc_box::Turn;
 use mc_crew::{Crew, board, has_seats_for, leave};
 use mc_io::Gate;
 use mc_seats::limit::THREAD_SHARE;
-use mc_seq::{SettleFault, answer};
+use mc_seq::{Ending, SettleFault, answer};
 use mc_world::{Parts, Settled, World};
 use std::alloc::{AllocError, Global};
 use std::marker::Model;
@@ -101,16 +104,10 @@ impl Settler {
     {
         let mut frame = world.into_parts();
         let mut crew = self.seat_all(alloc, &mut frame)?;
-        enlist(&mut crew, batch)?;
         let mut turns = Vec::new(alloc);
-        let last = use_up(rt, gate, &mut crew, &mut turns)?;
-        if is_for_one(last, &crew.listed, &turns) {
-            let world = self.unseat_all(alloc, frame, crew)?;
-            return settle_behind(alloc, world, turns);
-        }
-        let ending = end_in_rounds(rt, alloc, gate, &frame, last, &mut crew, &mut turns)?;
+        let ending = run_batch(rt, alloc, gate, &frame, batch, &mut crew, &mut turns)?;
         let world = self.unseat_all(alloc, frame, crew)?;
-        answer(Settled { world, turns }, ending)
+        answer_rounds(alloc, Settled { world, turns }, ending)
     }
 
     // A crew of the boxes, channels and lanes of these parts, which keep the tables, and the places of boxes and lanes. It
@@ -123,23 +120,10 @@ impl Settler {
         ensures new { IfOk result (λ crew. crew_state crew ≡ new_team (parts_state frame.old)) }
         ensures places { IfOk result (HoldsPlaces frame.new) }
     {
-        match self.kept_for(frame) {
+        match kept_for(&mut self.crew, frame) {
             Some(crew) => board_all(alloc, frame, crew),
             None => man_anew(alloc, frame),
         }
-    }
-
-    // The crew that was kept, where these boxes fit its seats. None is kept then.
-    fn kept_for(&mut self, frame: &Parts) -> Option<Crew>
-        ensures vacant { IfSome result IsVacant }
-        ensures channels { IfSome result (λ crew. crew.channels.items ≡ frame.now.channels.items) }
-        ensures fits { IfSome result (λ crew. FitSeats crew.seats.items frame.now.boxes.items) }
-    {
-        let crew = self.crew.take()?;
-        if has_seats_for(&crew, &frame.boxes, &frame.channels) {
-            return Some(crew);
-        }
-        None
     }
 
     // The world of a crew, whose seats are kept.
@@ -153,6 +137,80 @@ impl Settler {
         leave(alloc, &mut crew, &mut frame.boxes, &mut frame.lanes);
         self.crew = Some(crew);
         World::from_parts(alloc, frame)
+    }
+}
+
+// Makes the rounds of a batch by a new crew: how they ended, or that the calling thread is to settle on alone, where little
+// is left to do and no program has gone on.
+fn run_batch<R: Threads + Sync, G: Gate + Sync>(
+    rt: &R,
+    alloc: Global,
+    gate: &G,
+    frame: &Parts,
+    batch: &[Turn],
+    crew: &mut Crew,
+    turns: &mut Vec<Turn>,
+) -> Result<Option<Ending>, AllocError>
+    requires crew { IsCrew crew.old }
+    requires new { crew_state crew.old ≡ new_team (crew_state crew.old).world }
+    requires allowed { AreAllowed (crew_state crew.old).world batch.now }
+    requires places { HoldsPlaces frame.now crew.old }
+    requires none_yet { turns.old.items ≡ [] }
+    ensures crew { OnOk result (IsCrew crew.new) }
+    ensures places { OnOk result (HoldsPlaces frame.now crew.new) }
+    ensures ended { IfOk result (EndsRounds (crew_state crew.old).world batch.now turns.new.items (crew_state crew.new).world) }
+{
+    enlist(crew, batch)?;
+    let last = use_up(rt, gate, crew, turns)?;
+    if is_for_one(last, &crew.listed, turns) {
+        return Ok(None);
+    }
+    let ending = end_in_rounds(rt, alloc, gate, frame, last, crew, turns)?;
+    Ok(Some(ending))
+}
+
+// Answers a settle that has ended in rounds, and settles on else.
+fn answer_rounds(
+    alloc: Global,
+    settled: Settled,
+    ending: Option<Ending>,
+) -> Result<Settled, SettleFault>
+    requires { IfSome ending (IsInside settled.world) }
+    ensures settled { IfOk result (λ done. (start : WorldState) (batch : List Turn) → IsSound start
+        → EndsRounds start batch settled.turns.items settled.world ending
+        → IsSettled start batch done.turns.items done.world) }
+    ensures stops { IfErr result (λ fault. (start : WorldState) (batch : List Turn) → IsSound start
+        → EndsRounds start batch settled.turns.items settled.world ending → Stops start batch fault) }
+{
+    match ending {
+        Some(ending) => answer(settled, ending),
+        None => settle_behind(alloc, settled.world, settled.turns),
+    }
+}
+
+// The crew that was kept, where these boxes fit its seats. None is kept then.
+fn kept_for(kept: &mut Option<Crew>, frame: &Parts) -> Option<Crew>
+    requires { IfSome kept.old IsVacant }
+    ensures vacant { IfSome result IsVacant }
+    ensures channels { IfSome result (λ crew. crew.channels.items ≡ frame.now.channels.items) }
+    ensures fits { IfSome result (λ crew. FitSeats crew.seats.items frame.now.boxes.items) }
+    ensures none { IfSome kept.new IsVacant }
+{
+    if keeps_seats_for(kept, frame) {
+        return kept.take();
+    }
+    *kept = None;
+    None
+}
+
+// Whether a crew was kept whose seats these boxes fit.
+fn keeps_seats_for(kept: &Option<Crew>, frame: &Parts) -> bool
+    ensures { IsTrue result → IfSome kept.now (λ crew. (crew.channels.items ≡ frame.now.channels.items)
+        × FitSeats crew.seats.items frame.now.boxes.items) }
+{
+    match kept {
+        Some(crew) => has_seats_for(crew, &frame.boxes, &frame.channels),
+        None => false,
     }
 }
 

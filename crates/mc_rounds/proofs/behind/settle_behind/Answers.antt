@@ -1,10 +1,12 @@
-use Rattle.mc_rounds.proofs.BehindTurns.{settled_behind, stops_behind}
+use Rattle.mc_rounds.proofs.BehindTurns.{all_settled, all_stopped}
 use Rattle.mc_rounds.proofs.behind.settle_behind.Goals as goal
 
-pub returns-in_ok-turns-in-Ok-clause-settled : goal.returns-in_ok-turns-in-Ok-clause-settled
-returns-in_ok-turns-in-Ok-clause-settled c start batch leads =
-    settled_behind start c.args.world c.in-Ok.field-0.world batch c.args.before.items c.in-Ok.field-0.turns.items c.in_ok-turns-in-Ok.turns.items leads c.in-Ok.ensures.settled c.in_ok-turns-in-Ok.ensures
+pub returns-in-Ok-clause-settled : goal.returns-in-Ok-clause-settled
+returns-in-Ok-clause-settled c =
+    all_settled c.settled_behind.result c.args.world c.args.before.items c.in-Ok.settled c.in-Ok.ensures.settled c.settled_behind.ensures.world c.settled_behind.ensures.turns
 
-pub returns-in_ok-fault_behind-in-Err-clause-stops : goal.returns-in_ok-fault_behind-in-Err-clause-stops
-returns-in_ok-fault_behind-in-Err-clause-stops c start batch leads =
-    stops_behind c.in-Err.fault c.in_ok-fault_behind-in-Err.field-0 start c.args.world batch c.args.before.items leads c.in-Err.ensures.stops c.in_ok-fault_behind-in-Err.ensures
+pub returns-in-Ok-clause-stops : goal.returns-in-Ok-clause-stops
+returns-in-Ok-clause-stops c = all_stopped c.settled_behind.result c.args.world c.args.before.items c.settled_behind.ensures.stops
+
+pub returns-in-Err-clause-stops : goal.returns-in-Err-clause-stops
+returns-in-Err-clause-stops c start batch leads = c.told_behind.ensures start c.args.world batch leads c.in-Err.ensures.stops
