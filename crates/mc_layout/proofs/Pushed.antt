@@ -1,7 +1,7 @@
 -- Lists of lists, as code changes them.
-use Rattle.std.proofs.Common.{◌≡◌, ◌<◌, ℕ, List, [], ◌∷◌, ◌++◌, length, replicate, ap, sym, ◌∙◌}
+use Rattle.std.proofs.Common.{◌≡◌, ◌<◌, ◌+◌, ℕ, List, [], ◌∷◌, ◌++◌, length, replicate, ap, sym, ◌∙◌}
 use Rattle.std.proofs.Math.ListN.{get_or, set}
-use Rattle.std.proofs.lemmas.List.{get_or-map, map-set}
+use Rattle.std.proofs.lemmas.List.{get_or-map, map-set, map_push, replicate_more}
 use Rattle.std.specs.declared.alloc.Global.{Global}
 use Rattle.std.specs.declared.vec.Vec.{Vec}
 use Rattle.mc_box.specs.Boxes.{BoxState}
@@ -23,6 +23,10 @@ pub list_longer : {A : Type 0} → (lists : List (Vec A Global)) (who : ℕ) (ol
 list_longer {A} lists who old new x here is longer =
     list_replaced lists who new
     ∙ ap (λ (l : List A). set (inner_lists lists) who l) (longer ∙ ap (λ (l : List A). l ++ x ∷ []) (sym (read_box lists who old here is)))
+
+-- one empty list more
+pub empty_lists_more : {A : Type 0} → (lists : List (Vec A Global)) (list : Vec A Global) (n : ℕ) → inner_lists lists ≡ replicate n [] → list.items ≡ [] → inner_lists (lists ++ list ∷ []) ≡ replicate (n + 1) []
+empty_lists_more {A} lists list n before empty = rw (map_push (λ (v : Vec A Global). v.items) lists list, before, empty) (replicate_more n [])
 
 -- ---- an entry for each slot
 

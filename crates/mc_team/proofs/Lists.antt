@@ -1,6 +1,7 @@
 -- Lists of which one or two elements change.
-use Rattle.std.proofs.Common.{◌≡◌, ◌≢◌, ◌⊎◌, inl, inr, ℕ, zero, suc, ◌<◌, ◌≤◌, ◌+◌, Bool, true, false, nat_eq, List, [], ◌∷◌, ◌++◌, Some, length, map, take, slice_get, slice_set, slice_index_or, Option, Result, Ok, Err, OnOk, refl, ap, arith}
+use Rattle.std.proofs.Common.{◌≡◌, ◌≢◌, ◌⊎◌, inl, inr, ℕ, zero, suc, ◌<◌, ◌≤◌, ◌+◌, Bool, true, false, nat_eq, List, [], ◌∷◌, ◌++◌, Some, length, map, take, slice_get, slice_set, slice_index_or, Option, Result, Ok, Err, OnOk, refl, ap, sym, ◌∙◌, append_assoc, arith}
 use Rattle.std.proofs.lemmas.Grind.{common_steps}
+use Rattle.std.proofs.lemmas.List.{map_more}
 
 -- what follows from what a result leaves
 pub on_ok : {X E : Type 0} (A B : Type 0) (r : Result X E) → (A → B) → OnOk r A → OnOk r B
@@ -131,3 +132,9 @@ take_whole xs n long = grind (arith, common_steps)
 pub on_ok_all : {X E : Type 0} (A : Type 0) (r : Result X E) → A → OnOk r A
 on_ok_all A (Ok x) h = h
 on_ok_all A (Err e) h = tt
+
+-- what the first elements come to, and what the next one does
+pub mapped_more : {X Y : Type 0} (f : X → Y) (xs : List X) (i : ℕ) (d : X) (before now : List Y) (y : Y) → i < length xs → now ≡ before ++ map f (take i xs) → y ≡ f (slice_index_or xs i d)
+    → now ++ y ∷ [] ≡ before ++ map f (take (i + 1) xs)
+mapped_more f xs i d before now y inside is own =
+    rw (is, own) (append_assoc before (map f (take i xs)) (f (slice_index_or xs i d) ∷ []) ∙ ap (λ ys. before ++ ys) (sym (map_more f xs i d inside)))

@@ -1,6 +1,18 @@
-use Rattle.std.proofs.Common.{arith}
-use Rattle.mc_seats.proofs.Looks.{all_looked, are_looked_at, looks_next, looks_on}
+use Rattle.std.proofs.Common.{List, ℕ, arith, subst, sym}
+use Rattle.mc_seats.proofs.Looks.{IsLooking, all_looked, are_looked_at, looking, looks_next, looks_on, looks_within}
 use Rattle.mc_seats.proofs.finding.look_at_each.Goals as goal
+
+pub loop-who-init : goal.loop-who-init
+loop-who-init c = record {
+  looking = subst (λ (f : List ℕ). IsLooking c.args.retries c.args.listed.now c.args.listed.now c.args.seats.now c.args.seats.now f) (sym c.requires.empty) (looking c.args.retries c.args.listed.now c.args.seats.now c.requires.rises c.requires.ready);
+  room = omega (arith, c.requires.room);
+}
+
+pub bounds-seats-who : goal.bounds-seats-who
+bounds-seats-who c = looks_within c.args.retries c.args.listed.now c.loop-who.who-index c.args.seats.now c.loop-who.seats c.loop-who.found.items (omega arith) c.loop-who.invariant.looking
+
+pub push_where-requires : goal.push_where-requires
+push_where-requires c = omega (arith, c.loop-who.invariant.room)
 
 pub look_at-has_work-requires : goal.look_at-has_work-requires
 look_at-has_work-requires c =

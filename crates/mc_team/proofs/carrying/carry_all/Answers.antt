@@ -3,7 +3,7 @@ use Rattle.mc_layout.specs.Layouts.{ends_of_lane, inner_lists, of_box}
 use Rattle.mc_model.specs.Worlds.{far}
 use Rattle.mc_team.specs.Carries.{CarriesLanes, IsLaneAt, TouchesLane}
 use Rattle.mc_team.proofs.Lists.{at_index, at_some, take_whole}
-use Rattle.mc_team.proofs.Reached.{boxes_more}
+use Rattle.mc_team.proofs.Reached.{boxes_more, tied_kept}
 use Rattle.mc_team.proofs.Rising.{rises_below}
 use Rattle.mc_team.proofs.carrying.carry_all.Goals as goal
 
@@ -15,6 +15,15 @@ pub bounds-ends-who : goal.bounds-ends-who
 bounds-ends-who c =
     let low = rises_below 0 (length c.args.seats.now) c.args.found.now c.loop-who.who-index c.requires.found (omega arith) in
     subst (λ (n : ℕ). slice_index_or c.args.found.now c.loop-who.who-index 0 < n) (sym c.requires.boxes) low
+
+pub carry_at-requires-clause-ready : goal.carry_at-requires-clause-ready
+carry_at-requires-clause-ready c = c.loop-who.invariant.boxes.ready
+
+pub carry_at-requires-clause-tied : goal.carry_at-requires-clause-tied
+carry_at-requires-clause-tied c = tied_kept c.args.seats.now c.loop-who.seats c.args.lanes.now c.loop-who.invariant.boxes c.requires.tied
+
+pub carry_at-requires-clause-rises : goal.carry_at-requires-clause-rises
+carry_at-requires-clause-rises c = c.loop-who.invariant.rises
 
 pub carry_at-requires-clause-there : goal.carry_at-requires-clause-there
 carry_at-requires-clause-there c end lane at =
