@@ -29,7 +29,7 @@ pair_rules shape who one other =
     ∷ []
 
 -- the words of a `link` line name these two slots, of which no more is left to ask
-pub record IsPair (names : NameLists) (shape : List BoxShapeState) (words : List (List ℕ)) (pair : SlotLine ℕ) : Type 0 where
+pub record NamesTwoSlots (names : NameLists) (shape : List BoxShapeState) (words : List (List ℕ)) (pair : SlotLine ℕ) : Type 0 where
   pub rules : least_broken (link_rules names shape words) ≡ least_broken (pair_rules shape pair.who pair.local pair.value)
   pub spelt : command_by names (Some Link) words ≡ Some (Stimulus (record { who = pair.who; event = Set (NewLink pair.local pair.value) }))
   pub who : pair.who < length shape

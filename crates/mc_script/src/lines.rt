@@ -7,7 +7,7 @@ ghost use Rattle.mc_slot.specs.Moves.{is_same_medium};
 ghost use Rattle.mc_box.specs.BoxShapes.{slot_medium};
 ghost use Rattle.mc_script.specs.Places.{box_named, slot_named, spelt_value, Fits};
 ghost use Rattle.mc_script.specs.Rules.{least_broken, set_rules, link_rules, media_rules, tell_rules, settle_rules, spelt_switch};
-ghost use Rattle.mc_script.specs.SlotLines.{IsPair, slot_rules};
+ghost use Rattle.mc_script.specs.SlotLines.{NamesTwoSlots, slot_rules};
 ghost use Rattle.mc_script.specs.Meaning.{ReadsAs, ReadsCommand};
 
 use crate::command::{Command, LineFault};
@@ -55,7 +55,7 @@ pub fn link_line<'a>(names: &Names, shape: &Shape, words: Words<'a>) -> Result<C
 #[tactic(auto, using(crate::proofs::Missing::misses_third, crate::proofs::Missing::misses_box, crate::proofs::Missing::misses_value))]
 fn pair_line<'a>(names: &Names, shape: &Shape, words: Words<'a>) -> Result<SlotLine<u8>, LineFault>
     requires { Fits names.now shape.now }
-    ensures { MatchResult result (IsPair names.now shape.now words.entry)
+    ensures { MatchResult result (NamesTwoSlots names.now shape.now words.entry)
         (λ e. least_broken (link_rules names.now shape.now words.entry) ≡ Some e.number) }
 {
     let parts = FirstWords::new(words);
