@@ -8,7 +8,7 @@ use mc_box::{Event, MediaBox};
 use mc_world::World;
 
 // How many slots owe a retry, and how many boxes have an enabled Shift: of a world, or of one box.
-#[derive(Clone, Copy, PartialEq, Eq, Debug)]
+#[derive(Clone, Copy)]
 pub struct Counts {
     pub owed: u64,
     pub ready: u64,

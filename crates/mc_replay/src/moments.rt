@@ -12,7 +12,7 @@ use std::alloc::AllocError;
 
 // What is kept of a moment at which the world rests and the batch is used up: how many retries were made until then,
 // and how many slots owed one.
-#[derive(Clone, Copy, PartialEq, Eq, Debug)]
+#[derive(Clone, Copy)]
 pub struct Moment {
     pub retries: u64,
     pub owed: u64,

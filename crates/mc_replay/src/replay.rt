@@ -19,7 +19,7 @@ use mc_world::World;
 use std::alloc::{AllocError, Global};
 
 // The segment that is followed, how many batches have their marks, and how many turns were made in all.
-#[derive(Debug, Drop)]
+#[derive(Drop)]
 pub struct Replay {
     pub segment: Segment,
     pub settled: usize,

@@ -11,7 +11,7 @@ use std::alloc::{AllocError, Global};
 // How many retries were made, for each slot the number of its last one (0 where there is none), and the greatest such
 // number of a slot that was retried again. So no slot was retried twice behind the first `n` retries where that number
 // is at most `n`.
-#[derive(Debug, Drop)]
+#[derive(Drop)]
 pub struct Retries {
     pub made: u64,
     pub last: Vec<u64>,

@@ -22,7 +22,7 @@ use std::alloc::{AllocError, Global};
 
 // Where a segment stands: its world, the commands that are left of its batch, how many slots owe a retry and how many
 // boxes have an enabled Shift, the retries of the whole journal, and the moments that may be the last rest.
-#[derive(Debug, Drop)]
+#[derive(Drop)]
 pub struct Segment {
     pub world: World,
     pub left: Commands,
@@ -32,7 +32,7 @@ pub struct Segment {
 }
 
 // Why a turn isn't made.
-#[derive(Debug, Drop)]
+#[derive(Drop)]
 pub enum TurnFault {
     // It is a command, and not the next one of its box.
     NotNext,

@@ -20,7 +20,7 @@ use std::alloc::{AllocError, Global};
 use std::thread::Threads;
 
 /// How boxes come to rest: at a ring, of which this is the least slot, or at none, and whether a Shift came on the way.
-#[derive(Clone, Copy, PartialEq, Eq, Debug)]
+#[derive(Clone, Copy)]
 pub struct Rest {
     pub ring: Option<u32>,
     pub shifted: bool,

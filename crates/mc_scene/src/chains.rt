@@ -8,14 +8,14 @@ use mc_text::Draws;
 use std::alloc::{AllocError, Global};
 
 // So many codecs of a device, by their numbers: each is one more than the one before it, and 0 comes after 7.
-#[derive(Clone, Copy, Debug)]
+#[derive(Clone, Copy)]
 pub struct CodecRun {
     pub count: u32,
     pub first: u32,
 }
 
 // What a chain's right end is told first.
-#[derive(Clone, Copy, Debug)]
+#[derive(Clone, Copy)]
 pub enum FirstGoal {
     Open,
     Hold,
@@ -24,7 +24,7 @@ pub enum FirstGoal {
 
 // A chain: its number, how many features stand in it, the codecs of the devices at its left and its right end, and the
 // first goal of the right end.
-#[derive(Clone, Copy, Debug)]
+#[derive(Clone, Copy)]
 pub struct Chain {
     pub number: u32,
     pub features: u32,

@@ -10,7 +10,7 @@ use crate::chains::{Chain, CodecRun, FirstGoal};
 use std::alloc::AllocError;
 
 // What the lines of a group say of a chain.
-#[derive(Clone, Copy, Debug)]
+#[derive(Clone, Copy)]
 pub enum Group {
     // Its boxes, from left to right.
     Boxes,

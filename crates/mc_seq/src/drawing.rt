@@ -27,7 +27,7 @@ use std::alloc::{AllocError, Global};
 // Where a settle stands: its world and its turns so far, the commands that are left, how many turns came since the
 // last command or the beginning, counted to 63, the Shifts that boxes may still make, where some box has a program, and
 // whether a round of retries is due.
-#[derive(Debug, Drop)]
+#[derive(Drop)]
 struct Sitting {
     settled: Settled,
     left: Commands,

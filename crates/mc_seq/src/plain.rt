@@ -26,7 +26,7 @@ use std::alloc::{AllocError, Global};
 // Where a settle stands: its world and its turns so far, the commands that are left, how many turns came since the
 // last command or the beginning, counted to 63, how many Shifts each box may still make, and whether a round of retries
 // is due.
-#[derive(Debug, Drop)]
+#[derive(Drop)]
 struct Sitting {
     settled: Settled,
     left: Vec<Turn>,

@@ -19,7 +19,7 @@ use mc_world::World;
 use std::alloc::{AllocError, Global};
 
 // How many Shifts each box may still make, and for each box how many of its next command and its Shift are listed.
-#[derive(Debug, Drop)]
+#[derive(Drop)]
 pub struct Shifts {
     pub spare: Vec<u16>,
     pub others: Sums,

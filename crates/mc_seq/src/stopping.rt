@@ -12,7 +12,7 @@ use mc_box::{Event, MediaBox, MediaChange, Turn};
 use mc_world::{Settled, World};
 
 // What a draw comes to.
-#[derive(Clone, Copy, PartialEq, Eq, Debug)]
+#[derive(Clone, Copy)]
 pub enum Draw {
     // A turn was drawn, and made; it was no Shift.
     Drawn,

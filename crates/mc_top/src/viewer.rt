@@ -9,7 +9,7 @@ use mc_world::World;
 use std::alloc::{AllocError, Global};
 
 /// Shows all paths of a world.
-#[derive(Clone, Copy, Debug)]
+#[derive(Clone, Copy)]
 pub struct PathViewer;
 
 impl Viewer for PathViewer {

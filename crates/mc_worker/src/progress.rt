@@ -6,7 +6,7 @@ use crate::stop::{RoundEnd, Stop};
 
 /// How far a round has come: how many channel ends it has passed, at which nothing is left, how many turns it has made,
 /// and how many signals these sent and took.
-#[derive(Clone, Copy, PartialEq, Eq, Debug)]
+#[derive(Clone, Copy)]
 pub struct Progress {
     pub passed: usize,
     pub turns: u32,
