@@ -101,3 +101,33 @@ no_size first second third journal is none (mode.Gen number size) ((word, size_w
     let alike : third ≡ size_word = cc (both) in
     none size (ap number_of alike ∙ sized.0, sized.1) some
 no_size first second third journal is none (mode.Scene scene) asks = let clash : first ∷ second ∷ third ∷ [] ≡ codes "scene" ∷ scene_word scene ∷ [] = asks.0 in cc
+
+-- where no state is spelt, nothing is run by draws that begin there
+pub no_state : (first second : List ℕ) (journal : Bool) → first ≡ codes "one" → ((state : ℕ) → SpellsWithin NUMBER_LIMIT second state → ⊥) → (m : Mode) → AsksFor m journal (first ∷ second ∷ []) → ⊥
+no_state first second journal is none (mode.Run asked) asks = let clash : first ∷ second ∷ [] ≡ codes "run" ∷ [] = asks.0 in cc
+no_state first second journal is none (mode.One state asked) ((word, one, spelt), same) =
+    let both : first ∷ second ∷ [] ≡ codes "one" ∷ word ∷ [] = one in
+    let alike : second ≡ word = cc (both) in
+    none state (ap number_of alike ∙ spelt.0, spelt.1)
+no_state first second journal is none mode.Check asks = let clash : first ∷ second ∷ [] ≡ codes "check" ∷ [] = asks.0 in cc
+no_state first second journal is none (mode.Gen number size) ((word, size_word, one, spelt, sized, some), same) = let clash : first ∷ second ∷ [] ≡ codes "gen" ∷ word ∷ size_word ∷ [] = one in cc
+no_state first second journal is none (mode.Scene scene) asks =
+    let both : first ∷ second ∷ [] ≡ codes "scene" ∷ scene_word scene ∷ [] = asks.0 in
+    let named : first ≡ codes "scene" = cc (both) in
+    let clash : codes "one" ≡ codes "scene" = sym is ∙ named in
+    cc
+
+-- and where no scene is named, none is run
+pub no_scene : (first second : List ℕ) (journal : Bool) → first ≡ codes "scene" → ((scene : Scene) → second ≡ scene_word scene → ⊥) → (m : Mode) → AsksFor m journal (first ∷ second ∷ []) → ⊥
+no_scene first second journal is none (mode.Run asked) asks = let clash : first ∷ second ∷ [] ≡ codes "run" ∷ [] = asks.0 in cc
+no_scene first second journal is none (mode.One state asked) ((word, one, spelt), same) =
+    let both : first ∷ second ∷ [] ≡ codes "one" ∷ word ∷ [] = one in
+    let named : first ≡ codes "one" = cc (both) in
+    let clash : codes "scene" ≡ codes "one" = sym is ∙ named in
+    cc
+no_scene first second journal is none mode.Check asks = let clash : first ∷ second ∷ [] ≡ codes "check" ∷ [] = asks.0 in cc
+no_scene first second journal is none (mode.Gen number size) ((word, size_word, one, spelt, sized, some), same) = let clash : first ∷ second ∷ [] ≡ codes "gen" ∷ word ∷ size_word ∷ [] = one in cc
+no_scene first second journal is none (mode.Scene scene) asks =
+    let both : first ∷ second ∷ [] ≡ codes "scene" ∷ scene_word scene ∷ [] = asks.0 in
+    let alike : second ≡ scene_word scene = cc (both) in
+    none scene alike
