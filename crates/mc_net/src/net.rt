@@ -52,14 +52,31 @@ fn make_net(alloc: Global, parts: Parts, rest: usize) -> Result<Net, AllocError>
     requires { MayHavePrograms (world_of parts.plan) parts.blocks.items }
     ensures { IfOk result (IsMadeOf parts rest) }
 {
-    let (world, batches) = world_and_batches(alloc, parts.plan, &parts.blocks, &parts.commands)?;
-    Ok(Net {
-        world,
-        names: parts.names,
-        shape: parts.shape,
-        batches,
-        rest,
-    })
+    let Parts {
+        names,
+        shape,
+        plan,
+        blocks,
+        commands,
+    } = parts;
+    let made = world_and_batches(alloc, plan, &blocks, &commands);
+    // each is dropped by name, since what drops at a return is proved part by part
+    drop(blocks);
+    drop(commands);
+    match made {
+        Ok((world, batches)) => Ok(Net {
+            world,
+            names,
+            shape,
+            batches,
+            rest,
+        }),
+        Err(wanting) => {
+            drop(names);
+            drop(shape);
+            Err(wanting)
+        }
+    }
 }
 
 // The first world of a plan with these programs, and the batches of commands.

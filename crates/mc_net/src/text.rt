@@ -43,8 +43,14 @@ pub fn read_text(alloc: Global, text: &[u8], tail: Tail) -> Result<(Reader, usiz
     ensures refused { IfErr result (RefusesText tail text.now) }
 {
     let mut reader = Reader::new(alloc, tail);
-    let end = read_lines(&mut reader, text, tail)?;
-    Ok((reader, end))
+    match read_lines(&mut reader, text, tail) {
+        Ok(end) => Ok((reader, end)),
+        Err(fault) => {
+            // by name, since what drops at a return is proved part by part
+            drop(reader);
+            Err(fault)
+        }
+    }
 }
 
 // Reads the lines of a text, and finds no fault at its end. Answers where what wasn't read begins. The reader isn't
