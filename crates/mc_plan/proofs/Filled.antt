@@ -3,7 +3,7 @@ use Rattle.std.proofs.Common.{◌≡◌, ◌+◌, ◌*◌, ◌<◌, ◌≤◌, �
 use Rattle.std.specs.declared.alloc.Global.{Global}
 use Rattle.std.proofs.Math.ListN.{get_or}
 use Rattle.std.proofs.lemmas.Grind.{common_steps}
-use Rattle.std.proofs.lemmas.List.{append-nil, drop_all, drop_more, get_or-append-add, get_or-map, map-set}
+use Rattle.std.proofs.lemmas.List.{append-nil, drop_all, drop_more, get_or-append-add, get_or-map, map-set, map_push, replicate_more}
 use Rattle.std.proofs.lemmas.List.Elements.{All-cons, All-head, All-nil, All-tail}
 use Rattle.mc_box.specs.Boxes.{BoxState}
 use Rattle.mc_box.specs.declared.setup.SlotSetup.{SlotSetup}
@@ -15,6 +15,12 @@ use Rattle.mc_plan.specs.Setups.{lists_of, setup_if, setups_at, setups_from, set
 use Rattle.mc_plan.specs.declared.plan.BoxPlan.{BoxPlan}
 use Rattle.mc_plan.proofs.Places.{same_box}
 use Rattle.mc_plan.proofs.Widened.{both_there}
+
+-- ---- empty lists
+
+-- one more
+pub list_more : (lists : List (Vec SlotSetup Global)) (list : Vec SlotSetup Global) (n : ℕ) → lists_of lists ≡ replicate n [] → list.items ≡ [] → lists_of (lists ++ list ∷ []) ≡ replicate (n + 1) []
+list_more lists list n before none = rw (map_push (λ (l : Vec SlotSetup Global). l.items) lists list, before, none) (replicate_more n [])
 
 -- ---- lists that get more
 
@@ -169,3 +175,8 @@ all_there boxes (ends ∷ channels) tunnels there =
     All-cons (HasBoxes boxes) ends channels
     (first_there boxes ends ends.tunnels (places_among channels) (All-head HasTunnels ends channels tunnels).some there)
     (all_there boxes channels (All-tail HasTunnels ends channels tunnels) (there_behind boxes (places_within ends) (places_among channels) there))
+
+-- where no list is left all boxes are given
+pub all_given : (made all : List BoxState) (who : ℕ) (rest : List (Vec SlotSetup Global)) (plans : List BoxPlan) → length rest ≡ 0 → made ++ boxes_given who (lists_of rest) plans ≡ all → made ≡ all
+all_given made all who [] plans none whole = sym (append-nil made) ∙ whole
+all_given made all who (list ∷ rest) plans none whole = absurd (omega arith)

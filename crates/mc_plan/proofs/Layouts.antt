@@ -4,7 +4,7 @@ use Rattle.std.specs.Prelude.{is_some}
 use Rattle.std.specs.List.{list_any}
 use Rattle.std.proofs.Math.ListN.{get_or}
 use Rattle.std.proofs.lemmas.Bool.{cases_eq, or_parts}
-use Rattle.std.proofs.lemmas.List.{get_or-set_other, get_or-set_same, length-map, length-set}
+use Rattle.std.proofs.lemmas.List.{append-nil, get_or-set_other, get_or-set_same, length-map, length-set}
 use Rattle.mc_signal.specs.declared.Medium.{Medium}
 use Rattle.mc_signal.specs.declared.Medium.TheVariants.{Audio, Video}
 use Rattle.mc_slot.specs.Moves.{is_same_medium}
@@ -209,6 +209,11 @@ few_slots setup new =
     subst (λ (n : ℕ). n ≤ SLOT_LIMIT) (sym as_many) new.few
 
 -- one box more is made
+-- where none is left all are made
+pub all_made : (made all : List BoxState) (rest : List Setup) → length rest ≡ 0 → made ++ map set_up rest ≡ all → made ≡ all
+all_made made all [] none whole = sym (append-nil made) ∙ whole
+all_made made all (setup ∷ rest) none whole = absurd (omega arith)
+
 pub made_one : (rest left : List Setup) (setup : Setup) (made : BoxState) (boxes more all : List BoxState) → rest ≡ setup ∷ left → made ≡ set_up setup → more ≡ boxes ++ made ∷ []
     → boxes ++ map set_up rest ≡ all → AreNew (map set_up rest) → (more ++ map set_up left ≡ all) × AreNew (map set_up left)
 made_one rest left setup made boxes more all is front pushed whole new =

@@ -15,20 +15,35 @@ count_slots-requires c =
     let none : widen_fault plan ≡ None = no_fault (widen_fault plan) (subst (λ (p : PlanState). unless_fault (widen_fault p) ≡ Ok tt) (sym c.self.view_is) (sym c.may_widen.ensures ∙ c.in_ok-may_widen.was)) in
     last_may_count plan c.self.inside.slot_counts c.args.medium ends c.self.invariant (search rules) none (c.channel.view_is ∙ (c.last_channel-channel.ensures ∙ ap last_channel c.deref.ensures.value))
 
+-- the channels then are those of the next plan
+channels_are : (c : goal.After-count_slots) → c.add_tunnel.new.channels.items ≡ (with_tunnel (record { boxes = c.self.inside.boxes.items; channels = c.self.inside.channels.items }) c.args.medium).channels
+channels_are c =
+    let plan : PlanState = record { boxes = c.self.inside.boxes.items; channels = c.self.inside.channels.items } in
+    let last : c.last_channel-channel.result.now ≡ last_channel plan.channels = c.last_channel-channel.ensures ∙ ap last_channel c.deref.ensures.value in
+    let number : c.len-number.result ≡ length c.self.inside.channels.items = search rules in
+    c.in_ok-add_tunnel.ensures.added
+    ∙ ap (λ (length : ℕ). with_tunnel_at plan.channels (length - 1) c.next_tunnel-tunnel.result) number
+    ∙ ap (λ (tunnel : Tunnel). with_tunnel_at plan.channels (length plan.channels - 1) tunnel)
+    (c.next_tunnel-tunnel.ensures
+    ∙ ap (λ (p : PlanState). next_tunnel p.channels c.last_channel-channel.result.now c.args.medium) (sym c.self.view_is)
+    ∙ ap (λ (e : ChannelState). next_tunnel plan.channels e c.args.medium) last)
+
 pub invariant_of-self-2 : goal.invariant_of-self-2
 invariant_of-self-2 c =
     let plan : PlanState = record { boxes = c.self.inside.boxes.items; channels = c.self.inside.channels.items } in
     let ends : ChannelState = record { from = c.channel.inside.from; to = c.channel.inside.to; tunnels = c.channel.inside.tunnels.items } in
     let none : widen_fault plan ≡ None = no_fault (widen_fault plan) (subst (λ (p : PlanState). unless_fault (widen_fault p) ≡ Ok tt) (sym c.self.view_is) (sym c.may_widen.ensures ∙ c.in_ok-may_widen.was)) in
     let last : c.last_channel-channel.result.now ≡ last_channel plan.channels = c.last_channel-channel.ensures ∙ ap last_channel c.deref.ensures.value in
-    let number : c.len-number.result ≡ length c.self.inside.channels.items = search rules in
-    let more : c.add_tunnel.new.channels.items ≡ (with_tunnel plan c.args.medium).channels =
-    c.in_ok-add_tunnel.ensures.added
-    ∙ ap (λ (length : ℕ). with_tunnel_at plan.channels (length - 1) c.next_tunnel-tunnel.result) number
-    ∙ ap (λ (tunnel : Tunnel). with_tunnel_at plan.channels (length plan.channels - 1) tunnel)
-    (c.next_tunnel-tunnel.ensures
-    ∙ ap (λ (p : PlanState). next_tunnel p.channels c.last_channel-channel.result.now c.args.medium) (sym c.self.view_is)
-    ∙ ap (λ (e : ChannelState). next_tunnel plan.channels e c.args.medium) last) in
-    subst (λ (l : List ChannelState). IsCountedPlan (record { boxes = c.self.inside.boxes.items; channels = l }) c.count_slots.new.counts) (sym more)
+    subst (λ (l : List ChannelState). IsCountedPlan (record { boxes = c.self.inside.boxes.items; channels = l }) c.count_slots.new.counts) (sym (channels_are c))
     (subst (λ (l : List ℕ). IsCountedPlan (with_tunnel plan c.args.medium) l) (sym c.count_slots.ensures)
     (widened_counted plan c.self.inside.slot_counts c.args.medium ends c.self.invariant (search rules) none (c.channel.view_is ∙ last)))
+
+pub returns-clause-answer : goal.returns-clause-answer
+returns-clause-answer c = (
+  no_fault (widen_fault c.args.self.now) (sym c.may_widen.ensures ∙ c.in_ok-may_widen.was),
+  ap (λ (n : ℕ). n - 1) (c.len-number.ensures ∙ (c.self.inside.channels.ok.0 ∙ ap (λ (p : PlanState). length p.channels) c.self.view_is)),
+)
+
+pub returns-clause-widened : goal.returns-clause-widened
+returns-clause-widened c =
+    ap (λ (l : List ChannelState). record { boxes = c.self.inside.boxes.items; channels = l }) (channels_are c) ∙ ap (λ (p : PlanState). with_tunnel p c.args.medium) c.self.view_is
