@@ -5,6 +5,11 @@ use Rattle.mc_model.specs.Worlds.{slot_count}
 use Rattle.mc_rounds.proofs.PartnerTable.{entry_count, entry_more}
 use Rattle.mc_rounds.proofs.resting.partners.Goals as goal
 
+pub partner-requires-clause-inside : goal.partner-requires-clause-inside
+partner-requires-clause-inside c =
+    let all = c.slot_count-slot-end.ensures.count c.args.crew.now.channels.items (length c.args.crew.now.seats.items) c.requires.frame in
+    omega (arith, all, c.loop-slot-test.true)
+
 pub loop-slot-preserved : goal.loop-slot-preserved
 loop-slot-preserved c = record {
   long = omega (arith, ap (λ (l : List (Option ℕ)). length l) c.in_ok-push.ensures.items, entry_count c.loop-slot.partners.items c.partner.result, c.loop-slot.invariant.long);
