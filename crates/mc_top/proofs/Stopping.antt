@@ -14,14 +14,15 @@ use Rattle.mc_script.specs.declared.command.JournalLine.{JournalLine}
 use Rattle.mc_script.specs.declared.command.JournalLine.TheVariants.{Turn as Made}
 use Rattle.mc_rounds.specs.Stops.{Stops}
 use Rattle.mc_seq.specs.Draws.{StopsByDraws}
-use Rattle.mc_seq.specs.declared.fault.SettleFault.TheVariants.{Restless as NeverRests, Ring as AtRing, VersionEnd as EndsVersion}
+use Rattle.mc_seq.specs.declared.fault.SettleFault.{SettleFault}
+use Rattle.mc_seq.specs.declared.fault.SettleFault.TheVariants.{NoMemory, Restless as NeverRests, Ring as AtRing, VersionEnd as EndsVersion}
 use Rattle.mc_seq.specs.declared.fault.Stopped.{Stopped}
 use Rattle.mc_seq.specs.declared.fault.StoppedBox.{StoppedBox}
 use Rattle.mc_table.specs.Words.{line_of}
 use Rattle.mc_text.specs.NameLists.{NameLists, slot_names, slot_word}
 use Rattle.mc_top.specs.Drawn.{FollowsDraws, StopsBy, StopsDrawn}
 use Rattle.mc_top.specs.Journals.{IsJournalTo, IsStoppedJournal}
-use Rattle.mc_top.specs.Outcomes.{Stopping}
+use Rattle.mc_top.specs.Outcomes.{EndsBy, IsNamedFault, IsNamedPlace, Stopping}
 use Rattle.mc_top.specs.Printed.{box_word, place_word, report_text, script_text, stop_line, stop_word}
 use Rattle.mc_top.specs.Scripts.{ScriptState}
 use Rattle.mc_top.specs.declared.report.Report.{Report}
@@ -32,11 +33,7 @@ use Rattle.mc_top.proofs.Running.{GoesOn, next_left}
 
 -- ---- names
 
--- a place has a name
-abbrev pub IsNamedPlace : NameLists → ℕ × ℕ → Type 0
-IsNamedPlace names at = (at.0 < length names.boxes) × (at.1 < length (slot_names names at.0))
-
--- that of each slot has
+-- the place of each slot has a name
 place_named : (names : NameLists) (world : WorldState) (s : ℕ) → IsSound world → NamesAll names world → s < slot_count world → IsNamedPlace names (place world s)
 place_named names world s sound all inside =
     let who : (place world s).0 < length world.boxes = sound.numbered.placed s inside in (
@@ -49,7 +46,7 @@ slot_stays : (world last : WorldState) (s : ℕ) → HasShape last world → s <
 slot_stays world last s shape inside = subst (λ (channels : List ChannelState). s < length (places_among channels)) shape.channels inside
 
 -- so has that of a slot at which a settle stops at the last version
-pub version_named : (names : NameLists) (world : WorldState) (batch : List Turn) (stop : Stopped) → IsSound world → NamesAll names world → Stops world batch (EndsVersion stop) → IsNamedPlace names stop.place
+version_named : (names : NameLists) (world : WorldState) (batch : List Turn) (stop : Stopped) → IsSound world → NamesAll names world → Stops world batch (EndsVersion stop) → IsNamedPlace names stop.place
 version_named names world batch stop sound all (stops, there) =
     let one = then_some (number stops.last stops.meets.turn.who) (heard_local stops.meets.turn.event) stop.at stops.meets.slot in
     let shape = run_keeps_shape world stops.last stop.turns.items sound stops.stopped.runs in
@@ -57,16 +54,23 @@ version_named names world batch stop sound all (stops, there) =
     (place_named names world stop.at sound all (slot_stays world stops.last stop.at shape (number_is stops.last stops.meets.turn.who one.0 stop.at one.2).0))
 
 -- or at a ring
-pub ring_named : (names : NameLists) (world : WorldState) (batch : List Turn) (stop : Stopped) → IsSound world → NamesAll names world → Stops world batch (AtRing stop) → IsNamedPlace names stop.place
+ring_named : (names : NameLists) (world : WorldState) (batch : List Turn) (stop : Stopped) → IsSound world → NamesAll names world → Stops world batch (AtRing stop) → IsNamedPlace names stop.place
 ring_named names world batch stop sound all (stops, there) =
     let shape = run_keeps_shape world stops.last stop.turns.items sound stops.stopped.runs in
     subst (IsNamedPlace names) (sym there) (place_named names world stop.at sound all (slot_stays world stops.last stop.at shape stops.least.inside))
 
 -- the box of a settle that doesn't come to rest has a name
-pub restless_named : (names : NameLists) (world : WorldState) (batch : List Turn) (stop : StoppedBox) → IsSound world → NamesAll names world → Stops world batch (NeverRests stop) → stop.at < length names.boxes
+restless_named : (names : NameLists) (world : WorldState) (batch : List Turn) (stop : StoppedBox) → IsSound world → NamesAll names world → Stops world batch (NeverRests stop) → stop.at < length names.boxes
 restless_named names world batch stop sound all stops =
     let shape = run_keeps_shape world stops.last stop.turns.items sound stops.stopped.runs in
     subst (λ (n : ℕ). stop.at < n) (shape.boxes ∙ sym all.boxes) stops.restless.first.inside
+
+-- so whatever a settle stops at is named
+pub fault_named : (names : NameLists) (world : WorldState) (batch : List Turn) (fault : SettleFault) → IsSound world → NamesAll names world → Stops world batch fault → IsNamedFault names fault
+fault_named names world batch (EndsVersion stop) sound all stops = version_named names world batch stop sound all stops
+fault_named names world batch (AtRing stop) sound all stops = ring_named names world batch stop sound all stops
+fault_named names world batch (NeverRests stop) sound all stops = restless_named names world batch stop sound all stops
+fault_named names world batch (NoMemory e) sound all stops = tt
 
 -- ---- what a settle stops with
 
@@ -80,7 +84,7 @@ drawn_weaker None P Q weaker holds = tt
 drawn_weaker (Some state) P Q weaker holds = weaker state holds
 
 -- at the last version
-pub stops_version : (names : NameLists) (batch : List Turn) (old : ScriptState) (stop : Stopped) (run : Run) → Stops old.world batch (EndsVersion stop) → StopsDrawn old.draws old.world batch (EndsVersion stop)
+stops_version : (names : NameLists) (batch : List Turn) (old : ScriptState) (stop : Stopped) (run : Run) → Stops old.world batch (EndsVersion stop) → StopsDrawn old.draws old.world batch (EndsVersion stop)
     → run.journal.items ≡ old.journal ++ map Made stop.turns.items → run.output.items ≡ line_of (stop_word (VersionEnd stop.at) ∷ slot_word names stop.place.0 stop.place.1 ∷ []) → run.stop ≡ Some (VersionEnd stop.at)
     → Stopping names batch old run
 stops_version names batch old stop run (stops, there) drawn journal output is = record {
@@ -98,7 +102,7 @@ stops_version names batch old stop run (stops, there) drawn journal output is = 
 }
 
 -- at a ring
-pub stops_ring : (names : NameLists) (batch : List Turn) (old : ScriptState) (stop : Stopped) (run : Run) → Stops old.world batch (AtRing stop) → StopsDrawn old.draws old.world batch (AtRing stop)
+stops_ring : (names : NameLists) (batch : List Turn) (old : ScriptState) (stop : Stopped) (run : Run) → Stops old.world batch (AtRing stop) → StopsDrawn old.draws old.world batch (AtRing stop)
     → run.journal.items ≡ old.journal ++ map Made stop.turns.items → run.output.items ≡ line_of (stop_word (Ring stop.at) ∷ slot_word names stop.place.0 stop.place.1 ∷ []) → run.stop ≡ Some (Ring stop.at)
     → Stopping names batch old run
 stops_ring names batch old stop run (stops, there) drawn journal output is = record {
@@ -116,7 +120,7 @@ stops_ring names batch old stop run (stops, there) drawn journal output is = rec
 }
 
 -- at a box whose program doesn't come to rest
-pub stops_restless : (names : NameLists) (batch : List Turn) (old : ScriptState) (stop : StoppedBox) (run : Run) → Stops old.world batch (NeverRests stop) → StopsDrawn old.draws old.world batch (NeverRests stop)
+stops_restless : (names : NameLists) (batch : List Turn) (old : ScriptState) (stop : StoppedBox) (run : Run) → Stops old.world batch (NeverRests stop) → StopsDrawn old.draws old.world batch (NeverRests stop)
     → run.journal.items ≡ old.journal ++ map Made stop.turns.items → run.output.items ≡ line_of (codes "restless" ∷ box_word names stop.at ∷ []) → run.stop ≡ Some (Restless stop.at)
     → Stopping names batch old run
 stops_restless names batch old stop run stops drawn journal output is = record {
@@ -130,6 +134,14 @@ stops_restless names batch old stop run stops drawn journal output is = record {
   output = output;
   is = is;
 }
+
+-- whatever it stops with
+pub stops_by : (names : NameLists) (batch : List Turn) (old : ScriptState) (fault : SettleFault) (run : Run) → Stops old.world batch fault → StopsDrawn old.draws old.world batch fault → EndsBy names old.journal fault run
+    → Stopping names batch old run
+stops_by names batch old (EndsVersion stop) run stops drawn ends = stops_version names batch old stop run stops drawn ends.journal ends.output ends.is
+stops_by names batch old (AtRing stop) run stops drawn ends = stops_ring names batch old stop run stops drawn ends.journal ends.output ends.is
+stops_by names batch old (NeverRests stop) run stops drawn ends = stops_restless names batch old stop run stops drawn ends.journal ends.output ends.is
+stops_by names batch old (NoMemory e) run stops drawn ends = absurd ends
 
 -- ---- what a script ran to that stopped
 

@@ -1,20 +1,23 @@
 // A script, settle by settle.
-ghost use Rattle.std.specs.Prelude.{◌≡◌, ◌++◌, ◌∷◌, ◌<◌, ◌≤◌, [], All, codes, length, map, None, Some, IfErr, IfOk, OnOk};
+ghost use Rattle.std.specs.Prelude.{◌≡◌, ◌++◌, ◌∷◌, ◌<◌, ◌≤◌, [], All, IsTrue, codes, length, map, None, Some, IfErr, IfOk, OnOk};
 ghost use Rattle.mc_journal.specs.Printed.{IsNamedLine};
-ghost use Rattle.mc_model.specs.Settles.{IsSettled};
+ghost use Rattle.mc_model.specs.Paths.{paths};
+ghost use Rattle.mc_model.specs.Settles.{IsSettled, is_quiet};
 ghost use Rattle.mc_model.specs.Shapes.{AreAllAllowed, AreAllowed};
 ghost use Rattle.mc_net.specs.Nets.{NamesAll, batch_turns};
 ghost use Rattle.mc_lines.specs.declared.limit.TheConstants.{COMMAND_LIMIT};
 ghost use Rattle.mc_script.specs.declared.command.JournalLine.TheVariants.{Turn as Made};
+ghost use Rattle.mc_path.specs.Views.{view_of};
 ghost use Rattle.mc_rounds.specs.Stops.{Stops};
 ghost use Rattle.mc_table.specs.Words.{line_of};
 ghost use Rattle.mc_text.specs.NameLists.{slot_names, slot_word};
 ghost use Rattle.mc_top.specs.Drawn.{FollowsDraws, StopsDrawn, draws_state};
 ghost use Rattle.mc_replay.specs.Journals.{HoldsAtSettles, lines_for};
 ghost use Rattle.mc_top.specs.Journals.{IsJournalTo, ShowsCause};
-ghost use Rattle.mc_top.specs.Outcomes.{CameOf};
+ghost use Rattle.mc_top.specs.Outcomes.{CameOf, EndsAt, EndsBy, IsNamedFault};
 ghost use Rattle.mc_top.specs.Printed.{box_word, script_text, stop_word, with_journal};
 ghost use Rattle.mc_top.specs.Scripts.{FollowSchedule, first_state};
+ghost use Rattle.mc_top.specs.Shown.{print_report};
 ghost use Rattle.mc_top.specs.declared.stop.Stop.TheVariants.{Restless};
 
 use crate::print::{print_restless, print_stop, put_journal};
@@ -110,10 +113,15 @@ impl Progress {
         prove!(boxes <= BOX_LIMIT);
         match settle_batch(rt, alloc, gate, settler, world, batch, &mut draws) {
             Ok(settled) => {
-                log(&settled.turns, &mut journal)?;
-                let views = paths(alloc, &settled.world)?;
-                let text = print_report(alloc, report, names, number, &views)?;
-                output.extend_from_slice(&text)?;
+                keep_settle(
+                    alloc,
+                    report,
+                    names,
+                    number,
+                    &settled,
+                    &mut journal,
+                    &mut output,
+                )?;
                 let world = settled.world;
                 Ok(Outcome::Settled(Progress {
                     world,
@@ -122,21 +130,10 @@ impl Progress {
                     output,
                 }))
             }
-            Err(SettleFault::VersionEnd(stopped)) => {
-                let stop = Stop::VersionEnd(stopped.at);
-                let run = stop_at(alloc, names, journal, stop, stopped)?;
+            Err(fault) => {
+                let run = stop_by(alloc, names, journal, fault)?;
                 Ok(Outcome::Stopped(run))
             }
-            Err(SettleFault::Ring(stopped)) => {
-                let stop = Stop::Ring(stopped.at);
-                let run = stop_at(alloc, names, journal, stop, stopped)?;
-                Ok(Outcome::Stopped(run))
-            }
-            Err(SettleFault::Restless(stopped)) => {
-                let run = stop_restless(alloc, names, journal, stopped)?;
-                Ok(Outcome::Stopped(run))
-            }
-            Err(SettleFault::NoMemory(e)) => Err(e),
         }
     }
 }
@@ -165,6 +162,53 @@ fn settle_batch<R: Threads + Sync, G: Gate + Sync>(
     }
 }
 
+// Keeps the turns of a settle and its mark, and prints what is to be reported of it.
+fn keep_settle(
+    alloc: Global,
+    report: Report,
+    names: &Names,
+    number: u32,
+    settled: &Settled,
+    journal: &mut Vec<JournalLine>,
+    output: &mut Vec<u8>,
+) -> Result<(), AllocError>
+    requires named { NamesAll names.now settled.now.world }
+    requires quiet { IsTrue (is_quiet settled.now.world) }
+    ensures journal { OnOk result (journal.new.items ≡ journal.old.items ++ lines_for settled.now.turns.items) }
+    ensures output { OnOk result (output.new.items ≡ output.old.items
+        ++ print_report report names.now number (map (view_of settled.now.world) (paths settled.now.world))) }
+{
+    settled.world.keeps();
+    log(&settled.turns, journal)?;
+    let views = paths(alloc, &settled.world)?;
+    let text = print_report(alloc, report, names, number, &views)?;
+    output.extend_from_slice(&text)
+}
+
+// A script whose settle had a fault: the turns up to there are kept, and one line is printed.
+fn stop_by(
+    alloc: Global,
+    names: &Names,
+    journal: Vec<JournalLine>,
+    fault: SettleFault,
+) -> Result<Run, AllocError>
+    requires { IsNamedFault names.now fault }
+    ensures { IfOk result (λ run. EndsBy names.now journal.items fault run) }
+{
+    match fault {
+        SettleFault::VersionEnd(stopped) => {
+            let stop = Stop::VersionEnd(stopped.at);
+            stop_at(alloc, names, journal, stop, stopped)
+        }
+        SettleFault::Ring(stopped) => {
+            let stop = Stop::Ring(stopped.at);
+            stop_at(alloc, names, journal, stop, stopped)
+        }
+        SettleFault::Restless(stopped) => stop_restless(alloc, names, journal, stopped),
+        SettleFault::NoMemory(e) => Err(e),
+    }
+}
+
 // A script that stopped at a slot: the turns up to there are kept, and one line is printed.
 fn stop_at(
     alloc: Global,
@@ -175,10 +219,8 @@ fn stop_at(
 ) -> Result<Run, AllocError>
     requires who { stopped.place.0 < length names.now.boxes }
     requires local { stopped.place.1 < length (slot_names names.now stopped.place.0) }
-    ensures journal { IfOk result (λ run. run.journal.items ≡ journal.items ++ map Made stopped.turns.items) }
-    ensures output { IfOk result (λ run. run.output.items
-        ≡ line_of (stop_word stop ∷ slot_word names.now stopped.place.0 stopped.place.1 ∷ [])) }
-    ensures stop { IfOk result (λ run. run.stop ≡ Some stop) }
+    ensures { IfOk result (λ run. EndsAt stop (slot_word names.now stopped.place.0 stopped.place.1)
+        stopped.turns.items journal.items run) }
 {
     let output = print_stop(alloc, names, stop, stopped.place)?;
     end_at(stop, &stopped.turns, output, journal)
@@ -192,10 +234,8 @@ fn stop_restless(
     stopped: StoppedBox,
 ) -> Result<Run, AllocError>
     requires { stopped.at < length names.now.boxes }
-    ensures journal { IfOk result (λ run. run.journal.items ≡ journal.items ++ map Made stopped.turns.items) }
-    ensures output { IfOk result (λ run. run.output.items
-        ≡ line_of (codes "restless" ∷ box_word names.now stopped.at ∷ [])) }
-    ensures stop { IfOk result (λ run. run.stop ≡ Some (Restless stopped.at)) }
+    ensures { IfOk result (λ run. EndsAt (Restless stopped.at) (box_word names.now stopped.at)
+        stopped.turns.items journal.items run) }
 {
     let output = print_restless(alloc, names, stopped.at)?;
     end_at(Stop::Restless(stopped.at), &stopped.turns, output, journal)
