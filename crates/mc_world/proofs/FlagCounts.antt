@@ -1,10 +1,10 @@
 -- The counts of flags, where one flag changes.
-use Rattle.std.proofs.Common.{◌≡◌, ◌≢◌, ◌<◌, ◌≤◌, ◌+◌, inl, inr, ℕ, Bool, true, false, zero, suc, List, [], Option, Some, None, length, map, get_or, Vec, Global, refl, ap, sym, ◌∙◌, subst, arith}
+use Rattle.std.proofs.Common.{◌≡◌, ◌≢◌, ◌<◌, ◌≤◌, ◌+◌, inl, inr, ℕ, Bool, true, false, zero, suc, List, [], ◌∷◌, Option, Some, None, length, map, get_or, Vec, Global, refl, ap, sym, ◌∙◌, subst, add-one, arith}
 use Rattle.std.specs.List.{slice_get}
 use Rattle.std.proofs.Math.ListN.{replicate, set, get_or-eq_default}
 use Rattle.std.proofs.lemmas.Bool.{cases_eq, cases_lt}
 use Rattle.std.proofs.lemmas.List.{get_or-replicate, get_or-set_other, get_or-set_same, get_or_read, length-map, length-replicate, length-set}
-use Rattle.std.proofs.lemmas.Option.{slice_get_within}
+use Rattle.std.proofs.lemmas.Option.{slice_get-get_or, slice_get_within}
 use Rattle.mc_turn.specs.Sums.{total}
 use Rattle.mc_box.specs.declared.limit.TheConstants.{SLOT_LIMIT}
 use Rattle.mc_turn.proofs.Sums.{total_none, total_one, total_same}
@@ -28,6 +28,15 @@ number_at topology s numbers below = numbers.found (place_by topology s).0 (plac
 place_is : (topology : Topology) (who local s : ℕ) → HasNumbers topology → slice_get (numbers_of topology who) local ≡ Some s → ((place_by topology s).0 ≡ who) × ((place_by topology s).1 ≡ local)
 place_is topology who local s numbers is = let found = found_at topology.places.items who local s (sym (numbers.found who local) ∙ is) in (found.1, found.2)
 
+-- a box's slot, as it is read from the numbers of the box
+number_read : (topology : Topology) (who local : ℕ) (numbers : List ℕ) → numbers ≡ numbers_of topology who → local < length numbers → slice_get (numbers_of topology who) local ≡ Some (get_or numbers local 0)
+number_read topology who local numbers are below = ap (λ (l : List ℕ). slice_get l local) (sym are) ∙ slice_get-get_or numbers local 0 below
+
+-- is there
+pub number_there : (topology : Topology) (who local : ℕ) (numbers : List ℕ) → HasNumbers topology → numbers ≡ numbers_of topology who → local < length numbers → get_or numbers local 0 < length topology.places.items
+number_there topology who local numbers has are below =
+    (found_at topology.places.items who local (get_or numbers local 0) (sym (has.found who local) ∙ number_read topology who local numbers are below)).0
+
 -- the flag of another slot
 flag_other : (flags : List Bool) (s : ℕ) (b : Bool) (o : Option ℕ) → (o ≡ Some s → ⊥) → flag_of (set flags s b) o ≡ flag_of flags o
 flag_other flags s b None apart = refl
@@ -46,6 +55,18 @@ total_bits f (suc k) small = omega (arith, small k, total_bits f k small)
 -- no more than there are slots
 pub count_small : (topology : Topology) (flags : List Bool) (who count : ℕ) → flag_count topology flags who count ≤ count
 count_small topology flags who count = total_bits (λ local. bit (flag_of flags (slice_get (numbers_of topology who) local))) count (λ local. bit_small (flag_of flags (slice_get (numbers_of topology who) local)))
+
+default_flag : (flags : List Bool) (s : ℕ) (d : Bool) → s < length flags → get_or flags s false ≡ get_or flags s d
+default_flag [] s d inside = absurd (omega arith)
+default_flag (flag ∷ flags) zero d inside = refl
+default_flag (flag ∷ flags) (suc s) d inside = default_flag flags s d (omega arith)
+
+-- of one slot more
+pub count_more : (topology : Topology) (flags : List Bool) (who local : ℕ) (numbers : List ℕ) (read d : Bool) → numbers ≡ numbers_of topology who → local < length numbers → get_or numbers local 0 < length flags
+    → read ≡ get_or flags (get_or numbers local 0) d → flag_count topology flags who (local + 1) ≡ bit read + flag_count topology flags who local
+count_more topology flags who local numbers read d are below inside is =
+    let flag : flag_of flags (slice_get (numbers_of topology who) local) ≡ read = ap (flag_of flags) (number_read topology who local numbers are below) ∙ (default_flag flags (get_or numbers local 0) d inside ∙ sym is) in
+    rw add-one (ap (λ (b : Bool). bit b + flag_count topology flags who local) flag)
 
 -- of the box of a slot that changes
 pub count_own : (topology : Topology) (flags : List Bool) (s : ℕ) (b : Bool) → HasNumbers topology → s < length topology.places.items → s < length flags

@@ -1,12 +1,13 @@
 -- The flags of slots, where one lane changes.
-use Rattle.std.proofs.Common.{◌≡◌, ◌≢◌, ◌<◌, ◌+◌, ◌*◌, inl, inr, ℕ, Bool, true, false, List, [], ◌∷◌, ◌++◌, length, get_or, Some, ◌≤◌, ◌-◌, refl, ap, sym, ◌∙◌, subst, arith}
+use Rattle.std.proofs.Common.{◌≡◌, ◌≢◌, ◌<◌, ◌+◌, ◌*◌, ◌&&◌, nat_lt, inl, inr, ℕ, Bool, true, false, List, [], ◌∷◌, ◌++◌, length, get_or, Some, ◌≤◌, ◌-◌, refl, ap, sym, ◌∙◌, subst, arith}
 use Rattle.std.specs.List.{slice_get}
 use Rattle.std.specs.Option.{is_some}
-use Rattle.std.proofs.Math.ListN.{set}
+use Rattle.std.proofs.Math.ListN.{replicate, set}
 use Rattle.std.proofs.lemmas.Bool.{cases_eq}
 use Rattle.std.proofs.lemmas.Grind.{common_steps}
-use Rattle.std.proofs.lemmas.List.{get_or-set_other, get_or-set_same, length-set, set-set}
+use Rattle.std.proofs.lemmas.List.{get_or-replicate, get_or-set_other, get_or-set_same, length-set, set-set}
 use Rattle.mc_signal.specs.declared.Tagged.{Tagged}
+use Rattle.mc_laws.proofs.StepGoes.{below_test}
 use Rattle.mc_model.specs.Worlds.{front_for}
 use Rattle.mc_world.specs.Lanes.{IsLaid, lane_by, tunnel_by}
 use Rattle.mc_world.specs.Waiting.{AreFlagged, FirstServed, IsForBy, waits_by}
@@ -165,3 +166,49 @@ flags_next topology lanes old mid new count s next rest tagged laid flagged belo
     let taken : AreFlagged topology (set lanes (lane_by topology s) []) mid = rw mid_is (flags_taken topology lanes old count s laid flagged below (omega (arith, below, long)) lane waits) in
     let size : length mid ≡ length topology.places.items = ap length mid_is ∙ (length-set old s false ∙ long) in
     rw new_is (next_flagged topology lanes mid count s next rest tagged laid taken lane (omega (arith, for.inside, size)) is for)
+
+-- ---- flags that are set one after another
+
+-- the first so many slots have their flags, and the others have none
+abbrev pub FlaggedTo : Topology → List (List Tagged) → List Bool → ℕ → Type 0
+FlaggedTo topology lanes flags n = (s : ℕ) → s < length topology.places.items → get_or flags s false ≡ (nat_lt s n && waits_by topology lanes s)
+
+not_below : (s n : ℕ) → n ≤ s → nat_lt s n ≡ false
+not_below s n above = grind (arith, common_steps)
+
+below_more : (s n : ℕ) → s ≢ n → nat_lt s n ≡ nat_lt s (n + 1)
+below_more s n apart = grind (arith, common_steps)
+
+-- at first there is none
+pub flagged_none : (topology : Topology) (lanes : List (List Tagged)) (flags : List Bool) → flags ≡ replicate (length topology.places.items) false → FlaggedTo topology lanes flags 0
+flagged_none topology lanes flags clear s below =
+    ap (λ (l : List Bool). get_or l s false) clear
+    ∙ (get_or-replicate (length topology.places.items) s false false below ∙ sym (ap (λ (b : Bool). b && waits_by topology lanes s) (not_below s 0 (omega arith))))
+
+-- the next slot gets its flag
+pub flagged_set : (topology : Topology) (lanes : List (List Tagged)) (flags after : List Bool) (n : ℕ) → FlaggedTo topology lanes flags n → n < length flags → waits_by topology lanes n ≡ true → after ≡ set flags n true
+    → FlaggedTo topology lanes after (n + 1)
+flagged_set topology lanes flags after n flagged inside waits is s below =
+    ap (λ (l : List Bool). get_or l s false) is
+    ∙ (elim (cases_eq s n) [
+      | inl same ↦
+          subst (λ (t : ℕ). get_or (set flags n true) t false ≡ (nat_lt t (n + 1) && waits_by topology lanes t)) (sym same)
+          (get_or-set_same flags n true false inside ∙ sym (ap (λ (b : Bool). b && waits_by topology lanes n) (below_test n (n + 1) (omega arith)) ∙ waits))
+      | inr apart ↦ get_or-set_other flags n s true false apart ∙ (flagged s below ∙ ap (λ (b : Bool). b && waits_by topology lanes s) (below_more s n apart))
+    ])
+
+-- or needs none
+pub flagged_skip : (topology : Topology) (lanes : List (List Tagged)) (flags : List Bool) (n : ℕ) → FlaggedTo topology lanes flags n → n < length topology.places.items → waits_by topology lanes n ≡ false
+    → FlaggedTo topology lanes flags (n + 1)
+flagged_skip topology lanes flags n flagged here waits s below = elim (cases_eq s n) [
+  | inl same ↦
+      subst (λ (t : ℕ). get_or flags t false ≡ (nat_lt t (n + 1) && waits_by topology lanes t)) (sym same)
+      (flagged n here
+      ∙ (ap (λ (b : Bool). b && waits_by topology lanes n) (not_below n n (omega arith)) ∙ sym (ap (λ (b : Bool). b && waits_by topology lanes n) (below_test n (n + 1) (omega arith)) ∙ waits)))
+  | inr apart ↦ flagged s below ∙ ap (λ (b : Bool). b && waits_by topology lanes s) (below_more s n apart)
+]
+
+-- at last each has it
+pub flagged_all : (topology : Topology) (lanes : List (List Tagged)) (flags : List Bool) (n : ℕ) → length topology.places.items ≤ n → FlaggedTo topology lanes flags n → AreFlagged topology lanes flags
+flagged_all topology lanes flags n all flagged s below =
+    flagged s below ∙ ap (λ (b : Bool). b && waits_by topology lanes s) (below_test s n (omega (arith, below, all)))

@@ -13,13 +13,14 @@ use Rattle.mc_model.specs.Steps.{after_push, after_sends}
 use Rattle.mc_box.specs.declared.limit.TheConstants.{SLOT_LIMIT}
 use Rattle.mc_model.specs.Sound.{IsSound}
 use Rattle.mc_world.proofs.LaneBoxes.{lane_box, lane_run}
+use Rattle.mc_world.proofs.FlagCounts.{number_there}
 use Rattle.mc_world.proofs.LaneChanges.{Lane}
 use Rattle.mc_world.specs.Tables.{HasTables, IsTopologyOf, channel_of, world_state}
 use Rattle.mc_model.specs.Worlds.{TunnelPlace, WorldState, box_at, place, slot_count, far, is_place, tunnel_of, all_tunnels, tunnels_from, lane_of, no_tunnel, number, places}
 use Rattle.mc_world.specs.declared.network.World.TheInside.{Inside}
 use Rattle.mc_world.specs.declared.topology.Topology.{Topology}
 use Rattle.mc_laws.proofs.TunnelPlaces.{channel_in, two_each}
-use Rattle.mc_laws.proofs.Numbers.{far_in, far_side, found_at, half_in, number_is}
+use Rattle.mc_laws.proofs.Numbers.{far_in, far_side, half_in, number_is}
 
 -- ---- lanes that are there
 
@@ -37,10 +38,9 @@ pub away_there : (topology : Topology) (count who local away : ℕ) (numbers : L
     → away < length topology.places.items
 away_there topology count who local away numbers laid are below is =
     let own : ℕ = get_or numbers local 0 in
-    let at : slice_get (numbers_of topology who) local ≡ Some own = ap (λ (l : List ℕ). slice_get l local) (sym are) ∙ slice_get-get_or numbers local 0 below in
-    let found = found_at topology.places.items who local own (sym (laid.numbers.found who local) ∙ at) in
+    let there : own < length topology.places.items = number_there topology who local numbers laid.numbers are below in
     subst (λ (t : ℕ). t < length topology.places.items) (sym is)
-    (subst (λ (n : ℕ). far own < n) (sym laid.slots) (far_in own (length topology.tunnels.items) (subst (λ (n : ℕ). own < n) laid.slots found.0)))
+    (subst (λ (n : ℕ). far own < n) (sym laid.slots) (far_in own (length topology.tunnels.items) (subst (λ (n : ℕ). own < n) laid.slots there)))
 
 tunnel_at : (found : List TunnelPlace) (t : ℕ) → get_or (map channel_of found) t (0, 0) ≡ channel_of (get_or found t no_tunnel)
 tunnel_at found t = get_or-map channel_of found t no_tunnel

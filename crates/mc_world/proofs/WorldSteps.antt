@@ -1,5 +1,5 @@
 -- The steps of a world, from what its boxes and lanes do.
-use Rattle.std.proofs.Common.{◌≡◌, ℕ, ◌<◌, if◌then◌else◌, ◌&&◌, not, Bool, true, false, Option, Some, None, IsSome, List, [], get_or, length, map, nat_lt, Vec, Result, Ok, Err, OnOk, refl, ap, sym, subst, ◌∙◌}
+use Rattle.std.proofs.Common.{◌≡◌, ℕ, ◌<◌, if◌then◌else◌, ◌&&◌, not, Bool, true, false, Option, Some, None, IsSome, List, [], get_or, length, map, nat_lt, Vec, Result, Ok, Err, OnOk, OnErr, IsFalse, IsTrue, ◌↔◌, refl, ap, sym, subst, ◌∙◌}
 use Rattle.std.proofs.Math.ListN.{set}
 use Rattle.std.proofs.lemmas.Bool.{and_parts}
 use Rattle.std.proofs.lemmas.List.{length-map}
@@ -15,14 +15,17 @@ use Rattle.mc_box.specs.LinkFree.{is_linking}
 use Rattle.mc_model.specs.Rings.{IsLeastOnRing}
 use Rattle.mc_world.specs.Lanes.{all_sent, signals_of, without_front}
 use Rattle.mc_model.specs.Sound.{IsNumbered, IsSound}
-use Rattle.mc_model.specs.Steps.{after_making, after_pop, step, step_by, with_box}
+use Rattle.mc_model.specs.Steps.{after_making, after_pop, ends_version_at, step, step_by, with_box}
 use Rattle.mc_model.specs.Worlds.{WorldState, box_at, front, front_for, all_tunnels, lane_of, number, place, places, slot_of, tunnel_of}
 use Rattle.mc_box.specs.declared.event.Event.{Event}
 use Rattle.mc_box.specs.declared.event.Event.TheVariants.{Take, Set, Media, Tell, Retry, Shift}
 use Rattle.mc_world.specs.declared.network.World.TheInside.{Inside}
 use Rattle.mc_world.specs.declared.topology.Topology.{Topology}
 use Rattle.mc_world.specs.declared.waiting.Waiting.{Waiting}
+use Rattle.mc_world.specs.StepAnswers.{Answers, CannotHappen, LacksVersion}
 use Rattle.mc_world.specs.Waiting.{IsWaiting}
+use Rattle.mc_world.specs.declared.network.step.StepFault.{StepFault}
+use Rattle.mc_world.specs.declared.network.step.StepFault.TheVariants.{NotEnabled, NoMemory, VersionEnd}
 use Rattle.mc_world.specs.Tables.{HasTables, IsTopologyOf, channel_of, world_state}
 use Rattle.mc_box.proofs.EventGoes.{event_goes}
 use Rattle.mc_laws.proofs.Numbers.{number_is}
@@ -207,3 +210,46 @@ step_tables inside world who event boxes lanes waiting ringless has view here ho
           let parts = links remembered in
           stays_ringless world next who event sound here parts.1 goes (subst (λ (w : WorldState). IsLeastOnRing w None) view (has.ringless parts.0));
     }
+
+-- ---- what a step answers
+
+none_there : (after : Option WorldState) → after ≡ None → IsSome after → ⊥
+none_there None is some = absurd (cc)
+none_there (Some next) is some = absurd (cc)
+
+-- by whether the box's event happens, and whether it ends a version
+tells_end : (after : Option WorldState) (ends : Bool) (old new : WorldState) (result : Result (Unit {0}) StepFault) → Answers old new after ends result → (result ≡ Err VersionEnd) ↔ ((after ≡ None) × IsTrue ends)
+tells_end after ends old new (Ok done) answers = (λ is. absurd (cc), λ lacks. absurd (cc))
+tells_end after ends old new (Err NotEnabled) answers = (λ is. absurd (cc), λ lacks. absurd (cc))
+tells_end after ends old new (Err (NoMemory e)) answers = (λ is. absurd (cc), λ lacks. absurd (none_there after lacks.0 answers.0))
+tells_end after ends old new (Err VersionEnd) answers = (λ is. (answers.0, answers.1), λ lacks. refl)
+
+tells_none : (after : Option WorldState) (ends : Bool) (old new : WorldState) (result : Result (Unit {0}) StepFault) → Answers old new after ends result → (result ≡ Err NotEnabled) ↔ ((after ≡ None) × IsFalse ends)
+tells_none after ends old new (Ok done) answers = (λ is. absurd (cc), λ cannot. absurd (cc))
+tells_none after ends old new (Err NotEnabled) answers = (λ is. (answers.0, answers.1), λ cannot. refl)
+tells_none after ends old new (Err (NoMemory e)) answers = (λ is. absurd (cc), λ cannot. absurd (none_there after cannot.0 answers.0))
+tells_none after ends old new (Err VersionEnd) answers = (λ is. absurd (cc), λ cannot. absurd (cc))
+
+-- so of the world's turn, where its box is there
+pub answers_ok : (world new : WorldState) (who : ℕ) (event : Event) (result : Result (Unit {0}) StepFault) → who < length world.boxes → Answers world new (step_by world who event) (ends_version_at world who event) result
+    → OnOk result (step world (turn_of who event) ≡ Some new)
+answers_ok world new who event (Ok done) here answers = is_step world new who event here answers
+answers_ok world new who event (Err fault) here answers = tt
+
+pub answers_err : (after : Option WorldState) (ends : Bool) (old new : WorldState) (result : Result (Unit {0}) StepFault) → Answers old new after ends result → OnErr result (new ≡ old)
+answers_err after ends old new (Ok done) answers = tt
+answers_err after ends old new (Err NotEnabled) answers = answers.2
+answers_err after ends old new (Err (NoMemory e)) answers = answers.1
+answers_err after ends old new (Err VersionEnd) answers = answers.2
+
+pub answers_end : (world new : WorldState) (who : ℕ) (event : Event) (result : Result (Unit {0}) StepFault) → who < length world.boxes → Answers world new (step_by world who event) (ends_version_at world who event) result
+    → (result ≡ Err VersionEnd) ↔ LacksVersion world (turn_of who event)
+answers_end world new who event result here answers =
+    let there : nat_lt who (length world.boxes) ≡ true = below_test who (length world.boxes) here in
+    rw there (tells_end (step_by world who event) (ends_version_at world who event) world new result answers)
+
+pub answers_none : (world new : WorldState) (who : ℕ) (event : Event) (result : Result (Unit {0}) StepFault) → who < length world.boxes → Answers world new (step_by world who event) (ends_version_at world who event) result
+    → (result ≡ Err NotEnabled) ↔ CannotHappen world (turn_of who event)
+answers_none world new who event result here answers =
+    let there : nat_lt who (length world.boxes) ≡ true = below_test who (length world.boxes) here in
+    rw there (tells_none (step_by world who event) (ends_version_at world who event) world new result answers)
