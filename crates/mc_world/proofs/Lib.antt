@@ -11,5 +11,6 @@ mod LaneFlags
 pub mod TakeSends
 pub mod Ringless
 mod PartnerTables
+mod PlaceTables
 mod WorldSteps
 mod Waits
