@@ -2,12 +2,12 @@
 
 ghost use Rattle.std.specs.Prelude.{◌≡◌, ◌<◌, IfSome, MatchResult, None, Some, length};
 ghost use Rattle.std.specs.List.{slice_get};
-ghost use Rattle.std.specs.Option.{is_none, option_copied};
+ghost use Rattle.std.specs.Option.{option_copied};
 ghost use Rattle.mc_slot.specs.Moves.{is_same_medium};
 ghost use Rattle.mc_box.specs.BoxShapes.{slot_medium};
 ghost use Rattle.mc_script.specs.Places.{box_named, slot_named, spelt_value, Fits};
 ghost use Rattle.mc_script.specs.Rules.{least_broken, set_rules, link_rules, media_rules, tell_rules, settle_rules, spelt_switch};
-ghost use Rattle.mc_script.specs.SlotLines.{NamesTwoSlots, slot_rules};
+ghost use Rattle.mc_script.specs.SlotLines.{NamesTwoSlots, ReadsSlot};
 ghost use Rattle.mc_script.specs.Meaning.{ReadsAs, ReadsCommand};
 
 use crate::command::{Command, LineFault};
@@ -161,11 +161,7 @@ fn slot_line<T: Copy>(
     left_over: Option<&[u8]>,
 ) -> Result<SlotLine<T>, LineFault>
     requires { IfSome who (λ known. known < length names.now.boxes) }
-    ensures { MatchResult result
-        (λ line. (who ≡ Some line.who) × (value ≡ Some line.value)
-        × (slot_named names.now who (option_copied slot.entry) ≡ Some line.local)
-        × (least_broken (slot_rules names.now who (option_copied slot.entry) (is_none value) (option_copied left_over.entry)) ≡ None))
-        (λ e. least_broken (slot_rules names.now who (option_copied slot.entry) (is_none value) (option_copied left_over.entry)) ≡ Some e.number) }
+    ensures { ReadsSlot names.now who (option_copied slot.entry) value (option_copied left_over.entry) result }
 {
     let (Some(who), Some(slot), Some(value)) = (who, slot, value) else {
         return Err(LineFault {
