@@ -1,5 +1,5 @@
 -- What the lines of boxes and channels say, as clauses see it.
-use Rattle.std.specs.Prelude.{ℕ, ◌≡◌, ◌<◌, ◌==◌, ◌||◌, Bool, if◌then◌else◌, List, [], ◌∷◌, Option, Some, None, Result, Ok, Err, IsTrue, length, nat_le}
+use Rattle.std.specs.Prelude.{ℕ, ◌≡◌, ◌<◌, ◌==◌, ◌&&◌, ◌||◌, Bool, if◌then◌else◌, List, [], ◌∷◌, Option, Some, None, Result, Ok, Err, IsTrue, length, nat_le}
 use Rattle.mc_signal.specs.Choice.{codecs_of}
 use Rattle.std.specs.Option.{is_some}
 use Rattle.mc_text.specs.NameLists.{NameLists, place_of, slot_names}
@@ -8,16 +8,17 @@ use Rattle.mc_model.specs.Worlds.{ChannelState}
 use Rattle.mc_model.specs.declared.channel.TheConstants.{TUNNEL_LIMIT}
 use Rattle.mc_plan.specs.Plans.{last_channel}
 use Rattle.mc_plan.specs.declared.plan.BoxPlan.{BoxPlan}
-use Rattle.mc_script.specs.Places.{is_overlong, unless}
+use Rattle.mc_script.specs.Places.{is_misspelt, is_overlong, unless}
 use Rattle.mc_script.specs.declared.command.LineFault.{LineFault}
-use Rattle.mc_script.specs.declared.rule.TheConstants.{GIVEN_TWICE, LIMIT_PASSED, NAME_TOO_LONG, SAME_BOX}
+use Rattle.mc_script.specs.declared.rule.TheConstants.{EXTRA_WORD, GIVEN_TWICE, LIMIT_PASSED, MISSING_WORD, NAME_TOO_LONG, SAME_BOX, WRONG_WORD}
 use Rattle.mc_lines.specs.Meaning.{with_joined, with_new_box, with_send_line, with_slots, with_widened}
-use Rattle.mc_lines.specs.Rules.{is_full}
+use Rattle.mc_lines.specs.Rules.{is_full, is_late}
 use Rattle.mc_lines.specs.SoFar.{Declared, DeclaredBox}
 use Rattle.mc_plan.specs.declared.limit.TheConstants.{CHANNEL_LIMIT}
 use Rattle.mc_lines.specs.declared.reader.boxes.DeviceLine.{DeviceLine}
 use Rattle.mc_lines.specs.declared.reader.channels.ChannelLine.{ChannelLine}
 use Rattle.mc_lines.specs.declared.reader.sends.SendLine.{SendLine}
+use Rattle.mc_lines.specs.declared.section.Section.TheVariants as section
 
 -- what is declared of a planned box
 abbrev pub box_seen : BoxPlan → DeclaredBox
@@ -34,6 +35,15 @@ send_seen d line = with_send_line d line.who (codecs_of line.sends)
 -- what is declared after a `chan` line
 abbrev pub channel_seen : Declared → ChannelLine → Declared
 channel_seen d line = with_joined d line.medium line.from line.slot.now line.to line.far_slot.now
+
+-- the rule that a `chan` line breaks whose last word is missing; its first slot is asked only where that one's box is known
+abbrev pub missing_word : Declared → (known : Bool) → (slot : Option (List ℕ)) → ℕ
+missing_word d known slot = if is_late d section.Channels || (known && is_misspelt slot) then WRONG_WORD else MISSING_WORD
+
+-- whether the slots of a `chan` line whose words are there may be spelt so, and no word is left over
+abbrev pub check_slots : Declared → (slot far_slot : List ℕ) → (more : Bool) → Result (Unit {0}) LineFault
+check_slots d slot far_slot more =
+    if is_late d section.Channels || is_misspelt (Some slot) || is_misspelt (Some far_slot) then Err (record { number = WRONG_WORD }) else unless more EXTRA_WORD tt
 
 -- whether two boxes may be joined by one more channel of one tunnel
 abbrev pub check_join : NameLists → List ChannelState → (from to : ℕ) → Result (Unit {0}) LineFault

@@ -1,12 +1,10 @@
 //! Lines that declare channels.
 
-ghost use Rattle.std.specs.Prelude.{◌≡◌, ◌<◌, ◌&&◌, ◌||◌, [], if◌then◌else◌, IfOk, IfSome, IsTrue, OnOk, Some, length};
+ghost use Rattle.std.specs.Prelude.{◌≡◌, ◌<◌, [], IfOk, IfSome, IsTrue, OnOk, Some, length};
 ghost use Rattle.std.specs.Option.{is_some, option_copied};
 ghost use Rattle.mc_text.specs.NameLists.{place_of, slot_names};
 ghost use Rattle.mc_text.specs.Spelling.{is_name, is_spelt};
-ghost use Rattle.mc_script.specs.Places.{is_misspelt, unless};
-ghost use Rattle.mc_lines.specs.Rules.{is_late};
-ghost use Rattle.mc_lines.specs.BoxLines.{CanJoin, CanWiden, IsOfLast, KnowsEnds, also_seen, channel_seen, check_join, check_widen, last_ends, slots_seen};
+ghost use Rattle.mc_lines.specs.BoxLines.{CanJoin, CanWiden, IsOfLast, KnowsEnds, also_seen, channel_seen, check_join, check_slots, check_widen, last_ends, missing_word, slots_seen};
 ghost use Rattle.mc_plan.specs.Plans.{last_channel};
 ghost use Rattle.mc_lines.specs.Forms.{IsInForm};
 ghost use Rattle.mc_lines.specs.Meaning.{with_new_channel, with_medium, with_new_slot, with_new_tunnel};
@@ -68,10 +66,7 @@ impl Reader {
     // Why a line of two slots isn't taken whose last word is missing: 5 where it comes too late or its first slot is
     // misspelt, which is asked only where its box is known, and else 6.
     fn missing_word(&self, from: Option<u32>, slot: Option<&[u8]>) -> LineFault
-        ensures { result ≡ record {
-          number =
-              if is_late self.now Section.Channels || (is_some from && is_misspelt (option_copied slot.entry)) then WRONG_WORD else MISSING_WORD;
-        } }
+        ensures { result ≡ record { number = missing_word self.now (is_some from) (option_copied slot.entry) } }
     {
         let number = if self.is_late(Section::Channels) || from.is_some() && is_misspelt(slot) {
             WRONG_WORD
@@ -88,9 +83,8 @@ impl Reader {
         far_slot: &[u8],
         left_over: Option<&[u8]>,
     ) -> Result<(), LineFault>
-        ensures checked { result ≡
-            if is_late self.now Section.Channels || is_misspelt (Some slot.now) || is_misspelt (Some far_slot.now) then Err (record { number = WRONG_WORD })
-            else unless (is_some (option_copied left_over.entry)) EXTRA_WORD tt }
+        ensures checked { result
+            ≡ check_slots self.now slot.now far_slot.now (is_some (option_copied left_over.entry)) }
         ensures spelt { OnOk result (IsTrue (is_spelt slot.now) × IsTrue (is_spelt far_slot.now)) }
     {
         if self.is_late(Section::Channels)
