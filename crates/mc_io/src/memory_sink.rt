@@ -5,7 +5,7 @@ ghost use Rattle.std.specs.Io.KnownBytes.{WriteAppends};
 ghost use Rattle.mc_io.specs.Faults.{faults_after, is_failed_write, next_count};
 ghost use Rattle.mc_io.specs.Bytes.{Fails};
 
-use crate::count::next_count;
+use crate::count::{is_failing_call, next_count};
 use crate::{Failed, Sink};
 use std::alloc::{AllocError, Global};
 
@@ -74,15 +74,8 @@ impl Sink for MemSink {
         ensures per_call { self.new.per_call ≡ self.old.per_call }
         ensures failing { self.new.failing ≡ self.old.failing }
     {
-        if self.calls < u64::MAX {
-            self.calls += 1;
-            if self.failing.contains(&self.calls) {
-                self.failed = next_count(self.failed);
-                return Err(Failed);
-            }
-        }
         let free = self.room - self.bytes.len();
-        if free == 0 && !piece.is_empty() {
+        if is_failing_call(&mut self.calls, &self.failing) || free == 0 && !piece.is_empty() {
             self.failed = next_count(self.failed);
             return Err(Failed);
         }

@@ -5,7 +5,7 @@ ghost use Rattle.std.specs.Io.KnownBytes.{ReadConsumes};
 ghost use Rattle.mc_io.specs.Faults.{faults_after, next_count};
 ghost use Rattle.mc_io.specs.Bytes.{Fails};
 
-use crate::count::next_count;
+use crate::count::{is_failing_call, next_count};
 use crate::{Failed, Source};
 
 /// Gives its bytes from `at` on, at most `per_call` in a call. The calls whose numbers, from 1, stand in
@@ -66,12 +66,9 @@ impl Source for MemSource {
         ensures per_call { self.new.per_call ≡ self.old.per_call }
         ensures failing { self.new.failing ≡ self.old.failing }
     {
-        if self.calls < u64::MAX {
-            self.calls += 1;
-            if self.failing.contains(&self.calls) {
-                self.failed = next_count(self.failed);
-                return Err(Failed);
-            }
+        if is_failing_call(&mut self.calls, &self.failing) {
+            self.failed = next_count(self.failed);
+            return Err(Failed);
         }
         let count = copy_front(&self.bytes[self.at..], buf, self.per_call);
         self.at += count;
