@@ -23,7 +23,10 @@ pub fn read_arguments<'a>(
     words: &'a [String],
 ) -> Result<Option<Arguments<'a>>, AllocError>
     ensures some { IfOk result (λ read. IfSome read (λ arguments. AreArguments (map string_bytes words.now)
-        (option_map (λ s. s.now) arguments.first) (option_map (λ s. s.now) arguments.second) (option_map (λ s. s.now) arguments.third) arguments.journal)) }
+        (option_map (λ s. s.now) arguments.first)
+        (option_map (λ s. s.now) arguments.second)
+        (option_map (λ s. s.now) arguments.third)
+        arguments.journal)) }
     ensures none { IfOk result (λ read. IfNone read (¬ AreFew (map string_bytes words.now))) }
 {
     let Some(matches) = parse_words(alloc, words)? else {

@@ -31,7 +31,9 @@ pub fn parse_words<'a>(
     words: &'a [String],
 ) -> Result<Option<ArgMatches<'a>>, AllocError>
     ensures some { IfOk result (λ parsed. IfSome parsed (λ matches.
-        HasWords (plain_words (map string_bytes words.now)) (has_journal_flag (map string_bytes words.now)) (rows_of (found_of matches)) × HasNoOtherFlag (map string_bytes words.now))) }
+        HasWords (plain_words (map string_bytes words.now)) (has_journal_flag (map string_bytes words.now))
+        (rows_of (found_of matches))
+        × HasNoOtherFlag (map string_bytes words.now))) }
     ensures none { IfOk result (λ parsed. IfNone parsed (¬ AreFew (map string_bytes words.now))) }
 {
     match words_command(alloc)?.try_get_matches_from(words) {

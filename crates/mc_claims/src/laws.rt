@@ -8,8 +8,8 @@ pub fn ends_keep()
     ensures { EndsKeep }
 {}
 
-/// Workers that stand for the boxes of a world, and whose ends carry its lanes, have logged what the merge law asks for,
-/// where each has its account.
+/// Workers that stand for the boxes of a world, and whose ends carry its lanes, have logged what the merge law asks
+/// for, where each has its account.
 pub fn accounts_are_claimed()
     ensures { AccountsAreClaimed }
 {}

@@ -22,8 +22,8 @@ use std::alloc::{AllocError, Global};
 use std::mem;
 
 /// Boxes take their seats, and what is under way on the lanes comes into the inboxes. What stood in their stead in the
-/// seats is left in the list of boxes, and the lanes are empty then. Every box is listed. It fails only for want of memory
-/// for that list, and nothing has moved then.
+/// seats is left in the list of boxes, and the lanes are empty then. Every box is listed. It fails only for want of
+/// memory for that list, and nothing has moved then.
 pub fn board(
     alloc: Global,
     crew: &mut Crew,
@@ -48,8 +48,8 @@ pub fn board(
     Ok(())
 }
 
-/// The boxes leave their seats, and what waits in the inboxes goes back on the lanes, which were empty. What stood in the
-/// list of boxes stays in the seats in their stead. Commands that are left are lost.
+/// The boxes leave their seats, and what waits in the inboxes goes back on the lanes, which were empty. What stood in
+/// the list of boxes stays in the seats in their stead. Commands that are left are lost.
 pub fn leave(alloc: Global, crew: &mut Crew, boxes: &mut [MediaBox], lanes: &mut [Lane<Tagged>])
     requires crew { IsCrew crew.old }
     requires boxes { length boxes.old ≡ length crew.old.seats.items }
@@ -63,8 +63,8 @@ pub fn leave(alloc: Global, crew: &mut Crew, boxes: &mut [MediaBox], lanes: &mut
     change(alloc, true, &mut crew.seats, &crew.ends, boxes, lanes);
 }
 
-// Each box changes places with the one in the seat of its number, and what is under way on the lanes with what waits in the
-// inboxes to which they lead. It may be known that no lane has anything.
+// Each box changes places with the one in the seat of its number, and what is under way on the lanes with what waits in
+// the inboxes to which they lead. It may be known that no lane has anything.
 fn change(
     alloc: Global,
     clear: bool,

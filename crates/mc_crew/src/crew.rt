@@ -11,7 +11,8 @@ pub struct Crew {
     /// The channels that join the boxes.
     pub channels: Vec<Channel>,
     pub seats: Vec<Seat>,
-    /// The two ends of each lane. Lane `2k` leads to the initiator's end of channel `k`, and lane `2k + 1` to the other.
+    /// The two ends of each lane. Lane `2k` leads to the initiator's end of channel `k`, and lane `2k + 1` to the
+    /// other.
     pub lanes: Vec<LaneEnds>,
     /// Of each box, by channel end, the lane that leads to it.
     pub ends: Vec<Vec<u32>>,

@@ -25,8 +25,8 @@ pub struct Discharged {
     pub lanes: Vec<Lane<Tagged>>,
 }
 
-/// The boxes, channels and lanes of a crew, each lane with what waits in the inbox at its end. Commands that are left are
-/// lost. It fails only for want of memory.
+/// The boxes, channels and lanes of a crew, each lane with what waits in the inbox at its end. Commands that are left
+/// are lost. It fails only for want of memory.
 pub fn disband(alloc: Global, crew: Crew) -> Result<Discharged, AllocError>
     requires { IsCrew crew }
     ensures { IfOk result (λ parts. world_with parts.boxes.items parts.channels.items parts.lanes.items

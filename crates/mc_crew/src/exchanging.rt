@@ -13,8 +13,8 @@ use std::alloc::Global;
 use std::mem;
 
 /// What is under way on each lane comes into the inbox to which it leads, and what waits there goes on the lane. Each
-/// keeps its room, and no memory is taken. Inboxes and lanes that have nothing are left alone, and where it is known that
-/// no lane has anything, none is looked at.
+/// keeps its room, and no memory is taken. Inboxes and lanes that have nothing are left alone, and where it is known
+/// that no lane has anything, none is looked at.
 pub(crate) fn exchange(
     alloc: Global,
     clear: bool,
@@ -49,8 +49,8 @@ pub(crate) fn are_empty(lanes: &[Lane<Tagged>]) -> bool
     true
 }
 
-// The inboxes of a box get what is under way on the lanes that lead to it, and these what waited there. They are left alone
-// where there is nothing on both sides, as lanes may be known to be clear.
+// The inboxes of a box get what is under way on the lanes that lead to it, and these what waited there. They are left
+// alone where there is nothing on both sides, as lanes may be known to be clear.
 fn exchange_where(
     alloc: Global,
     clear: bool,

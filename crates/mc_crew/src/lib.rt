@@ -1,5 +1,5 @@
-//! A round of the boxes of a network, each on whatever thread is free, over rings: its turns are one run of the world that
-//! the boxes stand for.
+//! A round of the boxes of a network, each on whatever thread is free, over rings: its turns are one run of the world
+//! that the boxes stand for.
 #![tactic(auto)]
 
 mod adding;

@@ -21,8 +21,8 @@ use mc_worker::{Inboxes, Places, Worker};
 use std::alloc::{AllocError, Global};
 use std::mem;
 
-/// A crew of these boxes, channels and lanes: each box in its seat with a worker of its own, a new ring for each lane, and
-/// what is under way in the inboxes. Every box is listed. It fails only for want of memory.
+/// A crew of these boxes, channels and lanes: each box in its seat with a worker of its own, a new ring for each lane,
+/// and what is under way in the inboxes. Every box is listed. It fails only for want of memory.
 pub fn man(
     alloc: Global,
     boxes: Vec<MediaBox>,

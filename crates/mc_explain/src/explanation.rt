@@ -39,7 +39,8 @@ fn told_text(reason: &Reason) -> &[u8]
 
 // Appends the sentences for a reason. Want of memory may come in the middle, here and below.
 fn put_sentences(reason: &Reason, words: &mut String) -> Result<(), AllocError>
-    ensures { OnOk result (string_bytes words.new ≡ string_bytes words.old ++ flat_map told_line (sentences reason.now)) }
+    ensures { OnOk result
+        (string_bytes words.new ≡ string_bytes words.old ++ flat_map told_line (sentences reason.now)) }
 {
     match reason {
         Reason::Worked => Ok(()),

@@ -25,7 +25,8 @@ fn put(places: &mut Vec<Vec<(u8, u8)>>, who: u32, local: u8, place: (u8, u8))
     requires here { who < length (inner_lists places.old.items) }
     requires slot { local < length (of_box (inner_lists places.old.items) who) }
     ensures { inner_lists places.new.items
-        ≡ slice_set (inner_lists places.old.items) who (slice_set (of_box (inner_lists places.old.items) who) local place) }
+        ≡ slice_set (inner_lists places.old.items) who
+        (slice_set (of_box (inner_lists places.old.items) who) local place) }
 {
     places[who as usize][local as usize] = place;
 }

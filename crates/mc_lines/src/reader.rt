@@ -62,7 +62,20 @@ impl Model for Reader {
 
     ghost Value = { Declared };
 
-    ghost view = { λ r. record { tail = r.tail; section = r.section; versioned = r.versioned; sends_apart = r.sends_apart; begun = r.begun; names = r.names; shape = r.shape; boxes = map box_seen r.plan.boxes; senders = r.senders.items; channels = r.plan.channels; blocks = r.blocks.items; commands = r.commands.items } };
+    ghost view = { λ r. record {
+      tail = r.tail;
+      section = r.section;
+      versioned = r.versioned;
+      sends_apart = r.sends_apart;
+      begun = r.begun;
+      names = r.names;
+      shape = r.shape;
+      boxes = map box_seen r.plan.boxes;
+      senders = r.senders.items;
+      channels = r.plan.channels;
+      blocks = r.blocks.items;
+      commands = r.commands.items;
+    } };
 }
 
 impl Reader {

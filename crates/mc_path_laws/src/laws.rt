@@ -51,8 +51,8 @@ pub fn settled_paths_hold()
     ensures { SettledPathsHold }
 {}
 
-/// After a moment at which nothing was under way, while only Takes and Retries come, a slot that owes a retry owed it at
-/// that moment, too.
+/// After a moment at which nothing was under way, while only Takes and Retries come, a slot that owes a retry owed it
+/// at that moment, too.
 pub fn owed_since_quiet()
     ensures { OwedSinceQuiet }
 {}

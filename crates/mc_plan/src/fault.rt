@@ -5,8 +5,8 @@ ghost use Rattle.mc_plan.specs.declared.fault.PlanFault.TheVariants.{NoMemory};
 
 use std::alloc::{AllocError, AllocFailed};
 
-/// Why a box, a channel or a tunnel isn't added to a plan: the first of these rules that it breaks. The plan is as it was
-/// then.
+/// Why a box, a channel or a tunnel isn't added to a plan: the first of these rules that it breaks. The plan is as it
+/// was then.
 #[derive(Debug, Drop)]
 pub enum PlanFault {
     /// One of the channel's two boxes isn't there.

@@ -169,8 +169,8 @@ impl StatePart {
     }
 
     /// Reads `when is SLOT STATE TARGET` or `when told WORD TARGET` from the second word on, in a program with these
-    /// states. A told word that is new gets a number. Memory runs out only where the line breaks no rule; the part is as
-    /// it was then, and the word may have its number.
+    /// states. A told word that is new gets a number. Memory runs out only where the line breaks no rule; the part is
+    /// as it was then, and the word may have its number.
     pub fn read_when<'a>(
         &mut self,
         names: &mut Names,

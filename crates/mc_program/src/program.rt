@@ -37,7 +37,11 @@ impl Model for Block {
 
     ghost Value = { BlockState };
 
-    ghost view = { λ block. record { who = block.who; states = words_of block.states.items; parts = block.parts.items } };
+    ghost view = { λ block. record {
+      who = block.who;
+      states = words_of block.states.items;
+      parts = block.parts.items;
+    } };
 
     ghost invariant = { λ block. length block.states.items ≤ STATE_LIMIT };
 }

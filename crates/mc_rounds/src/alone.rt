@@ -101,8 +101,8 @@ fn command(settled: &mut Settled, turn: Turn) -> Result<Option<u32>, AllocError>
     }
 }
 
-// Takes until nothing is under way, makes each retry that is owed then, and takes again. Without a program nothing makes
-// retries due once more.
+// Takes until nothing is under way, makes each retry that is owed then, and takes again. Without a program nothing
+// makes retries due once more.
 #[tactic(auto, using(crate::proofs::AloneEnds::rests_by))]
 fn come_to_rest(settled: &mut Settled) -> Result<(), AllocError>
     requires { has_ring settled.old.world ≡ false }

@@ -42,8 +42,8 @@ fn settled_behind(before: Vec<Turn>, settled: Settled) -> Result<Settled, Settle
 
 // The fault to tell, whose turns come behind those before them, where there is memory for them.
 fn told_behind(before: Vec<Turn>, fault: SettleFault) -> SettleFault
-    ensures { (start : WorldState) (world : WorldState) (batch : List Turn) → BeginsSettle start batch before.items world
-        → Stops world [] fault → Stops start batch result }
+    ensures { (start : WorldState) (world : WorldState) (batch : List Turn)
+        → BeginsSettle start batch before.items world → Stops world [] fault → Stops start batch result }
 {
     match fault_behind(before, fault) {
         Ok(told) => told,

@@ -98,8 +98,8 @@ fn has_commands(crew: &Crew) -> bool
     false
 }
 
-/// Rounds behind the commands, to the first in which a Shift comes, or until no box has work. Whether a Shift came. There
-/// is no ring, so Takes alone come to an end.
+/// Rounds behind the commands, to the first in which a Shift comes, or until no box has work. Whether a Shift came.
+/// There is no ring, so Takes alone come to an end.
 pub fn go_on<R: Threads + Sync, G: Gate + Sync>(
     rt: &R,
     gate: &G,

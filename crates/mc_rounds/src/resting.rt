@@ -26,8 +26,8 @@ pub struct Rest {
     pub shifted: bool,
 }
 
-/// Rounds behind the commands, to a ring, or until no box has work. There may be a ring before them only where slots were
-/// linked.
+/// Rounds behind the commands, to a ring, or until no box has work. There may be a ring before them only where slots
+/// were linked.
 pub fn rest_in_rounds<R: Threads + Sync, G: Gate + Sync>(
     rt: &R,
     alloc: Global,

@@ -31,8 +31,8 @@ use std::alloc::{AllocError, Global};
 use std::marker::Model;
 use std::thread::Threads;
 
-/// Settles batches one after another. It keeps the seats of a network's boxes from one to the next, with their rings, so
-/// that only the first settle makes them.
+/// Settles batches one after another. It keeps the seats of a network's boxes from one to the next, with their rings,
+/// so that only the first settle makes them.
 #[derive(Drop)]
 pub struct Settler {
     // Seats whose boxes are elsewhere.
@@ -57,17 +57,17 @@ impl Settler {
         Settler { crew: None }
     }
 
-    /// Settles a batch, with the boxes' turns in any order. Which interleaving of the boxes its turns are no clause tells:
-    /// any settled segment may be the answer, and any turns that stop with their cause.
+    /// Settles a batch, with the boxes' turns in any order. Which interleaving of the boxes its turns are no clause
+    /// tells: any settled segment may be the answer, and any turns that stop with their cause.
     ///
     /// A batch that speaks to two boxes or more is settled in rounds, in which each box that has work runs on whatever
-    /// thread is free: the first takes two threads, and a later one more than that of the caller where it has boxes enough
-    /// for them. For the commands of a single box no thread pays: these are settled on the thread that calls.
+    /// thread is free: the first takes two threads, and a later one more than that of the caller where it has boxes
+    /// enough for them. For the commands of a single box no thread pays: these are settled on the thread that calls.
     ///
-    /// The world allows each command, and has few boxes; it may be another one than that of the settle before. It always
-    /// ends: at rest, at a ring of links that the batch or a Shift left, at a box that has made all its Shifts and has one
-    /// more enabled, or at a Hear of a descriptor that has the last version; or for want of memory. Whatever it answers,
-    /// it can be called again.
+    /// The world allows each command, and has few boxes; it may be another one than that of the settle before. It
+    /// always ends: at rest, at a ring of links that the batch or a Shift left, at a box that has made all its Shifts
+    /// and has one more enabled, or at a Hear of a descriptor that has the last version; or for want of memory.
+    /// Whatever it answers, it can be called again.
     pub fn settle<R: Threads + Sync, G: Gate + Sync>(
         &mut self,
         rt: &R,
@@ -87,8 +87,9 @@ impl Settler {
         settle_alone(alloc, world, batch)
     }
 
-    // The same in rounds. While commands are left, each round makes one of each box that has one. Behind them the calling
-    // thread settles on alone, where little is left to do and no program has gone on; and else it goes on in rounds.
+    // The same in rounds. While commands are left, each round makes one of each box that has one. Behind them the
+    // calling thread settles on alone, where little is left to do and no program has gone on; and else it goes on in
+    // rounds.
     fn settle_on_threads<R: Threads + Sync, G: Gate + Sync>(
         &mut self,
         rt: &R,
@@ -110,8 +111,8 @@ impl Settler {
         answer_rounds(alloc, Settled { world, turns }, ending)
     }
 
-    // A crew of the boxes, channels and lanes of these parts, which keep the tables, and the places of boxes and lanes. It
-    // is the one that was kept, where the boxes fit its seats.
+    // A crew of the boxes, channels and lanes of these parts, which keep the tables, and the places of boxes and lanes.
+    // It is the one that was kept, where the boxes fit its seats.
     fn seat_all(&mut self, alloc: Global, frame: &mut Parts) -> Result<Crew, AllocError>
         requires frame { HasFrame frame.old (length frame.old.boxes.items) }
         requires sound { IsSound (parts_state frame.old) }
@@ -140,8 +141,8 @@ impl Settler {
     }
 }
 
-// Makes the rounds of a batch by a new crew: how they ended, or that the calling thread is to settle on alone, where little
-// is left to do and no program has gone on.
+// Makes the rounds of a batch by a new crew: how they ended, or that the calling thread is to settle on alone, where
+// little is left to do and no program has gone on.
 fn run_batch<R: Threads + Sync, G: Gate + Sync>(
     rt: &R,
     alloc: Global,
@@ -158,7 +159,8 @@ fn run_batch<R: Threads + Sync, G: Gate + Sync>(
     requires none_yet { turns.old.items ≡ [] }
     ensures crew { OnOk result (IsCrew crew.new) }
     ensures places { OnOk result (HoldsPlaces frame.now crew.new) }
-    ensures ended { IfOk result (EndsRounds (crew_state crew.old).world batch.now turns.new.items (crew_state crew.new).world) }
+    ensures ended { IfOk result
+        (EndsRounds (crew_state crew.old).world batch.now turns.new.items (crew_state crew.new).world) }
 {
     enlist(crew, batch)?;
     let last = use_up(rt, gate, crew, turns)?;
@@ -230,8 +232,8 @@ fn board_all(alloc: Global, frame: &mut Parts, crew: Crew) -> Result<Crew, Alloc
     Ok(crew)
 }
 
-// Whether one thread is enough for the boxes that may have work, where no box stopped at a last version, and no Shift is
-// among the turns so far.
+// Whether one thread is enough for the boxes that may have work, where no box stopped at a last version, and no Shift
+// is among the turns so far.
 fn is_for_one(last: Option<(u32, u8)>, listed: &[u32], turns: &[Turn]) -> bool
     ensures none_at_last { IsTrue result → last ≡ None }
     ensures no_shift { IsTrue result → some_shift turns.now ≡ false }

@@ -69,8 +69,8 @@ pub fn enlist(crew: &mut Crew, batch: &[Turn]) -> Result<(), AllocError>
     Ok(())
 }
 
-/// The end of a settle behind its commands, or where a box stopped at a last version: in rounds, until no box has work, and
-/// then one in which each retry that is owed comes first, once and again whenever a Shift came since.
+/// The end of a settle behind its commands, or where a box stopped at a last version: in rounds, until no box has work,
+/// and then one in which each retry that is owed comes first, once and again whenever a Shift came since.
 pub fn end_in_rounds<R: Threads + Sync, G: Gate + Sync>(
     rt: &R,
     alloc: Global,

@@ -17,8 +17,8 @@ use mc_world::Parts;
 use std::alloc::{AllocError, Global};
 use std::mem;
 
-/// A new crew of the boxes and lanes of these parts, with channels of its own. The parts keep theirs, the tables, and the
-/// places of the boxes and lanes.
+/// A new crew of the boxes and lanes of these parts, with channels of its own. The parts keep theirs, the tables, and
+/// the places of the boxes and lanes.
 pub fn man_anew(alloc: Global, frame: &mut Parts) -> Result<Crew, AllocError>
     requires frame { HasFrame frame.old (length frame.old.boxes.items) }
     requires sound { IsSound (parts_state frame.old) }

@@ -22,7 +22,8 @@ use std::thread::Threads;
 
 /// A team of boxes on threads: their world, the commands that are left to each, and how many Shifts each has made.
 ///
-/// Between rounds a team is a world again, so whatever commands come between them, each round goes on from a lawful one.
+/// Between rounds a team is a world again, so whatever commands come between them, each round goes on from a lawful
+/// one.
 #[derive(Drop)]
 pub struct Team {
     frame: Parts,
@@ -53,8 +54,8 @@ pub struct RoundLog {
 }
 
 impl Team {
-    /// A team of a world's boxes, each with a worker of its own, and what is under way in the inboxes. No command is left
-    /// to a box, and none has made a Shift. It fails only for want of memory; the world is gone then.
+    /// A team of a world's boxes, each with a worker of its own, and what is under way in the inboxes. No command is
+    /// left to a box, and none has made a Shift. It fails only for want of memory; the world is gone then.
     pub fn new(alloc: Global, world: World) -> Result<Team, AllocError>
         requires few { length world.boxes ≤ CREW_LIMIT }
         ensures { IfOk result (λ team. team ≡ new_team world) }
@@ -64,8 +65,8 @@ impl Team {
         Ok(Team { frame, crew })
     }
 
-    /// Gives a box a command more, which its shape allows, behind those that it has. It fails only for want of memory, and
-    /// the team is as it was then.
+    /// Gives a box a command more, which its shape allows, behind those that it has. It fails only for want of memory,
+    /// and the team is as it was then.
     pub fn add(&mut self, turn: Turn) -> Result<(), AllocError>
         requires { IsTrue (is_allowed self.old.world turn) }
         ensures added { OnOk result (self.new ≡ with_command self.old turn) }
@@ -74,10 +75,10 @@ impl Team {
         add(&mut self.crew, turn)
     }
 
-    /// Makes a round of each box that has work: it is at most 64 turns of each, on whatever thread is free, the retries that
-    /// are owed first where they are asked for. What the boxes did is one run of the world, in the order of the stamps in
-    /// their logs. Each box that has work makes a turn, and, where no retries are asked for and it has commands, uses one
-    /// up; or it stops at the Hear of a slot that is at its last version.
+    /// Makes a round of each box that has work: it is at most 64 turns of each, on whatever thread is free, the retries
+    /// that are owed first where they are asked for. What the boxes did is one run of the world, in the order of the
+    /// stamps in their logs. Each box that has work makes a turn, and, where no retries are asked for and it has
+    /// commands, uses one up; or it stops at the Hear of a slot that is at its last version.
     ///
     /// It fails only for want of memory; the team is gone then.
     pub fn round<R: Threads + Sync, G: Gate + Sync>(
@@ -99,8 +100,8 @@ impl Team {
         Ok((Team { frame, crew }, RoundLog { logs, stops, turns }))
     }
 
-    /// The world that the team has come to. Commands that are left are lost. It fails only for want of memory; the team is
-    /// gone then.
+    /// The world that the team has come to. Commands that are left are lost. It fails only for want of memory; the team
+    /// is gone then.
     pub fn end(self, alloc: Global) -> Result<World, AllocError>
         ensures { IfOk result (λ world. world ≡ self.world) }
     {

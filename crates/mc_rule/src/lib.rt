@@ -92,8 +92,8 @@ impl Program {
         &self.states
     }
 
-    /// The enabled transition of a box that is at this state, has these slots, and was told this word. At no state it is
-    /// the one to the first state; else the first whose guard holds, and none comes exactly where none holds.
+    /// The enabled transition of a box that is at this state, has these slots, and was told this word. At no state it
+    /// is the one to the first state; else the first whose guard holds, and none comes exactly where none holds.
     pub fn enabled(&self, at: Option<u32>, slots: &[Slot], told: Option<u8>) -> Option<Shifted>
         requires at { IfSome at (λ state. state < length self.now) }
         ensures { result ≡ enabled self.now at slots.now told }

@@ -15,8 +15,9 @@ pub fn scenes_come_to_rest()
     ensures { ScenesComeToRest }
 {}
 
-/// The text of one to fifty chains is in the grammar, and declares their boxes, channels and commands, if the chains are
-/// numbered in their order from 0 on, with at most three features each, and one to four of the eight codecs at each end.
+/// The text of one to fifty chains is in the grammar, and declares their boxes, channels and commands, if the chains
+/// are numbered in their order from 0 on, with at most three features each, and one to four of the eight codecs at each
+/// end.
 pub fn chains_are_texts()
     ensures { ChainsAreTexts }
 {}
@@ -26,8 +27,8 @@ pub fn drawn_chains_are_numbered()
     ensures { DrawnChainsAreNumbered }
 {}
 
-/// So each generated text of one to fifty chains is in the grammar, and declares the boxes, channels and commands of its
-/// chains.
+/// So each generated text of one to fifty chains is in the grammar, and declares the boxes, channels and commands of
+/// its chains.
 pub fn generated_are_texts()
     ensures { GeneratedAreTexts }
 {}

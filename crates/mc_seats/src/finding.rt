@@ -12,8 +12,8 @@ use mc_worker::Logged;
 use std::alloc::AllocError;
 
 /// Finds those of the listed boxes that have work while all rings are empty: a command, a shift, a signal in an inbox,
-/// or, where retries are asked for, a retry that is owed. Each listed box is made ready for a round: its log is emptied,
-/// its stamp is 0, and the end of its last round is forgotten. It looks at no other box, and at no ring.
+/// or, where retries are asked for, a retry that is owed. Each listed box is made ready for a round: its log is
+/// emptied, its stamp is 0, and the end of its last round is forgotten. It looks at no other box, and at no ring.
 ///
 /// It fails only for want of memory for the numbers of all listed boxes, and changes no seat then.
 pub fn find_work(
@@ -58,7 +58,8 @@ fn look_at_each(seats: &mut [Seat], retries: bool, listed: &[u32], found: &mut V
 // Makes a box ready for a round, and asks whether it has work.
 fn look_at(seat: &mut Seat, retries: bool) -> bool
     requires { IsReady seat.old.worker }
-    ensures work { MatchBool result (HasWaitingWork retries seat.new.worker) (HasWaitingWork retries seat.new.worker → ⊥) }
+    ensures work { MatchBool result
+        (HasWaitingWork retries seat.new.worker) (HasWaitingWork retries seat.new.worker → ⊥) }
     ensures looked { IsLookedAt seat.old seat.new }
 {
     empty(&mut seat.worker.log);

@@ -12,8 +12,8 @@ use mc_io::Gate;
 use std::thread::{Threads, join_mut};
 
 /// A round of each box that was found, by one call of `Worker::round`, whose answer its seat keeps. All other seats
-/// stay as they are. The boxes run on threads of their own where that pays, and no order is promised. Where the boxes begin
-/// with this round, two threads are taken for two boxes that have commands.
+/// stay as they are. The boxes run on threads of their own where that pays, and no order is promised. Where the boxes
+/// begin with this round, two threads are taken for two boxes that have commands.
 pub fn run_found<R: Threads + Sync, G: Gate + Sync>(
     rt: &R,
     gate: &G,

@@ -170,7 +170,8 @@ fn empty_queues(alloc: Global, boxes: usize) -> Result<Vec<Vec<Turn>>, AllocErro
 fn put_last(queues: &mut Vec<Vec<Turn>>, turn: Turn) -> Result<(), AllocError>
     requires { turn.who < length queues.old.items }
     ensures { OnOk result (queues_of queues.new.items
-        ≡ slice_set (queues_of queues.old.items) turn.who (queue_at (queues_of queues.old.items) turn.who ++ turn ∷ [])) }
+        ≡ slice_set (queues_of queues.old.items) turn.who
+        (queue_at (queues_of queues.old.items) turn.who ++ turn ∷ [])) }
 {
     let queue = &mut queues[turn.who as usize];
     queue.push(turn)?;

@@ -224,7 +224,8 @@ fn draw_on(sitting: &mut Sitting, draws: &mut Draws) -> Result<bool, AllocError>
 fn draw_once(sitting: &mut Sitting, draws: &mut Draws) -> Result<Draw, AllocError>
     requires allowed { AreAllowed sitting.old.settled.world (commands_left sitting.old.left) }
     requires kept { IsKept sitting.old }
-    ensures drew { IfOk result (DrewOnce (sight_of sitting.old draws.old.state) (sight_of sitting.new draws.new.state)) }
+    ensures drew { IfOk result
+        (DrewOnce (sight_of sitting.old draws.old.state) (sight_of sitting.new draws.new.state)) }
     ensures kept { OnOk result (IsKept sitting.new) }
 {
     sitting.settled.world.keeps();

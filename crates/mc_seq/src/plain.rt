@@ -199,7 +199,8 @@ fn draw_on(alloc: Global, sitting: &mut Sitting, draws: &mut Draws) -> Result<bo
 // Draws once, where anything is listed, and makes the turn that is drawn.
 fn draw_once(alloc: Global, sitting: &mut Sitting, draws: &mut Draws) -> Result<Draw, AllocError>
     requires { AreAllowed sitting.old.settled.world sitting.old.left.items }
-    ensures { IfOk result (DrewOnce (plain_sight sitting.old draws.old.state) (plain_sight sitting.new draws.new.state)) }
+    ensures { IfOk result
+        (DrewOnce (plain_sight sitting.old draws.old.state) (plain_sight sitting.new draws.new.state)) }
 {
     sitting.settled.world.keeps();
     let urgent = is_urgent(&sitting.left, sitting.since);

@@ -7,8 +7,8 @@ use mc_box::Turn;
 use mc_world::{Settled, StepFault};
 use std::alloc::AllocError;
 
-/// Makes a turn that can happen, and writes it down. It fails only for want of memory, and then the world and its turns are
-/// as they were.
+/// Makes a turn that can happen, and writes it down. It fails only for want of memory, and then the world and its turns
+/// are as they were.
 pub fn make(settled: &mut Settled, turn: Turn) -> Result<(), AllocError>
     requires { IsSome (step settled.old.world turn) }
     ensures made { OnOk result (step settled.old.world turn ≡ Some settled.new.world) }

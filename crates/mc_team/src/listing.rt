@@ -5,8 +5,8 @@ ghost use Rattle.mc_seats.specs.Numbers.{Rises, is_listed};
 
 use std::alloc::AllocError;
 
-/// Puts a box into a list of so many boxes, if it isn't there. It fails only for want of memory, and the list stays as it was
-/// then.
+/// Puts a box into a list of so many boxes, if it isn't there. It fails only for want of memory, and the list stays as
+/// it was then.
 pub fn list_box(listed: &mut Vec<u32>, who: u32, boxes: usize) -> Result<(), AllocError>
     requires there { who < boxes }
     requires rises { Rises boxes listed.old.items }

@@ -353,8 +353,8 @@ fn a_first_pair_of_dashes_says_nothing(rt: HostRuntime) -> Result<(), AllocError
 pub const CALLED: &str =
     "media 1\ncodec g711\ncodec g729\ndev alice g711 g729\ndev bob g729\nchan audio alice a bob a\nbegin\nset alice a open\nset bob a hold\nsettle\n";
 
-// Which call of the source fails and which of the sink, from 1 on: the status, the due one, how many turns are kept, and
-// how many bytes are written. There are nine writes.
+// Which call of the source fails and which of the sink, from 1 on: the status, the due one, how many turns are kept,
+// and how many bytes are written. There are nine writes.
 const FAILURES: [(u64, u64, u8, u8, usize, usize); 9] = [
     (1, 0, 4, 4, 0, 0),
     (2, 0, 4, 4, 0, 0),

@@ -28,7 +28,12 @@ impl Model for Names {
 
     ghost Value = { NameLists };
 
-    ghost view = { λ names. record { codecs = names.codecs; boxes = names.boxes; slots = names.slots.items; told = names.told } };
+    ghost view = { λ names. record {
+      codecs = names.codecs;
+      boxes = names.boxes;
+      slots = names.slots.items;
+      told = names.told;
+    } };
 
     ghost invariant = { λ names. HaveRoom names.codecs names.boxes names.slots.items names.told };
 }

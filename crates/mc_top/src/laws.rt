@@ -49,7 +49,8 @@ pub fn printed_journals_are_good()
     ensures { PrintedJournalsAreGood }
 {}
 
-/// The text of each scene can be run: it is in the grammar, no Hear meets the last version, and each batch comes to rest.
+/// The text of each scene can be run: it is in the grammar, no Hear meets the last version, and each batch comes to
+/// rest.
 pub fn scenes_can_run()
     ensures { ScenesCanRun }
 {}

@@ -1,4 +1,5 @@
-//! The top call of the program: it reads a text or makes one, settles its calls, and prints their paths or counts of them.
+//! The top call of the program: it reads a text or makes one, settles its calls, and prints their paths or counts of
+//! them.
 #![tactic(auto)]
 
 mod behind;

@@ -65,10 +65,14 @@ fn mode_of(
     third: Option<&str>,
     journal: bool,
 ) -> Option<Mode>
-    ensures some { IfSome result (λ mode. AsksFor mode journal
-        (words_met (option_map (λ s. s.now) first.entry) (option_map (λ s. s.now) second.entry) (option_map (λ s. s.now) third.entry))) }
-    ensures none { IfNone result ((mode : Mode) → ¬ AsksFor mode journal
-        (words_met (option_map (λ s. s.now) first.entry) (option_map (λ s. s.now) second.entry) (option_map (λ s. s.now) third.entry))) }
+    ensures some { IfSome result (λ mode. AsksFor mode journal (words_met
+        (option_map (λ s. s.now) first.entry)
+        (option_map (λ s. s.now) second.entry)
+        (option_map (λ s. s.now) third.entry))) }
+    ensures none { IfNone result ((mode : Mode) → ¬ AsksFor mode journal (words_met
+        (option_map (λ s. s.now) first.entry)
+        (option_map (λ s. s.now) second.entry)
+        (option_map (λ s. s.now) third.entry))) }
 {
     let first = first?;
     let Some(second) = second else {

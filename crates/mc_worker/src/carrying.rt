@@ -109,7 +109,8 @@ fn carry_over(
         (out_end outs.old.items outboxes.old.boxes end) (out_end outs.new.items outboxes.new.boxes end)
         (in_end ins.old.items inboxes.old far) (in_end ins.new.items inboxes.new far)) }
     ensures waits { IfOk result (λ waits. waits ≡ has_items (box_of inboxes.new far)) }
-    ensures kept { under_way_between (out_end outs.new.items outboxes.new.boxes end) (in_end ins.new.items inboxes.new far)
+    ensures kept { under_way_between
+        (out_end outs.new.items outboxes.new.boxes end) (in_end ins.new.items inboxes.new far)
         ≡ under_way_between (out_end outs.old.items outboxes.old.boxes end) (in_end ins.old.items inboxes.old far) }
     ensures other_outs { (e : ℕ) → e ≢ end
         → out_end outs.new.items outboxes.new.boxes e ≡ out_end outs.old.items outboxes.old.boxes e }

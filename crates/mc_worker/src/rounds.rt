@@ -62,8 +62,8 @@ impl Worker {
         Stop::Spent
     }
 
-    /// Whether there is something to do before any ring is looked at: a stimulus, a shift, a signal in an inbox, or, where
-    /// retries are asked for, a retry that is owed. Where all rings are empty that is all the work there is.
+    /// Whether there is something to do before any ring is looked at: a stimulus, a shift, a signal in an inbox, or,
+    /// where retries are asked for, a retry that is owed. Where all rings are empty that is all the work there is.
     pub fn has_waiting_work(&self, retries: bool) -> bool
         ensures { MatchBool result (HasWaitingWork retries self.now) (HasWaitingWork retries self.now → ⊥) }
     {

@@ -13,7 +13,8 @@ use crate::topology::far;
 /// The least slot on a ring, by a table of the slots' partners; none where there is no ring. It takes no memory.
 pub fn least_on_ring(partners: &[Option<u32>]) -> Option<u32>
     ensures least { (world : WorldState) → IsSound world → ArePartners world partners.now → IsLeastOnRing world result }
-    ensures has { (world : WorldState) → IsSound world → ArePartners world partners.now → has_ring world ≡ is_some result }
+    ensures has { (world : WorldState) → IsSound world → ArePartners world partners.now
+        → has_ring world ≡ is_some result }
 {
     for place in 0..partners.len() {
         if let Some(slot) = linked(partners, place) {

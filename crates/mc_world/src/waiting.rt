@@ -24,7 +24,8 @@ impl Waiting {
     pub fn new(alloc: Global, topology: &Topology) -> Result<Waiting, AllocError>
         requires few { length topology.now.numbers.items ≤ 2 ^ 32 }
         ensures counted { IfOk result (λ waiting. AreFlagsCounted topology.now waiting) }
-        ensures none { IfOk result (λ waiting. waiting.flags.items ≡ replicate (length topology.now.places.items) false) }
+        ensures none { IfOk result (λ waiting.
+            waiting.flags.items ≡ replicate (length topology.now.places.items) false) }
     {
         let flags = vec![in alloc; false; topology.places.len()]?;
         let counts = vec![in alloc; 0; topology.numbers.len()]?;

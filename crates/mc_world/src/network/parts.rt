@@ -15,8 +15,8 @@ use mc_signal::Tagged;
 use std::alloc::{AllocError, Global};
 
 /// The parts of a world: its boxes, its channels and what is under way, with the tables that hang on the channels
-/// alone. They are changed freely, and moved out and back; `World::from_parts` says what it asks of them. The tables tell
-/// of slots while boxes and channels are elsewhere.
+/// alone. They are changed freely, and moved out and back; `World::from_parts` says what it asks of them. The tables
+/// tell of slots while boxes and channels are elsewhere.
 #[derive(Debug, Drop)]
 pub struct Parts {
     pub boxes: Vec<MediaBox>,
@@ -29,7 +29,8 @@ pub struct Parts {
 impl Parts {
     /// The number of the slots of all boxes.
     pub fn slot_count(&self) -> usize
-        ensures count { (channels : List ChannelState) (boxes : ℕ) → FitsFrame self.now channels boxes → result ≡ slot_count (first_world [] channels) }
+        ensures count { (channels : List ChannelState) (boxes : ℕ) → FitsFrame self.now channels boxes
+            → result ≡ slot_count (first_world [] channels) }
         ensures few { (channels : List ChannelState) (boxes : ℕ) → FitsFrame self.now channels boxes → result ≤ 2 ^ 32 }
     {
         self.topology.places.len()
@@ -37,7 +38,8 @@ impl Parts {
 
     /// The box of a slot, and the slot's local number there; `(0, 0)` where there is no such slot.
     pub fn place(&self, slot: u32) -> (u32, u8)
-        ensures { (channels : List ChannelState) (boxes : ℕ) → FitsFrame self.now channels boxes → result ≡ place (first_world [] channels) slot }
+        ensures { (channels : List ChannelState) (boxes : ℕ) → FitsFrame self.now channels boxes
+            → result ≡ place (first_world [] channels) slot }
     {
         match self.topology.places.get(slot as usize) {
             Some(place) => *place,
@@ -47,7 +49,8 @@ impl Parts {
 
     /// The number of a box's slot.
     pub fn number(&self, who: u32, local: u8) -> Option<u32>
-        ensures { (channels : List ChannelState) (boxes : ℕ) → FitsFrame self.now channels boxes → result ≡ number (first_world [] channels) who local }
+        ensures { (channels : List ChannelState) (boxes : ℕ) → FitsFrame self.now channels boxes
+            → result ≡ number (first_world [] channels) who local }
     {
         self.topology.number(who, local)
     }
@@ -69,8 +72,8 @@ impl World {
         }
     }
 
-    /// The world of these parts. The tables fit the channels that they have now, and as many boxes, each channel has its
-    /// two lanes, and all of it is sound. It fails only for want of memory; the parts are gone then.
+    /// The world of these parts. The tables fit the channels that they have now, and as many boxes, each channel has
+    /// its two lanes, and all of it is sound. It fails only for want of memory; the parts are gone then.
     pub fn from_parts(alloc: Global, parts: Parts) -> Result<World, AllocError>
         requires frame { HasFrame parts (length parts.boxes.items) }
         requires sound { IsSound (parts_state parts) }

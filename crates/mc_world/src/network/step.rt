@@ -100,7 +100,8 @@ impl World {
         requires here { who < length self.old.boxes }
         requires own { number self.old who senders.now.own.0 ≡ Some senders.now.own.1 }
         requires partner { number self.old who senders.now.partner.0 ≡ Some senders.now.partner.1 }
-        requires beside { (partner : ℕ) → partner_of self.old senders.now.own.1 ≡ Some partner → senders.now.partner.1 ≡ partner }
+        requires beside { (partner : ℕ) → partner_of self.old senders.now.own.1 ≡ Some partner
+            → senders.now.partner.1 ≡ partner }
         requires lane { toward.0 ≡ lane_of self.old senders.now.own.1 }
         requires tunnel { toward.1 ≡ (tunnel_of self.old senders.now.own.1).within }
         requires front { front self.old senders.now.own.1 ≡ Some signal }
