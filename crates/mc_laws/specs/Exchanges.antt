@@ -1,8 +1,8 @@
 -- Worked exchanges of two phones, computed by the definitions alone. alice can do with the codecs 0 and 1, bob with 1.
-use Rattle.std.specs.Prelude.{◌≡◌, ℕ, ◌≤◌, true, false, List, [], ◌∷◌, ◌++◌, replicate, Option, Some, None, IsSome, IsTrue}
+use Rattle.std.specs.Prelude.{◌≡◌, ℕ, ◌≤◌, true, false, List, [], ◌∷◌, ◌++◌, replicate, Option, Some, None, IsSome, IsTrue, refl}
 use Rattle.std.proofs.Common.{arith}
 use Rattle.std.proofs.lemmas.Grind.{common_steps}
-use Rattle.mc_signal.specs.Codecs.{AreCodecs, AreDistinct, IsBlankFrom}
+use Rattle.mc_signal.specs.Codecs.{AreCodecs, AreDistinct, HasPlaces, IsBlankFrom}
 use Rattle.mc_signal.specs.declared.codec_list.CodecList.{CodecList}
 use Rattle.mc_signal.specs.declared.Medium.TheVariants.{Audio}
 use Rattle.mc_slot.specs.declared.Goal.{Goal}
@@ -27,6 +27,9 @@ both_entries = 0 ∷ 1 ∷ replicate 6 0
 abbrev pub one_entries : List ℕ
 one_entries = 1 ∷ replicate 7 0
 
+pub both_places : HasPlaces both_entries
+both_places = refl
+
 pub both_short : 2 ≤ 8
 both_short = omega arith
 
@@ -38,6 +41,9 @@ both_distinct j k less below = grind (arith, common_steps)
 
 pub both_blank : IsBlankFrom 2 both_entries
 both_blank k above = grind (arith, common_steps)
+
+pub one_places : HasPlaces one_entries
+one_places = refl
 
 pub one_short : 1 ≤ 8
 one_short = omega arith
@@ -52,10 +58,10 @@ pub one_blank : IsBlankFrom 1 one_entries
 one_blank k above = grind (arith, common_steps)
 
 abbrev pub both_codecs : CodecList
-both_codecs = record { len = 2; at = both_entries; short = both_short; known = both_known; distinct = both_distinct; blank = both_blank }
+both_codecs = record { len = 2; at = both_entries; places = both_places; short = both_short; known = both_known; distinct = both_distinct; blank = both_blank }
 
 abbrev pub one_codec : CodecList
-one_codec = record { len = 1; at = one_entries; short = one_short; known = one_known; distinct = one_distinct; blank = one_blank }
+one_codec = record { len = 1; at = one_entries; places = one_places; short = one_short; known = one_known; distinct = one_distinct; blank = one_blank }
 
 abbrev pub two_phones : WorldState
 two_phones = first_world

@@ -1,11 +1,14 @@
 -- The derived == on lists of codecs, descriptors and selectors is equality.
-use Rattle.std.proofs.Common.{◌≡◌, ◌≤◌, ℕ, Option, Some, None, true, List, ap, subst, arith}
+use Rattle.std.proofs.Common.{◌≡◌, ◌<◌, ◌≤◌, ◌⊎◌, ℕ, Option, Some, None, true, List, length, slice_index, ap, sym, ◌∙◌, subst, inl, inr, arith}
+use Rattle.std.proofs.lemmas.List.{ext_get_or, get_or-take, length-take-le}
+use Rattle.std.proofs.lemmas.Bool.{cases_lt}
 use Rattle.std.proofs.Props.{props}
 use Rattle.std.proofs.lemmas.Grind.{common_steps}
 use Rattle.std.specs.Cmp.Lexicographic.{same_text}
 use Rattle.std.specs.Option.{option_eq}
-use Rattle.mc_signal.specs.Codecs.{AreCodecs, AreDistinct, IsBlankFrom}
-use Rattle.mc_signal.specs.Equality.{DescriptorEquality, SelectorEquality}
+use Rattle.mc_signal.specs.Codecs.{AreCodecs, AreDistinct, HasPlaces, IsBlankFrom}
+use Rattle.mc_signal.specs.Choice.{codecs_of}
+use Rattle.mc_signal.specs.Equality.{CodecsTellList, DescriptorEquality, SelectorEquality}
 use Rattle.mc_signal.specs.Same.{is_same_descriptor, is_same_selector}
 use Rattle.mc_signal.specs.contracts.DescriptorEq.TheImpl.Laws as descriptor_laws
 use Rattle.mc_signal.specs.declared.codec_list.CodecList.{CodecList}
@@ -14,14 +17,14 @@ use Rattle.mc_signal.specs.declared.Selector.{Selector}
 
 -- what a list of codecs keeps
 abbrev Facts : ℕ → List ℕ → Type 0
-Facts len at = (len ≤ 8) × AreCodecs len at × AreDistinct len at × IsBlankFrom len at
+Facts len at = HasPlaces at × (len ≤ 8) × AreCodecs len at × AreDistinct len at × IsBlankFrom len at
 
 -- these facts have one proof at most
 facts_prop : (len : ℕ) (at : List ℕ) → IsProp (Facts len at)
 facts_prop len at = hlevel props
 
 abbrev with_facts : (len : ℕ) (at : List ℕ) → Facts len at → CodecList
-with_facts len at facts = record { len = len; at = at; short = facts.0; known = facts.1; distinct = facts.2; blank = facts.3 }
+with_facts len at facts = record { len = len; at = at; places = facts.0; short = facts.1; known = facts.2; distinct = facts.3; blank = facts.4 }
 
 -- so equal fields make equal lists
 with_facts_same : (len : ℕ) (at : List ℕ) (other_len : ℕ) (other_at : List ℕ) → len ≡ other_len → at ≡ other_at
@@ -34,7 +37,26 @@ with_facts_same len at other_len other_at same_len same_at f =
 -- two lists of codecs with equal fields are equal
 pub codec_list_same : (a b : CodecList) → a.len ≡ b.len → a.at ≡ b.at → a ≡ b
 codec_list_same a b same_len same_at =
-    with_facts_same a.len a.at b.len b.at same_len same_at (a.short, a.known, a.distinct, a.blank) (b.short, b.known, b.distinct, b.blank)
+    with_facts_same a.len a.at b.len b.at same_len same_at (a.places, a.short, a.known, a.distinct, a.blank) (b.places, b.short, b.known, b.distinct, b.blank)
+
+-- lists with the same codecs have as many of them
+same_length : (a b : CodecList) → codecs_of a ≡ codecs_of b → a.len ≡ b.len
+same_length a b same =
+    let left : length (codecs_of a) ≡ a.len = length-take-le a.len a.at (subst (λ (n : ℕ). a.len ≤ n) (sym a.places) a.short) in
+    let right : length (codecs_of b) ≡ b.len = length-take-le b.len b.at (subst (λ (n : ℕ). b.len ≤ n) (sym b.places) b.short) in
+    sym left ∙ ap length same ∙ right
+
+-- a place in use has a codec, and any other 0
+place_told : (a b : CodecList) → codecs_of a ≡ codecs_of b → a.len ≡ b.len → (k : ℕ) → (k < a.len) ⊎ (a.len ≤ k) → slice_index a.at k ≡ slice_index b.at k
+place_told a b same same_len k (inl below) =
+    sym (get_or-take a.len a.at k 0 below) ∙ ap (λ (xs : List ℕ). slice_index xs k) same ∙ get_or-take b.len b.at k 0 (subst (λ (n : ℕ). k < n) same_len below)
+place_told a b same same_len k (inr above) = a.blank k above ∙ sym (b.blank k (subst (λ (n : ℕ). n ≤ k) same_len above))
+
+-- so lists with the same codecs are equal
+pub codecs_tell_list : CodecsTellList
+codecs_tell_list a b same =
+    let same_len : a.len ≡ b.len = same_length a b same in
+    codec_list_same a b same_len (ext_get_or 0 a.at b.at (a.places ∙ sym b.places) (λ k within. place_told a b same same_len k (cases_lt k a.len)))
 
 -- descriptors that == calls the same are equal
 pub descriptor_eq : (d e : Descriptor) → is_same_descriptor d e ≡ true → d ≡ e

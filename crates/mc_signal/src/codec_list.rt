@@ -1,7 +1,7 @@
 // A short list of codecs without repeats.
 
-ghost use Rattle.std.specs.Prelude.{◌≡◌, ◌+◌, ◌<◌, ◌≤◌, ℕ};
-ghost use Rattle.mc_signal.specs.Codecs.{AreCodecs, AreDistinct, IsBlankFrom};
+ghost use Rattle.std.specs.Prelude.{◌≡◌, ◌+◌, ◌<◌, ◌≤◌, ℕ, length};
+ghost use Rattle.mc_signal.specs.Codecs.{AreCodecs, AreDistinct, HasPlaces, IsBlankFrom};
 
 /// The list has eight codecs already, and stays as it was.
 #[derive(Clone, Copy, PartialEq, Eq, Debug)]
@@ -9,11 +9,12 @@ pub struct ListFull;
 
 /// At most eight different codecs, in order of preference. A codec is a number below 64.
 ///
-/// The first `len` entries of `at` are the codecs, and the others are 0.
+/// The first `len` entries of `at` are the codecs, and the others are 0. So two lists with the same codecs are one and the same.
 #[derive(Clone, Copy, PartialEq, Eq, Debug)]
 pub struct CodecList {
     pub len: u8,
     pub at: [u8; 8],
+    pub ghost places: { HasPlaces at },
     pub ghost short: { len ≤ 8 },
     pub ghost known: { AreCodecs len at },
     pub ghost distinct: { AreDistinct len at },

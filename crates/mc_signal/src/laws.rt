@@ -1,6 +1,6 @@
 //! Laws of the signals' parts, over their definitions alone: each function's contract is the law's sentence.
 
-ghost use Rattle.mc_signal.specs.Equality.{DescriptorEquality, SelectorEquality};
+ghost use Rattle.mc_signal.specs.Equality.{CodecsTellList, DescriptorEquality, SelectorEquality};
 
 /// `==` on descriptors says whether they are one and the same value.
 pub fn descriptor_equality()
@@ -10,4 +10,9 @@ pub fn descriptor_equality()
 /// `==` on selectors says whether they are one and the same value.
 pub fn selector_equality()
     ensures { SelectorEquality }
+{}
+
+/// Two lists with the same codecs, in the same order, are one and the same value.
+pub fn codecs_tell_list()
+    ensures { CodecsTellList }
 {}

@@ -6,7 +6,7 @@ use Rattle.std.proofs.lemmas.Grind.{common_steps}
 use Rattle.mc_rule.specs.Programs.{ProgStateState}
 use Rattle.mc_signal.specs.Choice.{codecs_of}
 use Rattle.mc_signal.specs.Codecs.{AreCodecs, AreDistinct, IsBlankFrom}
-use Rattle.mc_signal.specs.Empty.{no_codecs, no_entries}
+use Rattle.mc_signal.specs.Empty.{no_codecs, no_entries, none_places}
 use Rattle.mc_signal.specs.declared.codec_list.CodecList.{CodecList}
 use Rattle.mc_signal.specs.declared.Medium.TheVariants.{Audio}
 use Rattle.mc_slot.specs.Moves.{closed_slot, with_state}
@@ -52,7 +52,7 @@ pub first_blank : IsBlankFrom 1 no_entries
 first_blank k above = grind (arith, common_steps)
 
 abbrev pub first_codec : CodecList
-first_codec = record { len = 1; at = no_entries; short = omega arith; known = first_known; distinct = first_distinct; blank = first_blank }
+first_codec = record { len = 1; at = no_entries; places = none_places; short = omega arith; known = first_known; distinct = first_distinct; blank = first_blank }
 
 -- ---- boxes
 
