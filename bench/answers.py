@@ -1,5 +1,5 @@
 """What `mediactl` may answer: its statuses, and what is printed with each. bench/failing and bench/hostile judge by it,
-and .ci/faults runs the program by it."""
+and .ci/answers runs the program by it."""
 import os
 import re
 import select

@@ -367,17 +367,19 @@ const FAILURES: [(u64, u64, u8, u8, usize, usize); 9] = [
     (0, 10, 0, 0, 7, 88),
 ];
 
-// What is written of a call by draws in which these calls of the source and the sink fail is a beginning of the whole.
-#[test]
-fn a_failed_read_prints_nothing_and_a_failed_write_a_beginning(
-    rt: HostRuntime,
+// What is written of a call with these words in which these calls of the source and the sink fail is a beginning of the
+// whole.
+fn fails_as_it_should<R: Threads + Sync + Abort>(
+    rt: &R,
+    alloc: Global,
+    words: &[&str],
 ) -> Result<(), AllocError> {
     for (read, write, status, due, turns, length) in &FAILURES {
         let call = call(
-            &rt,
-            rt.alloc(),
+            rt,
+            alloc,
             &OpenGate,
-            &["one", "0"],
+            words,
             CALLED.as_bytes(),
             *read,
             *write,
@@ -388,8 +390,18 @@ fn a_failed_read_prints_nothing_and_a_failed_write_a_beginning(
             call.done.journal.len(),
             call.written.len(),
         );
-        is_equal(&rt, &got, &(*status, *due, *turns, *length));
+        is_equal(rt, &got, &(*status, *due, *turns, *length));
         assert!(rt; FLOWING.as_bytes().starts_with(&call.written));
+    }
+    Ok(())
+}
+
+#[test]
+fn a_failed_read_prints_nothing_and_a_failed_write_a_beginning(
+    rt: HostRuntime,
+) -> Result<(), AllocError> {
+    for words in [&["run"][..], &["one", "0"]] {
+        fails_as_it_should(&rt, rt.alloc(), words)?;
     }
     Ok(())
 }
