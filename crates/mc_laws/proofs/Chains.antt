@@ -1,6 +1,7 @@
 -- Links come from programs and commands alone, so where those that they name close no chain there is no ring.
-use Rattle.std.proofs.Common.{◌≡◌, ◌<◌, ◌⊎◌, ◌==◌, ◌&&◌, inl, inr, ℕ, zero, suc, Bool, true, false, cond, if◌then◌else◌, Option, Some, None, List, [], ◌∷◌, Contains, filter, length, take, refl, ap, sym, ◌∙◌, subst, arith}
+use Rattle.std.proofs.Common.{◌≡◌, ◌<◌, ◌+◌, ◌⊎◌, ◌==◌, ◌&&◌, inl, inr, ℕ, zero, suc, Bool, true, false, cond, if◌then◌else◌, Option, Some, None, List, [], ◌∷◌, Contains, filter, length, take, refl, ap, sym, ◌∙◌, subst, arith}
 use Rattle.std.proofs.Math.ListN.{get_or}
+use Rattle.std.specs.Option.{unwrap_or}
 use Rattle.std.proofs.lemmas.Bool.{cases_eq, eq-eqb, eqb-true}
 use Rattle.std.proofs.lemmas.List.Elements.{All-contains_itself, All-head, All-tail}
 use Rattle.mc_slot.specs.declared.Goal.{Goal}
@@ -20,21 +21,21 @@ use Rattle.mc_box.specs.declared.event.Turn.{Turn}
 use Rattle.mc_box.proofs.Changes.{at_goals_after, length_goals_from}
 use Rattle.mc_box.proofs.Events.{event_goes, taking_is}
 use Rattle.mc_box.proofs.Options.{then_some}
-use Rattle.mc_model.specs.Paths.{next_slot, slot_after}
+use Rattle.mc_model.specs.Paths.{next_slot, partner_of}
 use Rattle.mc_model.specs.Rings.{IsOnRing}
 use Rattle.mc_model.specs.Settles.{IsSettled, IsStopped, commands_of}
 use Rattle.mc_model.specs.Sound.{IsSound}
 use Rattle.mc_model.specs.Steps.{run, step}
 use Rattle.mc_model.specs.Worlds.{ChannelState, WorldState, box_at, far, goal_of, number, place, slot_count}
-use Rattle.mc_laws.specs.Chains.{ClosesNoChain, ComeFrom, ComesFrom, IsAmong, Joins, Leads, LinksAreNamed, NamedLinksCloseNone, NamedLinksMakeRings, NamesLink, RingsAreNamed, RunKeepsNamed, StateLinks, StepKeepsNamed}
+use Rattle.mc_laws.specs.Chains.{ClosesChain, ClosesNoChain, ComeFrom, ComesFrom, IsAmong, Joins, LinksAreNamed, NamedLinksCloseNone, NamedLinksMakeRings, NamesLink, RingsAreNamed, RunKeepsNamed, StateLinks, StepKeepsNamed}
 use Rattle.mc_laws.proofs.ActedWorlds.{far_inside}
 use Rattle.mc_laws.proofs.BothWays.{has_by}
 use Rattle.mc_laws.proofs.BoxStays.{media_stays, set_stays, shift_made, take_stays, tell_stays, turn_stays}
-use Rattle.mc_laws.proofs.Partners.{linked_with, next_is}
+use Rattle.mc_laws.proofs.Partners.{linked_with}
 use Rattle.mc_laws.proofs.ShapesKept.{same_shape, shape_both, step_keeps_shape}
 use Rattle.mc_laws.proofs.StepActs.{Turned, step_turns}
 use Rattle.mc_laws.proofs.StepKeeps.{run_keeps_sound, step_keeps_sound}
-use Rattle.mc_laws.proofs.Walks.{after_first}
+use Rattle.mc_laws.proofs.RingChains.{ComesBackFirst, after_inside, back_first, chain_from, never_twice, passes, slots_from}
 
 -- ---- the links of a box after an event
 
@@ -184,28 +185,72 @@ next_joins world now batches s t sound links inside is =
       named = links.named (place now (far s)).0 (place now (far s)).1 link.0 link.1;
     }
 
-chain_leads : (count : ℕ) (world now : WorldState) (batches : List (List Turn)) (s t : ℕ) → IsSound now → LinksAreNamed world batches now → s < slot_count now
-    → slot_after now count s ≡ Some t → Leads world batches count s t
-chain_leads zero world now batches s t sound links inside is = cc
-chain_leads (suc count) world now batches s t sound links inside is =
-    let next = then_some (λ (n : ℕ). slot_after now count n) (next_slot now s) t (sym (after_first now count s) ∙ is) in
-    let there = (next_is now s next.0 sound inside next.1).inside in
-    (next.0, next_joins world now batches s next.0 sound links inside next.1, chain_leads count world now batches next.0 t sound links there next.2)
+-- a slot on a ring begins a closed chain: it ends where the walk first comes back, so that no tunnel is in it twice
+ring_closes : (world now : WorldState) (batches : List (List Turn)) (s : ℕ) → IsSound now → LinksAreNamed world batches now → s < slot_count now → (ring : IsOnRing now s)
+    → ComesBackFirst (slots_from now s) ring.count → (at : ℕ → ℕ) × (count : ℕ) × (at 0 ≡ s) × ClosesChain world batches at count
+ring_closes world now batches s sound links inside ring first =
+    let chain = chain_from now ring.count s s sound inside ring.back in
+    let there : (k : ℕ) → k < first.count → slots_from now s k < slot_count now =
+    λ k below. after_inside now k s (slots_from now s k) sound inside (passes now ring.count k s s ring.back (omega (arith, below, first.within))) in
+    (
+      slots_from now s,
+      first.count,
+      refl,
+      record {
+        some = first.some;
+        joins = λ k below. next_joins world now batches (slots_from now s k) (slots_from now s (suc k)) sound links (there k below) (chain.on k (omega (arith, below, first.within)));
+        back = first.back;
+        once = never_twice (partner_of now) (slots_from now s) ring.count chain first;
+      },
+    )
 
 pub rings_are_named : RingsAreNamed
 rings_are_named world now batches s sound links inside ring =
-    (ring.count, ring.some, chain_leads ring.count world now batches s s sound links inside ring.back)
+    ring_closes world now batches s sound links inside ring (first_way_back ring.count ring.some (ap (λ (o : Option ℕ). unwrap_or o 0) ring.back))
+  where
+    first_way_back : (count : ℕ) → 0 < count → slots_from now s count ≡ slots_from now s 0 → ComesBackFirst (slots_from now s) count
+    first_way_back zero some back = absurd (omega (arith, some))
+    first_way_back (suc more) some back =
+        let sum : suc 0 + more ≡ suc more = omega arith in
+        subst (ComesBackFirst (slots_from now s)) sum
+        (back_first (slots_from now s) more 0 (λ k some below. absurd (omega (arith, some, below))) (subst (λ (n : ℕ). slots_from now s n ≡ slots_from now s 0) (sym sum) back))
+
+-- ---- chains that close nothing
+
+-- so many tunnels, each with a named link after it, lead from one slot to another, whether one of them comes twice or not
+abbrev pub Leads : WorldState → List (List Turn) → (count s t : ℕ) → Type 0
+Leads world batches zero s t = s ≡ t
+Leads world batches (suc count) s t = (u : ℕ) × Joins world batches (far s) u × Leads world batches count u t
+
+leads_on : (world : WorldState) (batches : List (List Turn)) (at : ℕ → ℕ) (count from : ℕ) → ((k : ℕ) → k < from + count → Joins world batches (far (at k)) (at (suc k)))
+    → Leads world batches count (at from) (at (from + count))
+leads_on world batches at zero from joins = let here : from ≡ from + 0 = omega arith in ap at here
+leads_on world batches at (suc count) from joins =
+    let sum : suc from + count ≡ from + suc count = omega arith in
+    (
+      at (suc from),
+      joins from (omega arith),
+      subst (λ (n : ℕ). Leads world batches count (at (suc from)) (at n)) sum (leads_on world batches at count (suc from) (λ k below. joins k (omega (arith, below)))),
+    )
+
+-- a closed chain leads back to where it begins, so none is closed where no such way leads back
+pub no_way_closes : (world : WorldState) (batches : List (List Turn)) → ((s count : ℕ) → 0 < count → Leads world batches count s s → ⊥) → ClosesNoChain world batches
+no_way_closes world batches none at count chain =
+    let sum : 0 + count ≡ count = omega arith in
+    let leads : Leads world batches count (at 0) (at (0 + count)) = leads_on world batches at count 0 (λ k below. chain.joins k (omega (arith, below))) in
+    none (at 0) count chain.some (subst (λ (t : ℕ). Leads world batches count (at 0) t) (ap at sum ∙ chain.back) leads)
 
 -- where no link is named, none closes a chain
 pub unnamed_close_none : (world : WorldState) (batches : List (List Turn)) → ((who first second : ℕ) → NamesLink world batches who first second → ⊥) → ClosesNoChain world batches
-unnamed_close_none world batches none s zero some leads = absurd (omega (arith, some))
-unnamed_close_none world batches none s (suc count) some leads = none leads.1.who leads.1.first leads.1.second leads.1.named
+unnamed_close_none world batches none at count chain =
+    let one = chain.joins 0 chain.some in
+    none one.who one.first one.second one.named
 
 -- where named links close no chain
 pub no_ring_closes : (world now : WorldState) (batches : List (List Turn)) (s : ℕ) → IsSound now → LinksAreNamed world batches now → ClosesNoChain world batches → s < slot_count now → IsOnRing now s → ⊥
 no_ring_closes world now batches s sound links closes inside ring =
     let chain = rings_are_named world now batches s sound links inside ring in
-    closes s chain.0 chain.1 chain.2
+    closes chain.0 chain.1 chain.3
 
 pub named_links_close_none : NamedLinksCloseNone
 named_links_close_none world now batches sound links closes = (

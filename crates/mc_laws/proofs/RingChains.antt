@@ -1,7 +1,7 @@
 -- Chains of tunnels and links: one that is as long as there are tunnels comes back to where it began.
 use Rattle.std.proofs.Common.{◌≡◌, ◌≢◌, ◌<◌, ◌≤◌, ◌+◌, ◌-◌, ◌*◌, ◌/◌, ◌⊎◌, inl, inr, ℕ, zero, suc, Option, Some, length, refl, ap, sym, ◌∙◌, subst, arith}
 use Rattle.std.specs.Option.{option_and_then, unwrap_or}
-use Rattle.std.proofs.lemmas.Bool.{cases_lt}
+use Rattle.std.proofs.lemmas.Bool.{cases_eq, cases_lt}
 use Rattle.std.proofs.lemmas.Grind.{common_steps}
 use Rattle.mc_box.proofs.Options.{then_some}
 use Rattle.mc_model.specs.Paths.{next_slot, partner_of, slot_after}
@@ -53,6 +53,46 @@ never_back mate x most i (suc (suc apart)) chain within same =
     let meets : x (suc i) ≡ far (x (i + suc apart)) = one_mate (mate (x (suc (i + suc apart)))) (x (suc i)) (far (x (i + suc apart))) on before in
     let sum : i + suc apart ≡ suc i + apart = omega arith in
     never_back mate x most (suc i) apart chain (omega (arith, within)) (subst (λ (k : ℕ). x (suc i) ≡ far (x k)) sum meets)
+
+-- a chain that comes back has a first time at which it does
+pub record ComesBackFirst (x : ℕ → ℕ) (most : ℕ) : Type 0 where
+  pub count : ℕ
+  pub some : 0 < count
+  pub within : count ≤ most
+  pub back : x count ≡ x 0
+  pub not_before : (k : ℕ) → 0 < k → k < count → x k ≢ x 0
+
+-- one slot more isn't the first one
+none_till : (x : ℕ → ℕ) (done : ℕ) → ((k : ℕ) → 0 < k → k < suc done → x k ≢ x 0) → x (suc done) ≢ x 0 → (k : ℕ) → 0 < k → k < suc (suc done) → x k ≢ x 0
+none_till x done none other k some below = elim (cases_lt k (suc done)) [
+  | inl before ↦ none k some before
+  | inr there ↦ subst (λ (n : ℕ). x n ≢ x 0) (omega (arith, below, there)) other
+]
+
+here_first : (x : ℕ → ℕ) (left done : ℕ) → ((k : ℕ) → 0 < k → k < suc done → x k ≢ x 0) → x (suc done) ≡ x 0 → ComesBackFirst x (suc done + left)
+here_first x left done none same = record { count = suc done; some = omega arith; within = omega arith; back = same; not_before = none }
+
+-- it is looked for from the second slot on
+pub back_first : (x : ℕ → ℕ) (left done : ℕ) → ((k : ℕ) → 0 < k → k < suc done → x k ≢ x 0) → x (suc done + left) ≡ x 0 → ComesBackFirst x (suc done + left)
+back_first x zero done none back =
+    let last : suc done + 0 ≡ suc done = omega arith in
+    here_first x 0 done none (subst (λ (n : ℕ). x n ≡ x 0) last back)
+back_first x (suc left) done none back = elim (cases_eq (x (suc done)) (x 0)) [
+  | inl same ↦ here_first x (suc left) done none same
+  | inr other ↦
+      let sum : suc done + suc left ≡ suc (suc done) + left = omega arith in
+      subst (ComesBackFirst x) (sym sum) (back_first x left (suc done) (none_till x done none other) (subst (λ (n : ℕ). x n ≡ x 0) sum back))
+]
+
+-- up to then it goes over no tunnel twice, whichever way
+pub never_twice : (mate : ℕ → Option ℕ) (x : ℕ → ℕ) (most : ℕ) → IsChain mate x most → (first : ComesBackFirst x most) (j k : ℕ) → j < k → k < first.count → (x j ≢ x k) × (x j ≢ far (x k))
+never_twice mate x most chain first j k less below =
+    let sum : j + (k - j) ≡ k = omega (arith, less) in
+    let within : j + (k - j) ≤ most = omega (arith, less, below, first.within) in
+    (
+      λ same. first.not_before (k - j) (omega (arith, less)) (omega (arith, less, below)) (sym (first_again mate x most j (k - j) chain within (subst (λ (n : ℕ). x j ≡ x n) (sym sum) same))),
+      λ same. never_back mate x most j (k - j) chain within (subst (λ (n : ℕ). x j ≡ far (x n)) (sym sum) same),
+    )
 
 -- slots of one tunnel
 one_tunnel : (s t : ℕ) → s / 2 ≡ t / 2 → (s ≡ t) ⊎ (s ≡ far t)
@@ -106,7 +146,7 @@ abbrev pub slots_from : WorldState → ℕ → ℕ → ℕ
 slots_from world s k = unwrap_or (slot_after world k s) 0
 
 -- each of the slots up to the last is there
-passes : (world : WorldState) (most k s t : ℕ) → slot_after world most s ≡ Some t → k ≤ most → slot_after world k s ≡ Some (slots_from world s k)
+pub passes : (world : WorldState) (most k s t : ℕ) → slot_after world most s ≡ Some t → k ≤ most → slot_after world k s ≡ Some (slots_from world s k)
 passes world most k s t is within =
     let sum : k + (most - k) ≡ most = omega (arith, within) in
     let between = after_parts world k (most - k) s t (subst (λ (n : ℕ). slot_after world n s ≡ Some t) (sym sum) is) in

@@ -1,5 +1,5 @@
 -- Rings only from named links: which links programs and commands name, and that a ring is a closed chain of tunnels and of these.
-use Rattle.std.specs.Prelude.{◌≡◌, ◌<◌, ◌⊎◌, ℕ, zero, suc, true, false, List, All, Any, Contains, slice_index_or, Some}
+use Rattle.std.specs.Prelude.{◌≡◌, ◌≢◌, ◌<◌, ◌⊎◌, ℕ, suc, true, false, List, All, Any, Contains, slice_index_or, Some}
 use Rattle.mc_slot.specs.declared.Goal.TheVariants.{Close as ToClose}
 use Rattle.mc_slot.specs.declared.SlotGoal.TheVariants.{End, Link}
 use Rattle.mc_box.specs.BoxEvents.{is_command, turn_of}
@@ -58,14 +58,20 @@ pub record Joins (world : WorldState) (batches : List (List Turn)) (s t : ℕ) :
   pub beyond : number world who second ≡ Some t
   pub named : NamesLink world batches who first second
 
--- so many tunnels, each with a named link behind it, lead from one slot to another
-abbrev pub Leads : WorldState → List (List Turn) → (count s t : ℕ) → Type 0
-Leads world batches zero s t = s ≡ t
-Leads world batches (suc count) s t = (u : ℕ) × Joins world batches (far s) u × Leads world batches count u t
+-- two slots are of different tunnels
+abbrev pub AreOfTwoTunnels : (s t : ℕ) → Type 0
+AreOfTwoTunnels s t = (s ≢ t) × (s ≢ far t)
 
--- no tunnels and named links lead back to where they began
+-- The slots `at 0` up to `at (count - 1)` make a closed chain: from each of them its tunnel and then a named link lead to the next one, and from the last to the first. No tunnel is in the chain twice, whichever way
+pub record ClosesChain (world : WorldState) (batches : List (List Turn)) (at : ℕ → ℕ) (count : ℕ) : Type 0 where
+  pub some : 0 < count
+  pub joins : (k : ℕ) → k < count → Joins world batches (far (at k)) (at (suc k))
+  pub back : at count ≡ at 0
+  pub once : (j k : ℕ) → j < k → k < count → AreOfTwoTunnels (at j) (at k)
+
+-- no tunnels and named links make one
 abbrev pub ClosesNoChain : WorldState → List (List Turn) → Type 0
-ClosesNoChain world batches = (s count : ℕ) → 0 < count → Leads world batches count s s → ⊥
+ClosesNoChain world batches = (at : ℕ → ℕ) (count : ℕ) → ClosesChain world batches at count → ⊥
 
 -- ---- laws
 
@@ -82,7 +88,7 @@ RunKeepsNamed = (world now next : WorldState) (batches : List (List Turn)) (turn
 -- where all links are named, a ring is a closed chain of tunnels and named links
 abbrev pub RingsAreNamed : Type 0
 RingsAreNamed = (world now : WorldState) (batches : List (List Turn)) (s : ℕ) → IsSound now → LinksAreNamed world batches now → s < slot_count now → IsOnRing now s
-    → (count : ℕ) × (0 < count) × Leads world batches count s s
+    → (at : ℕ → ℕ) × (count : ℕ) × (at 0 ≡ s) × ClosesChain world batches at count
 
 -- so where these close no chain there is no ring
 abbrev pub NamedLinksCloseNone : Type 0

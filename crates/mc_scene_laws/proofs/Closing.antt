@@ -4,7 +4,8 @@ use Rattle.std.proofs.lemmas.List.Sums.{AllPass-from_list_all}
 use Rattle.std.specs.List.{All, list_all}
 use Rattle.mc_box.specs.declared.event.Turn.{Turn}
 use Rattle.mc_model.specs.Worlds.{WorldState, far, place}
-use Rattle.mc_laws.specs.Chains.{ClosesNoChain, IsAmong, Joins, Leads, NamesLink}
+use Rattle.mc_laws.specs.Chains.{ClosesNoChain, IsAmong, Joins, NamesLink}
+use Rattle.mc_laws.proofs.Chains.{Leads, no_way_closes}
 use Rattle.mc_laws.proofs.Numbers.{number_is}
 
 -- what holds of each turn of each batch holds of one that is among them
@@ -33,5 +34,8 @@ module _ (world : WorldState) (batches : List (List Turn)) (hub : ℕ) (at_hub :
 
     -- where all named links are of one box, and no tunnel joins the box with itself, a chain has one link at most
     pub one_box : ClosesNoChain world batches
-    one_box s zero some leads = absurd (omega arith)
-    one_box s (suc count) some (u, joins, others) = behind_one s u count joins others
+    one_box = no_way_closes world batches leads_back
+      where
+        leads_back : (s count : ℕ) → 0 < count → Leads world batches count s s → ⊥
+        leads_back s zero some leads = absurd (omega arith)
+        leads_back s (suc count) some (u, joins, others) = behind_one s u count joins others

@@ -5,7 +5,8 @@ use Rattle.std.proofs.lemmas.List.{length-map, map-append}
 use Rattle.mc_box.specs.BoxShapes.{BoxShapeState, is_feature, no_shape, shape_of}
 use Rattle.mc_model.specs.Worlds.{WorldState, far, place, places_among, slot_count}
 use Rattle.mc_box.specs.declared.event.Turn.{Turn}
-use Rattle.mc_laws.specs.Chains.{ClosesNoChain, Joins, Leads, NamesLink}
+use Rattle.mc_laws.specs.Chains.{ClosesNoChain, Joins, NamesLink}
+use Rattle.mc_laws.proofs.Chains.{Leads, no_way_closes}
 use Rattle.mc_laws.proofs.Numbers.{number_is}
 use Rattle.mc_scene_laws.specs.Posts.{Post, at_left, at_right, between, channels_from, post_shape}
 use Rattle.mc_scene_laws.proofs.Seams.{first_there}
@@ -158,8 +159,11 @@ module _ (all : List Post) (world : WorldState) (batches : List (List Turn)) (le
 
   -- so it never comes back
   pub one_way : ClosesNoChain world batches
-  one_way s count some leads = by (by_two s)
+  one_way = no_way_closes world batches leads_back
     where
-      by : (s % 2 ≡ 0) ⊎ (s % 2 ≡ 1) → ⊥
-      by (inl even) = let rise = all_rise count s s even leads in omega arith
-      by (inr odd) = let fall = all_fall count s s odd leads in omega arith
+      leads_back : (s count : ℕ) → 0 < count → Leads world batches count s s → ⊥
+      leads_back s count some leads = by (by_two s)
+        where
+          by : (s % 2 ≡ 0) ⊎ (s % 2 ≡ 1) → ⊥
+          by (inl even) = let rise = all_rise count s s even leads in omega arith
+          by (inr odd) = let fall = all_fall count s s odd leads in omega arith
