@@ -8,7 +8,10 @@ use crate::networks::{add, device, feature, join, row, two_features};
 use crate::programs::{drawn_program, flipping};
 use mc_box::limit::{LAST_VERSION, SHIFT_LIMIT};
 use mc_box::{Change, Event, MediaChange, Turn};
+use mc_crew::limit::CREW_LIMIT;
+use mc_io::OpenGate;
 use mc_plan::{BoxPlan, Plan};
+use mc_rounds::settle_rounds;
 use mc_rule::Program;
 use mc_seq::{SettleFault, fits, settle_one, settle_plainly};
 use mc_signal::Medium;
@@ -17,6 +20,7 @@ use mc_text::Draws;
 use mc_world::{Settled, World};
 use std::alloc::{AllocError, Global};
 use std::process::Abort;
+use std::thread::Threads;
 
 // How a settle ended.
 #[derive(Clone, Copy, PartialEq, Eq, Debug)]
@@ -87,6 +91,15 @@ fn by_lists(alloc: Global, world: World, batch: &[Turn], state: u32) -> Outcome 
     }
     let settled = settle_plainly(alloc, world, batch, &mut draws);
     outcome_of(alloc, settled, draws.state)
+}
+
+fn in_rounds<R: Threads + Sync + AllocGlobal>(rt: &R, world: World, batch: &[Turn]) -> Outcome {
+    let alloc = rt.alloc();
+    if !fits(&world, batch) || world.boxes().len() > CREW_LIMIT {
+        return ended(alloc, Ending::Refused, 0);
+    }
+    let settled = settle_rounds(rt, alloc, &OpenGate, world, batch);
+    outcome_of(alloc, settled, 0)
 }
 
 // An outcome has this end, these turns, and this state of the draws.
@@ -173,6 +186,17 @@ fn calls_are_settled_by_draws(rt: HostRuntime) -> Result<(), TestFault> {
     for (batch, turns, draws) in CALLS {
         let world = row(rt.alloc(), 1)?;
         settles_by(&rt, world, batch, Ending::Rest, turns, draws);
+    }
+    Ok(())
+}
+
+// In rounds the order of the turns is free, and their number isn't, since each box makes its commands first.
+#[test]
+fn calls_are_settled_in_rounds(rt: HostRuntime) -> Result<(), TestFault> {
+    for (batch, turns, _draws) in CALLS {
+        let done = in_rounds(&rt, row(rt.alloc(), 1)?, batch);
+        is_equal(&rt, &done.ending, &Ending::Rest);
+        is_equal(&rt, &done.turns.len(), &turns.len());
     }
     Ok(())
 }
