@@ -8,6 +8,7 @@ pub mod Laid
 pub mod MadeNets
 pub mod Named
 pub mod NamesKept
+pub mod OneNet
 pub mod OpenBlocks
 pub mod Programmed
 pub mod Reading

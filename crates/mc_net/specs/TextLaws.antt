@@ -1,5 +1,5 @@
--- Laws of texts: each says something or has a fault, and never both, nor two faults. The first bytes of a long text show its fault. A text says which boxes have programs, and names all of its network.
-use Rattle.std.specs.Prelude.{ℕ, ◌≡◌, ◌⊎◌, ◌++◌, List, drop, length, take}
+-- Laws of texts: each says something or has a fault, and never both, nor two faults. The first bytes of a long text show its fault. A text declares one network. It says which boxes have programs, and names all of its network.
+use Rattle.std.specs.Prelude.{ℕ, ◌≡◌, ◌⊎◌, ◌++◌, List, drop, length, map, take}
 use Rattle.mc_text.specs.Lines.{lines}
 use Rattle.mc_lines.specs.Rules.{read_limit}
 use Rattle.mc_lines.specs.SoFar.{Declared}
@@ -7,7 +7,7 @@ use Rattle.mc_model.specs.Unprogrammed.{HasNoPrograms}
 use Rattle.mc_model.specs.Worlds.{WorldState}
 use Rattle.mc_lines.specs.declared.tail.Tail.{Tail}
 use Rattle.mc_lines.specs.declared.tail.Tail.TheVariants.{Nothing}
-use Rattle.mc_net.specs.Nets.{DeclaresNet, IsFirstWorld, IsUnprogrammed, IsWellNamed}
+use Rattle.mc_net.specs.Nets.{DeclaresNet, IsFirstWorld, IsUnprogrammed, IsWellNamed, batch_turns}
 use Rattle.mc_net.specs.Texts.{IsFault, Says, text_end, text_lines}
 use Rattle.mc_net.specs.declared.net.Net.{Net}
 
@@ -46,6 +46,26 @@ LinesBehind = (tail : Tail) (text : List ℕ) → lines text ≡ text_lines tail
 -- where nothing may stand behind the commands, a text has all lines, and its end is that of the bytes
 abbrev pub UnendedTexts : Type 0
 UnendedTexts = (text : List ℕ) → (text_lines Nothing text ≡ lines text) × (text_end Nothing text ≡ length text)
+
+-- a text says one thing
+abbrev pub OneDeclared : Type 0
+OneDeclared = (tail : Tail) (text : List ℕ) (d other : Declared) → Says tail text d → Says tail text other → d ≡ other
+
+-- what was declared has one first world
+abbrev pub OneFirstWorld : Type 0
+OneFirstWorld = (d : Declared) (world other : WorldState) → IsFirstWorld d world → IsFirstWorld d other → world ≡ other
+
+-- networks of which clauses see the same
+pub record IsSameNet (net other : Net) : Type 0 where
+  pub world : net.world ≡ other.world
+  pub names : net.names ≡ other.names
+  pub shape : net.shape ≡ other.shape
+  pub batches : map batch_turns net.batches.items ≡ map batch_turns other.batches.items
+  pub rest : net.rest ≡ other.rest
+
+-- a text declares one network
+abbrev pub OneNet : Type 0
+OneNet = (tail : Tail) (text : List ℕ) (net other : Net) → DeclaresNet tail text net → DeclaresNet tail text other → IsSameNet net other
 
 -- where no program was declared, no box of the first world has one
 abbrev pub UnprogrammedTexts : Type 0

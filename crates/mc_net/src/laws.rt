@@ -3,6 +3,7 @@
 ghost use Rattle.mc_net.specs.TextLaws.{DeclaresOrFaults, OneFault, OneOrTheOther, UnprogrammedTexts};
 ghost use Rattle.mc_net.specs.TextLaws.{FaultsOfTheFirstBytes, NetsOfTheFirstBytes, SaysTheWhole};
 ghost use Rattle.mc_net.specs.TextLaws.{LinesBehind, NetsAreNamed, UnendedTexts};
+ghost use Rattle.mc_net.specs.TextLaws.{OneDeclared, OneFirstWorld, OneNet};
 ghost use Rattle.mc_net.specs.Versions.{FirstVersions};
 
 /// A text that says something has no fault.
@@ -36,6 +37,14 @@ pub fn lines_behind()
 /// Where nothing may stand behind the commands, each line is one of the text's, and the text ends where its bytes do.
 pub fn unended_texts()
     ensures { UnendedTexts }
+{}
+
+/// A text declares one network: it says one thing, what was declared has one first world, and clauses see the same of
+/// any two networks that a text declares.
+pub fn one_net()
+    ensures declared { OneDeclared }
+    ensures world { OneFirstWorld }
+    ensures net { OneNet }
 {}
 
 /// Each slot of a text's first world has the version that the line of its box says.
