@@ -1,5 +1,5 @@
 -- The batches of generated texts come to rest.
-use Rattle.std.proofs.Common.{◌≡◌, inl, inr, ℕ, zero, suc, ◌+◌, Bool, true, false, List, [], ◌∷◌, ◌++◌, All, count_by, length, length-append, map, slice_index_or, refl, sym, ap, ◌∙◌, subst, append_assoc, arith}
+use Rattle.std.proofs.Common.{◌≡◌, inl, inr, ℕ, zero, suc, ◌+◌, Bool, true, false, List, [], ◌∷◌, ◌++◌, All, count_by, length, length-append, map, slice_index_or, take, refl, sym, ap, ◌∙◌, subst, append_assoc, arith}
 use Rattle.std.proofs.lemmas.List.Elements.{All-from_recursion}
 use Rattle.std.specs.List.{AllByRecursion, range_with_len}
 use Rattle.mc_slot.specs.declared.Goal.{Goal}
@@ -14,23 +14,26 @@ use Rattle.mc_box.specs.declared.event.Event.{Event}
 use Rattle.mc_box.specs.declared.event.Event.TheVariants.{Take, Set, Media, Tell, Retry, Shift}
 use Rattle.mc_box.specs.declared.event.Turn.{Turn}
 use Rattle.mc_model.specs.Settles.{hears_in, hears_of, is_hear_of, is_tell_of}
-use Rattle.mc_model.specs.Worlds.{ChannelState, WorldState, places_among}
+use Rattle.mc_model.specs.Worlds.{ChannelState, WorldState, box_at, places_among}
 use Rattle.mc_laws.specs.Chains.{ClosesNoChain, NamesLink}
 use Rattle.mc_laws.specs.Words.{WaitsForWords}
 use Rattle.mc_script.specs.declared.command.Command.{Command}
 use Rattle.mc_script.specs.declared.command.Command.TheVariants.{Stimulus, Settle}
 use Rattle.mc_lines.specs.Meaning.{declared_at}
 use Rattle.mc_net.specs.Nets.{IsFirstWorld, batches_of, before_next}
+use Rattle.mc_settings.specs.Batches.{LeavesDecided, commanded_by}
 use Rattle.mc_scene.specs.Chains.{drawn_chains}
 use Rattle.mc_scene.specs.declared.chains.Chain.{Chain}
 use Rattle.mc_scene_laws.specs.ChainTexts.{chain_calls, chain_closes, chain_commands, chain_holds, chains_declared, first_told, for_chains, links_through}
-use Rattle.mc_scene_laws.specs.GeneratedLaws.{GeneratedAreUnprogrammed, GeneratedComeToRest}
-use Rattle.mc_scene_laws.specs.Posts.{Post, all_posts, at_left, at_right, between, chain_posts, post_box}
+use Rattle.mc_scene_laws.specs.GeneratedLaws.{GeneratedAreUnprogrammed, GeneratedComeToRest, GeneratedLeaveDecided}
+use Rattle.mc_scene_laws.specs.Posts.{Post, all_posts, at_left, at_right, between, chain_posts, channels_from, post_box}
 use Rattle.mc_scene_laws.specs.Resting.{ComesToRest, TellsOnce}
 use Rattle.mc_scene_laws.specs.SceneTexts.{sets_end}
+use Rattle.mc_scene_laws.proofs.ChainGoals.{EndFits, IsRightAt, TurnFits, batches_fit, channels_by, closing_fit}
 use Rattle.mc_scene_laws.proofs.ChainOrder.{features_at, posts_counted}
 use Rattle.mc_scene_laws.proofs.Closing.{among_has}
 use Rattle.mc_scene_laws.proofs.Commanded.{no_last}
+use Rattle.mc_scene_laws.proofs.HoldsApart.{AllComeFromLeft, channels_come, holds_apart, left_at, right_at}
 use Rattle.mc_scene_laws.proofs.OneWay.{AllLeadRight, IsFeatureAt, LinksThrough, channels_lead, one_way, shape_at}
 use Rattle.mc_scene_laws.proofs.Programmed.{first_channels, first_goals, first_programs}
 
@@ -41,8 +44,9 @@ abbrev sets_goals : Event → Bool
 sets_goals (Set change) = true
 sets_goals other = false
 
--- a turn that sets goals, and links only the two slots of a feature
+-- a turn that sets goals, links only the two slots of a feature, and has only right devices hold
 record IsChainTurn (all : List Post) (turn : Turn) : Type 0 where
+  pub fits : TurnFits all turn
   pub sets : sets_goals turn.event ≡ true
   pub link : (first second : ℕ) → turn.event ≡ Set (NewLink first second) → IsFeatureAt all turn.who × ((first ≡ 0) × (second ≡ 1))
 
@@ -55,11 +59,12 @@ commands-append : (all : List Post) (one two : List Command) → AllByRecursion 
 commands-append all [] two first second = second
 commands-append all (command ∷ one) two first second = (first.0, commands-append all one two first.1 second)
 
-end_is : (all : List Post) (who : ℕ) (goal : Goal) → IsChainCommand all (sets_end who goal)
-end_is all who goal = record { sets = refl; link = λ first second is. absurd (let clash : Set (NewEnd 0 goal) ≡ Set (NewLink first second) = is in cc) }
+end_is : (all : List Post) (who : ℕ) (goal : Goal) → (IsFeatureAt all who → ⊥) → EndFits all who goal → IsChainCommand all (sets_end who goal)
+end_is all who goal none fits = record { fits = (none, fits); sets = refl; link = λ first second is. absurd (let clash : Set (NewEnd 0 goal) ≡ Set (NewLink first second) = is in cc) }
 
 link_is : (all : List Post) (who : ℕ) → IsFeatureAt all who → IsChainCommand all (links_through who)
 link_is all who feature = record {
+  fits = (feature, (refl, refl));
   sets = refl;
   link = λ first second is. let one : 0 ≡ first = cc in let two : 1 ≡ second = cc in (feature, (sym one, sym two));
 }
@@ -74,12 +79,23 @@ links_are all chain (suc n) a who done tail is counted =
     let seam = append_assoc done (between chain a ∷ []) (map (between chain) (range_with_len (a + 1) n) ++ tail) in
     (link_is all (who + 1 + a) feature, links_are all chain n (a + 1) who (done ++ between chain a ∷ []) tail (is ∙ sym seam) (omega (arith, length-append done (between chain a ∷ []))))
 
+-- a right device may get any goal
+right_fits : (all : List Post) (who : ℕ) (goal : Goal) → IsRightAt all who → EndFits all who goal
+right_fits all who ToOpen right = tt
+right_fits all who ToClose right = tt
+right_fits all who ToHold right = right
+
+right_is : (all before : List Post) (chain : Chain) (tail : List Post) (who : ℕ) (goal : Goal) → all ≡ before ++ (chain_posts chain ++ tail) → length before ≡ who → IsChainCommand all (sets_end (who + 1 + chain.features) goal)
+right_is all before chain tail who goal is counted =
+    let there = right_at all before chain tail who is counted in
+    end_is all (who + 1 + chain.features) goal there.0 (right_fits all (who + 1 + chain.features) goal there.1)
+
 calls_are : (all : List Post) (chain : Chain) (before tail : List Post) (who : ℕ) → all ≡ before ++ (chain_posts chain ++ tail) → length before ≡ who → AllByRecursion (IsChainCommand all) (chain_calls who chain)
 calls_are all chain before tail who is counted =
     let at_features = features_at all before chain tail is in
     commands-append all (map (λ place. links_through (who + 1 + place)) (range_with_len 0 chain.features)) (sets_end who ToOpen ∷ sets_end (who + 1 + chain.features) (first_told chain.goal) ∷ [])
     (links_are all chain chain.features 0 who (before ++ at_left chain ∷ []) (at_right chain ∷ tail) at_features (omega (arith, counted, length-append before (at_left chain ∷ []))))
-    (end_is all who ToOpen, (end_is all (who + 1 + chain.features) (first_told chain.goal), tt))
+    (end_is all who ToOpen (left_at all before chain tail who is counted) tt, (right_is all before chain tail who (first_told chain.goal) is counted, tt))
 
 each_are : (all : List Post) (commands : ℕ → Chain → List Command)
     → ((chain : Chain) (before tail : List Post) (who : ℕ) → all ≡ before ++ (chain_posts chain ++ tail) → length before ≡ who → AllByRecursion (IsChainCommand all) (commands who chain))
@@ -98,8 +114,8 @@ all_are chains =
     commands-append (all_posts chains) (for_chains chain_calls 0 chains ++ Settle ∷ []) ((for_chains chain_holds 0 chains ++ Settle ∷ []) ++ (for_chains chain_closes 0 chains ++ Settle ∷ []))
     (batch_are (all_posts chains) (for_chains chain_calls 0 chains) (each_are (all_posts chains) chain_calls (λ chain before tail who is counted. calls_are (all_posts chains) chain before tail who is counted) chains [] 0 refl refl))
     (commands-append (all_posts chains) (for_chains chain_holds 0 chains ++ Settle ∷ []) (for_chains chain_closes 0 chains ++ Settle ∷ [])
-    (batch_are (all_posts chains) (for_chains chain_holds 0 chains) (each_are (all_posts chains) chain_holds (λ chain before tail who is counted. (end_is (all_posts chains) (who + 1 + chain.features) ToHold, tt)) chains [] 0 refl refl))
-    (batch_are (all_posts chains) (for_chains chain_closes 0 chains) (each_are (all_posts chains) chain_closes (λ chain before tail who is counted. (end_is (all_posts chains) who ToClose, tt)) chains [] 0 refl refl)))
+    (batch_are (all_posts chains) (for_chains chain_holds 0 chains) (each_are (all_posts chains) chain_holds (λ chain before tail who is counted. (right_is (all_posts chains) before chain tail who ToHold is counted, tt)) chains [] 0 refl refl))
+    (batch_are (all_posts chains) (for_chains chain_closes 0 chains) (each_are (all_posts chains) chain_closes (λ chain before tail who is counted. (end_is (all_posts chains) who ToClose (left_at (all_posts chains) before chain tail who is counted) tt, tt)) chains [] 0 refl refl)))
 
 -- ---- batches
 
@@ -210,6 +226,30 @@ chains_come_to_rest chains =
 
 pub generated_come_to_rest : GeneratedComeToRest
 generated_come_to_rest number size = chains_come_to_rest (drawn_chains number size)
+
+-- ---- hold against hold
+
+turns_fit : (all : List Post) (batch : List Turn) → AllByRecursion (IsChainTurn all) batch → AllByRecursion (TurnFits all) batch
+turns_fit all [] each = tt
+turns_fit all (turn ∷ batch) each = (each.0.fits, turns_fit all batch each.1)
+
+all_turns_fit : (all : List Post) (batches : List (List Turn)) → AllByRecursion (AllByRecursion (IsChainTurn all)) batches → AllByRecursion (AllByRecursion (TurnFits all)) batches
+all_turns_fit all [] each = tt
+all_turns_fit all (batch ∷ batches) each = (turns_fit all batch each.0, all_turns_fit all batches each.1)
+
+-- no batch of chains leaves a path of hold against hold
+pub chains_leave_decided : (chains : List Chain) (world : WorldState) → IsFirstWorld (chains_declared chains) world → LeavesDecided world (batches_of (chain_commands chains))
+chains_leave_decided chains world start k below =
+    let all : List Post = all_posts chains in
+    let batches : List (List Turn) = batches_of (chain_commands chains) in
+    let are : (commanded_by world (take (suc k) batches)).channels ≡ channels_from 0 all = channels_by batches (suc k) world ∙ first_channels (chains_declared chains) world start in
+    holds_apart all (commanded_by world (take (suc k) batches))
+    (batches_fit all batches (suc k) world (all_turns_fit all batches (batches_are all (chain_commands chains) (all_are chains))) (λ who. closing_fit all who (box_at world who).goals 0 (first_goals (chains_declared chains) world start who)))
+    (subst (λ (channels : List ChannelState). AllLeadRight all (places_among channels)) (sym are) (channels_lead all all [] 0 refl refl))
+    (subst (λ (channels : List ChannelState). AllComeFromLeft all (places_among channels)) (sym are) (channels_come all all [] 0 refl refl))
+
+pub generated_leave_decided : GeneratedLeaveDecided
+generated_leave_decided number size world start = chains_leave_decided (drawn_chains number size) world start
 
 pub generated_are_unprogrammed : GeneratedAreUnprogrammed
 generated_are_unprogrammed number size = refl

@@ -1,5 +1,6 @@
 pub mod BoxLines
 pub mod ChainCommands
+pub mod ChainGoals
 pub mod ChainLines
 pub mod ChainOrder
 pub mod ChainTexts
@@ -9,6 +10,7 @@ pub mod CommandLines
 pub mod Commanded
 pub mod Entering
 pub mod GeneratedRests
+pub mod HoldsApart
 pub mod Joined
 pub mod Kept
 pub mod LinesOfWords

@@ -49,7 +49,7 @@ channels_lead all (at_right chain ∷ posts) done who is counted =
     channels_lead all posts (done ++ at_right chain ∷ []) (who + 1) (is ∙ sym seam) (omega (arith, length-append done (at_right chain ∷ [])))
 
 -- an even slot and the next one are those of a tunnel
-leads_at : (all : List Post) (places : List (ℕ × ℕ)) (s : ℕ) → AllLeadRight all places → s < length places → s % 2 ≡ 0 → LeadsRight all (slice_index_or places s (0, 0)) (slice_index_or places (suc s) (0, 0))
+pub leads_at : (all : List Post) (places : List (ℕ × ℕ)) (s : ℕ) → AllLeadRight all places → s < length places → s % 2 ≡ 0 → LeadsRight all (slice_index_or places s (0, 0)) (slice_index_or places (suc s) (0, 0))
 leads_at all [] s lead within even = absurd (omega arith)
 leads_at all (near ∷ []) s lead within even = absurd lead
 leads_at all (near ∷ beyond ∷ places) zero lead within even = lead.0
@@ -68,13 +68,13 @@ far_even s even =
     let same : s + 1 ≡ suc s = omega arith in
     rw (is, same) refl
 
-far_odd : (s v : ℕ) → s % 2 ≡ 1 → s ≡ suc v → far s ≡ v
+pub far_odd : (s v : ℕ) → s % 2 ≡ 1 → s ≡ suc v → far s ≡ v
 far_odd s v odd is =
     let not_even : (s % 2 == 0) ≡ false = grind arith in
     let same : s - 1 ≡ v = omega arith in
     rw (not_even, same) refl
 
-by_two : (s : ℕ) → (s % 2 ≡ 0) ⊎ (s % 2 ≡ 1)
+pub by_two : (s : ℕ) → (s % 2 ≡ 0) ⊎ (s % 2 ≡ 1)
 by_two s = by (cases_eq (s % 2) 0)
   where
     by : (s % 2 ≡ 0) ⊎ (s % 2 ≡ 0 → ⊥) → (s % 2 ≡ 0) ⊎ (s % 2 ≡ 1)

@@ -1,7 +1,7 @@
 //! Laws of texts that are made, over the definitions alone: each function's contract is the law's sentence.
 
 ghost use Rattle.mc_scene_laws.specs.GeneratedLaws.{ChainsAreTexts, DrawnChainsAreNumbered, GeneratedAreTexts};
-ghost use Rattle.mc_scene_laws.specs.GeneratedLaws.{GeneratedAreUnprogrammed, GeneratedComeToRest};
+ghost use Rattle.mc_scene_laws.specs.GeneratedLaws.{GeneratedAreUnprogrammed, GeneratedComeToRest, GeneratedLeaveDecided};
 ghost use Rattle.mc_scene_laws.specs.SceneLaws.{ScenesAreTexts, ScenesComeToRest};
 
 /// The text of each scene is in the grammar.
@@ -41,4 +41,10 @@ pub fn generated_are_unprogrammed()
 /// The batches of a generated text come to rest: a chain of links and tunnels goes one way, and so is never closed.
 pub fn generated_come_to_rest()
     ensures { GeneratedComeToRest }
+{}
+
+/// No batch of a generated text leaves a path of hold against hold: only right devices hold, and each path leads from
+/// one side of its chain to the other.
+pub fn generated_leave_decided()
+    ensures { GeneratedLeaveDecided }
 {}
