@@ -3,7 +3,9 @@ mod Causes
 mod Channels
 mod DrawsStop
 mod Ending
+mod EndsAlike
 mod FirstWorlds
+mod GenAlike
 mod GoodJournals
 mod LastVersions
 mod LeftRings
@@ -20,9 +22,11 @@ mod SceneSteps
 mod SceneTexts
 mod SceneWorlds
 mod SeenAlike
+mod SeenNets
 mod Shifters
 mod ShownSettles
 mod Stopping
+mod SummedAlike
 mod Summing
 mod TextAlone
 mod Told

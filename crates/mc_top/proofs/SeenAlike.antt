@@ -16,21 +16,15 @@ use Rattle.mc_box.specs.Acting.{IsAlike}
 use Rattle.mc_box.specs.Boxes.{BoxState, media_at, own, own_of, sender, sender_of}
 use Rattle.mc_box.specs.declared.event.Kind.{Kind}
 use Rattle.mc_box.specs.declared.event.Kind.TheVariants.{Device, Feature}
-use Rattle.mc_box.specs.declared.event.Turn.{Turn}
 use Rattle.mc_box.specs.declared.setup.SlotMedia.{SlotMedia}
 use Rattle.mc_laws.proofs.Reaches.{GoalsStay, with_boxes}
 use Rattle.mc_model.specs.PathTable.{heard_codec, high_hears, low_hears, path_state, table}
 use Rattle.mc_model.specs.Paths.{PathEnds, end_goal, paths}
-use Rattle.mc_model.specs.Settles.{IsSettled, commands_of}
-use Rattle.mc_model.specs.Sound.{IsSound}
-use Rattle.mc_model.specs.Unprogrammed.{HasNoPrograms}
 use Rattle.mc_model.specs.Worlds.{ChannelState, WorldState, box_at, goal_of, own_descriptor, own_sender, place, slot_count, slot_of, tunnel_of}
-use Rattle.mc_settings.proofs.BatchesLeft.{batch_is_left, settled_used}
-use Rattle.mc_settings.proofs.CommandedWorlds.{settings_are, shape_stays}
 use Rattle.mc_settings.proofs.SamePaths.{end_goal_same, goals_stay, media_same, paths_same}
 use Rattle.mc_settings.specs.Alike.{AreAlike}
 use Rattle.mc_settings.specs.Batches.{AreDecided, IsDecided}
-use Rattle.mc_settings.specs.Settings.{commanded, set_by_all, settings_of}
+use Rattle.mc_settings.specs.Settings.{settings_of}
 use Rattle.mc_script.specs.Meaning.{goal_word}
 use Rattle.mc_table.specs.Words.{line_of, medium_word}
 use Rattle.mc_text.specs.NameLists.{NameLists}
@@ -50,22 +44,11 @@ pub record AreSeenAlike (world other : WorldState) : Type 0 where
   pub channels : world.channels ≡ other.channels
   pub boxes : (who : ℕ) → IsSeenAlike (box_at world who) (box_at other who)
 
-pub box_seen_self : (box : BoxState) → IsSeenAlike box box
-box_seen_self box = record { kind = refl; receives = refl; sends = refl; settings = refl }
-
 box_seen_back : (box other : BoxState) → IsSeenAlike box other → IsSeenAlike other box
 box_seen_back box other seen = record { kind = sym seen.kind; receives = sym seen.receives; sends = sym seen.sends; settings = sym seen.settings }
 
-box_seen_both : (box other third : BoxState) → IsSeenAlike box other → IsSeenAlike other third → IsSeenAlike box third
-box_seen_both box other third one two =
-    record { kind = one.kind ∙ two.kind; receives = one.receives ∙ two.receives; sends = one.sends ∙ two.sends; settings = one.settings ∙ two.settings }
-
 pub seen_back : (world other : WorldState) → AreSeenAlike world other → AreSeenAlike other world
 seen_back world other seen = record { channels = sym seen.channels; boxes = λ who. box_seen_back (box_at world who) (box_at other who) (seen.boxes who) }
-
-pub seen_both : (world other third : WorldState) → AreSeenAlike world other → AreSeenAlike other third → AreSeenAlike world third
-seen_both world other third one two =
-    record { channels = one.channels ∙ two.channels; boxes = λ who. box_seen_both (box_at world who) (box_at other who) (box_at third who) (one.boxes who) (two.boxes who) }
 
 -- a box of the same make and settings
 box_alike_seen : (box other : BoxState) → IsAlike box other → settings_of box ≡ settings_of other → IsSeenAlike box other
@@ -73,36 +56,9 @@ box_alike_seen box other alike same =
     record { kind = alike.kind; receives = ap codecs_of alike.receives; sends = ap codecs_of alike.sends; settings = same }
 
 -- worlds that are alike but for what signals change
-alike_seen : (world other : WorldState) → AreAlike world other → AreSeenAlike world other
+pub alike_seen : (world other : WorldState) → AreAlike world other → AreSeenAlike world other
 alike_seen world other alike =
     record { channels = alike.shape.channels; boxes = λ who. box_alike_seen (box_at world who) (box_at other who) (alike.shape.alike who) (alike.settings who) }
-
--- a box with other settings
-box_seen_with : (box other new next : BoxState) → IsSeenAlike box other → IsAlike new box → IsAlike next other → settings_of new ≡ settings_of next → IsSeenAlike new next
-box_seen_with box other new next seen one two same = record {
-  kind = one.kind ∙ (seen.kind ∙ sym two.kind);
-  receives = ap codecs_of one.receives ∙ (seen.receives ∙ sym (ap codecs_of two.receives));
-  sends = ap codecs_of one.sends ∙ (seen.sends ∙ sym (ap codecs_of two.sends));
-  settings = same;
-}
-
--- commands leave worlds so
-commanded_seen : (world other : WorldState) (turns : List Turn) → AreSeenAlike world other → AreSeenAlike (commanded world turns) (commanded other turns)
-commanded_seen world other turns seen = record {
-  channels = seen.channels;
-  boxes = λ who.
-      box_seen_with (box_at world who) (box_at other who) (box_at (commanded world turns) who) (box_at (commanded other turns) who) (seen.boxes who)
-      ((shape_stays world turns).alike who) ((shape_stays other turns).alike who)
-      (settings_are world turns who ∙ (ap (set_by_all (commands_of who turns)) (seen.boxes who).settings ∙ sym (settings_are other turns who)));
-}
-
--- so do settled segments of one batch
-pub settles_are_seen_alike : (world other last end : WorldState) (batch turns others : List Turn) → IsSound world → IsSound other → HasNoPrograms world → HasNoPrograms other → AreSeenAlike world other
-    → IsSettled world batch turns last → IsSettled other batch others end → AreSeenAlike last end
-settles_are_seen_alike world other last end batch turns others sound other_sound unprogrammed other_unprogrammed seen one two =
-    seen_both last (commanded world batch) end (alike_seen last (commanded world batch) (batch_is_left world last batch turns sound unprogrammed (settled_used world last batch turns one)))
-    (seen_both (commanded world batch) (commanded other batch) end (commanded_seen world other batch seen)
-    (seen_back end (commanded other batch) (alike_seen end (commanded other batch) (batch_is_left other end batch others other_sound other_unprogrammed (settled_used other end batch others two)))))
 
 -- ---- what is heard
 

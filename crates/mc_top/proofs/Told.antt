@@ -23,6 +23,7 @@ use Rattle.mc_top.specs.declared.stop.Stop.{Stop}
 use Rattle.mc_top.specs.Rings.{AlwaysRests}
 use Rattle.mc_top.proofs.BytesBehind.{bad_alike, lines_alike}
 use Rattle.mc_top.proofs.Causes.{never_stops}
+use Rattle.mc_top.proofs.SeenNets.{Seen, declared_same, seen}
 use Rattle.mc_words.specs.declared.words.Mode.{Mode}
 use Rattle.mc_words.specs.declared.words.Mode.TheVariants.{Check, Gen, One, Run, Scene}
 
@@ -140,7 +141,7 @@ WorksOn (Scene scene) text = CanRun text
 says_some : (mode : Mode) (text : List ℕ) → WorksOn mode text → (d : Declared) × Says (tail_of mode) text d
 says_some (Run asked) text works = (works.0, works.1)
 says_some (One state asked) text works = (works.0, works.1)
-says_some Check text works = (works.says.0, works.says.1)
+says_some Check text works = (works.declares.declared, works.declares.says)
 says_some (Gen number size) text works = (works.0, works.1)
 says_some (Scene scene) text works = (works.0, works.1)
 
@@ -178,11 +179,17 @@ good_has_none text net number turn good fault =
     good_or_faulty net.world (map batch_turns net.batches.items) (tail_lines net.names net.shape text net.rest) number turn good.settles
     (subst (λ (bad : Bool). IsJournalFault net.world (map batch_turns net.batches.items) (tail_lines net.names net.shape text net.rest) bad number turn) good.whole fault)
 
+-- the fault of a journal is that by each network of its text
+pub fault_of_same : (text : List ℕ) (net other : Net) (number turn : ℕ) → seen net ≡ seen other → HasJournalFault text net number turn → HasJournalFault text other number turn
+fault_of_same text net other number turn same fault =
+    subst (λ (n : Seen). IsJournalFault n.world n.batches (tail_lines n.names n.shape text n.rest) (has_bad_tail n.names n.shape text n.rest) number turn) same fault
+
 check_says : (told : Option (List ℕ)) (text : List ℕ) (net : Net) (number turn : ℕ) → ToldDeclares Journal told net → IfSome told (λ all. HasJournalFault all net number turn) → told ≡ Some text → CanCheck text → ⊥
 check_says None text net number turn declares fault is can = cc
 check_says (Some all) text net number turn declares fault is can =
     let same : all ≡ text = cc in
-    good_has_none text net number turn (can.good net (subst (λ (t : List ℕ). DeclaresNet Journal t net) same declares)) (subst (λ (t : List ℕ). HasJournalFault t net number turn) same fault)
+    let one : seen can.net ≡ seen net = declared_same Journal text can.net net can.declares (subst (λ (t : List ℕ). DeclaresNet Journal t net) same declares) in
+    good_has_none text can.net number turn can.good (fault_of_same text net can.net number turn (sym one) (subst (λ (t : List ℕ). HasJournalFault t net number turn) same fault))
 
 check_works : (mode : Mode) (told old new : Option (List ℕ)) (text : List ℕ) (status : ℕ) (journal : List JournalLine) → (mode ≡ Check) × RefusesCheck told old new status journal → told ≡ Some text → WorksOn mode text → ⊥
 check_works mode told old new text status journal (checks, refused) is works =

@@ -70,8 +70,9 @@ CanRun text = (d : Declared) × Says Nothing text d × MeetsNoLast d × AlwaysRe
 
 -- a text declares a network, and the journal behind its commands settles all batches
 pub record CanCheck (text : List ℕ) : Type 0 where
-  pub says : (d : Declared) × Says Journal text d
-  pub good : (net : Net) → DeclaresNet Journal text net → HasGoodJournal text net
+  pub net : Net
+  pub declares : DeclaresNet Journal text net
+  pub good : HasGoodJournal text net
 
 -- a mode's work can be done on the text; that on its own can always
 abbrev pub IsWorkable : Mode → List ℕ → Type 0

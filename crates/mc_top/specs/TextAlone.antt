@@ -1,5 +1,6 @@
 -- Where the text alone decides what is printed.
-use Rattle.std.specs.Prelude.{◌≡◌, ℕ, List, map, IsFalse, IsTrue, Option, Some}
+use Rattle.std.specs.Prelude.{◌≡◌, ℕ, List, map, IsFalse, None, Some}
+use Rattle.std.specs.declared.option.Option.{Option}
 use Rattle.mc_model.specs.Sound.{IsSound}
 use Rattle.mc_model.specs.Unprogrammed.{HasNoPrograms}
 use Rattle.mc_net.specs.Nets.{DeclaresNet, batch_turns}
@@ -8,9 +9,10 @@ use Rattle.mc_net.specs.declared.net.Net.{Net}
 use Rattle.mc_settings.specs.Batches.{LeavesDecided}
 use Rattle.mc_script.specs.declared.command.JournalLine.{JournalLine}
 use Rattle.mc_replay.specs.Journals.{IsJournal}
-use Rattle.mc_top.specs.Modes.{output_of, reads, tail_of}
-use Rattle.mc_top.specs.Printed.{journal_text}
+use Rattle.mc_top.specs.Modes.{output_of, report_of, tail_of}
+use Rattle.mc_top.specs.Printed.{script_text}
 use Rattle.mc_top.specs.Top.{Worked}
+use Rattle.mc_top.specs.declared.report.Report.{Report}
 use Rattle.mc_words.specs.Commands.{prints_journal}
 use Rattle.mc_words.specs.declared.words.Mode.{Mode}
 
@@ -20,14 +22,14 @@ pub record SettlesText (tail : Tail) (text : List ℕ) (net : Net) (journal : Li
   pub sound : IsSound net.world
   pub settles : IsJournal net.world (map batch_turns net.batches.items) journal
 
--- two runs of one text print the same settles, if no box has a program and no batch leaves a path of hold against hold
+-- two runs of one text report the same, settle by settle, if no box has a program and no batch leaves a path of hold against hold
 abbrev pub TextAloneDecides : Type 0
-TextAloneDecides = (tail : Tail) (text : List ℕ) (net other : Net) (first second : List JournalLine) → SettlesText tail text net first → SettlesText tail text other second
-    → HasNoPrograms net.world → LeavesDecided net.world (map batch_turns net.batches.items) → journal_text net.names 1 net.world first ≡ journal_text other.names 1 other.world second
+TextAloneDecides = (report : Report) (tail : Tail) (text : List ℕ) (net other : Net) (first second : List JournalLine) → SettlesText tail text net first → SettlesText tail text other second
+    → HasNoPrograms net.world → LeavesDecided net.world (map batch_turns net.batches.items) → script_text report net.names net.world None first ≡ script_text report other.names other.world None second
 
--- so two calls that did their work on one text, in whichever modes that read it, and in the same way, print the same, under the same premises, where neither prints its journal
+-- so two calls that did their work on one text print the same, under the same premises, in whichever modes that read it in the same way and report the same of it, where neither prints its journal
 abbrev pub CallsPrintSame : Type 0
 CallsPrintSame = (text : List ℕ) (first second : List JournalLine) (mode instead : Mode) (old new from to : Option (List ℕ)) (status end : ℕ)
-    → tail_of mode ≡ tail_of instead → IsTrue (reads mode) → IsTrue (reads instead) → IsFalse (prints_journal mode) → IsFalse (prints_journal instead)
+    → tail_of mode ≡ tail_of instead → report_of mode ≡ report_of instead → IsFalse (prints_journal mode) → IsFalse (prints_journal instead)
     → (one : Worked mode (Some text) old new status first) (two : Worked instead (Some text) from to end second)
     → HasNoPrograms one.net.world → LeavesDecided one.net.world (map batch_turns one.net.batches.items) → output_of mode one.net first ≡ output_of instead two.net second

@@ -1,15 +1,17 @@
 //! Laws of journals, over the definitions alone.
 
 ghost use Rattle.mc_top.specs.Drawn.{DrawnJournalIsOne};
+ghost use Rattle.mc_top.specs.EndsAlike.{CheckEndsAlike, GenPrintsAlike, GoodIsNotRefused, OneEndsAlike};
 ghost use Rattle.mc_top.specs.JournalLaws.{PrintedJournalsAreGood, RunsAreReadBack};
 ghost use Rattle.mc_top.specs.SceneLaws.{GeneratedCanRun, ScenesCanRun};
 ghost use Rattle.mc_top.specs.SceneOutputs.{ScenesPrintTheSame};
 ghost use Rattle.mc_top.specs.TextAlone.{CallsPrintSame, TextAloneDecides};
 ghost use Rattle.mc_top.specs.Words.{FirstWorldsAwaitWords};
 
+use mc_replay::laws::one_journal_fault;
 pub use mc_scene_laws::laws::{
     chains_are_texts, drawn_chains_are_numbered, generated_are_texts, generated_are_unprogrammed,
-    generated_come_to_rest, scenes_are_texts, scenes_come_to_rest,
+    generated_come_to_rest, generated_leave_decided, scenes_are_texts, scenes_come_to_rest,
 };
 use mc_seq::laws::schedule_is_one;
 
@@ -20,16 +22,41 @@ pub fn drawn_journal_is_one()
     schedule_is_one();
 }
 
-/// Two runs of one text that settle all its batches print the same settles, however their boxes take turns, if no box
-/// has a program and no batch leaves a path of hold against hold: then the text alone decides what is printed.
+/// Two runs of one text that settle all its batches report the same of each settle, however their boxes take turns, if
+/// no box has a program and no batch leaves a path of hold against hold: then the text alone decides what is printed.
 pub fn text_alone_decides()
     ensures { TextAloneDecides }
 {}
 
 /// So two calls that did their work on one text have the same to print, in whichever modes that read it in the same way
-/// and under the same premises, where neither prints its journal.
+/// and report the same of it, under the same premises, where neither prints its journal.
 pub fn calls_print_same()
     ensures { CallsPrintSame }
+{}
+
+/// What a call of `one` ends with, keeps as its journal and has to print is decided by its words and the text, whatever
+/// programs boxes have, and whichever paths are hold against hold; but for want of memory and a fault in reading.
+pub fn one_ends_alike()
+    ensures { OneEndsAlike }
+{
+    schedule_is_one();
+}
+
+/// That of `check` is decided by the text.
+pub fn check_ends_alike()
+    ensures { CheckEndsAlike }
+{
+    one_journal_fault();
+}
+
+/// So a text whose journal is good for one call of `check` is refused by none.
+pub fn good_is_not_refused()
+    ensures { GoodIsNotRefused }
+{}
+
+/// What `gen` prints is decided by its words, though its journal isn't.
+pub fn gen_prints_alike()
+    ensures { GenPrintsAlike }
 {}
 
 /// In the first world of a text no box was told a word, so the words that its batches tell bound the Shifts of programs
