@@ -1,4 +1,4 @@
-//! Laws of journals, over the definitions alone.
+//! Laws of journals, of texts and of calls, over the definitions alone.
 
 ghost use Rattle.mc_top.specs.Drawn.{DrawnJournalIsOne};
 ghost use Rattle.mc_top.specs.EndsAlike.{CheckEndsAlike, GenPrintsAlike, GoodIsNotRefused, OneEndsAlike};
