@@ -1,5 +1,5 @@
 -- Why no chain of tunnels and named links is closed.
-use Rattle.std.proofs.Common.{◌≡◌, ℕ, zero, suc, Bool, true, List, ◌∙◌, subst, arith}
+use Rattle.std.proofs.Common.{◌≡◌, ◌<◌, ℕ, zero, suc, Bool, true, List, ◌∙◌, subst, arith}
 use Rattle.std.proofs.lemmas.List.Sums.{AllPass-from_list_all}
 use Rattle.std.specs.List.{All, list_all}
 use Rattle.mc_box.specs.declared.event.Turn.{Turn}
