@@ -270,6 +270,7 @@ whole_round retries a m b s t u end stop s0 s1 s2 p q few e =
         no_other = q.no_retry;
         few_shifts = few;
       };
+      retries_first = inl refl;
       turns = rw e (omega (arith, all.turns, s0));
       sent = rw e (omega (arith, all.sent, s1));
       took = rw e (omega (arith, all.took, s2));
@@ -293,6 +294,7 @@ cut_short true a b s u end stop s0 s1 s2 on p few e = record {
     no_other = refl;
     few_shifts = few;
   };
+  retries_first = inr (rw e p.memory, refl);
   turns = rw e (omega (arith, p.made.added.turns, s0));
   sent = rw e (omega (arith, p.made.added.sent, s1));
   took = rw e (omega (arith, p.made.added.took, s2));

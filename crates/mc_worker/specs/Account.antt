@@ -64,7 +64,7 @@ owed_below box (suc slot) = owed_below box slot ++ owed_retry_of box slot
 abbrev pub retries_below : Bool → BoxState → ℕ → List Event
 retries_below retries box below = if retries then owed_below box below else []
 
--- and they begin with a retry of each slot that owed one, where retries are asked for, up to a stop for memory; no other retry comes, and the shifts stay within their limit
+-- and they begin with a retry of each slot that owed one, where retries are asked for, up to a stop for memory; no other retry comes, and the shifts stay within their limit. It is said of one round or of several; of one, IsRound says that nothing comes after retries that were cut short
 pub record IsAccount (retries cut : Bool) (a b : Worker) (log : List Claimed) : Type 0 where
   pub work : IsWork a b log
   pub first : List Claimed

@@ -54,10 +54,11 @@ AllIdle a b = (end : ℕ) → end < length b.ins.items → IsIdle (in_at a end) 
 
 -- ---- a round
 
--- the account of a round with its numbers; where a stimulus waits, the first entry that isn't a retry is the first stimulus
+-- the account of a round with its numbers: the owed retries come first, all of them; or memory was wanting for one of them, and nothing else was made. Where a stimulus waits, the first entry that isn't a retry is the first stimulus
 pub record IsRound (retries : Bool) (a b : Worker) (end : RoundEnd) : Type 0 where
   pub log : List Claimed
   pub account : IsAccount retries (is_memory end.stop) a b log
+  pub retries_first : (account.below ≡ length a.part.slots) ⊎ (IsTrue (is_memory end.stop) × (account.rest ≡ []))
   pub turns : end.turns ≡ length log
   pub sent : end.sent ≡ count_sent log
   pub took : end.took ≡ length (events_that is_take log)

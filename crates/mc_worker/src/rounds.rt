@@ -16,8 +16,9 @@ use crate::worker::Worker;
 use mc_io::Gate;
 
 impl Worker {
-    /// Makes turns, 64 at most: first the retries that slots owe, where they are asked for, then what stimuli there
-    /// are, and then shifts and what has come. At least one is made where there is work and memory for it.
+    /// Makes turns, 64 at most: first the retries that slots owe, where they are asked for, then the first stimulus
+    /// that is left, and then further ones, shifts, and what has come. Where memory is wanting for a retry, nothing else
+    /// is made. Where there is work it makes a turn, or says what is in its way.
     ///
     /// The gate is told of each turn before memory for it is asked for. Want of memory loses nothing: the worker can be
     /// called again, and goes on where it was.
