@@ -31,6 +31,7 @@ out_still end = record {
   ring = sym (append-nil end.given);
   outbox = sym (append-nil end.outbox);
   order = refl;
+  back = refl;
   waits = λ some. (refl, refl);
   full = λ empty some. absurd (some refl);
   places = omega arith;

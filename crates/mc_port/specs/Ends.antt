@@ -6,7 +6,7 @@ use Rattle.rtrb.specs.Ring.{sent, received as taken_from, known_free, known_item
 use Rattle.mc_signal.specs.declared.Tagged.{Tagged}
 use Rattle.mc_port.specs.declared.ends.InPort.{InPort}
 use Rattle.mc_port.specs.declared.ends.OutPort.{OutPort}
-use Rattle.mc_port.specs.declared.limit.TheConstants.{LAST_LOOK}
+use Rattle.mc_port.specs.declared.limit.TheConstants.{LAST_COUNT}
 use Rattle.mc_port.specs.declared.stamped.Stamped.{Stamped}
 
 -- ---- the end that gives
@@ -18,6 +18,14 @@ given port = sent port.end
 -- how many places the end knows to be free
 abbrev pub free_places : OutPort → ℕ
 free_places port = known_free port.end
+
+-- how often the ring handed an item back, up to the last count
+abbrev pub back_count : OutPort → ℕ
+back_count port = port.handed_back
+
+-- the count when an item was handed back once more
+abbrev pub one_more_back : ℕ → ℕ
+one_more_back count = min (count + 1) LAST_COUNT
 
 -- ---- the end that takes
 
@@ -35,11 +43,11 @@ look_count port = port.looks
 
 -- the count of looks after a call that looks where the end knows of no item
 abbrev pub looks_after : InPort → ℕ
-looks_after port = if nat_eq (length (known port)) 0 then min (look_count port + 1) LAST_LOOK else look_count port
+looks_after port = if nat_eq (length (known port)) 0 then min (look_count port + 1) LAST_COUNT else look_count port
 
 -- the end looked at its ring between these two states, or its count is the last
 abbrev pub HasLooked : InPort → InPort → Type 0
-HasLooked old new = (look_count old < look_count new) ⊎ (look_count new ≡ LAST_LOOK)
+HasLooked old new = (look_count old < look_count new) ⊎ (look_count new ≡ LAST_COUNT)
 
 -- it knew of no item, looked, and knows of none
 pub record KnowsNothing (old new : InPort) : Type 0 where

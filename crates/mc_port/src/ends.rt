@@ -2,7 +2,7 @@
 
 ghost use Rattle.std.specs.Prelude.{◌≡◌, ◌+◌, ◌<◌, ◌≤◌, [], ◌∷◌, ◌++◌, length, map, nat_lt, slice_get, IfErr, IfNone, IfOk, IsFalse, MatchOption, OnErr, OnOk};
 ghost use mathlib.Core.List.{IsPrefix};
-ghost use Rattle.mc_port.specs.Ends.{free_places, given, in_ring, known, left_in, look_count, looks_after, out_ring, received, without_stamp};
+ghost use Rattle.mc_port.specs.Ends.{back_count, free_places, given, in_ring, known, left_in, look_count, looks_after, one_more_back, out_ring, received, without_stamp};
 ghost use Rattle.mc_port.specs.Ends.{HasLooked, IsPair, KnowsNothing};
 ghost use Rattle.mc_port.specs.declared.limit.TheConstants.{RING_LIMIT};
 
@@ -13,10 +13,11 @@ use mc_signal::Tagged;
 use rtrb::{Consumer, Producer, RingBuffer};
 use std::alloc::{AllocError, Global};
 
-/// The end of a ring that gives: it belongs to the box that sends.
+/// The end of a ring that gives: it belongs to the box that sends. It counts how often the ring handed an item back.
 #[derive(Drop)]
 pub struct OutPort {
     end: Producer<Stamped>,
+    handed_back: u64,
 }
 
 /// The end of a ring that takes: it belongs to the box that the items are for. It counts how often it looked at the
@@ -34,11 +35,15 @@ pub fn pair(alloc: Global) -> Result<(OutPort, InPort), AllocError>
     ensures received { IfOk result (λ ends. received ends.1 ≡ []) }
     ensures known { IfOk result (λ ends. known ends.1 ≡ []) }
     ensures free { IfOk result (λ ends. free_places ends.0 ≡ RING_LIMIT) }
+    ensures handed_back { IfOk result (λ ends. back_count ends.0 ≡ 0) }
     ensures looks { IfOk result (λ ends. look_count ends.1 ≡ 0) }
 {
     let (giving, taking) = RingBuffer::new(alloc, RING_LIMIT)?;
     Ok((
-        OutPort { end: giving },
+        OutPort {
+            end: giving,
+            handed_back: 0,
+        },
         InPort {
             end: taking,
             looks: 0,
@@ -48,7 +53,7 @@ pub fn pair(alloc: Global) -> Result<(OutPort, InPort), AllocError>
 
 impl OutPort {
     /// Puts an item into the ring. It is handed back only where this end knew of no free place when the call began,
-    /// and saw none when it looked again.
+    /// and saw none when it looked again; and that is counted.
     pub fn give(&mut self, item: Stamped) -> Result<(), Stamped>
         ensures ring { out_ring self.new ≡ out_ring self.old }
         ensures given { OnOk result (given self.new ≡ given self.old ++ item ∷ []) }
@@ -56,10 +61,15 @@ impl OutPort {
         ensures back { IfErr result (λ back. back ≡ item) }
         ensures kept { OnErr result (given self.new ≡ given self.old) }
         ensures full { OnErr result ((free_places self.old ≡ 0) × (free_places self.new ≡ 0)) }
+        ensures counted { OnErr result (back_count self.new ≡ one_more_back (back_count self.old)) }
+        ensures uncounted { OnOk result (back_count self.new ≡ back_count self.old) }
     {
         match self.end.push(item) {
             Ok(()) => Ok(()),
-            Err(_) => Err(item),
+            Err(_) => {
+                self.handed_back = self.handed_back.saturating_add(1);
+                Err(item)
+            }
         }
     }
 }
@@ -137,6 +147,7 @@ pub fn drain_beside(
     ensures moved { OnOk result (into.new.items ≡ into.old.items ++ map without_stamp (left_in from.old to.old)) }
     ensures kept { OnErr result ((received to.new ≡ received to.old) × (into.new.items ≡ into.old.items)) }
     ensures looks { look_count to.new ≡ look_count to.old }
+    ensures handed_back { back_count from.new ≡ back_count from.old }
 {
     let count = to.end.slots_beside(&mut from.end);
     into.reserve(count)?;

@@ -34,6 +34,7 @@ brought_again a b c x y z p q =
       inbox = nothing_more y.inbox z.inbox (left_between b y) b.outbox q.inbox none p.outbox ∙ p.inbox;
       outbox = q.outbox;
       given = q.given ∙ p.given;
+      back = q.back ∙ p.back;
       got = q.got ∙ p.given;
       known = q.known;
       looks = q.looks ∙ p.looks;

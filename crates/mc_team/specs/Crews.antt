@@ -14,7 +14,7 @@ abbrev pub no_in : InEnd
 no_in = record { inbox = []; got = []; known = []; looks = 0 }
 
 abbrev pub no_out : OutEnd
-no_out = record { outbox = []; given = []; free = 0 }
+no_out = record { outbox = []; given = []; free = 0; back = 0 }
 
 -- what stands at a channel end of a box, on its way in
 abbrev pub in_view : List Seat → ℕ → ℕ → InEnd

@@ -7,13 +7,13 @@ use mathlib.Core.List.{IsPrefix}
 use Rattle.mc_log.specs.Tunnels.{Tunnels, event_sends, sent_if, tunnel_if_at}
 use Rattle.mc_signal.specs.declared.Signal.{Signal}
 use Rattle.mc_signal.specs.declared.Tagged.{Tagged}
-use Rattle.mc_port.specs.Ends.{KnowsNothing, free_places, given, known, look_count, received}
+use Rattle.mc_port.specs.Ends.{KnowsNothing, back_count, free_places, given, known, look_count, one_more_back, received}
 use Rattle.mc_port.specs.declared.stamped.Stamped.{Stamped}
 use Rattle.mc_port.specs.declared.ends.OutPort.{OutPort}
 use Rattle.mc_port.specs.declared.ends.InPort.{InPort}
 use Rattle.mc_worker.specs.Boxes.{box_of}
-use Rattle.mc_worker.specs.Ends.{InAccount, InEnd, IsIdle, OutAccount, Passed, WasLookedAt, if_at, in_end, in_end_of, next_from, next_in, out_end, out_end_of, ring_end, unclaimed}
-use Rattle.mc_worker.proofs.Joins.{in_still, looked_on, out_still, took_on}
+use Rattle.mc_worker.specs.Ends.{InAccount, InEnd, IsIdle, OutAccount, Passed, WasLookedAt, back_after, if_at, in_end, in_end_of, next_from, next_in, out_end, out_end_of, ring_end, unclaimed}
+use Rattle.mc_worker.proofs.Joins.{back_waits, in_still, looked_on, out_still, took_on}
 
 -- an element of a list that a function was applied to
 pub at_map : {X Y : Type 0} (f : X → Y) (l : List X) (i : ℕ) (x : X) (d : Y) → i < length l → x ≡ slice_index_or l i x → slice_index_or (map f l) i d ≡ f x
@@ -28,13 +28,13 @@ at_other f l i s y d h = grind (arith, common_steps, map-set)
 -- ---- on the way out
 
 pub out_here : (ports : List OutPort) (boxes : List (List Stamped)) (i : ℕ) (p : OutPort) → i < length ports → p ≡ slice_index_or ports i p → out_end ports boxes i ≡ out_end_of p (box_of boxes i)
-out_here ports boxes i p h e = rw (at_map given ports i p [] h e, at_map free_places ports i p 0 h e) refl
+out_here ports boxes i p h e = rw (at_map given ports i p [] h e, at_map free_places ports i p 0 h e, at_map back_count ports i p 0 h e) refl
 
 pub out_set : (ports : List OutPort) (boxes : List (List Stamped)) (i : ℕ) (p : OutPort) → i < length ports → out_end (slice_set ports i p) boxes i ≡ out_end_of p (box_of boxes i)
-out_set ports boxes i p h = rw (at_set given ports i p [] h, at_set free_places ports i p 0 h) refl
+out_set ports boxes i p h = rw (at_set given ports i p [] h, at_set free_places ports i p 0 h, at_set back_count ports i p 0 h) refl
 
 pub out_other : (ports : List OutPort) (boxes new : List (List Stamped)) (i s : ℕ) (p : OutPort) → s ≢ i → box_of new s ≡ box_of boxes s → out_end (slice_set ports i p) new s ≡ out_end ports boxes s
-out_other ports boxes new i s p off same = rw (at_other given ports i s p [] off, at_other free_places ports i s p 0 off, same) refl
+out_other ports boxes new i s p off same = rw (at_other given ports i s p [] off, at_other free_places ports i s p 0 off, at_other back_count ports i s p 0 off, same) refl
 
 out_by : (same : Bool) (ports : List OutPort) (boxes new : List (List Stamped)) (i s : ℕ) (p0 p : OutPort) (item : Stamped) → (i == s) ≡ same
     → i < length ports → p0 ≡ slice_index_or ports i p0 → ((e : ℕ) → e ≢ i → box_of new e ≡ box_of boxes e)
@@ -57,7 +57,17 @@ kept_by : (same : Bool) (ports : List OutPort) (boxes new : List (List Stamped))
 kept_by true ports boxes new i s item is some more others =
     let at : i ≡ s = grind (arith, common_steps) in
     subst (λ (t : ℕ). OutAccount (out_end ports boxes t) (out_end ports new t) (item ∷ [])) at
-    (record { put = []; kept = item ∷ []; ring = sym (append-nil _); outbox = more; order = refl; waits = λ h. (refl, refl); full = λ none h. absurd (some none); places = omega arith })
+    (record {
+      put = [];
+      kept = item ∷ [];
+      ring = sym (append-nil _);
+      outbox = more;
+      order = refl;
+      back = sym (back_waits (item ∷ []) (box_of boxes i) _ some);
+      waits = λ h. (refl, refl);
+      full = λ none h. absurd (some none);
+      places = omega arith;
+    })
 kept_by false ports boxes new i s item is some more others =
     let off : s ≢ i = grind (arith, common_steps) in
     let same : box_of new s ≡ box_of boxes s = others s off in
@@ -69,17 +79,30 @@ pub out_kept : (ports : List OutPort) (boxes new : List (List Stamped)) (i : ℕ
 out_kept ports boxes new i item some more others s = kept_by (i == s) ports boxes new i s item refl some more others
 
 -- the ring took the item
-pub gave : (p0 p : OutPort) (box : List Stamped) (item : Stamped) → box ≡ [] → given p ≡ given p0 ++ item ∷ [] → free_places p0 ≤ free_places p + 1 → OutAccount (out_end_of p0 box) (out_end_of p box) (item ∷ [])
-gave p0 p box item none more places = record { put = item ∷ []; kept = []; ring = more; outbox = sym (append-nil box); order = refl; waits = λ some. absurd (some none); full = λ h some. absurd (some refl); places = places }
+pub gave : (p0 p : OutPort) (box : List Stamped) (item : Stamped) → box ≡ [] → given p ≡ given p0 ++ item ∷ [] → free_places p0 ≤ free_places p + 1 → back_count p ≡ back_count p0
+    → OutAccount (out_end_of p0 box) (out_end_of p box) (item ∷ [])
+gave p0 p box item none more places same = record {
+  put = item ∷ [];
+  kept = [];
+  ring = more;
+  outbox = sym (append-nil box);
+  order = refl;
+  back = same;
+  waits = λ some. absurd (some none);
+  full = λ h some. absurd (some refl);
+  places = places;
+}
 
 -- the ring was full
-pub handed_back : (p0 p : OutPort) (box new : List Stamped) (item : Stamped) → box ≡ [] → given p ≡ given p0 → free_places p0 ≡ 0 → free_places p ≡ 0 → new ≡ box ++ item ∷ [] → OutAccount (out_end_of p0 box) (out_end_of p new) (item ∷ [])
-handed_back p0 p box new item none same before now more = record {
+pub handed_back : (p0 p : OutPort) (box new : List Stamped) (item : Stamped) → box ≡ [] → given p ≡ given p0 → free_places p0 ≡ 0 → free_places p ≡ 0 → back_count p ≡ one_more_back (back_count p0) → new ≡ box ++ item ∷ []
+    → OutAccount (out_end_of p0 box) (out_end_of p new) (item ∷ [])
+handed_back p0 p box new item none same before now counted more = record {
   put = [];
   kept = item ∷ [];
   ring = same ∙ sym (append-nil (given p0));
   outbox = more;
   order = refl;
+  back = counted ∙ ap (λ (l : List Stamped). back_after (item ∷ []) l (back_count p0)) (sym none);
   waits = λ some. absurd (some none);
   full = λ h some. now;
   places = omega (arith, before);

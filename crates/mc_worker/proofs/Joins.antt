@@ -14,7 +14,7 @@ use Rattle.mc_port.specs.Ends.{with_stamp}
 use Rattle.mc_port.specs.declared.stamped.Stamped.{Stamped}
 use Rattle.mc_signal.specs.declared.Tagged.{Tagged}
 use Rattle.mc_worker.specs.Account.{IsWork, JoinAccounts, in_at, out_at}
-use Rattle.mc_worker.specs.Ends.{InAccount, InEnd, OutAccount, OutEnd, unclaimed}
+use Rattle.mc_worker.specs.Ends.{InAccount, InEnd, OutAccount, OutEnd, back_after, unclaimed}
 use Rattle.mc_worker.specs.Turns.{AreAdded, AreTurns, BeginsByStimulus}
 use Rattle.mc_worker.specs.declared.progress.Progress.{Progress}
 use Rattle.mc_worker.specs.declared.worker.Worker.{Worker}
@@ -25,24 +25,36 @@ no_cons_eq (x ∷ xs) y ys e = cc
 
 -- ---- at one end
 
+-- an outbox in which something waits leaves the count
+pub back_waits : (kept outbox : List Stamped) (count : ℕ) → outbox ≢ [] → back_after kept outbox count ≡ count
+back_waits [] outbox count some = refl
+back_waits (item ∷ kept) [] count some = absurd (some refl)
+back_waits (item ∷ kept) (one ∷ outbox) count some = refl
+
+-- only the first that it gets is counted
+back_first : (item : Stamped) (kept more outbox : List Stamped) (count : ℕ) → back_after (item ∷ kept) outbox count ≡ back_after (item ∷ (kept ++ more)) outbox count
+back_first item kept more [] count = refl
+back_first item kept more (one ∷ outbox) count = refl
+
 out_joined_at : (a b c : OutEnd) (xs ys p_put p_kept q_put q_kept : List Stamped)
-    → b.given ≡ a.given ++ p_put → b.outbox ≡ a.outbox ++ p_kept → xs ≡ p_put ++ p_kept
+    → b.given ≡ a.given ++ p_put → b.outbox ≡ a.outbox ++ p_kept → xs ≡ p_put ++ p_kept → b.back ≡ back_after p_kept a.outbox a.back
     → (a.outbox ≢ [] → (p_put ≡ []) × (b.free ≡ a.free)) → (a.outbox ≡ [] → p_kept ≢ [] → b.free ≡ 0) → a.free ≤ b.free + length p_put
-    → c.given ≡ b.given ++ q_put → c.outbox ≡ b.outbox ++ q_kept → ys ≡ q_put ++ q_kept
+    → c.given ≡ b.given ++ q_put → c.outbox ≡ b.outbox ++ q_kept → ys ≡ q_put ++ q_kept → c.back ≡ back_after q_kept b.outbox b.back
     → (b.outbox ≢ [] → (q_put ≡ []) × (c.free ≡ b.free)) → (b.outbox ≡ [] → q_kept ≢ [] → c.free ≡ 0) → b.free ≤ c.free + length q_put
     → OutAccount a c (xs ++ ys)
-out_joined_at a b c xs ys p_put [] q_put q_kept pr po px pw pf pl qr qo qy qw qf ql =
+out_joined_at a b c xs ys p_put [] q_put q_kept pr po px pb pw pf pl qr qo qy qb qw qf ql =
     record {
       put = p_put ++ q_put;
       kept = q_kept;
       ring = grind (arith, common_steps);
       outbox = grind (arith, common_steps, append-nil);
       order = grind (arith, common_steps, append-nil);
+      back = qb ∙ (ap (λ (l : List Stamped). back_after q_kept l b.back) (po ∙ append-nil a.outbox) ∙ ap (back_after q_kept a.outbox) pb);
       waits = λ h. grind (arith, common_steps, append-nil);
       full = λ h k. grind (arith, common_steps, append-nil);
       places = omega (arith, length-append p_put q_put);
     }
-out_joined_at a b c xs ys p_put (k ∷ ks) q_put q_kept pr po px pw pf pl qr qo qy qw qf ql =
+out_joined_at a b c xs ys p_put (k ∷ ks) q_put q_kept pr po px pb pw pf pl qr qo qy qb qw qf ql =
     let waiting : b.outbox ≢ [] = λ e. no_cons_eq a.outbox k ks (sym po ∙ e) in
     let quiet = qw waiting in
     record {
@@ -51,13 +63,14 @@ out_joined_at a b c xs ys p_put (k ∷ ks) q_put q_kept pr po px pw pf pl qr qo 
       ring = grind (arith, common_steps, append-nil);
       outbox = grind (arith, common_steps);
       order = grind (arith, common_steps);
+      back = qb ∙ (back_waits q_kept b.outbox b.back waiting ∙ (pb ∙ back_first k ks q_kept a.outbox a.back));
       waits = λ h. grind (arith, common_steps);
       full = λ h j. grind (arith, common_steps);
       places = grind (arith, common_steps);
     }
 
 pub out_joined : (a b c : OutEnd) (xs ys : List Stamped) → OutAccount a b xs → OutAccount b c ys → OutAccount a c (xs ++ ys)
-out_joined a b c xs ys p q = out_joined_at a b c xs ys p.put p.kept q.put q.kept p.ring p.outbox p.order p.waits p.full p.places q.ring q.outbox q.order q.waits q.full q.places
+out_joined a b c xs ys p q = out_joined_at a b c xs ys p.put p.kept q.put q.kept p.ring p.outbox p.order p.back p.waits p.full p.places q.ring q.outbox q.order q.back q.waits q.full q.places
 
 last_empty : (ys : List Stamped) (pairs : List Tagged) → ys ++ map unclaimed pairs ≡ [] → pairs ≡ []
 last_empty ys [] e = refl
@@ -189,7 +202,7 @@ turns_joined a b c s t u p q = record {
 }
 
 pub out_still : (a : OutEnd) → OutAccount a a []
-out_still a = record { put = []; kept = []; ring = sym (append-nil _); outbox = sym (append-nil _); order = refl; waits = λ h. (refl, refl); full = λ h k. absurd (k refl); places = omega arith }
+out_still a = record { put = []; kept = []; ring = sym (append-nil _); outbox = sym (append-nil _); order = refl; back = refl; waits = λ h. (refl, refl); full = λ h k. absurd (k refl); places = omega arith }
 
 pub in_still : (a : InEnd) → InAccount a a []
 in_still a = record { gave = []; ring = sym (append-nil _); order = sym (append-nil _); whole = inl refl; knows = ([], append-nil _); looks = omega arith }

@@ -23,6 +23,11 @@ pub nothing_in : {X : Type 0} (items : List X) → has_items items ≡ false →
 nothing_in [] is = refl
 nothing_in (x ∷ xs) is = absurd (some_there xs is)
 
+-- and one that has something
+pub something_in : {X : Type 0} (items : List X) → has_items items ≡ true → items ≢ []
+something_in [] is = absurd (cc)
+something_in (x ∷ xs) is = λ none. absurd (cc)
+
 -- the box of an end, of queues
 pub box_at_end : {X : Type 0} (queues : List (Queue X)) (i : ℕ) (queue : Queue X) → i < length queues → queue ≡ slice_index_or queues i queue → box_of (items_of queues) i ≡ queue.items
 box_at_end {X} queues i queue inside is = at_map (λ (q : Queue X). q.items) queues i queue [] inside is

@@ -19,6 +19,7 @@ pub record IsBroughtIn (out out_after : OutEnd) (taking taking_after : InEnd) : 
   pub inbox : taking_after.inbox ≡ under_way_between out taking
   pub outbox : out_after.outbox ≡ []
   pub given : out_after.given ≡ out.given
+  pub back : out_after.back ≡ out.back
   pub got : taking_after.got ≡ out.given
   pub known : taking_after.known ≡ []
   pub looks : taking_after.looks ≡ taking.looks

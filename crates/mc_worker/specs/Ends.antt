@@ -1,21 +1,28 @@
 -- What stands at one channel end of a box, on its way in and on its way out.
 use Rattle.std.specs.Prelude.{◌≡◌, ◌≢◌, ◌==◌, ℕ, ◌+◌, ◌<◌, ◌≤◌, ◌⊎◌, if◌then◌else◌, List, [], ◌∷◌, ◌++◌, Option, Some, map, length, slice_get, slice_index, slice_index_or}
 use mathlib.Core.List.{IsPrefix}
-use Rattle.mc_port.specs.Ends.{free_places, given, known, look_count, received, with_stamp}
+use Rattle.mc_port.specs.Ends.{back_count, free_places, given, known, look_count, one_more_back, received, with_stamp}
 use Rattle.mc_port.specs.declared.ends.InPort.{InPort}
 use Rattle.mc_port.specs.declared.ends.OutPort.{OutPort}
-use Rattle.mc_port.specs.declared.limit.TheConstants.{LAST_LOOK}
+use Rattle.mc_port.specs.declared.limit.TheConstants.{LAST_COUNT}
 use Rattle.mc_port.specs.declared.stamped.Stamped.{Stamped}
 use Rattle.mc_signal.specs.declared.Tagged.{Tagged}
 use Rattle.mc_worker.specs.Boxes.{box_of}
 
 -- ---- the way out
 
--- what waits in the outbox, what the ring was given, and how many places are known to be free
+-- what waits in the outbox, what the ring was given, how many places are known to be free, and how often the ring handed something back
 pub record OutEnd : Type 0 where
   pub outbox : List Stamped
   pub given : List Stamped
   pub free : ℕ
+  pub back : ℕ
+
+-- how often the ring has handed something back, once an outbox got these: the first of them, where nothing waited before it
+abbrev pub back_after : List Stamped → List Stamped → ℕ → ℕ
+back_after [] outbox count = count
+back_after (item ∷ kept) [] count = one_more_back count
+back_after (item ∷ kept) (one ∷ outbox) count = count
 
 -- what was sent went to the ring, then to the outbox
 pub record OutAccount (old new : OutEnd) (sent : List Stamped) : Type 0 where
@@ -27,13 +34,14 @@ pub record OutAccount (old new : OutEnd) (sent : List Stamped) : Type 0 where
   pub order : sent ≡ put ++ kept
   -- an outbox in which something waits gets everything
   pub waits : old.outbox ≢ [] → (put ≡ []) × (new.free ≡ old.free)
-  -- another gets only what the ring handed back: then no place is known to be free
+  -- another gets only what the ring handed back: that is counted, and then no place is known to be free
+  pub back : new.back ≡ back_after kept old.outbox old.back
   pub full : old.outbox ≡ [] → kept ≢ [] → new.free ≡ 0
   pub places : old.free ≤ new.free + length put
 
 -- an end by its port and its outbox
 abbrev pub out_end_of : OutPort → List Stamped → OutEnd
-out_end_of port box = record { outbox = box; given = given port; free = free_places port }
+out_end_of port box = record { outbox = box; given = given port; free = free_places port; back = back_count port }
 
 -- an end by its number, and nothing past the last one
 abbrev pub out_end : List OutPort → List (List Stamped) → ℕ → OutEnd
@@ -41,6 +49,7 @@ out_end ports boxes end = record {
   outbox = box_of boxes end;
   given = slice_index_or (map given ports) end [];
   free = slice_index (map free_places ports) end;
+  back = slice_index (map back_count ports) end;
 }
 
 -- an item for one end
@@ -99,7 +108,7 @@ next_in end = next_from end.inbox end.known
 
 -- the ring was looked at, or its count of looks is the last
 abbrev pub WasLookedAt : InEnd → InEnd → Type 0
-WasLookedAt old new = (old.looks < new.looks) ⊎ (new.looks ≡ LAST_LOOK)
+WasLookedAt old new = (old.looks < new.looks) ⊎ (new.looks ≡ LAST_COUNT)
 
 -- nothing is there, and the ring was looked at
 pub record IsIdle (old new : InEnd) : Type 0 where

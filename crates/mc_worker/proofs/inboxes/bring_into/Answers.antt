@@ -20,6 +20,7 @@ returns-clause-brought c =
           ∙ append_assoc c.args.lane.now.items (map without_stamp left) (map without_stamp (box_of c.args.outboxes.now.boxes c.args.end)));
       outbox = c.in_ok-move_all.ensures.emptied;
       given = c.drain_beside.ensures.given;
+      back = c.drain_beside.ensures.handed_back;
       got = c.in_ok-drain_beside.ensures.received;
       known = c.in_ok-drain_beside.ensures.empty;
       looks = c.drain_beside.ensures.looks;
