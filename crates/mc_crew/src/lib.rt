@@ -1,4 +1,4 @@
-//! A round of the boxes of a network, each on whatever thread is free, over rings: its turns are one run of the world
+//! A round of the boxes of a network, on threads where that pays, over rings: its turns are one run of the world
 //! that the boxes stand for.
 #![tactic(auto)]
 

@@ -19,10 +19,11 @@ use mc_worker::{RoundEnd, Stop};
 use std::alloc::AllocError;
 use std::thread::Threads;
 
-/// Makes a round of each box that has work: it is at most 64 turns of each, on whatever thread is free, the retries
-/// that are owed first where they are asked for. What the boxes send to each other in the round they may take in it, or
-/// it waits for the next one. The round's turns are one run of the world, and come behind those before. Where there are
-/// none before, two boxes that have commands begin on two threads.
+/// Makes a round of each box that has work: it is at most 64 turns of each, the retries that are owed first where they
+/// are asked for. What the boxes send to each other in the round they may take in it, or it waits for the next one. The
+/// round's turns are one run of the world, and come behind those before. The boxes run on threads where that pays, and
+/// where there are no turns before, two boxes that have commands begin on two; no clause tells which thread runs which
+/// box, nor that two are taken.
 ///
 /// It fails only for want of memory. The crew is of no more use then, and a part of the round's turns may have come.
 pub fn make_round<R: Threads + Sync, G: Gate + Sync>(

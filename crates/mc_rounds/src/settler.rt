@@ -60,9 +60,9 @@ impl Settler {
     /// Settles a batch, with the boxes' turns in any order. Which interleaving of the boxes its turns are no clause
     /// tells: any settled segment may be the answer, and any turns that stop with their cause.
     ///
-    /// A batch that speaks to two boxes or more is settled in rounds, in which each box that has work runs on whatever
-    /// thread is free: the first takes two threads, and a later one more than that of the caller where it has boxes
-    /// enough for them. For the commands of a single box no thread pays: these are settled on the thread that calls.
+    /// A batch that speaks to two boxes or more is settled in rounds. The first takes two threads, and a later one more
+    /// than that of the caller where it has boxes enough for them; no clause tells so. For the commands of a single box
+    /// no thread pays: these are settled on the thread that calls.
     ///
     /// The world allows each command, and has few boxes; it may be another one than that of the settle before. It
     /// always ends: at rest, at a ring of links that the batch or a Shift left, at a box that has made all its Shifts

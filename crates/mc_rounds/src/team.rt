@@ -20,7 +20,8 @@ use std::alloc::{AllocError, Global};
 use std::marker::Model;
 use std::thread::Threads;
 
-/// A team of boxes on threads: their world, the commands that are left to each, and how many Shifts each has made.
+/// A team of boxes that run on threads where that pays: their world, the commands that are left to each, and how many
+/// Shifts each has made.
 ///
 /// Between rounds a team is a world again, so whatever commands come between them, each round goes on from a lawful
 /// one.
@@ -75,10 +76,11 @@ impl Team {
         add(&mut self.crew, turn)
     }
 
-    /// Makes a round of each box that has work: it is at most 64 turns of each, on whatever thread is free, the retries
-    /// that are owed first where they are asked for. What the boxes did is one run of the world, in the order of the
-    /// stamps in their logs. Each box that has work makes a turn, and, where no retries are asked for and it has
-    /// commands, uses one up; or it stops at the Hear of a slot that is at its last version.
+    /// Makes a round of each box that has work: it is at most 64 turns of each, the retries that are owed first where
+    /// they are asked for. The boxes run on threads where that pays; no clause tells which thread runs which. What the
+    /// boxes did is one run of the world, in the order of the stamps in their logs. Each box that has work makes a
+    /// turn, and, where no retries are asked for and it has commands, uses one up; or it stops at the Hear of a slot
+    /// that is at its last version.
     ///
     /// It fails only for want of memory; the team is gone then.
     pub fn round<R: Threads + Sync, G: Gate + Sync>(
