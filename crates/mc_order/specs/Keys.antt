@@ -2,13 +2,13 @@
 use Rattle.std.specs.Prelude.{◌≡◌, ℕ, ◌+◌, ◌<◌, ◌==◌, Bool, List, [], ◌∷◌, ◌++◌, Some, filter, slice_get, slice_index_or}
 use Rattle.std.specs.List.{AllByRecursion}
 use Rattle.std.specs.List.Sorted.{IsSorted, IsPermutation}
+use Rattle.std.specs.Ordering.{nat_cmp, ordering_then}
 use Rattle.std.specs.declared.cmp.Ordering.{Ordering}
 use Rattle.mc_order.specs.declared.Key.{Key}
-use Rattle.mc_order.specs.contracts.KeyOrd.TheImpl as key
 
--- by stamp, then by log, then by the place in the log
+-- by stamp; where stamps are the same, by log; and where logs are the same, by the place in the log
 abbrev pub key_cmp : Key → Key → Ordering
-key_cmp = (key.ghosts).cmp
+key_cmp a b = ordering_then (nat_cmp a.stamp b.stamp) (ordering_then (nat_cmp a.who b.who) (nat_cmp a.index b.index))
 
 -- the entries of one log, from an index on
 abbrev pub keys_of : ℕ → ℕ → List ℕ → List Key
