@@ -59,7 +59,7 @@ long_places seats who ready below =
     ∙ ((ready who seat.0 seat.1).shaped.places ∙ ap (λ (b : BoxState). length b.slots) (sym (at_some (λ (s : Seat). s.worker.part) seats who seat.0 no_box seat.1)))
 
 -- so each slot of a box has its tunnel, or there is no such slot
-has_slot : (channels : List ChannelState) (lanes : List LaneEnds) (ends : List (List ℕ)) (old : List Seat) (who local : ℕ) → StandForWorld channels old lanes ends → who < length old
+pub has_slot : (channels : List ChannelState) (lanes : List LaneEnds) (ends : List (List ℕ)) (old : List Seat) (who local : ℕ) → StandForWorld channels old lanes ends → who < length old
     → MayHaveSlot (world_of channels old lanes) ends (places_of_boxes old) who local
 has_slot channels lanes ends old who local stand below =
     let there : who < length (parts_of old) = subst (λ (n : ℕ). who < n) (sym (length-map old (λ (s : Seat). s.worker.part))) below in

@@ -34,3 +34,5 @@ mod Exchanges
 mod TakenSeats
 mod BoardedCrews
 mod SameChannels
+mod OwnRounds
+pub mod ShownRounds

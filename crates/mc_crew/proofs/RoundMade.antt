@@ -8,6 +8,7 @@ use Rattle.mc_box.specs.declared.event.Turn.{Turn}
 use Rattle.mc_crew.proofs.BoxRounds.{HaveRan, in_names_ran, out_names_ran, ran_long, ready_ran}
 use Rattle.mc_crew.proofs.Claiming.{rounds_are_claimed}
 use Rattle.mc_crew.proofs.Keeping.{rounds_keep}
+use Rattle.mc_crew.proofs.OwnRounds.{own_rounds}
 use Rattle.mc_crew.proofs.RoundRuns.{rounds_are_runs}
 use Rattle.mc_crew.proofs.SeatLists.{rest_at, rests_long}
 use Rattle.mc_crew.proofs.Standing.{tied_by}
@@ -15,7 +16,8 @@ use Rattle.mc_crew.proofs.Unrested.{goes_on_kept}
 use Rattle.mc_crew.specs.Claims.{MadeRound}
 use Rattle.mc_crew.specs.Crews.{OthersIdle, StandForWorld, seats_state}
 use Rattle.mc_crew.specs.Laws.{AreListedNext, GoOn, NoneRefused}
-use Rattle.mc_crew.specs.Rounds.{AddsRound, IsTeamRound, round_stops}
+use Rattle.mc_crew.specs.OwnRounds.{AreOwnRounds}
+use Rattle.mc_crew.specs.Rounds.{AddsRound, IsTeamRound, round_logs, round_stops}
 use Rattle.mc_layout.specs.Layouts.{ends_of_lane}
 use Rattle.mc_layout.specs.declared.layout.LaneEnds.{LaneEnds}
 use Rattle.mc_model.specs.Worlds.{ChannelState}
@@ -170,6 +172,21 @@ adds_round {retries = retries} {lanes = lanes} {found = found} {f = f} {old = ol
   round = subst (λ (s : List Seat). IsTeamRound retries (seats_state channels old lanes) (seats_state channels s lanes) (map (turn_of_key new) keys) (round_stops found s)) (sym is)
       (team_round channels ends keys stand idle m none (subst (λ (s : List Seat). IsOrdered (round_stamps found s) keys) merged (subst (λ (l : List ℕ). IsOrdered (round_stamps l n) keys) same_found ordered)));
 }
+
+-- and the logs and ends that the seats keep are those of one round of each box that had work
+pub own_made : {retries : Bool} {lanes : List LaneEnds} {listed found f : List ℕ} {old looked ran new n kept : List Seat} {keys : List Key} (channels : List ChannelState) (ends : List (List ℕ))
+    → f ≡ found → n ≡ new → kept ≡ new → StandForWorld channels old lanes ends → OthersIdle retries old listed → MadeRound retries lanes listed found old looked ran new → NoneRefused found ran → IsOrdered (round_stamps f n) keys
+    → AreOwnRounds retries (seats_state channels old lanes) (seats_state channels kept lanes) (round_logs found kept) (round_stops found kept)
+own_made {retries = retries} {lanes = lanes} {listed = listed} {found = found} {old = old} {looked = looked} {ran = ran} {new = new} {n = n} {keys = keys} channels ends same_found merged is stand idle m none ordered =
+    subst (λ (s : List Seat). AreOwnRounds retries (seats_state channels old lanes) (seats_state channels s lanes) (round_logs found s) (round_stops found s)) (sym is)
+    (own_rounds (record {
+      stand = stand;
+      idle = idle;
+      made = m;
+      calm = none_refused_then found ran new m.carried.boxes.rest none;
+      ordered = subst (λ (s : List Seat). IsOrdered (round_stamps found s) keys) merged (subst (λ (l : List ℕ). IsOrdered (round_stamps l n) keys) same_found ordered);
+      claimed = rounds_are_claimed retries channels lanes ends listed found old looked ran new stand m;
+    }))
 
 -- the keys, and the turns that they name, are those of the seats and boxes that were merged
 pub merged_turns : {found f : List ℕ} {seats s : List Seat} {keys : List Key} (before after : List Turn) → f ≡ found → s ≡ seats → IsOrdered (round_stamps f s) keys → after ≡ before ++ map (turn_of_key s) keys

@@ -40,16 +40,16 @@ use Rattle.mc_worker.specs.declared.stop.RoundEnd.{RoundEnd}
 -- ---- a box that made a round
 
 -- what the box has after the carrying
-record Ended (retries : Bool) (channels : List ChannelState) (lanes : List LaneEnds) (found : List ℕ) (old looked ran new : List Seat) (who : ℕ) (seat : SeatRound retries found old looked ran new who) : Type 0 where
-  round : IsRan retries seat.b seat.c
-  end_is : seat.d.end ≡ Some round.end
-  calm : is_memory round.end.stop ≡ false
-  stimuli : stimuli_at (seats_state channels new lanes) who ≡ seat.c.worker.stimuli.items
-  shifts : shifts_at (seats_state channels new lanes) who ≡ seat.c.worker.shifts
-  part : box_at (world_of channels new lanes) who ≡ seat.c.worker.part
+pub record Ended (retries : Bool) (channels : List ChannelState) (lanes : List LaneEnds) (found : List ℕ) (old looked ran new : List Seat) (who : ℕ) (seat : SeatRound retries found old looked ran new who) : Type 0 where
+  pub round : IsRan retries seat.b seat.c
+  pub end_is : seat.d.end ≡ Some round.end
+  pub calm : is_memory round.end.stop ≡ false
+  pub stimuli : stimuli_at (seats_state channels new lanes) who ≡ seat.c.worker.stimuli.items
+  pub shifts : shifts_at (seats_state channels new lanes) who ≡ seat.c.worker.shifts
+  pub part : box_at (world_of channels new lanes) who ≡ seat.c.worker.part
 
 -- so each found box ended for a cause, in the seat that was carried
-ended : (retries : Bool) (channels : List ChannelState) (lanes : List LaneEnds) (found : List ℕ) (old looked ran new : List Seat) (who : ℕ) (seat : SeatRound retries found old looked ran new who) → NoneRefused found new
+pub ended : (retries : Bool) (channels : List ChannelState) (lanes : List LaneEnds) (found : List ℕ) (old looked ran new : List Seat) (who : ℕ) (seat : SeatRound retries found old looked ran new who) → NoneRefused found new
     → is_listed found who ≡ true
     → Ended retries channels lanes found old looked ran new who seat
 ended retries channels lanes found old looked ran new who seat calm on =
@@ -187,7 +187,7 @@ ends_made {retries = retries} {channels = channels} {lanes = lanes} {ends = ends
     e.stimuli e.part)
 
 -- for another it had no work
-ends_idle : {retries : Bool} {channels : List ChannelState} {lanes : List LaneEnds} {ends : List (List ℕ)} {listed found : List ℕ} {old looked ran new : List Seat} {keys : List Key}
+pub ends_idle : {retries : Bool} {channels : List ChannelState} {lanes : List LaneEnds} {ends : List (List ℕ)} {listed found : List ℕ} {old looked ran new : List Seat} {keys : List Key}
     → (r : Round retries channels lanes ends listed found old looked ran new keys) (who : ℕ) (seat : SeatRound retries found old looked ran new who) → is_listed found who ≡ false
     → HasTeamWork retries (seats_state channels old lanes) who → ⊥
 ends_idle {retries = retries} {channels = channels} {lanes = lanes} {ends = ends} {old = old} r who seat off work =

@@ -182,6 +182,10 @@ no_cut : (cut : Bool) (P : Type 0) → cut ≡ false → IsTrue cut ⊎ P → P
 no_cut cut P off (inl on) = absurd (both_ways cut off on)
 no_cut cut P off (inr p) = p
 
+-- a round that didn't stop for want of memory has made the retries of all slots
+pub all_below : (retries : Bool) (b c : Worker) (end : RoundEnd) (round : IsRound retries b c end) → is_memory end.stop ≡ false → round.account.below ≡ length b.part.slots
+all_below retries b c end round whole = no_cut (is_memory end.stop) (round.account.below ≡ length b.part.slots) whole round.account.whole
+
 -- the retries of a round, slot by slot
 retries_made : (retries : Bool) (b c : Worker) (end : RoundEnd) (round : IsRound retries b c end) (local : ℕ) → is_memory end.stop ≡ false
     → length (events_that (is_retry_at local) round.log) ≡ one_if (retries && is_enabled b.part (Retry local))
@@ -193,7 +197,7 @@ retries_made retries b c end round local whole =
     ∙ (ap (λ (l : List Event). length (filter (is_retry_at local) (map event_of account.first)) + length l) (no_retry_at account.rest local account.no_other)
     ∙ (add-zero (length (filter (is_retry_at local) (map event_of account.first)))
     ∙ (ap (λ (l : List Event). length (filter (is_retry_at local) l)) account.retried
-    ∙ retry_count retries b.part account.below local (no_cut (is_memory end.stop) (account.below ≡ length b.part.slots) whole account.whole))))))
+    ∙ retry_count retries b.part account.below local (all_below retries b c end round whole))))))
 
 -- a box that made a round
 pub round_account : (retries : Bool) (old new : TeamState) (log : List Claimed) (who : ℕ) (b c : Worker) (end : RoundEnd) (round : IsRound retries b c end) → log ≡ round.log → is_memory end.stop ≡ false

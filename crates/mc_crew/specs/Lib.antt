@@ -5,3 +5,4 @@ pub mod Rounds
 pub mod Claims
 pub mod Laws
 pub mod Manned
+pub mod OwnRounds

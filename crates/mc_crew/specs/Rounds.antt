@@ -14,6 +14,7 @@ use Rattle.mc_seats.specs.Numbers.{is_listed}
 use Rattle.mc_seats.specs.declared.seat.Seat.{Seat}
 use Rattle.mc_team.specs.Logs.{round_stamps, turn_of_key}
 use Rattle.mc_worker.specs.Rounds.{IsLastHear}
+use Rattle.mc_worker.specs.declared.logged.Logged.{Logged}
 use Rattle.mc_worker.specs.declared.stop.RoundEnd.{RoundEnd}
 use Rattle.mc_worker.specs.declared.stop.Stop.{Stop}
 use Rattle.mc_worker.specs.declared.stop.Stop.TheVariants.{Rested, Spent, NoMemory, VersionEnd, Strange}
@@ -63,6 +64,16 @@ stops_from who found (seat ∷ seats) = (if is_listed found who then stop_of sea
 
 abbrev pub round_stops : List ℕ → List Seat → List (Option Stop)
 round_stops found seats = stops_from 0 found seats
+
+-- ---- the logs, as seats keep them
+
+-- those of the boxes that made a round, and an empty one for each other box, box by box from one on
+abbrev pub logs_from : ℕ → List ℕ → List Seat → List (List Logged)
+logs_from who found [] = []
+logs_from who found (seat ∷ seats) = (if is_listed found who then seat.worker.log.items else []) ∷ logs_from (who + 1) found seats
+
+abbrev pub round_logs : List ℕ → List Seat → List (List Logged)
+round_logs found seats = logs_from 0 found seats
 
 -- ---- the turns, as the logs in the seats have them
 

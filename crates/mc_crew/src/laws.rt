@@ -2,6 +2,7 @@
 
 ghost use Rattle.mc_crew.specs.Claims.{RoundsAreClaimed};
 ghost use Rattle.mc_crew.specs.Laws.{RoundsAreRuns, RoundsKeep};
+ghost use Rattle.mc_crew.specs.OwnRounds.{OwnRoundsShow};
 
 /// What the boxes of a crew log in a round is what the merge law asks for.
 pub fn rounds_are_claimed()
@@ -16,4 +17,10 @@ pub fn rounds_are_runs()
 /// Behind a round the seats stand for a world again, and the boxes that aren't listed have no work.
 pub fn rounds_keep()
     ensures { RoundsKeep }
+{}
+
+/// What the logs and stops of a round show to whoever sees no worker: of each box one round or none, with its retries
+/// first, its stamps from 1 on, and why it ended.
+pub fn own_rounds_show()
+    ensures { OwnRoundsShow }
 {}

@@ -3,7 +3,8 @@
 ghost use Rattle.std.specs.Prelude.{◌≡◌, ◌⊎◌, ◌++◌, ◌≤◌, ◌^◌, ℕ, false, nat_lt, List, [], ◌∷◌, length, MatchBool, IfSome, OnOk, IfOk};
 ghost use Rattle.mc_crew.specs.Crews.{IsCrew, crew_state};
 ghost use Rattle.mc_crew.specs.Laws.{GoOn, NoneRefused};
-ghost use Rattle.mc_crew.specs.Rounds.{AddsRound, AreMergedTurns, round_stops};
+ghost use Rattle.mc_crew.specs.OwnRounds.{AreOwnRounds};
+ghost use Rattle.mc_crew.specs.Rounds.{AddsRound, AreMergedTurns, round_logs, round_stops};
 ghost use Rattle.mc_seats.specs.Numbers.{Rises, is_listed};
 ghost use Rattle.mc_seats.specs.Seats.{AreLookedAt, AreRun, HaveWork};
 ghost use Rattle.mc_team.specs.Carries.{AreReady};
@@ -19,11 +20,11 @@ use mc_worker::{RoundEnd, Stop};
 use std::alloc::AllocError;
 use std::thread::Threads;
 
-/// Makes a round of each box that has work: it is at most 64 turns of each, the retries that are owed first where they
-/// are asked for. What the boxes send to each other in the round they may take in it, or it waits for the next one. The
-/// round's turns are one run of the world, and come behind those before. The boxes run on threads where that pays, and
-/// where there are no turns before, two boxes that have commands begin on two; no clause tells which thread runs which
-/// box, nor that two are taken.
+/// Makes one round of each box that has work: it is at most 64 turns of each, the retries that are owed first where
+/// they are asked for. What the boxes send to each other in the round they may take in it, or it waits for the next
+/// one. The round's turns are one run of the world, and come after those before. The boxes run on threads where that
+/// pays, and where there are no turns before, two boxes that have commands begin on two; no clause tells which thread
+/// runs which box, nor that two are taken.
 ///
 /// It fails only for want of memory. The crew is of no more use then, and a part of the round's turns may have come.
 pub fn make_round<R: Threads + Sync, G: Gate + Sync>(
@@ -37,6 +38,9 @@ pub fn make_round<R: Threads + Sync, G: Gate + Sync>(
     ensures crew { OnOk result (IsCrew crew.new) }
     ensures round { OnOk result (AddsRound retries (crew_state crew.old) (crew_state crew.new)
         turns.old.items turns.new.items (round_stops crew.new.found.items crew.new.seats.items)) }
+    // Each box made no round or one of its own, and its seat keeps the log and the end of that.
+    ensures own { OnOk result (AreOwnRounds retries (crew_state crew.old) (crew_state crew.new)
+        (round_logs crew.new.found.items crew.new.seats.items) (round_stops crew.new.found.items crew.new.seats.items)) }
     ensures merged { OnOk result (AreMergedTurns crew.new turns.old.items turns.new.items) }
     ensures found { OnOk result (Rises (length crew.new.seats.items) crew.new.found.items) }
 {

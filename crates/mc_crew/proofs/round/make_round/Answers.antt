@@ -1,7 +1,7 @@
 use Rattle.std.proofs.Common.{◌≡◌, ◌++◌, List, map, sym, ◌∙◌, subst}
 use Rattle.std.proofs.lemmas.Result.{on_ok_weaker}
 use Rattle.mc_crew.proofs.BoxRounds.{logs_short, new_long}
-use Rattle.mc_crew.proofs.RoundMade.{IsCrewOf, adds_round, calls_made, crew_then, merged_turns, on_ok_both, others_idle, ran_is, ready_then, tied_then, written_twice}
+use Rattle.mc_crew.proofs.RoundMade.{IsCrewOf, adds_round, calls_made, crew_then, merged_turns, on_ok_both, others_idle, own_made, ran_is, ready_then, tied_then, written_twice}
 use Rattle.mc_crew.specs.Crews.{OthersIdle}
 use Rattle.mc_layout.specs.Layouts.{inner_lists}
 use Rattle.mc_layout.specs.declared.layout.LaneEnds.{LaneEnds}
@@ -58,6 +58,17 @@ returns-clause-round g c =
     (λ ordered added. adds_round crew.channels.items (inner_lists crew.ends.items) c.deref-5.ensures.value merged items c.requires.stand idle made.0.1 c.in_ok-run_listed.ensures.refused ordered added)
     c.merge.ensures.ordered
     c.merge.ensures.turns
+
+pub returns-clause-own : goal.returns-clause-own
+returns-clause-own g c =
+    let crew = c.args.crew.now in
+    let made = calls_made crew.seats c.len.ensures c.deref_mut.ensures.value c.deref_mut-2.ensures.value c.deref.ensures.value c.deref-3.ensures.value c.in_ok-list_for.ensures.rises c.in_ok-run_listed.ensures.run c.in_ok-run_listed.ensures.found c.in_ok-carry_all.ensures in
+    let items = written_twice crew.seats c.run_listed.new.seats c.carry_all.new.seats (new_long made.0.1) in
+    let idle : OthersIdle c.args.retries crew.seats.items c.list_for.new.listed.items = others_idle c.args.retries crew.seats crew.listed.items c.list_for.new.listed.items c.len.ensures c.in_ok-list_for.ensures.listed c.requires.idle in
+    let merged : c.deref-4.result.now ≡ c.carry_all.new.seats = c.deref-4.ensures.value ∙ items in
+    on_ok_weaker c.merge.result
+    (λ ordered. own_made crew.channels.items (inner_lists crew.ends.items) c.deref-5.ensures.value merged items c.requires.stand idle made.0.1 c.in_ok-run_listed.ensures.refused ordered)
+    c.merge.ensures.ordered
 
 pub returns-clause-merged : goal.returns-clause-merged
 returns-clause-merged g c =
