@@ -6,6 +6,7 @@ pub mod FirstBytes
 pub mod FirstPrograms
 pub mod Laid
 pub mod MadeNets
+pub mod Meant
 pub mod Named
 pub mod NamesKept
 pub mod OneNet

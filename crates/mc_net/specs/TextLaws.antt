@@ -1,14 +1,15 @@
--- Laws of texts: each says something or has a fault, and never both, nor two faults. The first bytes of a long text show its fault. A text declares one network. It says which boxes have programs, and names all of its network.
-use Rattle.std.specs.Prelude.{ℕ, ◌≡◌, ◌⊎◌, ◌++◌, List, drop, length, map, take}
+-- Laws of texts: each says something or has a fault, and never both, nor two faults. A line that breaks no rule means something. The first bytes of a long text show its fault. A text declares one network. It says which boxes have programs, and names all of its network.
+use Rattle.std.specs.Prelude.{ℕ, suc, ◌≡◌, ◌⊎◌, ◌++◌, IsSome, List, [], None, Some, drop, length, map, slice_index_or, take}
 use Rattle.mc_text.specs.Lines.{lines}
-use Rattle.mc_lines.specs.Rules.{read_limit}
+use Rattle.mc_lines.specs.Meaning.{line_after}
+use Rattle.mc_lines.specs.Rules.{line_fault, read_limit}
 use Rattle.mc_lines.specs.SoFar.{Declared}
 use Rattle.mc_model.specs.Unprogrammed.{HasNoPrograms}
 use Rattle.mc_model.specs.Worlds.{WorldState}
 use Rattle.mc_lines.specs.declared.tail.Tail.{Tail}
 use Rattle.mc_lines.specs.declared.tail.Tail.TheVariants.{Nothing}
 use Rattle.mc_net.specs.Nets.{DeclaresNet, IsFirstWorld, IsUnprogrammed, IsWellNamed, batch_turns}
-use Rattle.mc_net.specs.Texts.{IsFault, Says, text_end, text_lines}
+use Rattle.mc_net.specs.Texts.{IsFault, Says, declared_by, fault_at, text_end, text_lines}
 use Rattle.mc_net.specs.declared.net.Net.{Net}
 
 -- a text that says something has no fault
@@ -22,6 +23,14 @@ OneFault = (tail : Tail) (text : List ℕ) (number line other_number other_line 
 -- a text says something, or it has a fault
 abbrev pub OneOrTheOther : Type 0
 OneOrTheOther = (tail : Tail) (text : List ℕ) → ((d : Declared) × Says tail text d) ⊎ ((number : ℕ) × (line : ℕ) × IsFault tail text number line)
+
+-- a line that breaks no rule means something, whatever was declared before it
+abbrev pub SoundLinesMean : Type 0
+SoundLinesMean = (total before : ℕ) (d : Declared) (line : List ℕ) → line_fault total before d line ≡ None → IsSome (line_after d line)
+
+-- so what lines declare, up to one that breaks no rule, is what this one means behind those before it
+abbrev pub EachLineDeclares : Type 0
+EachLineDeclares = (tail : Tail) (total : ℕ) (lines : List (List ℕ)) (k : ℕ) → fault_at tail total lines k ≡ None → line_after (declared_by tail lines k) (slice_index_or lines k []) ≡ Some (declared_by tail lines (suc k))
 
 -- the bytes up to the one with which a text passes its limit
 abbrev pub first_bytes : Tail → List ℕ → List ℕ

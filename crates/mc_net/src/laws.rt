@@ -1,6 +1,7 @@
 //! Laws of texts and of their first worlds, over the definitions alone: each function's contract is the law's sentence.
 
 ghost use Rattle.mc_net.specs.TextLaws.{DeclaresOrFaults, OneFault, OneOrTheOther, UnprogrammedTexts};
+ghost use Rattle.mc_net.specs.TextLaws.{EachLineDeclares, SoundLinesMean};
 ghost use Rattle.mc_net.specs.TextLaws.{FaultsOfTheFirstBytes, NetsOfTheFirstBytes, SaysTheWhole};
 ghost use Rattle.mc_net.specs.TextLaws.{LinesBehind, NetsAreNamed, UnendedTexts};
 ghost use Rattle.mc_net.specs.TextLaws.{OneDeclared, OneFirstWorld, OneNet};
@@ -19,6 +20,13 @@ pub fn one_fault()
 /// A text says something, or it has a fault.
 pub fn one_or_the_other()
     ensures { OneOrTheOther }
+{}
+
+/// A line that breaks no rule means something, whatever the lines before it declared. So what a text declares is what
+/// its lines mean, one after the other.
+pub fn sound_lines_mean()
+    ensures means { SoundLinesMean }
+    ensures declares { EachLineDeclares }
 {}
 
 /// Of a text that is too long, the bytes up to the one with which it passes the limit have the fault of the whole, or
