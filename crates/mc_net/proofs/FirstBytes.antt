@@ -24,7 +24,7 @@ abbrev pub extent : List (List ℕ) → ℕ
 extent [] = 0
 extent (line ∷ others) = length line + 1 + extent others
 
-extent-append : (xs ys : List (List ℕ)) → extent (xs ++ ys) ≡ extent xs + extent ys
+pub extent-append : (xs ys : List (List ℕ)) → extent (xs ++ ys) ≡ extent xs + extent ys
 extent-append [] ys = omega arith
 extent-append (x ∷ xs) ys = let rest = extent-append xs ys in omega arith
 
@@ -84,7 +84,7 @@ without_empty_last-append [] y ys = refl
 without_empty_last-append (x ∷ []) y ys = refl
 without_empty_last-append (x ∷ next ∷ xs) y ys = ap (λ (l : List (List ℕ)). x ∷ l) (without_empty_last-append (next ∷ xs) y ys)
 
-without_empty_last-cons : (byte : ℕ) (line : List ℕ) (ys : List (List ℕ)) → without_empty_last ((byte ∷ line) ∷ ys) ≡ (byte ∷ line) ∷ without_empty_last ys
+pub without_empty_last-cons : (byte : ℕ) (line : List ℕ) (ys : List (List ℕ)) → without_empty_last ((byte ∷ line) ∷ ys) ≡ (byte ∷ line) ∷ without_empty_last ys
 without_empty_last-cons byte line [] = let has : has_bytes (byte ∷ line) ≡ true = grind arith in rw has refl
 without_empty_last-cons byte line (y ∷ ys) = refl
 
@@ -167,7 +167,7 @@ same_bytes : (short long : List (List ℕ)) (n : ℕ) → ((k : ℕ) → k < n �
 same_bytes short long n same zero within = refl
 same_bytes short long n same (suc k) within = rw (same k (omega arith), same_bytes short long n same k (omega arith)) refl
 
-same_declared : (tail : Tail) (short long : List (List ℕ)) (n : ℕ) → ((k : ℕ) → k < n → slice_index_or short k [] ≡ slice_index_or long k []) → (k : ℕ) → k ≤ n → declared_by tail short k ≡ declared_by tail long k
+pub same_declared : (tail : Tail) (short long : List (List ℕ)) (n : ℕ) → ((k : ℕ) → k < n → slice_index_or short k [] ≡ slice_index_or long k []) → (k : ℕ) → k ≤ n → declared_by tail short k ≡ declared_by tail long k
 same_declared tail short long n same zero within = refl
 same_declared tail short long n same (suc k) within = rw (same k (omega arith), same_declared tail short long n same k (omega arith)) refl
 

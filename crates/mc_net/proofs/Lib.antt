@@ -4,6 +4,7 @@ pub mod Enabled
 pub mod Faults
 pub mod FirstBytes
 pub mod FirstPrograms
+pub mod Followed
 pub mod Laid
 pub mod MadeNets
 pub mod Meant

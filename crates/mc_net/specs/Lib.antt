@@ -1,3 +1,4 @@
+pub mod Followed
 pub mod Nets
 pub mod Reading
 pub mod TextLaws

@@ -1,5 +1,6 @@
 //! Laws of texts and of their first worlds, over the definitions alone: each function's contract is the law's sentence.
 
+ghost use Rattle.mc_net.specs.Followed.{JournalsMayFollow};
 ghost use Rattle.mc_net.specs.TextLaws.{DeclaresOrFaults, OneFault, OneOrTheOther, UnprogrammedTexts};
 ghost use Rattle.mc_net.specs.TextLaws.{EachLineDeclares, SoundLinesMean};
 ghost use Rattle.mc_net.specs.TextLaws.{FaultsOfTheFirstBytes, NetsOfTheFirstBytes, SaysTheWhole};
@@ -53,6 +54,12 @@ pub fn one_net()
     ensures declared { OneDeclared }
     ensures world { OneFirstWorld }
     ensures net { OneNet }
+{}
+
+/// A journal may follow: what a text declares where nothing may stand after its commands, it declares with the line
+/// `journal` and any journal after it, too, as long as all of it is within its limit. The journal begins after that line.
+pub fn journals_may_follow()
+    ensures { JournalsMayFollow }
 {}
 
 /// Each slot of a text's first world has the version that the line of its box says.
