@@ -1,39 +1,62 @@
 -- What a person is told of how a call ended.
-use Rattle.std.specs.Prelude.{ℕ, ◌-◌, ◌/◌, ◌%◌, ◌&&◌, Bool, if◌then◌else◌, List, [], ◌∷◌, ◌++◌, codes, flat_map, get_or, map, nat_le, nat_lt}
+use Rattle.std.specs.Prelude.{ℕ, ◌-◌, ◌/◌, ◌%◌, ◌==◌, ◌&&◌, ◌||◌, Bool, if◌then◌else◌, List, [], ◌∷◌, ◌++◌, codes, flat_map, get_or, nat_le}
 use Rattle.std.specs.Fmt.{decimal}
+use Rattle.mc_explain.specs.Hints.{hints}
+use Rattle.mc_explain.specs.Sentences.{journal_rule, text_rule}
 use Rattle.mc_explain.specs.declared.reason.Reason.{Reason}
 use Rattle.mc_explain.specs.declared.reason.Reason.TheVariants.{FaultyJournal, FaultyText, NoMemory, ReadFault, Restless, Ring, Usage, VersionEnd, Worked, WriteFault}
-use Rattle.mc_explain.specs.declared.sentences.TheConstants.{JOURNAL_RULES, NO_MEMORY, NO_RULE, READ_FAULT, RESTLESS, RING, TEXT_RULES, USAGE, VERSION_END, WRITE_FAULT}
-use Rattle.mc_replay.specs.declared.rule.TheConstants.{NOT_ENABLED}
-use Rattle.mc_script.specs.declared.rule.TheConstants.{TEXT_TOO_LONG}
+use Rattle.mc_replay.specs.declared.rule.TheConstants.{NOT_ENABLED, NOT_NEXT}
 use Rattle.mc_text.specs.Lines.{has_bytes}
 
--- the entry of a number in a table whose first entry has the number `first`
-abbrev pub rule_words : ℕ → List (List ℕ) → ℕ → List ℕ
-rule_words first table number = if nat_lt number first then NO_RULE.now else get_or table (number - first) NO_RULE.now
+-- ---- sentences
+
+-- how the program is called
+abbrev pub commands : List (List ℕ)
+commands =
+    codes "  mediactl run [--journal]      settles the text on standard input, and prints its paths"
+    ∷ codes "  mediactl one N [--journal]    the same, in an order that the number N draws"
+    ∷ codes "  mediactl check                checks the journal that stands behind the text on standard input"
+    ∷ codes "  mediactl gen N SIZE           draws SIZE chains of features by the number N, and prints a summary"
+    ∷ codes "  mediactl scene pbx            prints the paths of one phone that speaks with two others in turn"
+    ∷ codes "  mediactl scene prepaid        prints the paths of a prepaid call that a voice interrupts"
+    ∷ codes "N is a number from 0 to 2147483647, and SIZE one from 1 to 50."
+    ∷ codes "With --journal each turn is printed behind the paths. The manual page mediactl(1) says more."
+    ∷ []
 
 -- the rule of texts that a line breaks
 abbrev pub text_fault : ℕ → ℕ → List ℕ
-text_fault number line = codes "line " ++ decimal line ++ codes " of the text breaks rule " ++ decimal number ++ codes ": "
-    ++ rule_words TEXT_TOO_LONG (map (λ words. words.now) TEXT_RULES) number ++ codes "."
+text_fault number line = codes "line " ++ decimal line ++ codes " of the text breaks rule " ++ decimal number ++ codes ": " ++ text_rule number ++ codes "."
+
+-- it is a turn that breaks the rule
+abbrev pub is_of_turns : ℕ → Bool
+is_of_turns number = number == NOT_ENABLED || number == NOT_NEXT
+
+-- the rule of journals that a turn breaks, by the turn's number
+abbrev pub turn_fault : ℕ → ℕ → List ℕ
+turn_fault number turn = codes "turn " ++ decimal turn ++ codes " of the journal breaks rule " ++ decimal number ++ codes ": " ++ journal_rule number ++ codes "."
+
+-- the rule that is broken behind so many turns
+abbrev pub line_fault : ℕ → ℕ → List ℕ
+line_fault number turns = codes "the journal breaks rule " ++ decimal number ++ codes " with " ++ decimal turns ++ codes " of its turns made: " ++ journal_rule number ++ codes "."
 
 -- the rule of journals that is broken where so many turns, less one, were made
 abbrev pub journal_fault : ℕ → ℕ → List ℕ
-journal_fault number turn = codes "turn " ++ decimal turn ++ codes " of the journal breaks rule " ++ decimal number ++ codes ": "
-    ++ rule_words NOT_ENABLED (map (λ words. words.now) JOURNAL_RULES) number ++ codes "."
+journal_fault number turn = if is_of_turns number then turn_fault number turn else line_fault number (turn - 1)
 
 -- what there is to say of each reason
 abbrev pub sentences : Reason → List (List ℕ)
 sentences Worked = []
-sentences Usage = map (λ line. line.now) USAGE
+sentences Usage = codes "the words behind the program's name are no command; the commands are:" ∷ commands
 sentences (FaultyText number line text) = text_fault number line ∷ []
-sentences VersionEnd = VERSION_END.now ∷ []
-sentences Ring = RING.now ∷ []
-sentences Restless = RESTLESS.now ∷ []
+sentences VersionEnd = codes "the script stopped: a hear command of the slot that is printed would need a version past the last one, 4294967295. Look at the first version of its device." ∷ []
+sentences Ring = codes "the script stopped: the slot that is printed is on a ring of links, so a path has no ends. Look at the links that lead on from it." ∷ []
+sentences Restless = codes "the script stopped: the program of the box that is printed made 256 steps in one settle, which is the most, and could make one more. Look at its when lines: they may lead round in a circle." ∷ []
 sentences (FaultyJournal number turn) = journal_fault number turn ∷ []
-sentences NoMemory = NO_MEMORY.now ∷ []
-sentences ReadFault = READ_FAULT.now ∷ []
-sentences WriteFault = WRITE_FAULT.now ∷ []
+sentences NoMemory = codes "there wasn't enough memory. Nothing was printed." ∷ []
+sentences ReadFault = codes "standard input couldn't be read. Nothing was printed." ∷ []
+sentences WriteFault = codes "standard output couldn't be written. What was printed is only a part." ∷ []
+
+-- ---- lines
 
 -- a line of what is told: whose it is, the sentence, and a line end
 abbrev pub told_line : List ℕ → List ℕ
@@ -54,15 +77,15 @@ escaped byte = if is_shown byte then byte ∷ [] else 92 ∷ 120 ∷ hex_digit (
 abbrev pub quote : List ℕ → List ℕ
 quote bytes = told_line (codes "the line is: " ++ flat_map escaped bytes)
 
--- the same, if there are any
-abbrev pub quoted : List ℕ → List ℕ
-quoted bytes = if has_bytes bytes then quote bytes else []
+-- a line that has bytes is shown, and then what helps with the rule that it breaks
+abbrev pub line_shown : ℕ → List ℕ → List ℕ
+line_shown number bytes = if has_bytes bytes then quote bytes ++ flat_map told_line (hints number bytes) else []
 
--- the line of a text that is shown
-abbrev pub told_text : Reason → List ℕ
-told_text (FaultyText number line text) = text.items
-told_text reason = []
+-- so is the line of a text that has a fault
+abbrev pub shown : Reason → List ℕ
+shown (FaultyText number line text) = line_shown number text.items
+shown reason = []
 
 -- all that is told: nothing where all was done
 abbrev pub explained : Reason → List ℕ
-explained reason = flat_map told_line (sentences reason) ++ quoted (told_text reason)
+explained reason = flat_map told_line (sentences reason) ++ shown reason

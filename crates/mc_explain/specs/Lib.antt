@@ -1,2 +1,4 @@
 pub mod Explained
+pub mod Hints
 pub mod Reasons
+pub mod Sentences

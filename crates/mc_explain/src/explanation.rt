@@ -1,17 +1,26 @@
 // How a call ended, in words.
-ghost use Rattle.std.specs.Prelude.{◌≡◌, ◌≢◌, ◌++◌, [], IfOk, OnOk, flat_map, map, string_bytes};
-ghost use Rattle.mc_explain.specs.Explained.{explained, journal_fault, sentences, text_fault, told_line, told_text};
+ghost use Rattle.std.specs.Prelude.{◌≡◌, ◌≢◌, ◌++◌, ◌-◌, ◌∷◌, [], IfOk, OnOk, flat_map, map};
+ghost use Rattle.mc_explain.specs.Explained.{commands, explained, is_of_turns, journal_fault, line_fault, line_shown, sentences, shown, text_fault, told_line, turn_fault};
 ghost use Rattle.mc_explain.specs.declared.reason.Reason.TheVariants.{Worked};
 
-use crate::quote::quote;
+use crate::hints::put_hints;
+use crate::quote::put_quote;
 use crate::reason::Reason;
-use crate::sentences::{
-    JOURNAL_RULES, NO_MEMORY, READ_FAULT, RESTLESS, RING, TEXT_RULES, USAGE, VERSION_END,
-    WRITE_FAULT, rule_words,
-};
-use mc_replay::rule::NOT_ENABLED;
-use mc_script::rule::TEXT_TOO_LONG;
+use crate::sentences::{journal_rule, text_rule};
+use mc_replay::rule::{NOT_ENABLED, NOT_NEXT};
 use std::alloc::{AllocError, Global};
+
+// How the program is called.
+const COMMANDS: [&str; 8] = [
+    "  mediactl run [--journal]      settles the text on standard input, and prints its paths",
+    "  mediactl one N [--journal]    the same, in an order that the number N draws",
+    "  mediactl check                checks the journal that stands behind the text on standard input",
+    "  mediactl gen N SIZE           draws SIZE chains of features by the number N, and prints a summary",
+    "  mediactl scene pbx            prints the paths of one phone that speaks with two others in turn",
+    "  mediactl scene prepaid        prints the paths of a prepaid call that a voice interrupts",
+    "N is a number from 0 to 2147483647, and SIZE one from 1 to 50.",
+    "With --journal each turn is printed behind the paths. The manual page mediactl(1) says more.",
+];
 
 /// What a person is told of how a call ended: nothing where all was done, and else lines that each begin with
 /// `mediactl: `.
@@ -20,74 +29,150 @@ pub fn explain(alloc: Global, reason: &Reason) -> Result<Vec<u8>, AllocError>
     ensures nothing { reason.now ≡ Worked → IfOk result (λ words. words.items ≡ []) }
     ensures something { reason.now ≢ Worked → IfOk result (λ words. words.items ≢ []) }
 {
-    let mut words = String::new(alloc);
-    put_sentences(reason, &mut words)?;
-    let mut told = words.into_bytes();
-    quote(told_text(reason), &mut told)?;
+    let mut told = Vec::new(alloc);
+    put_sentences(alloc, reason, &mut told)?;
+    put_shown(alloc, reason, &mut told)?;
     Ok(told)
 }
 
-// The line of a text that is shown for a reason.
-fn told_text(reason: &Reason) -> &[u8]
-    ensures { result.now ≡ told_text reason.now }
+// Appends the line of a text that is shown for a reason, and what helps with its rule. Want of memory may come in the
+// middle, here and below.
+fn put_shown(alloc: Global, reason: &Reason, out: &mut Vec<u8>) -> Result<(), AllocError>
+    ensures { OnOk result (out.new.items ≡ out.old.items ++ shown reason.now) }
 {
     match reason {
-        Reason::FaultyText { text, .. } => text,
-        _ => &[],
+        Reason::FaultyText { number, text, .. } => put_line_shown(alloc, *number, text, out),
+        _ => Ok(()),
     }
 }
 
-// Appends the sentences for a reason. Want of memory may come in the middle, here and below.
-fn put_sentences(reason: &Reason, words: &mut String) -> Result<(), AllocError>
-    ensures { OnOk result
-        (string_bytes words.new ≡ string_bytes words.old ++ flat_map told_line (sentences reason.now)) }
+fn put_line_shown(
+    alloc: Global,
+    number: u8,
+    text: &[u8],
+    out: &mut Vec<u8>,
+) -> Result<(), AllocError>
+    ensures { OnOk result (out.new.items ≡ out.old.items ++ line_shown number text.now) }
+{
+    if text.is_empty() {
+        return Ok(());
+    }
+    put_quote(text, out)?;
+    put_hints(alloc, number, text, out)
+}
+
+// Appends the sentences for a reason.
+fn put_sentences(alloc: Global, reason: &Reason, out: &mut Vec<u8>) -> Result<(), AllocError>
+    ensures { OnOk result (out.new.items ≡ out.old.items ++ flat_map told_line (sentences reason.now)) }
 {
     match reason {
         Reason::Worked => Ok(()),
-        Reason::Usage => put_lines(&USAGE, words),
-        Reason::FaultyText { number, line, .. } => put_text_fault(*number, *line, words),
-        Reason::FaultyJournal { number, turn } => put_journal_fault(*number, *turn, words),
-        Reason::VersionEnd => put_line(VERSION_END, words),
-        Reason::Ring => put_line(RING, words),
-        Reason::Restless => put_line(RESTLESS, words),
-        Reason::NoMemory => put_line(NO_MEMORY, words),
-        Reason::ReadFault => put_line(READ_FAULT, words),
-        Reason::WriteFault => put_line(WRITE_FAULT, words),
+        Reason::Usage => put_commands(
+            "the words behind the program's name are no command; the commands are:",
+            out,
+        ),
+        Reason::FaultyText { number, line, .. } => put_text_fault(alloc, *number, *line, out),
+        Reason::VersionEnd => put_line(
+            "the script stopped: a hear command of the slot that is printed would need a version past the last one, 4294967295. Look at the first version of its device.",
+            out,
+        ),
+        Reason::Ring => put_line(
+            "the script stopped: the slot that is printed is on a ring of links, so a path has no ends. Look at the links that lead on from it.",
+            out,
+        ),
+        Reason::Restless => put_line(
+            "the script stopped: the program of the box that is printed made 256 steps in one settle, which is the most, and could make one more. Look at its when lines: they may lead round in a circle.",
+            out,
+        ),
+        Reason::FaultyJournal { number, turn } => put_journal_fault(alloc, *number, *turn, out),
+        Reason::NoMemory => put_line("there wasn't enough memory. Nothing was printed.", out),
+        Reason::ReadFault => {
+            put_line("standard input couldn't be read. Nothing was printed.", out)
+        }
+        Reason::WriteFault => put_line(
+            "standard output couldn't be written. What was printed is only a part.",
+            out,
+        ),
     }
 }
 
-fn put_lines(lines: &[&'static str], words: &mut String) -> Result<(), AllocError>
-    ensures { OnOk result (string_bytes words.new
-        ≡ string_bytes words.old ++ flat_map told_line (map (λ line. line.now) lines.now)) }
+// Appends a line, and then how the program is called.
+fn put_commands(head: &str, out: &mut Vec<u8>) -> Result<(), AllocError>
+    ensures { OnOk result (out.new.items ≡ out.old.items ++ flat_map told_line (head.now ∷ commands)) }
+{
+    put_line(head, out)?;
+    put_lines(&COMMANDS, out)
+}
+
+fn put_lines(lines: &[&'static str], out: &mut Vec<u8>) -> Result<(), AllocError>
+    ensures { OnOk result (out.new.items
+        ≡ out.old.items ++ flat_map told_line (map (λ line. line.now) lines.now)) }
 {
     for line in lines {
-        put_line(line, words)?;
+        put_line(line, out)?;
     }
     Ok(())
 }
 
-fn put_line(line: &str, words: &mut String) -> Result<(), AllocError>
-    ensures { OnOk result (string_bytes words.new ≡ string_bytes words.old ++ told_line line.now) }
+/// Appends a line that begins with the program's name.
+pub fn put_line(line: &str, out: &mut Vec<u8>) -> Result<(), AllocError>
+    ensures { OnOk result (out.new.items ≡ out.old.items ++ told_line line.now) }
 {
-    writeln!(words, "mediactl: {line}")
+    out.extend_from_slice(b"mediactl: ")?;
+    out.extend_from_slice(line.as_bytes())?;
+    out.push(b'\n')?;
+    Ok(())
 }
 
-fn put_text_fault(number: u8, line: u32, words: &mut String) -> Result<(), AllocError>
-    ensures { OnOk result (string_bytes words.new ≡ string_bytes words.old ++ told_line (text_fault number line)) }
+fn put_text_fault(alloc: Global, number: u8, line: u32, out: &mut Vec<u8>) -> Result<(), AllocError>
+    ensures { OnOk result (out.new.items ≡ out.old.items ++ told_line (text_fault number line)) }
 {
-    let rule = rule_words(TEXT_TOO_LONG, &TEXT_RULES, number);
-    writeln!(
-        words,
-        "mediactl: line {line} of the text breaks rule {number}: {rule}."
-    )
+    let rule = text_rule(number);
+    let sentence = format!(in alloc; "line {line} of the text breaks rule {number}: {rule}.")?;
+    put_line(&sentence, out)
 }
 
-fn put_journal_fault(number: u8, turn: u32, words: &mut String) -> Result<(), AllocError>
-    ensures { OnOk result (string_bytes words.new ≡ string_bytes words.old ++ told_line (journal_fault number turn)) }
+// Of a rule that turns break, the turn is told, and else how many turns stand before.
+fn put_journal_fault(
+    alloc: Global,
+    number: u8,
+    turn: u32,
+    out: &mut Vec<u8>,
+) -> Result<(), AllocError>
+    ensures { OnOk result (out.new.items ≡ out.old.items ++ told_line (journal_fault number turn)) }
 {
-    let rule = rule_words(NOT_ENABLED, &JOURNAL_RULES, number);
-    writeln!(
-        words,
-        "mediactl: turn {turn} of the journal breaks rule {number}: {rule}."
-    )
+    if is_of_turns(number) {
+        put_turn_fault(alloc, number, turn, out)
+    } else {
+        put_line_fault(alloc, number, turn.saturating_sub(1), out)
+    }
+}
+
+fn is_of_turns(number: u8) -> bool
+    ensures { result ≡ is_of_turns number }
+{
+    number == NOT_ENABLED || number == NOT_NEXT
+}
+
+fn put_turn_fault(alloc: Global, number: u8, turn: u32, out: &mut Vec<u8>) -> Result<(), AllocError>
+    ensures { OnOk result (out.new.items ≡ out.old.items ++ told_line (turn_fault number turn)) }
+{
+    let rule = journal_rule(number);
+    let sentence = format!(in alloc; "turn {turn} of the journal breaks rule {number}: {rule}.")?;
+    put_line(&sentence, out)
+}
+
+fn put_line_fault(
+    alloc: Global,
+    number: u8,
+    turns: u32,
+    out: &mut Vec<u8>,
+) -> Result<(), AllocError>
+    ensures { OnOk result (out.new.items ≡ out.old.items ++ told_line (line_fault number turns)) }
+{
+    let rule = journal_rule(number);
+    let sentence = format!(in alloc;
+        "the journal breaks rule {number} with {turns} of its turns made: {rule}."
+    )?;
+    put_line(&sentence, out)
 }

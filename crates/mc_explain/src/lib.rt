@@ -2,6 +2,7 @@
 #![tactic(auto)]
 
 mod explanation;
+mod hints;
 mod quote;
 mod reason;
 mod sentences;

@@ -1,21 +1,11 @@
 // A line of a text, as a terminal can show it.
 ghost use Rattle.std.specs.Prelude.{◌≡◌, ◌<◌, ◌++◌, OnOk, flat_map};
-ghost use Rattle.mc_explain.specs.Explained.{escaped, hex_digit, is_shown, quote, quoted};
+ghost use Rattle.mc_explain.specs.Explained.{escaped, hex_digit, is_shown, quote};
 
 use std::alloc::AllocError;
 
-/// Appends a line that shows these bytes, if there are any. Want of memory may come in the middle, here and below.
-pub fn quote(bytes: &[u8], out: &mut Vec<u8>) -> Result<(), AllocError>
-    ensures { OnOk result (out.new.items ≡ out.old.items ++ quoted bytes.now) }
-{
-    if bytes.is_empty() {
-        Ok(())
-    } else {
-        put_quote(bytes, out)
-    }
-}
-
-fn put_quote(bytes: &[u8], out: &mut Vec<u8>) -> Result<(), AllocError>
+/// Appends a line that shows these bytes. Want of memory may come in the middle, here and below.
+pub fn put_quote(bytes: &[u8], out: &mut Vec<u8>) -> Result<(), AllocError>
     ensures { OnOk result (out.new.items ≡ out.old.items ++ quote bytes.now) }
 {
     out.extend_from_slice(b"mediactl: the line is: ")?;

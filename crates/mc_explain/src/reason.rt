@@ -26,7 +26,7 @@ pub enum Reason {
     VersionEnd,
     /// A batch left a ring of links.
     Ring,
-    /// A program doesn't come to rest.
+    /// A program made all the steps that it may make in a settle, and has one more to make.
     Restless,
     /// The journal has a fault: the number of its rule, and one more than the turns before it.
     FaultyJournal {

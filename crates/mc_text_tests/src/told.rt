@@ -34,17 +34,30 @@ fn are_told(rt: &impl Abort, alloc: Global, table: &[(Reason, &str)]) -> Result<
 #[test]
 fn each_reason_is_told_in_words(rt: HostRuntime) -> Result<(), AllocError> {
     let table = [
-        (Reason::Usage, "mediactl: gen N SIZE"),
-        (Reason::VersionEnd, "last version"),
-        (Reason::Ring, "make a ring"),
-        (Reason::Restless, "its when lines"),
+        (
+            Reason::Usage,
+            "mediactl: the words behind the program's name are no command; the commands are:\n",
+        ),
+        (
+            Reason::FaultyJournal {
+                number: 31,
+                turn: 2,
+            },
+            "mediactl: turn 2 of the journal breaks rule 31: this turn can't happen here",
+        ),
         (
             Reason::FaultyJournal {
                 number: 33,
                 turn: 17,
             },
-            "turn 17 of the journal breaks rule 33: not all is settled here",
+            "mediactl: the journal breaks rule 33 with 16 of its turns made: not all is settled",
         ),
+        (
+            Reason::VersionEnd,
+            "a version past the last one, 4294967295",
+        ),
+        (Reason::Ring, "is on a ring of links"),
+        (Reason::Restless, "made 256 steps in one settle"),
         (Reason::NoMemory, "memory"),
         (Reason::ReadFault, "standard input"),
         (Reason::WriteFault, "standard output"),
@@ -75,4 +88,30 @@ fn nothing_is_told_where_all_was_done(rt: HostRuntime) -> Result<(), AllocError>
     let told = explain(rt.alloc(), &Reason::Worked)?;
     is_equal(&rt, &told.len(), &0);
     Ok(())
+}
+
+// The form of a line goes by its first word, and so do the limits of what it declares.
+#[test]
+fn the_form_of_a_line_is_told(rt: HostRuntime) -> Result<(), AllocError> {
+    let missing = Reason::faulty_text(rt.alloc(), 6, 1, b"set alice a\n");
+    let unknown = Reason::faulty_text(rt.alloc(), 5, 1, b"  fly away\n");
+    let many = Reason::faulty_text(rt.alloc(), 14, 1, b"feat f");
+    is_told(
+        &rt,
+        rt.alloc(),
+        &missing,
+        "\nmediactl: such a line: set BOX SLOT GOAL behind begin, with open, close or hold for GOAL\n",
+    )?;
+    is_told(
+        &rt,
+        rt.alloc(),
+        &unknown,
+        "\nmediactl: such a line: no line of a text begins with this word\n",
+    )?;
+    is_told(
+        &rt,
+        rt.alloc(),
+        &many,
+        "\nmediactl: the limits: a text has at most 256 boxes\n",
+    )
 }

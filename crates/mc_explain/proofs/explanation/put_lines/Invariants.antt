@@ -1,7 +1,7 @@
-use Rattle.std.proofs.Common.{◌≡◌, ◌++◌, flat_map, map, string_bytes, take}
+use Rattle.std.proofs.Common.{◌≡◌, ◌++◌, flat_map, map, take}
 use Rattle.mc_explain.specs.Explained.{told_line}
 use Rattle.mc_explain.proofs.explanation.put_lines.Given as goal
 
 -- the lines so far are appended
 abbrev pub invariant-loop-line : goal.invariant-loop-line
-invariant-loop-line l = string_bytes l.words ≡ string_bytes l.initial.words ++ flat_map told_line (map (λ line. line.now) (take l.line-index l.lines))
+invariant-loop-line l = l.out.items ≡ l.initial.out.items ++ flat_map told_line (map (λ line. line.now) (take l.line-index l.lines))
