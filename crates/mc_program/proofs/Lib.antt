@@ -4,3 +4,4 @@ pub mod Found
 pub mod KeptRules
 pub mod Pairs
 pub mod WordLists
+pub mod Wanting

@@ -13,6 +13,12 @@ name_refusal Used = Line (record { number = GIVEN_TWICE })
 name_refusal TooMany = Line (record { number = LIMIT_PASSED })
 name_refusal (OutOfMemory e) = NoMemory e
 
+-- a name isn't added for want of memory
+abbrev pub IsWanting : NameFault → Type 0
+IsWanting Used = ⊥
+IsWanting TooMany = ⊥
+IsWanting (OutOfMemory e) = Unit {0}
+
 -- a line is refused by its fault, and else there is now what it makes
 abbrev pub Makes : {X : Type 0} → Result (Unit {0}) LineFault → X → Option ℕ → Option X → Type 0
 Makes (Ok done) now fault after = (fault ≡ None) × (after ≡ Some now)

@@ -1,7 +1,8 @@
 // Why a line isn't taken.
 
 ghost use Rattle.std.specs.Prelude.{◌≡◌, alloc_error};
-ghost use Rattle.mc_program.specs.Readings.{name_refusal};
+ghost use Rattle.mc_text.specs.declared.name_fault.NameFault.TheVariants as name;
+ghost use Rattle.mc_program.specs.Readings.{IsWanting, name_refusal};
 ghost use Rattle.mc_program.specs.declared.fault.ReadFault.TheVariants as read;
 
 use mc_script::LineFault;
@@ -55,5 +56,16 @@ impl From<NameFault> for ReadFault {
             }),
             NameFault::NoMemory(e) => ReadFault::NoMemory(e),
         }
+    }
+}
+
+/// Want of memory, where a name that may be added is refused.
+pub fn name_wanting(fault: NameFault) -> AllocError
+    requires { IsWanting fault }
+    ensures { fault ≡ name.NoMemory result }
+{
+    match fault {
+        NameFault::NoMemory(e) => e,
+        NameFault::Used | NameFault::TooMany => unreachable!(),
     }
 }

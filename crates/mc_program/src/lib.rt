@@ -9,6 +9,6 @@ mod part;
 mod program;
 pub mod word_list;
 
-pub use fault::ReadFault;
+pub use fault::{ReadFault, name_wanting};
 pub use part::{StatePart, WaitWord};
 pub use program::{Block, is_unfinished, program_line, state_line};

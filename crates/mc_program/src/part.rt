@@ -1,16 +1,18 @@
 //! The part of a state in a program, and the lines in it.
 
-ghost use Rattle.std.specs.Prelude.{◌≡◌, ◌<◌, ◌≤◌, length, position, IfOk, IfSome, MatchResult, OnErr, OnOk};
+ghost use Rattle.std.specs.Prelude.{◌≡◌, ◌<◌, ◌≤◌, false, length, position, IfOk, IfSome, IsTrue, MatchResult, OnErr, OnOk};
 ghost use Rattle.std.specs.Str.{bytes_eq};
 ghost use Rattle.std.specs.Option.{option_copied};
-ghost use Rattle.mc_text.specs.NameLists.{place_of, slot_names};
+ghost use Rattle.mc_text.specs.Adding.{told_number};
+ghost use Rattle.mc_text.specs.NameLists.{place_of, slot_names, with_told_word};
+ghost use Rattle.mc_text.specs.Spelling.{is_name};
 ghost use Rattle.mc_box.specs.BoxShapes.{medium_at, shape_of};
 ghost use Rattle.mc_slot.specs.Moves.{is_same_medium};
 ghost use Rattle.mc_script.specs.Places.{Fits, fixed_word, known_name};
 ghost use Rattle.mc_program.specs.Programs.{new_part, has_goal, lacks_goal, spelt_state, has_no_room, with_transition, words_of, waits_for, IsToldLine};
 ghost use Rattle.mc_program.specs.LineReadings.{BreaksWhenTold, ReadsGoal, ReadsLink, ReadsWhen, ReadsWhenIs, ReadsWhenTold, SpellsTransition};
 
-use crate::fault::ReadFault;
+use crate::fault::{ReadFault, name_wanting};
 use crate::limit::{STATE_LIMIT, TRANSITION_LIMIT};
 use mc_box::Shape;
 use mc_rule::{Guard, Rule};
@@ -230,9 +232,7 @@ impl StatePart {
         ensures slots { OnOk result (names.new.slots ≡ names.old.slots) }
     {
         let line = self.when_told_line(names, states, words)?;
-        let Ok(word) = names.add_told(line.word) else {
-            return Err(ReadFault::NoMemory(AllocError));
-        };
+        let word = add_told(names, line.word)?;
         self.push(Rule {
             guard: Guard::Told(word),
             target: line.target,
@@ -334,6 +334,20 @@ fn are_of_one_medium(shape: &Shape, who: u32, one: u8, other: u8) -> bool
 {
     let shape = &shape.boxes[who as usize];
     shape.media[one as usize] == shape.media[other as usize]
+}
+
+// The number of a told word, which is added where it is new. There is room for it.
+#[tactic(auto, using(crate::proofs::Wanting::told_wanting))]
+fn add_told(names: &mut Names, word: &[u8]) -> Result<u8, AllocError>
+    requires name { IsTrue (is_name word.now) }
+    requires room { has_no_room names.old (Some word.now) ≡ false }
+    ensures number { IfOk result (λ number. told_number names.old.told word.now ≡ Ok number) }
+    ensures added { OnOk result (names.new ≡ with_told_word names.old word.now) }
+{
+    match names.add_told(word) {
+        Ok(number) => Ok(number),
+        Err(fault) => Err(name_wanting(fault)),
+    }
 }
 
 // Whether a word is a new told word, for which there is no room.
