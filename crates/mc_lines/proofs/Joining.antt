@@ -1,5 +1,5 @@
 -- Two boxes are joined: whether they may be is the plan's to say, and names, shapes and channels go on to fit.
-use Rattle.std.proofs.Common.{◌≡◌, ℕ, ◌+◌, ◌<◌, ◌==◌, ◌||◌, Bool, true, false, if◌then◌else◌, nat_le, nat_lt, Result, Ok, Err, None, List, [], ◌∷◌, ◌++◌, length, slice_index_or, slice_set, refl, ap, sym, ◌∙◌, subst, arith, map}
+use Rattle.std.proofs.Common.{◌≡◌, ℕ, ◌+◌, ◌<◌, ◌==◌, ◌||◌, Bool, true, false, if◌then◌else◌, nat_le, nat_lt, Result, Ok, Err, Option, Some, None, List, [], ◌∷◌, ◌++◌, length, slice_index_or, slice_set, refl, ap, sym, ◌∙◌, subst, arith, map}
 use Rattle.std.proofs.lemmas.Grind.{common_steps}
 use Rattle.std.proofs.lemmas.List.{length-map, length-set}
 use Rattle.mc_signal.specs.declared.Medium.{Medium}
@@ -7,7 +7,7 @@ use Rattle.mc_text.specs.NameLists.{NameLists, slot_names, with_slot_name}
 use Rattle.mc_box.specs.BoxShapes.{BoxShapeState, shape_of}
 use Rattle.mc_model.specs.Worlds.{ChannelState}
 use Rattle.mc_plan.specs.Plans.{PlanState, channel_between, last_channel, slots_of, widened}
-use Rattle.mc_plan.specs.Refusals.{fault_if, unless_fault}
+use Rattle.mc_plan.specs.Refusals.{IsRefusal, fault_if, unless_fault, widen_fault}
 use Rattle.mc_plan.specs.Refusals as plan
 use Rattle.mc_plan.specs.declared.fault.PlanFault.{PlanFault}
 use Rattle.mc_plan.specs.declared.fault.PlanFault.TheVariants.{SameBox, NoTunnels, TooManyTunnels, ChannelsFull, SlotsFull}
@@ -79,6 +79,17 @@ widens_by_plan names planned slots some =
     let near_full : nat_lt 64 (slots_of planned.channels (last_channel planned.channels).from + 1) ≡ is_full names (last_channel planned.channels).from = ap (λ (n : ℕ). nat_lt 64 (n + 1)) (slots last.from) ∙ one_too_many (length (slot_names names last.from)) in
     let far_full : nat_lt 64 (slots_of planned.channels (last_channel planned.channels).to + 1) ≡ is_full names (last_channel planned.channels).to = ap (λ (n : ℕ). nat_lt 64 (n + 1)) (slots last.to) ∙ one_too_many (length (slot_names names last.to)) in
     rw (first, near_full, far_full) (same_widening (nat_le 8 (length last.tunnels)) (is_full names last.from) (is_full names last.to))
+
+-- a tunnel more that the line's rules let pass breaks no rule of the plan
+none_refused : (fault : Option PlanFault) → widening_refusal (unless_fault fault) ≡ Ok tt → fault ≡ None
+none_refused None passes = refl
+none_refused (Some fault) passes = absurd cc
+
+-- so it is refused for want of memory alone
+pub widen_wanting : (names : NameLists) (planned : PlanState) (fault : PlanFault) → ((who : ℕ) → slots_of planned.channels who ≡ length (slot_names names who)) → 0 < length planned.channels
+    → check_widen names (last_channel planned.channels) ≡ Ok tt → IsRefusal fault (widen_fault planned) → IsRefusal fault None
+widen_wanting names planned fault slots some widens refused =
+    subst (λ (o : Option PlanFault). IsRefusal fault o) (none_refused (widen_fault planned) (widens_by_plan names planned slots some ∙ widens)) refused
 
 -- ---- names, shapes and channels
 

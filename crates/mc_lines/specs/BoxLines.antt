@@ -1,5 +1,5 @@
 -- What the lines of boxes and channels say, as clauses see it.
-use Rattle.std.specs.Prelude.{ℕ, ◌≡◌, ◌<◌, ◌==◌, ◌&&◌, ◌||◌, Bool, if◌then◌else◌, List, [], ◌∷◌, Option, Some, None, Result, Ok, Err, IsTrue, length, nat_le}
+use Rattle.std.specs.Prelude.{ℕ, ◌≡◌, ◌≢◌, ◌<◌, ◌==◌, ◌&&◌, ◌||◌, Bool, false, if◌then◌else◌, List, [], ◌∷◌, Option, Some, None, Result, Ok, Err, IsTrue, length, nat_le}
 use Rattle.mc_signal.specs.Choice.{codecs_of}
 use Rattle.std.specs.Option.{is_some}
 use Rattle.mc_text.specs.NameLists.{NameLists, place_of, slot_names}
@@ -75,11 +75,12 @@ widening_rules d line =
     ∷ (NAME_TOO_LONG, is_overlong (Some line.slot.now) || is_overlong (Some line.far_slot.now))
     ∷ []
 
--- an `also` line's boxes are those of the last channel
+-- an `also` line's boxes are those of the last channel, which are two
 pub record IsOfLast (d : Declared) (line : ChannelLine) : Type 0 where
   pub some : 0 < length d.channels
   pub near : line.from ≡ (last_channel d.channels).from
   pub far : line.to ≡ (last_channel d.channels).to
+  pub apart : line.from ≢ line.to
 
 -- what is left to ask of a `chan` line whose words are known where they must be
 abbrev pub joining_rules : Declared → ChannelLine → List (ℕ × Bool)
@@ -97,17 +98,30 @@ pub record KnowsEnds (d : Declared) (line : ChannelLine) : Type 0 where
   pub slot : IsTrue (is_spelt line.slot.now)
   pub far_slot : IsTrue (is_spelt line.far_slot.now)
 
--- the last channel, whose boxes these are, may have one more tunnel, and both slots are named
+-- a box has no slot of this name, and not as many as it may have
+pub record MayAddSlot (names : NameLists) (who : ℕ) (slot : List ℕ) : Type 0 where
+  pub new : is_some (place_of (slot_names names who) slot) ≡ false
+  pub room : is_full names who ≡ false
+
+-- each of a line's two boxes may have its slot of the line, and they are different boxes
+pub record MayAddSlots (names : NameLists) (line : ChannelLine) : Type 0 where
+  pub apart : line.from ≢ line.to
+  pub near : MayAddSlot names line.from line.slot.now
+  pub far : MayAddSlot names line.to line.far_slot.now
+
+-- the last channel, whose boxes these are, may have one more tunnel, and both slots are named and may be added
 pub record CanWiden (d : Declared) (line : ChannelLine) : Type 0 where
   pub last : IsOfLast d line
   pub ends : KnowsEnds d line
   pub widens : check_widen d.names (last_channel d.channels) ≡ Ok tt
+  pub adds : MayAddSlots d.names line
   pub slot : IsTrue (is_name line.slot.now)
   pub far_slot : IsTrue (is_name line.far_slot.now)
 
--- both boxes are declared, they may be joined, and both slots are named
+-- both boxes are declared, they may be joined, and both slots are named and may be added
 pub record CanJoin (d : Declared) (line : ChannelLine) : Type 0 where
   pub ends : KnowsEnds d line
   pub joins : check_join d.names d.channels line.from line.to ≡ Ok tt
+  pub adds : MayAddSlots d.names line
   pub slot : IsTrue (is_name line.slot.now)
   pub far_slot : IsTrue (is_name line.far_slot.now)

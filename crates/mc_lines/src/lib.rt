@@ -8,6 +8,7 @@ mod places;
 mod reader;
 mod section;
 mod tail;
+mod wanting;
 
 pub use keyword::keyword_of;
 pub use reader::{Parts, Reader};

@@ -1,6 +1,6 @@
 //! Lines that declare boxes.
 
-ghost use Rattle.std.specs.Prelude.{◌≡◌, IfOk, IsTrue, OnOk};
+ghost use Rattle.std.specs.Prelude.{◌≡◌, ◌<◌, IfOk, IsTrue, OnOk, length};
 ghost use Rattle.mc_text.specs.Spelling.{is_spelt};
 ghost use Rattle.mc_lines.specs.BoxLines.{box_seen};
 ghost use Rattle.mc_lines.specs.Forms.{IsInForm};
@@ -13,6 +13,7 @@ use crate::codec_words::{
 use crate::places::overlong;
 use crate::reader::Reader;
 use crate::section::{Keyword, Section};
+use crate::wanting::plan_wanting;
 use mc_box::{BoxShape, Kind};
 use mc_plan::BoxPlan;
 use mc_program::ReadFault;
@@ -137,13 +138,13 @@ impl Reader {
         Ok(())
     }
 
-    // Plans a box, which has no slots.
+    // Plans a box, which has no slots. There is room for it.
     fn plan_box(&mut self, planned: BoxPlan) -> Result<(), AllocError>
+        requires { length self.old.boxes < BOX_LIMIT }
         ensures { OnOk result (self.new ≡ with_planned self.old (box_seen planned)) }
     {
-        // there is room, since its name had room
-        if self.plan.add(planned).is_err() {
-            return Err(AllocError);
+        if let Err(fault) = self.plan.add(planned) {
+            return Err(plan_wanting(fault));
         }
         self.shape.boxes.push(BoxShape {
             kind: planned.kind,

@@ -1,10 +1,10 @@
 //! Lines that declare channels.
 
-ghost use Rattle.std.specs.Prelude.{◌≡◌, ◌<◌, [], IfOk, IfSome, IsTrue, OnOk, Some, length};
+ghost use Rattle.std.specs.Prelude.{◌≡◌, ◌≢◌, ◌<◌, [], IfOk, IfSome, IsTrue, OnOk, Some, length};
 ghost use Rattle.std.specs.Option.{is_some, option_copied};
 ghost use Rattle.mc_text.specs.NameLists.{place_of, slot_names};
 ghost use Rattle.mc_text.specs.Spelling.{is_name, is_spelt};
-ghost use Rattle.mc_lines.specs.BoxLines.{CanJoin, CanWiden, IsOfLast, KnowsEnds, also_seen, channel_seen, check_join, check_slots, check_widen, last_ends, missing_word, slots_seen};
+ghost use Rattle.mc_lines.specs.BoxLines.{CanJoin, CanWiden, IsOfLast, KnowsEnds, MayAddSlot, MayAddSlots, also_seen, channel_seen, check_join, check_slots, check_widen, last_ends, missing_word, slots_seen};
 ghost use Rattle.mc_plan.specs.Plans.{last_channel};
 ghost use Rattle.mc_lines.specs.Forms.{IsInForm};
 ghost use Rattle.mc_lines.specs.Meaning.{with_new_channel, with_medium, with_new_slot, with_new_tunnel};
@@ -13,9 +13,10 @@ ghost use Rattle.mc_lines.specs.LineReadings.{ReadsKind, SpellsAlso, SpellsChann
 use crate::places::fixed_medium;
 use crate::reader::Reader;
 use crate::section::{Keyword, Section};
+use crate::wanting::plan_wanting;
 use mc_box::Shape;
 use mc_plan::PlanFault;
-use mc_program::ReadFault;
+use mc_program::{ReadFault, name_wanting};
 use mc_script::LineFault;
 use mc_script::places::{is_misspelt, is_overlong, known_box};
 use mc_script::rule::{
@@ -194,6 +195,7 @@ impl Reader {
         ensures is { result ≡ last_ends self.now.channels }
         ensures there { IfSome result (λ ends.
             (ends.0 < length self.now.names.boxes) × (ends.1 < length self.now.names.boxes)) }
+        ensures apart { IfSome result (λ ends. ends.0 ≢ ends.1) }
     {
         self.plan.keeps();
         let channels = self.plan.channels();
@@ -256,20 +258,27 @@ impl Reader {
 
     // Gives the last channel one more tunnel.
     fn widen(&mut self, medium: Medium) -> Result<(), AllocError>
+        requires in_form { IsInForm self.old }
+        requires some { 0 < length self.old.channels }
+        requires widens { check_widen self.old.names (last_channel self.old.channels) ≡ Ok tt }
         ensures { OnOk result (self.new ≡ with_new_tunnel self.old medium) }
     {
-        if self.plan.widen(medium).is_err() {
-            return Err(AllocError);
+        if let Err(fault) = self.plan.widen(medium) {
+            return Err(plan_wanting(fault));
         }
         Ok(())
     }
 
     // Joins two boxes by one more channel of one tunnel.
     fn join(&mut self, from: u32, to: u32, medium: Medium) -> Result<(), AllocError>
+        requires in_form { IsInForm self.old }
+        requires near { from < length self.old.names.boxes }
+        requires far { to < length self.old.names.boxes }
+        requires joins { check_join self.old.names self.old.channels from to ≡ Ok tt }
         ensures { OnOk result (self.new ≡ with_new_channel self.old from to medium) }
     {
-        if self.plan.join(from, to, &[medium]).is_err() {
-            return Err(AllocError);
+        if let Err(fault) = self.plan.join(from, to, &[medium]) {
+            return Err(plan_wanting(fault));
         }
         Ok(())
     }
@@ -277,6 +286,7 @@ impl Reader {
     // Adds the two slots of a line to their boxes, each as its last.
     fn add_slots<'a>(&mut self, line: &ChannelLine<'a>) -> Result<(), AllocError>
         requires known { KnowsEnds self.old line.now }
+        requires may { MayAddSlots self.old.names line.now }
         requires near { IsTrue (is_name line.now.slot.now) }
         requires far { IsTrue (is_name line.now.far_slot.now) }
         requires boxes { length self.old.shape ≡ length self.old.names.boxes }
@@ -292,13 +302,14 @@ impl Reader {
     fn add_slot(&mut self, who: u32, name: &[u8], medium: Medium) -> Result<(), AllocError>
         requires who { who < length self.old.names.boxes }
         requires named { IsTrue (is_name name.now) }
+        requires may { MayAddSlot self.old.names who name.now }
         requires boxes { length self.old.shape ≡ length self.old.names.boxes }
         ensures added { OnOk result (self.new ≡ with_new_slot self.old who name.now medium) }
     {
         // each box has its list of slots
         let _ = self.names.box_count();
-        if self.names.add_slot(who, name).is_err() {
-            return Err(AllocError);
+        if let Err(fault) = self.names.add_slot(who, name) {
+            return Err(name_wanting(fault));
         }
         add_medium(&mut self.shape, who, medium)
     }
