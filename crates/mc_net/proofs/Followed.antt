@@ -10,9 +10,8 @@ use Rattle.std.specs.Option.{option_and_then, option_map, unwrap_or}
 use Rattle.std.specs.Str.{bytes_eq}
 use Rattle.mc_lines.proofs.FirstBroken.{all_before, all_behind, of_words}
 use Rattle.mc_lines.specs.Meaning.{after_by, also_after, channel_after, codec_number, command_after, device_in, line_after, program_link_after, programmed_shape, unless_skipped, when_after, with_block, with_joined, with_new_box, with_new_codec, with_new_feature, with_send_line, with_widened, words_after}
-use Rattle.mc_lines.specs.Rules.{end_fault, end_rules, ends_commands, has_journal, is_journal, is_program_link, is_skipped, is_unfinished, journal_rules, kind_of, line_fault, line_words_rules, open_block, passes_limit, rules_by, spelt_medium, text_limit, words_rules}
-use Rattle.mc_lines.specs.SoFar.{Declared, nothing}
-use Rattle.mc_lines.specs.declared.limit.TheConstants.{JOURNAL_TEXT_LIMIT}
+use Rattle.mc_lines.specs.Rules.{end_fault, end_rules, ends_commands, has_journal, is_journal, is_program_link, is_skipped, journal_rules, kind_of, line_fault, line_words_rules, open_block, passes_limit, rules_by, spelt_medium, text_limit, words_rules}
+use Rattle.mc_lines.specs.SoFar.{Declared}
 use Rattle.mc_lines.specs.declared.section.Keyword.{Keyword}
 use Rattle.mc_lines.specs.declared.section.Keyword.TheVariants as keyword
 use Rattle.mc_lines.specs.declared.section.Section.TheVariants as section
@@ -22,9 +21,7 @@ use Rattle.mc_net.proofs.FirstBytes.{all_bytes, extent, extent-append, same_decl
 use Rattle.mc_net.proofs.Reading.{has_tail}
 use Rattle.mc_net.proofs.TextEnds.{unended_texts}
 use Rattle.mc_net.specs.Followed.{JournalsMayFollow, ended, followed, journal_line, missing_end, up_to_journal}
-use Rattle.mc_net.specs.Nets.{DeclaresNet, batches_of}
 use Rattle.mc_net.specs.Texts.{AreSound, Says, bytes_before, declared_after, declared_by, fault_at, text_end, text_lines, up_to}
-use Rattle.mc_net.specs.declared.net.Net.{Net}
 use Rattle.mc_plan.specs.Plans.{last_channel}
 use Rattle.mc_program.proofs.KeptRules.{kept_at, others_kept}
 use Rattle.mc_program.specs.Programs.{◌>>=◌, BlockState, block_goal_after, block_link_after, block_when_after, new_block, with_new_part}

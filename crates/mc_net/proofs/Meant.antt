@@ -8,33 +8,29 @@ use Rattle.mc_box.specs.declared.event.Event.{Event}
 use Rattle.mc_box.specs.declared.event.Event.TheVariants.{Set, Media, Tell}
 use Rattle.mc_box.specs.declared.event.MediaChange.{MediaChange}
 use Rattle.mc_box.specs.declared.event.MediaChange.TheVariants.{Hear, Talk}
-use Rattle.mc_box.specs.declared.event.Turn.{Turn}
 use Rattle.mc_lines.proofs.FirstBroken.{all_before, all_behind}
-use Rattle.mc_lines.specs.Meaning.{after_by, also_after, channel_after, codec_number, command_after, device_in, line_after, program_after, program_link_after, programmed_shape, send_after, state_after, unless_skipped, when_after, with_block, with_joined, with_new_box, with_new_codec, with_new_feature, with_send_line, with_widened, words_after}
-use Rattle.mc_lines.specs.Rules.{also_rules, channel_rules, codec_rules, command_line_rules, device_rules, feature_rules, is_late, is_program_link, is_skipped, is_unfinished, kind_of, line_fault, line_words_rules, lists_undeclared, open_block, passes_limit, program_link_rules, program_rules, rules_by, send_line_rules, send_rules, spelt_medium, state_rules, text_limit, words_rules}
+use Rattle.mc_lines.specs.Meaning.{after_by, also_after, channel_after, command_after, device_in, line_after, program_after, program_link_after, send_after, state_after, unless_skipped, when_after, with_block, with_joined, with_new_box, with_new_codec, with_new_feature, with_widened, words_after}
+use Rattle.mc_lines.specs.Rules.{also_rules, channel_rules, codec_rules, command_line_rules, device_rules, feature_rules, is_late, is_program_link, is_skipped, kind_of, line_words_rules, lists_undeclared, open_block, passes_limit, program_link_rules, program_rules, rules_by, send_line_rules, send_rules, spelt_medium, state_rules, text_limit, words_rules}
 use Rattle.mc_lines.specs.SoFar.{Declared}
 use Rattle.mc_lines.specs.declared.section.Keyword.{Keyword}
 use Rattle.mc_lines.specs.declared.section.Keyword.TheVariants as keyword
 use Rattle.mc_lines.specs.declared.section.Section.TheVariants as section
-use Rattle.mc_lines.specs.declared.tail.Tail.{Tail}
 use Rattle.mc_net.specs.TextLaws.{EachLineDeclares, SoundLinesMean}
-use Rattle.mc_net.specs.Texts.{bytes_before, declared_by, fault_at}
+use Rattle.mc_net.specs.Texts.{bytes_before, declared_by}
 use Rattle.mc_plan.specs.Plans.{last_channel}
 use Rattle.mc_program.proofs.KeptRules.{kept_at, others_kept}
-use Rattle.mc_program.specs.Programs.{◌>>=◌, BlockState, PartState, block_goal_after, block_goal_rules, block_link_after, block_link_rules, block_when_after, block_when_rules, goal_rules, in_block, in_part, is_not_next, is_transition, open_part_of, part_goal_after, part_link_after, part_link_rules, part_when_after, part_with_goal, spelt_state, told_after, told_place, waits_for, when_is_rules, when_kind_after, when_kind_rules, when_rules, when_told_rules, with_new_part, with_part, with_transition}
+use Rattle.mc_program.specs.Programs.{◌>>=◌, BlockState, PartState, block_goal_after, block_goal_rules, block_link_after, block_link_rules, block_when_after, block_when_rules, goal_rules, in_block, in_part, is_not_next, is_transition, open_part_of, part_goal_after, part_link_after, part_link_rules, part_when_after, part_with_goal, spelt_state, told_after, told_place, waits_for, when_is_rules, when_kind_after, when_kind_rules, when_rules, when_told_rules, with_part, with_transition}
 use Rattle.mc_program.specs.declared.part.WaitWord.{WaitWord}
 use Rattle.mc_program.specs.declared.part.WaitWord.TheVariants as waits
 use Rattle.mc_rule.specs.declared.Guard.TheVariants.{SlotIs, Told}
 use Rattle.mc_rule.specs.declared.Rule.{Rule}
 use Rattle.mc_script.specs.Meaning.{at_slot, command_by}
-use Rattle.mc_script.specs.Places.{box_named, is_misspelt, is_no, lacks, lacks_slot, slot_named, spelt_value}
+use Rattle.mc_script.specs.Places.{box_named, is_no, lacks, lacks_slot, slot_named, spelt_value}
 use Rattle.mc_script.specs.Rules.{byte_rules, is_no_device, kind_rules, least_broken, link_rules, media_rules, set_rules, spelt_goal, spelt_switch, tell_rules}
-use Rattle.mc_script.specs.declared.command.Command.{Command}
 use Rattle.mc_script.specs.declared.command.Command.TheVariants.{Stimulus}
 use Rattle.mc_script.specs.declared.keyword.CommandWord.{CommandWord}
 use Rattle.mc_script.specs.declared.keyword.CommandWord.TheVariants as command
 use Rattle.mc_script.specs.declared.rule.TheConstants.{MISSING_WORD, NO_SUCH_SLOT, UNDECLARED, WRONG_WORD}
-use Rattle.mc_slot.specs.declared.Goal.{Goal}
 use Rattle.mc_slot.specs.declared.SlotGoal.TheVariants.{End, Link}
 use Rattle.mc_text.specs.Lines.{words}
 use Rattle.mc_text.specs.NameLists.{NameLists, place_of, slot_names, with_told_word}
@@ -243,21 +239,27 @@ module _ (d : Declared) (words : List (List ℕ)) where
   channel_there kept =
       let rules = channel_rules d words in
       let last : IsSome (slice_get words 4) = word_there rules 2 (slice_get words 4) kept refl in
+      let medium_word : IsSome (slice_get words 0) = earlier words 4 0 (omega arith) last in
+      let box_word : IsSome (slice_get words 1) = earlier words 4 1 (omega arith) last in
+      let slot_word : IsSome (slice_get words 2) = earlier words 4 2 (omega arith) last in
+      let far_word : IsSome (slice_get words 3) = earlier words 4 3 (omega arith) last in
       let known = or_parts (lacks d.names.boxes (slice_get words 1)) (lacks d.names.boxes (slice_get words 3)) (kept_at rules 0 (UNDECLARED, _) kept refl) in
       let spelt : is_no spelt_medium (slice_get words 0) ≡ false = (or_parts _ _ (or_parts _ _ (or_parts _ _ (kept_at rules 1 (WRONG_WORD, _) kept refl)).0).0).1 in
-      some_then (spelt_value spelt_medium (slice_get words 0)) _ (spelt_there spelt_medium (slice_get words 0) spelt (earlier words 4 0 (omega arith) last)) (λ medium.
-      some_then (box_named d.names (slice_get words 1)) _ (found_name d.names.boxes (slice_get words 1) known.0 (earlier words 4 1 (omega arith) last)) (λ from.
-      some_then (slice_get words 2) _ (earlier words 4 2 (omega arith) last) (λ slot.
-      some_then (box_named d.names (slice_get words 3)) _ (found_name d.names.boxes (slice_get words 3) known.1 (earlier words 4 3 (omega arith) last)) (λ to.
+      some_then (spelt_value spelt_medium (slice_get words 0)) _ (spelt_there spelt_medium (slice_get words 0) spelt medium_word) (λ medium.
+      some_then (box_named d.names (slice_get words 1)) _ (found_name d.names.boxes (slice_get words 1) known.0 box_word) (λ from.
+      some_then (slice_get words 2) _ slot_word (λ slot.
+      some_then (box_named d.names (slice_get words 3)) _ (found_name d.names.boxes (slice_get words 3) known.1 far_word) (λ to.
       some_then (slice_get words 4) (λ far_slot. Some (with_joined d medium from slot to far_slot)) last (λ far_slot. refl)))))
 
   also_there : least_broken (also_rules d words) ≡ None → IsSome (also_after d words)
   also_there kept =
       let rules = also_rules d words in
       let last : IsSome (slice_get words 2) = word_there rules 1 (slice_get words 2) kept refl in
+      let medium_word : IsSome (slice_get words 0) = earlier words 2 0 (omega arith) last in
+      let slot_word : IsSome (slice_get words 1) = earlier words 2 1 (omega arith) last in
       let spelt : is_no spelt_medium (slice_get words 0) ≡ false = (or_parts _ _ (or_parts _ _ (or_parts _ _ (kept_at rules 0 (WRONG_WORD, _) kept refl)).0).0).1 in
-      some_then (spelt_value spelt_medium (slice_get words 0)) _ (spelt_there spelt_medium (slice_get words 0) spelt (earlier words 2 0 (omega arith) last)) (λ medium.
-      some_then (slice_get words 1) _ (earlier words 2 1 (omega arith) last) (λ slot.
+      some_then (spelt_value spelt_medium (slice_get words 0)) _ (spelt_there spelt_medium (slice_get words 0) spelt medium_word) (λ medium.
+      some_then (slice_get words 1) _ slot_word (λ slot.
       some_then (slice_get words 2) (λ far_slot. Some (with_widened d medium (last_channel d.channels).from slot (last_channel d.channels).to far_slot)) last (λ far_slot. refl)))
 
   program_there : least_broken (program_rules d words) ≡ None → IsSome (program_after d words)

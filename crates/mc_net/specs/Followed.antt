@@ -1,5 +1,5 @@
 -- A text with a journal after its commands.
-use Rattle.std.specs.Prelude.{◌≡◌, ◌≤◌, ◌++◌, ℕ, List, [], ◌∷◌, codes, if◌then◌else◌, length}
+use Rattle.std.specs.Prelude.{◌≤◌, ◌++◌, ℕ, List, [], ◌∷◌, codes, if◌then◌else◌, length}
 use Rattle.mc_lines.specs.Rules.{text_limit}
 use Rattle.mc_lines.specs.declared.tail.Tail.TheVariants.{Nothing, Journal}
 use Rattle.mc_net.specs.Nets.{DeclaresNet}
