@@ -19,11 +19,12 @@ use Rattle.mc_model.specs.Steps.{heard_local, heard_slot, run}
 use Rattle.mc_model.specs.Worlds.{ChannelState, WorldState, number, place, places_among, slot_count}
 use Rattle.mc_world.specs.declared.settled.Settled.{Settled}
 use Rattle.mc_seq.specs.Drawing.{CameToRest, CameToRing, CameToShift, DrewAll, DrewTurn, Ended, Moment, RanOut, RoundMade, Sight, WentOn, WentRestless, WentToRest, WentToRing, first_sight, sight_at, turns_of_programs}
-use Rattle.mc_seq.specs.Draws.{SettlesByDraws, StopsAtRing, StopsAtVersion, StopsByDraws, StopsRestless}
+use Rattle.mc_seq.specs.Draws.{IsScheduled, SettlesByDraws, StopsAtRing, StopsAtVersion, StopsByDraws, StopsRestless}
 use Rattle.mc_seq.specs.Places.{Answered, IsInside, IsPlaced, TellsSlot}
 use Rattle.mc_seq.specs.Restless.{IsFirstShifter}
 use Rattle.mc_seq.specs.Retries.{retries_by_box}
 use Rattle.mc_seq.specs.Schedule.{AreDrawn, Goes, IsStill, MakesRound, Standing, all_candidates, first_standing, is_urgent}
+use Rattle.mc_seq.specs.ShiftLimit.{KeepsShiftLimit}
 use Rattle.mc_seq.specs.declared.fault.SettleFault.{SettleFault}
 use Rattle.mc_seq.specs.declared.fault.SettleFault.TheVariants.{NoMemory, Restless, Ring, VersionEnd}
 use Rattle.mc_seq.specs.declared.fault.Stopped.{Stopped}
@@ -34,7 +35,7 @@ use Rattle.mc_seq.specs.declared.stopping.Ending.TheVariants.{LastVersion, Rest,
 use Rattle.mc_seq.proofs.Candidates.{listed_spent}
 use Rattle.mc_seq.proofs.Rounds.{end_is, goes_both, goes_round, goes_run, goes_stopped, schedule_settles}
 use Rattle.mc_seq.proofs.Scheduled.{allowed_commands, drawn_both, drawn_commands, drawn_pass, ends_next, is_ordered, next_is}
-use Rattle.mc_seq.proofs.Shifts.{draws_fewer, drawn_lowers, goes_spent, owed, same_within}
+use Rattle.mc_seq.proofs.Shifts.{draws_fewer, drawn_lowers, goes_spent, owed, same_within, shifts_are_few}
 use Rattle.mc_seq.proofs.Sittings.{GoesOn, goes_last, goes_more, made_none, standing_is}
 
 -- ---- one behind another
@@ -190,6 +191,7 @@ stops_at_ring world batch state at last allowed ended = record {
   least = ended.least;
   to_end = refl;
   stopped = goes_stopped ended.went.rounds world batch last.turns state last.standing allowed (first_goes world batch state last ended.went);
+  shift_limit = shifts_are_few world batch last.turns state ended.went.rounds last.standing allowed (first_goes world batch state last ended.went);
 }
 
 -- a box that may make no more has made all
@@ -221,6 +223,7 @@ stops_restless world batch state at last sound allowed ended =
       };
       to_end = refl;
       stopped = goes_stopped ended.went.rounds world batch last.turns state last.standing allowed goes;
+      shift_limit = shifts_are_few world batch last.turns state ended.went.rounds last.standing allowed goes;
     }
 
 -- drawn turns from the beginning
@@ -248,6 +251,7 @@ stops_at_version world batch state at used allowed out =
       is_drawn = out.ends.is_drawn;
       to_end = sym (ap (λ (s : Standing). s.draws) out.ends.stays);
       stopped = goes_stopped zero world batch used.turns state out.last.standing allowed same;
+      shift_limit = shifts_are_few world batch used.turns state zero out.last.standing allowed same;
     }
 
 -- ---- where a settle stops
@@ -343,6 +347,16 @@ pub answers_scheduled : (result : Result Settled SettleFault) (ending : Ending) 
     → Answered settled ending result → IfOk result (SettlesByDraws world batch state last.standing.draws)
 answers_scheduled (Ok done) ending world batch state last settled ends answered = answers_rest ending world batch state last settled done ends answered
 answers_scheduled (Err fault) ending world batch state last settled ends answered = tt
+
+-- no box makes more Shifts than the limit
+limit_kept : (world : WorldState) (batch turns : List Turn) (state end : ℕ) (last : WorldState) → AreAllowed world batch → IsScheduled world batch state turns last end → KeepsShiftLimit turns
+limit_kept world batch turns state end last allowed s = shifts_are_few world batch turns state s.rounds s.ended allowed s.goes
+
+pub answers_limit : (result : Result Settled SettleFault) (ending : Ending) (world : WorldState) (batch : List Turn) (state : ℕ) (last : Sight) (settled : Settled) → EndsAs world batch state last settled ending
+    → Answered settled ending result → IfOk result (λ done. KeepsShiftLimit done.turns.items)
+answers_limit (Ok done) ending world batch state last settled ends answered =
+    limit_kept world batch done.turns.items state last.standing.draws done.world ends.allowed (answers_rest ending world batch state last settled done ends answered)
+answers_limit (Err fault) ending world batch state last settled ends answered = tt
 
 pub answers_settled : (result : Result Settled SettleFault) (ending : Ending) (world : WorldState) (batch : List Turn) (state : ℕ) (last : Sight) (settled : Settled) → EndsAs world batch state last settled ending
     → Answered settled ending result → IfOk result (λ done. IsSettled world batch done.turns.items done.world)

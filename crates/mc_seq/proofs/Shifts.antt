@@ -218,7 +218,7 @@ same_within (suc n) zero x inside = refl
 same_within (suc n) (suc k) x inside = same_within n k x (omega arith)
 
 pub shifts_are_few : ShiftsAreFew
-shifts_are_few world batch turns state rounds who last allowed goes =
+shifts_are_few world batch turns state rounds last allowed goes who =
     let spent = goes_spent rounds turns (first_standing world batch state) last who (allowed_commands batch world allowed) goes in
     let most : slice_index_or (replicate (length world.boxes) SHIFT_LIMIT) who 0 ≤ SHIFT_LIMIT = same_or_none (length world.boxes) who SHIFT_LIMIT in
     omega arith

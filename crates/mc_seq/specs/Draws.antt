@@ -6,7 +6,7 @@ use Rattle.mc_box.specs.declared.event.Turn.{Turn}
 use Rattle.mc_model.specs.Shapes.{AreAllowed}
 use Rattle.mc_laws.specs.Measures.{IsRingFree, measure}
 use Rattle.mc_model.specs.Rings.{IsFirstOnRing}
-use Rattle.mc_model.specs.Settles.{IsSettled, IsStopped, MeetsLast, is_shift_of}
+use Rattle.mc_model.specs.Settles.{IsSettled, IsStopped, MeetsLast}
 use Rattle.mc_model.specs.Sound.{IsSound}
 use Rattle.mc_model.specs.Unprogrammed.{ShiftNone}
 use Rattle.mc_model.specs.Worlds.{WorldState}
@@ -14,9 +14,9 @@ use Rattle.mc_world.specs.declared.settled.Settled.{Settled}
 use Rattle.mc_seq.specs.Places.{IsPlaced}
 use Rattle.mc_seq.specs.Restless.{IsRestless}
 use Rattle.mc_seq.specs.Schedule.{AreDrawn, Goes, IsStill, Standing, first_standing, candidates, drawn_turn}
+use Rattle.mc_seq.specs.ShiftLimit.{KeepsShiftLimit}
 use Rattle.mc_seq.specs.declared.fault.SettleFault.{SettleFault}
 use Rattle.mc_seq.specs.declared.fault.SettleFault.TheVariants.{NoMemory, Restless, Ring, VersionEnd}
-use Rattle.mc_box.specs.declared.limit.TheConstants.{SHIFT_LIMIT}
 
 -- the turns settle a batch by the schedule: they are drawn, with rounds of retries between, until nothing can come and no round is due. The draws begin at one state and end at another
 pub record IsScheduled (world : WorldState) (batch : List Turn) (state : ℕ) (turns : List Turn) (last : WorldState) (end : ℕ) : Type 0 where
@@ -43,6 +43,7 @@ pub record StopsAtRing (world : WorldState) (batch : List Turn) (state : ℕ) (t
   pub least : IsFirstOnRing last.world at
   pub to_end : last.draws ≡ end
   pub stopped : IsStopped world batch turns last.world
+  pub shift_limit : KeepsShiftLimit turns
 
 -- behind drawn turns the next command of a box is drawn, which is the Hear of this slot, whose descriptor has the last version
 pub record StopsAtVersion (world : WorldState) (batch : List Turn) (state : ℕ) (turns : List Turn) (end at : ℕ) : Type 0 where
@@ -52,6 +53,7 @@ pub record StopsAtVersion (world : WorldState) (batch : List Turn) (state : ℕ)
   pub is_drawn : drawn_turn last ≡ Some meets.turn
   pub to_end : next_state last.draws ≡ end
   pub stopped : IsStopped world batch turns last.world
+  pub shift_limit : KeepsShiftLimit turns
 
 -- turns by the schedule use up the batch, and nothing is listed, though this box has an enabled transition
 pub record StopsRestless (world : WorldState) (batch : List Turn) (state : ℕ) (turns : List Turn) (end at : ℕ) : Type 0 where
@@ -63,6 +65,7 @@ pub record StopsRestless (world : WorldState) (batch : List Turn) (state : ℕ) 
   pub restless : IsRestless turns last.world at
   pub to_end : last.draws ≡ end
   pub stopped : IsStopped world batch turns last.world
+  pub shift_limit : KeepsShiftLimit turns
 
 -- how a settle by draws stops
 abbrev pub StopsByDraws : WorldState → List Turn → (state end : ℕ) → SettleFault → Type 0
@@ -94,9 +97,9 @@ DrawsEnd = (now last : Standing) (turns : List Turn) → IsSound now.world → A
 abbrev pub TakesEndDraws : Type 0
 TakesEndDraws = (now last : Standing) (turns : List Turn) → now.left ≡ [] → IsRingFree now.world → AreDrawn now turns last → ShiftNone turns → length turns + measure last.world ≤ measure now.world
 
--- each box makes few Shifts in a settle
+-- no box makes more Shifts than the limit in a settle
 abbrev pub ShiftsAreFew : Type 0
-ShiftsAreFew = (world : WorldState) (batch turns : List Turn) (state rounds who : ℕ) (last : Standing) → AreAllowed world batch → Goes rounds (first_standing world batch state) turns last → count_by (is_shift_of who) turns ≤ SHIFT_LIMIT
+ShiftsAreFew = (world : WorldState) (batch turns : List Turn) (state rounds : ℕ) (last : Standing) → AreAllowed world batch → Goes rounds (first_standing world batch state) turns last → KeepsShiftLimit turns
 
 -- and there is at most one round of retries more than there are Shifts
 abbrev pub RoundsAreFew : Type 0

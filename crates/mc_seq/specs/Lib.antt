@@ -7,5 +7,6 @@ pub mod Ready
 pub mod Restless
 pub mod Retries
 pub mod Schedule
+pub mod ShiftLimit
 pub mod Spare
 pub mod Turns

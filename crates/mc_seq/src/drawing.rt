@@ -11,6 +11,7 @@ ghost use Rattle.mc_seq.specs.Drawing.{CameTo, DrewOn, DrewOnce, Ended, IsKept, 
 ghost use Rattle.mc_seq.specs.Drawing.{UsedUp, first_sight, moment_of, sight_of};
 ghost use Rattle.mc_seq.specs.Restless.{IsFirstShifterOr};
 ghost use Rattle.mc_seq.specs.Schedule.{is_urgent, left_by, since_by};
+ghost use Rattle.mc_seq.specs.ShiftLimit.{KeepsShiftLimit};
 
 use crate::batches::is_command;
 use crate::commands::{Commands, all_commands, drop_command};
@@ -57,6 +58,7 @@ pub fn settle_one(
     requires { AreAllowed world batch.now }
     ensures scheduled { IfOk result (SettlesByDraws world batch.now draws.old.state draws.new.state) }
     ensures settled { IfOk result (λ done. IsSettled world batch.now done.turns.items done.world) }
+    ensures shift_limit { IfOk result (λ done. KeepsShiftLimit done.turns.items) }
     ensures stops { IfErr result (StopsByDraws world batch.now draws.old.state draws.new.state) }
 {
     world.keeps();

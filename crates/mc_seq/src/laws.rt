@@ -34,7 +34,7 @@ pub fn takes_end_draws()
     ensures { TakesEndDraws }
 {}
 
-/// Each box makes few Shifts in a settle.
+/// No box makes more Shifts than the limit in a settle.
 pub fn shifts_are_few()
     ensures { ShiftsAreFew }
 {}

@@ -10,6 +10,7 @@ ghost use Rattle.mc_seq.specs.Draws.{SettlesByDraws, StopsByDraws};
 ghost use Rattle.mc_seq.specs.Drawing.{CameTo, DrewOn, DrewOnce, Ended, MayCome, RoundMade, TriedTurn, UsedUp};
 ghost use Rattle.mc_seq.specs.Drawing.{first_sight, plain_moment, plain_sight};
 ghost use Rattle.mc_seq.specs.Schedule.{drawn_place, left_by, since_by, without_next};
+ghost use Rattle.mc_seq.specs.ShiftLimit.{KeepsShiftLimit};
 
 use crate::batches::is_command;
 use crate::fault::SettleFault;
@@ -45,6 +46,7 @@ pub fn settle_plainly(
     requires { AreAllowed world batch.now }
     ensures scheduled { IfOk result (SettlesByDraws world batch.now draws.old.state draws.new.state) }
     ensures settled { IfOk result (λ done. IsSettled world batch.now done.turns.items done.world) }
+    ensures shift_limit { IfOk result (λ done. KeepsShiftLimit done.turns.items) }
     ensures stops { IfErr result (StopsByDraws world batch.now draws.old.state draws.new.state) }
 {
     world.keeps();

@@ -3,7 +3,7 @@ use Rattle.mc_model.specs.Shapes.{AreAllowed}
 use Rattle.mc_world.specs.declared.settled.Settled.{Settled}
 use Rattle.mc_seq.specs.Drawing.{Ended, Sight, plain_sight}
 use Rattle.mc_seq.specs.Places.{IsInside}
-use Rattle.mc_seq.proofs.Endings.{EndsAs, answers_scheduled, answers_settled, answers_stops, ended_inside}
+use Rattle.mc_seq.proofs.Endings.{EndsAs, answers_limit, answers_scheduled, answers_settled, answers_stops, ended_inside}
 use Rattle.mc_seq.proofs.plain.settle_plainly.Goals as goal
 
 pub settle-ended-requires : goal.settle-ended-requires
@@ -34,6 +34,10 @@ returns-clause-scheduled c =
 pub returns-clause-settled : goal.returns-clause-settled
 returns-clause-settled c =
     answers_settled c.answer.result c.in_ok-ending.ending c.args.world c.args.batch.now c.args.draws.now.state (plain_sight c.settle-ended.new.sitting c.settle-ended.new.draws.state) c.settled_by-settled.result (ends_is c) c.answer.ensures
+
+pub returns-clause-shift_limit : goal.returns-clause-shift_limit
+returns-clause-shift_limit c =
+    answers_limit c.answer.result c.in_ok-ending.ending c.args.world c.args.batch.now c.args.draws.now.state (plain_sight c.settle-ended.new.sitting c.settle-ended.new.draws.state) c.settled_by-settled.result (ends_is c) c.answer.ensures
 
 pub returns-clause-stops : goal.returns-clause-stops
 returns-clause-stops c =
