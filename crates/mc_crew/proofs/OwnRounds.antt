@@ -133,9 +133,9 @@ did_one {retries = retries} {channels = channels} {lanes = lanes} {ends = ends} 
       before = seat.b.worker;
       after = seat.c.worker;
       has_before = record {
-          part = seat.kept.part ∙ sym (part_is channels old lanes who seat.a seat.at_first);
-          stimuli = ap (λ q. q.items) seat.kept.stimuli ∙ sym (stimuli_is channels old lanes who seat.a seat.at_first);
-          shifts = seat.kept.shifts ∙ sym (shifts_is channels old lanes who seat.a seat.at_first);
+        part = seat.kept.part ∙ sym (part_is channels old lanes who seat.a seat.at_first);
+        stimuli = ap (λ q. q.items) seat.kept.stimuli ∙ sym (stimuli_is channels old lanes who seat.a seat.at_first);
+        shifts = seat.kept.shifts ∙ sym (shifts_is channels old lanes who seat.a seat.at_first);
       };
       has_after = record { part = sym e.part; stimuli = sym e.stimuli; shifts = sym e.shifts };
       no_stamp = ap (λ (s : Seat). s.worker.stamp) (looked_is r who seat on).kept;
