@@ -191,8 +191,7 @@ ring_closes : (world now : WorldState) (batches : List (List Turn)) (s : ℕ) �
 ring_closes world now batches s sound links inside ring first =
     let chain = chain_from now ring.count s s sound inside ring.back in
     let there : (k : ℕ) → k < first.count → slots_from now s k < slot_count now =
-    λ k below. after_inside now k s (slots_from now s k) sound inside (passes now ring.count k s s ring.back (omega (arith, below, first.within))) in
-    (
+    λ k below. after_inside now k s (slots_from now s k) sound inside (passes now ring.count k s s ring.back (omega (arith, below, first.within))) in (
       slots_from now s,
       first.count,
       refl,
@@ -226,8 +225,7 @@ leads_on : (world : WorldState) (batches : List (List Turn)) (at : ℕ → ℕ) 
     → Leads world batches count (at from) (at (from + count))
 leads_on world batches at zero from joins = let here : from ≡ from + 0 = omega arith in ap at here
 leads_on world batches at (suc count) from joins =
-    let sum : suc from + count ≡ from + suc count = omega arith in
-    (
+    let sum : suc from + count ≡ from + suc count = omega arith in (
       at (suc from),
       joins from (omega arith),
       subst (λ (n : ℕ). Leads world batches count (at (suc from)) (at n)) sum (leads_on world batches at count (suc from) (λ k below. joins k (omega (arith, below)))),

@@ -88,8 +88,7 @@ back_first x (suc left) done none back = elim (cases_eq (x (suc done)) (x 0)) [
 pub never_twice : (mate : ℕ → Option ℕ) (x : ℕ → ℕ) (most : ℕ) → IsChain mate x most → (first : ComesBackFirst x most) (j k : ℕ) → j < k → k < first.count → (x j ≢ x k) × (x j ≢ far (x k))
 never_twice mate x most chain first j k less below =
     let sum : j + (k - j) ≡ k = omega (arith, less) in
-    let within : j + (k - j) ≤ most = omega (arith, less, below, first.within) in
-    (
+    let within : j + (k - j) ≤ most = omega (arith, less, below, first.within) in (
       λ same. first.not_before (k - j) (omega (arith, less)) (omega (arith, less, below)) (sym (first_again mate x most j (k - j) chain within (subst (λ (n : ℕ). x j ≡ x n) (sym sum) same))),
       λ same. never_back mate x most j (k - j) chain within (subst (λ (n : ℕ). x j ≡ far (x n)) (sym sum) same),
     )
