@@ -4,6 +4,7 @@ mod Faults
 mod Followed
 pub mod Good
 pub mod Holds
+pub mod Limited
 mod Lines
 mod MomentsKept
 mod Parts

@@ -6,3 +6,4 @@ pub mod Laws
 pub mod Moments
 pub mod Points
 pub mod Replays
+pub mod Segments
