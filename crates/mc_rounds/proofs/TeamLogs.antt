@@ -5,15 +5,17 @@ use Rattle.std.specs.List.{AllByRecursion}
 use Rattle.std.specs.List.Sorted.{IsBinarySearchResult}
 use Rattle.std.specs.Ordering.{nat_cmp}
 use Rattle.mc_box.specs.declared.event.Turn.{Turn}
-use Rattle.mc_crew.specs.Crews.{IsCrew, crew_state}
-use Rattle.mc_crew.specs.Rounds.{AddsRound, AreMergedTurns}
+use Rattle.mc_crew.proofs.ShownRounds.{own_rounds_show}
+use Rattle.mc_crew.specs.Crews.{IsCrew, TeamState, crew_state}
+use Rattle.mc_crew.specs.OwnRounds.{AreOwnRounds, AreShown}
+use Rattle.mc_crew.specs.Rounds.{AddsRound, AreMergedTurns, logs_from, round_logs, round_stops}
 use Rattle.mc_crew.specs.declared.crew.Crew.{Crew}
 use Rattle.mc_order.proofs.Orders.{Names, all_named}
 use Rattle.mc_order.specs.Keys.{IsOrdered, stamps_at}
 use Rattle.mc_order.specs.declared.Key.{Key}
 use Rattle.mc_rounds.proofs.Rests.{fits_still}
 use Rattle.mc_rounds.specs.Frames.{FitsCrew}
-use Rattle.mc_rounds.specs.Teams.{AreTurnsOf, logged_turn, logs_from, round_logs}
+use Rattle.mc_rounds.specs.Teams.{AreTurnsOf, logged_turn}
 use Rattle.mc_seats.specs.Numbers.{Rises, is_listed}
 use Rattle.mc_seats.specs.declared.seat.Seat.{Seat}
 use Rattle.mc_team.proofs.Rising.{listed_at, search_rising}
@@ -112,6 +114,29 @@ round_logged crew f s before turns logs same_found same_seats none copied merged
     let own : logs ≡ round_logs crew.found.items crew.seats.items = copied ∙ (ap (λ (l : List ℕ). round_logs l s) same_found ∙ ap (λ (l : List Seat). round_logs crew.found.items l) same_seats) in
     subst (λ (l : List (List Logged)). AreTurnsOf l turns) (sym own)
     (logged_by crew.found.items crew.seats.items crew.keys.items turns merged.ordered (merged.turns ∙ ap (λ (b : List Turn). b ++ map (turn_of_key crew.seats.items) crew.keys.items) none))
+
+-- ---- each box's own round
+
+-- what holds of the logs and stops that seats keep holds of their copies
+copied : (P : List (List Logged) → List (Option Stop) → Type 0) (f g found : List ℕ) (s t seats : List Seat) (logs : List (List Logged)) (stops : List (Option Stop)) → f ≡ found → s ≡ seats → g ≡ found → t ≡ seats → logs ≡ round_logs f s → stops ≡ round_stops g t
+    → P (round_logs found seats) (round_stops found seats) → P logs stops
+copied P f g found s t seats logs stops same_f same_s same_g same_t logs_are stops_are p =
+    let own_logs : logs ≡ round_logs found seats = logs_are ∙ (ap (λ (l : List ℕ). round_logs l s) same_f ∙ ap (λ (l : List Seat). round_logs found l) same_s) in
+    let own_stops : stops ≡ round_stops found seats = stops_are ∙ (ap (λ (l : List ℕ). round_stops l t) same_g ∙ ap (λ (l : List Seat). round_stops found l) same_t) in
+    subst (λ (l : List (List Logged)). P l stops) (sym own_logs) (subst (P (round_logs found seats)) (sym own_stops) p)
+
+-- so each box made one round, or none
+pub own_copied : (retries : Bool) (view old new : TeamState) (f g found : List ℕ) (s t seats : List Seat) (logs : List (List Logged)) (stops : List (Option Stop)) → f ≡ found → s ≡ seats → g ≡ found → t ≡ seats → logs ≡ round_logs f s → stops ≡ round_stops g t
+    → view ≡ old → AreOwnRounds retries view new (round_logs found seats) (round_stops found seats) → AreOwnRounds retries old new logs stops
+own_copied retries view old new f g found s t seats logs stops same_f same_s same_g same_t logs_are stops_are is own =
+    subst (λ (team : TeamState). AreOwnRounds retries team new logs stops) is (copied (AreOwnRounds retries view new) f g found s t seats logs stops same_f same_s same_g same_t logs_are stops_are own)
+
+-- and that is to be seen
+pub shown_copied : (retries : Bool) (view old new : TeamState) (before after : List Turn) (f g found : List ℕ) (s t seats : List Seat) (logs : List (List Logged)) (stops : List (Option Stop)) → f ≡ found → s ≡ seats → g ≡ found → t ≡ seats → logs ≡ round_logs f s → stops ≡ round_stops g t
+    → view ≡ old → AddsRound retries view new before after (round_stops found seats) → AreOwnRounds retries view new (round_logs found seats) (round_stops found seats) → AreShown retries old new logs stops
+shown_copied retries view old new before after f g found s t seats logs stops same_f same_s same_g same_t logs_are stops_are is added own =
+    subst (λ (team : TeamState). AreShown retries team new logs stops) is
+    (copied (AreShown retries view new) f g found s t seats logs stops same_f same_s same_g same_t logs_are stops_are (own_rounds_show retries view new added.made (round_logs found seats) (round_stops found seats) added.round own))
 
 -- ---- the tables fit behind a round
 

@@ -1,5 +1,5 @@
 -- What is told of a team's round.
-use Rattle.std.specs.Prelude.{◌≡◌, ◌+◌, ℕ, if◌then◌else◌, List, [], ◌∷◌, map, slice_index_or}
+use Rattle.std.specs.Prelude.{◌≡◌, List, [], map, slice_index_or}
 use Rattle.std.specs.declared.alloc.Global.{Global}
 use Rattle.std.specs.declared.vec.Vec.{Vec}
 use Rattle.mc_box.specs.BoxEvents.{turn_of}
@@ -7,8 +7,6 @@ use Rattle.mc_box.specs.declared.event.Turn.{Turn}
 use Rattle.mc_order.specs.Keys.{IsOrdered}
 use Rattle.mc_order.specs.declared.Key.{Key}
 use Rattle.mc_rounds.specs.declared.team.RoundLog.{RoundLog}
-use Rattle.mc_seats.specs.Numbers.{is_listed}
-use Rattle.mc_seats.specs.declared.seat.Seat.{Seat}
 use Rattle.mc_team.specs.Logs.{log_stamps, no_logged}
 use Rattle.mc_worker.specs.declared.logged.Logged.{Logged}
 
@@ -33,13 +31,3 @@ pub record AreTurnsOf (logs : List (List Logged)) (turns : List Turn) : Type 0 w
 -- the turns of a round are those of its logs
 abbrev pub AreLogged : RoundLog → Type 0
 AreLogged log = AreTurnsOf (log_lists log.logs.items) log.turns.items
-
--- ---- the logs, as seats keep them
-
--- those of the boxes that made a round, and an empty one for each other box, box by box from one on
-abbrev pub logs_from : ℕ → List ℕ → List Seat → List (List Logged)
-logs_from who found [] = []
-logs_from who found (seat ∷ seats) = (if is_listed found who then seat.worker.log.items else []) ∷ logs_from (who + 1) found seats
-
-abbrev pub round_logs : List ℕ → List Seat → List (List Logged)
-round_logs found seats = logs_from 0 found seats

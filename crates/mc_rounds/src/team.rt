@@ -2,10 +2,11 @@
 
 ghost use Rattle.std.specs.Prelude.{◌≡◌, ◌≤◌, [], length, if◌then◌else◌, IfOk, IsTrue, None, OnErr, OnOk};
 ghost use Rattle.mc_crew.specs.Crews.{new_team, with_command};
-ghost use Rattle.mc_crew.specs.Rounds.{IsTeamRound, round_stops, stop_of};
+ghost use Rattle.mc_crew.specs.OwnRounds.{AreOwnRounds, AreShown};
+ghost use Rattle.mc_crew.specs.Rounds.{IsTeamRound, round_logs, round_stops, stop_of};
 ghost use Rattle.mc_crew.specs.declared.limit.TheConstants.{CREW_LIMIT};
 ghost use Rattle.mc_model.specs.Shapes.{is_allowed};
-ghost use Rattle.mc_rounds.specs.Teams.{AreLogged, log_lists, round_logs};
+ghost use Rattle.mc_rounds.specs.Teams.{AreLogged, log_lists};
 ghost use Rattle.mc_seats.specs.Numbers.{Rises, is_listed};
 
 use crate::settling::{dismiss, man_all};
@@ -76,11 +77,11 @@ impl Team {
         add(&mut self.crew, turn)
     }
 
-    /// Makes a round of each box that has work: it is at most 64 turns of each, the retries that are owed first where
-    /// they are asked for. The boxes run on threads where that pays; no clause tells which thread runs which. What the
-    /// boxes did is one run of the world, in the order of the stamps in their logs. Each box that has work makes a
-    /// turn, and, where no retries are asked for and it has commands, uses one up; or it stops at the Hear of a slot
-    /// that is at its last version.
+    /// Makes one round of each box that has work: it is at most 64 turns of each, the retries that are owed first where
+    /// they are asked for. A box without work has an empty log, and no stop. The boxes run on threads where that pays;
+    /// no clause tells which thread runs which. What the boxes did is one run of the world, in the order of the stamps
+    /// in their logs. Each box that has work makes a turn, and, where no retries are asked for and it has commands, uses
+    /// one up; or it stops at the Hear of a slot that is at its last version.
     ///
     /// It fails only for want of memory; the team is gone then.
     pub fn round<R: Threads + Sync, G: Gate + Sync>(
@@ -92,7 +93,14 @@ impl Team {
     ) -> Result<(Team, RoundLog), AllocError>
         ensures round { IfOk result (λ answer.
             IsTeamRound retries self answer.0 answer.1.turns.items answer.1.stops.items) }
+        // The turns are those of the logs.
         ensures logs { IfOk result (λ answer. AreLogged answer.1) }
+        // Each box that had work made one round of its own, by a worker of its own.
+        ensures own { IfOk result (λ answer.
+            AreOwnRounds retries self answer.0 (log_lists answer.1.logs.items) answer.1.stops.items) }
+        // That is to be seen by its log and its stop, and by the team before and after.
+        ensures shown { IfOk result (λ answer.
+            AreShown retries self answer.0 (log_lists answer.1.logs.items) answer.1.stops.items) }
     {
         let Team { frame, mut crew } = self;
         let mut turns = Vec::new(alloc);

@@ -1,5 +1,6 @@
 use Rattle.std.proofs.Common.{◌≡◌, ◌++◌, drop}
-use Rattle.mc_rounds.specs.Teams.{log_lists, logs_from}
+use Rattle.mc_crew.specs.Rounds.{logs_from}
+use Rattle.mc_rounds.specs.Teams.{log_lists}
 use Rattle.mc_rounds.proofs.team.logs_of.Given as goal
 
 -- those so far, and those that are left, are all
