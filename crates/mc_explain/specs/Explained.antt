@@ -4,7 +4,7 @@ use Rattle.std.specs.Fmt.{decimal}
 use Rattle.mc_explain.specs.Hints.{hints}
 use Rattle.mc_explain.specs.Sentences.{journal_rule, text_rule}
 use Rattle.mc_explain.specs.declared.reason.Reason.{Reason}
-use Rattle.mc_explain.specs.declared.reason.Reason.TheVariants.{FaultyJournal, FaultyText, NoMemory, ReadFault, Restless, Ring, Usage, VersionEnd, Worked, WriteFault}
+use Rattle.mc_explain.specs.declared.reason.Reason.TheVariants.{FaultyJournal, FaultyText, Help, NoMemory, ReadFault, Restless, Ring, Usage, VersionEnd, Worked, WriteFault}
 use Rattle.mc_replay.specs.declared.rule.TheConstants.{NOT_ENABLED, NOT_NEXT}
 use Rattle.mc_text.specs.Lines.{has_bytes}
 
@@ -43,14 +43,21 @@ line_fault number turns = codes "the journal breaks rule " ++ decimal number ++ 
 abbrev pub journal_fault : ℕ → ℕ → List ℕ
 journal_fault number turn = if is_of_turns number then turn_fault number turn else line_fault number (turn - 1)
 
+-- where a script stopped, and why
+abbrev pub stop : (settle : ℕ) → (place why : List ℕ) → List ℕ
+stop settle place why = codes "settle " ++ decimal settle ++ codes " of the script stopped at " ++ place ++ codes ": " ++ why
+
 -- what there is to say of each reason
 abbrev pub sentences : Reason → List (List ℕ)
 sentences Worked = []
+sentences Help = codes "the commands are:" ∷ commands
 sentences Usage = codes "the words behind the program's name are no command; the commands are:" ∷ commands
 sentences (FaultyText number line text) = text_fault number line ∷ []
-sentences VersionEnd = codes "the script stopped: a hear command of the slot that is printed would need a version past the last one, 4294967295. Look at the first version of its device." ∷ []
-sentences Ring = codes "the script stopped: the slot that is printed is on a ring of links, so a path has no ends. Look at the links that lead on from it." ∷ []
-sentences Restless = codes "the script stopped: the program of the box that is printed made 256 steps in one settle, which is the most, and could make one more. Look at its when lines: they may lead round in a circle." ∷ []
+sentences (VersionEnd place settle) =
+    stop settle place.items (codes "a hear command of this slot would need a version past the last one, 4294967295. Look at the first version of its device.") ∷ []
+sentences (Ring place settle) = stop settle place.items (codes "this slot is on a ring of links, so a path has no ends. Look at the links that lead on from it.") ∷ []
+sentences (Restless place settle) =
+    stop settle place.items (codes "the program of this box made 256 steps in this settle, which is the most, and could make one more. Look at its when lines: they may lead round in a circle.") ∷ []
 sentences (FaultyJournal number turn) = journal_fault number turn ∷ []
 sentences NoMemory = codes "there wasn't enough memory. Nothing was printed." ∷ []
 sentences ReadFault = codes "standard input couldn't be read. Nothing was printed." ∷ []

@@ -1,6 +1,6 @@
 // How a call ended, in words.
 ghost use Rattle.std.specs.Prelude.{◌≡◌, ◌≢◌, ◌++◌, ◌-◌, ◌∷◌, [], IfOk, OnOk, flat_map, map};
-ghost use Rattle.mc_explain.specs.Explained.{commands, explained, is_of_turns, journal_fault, line_fault, line_shown, sentences, shown, text_fault, told_line, turn_fault};
+ghost use Rattle.mc_explain.specs.Explained.{commands, explained, is_of_turns, journal_fault, line_fault, line_shown, sentences, shown, stop, text_fault, told_line, turn_fault};
 ghost use Rattle.mc_explain.specs.declared.reason.Reason.TheVariants.{Worked};
 
 use crate::hints::put_hints;
@@ -67,21 +67,31 @@ fn put_sentences(alloc: Global, reason: &Reason, out: &mut Vec<u8>) -> Result<()
 {
     match reason {
         Reason::Worked => Ok(()),
+        Reason::Help => put_commands("the commands are:", out),
         Reason::Usage => put_commands(
             "the words behind the program's name are no command; the commands are:",
             out,
         ),
         Reason::FaultyText { number, line, .. } => put_text_fault(alloc, *number, *line, out),
-        Reason::VersionEnd => put_line(
-            "the script stopped: a hear command of the slot that is printed would need a version past the last one, 4294967295. Look at the first version of its device.",
+        Reason::VersionEnd { place, settle } => put_stop(
+            alloc,
+            *settle,
+            place,
+            "a hear command of this slot would need a version past the last one, 4294967295. Look at the first version of its device.",
             out,
         ),
-        Reason::Ring => put_line(
-            "the script stopped: the slot that is printed is on a ring of links, so a path has no ends. Look at the links that lead on from it.",
+        Reason::Ring { place, settle } => put_stop(
+            alloc,
+            *settle,
+            place,
+            "this slot is on a ring of links, so a path has no ends. Look at the links that lead on from it.",
             out,
         ),
-        Reason::Restless => put_line(
-            "the script stopped: the program of the box that is printed made 256 steps in one settle, which is the most, and could make one more. Look at its when lines: they may lead round in a circle.",
+        Reason::Restless { place, settle } => put_stop(
+            alloc,
+            *settle,
+            place,
+            "the program of this box made 256 steps in this settle, which is the most, and could make one more. Look at its when lines: they may lead round in a circle.",
             out,
         ),
         Reason::FaultyJournal { number, turn } => put_journal_fault(alloc, *number, *turn, out),
@@ -175,4 +185,24 @@ fn put_line_fault(
         "the journal breaks rule {number} with {turns} of its turns made: {rule}."
     )?;
     put_line(&sentence, out)
+}
+
+// Appends where a script stopped, and why.
+fn put_stop(
+    alloc: Global,
+    settle: usize,
+    place: &[u8],
+    why: &str,
+    out: &mut Vec<u8>,
+) -> Result<(), AllocError>
+    ensures { OnOk result (out.new.items
+        ≡ out.old.items ++ flat_map told_line (stop settle place.now why.now ∷ [])) }
+{
+    let head = format!(in alloc; "mediactl: settle {settle} of the script stopped at ")?;
+    out.extend_from_slice(head.as_bytes())?;
+    out.extend_from_slice(place)?;
+    out.extend_from_slice(b": ")?;
+    out.extend_from_slice(why.as_bytes())?;
+    out.push(b'\n')?;
+    Ok(())
 }

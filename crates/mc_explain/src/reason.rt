@@ -1,5 +1,5 @@
 // Why a call of the program ended.
-ghost use Rattle.std.specs.Prelude.{◌≡◌, ◌⊎◌, ◌-◌, [], drop, get_or, take};
+ghost use Rattle.std.specs.Prelude.{◌≡◌, ◌-◌, [], IfOk, drop, get_or, take};
 ghost use Rattle.mc_explain.specs.Reasons.{IsTextFault};
 ghost use Rattle.mc_script.specs.declared.line.TheConstants.{LINE_LIMIT};
 ghost use Rattle.mc_text.specs.Lines.{lines};
@@ -13,21 +13,33 @@ use std::alloc::{AllocError, Global};
 pub enum Reason {
     /// All was done.
     Worked,
+    /// There are no words, or they ask for help.
+    Help,
     /// The words are no command.
     Usage,
     /// The text has a fault: the number of the rule that the line breaks, the line's number from 1, and its own bytes
-    /// as far as a line may have some. There are none at the end of the text, and where memory for them was wanting.
+    /// as far as a line may have some. There are none at the end of the text.
     FaultyText {
         number: u8,
         line: u32,
         text: Vec<u8>,
     },
-    /// The script came to a Hear at the last version.
-    VersionEnd,
-    /// A batch left a ring of links.
-    Ring,
-    /// A program made all the steps that it may make in a settle, and has one more to make.
-    Restless,
+    /// The script came to a Hear at the last version: the slot's word, and the number of the settle.
+    VersionEnd {
+        place: Vec<u8>,
+        settle: usize,
+    },
+    /// A batch left a ring of links: the word of a slot on it, and the number of the settle.
+    Ring {
+        place: Vec<u8>,
+        settle: usize,
+    },
+    /// A program made all the steps that it may make in a settle, and has one more to make: the box's word, and the
+    /// number of the settle.
+    Restless {
+        place: Vec<u8>,
+        settle: usize,
+    },
     /// The journal has a fault: the number of its rule, and one more than the turns before it.
     FaultyJournal {
         number: u8,
@@ -43,21 +55,16 @@ pub enum Reason {
 
 impl Reason {
     /// That this line of the text has a fault of this number.
-    pub fn faulty_text(alloc: Global, number: u8, line: u32, text: &[u8]) -> Reason
-        ensures { IsTextFault number line text.now result }
+    pub fn faulty_text(
+        alloc: Global,
+        number: u8,
+        line: u32,
+        text: &[u8],
+    ) -> Result<Reason, AllocError>
+        ensures { IfOk result (IsTextFault number line text.now) }
     {
-        let text = copy_or_none(alloc, line_at(text, line));
-        Reason::FaultyText { number, line, text }
-    }
-}
-
-// The same bytes, or none where memory for them is wanting.
-fn copy_or_none(alloc: Global, bytes: &[u8]) -> Vec<u8>
-    ensures { (result.items ≡ bytes.now) ⊎ (result.items ≡ []) }
-{
-    match Vec::from_slice(alloc, bytes) {
-        Ok(copy) => copy,
-        Err(_) => Vec::new(alloc),
+        let text = Vec::from_slice(alloc, line_at(text, line))?;
+        Ok(Reason::FaultyText { number, line, text })
     }
 }
 

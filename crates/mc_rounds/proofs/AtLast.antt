@@ -16,6 +16,7 @@ use Rattle.mc_crew.specs.declared.crew.Crew.{Crew}
 use Rattle.mc_model.specs.Settles.{commands_of}
 use Rattle.mc_model.specs.Steps.{heard_slot}
 use Rattle.mc_model.specs.Worlds.{WorldState, box_at, number}
+use Rattle.mc_rounds.proofs.Limits.{limit_played}
 use Rattle.mc_rounds.proofs.Retried.{ran_on}
 use Rattle.mc_rounds.specs.Playing.{IsAtLast, Plays}
 use Rattle.mc_rounds.specs.Settling.{EndsSettle, HasBatch}
@@ -116,4 +117,5 @@ ends_at_last world batch turns start crew at slot is has p last there =
             (and_from (is_version_end box hear.event) (is_enabled box hear.event) (ended box at.1 hear.event hear.last) enabled.1);
         slot = heard (crew_state crew).world at.0 at.1 slot hear.event hear.last there;
       },
+      limit_played world batch turns start (crew_state crew) has p,
     )

@@ -11,14 +11,15 @@ use Rattle.mc_model.specs.Steps.{after, run, step}
 use Rattle.mc_model.specs.Worlds.{WorldState, place}
 use Rattle.mc_rounds.proofs.BehindPlaces.{place_stays}
 use Rattle.mc_rounds.proofs.Plays.{commands_both, count_both}
-use Rattle.mc_rounds.proofs.TurnKinds.{either_false}
+use Rattle.mc_rounds.proofs.Limits.{limit_behind, unshifted}
 use Rattle.mc_rounds.specs.Behind.{IsBoxBehind, IsFaultBehind, IsStopBehind, BeginsSettle}
-use Rattle.mc_rounds.specs.Playing.{some_shift}
+use Rattle.mc_rounds.specs.Settling.{SettlesInLimit}
 use Rattle.mc_rounds.specs.Stops.{Stops, StopsAtLast, StopsOnRing, StopsUnrested}
 use Rattle.mc_seq.proofs.Runs.{run-append}
 use Rattle.mc_seq.proofs.Segments.{Resting, settled_at}
 use Rattle.mc_seq.specs.Places.{IsPlaced}
 use Rattle.mc_seq.specs.Restless.{IsRestless}
+use Rattle.mc_seq.specs.ShiftLimit.{KeepsShiftLimit}
 use Rattle.mc_seq.specs.declared.fault.SettleFault.{SettleFault}
 use Rattle.mc_seq.specs.declared.fault.SettleFault.TheVariants.{NoMemory, Restless, Ring, VersionEnd}
 use Rattle.mc_seq.specs.declared.fault.Stopped.{Stopped}
@@ -95,18 +96,6 @@ nothing_next : (n : ℕ) (turn : Turn) → slice_get [] n ≡ Some turn → ⊥
 nothing_next zero turn is = absurd cc
 nothing_next (suc n) turn is = absurd cc
 
--- a turn that is no Shift counts as none
-not_counted : (shift here : Bool) (n m : ℕ) → n ≡ cond (shift && here) 1 0 + m → shift ≡ false → m ≡ 0 → n ≡ 0
-not_counted true here n m sum off none = absurd cc
-not_counted false here n m sum off none = omega arith
-
--- so turns without a Shift have none of any box
-unshifted : (turns : List Turn) (who : ℕ) → some_shift turns ≡ false → count_by (is_shift_of who) turns ≡ 0
-unshifted [] who none = refl
-unshifted (turn ∷ turns) who none =
-    let parts = either_false (is_shift turn.event) (some_shift turns) none in
-    not_counted (is_shift turn.event) (turn.who == who) (count_by (is_shift_of who) (turn ∷ turns)) (count_by (is_shift_of who) turns) (sum_by-cons (λ (t : Turn). cond (is_shift_of who t) 1 0) turn turns) parts.0 (unshifted turns who parts.1)
-
 -- so the box that made all its Shifts behind them made all its Shifts
 restless_behind : (start world last : WorldState) (batch before turns : List Turn) (at : ℕ) → BeginsSettle start batch before world → IsRestless turns last at → IsRestless (before ++ turns) last at
 restless_behind start world last batch before turns at leads restless = record {
@@ -131,6 +120,7 @@ ring_behind : (start world : WorldState) (batch before turns : List Turn) (at : 
 ring_behind start world batch before turns at leads stops = record {
   last = stops.last;
   stopped = stopped_behind start world stops.last batch before turns leads stops.stopped;
+  shift_limit = limit_behind before turns leads.no_shift stops.shift_limit;
   used_up = used_behind start world batch before turns leads stops.used_up;
   least = stops.least;
 }
@@ -140,6 +130,7 @@ unrested_behind : (start world : WorldState) (batch before turns : List Turn) (a
 unrested_behind start world batch before turns at leads stops = record {
   last = stops.last;
   stopped = stopped_behind start world stops.last batch before turns leads stops.stopped;
+  shift_limit = limit_behind before turns leads.no_shift stops.shift_limit;
   used_up = used_behind start world batch before turns leads stops.used_up;
   restless = restless_behind start world stops.last batch before turns at leads stops.restless;
 }
@@ -181,12 +172,14 @@ stops_behind (NoMemory old) (NoMemory new) start world batch before leads stops 
 
 -- ---- the answer
 
--- turns that were settled behind those before them settle the batch
-pub all_settled : (result : Result Settled SettleFault) (world : WorldState) (before : List Turn) (settled : Settled) → IsSettled world [] settled.turns.items settled.world → IfOk result (λ done. done.world ≡ settled.world)
-    → IfOk result (λ done. done.turns.items ≡ before ++ settled.turns.items) → IfOk result (λ done. (start : WorldState) (batch : List Turn) → BeginsSettle start batch before world → IsSettled start batch done.turns.items done.world)
-all_settled (Ok done) world before settled is same turns = λ start batch leads.
-    subst (λ (w : WorldState). IsSettled start batch done.turns.items w) (sym same) (settled_behind start world settled.world batch before settled.turns.items done.turns.items leads is turns)
-all_settled (Err fault) world before settled is same turns = tt
+-- turns that were settled behind those before them settle the batch, within the limit of Shifts
+pub all_settled : (result : Result Settled SettleFault) (world : WorldState) (before : List Turn) (settled : Settled) → IsSettled world [] settled.turns.items settled.world → KeepsShiftLimit settled.turns.items → IfOk result (λ done. done.world ≡ settled.world)
+    → IfOk result (λ done. done.turns.items ≡ before ++ settled.turns.items) → IfOk result (λ done. (start : WorldState) (batch : List Turn) → BeginsSettle start batch before world → SettlesInLimit start batch done.turns.items done.world)
+all_settled (Ok done) world before settled is limit same turns = λ start batch leads. record {
+  settled = subst (λ (w : WorldState). IsSettled start batch done.turns.items w) (sym same) (settled_behind start world settled.world batch before settled.turns.items done.turns.items leads is turns);
+  shift_limit = subst KeepsShiftLimit (sym turns) (limit_behind before settled.turns.items leads.no_shift limit);
+}
+all_settled (Err fault) world before settled is limit same turns = tt
 
 -- and where there is no memory for them that is told
 pub all_stopped : (result : Result Settled SettleFault) (world : WorldState) (before : List Turn) → IfErr result (λ fault. (start : WorldState) (batch : List Turn) → Stops start batch fault)

@@ -10,11 +10,12 @@ use Rattle.mc_seq.specs.declared.fault.SettleFault.TheVariants.{NoMemory, Restle
 use Rattle.mc_world.specs.declared.settled.Settled.{Settled}
 
 draws_stop : (fault : SettleFault) (world : WorldState) (batch : List Turn) (state end : ℕ) → StopsByDraws world batch state end fault → Stops world batch fault
-draws_stop (VersionEnd stop) world batch state end (stops, there) = (record { last = stops.last.world; stopped = stops.stopped; meets = stops.meets }, there)
+draws_stop (VersionEnd stop) world batch state end (stops, there) = (record { last = stops.last.world; stopped = stops.stopped; shift_limit = stops.shift_limit; meets = stops.meets }, there)
 draws_stop (Ring stop) world batch state end (stops, there) = (
   record {
     last = stops.last.world;
     stopped = stops.stopped;
+    shift_limit = stops.shift_limit;
     used_up = λ who. used_up world batch stop.turns.items state stops.rounds stops.last stops.goes stops.used_up stops.stopped who;
     least = stops.least;
   },
@@ -23,6 +24,7 @@ draws_stop (Ring stop) world batch state end (stops, there) = (
 draws_stop (Restless stop) world batch state end stops = record {
   last = stops.last.world;
   stopped = stops.stopped;
+  shift_limit = stops.shift_limit;
   used_up = λ who. used_up world batch stop.turns.items state stops.rounds stops.last stops.goes stops.used_up stops.stopped who;
   restless = stops.restless;
 }

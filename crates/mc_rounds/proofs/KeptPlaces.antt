@@ -64,7 +64,7 @@ holds_used parts manned ready used batch before after last has uses holds =
 
 -- and those of a whole settle, however it ends
 ended_runs : (ending : Ending) (world : WorldState) (batch turns : List Turn) (last : WorldState) → EndsSettle world batch turns last ending → run world turns ≡ Some last
-ended_runs Rest world batch turns last ended = ended.runs
+ended_runs Rest world batch turns last ended = let settled = ended.settled in settled.runs
 ended_runs (Ring at) world batch turns last ended = let stopped = ended.0 in stopped.runs
 ended_runs (Restless at) world batch turns last ended = let stopped = ended.0 in stopped.runs
 ended_runs (LastVersion at) world batch turns last ended = let stopped = ended.0 in stopped.runs

@@ -10,6 +10,7 @@ mod PartnerTable
 mod Rests
 mod Enlisting
 mod LastHears
+mod Limits
 mod SettleEnds
 mod Shifters
 mod DrawsStop

@@ -18,6 +18,7 @@ use Rattle.mc_model.specs.Rings.{IsFirstOnRing}
 use Rattle.mc_model.specs.Settles.{IsSettled, IsStopped, can_shift, commands_of, is_empty, is_quiet, is_retry_of, is_shift_of, takes_or_retries, world_owes}
 use Rattle.mc_model.specs.Steps.{run}
 use Rattle.mc_model.specs.Worlds.{WorldState}
+use Rattle.mc_rounds.proofs.Limits.{limit_played}
 use Rattle.mc_rounds.proofs.PlayedRounds.{same_count}
 use Rattle.mc_rounds.proofs.Plays.{count_both, no_more_shifts, none_made, none_still, plays_both}
 use Rattle.mc_rounds.proofs.Rests.{fewer_shifts}
@@ -144,7 +145,7 @@ pub ends_at_ring : (first c : TeamState) (begun after : List Turn) (due : Bool) 
     → (world : WorldState) (batch : List Turn) (start : TeamState) → HasBatch world batch start → Plays start first begun → EndsSettle world batch after c.world (Ring at)
 ends_at_ring first c begun after due at went none ring world batch start has p =
     let so_far = went world batch start has p in
-    (stopped_at world batch after start c has so_far.plays none, used_up world batch after start c has so_far.plays none, ring)
+    (stopped_at world batch after start c has so_far.plays none, used_up world batch after start c has so_far.plays none, ring, limit_played world batch after start c has so_far.plays)
 
 -- at a box that can go on, and has made all its Shifts
 all_made : (shifts count limit : ℕ) → shifts ≡ 0 + count → shifts ≤ limit → (shifts < limit → ⊥) → count ≡ limit
@@ -165,6 +166,7 @@ ends_restless first crew begun after due at is went none idle free shifter world
         first = shifter;
         made = all_made (shifts_at (crew_state crew) at) (count_by (is_shift_of at) after) SHIFT_LIMIT counted (so_far.plays.few_shifts at) (λ less. idle at shifter.inside (by_program less shifter.can));
       },
+      limit_played world batch after start (crew_state crew) has so_far.plays,
     )
 
 -- and at a rest behind a round of retries
@@ -174,8 +176,11 @@ pub ends_settled : (first : TeamState) (crew : Crew) (begun after : List Turn) �
 ends_settled first crew begun after is went idle free unshifted world batch start has p =
     let so_far = went world batch start has p in
     let rested = so_far.retried refl in
-    subst (λ (t : List Turn). IsSettled world batch t (crew_state crew).world) (sym rested.parts)
-    (settled_at world rested.rested (crew_state crew).world batch rested.begun rested.rest rested.resting (record { quiet = idle_quiet crew is idle; no_shift = unshifted }) free rested.ran rested.goes rested.used rested.counts rested.besides)
+    record {
+      settled = subst (λ (t : List Turn). IsSettled world batch t (crew_state crew).world) (sym rested.parts)
+          (settled_at world rested.rested (crew_state crew).world batch rested.begun rested.rest rested.resting (record { quiet = idle_quiet crew is idle; no_shift = unshifted }) free rested.ran rested.goes rested.used rested.counts rested.besides);
+      shift_limit = limit_played world batch after start (crew_state crew) has so_far.plays;
+    }
 
 -- ---- a round of retries behind a rest
 

@@ -2,11 +2,11 @@
 use Rattle.std.proofs.Common.{◌≡◌, ℕ, List, Option, None, Some, Result, Ok, Err, IfOk, IfErr, IfSome, ap, sym, ◌∙◌, subst}
 use Rattle.mc_box.specs.declared.event.Turn.{Turn}
 use Rattle.mc_crew.specs.Crews.{TeamState, new_team}
-use Rattle.mc_model.specs.Settles.{IsSettled, IsStopped}
+use Rattle.mc_model.specs.Settles.{IsStopped}
 use Rattle.mc_model.specs.Sound.{IsSound}
 use Rattle.mc_model.specs.Worlds.{WorldState, place}
 use Rattle.mc_rounds.specs.Behind.{BeginsSettle, EndsRounds}
-use Rattle.mc_rounds.specs.Settling.{EndsSettle}
+use Rattle.mc_rounds.specs.Settling.{EndsSettle, SettlesInLimit}
 use Rattle.mc_rounds.specs.Stops.{Stops, StopsAtLast, StopsOnRing, StopsUnrested}
 use Rattle.mc_seq.proofs.Endings.{heard_inside, placed_same}
 use Rattle.mc_seq.specs.Places.{Answered, IsInside, IsPlaced, TellsSlot}
@@ -39,9 +39,9 @@ pub record EndsAs (world : WorldState) (batch : List Turn) (settled : Settled) (
   pub sound : IsSound world
   pub ended : EndsSettle world batch settled.turns.items settled.world ending
 
--- at rest the batch is settled
-answers_rest : (ending : Ending) (world : WorldState) (batch : List Turn) (settled done : Settled) → EndsAs world batch settled ending → Answered settled ending (Ok done) → IsSettled world batch done.turns.items done.world
-answers_rest Rest world batch settled done ends answered = subst (λ (s : Settled). IsSettled world batch s.turns.items s.world) (sym answered) ends.ended
+-- at rest the batch is settled, within the limit of Shifts
+answers_rest : (ending : Ending) (world : WorldState) (batch : List Turn) (settled done : Settled) → EndsAs world batch settled ending → Answered settled ending (Ok done) → SettlesInLimit world batch done.turns.items done.world
+answers_rest Rest world batch settled done ends answered = subst (λ (s : Settled). SettlesInLimit world batch s.turns.items s.world) (sym answered) ends.ended
 answers_rest (RingEnd at) world batch settled done ends answered = absurd answered
 answers_rest (RestlessEnd at) world batch settled done ends answered = absurd answered
 answers_rest (LastVersion at) world batch settled done ends answered = absurd answered
@@ -51,7 +51,7 @@ answers_ring : (ending : Ending) (world : WorldState) (batch : List Turn) (settl
 answers_ring Rest world batch settled stop ends answered = absurd answered
 answers_ring (RingEnd at) world batch settled stop ends answered = (
   subst (λ (a : ℕ). StopsOnRing world batch stop.turns.items a) (sym answered.at_is)
-      (subst (λ (t : List Turn). StopsOnRing world batch t at) (sym answered.turns) (record { last = settled.world; stopped = ends.ended.0; used_up = ends.ended.1; least = ends.ended.2 })),
+      (subst (λ (t : List Turn). StopsOnRing world batch t at) (sym answered.turns) (record { last = settled.world; stopped = ends.ended.0; shift_limit = ends.ended.3; used_up = ends.ended.1; least = ends.ended.2 })),
   told_place world batch settled.turns.items settled at stop ends.sound ends.ended.0 answered,
 )
 answers_ring (RestlessEnd at) world batch settled stop ends answered = absurd answered
@@ -63,7 +63,7 @@ answers_restless Rest world batch settled stop ends answered = absurd answered
 answers_restless (RingEnd at) world batch settled stop ends answered = absurd answered
 answers_restless (RestlessEnd at) world batch settled stop ends answered =
     subst (λ (a : ℕ). StopsUnrested world batch stop.turns.items a) (sym answered.at_is)
-    (subst (λ (t : List Turn). StopsUnrested world batch t at) (sym answered.turns) (record { last = settled.world; stopped = ends.ended.0; used_up = ends.ended.1; restless = ends.ended.2 }))
+    (subst (λ (t : List Turn). StopsUnrested world batch t at) (sym answered.turns) (record { last = settled.world; stopped = ends.ended.0; shift_limit = ends.ended.3; used_up = ends.ended.1; restless = ends.ended.2 }))
 answers_restless (LastVersion at) world batch settled stop ends answered = absurd answered
 
 -- at a last version the slot whose Hear is next is told
@@ -73,7 +73,7 @@ answers_version (RingEnd at) world batch settled stop ends answered = absurd ans
 answers_version (RestlessEnd at) world batch settled stop ends answered = absurd answered
 answers_version (LastVersion at) world batch settled stop ends answered = (
   subst (λ (a : ℕ). StopsAtLast world batch stop.turns.items a) (sym answered.at_is)
-      (subst (λ (t : List Turn). StopsAtLast world batch t at) (sym answered.turns) (record { last = settled.world; stopped = ends.ended.0; meets = ends.ended.1 })),
+      (subst (λ (t : List Turn). StopsAtLast world batch t at) (sym answered.turns) (record { last = settled.world; stopped = ends.ended.0; shift_limit = ends.ended.2; meets = ends.ended.1 })),
   told_place world batch settled.turns.items settled at stop ends.sound ends.ended.0 answered,
 )
 
@@ -86,7 +86,7 @@ answers_fault (NoMemory e) ending world batch settled ends answered = tt
 
 -- at rest it is settled
 pub answers_settled : (result : Result Settled SettleFault) (ending : Ending) (world : WorldState) (batch : List Turn) (settled : Settled) → EndsAs world batch settled ending → Answered settled ending result
-    → IfOk result (λ done. IsSettled world batch done.turns.items done.world)
+    → IfOk result (λ done. SettlesInLimit world batch done.turns.items done.world)
 answers_settled (Ok done) ending world batch settled ends answered = answers_rest ending world batch settled done ends answered
 answers_settled (Err fault) ending world batch settled ends answered = tt
 
@@ -111,7 +111,7 @@ rounds_given world given last done batch turns manned ending same new is ended =
 
 -- what is answered of them settles the batch
 pub rounds_settled : (result : Result Settled SettleFault) (ending : Ending) (given : Option Ending) (settled : Settled) → given ≡ Some ending → Answered settled ending result
-    → IfOk result (λ done. (start : WorldState) (batch : List Turn) → IsSound start → EndsRounds start batch settled.turns.items settled.world given → IsSettled start batch done.turns.items done.world)
+    → IfOk result (λ done. (start : WorldState) (batch : List Turn) → IsSound start → EndsRounds start batch settled.turns.items settled.world given → SettlesInLimit start batch done.turns.items done.world)
 rounds_settled (Ok done) ending given settled is answered = λ start batch sound ended.
     answers_settled (Ok done) ending start batch settled (record { sound = sound; ended = subst (EndsRounds start batch settled.turns.items settled.world) is ended }) answered
 rounds_settled (Err fault) ending given settled is answered = tt
@@ -125,8 +125,8 @@ rounds_stopped (Err fault) ending given settled is answered = λ start batch sou
 
 -- and so does what goes on from them
 pub behind_settled : (result : Result Settled SettleFault) (given : Option Ending) (settled : Settled) → given ≡ None
-    → IfOk result (λ done. (start : WorldState) (batch : List Turn) → BeginsSettle start batch settled.turns.items settled.world → IsSettled start batch done.turns.items done.world)
-    → IfOk result (λ done. (start : WorldState) (batch : List Turn) → IsSound start → EndsRounds start batch settled.turns.items settled.world given → IsSettled start batch done.turns.items done.world)
+    → IfOk result (λ done. (start : WorldState) (batch : List Turn) → BeginsSettle start batch settled.turns.items settled.world → SettlesInLimit start batch done.turns.items done.world)
+    → IfOk result (λ done. (start : WorldState) (batch : List Turn) → IsSound start → EndsRounds start batch settled.turns.items settled.world given → SettlesInLimit start batch done.turns.items done.world)
 behind_settled (Ok done) given settled is settles = λ start batch sound ended. settles start batch (subst (EndsRounds start batch settled.turns.items settled.world) is ended)
 behind_settled (Err fault) given settled is settles = tt
 
@@ -138,8 +138,8 @@ behind_stopped (Err fault) given settled is stops = λ start batch sound ended. 
 
 -- a batch is settled where whatever they ended as is
 pub settled_so : (result : Result Settled SettleFault) (start last : WorldState) (batch turns : List Turn) (ending : Option Ending) → IsSound start → EndsRounds start batch turns last ending
-    → IfOk result (λ done. (begun : WorldState) (commands : List Turn) → IsSound begun → EndsRounds begun commands turns last ending → IsSettled begun commands done.turns.items done.world)
-    → IfOk result (λ done. IsSettled start batch done.turns.items done.world)
+    → IfOk result (λ done. (begun : WorldState) (commands : List Turn) → IsSound begun → EndsRounds begun commands turns last ending → SettlesInLimit begun commands done.turns.items done.world)
+    → IfOk result (λ done. SettlesInLimit start batch done.turns.items done.world)
 settled_so (Ok done) start last batch turns ending sound ended settles = settles start batch sound ended
 settled_so (Err fault) start last batch turns ending sound ended settles = tt
 

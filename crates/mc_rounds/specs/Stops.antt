@@ -6,6 +6,7 @@ use Rattle.mc_model.specs.Settles.{IsStopped, MeetsLast}
 use Rattle.mc_model.specs.Worlds.{WorldState}
 use Rattle.mc_seq.specs.Places.{IsPlaced}
 use Rattle.mc_seq.specs.Restless.{IsRestless}
+use Rattle.mc_seq.specs.ShiftLimit.{KeepsShiftLimit}
 use Rattle.mc_seq.specs.declared.fault.SettleFault.{SettleFault}
 use Rattle.mc_seq.specs.declared.fault.SettleFault.TheVariants.{NoMemory, Restless, Ring, VersionEnd}
 use Rattle.mc_settings.specs.Batches.{UseUp}
@@ -14,12 +15,14 @@ use Rattle.mc_settings.specs.Batches.{UseUp}
 pub record StopsAtLast (world : WorldState) (batch turns : List Turn) (at : ℕ) : Type 0 where
   pub last : WorldState
   pub stopped : IsStopped world batch turns last
+  pub shift_limit : KeepsShiftLimit turns
   pub meets : MeetsLast batch turns last at
 
 -- these turns use up the batch, and leave a ring, of which this slot is the least
 pub record StopsOnRing (world : WorldState) (batch turns : List Turn) (at : ℕ) : Type 0 where
   pub last : WorldState
   pub stopped : IsStopped world batch turns last
+  pub shift_limit : KeepsShiftLimit turns
   pub used_up : UseUp batch turns
   pub least : IsFirstOnRing last at
 
@@ -27,6 +30,7 @@ pub record StopsOnRing (world : WorldState) (batch turns : List Turn) (at : ℕ)
 pub record StopsUnrested (world : WorldState) (batch turns : List Turn) (at : ℕ) : Type 0 where
   pub last : WorldState
   pub stopped : IsStopped world batch turns last
+  pub shift_limit : KeepsShiftLimit turns
   pub used_up : UseUp batch turns
   pub restless : IsRestless turns last at
 

@@ -10,6 +10,7 @@ ghost use Rattle.mc_rounds.specs.Alone.{Awaits, Commanded, CommandedAll, IsNextB
 ghost use Rattle.mc_rounds.specs.Settling.{EndsSettle};
 ghost use Rattle.mc_rounds.specs.Stops.{Stops};
 ghost use Rattle.mc_seq.specs.Drawing.{MayCome};
+ghost use Rattle.mc_seq.specs.ShiftLimit.{KeepsShiftLimit};
 
 use mc_box::{Event, Turn};
 use mc_seq::{
@@ -29,6 +30,7 @@ use std::alloc::{AllocError, Global};
 pub fn settle_alone(alloc: Global, world: World, batch: &[Turn]) -> Result<Settled, SettleFault>
     requires { AreAllowed world batch.now }
     ensures settled { IfOk result (λ done. IsSettled world batch.now done.turns.items done.world) }
+    ensures shift_limit { IfOk result (λ done. KeepsShiftLimit done.turns.items) }
     ensures stops { IfErr result (Stops world batch.now) }
 {
     if has_programs(&world) {
@@ -43,6 +45,7 @@ fn settle_unprogrammed(alloc: Global, world: World, batch: &[Turn]) -> Result<Se
     requires allowed { AreAllowed world batch.now }
     requires unprogrammed { HasNoPrograms world }
     ensures settled { IfOk result (λ done. IsSettled world batch.now done.turns.items done.world) }
+    ensures shift_limit { IfOk result (λ done. KeepsShiftLimit done.turns.items) }
     ensures stops { IfErr result (Stops world batch.now) }
 {
     world.keeps();

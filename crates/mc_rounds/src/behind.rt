@@ -4,7 +4,9 @@ ghost use Rattle.std.specs.Prelude.{◌≡◌, ◌++◌, List, [], IfErr, IfOk};
 ghost use Rattle.mc_model.specs.Settles.{IsSettled};
 ghost use Rattle.mc_model.specs.Worlds.{WorldState};
 ghost use Rattle.mc_rounds.specs.Behind.{IsBoxBehind, IsFaultBehind, IsStopBehind, BeginsSettle};
+ghost use Rattle.mc_rounds.specs.Settling.{SettlesInLimit};
 ghost use Rattle.mc_rounds.specs.Stops.{Stops};
+ghost use Rattle.mc_seq.specs.ShiftLimit.{KeepsShiftLimit};
 
 use crate::alone::settle_alone;
 use mc_box::Turn;
@@ -19,7 +21,7 @@ use std::alloc::{AllocError, Global};
 /// more enabled; or for want of memory, also for all the turns in one list.
 pub fn settle_behind(alloc: Global, world: World, before: Vec<Turn>) -> Result<Settled, SettleFault>
     ensures settled { IfOk result (λ done. (start : WorldState) (batch : List Turn)
-        → BeginsSettle start batch before.items world → IsSettled start batch done.turns.items done.world) }
+        → BeginsSettle start batch before.items world → SettlesInLimit start batch done.turns.items done.world) }
     ensures stops { IfErr result (λ fault. (start : WorldState) (batch : List Turn)
         → BeginsSettle start batch before.items world → Stops start batch fault) }
 {
@@ -54,6 +56,7 @@ fn told_behind(before: Vec<Turn>, fault: SettleFault) -> SettleFault
 // Settles a world to which no commands come.
 fn settle_rest(alloc: Global, world: World) -> Result<Settled, SettleFault>
     ensures settled { IfOk result (λ done. IsSettled world [] done.turns.items done.world) }
+    ensures shift_limit { IfOk result (λ done. KeepsShiftLimit done.turns.items) }
     ensures stops { IfErr result (Stops world []) }
 {
     settle_alone(alloc, world, &[])

@@ -3,7 +3,6 @@
 
 mod alone;
 mod behind;
-pub mod limit;
 mod playing;
 mod resting;
 mod settler;

@@ -11,9 +11,10 @@ ghost use Rattle.mc_model.specs.Worlds.{WorldState};
 ghost use Rattle.mc_rounds.specs.Behind.{EndsRounds};
 ghost use Rattle.mc_rounds.specs.Frames.{HoldsPlaces};
 ghost use Rattle.mc_rounds.specs.Playing.{some_shift};
+ghost use Rattle.mc_rounds.specs.Settling.{SettlesInLimit};
 ghost use Rattle.mc_rounds.specs.Stops.{Stops};
-ghost use Rattle.mc_rounds.specs.declared.limit.TheConstants.{BOX_LIMIT};
 ghost use Rattle.mc_seq.specs.Places.{IsInside};
+ghost use Rattle.mc_seq.specs.ShiftLimit.{KeepsShiftLimit};
 ghost use Rattle.mc_world.specs.Parts.{HasFrame, parts_state};
 
 use crate::alone::settle_alone;
@@ -58,16 +59,17 @@ impl Settler {
     }
 
     /// Settles a batch, with the boxes' turns in any order. Which interleaving of the boxes its turns are no clause
-    /// tells: any settled segment may be the answer, and any turns that stop with their cause.
+    /// tells: any settled segment may be the answer, and any turns that stop with their cause, in which no box makes
+    /// more than `mc_box::limit::SHIFT_LIMIT` Shifts.
     ///
     /// A batch that speaks to two boxes or more is settled in rounds. The first takes two threads, and a later one more
     /// than that of the caller where it has boxes enough for them; no clause tells so. For the commands of a single box
     /// no thread pays: these are settled on the thread that calls.
     ///
-    /// The world allows each command, and has few boxes; it may be another one than that of the settle before. It
-    /// always ends: at rest, at a ring of links that the batch or a Shift left, at a box that has made all its Shifts
-    /// and has one more enabled, or at a Hear of a descriptor that has the last version; or for want of memory.
-    /// Whatever it answers, it can be called again.
+    /// The world allows each command, and has at most `mc_crew::limit::CREW_LIMIT` boxes; it may be another one than
+    /// that of the settle before. It always ends: at rest, at a ring of links that the batch or a Shift left, at a box
+    /// that has made all its Shifts and has one more enabled, or at a Hear of a descriptor that has the last version;
+    /// or for want of memory. Whatever it answers, it can be called again.
     pub fn settle<R: Threads + Sync, G: Gate + Sync>(
         &mut self,
         rt: &R,
@@ -77,8 +79,9 @@ impl Settler {
         batch: &[Turn],
     ) -> Result<Settled, SettleFault>
         requires allowed { AreAllowed world batch.now }
-        requires few { length world.boxes ≤ BOX_LIMIT }
+        requires few { length world.boxes ≤ CREW_LIMIT }
         ensures settled { IfOk result (λ done. IsSettled world batch.now done.turns.items done.world) }
+        ensures shift_limit { IfOk result (λ done. KeepsShiftLimit done.turns.items) }
         ensures stops { IfErr result (Stops world batch.now) }
     {
         if speaks_to_two(batch) {
@@ -99,8 +102,9 @@ impl Settler {
         batch: &[Turn],
     ) -> Result<Settled, SettleFault>
         requires allowed { AreAllowed world batch.now }
-        requires few { length world.boxes ≤ BOX_LIMIT }
+        requires few { length world.boxes ≤ CREW_LIMIT }
         ensures settled { IfOk result (λ done. IsSettled world batch.now done.turns.items done.world) }
+        ensures shift_limit { IfOk result (λ done. KeepsShiftLimit done.turns.items) }
         ensures stops { IfErr result (Stops world batch.now) }
     {
         let mut frame = world.into_parts();
@@ -180,7 +184,7 @@ fn answer_rounds(
     requires { IfSome ending (IsInside settled.world) }
     ensures settled { IfOk result (λ done. (start : WorldState) (batch : List Turn) → IsSound start
         → EndsRounds start batch settled.turns.items settled.world ending
-        → IsSettled start batch done.turns.items done.world) }
+        → SettlesInLimit start batch done.turns.items done.world) }
     ensures stops { IfErr result (λ fault. (start : WorldState) (batch : List Turn) → IsSound start
         → EndsRounds start batch settled.turns.items settled.world ending → Stops start batch fault) }
 {
@@ -258,8 +262,9 @@ pub fn settle_rounds<R: Threads + Sync, G: Gate + Sync>(
     batch: &[Turn],
 ) -> Result<Settled, SettleFault>
     requires allowed { AreAllowed world batch.now }
-    requires few { length world.boxes ≤ BOX_LIMIT }
+    requires few { length world.boxes ≤ CREW_LIMIT }
     ensures settled { IfOk result (λ done. IsSettled world batch.now done.turns.items done.world) }
+    ensures shift_limit { IfOk result (λ done. KeepsShiftLimit done.turns.items) }
     ensures stops { IfErr result (Stops world batch.now) }
 {
     Settler::new().settle(rt, alloc, gate, world, batch)

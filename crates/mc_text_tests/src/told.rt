@@ -31,9 +31,18 @@ fn are_told(rt: &impl Abort, alloc: Global, table: &[(Reason, &str)]) -> Result<
     Ok(())
 }
 
+// A word as it is kept of a stop.
+fn word(alloc: Global, bytes: &[u8]) -> Result<Vec<u8>, AllocError> {
+    Vec::from_slice(alloc, bytes)
+}
+
 #[test]
 fn each_reason_is_told_in_words(rt: HostRuntime) -> Result<(), AllocError> {
     let table = [
+        (
+            Reason::Help,
+            "mediactl: the commands are:\nmediactl:   mediactl run [--journal]  ",
+        ),
         (
             Reason::Usage,
             "mediactl: the words behind the program's name are no command; the commands are:\n",
@@ -52,12 +61,6 @@ fn each_reason_is_told_in_words(rt: HostRuntime) -> Result<(), AllocError> {
             },
             "mediactl: the journal breaks rule 33 with 16 of its turns made: not all is settled",
         ),
-        (
-            Reason::VersionEnd,
-            "a version past the last one, 4294967295",
-        ),
-        (Reason::Ring, "is on a ring of links"),
-        (Reason::Restless, "made 256 steps in one settle"),
         (Reason::NoMemory, "memory"),
         (Reason::ReadFault, "standard input"),
         (Reason::WriteFault, "standard output"),
@@ -65,10 +68,39 @@ fn each_reason_is_told_in_words(rt: HostRuntime) -> Result<(), AllocError> {
     are_told(&rt, rt.alloc(), &table)
 }
 
+// A stop is told by its slot or its box, and by its settle.
+#[test]
+fn each_stop_is_told_by_its_place(rt: HostRuntime) -> Result<(), AllocError> {
+    let table = [
+        (
+            Reason::VersionEnd {
+                place: word(rt.alloc(), b"bob/a")?,
+                settle: 3,
+            },
+            "mediactl: settle 3 of the script stopped at bob/a: a hear command",
+        ),
+        (
+            Reason::Ring {
+                place: word(rt.alloc(), b"pbx/west")?,
+                settle: 1,
+            },
+            "mediactl: settle 1 of the script stopped at pbx/west: this slot is on a ring",
+        ),
+        (
+            Reason::Restless {
+                place: word(rt.alloc(), b"pbx")?,
+                settle: 12,
+            },
+            "mediactl: settle 12 of the script stopped at pbx: the program of this box made 256 steps",
+        ),
+    ];
+    are_told(&rt, rt.alloc(), &table)
+}
+
 // The fault's number and its line are told, and then the line's bytes.
 #[test]
 fn a_faulty_line_is_shown(rt: HostRuntime) -> Result<(), AllocError> {
-    let reason = Reason::faulty_text(rt.alloc(), 3, 2, TEXT);
+    let reason = Reason::faulty_text(rt.alloc(), 3, 2, TEXT)?;
     is_told(
         &rt,
         rt.alloc(),
@@ -93,9 +125,9 @@ fn nothing_is_told_where_all_was_done(rt: HostRuntime) -> Result<(), AllocError>
 // The form of a line goes by its first word, and so do the limits of what it declares.
 #[test]
 fn the_form_of_a_line_is_told(rt: HostRuntime) -> Result<(), AllocError> {
-    let missing = Reason::faulty_text(rt.alloc(), 6, 1, b"set alice a\n");
-    let unknown = Reason::faulty_text(rt.alloc(), 5, 1, b"  fly away\n");
-    let many = Reason::faulty_text(rt.alloc(), 14, 1, b"feat f");
+    let missing = Reason::faulty_text(rt.alloc(), 6, 1, b"set alice a\n")?;
+    let unknown = Reason::faulty_text(rt.alloc(), 5, 1, b"  fly away\n")?;
+    let many = Reason::faulty_text(rt.alloc(), 14, 1, b"feat f")?;
     is_told(
         &rt,
         rt.alloc(),

@@ -10,13 +10,14 @@ use Rattle.mc_top.proofs.UsedUp.{used_up}
 use Rattle.mc_world.specs.declared.settled.Settled.{Settled}
 
 draws_stop : (fault : SettleFault) (world : WorldState) (batch : List Turn) (state end : ℕ) → StopsByDraws world batch state end fault → Stops world batch fault
-draws_stop (VersionEnd stop) world batch state end (stops, there) = (record { last = stops.last.world; stopped = stops.stopped; meets = stops.meets }, there)
+draws_stop (VersionEnd stop) world batch state end (stops, there) = (record { last = stops.last.world; stopped = stops.stopped; meets = stops.meets; shift_limit = stops.shift_limit }, there)
 draws_stop (Ring stop) world batch state end (stops, there) = (
   record {
     last = stops.last.world;
     stopped = stops.stopped;
     used_up = λ who. used_up world batch stop.turns.items state stops.rounds stops.last stops.goes stops.used_up stops.stopped who;
     least = stops.least;
+    shift_limit = stops.shift_limit;
   },
   there,
 )
@@ -25,6 +26,7 @@ draws_stop (Restless stop) world batch state end stops = record {
   stopped = stops.stopped;
   used_up = λ who. used_up world batch stop.turns.items state stops.rounds stops.last stops.goes stops.used_up stops.stopped who;
   restless = stops.restless;
+  shift_limit = stops.shift_limit;
 }
 draws_stop (NoMemory e) world batch state end stops = tt
 

@@ -3,6 +3,7 @@ use Rattle.std.proofs.Common.{◌≡◌, ◌≢◌, ◌⊎◌, ◌∙◌, ℕ, B
 use Rattle.std.specs.declared.option.Option.{Option}
 use Rattle.std.specs.Io.KnownBytes.{Keeps}
 use Rattle.mc_replay.specs.Journals.{HoldsAtSettles, IsJournal}
+use Rattle.mc_replay.specs.Segments.{EachKeepsShiftLimit}
 use Rattle.mc_top.specs.Journals.{IsJournalTo, IsStoppedJournal, ShowsCause}
 use Rattle.mc_top.specs.Drawn.{FollowsDraws}
 use Rattle.mc_top.specs.Modes.{draws_from, output_of, report_of, tail_of}
@@ -55,13 +56,14 @@ kept_zero due none some = let here : keeps_journal 0 ≡ false = subst (λ (n : 
 -- the work was done, and what it printed was delivered
 ends_worked : (mode : Mode) (text : List ℕ) (net : Net) (old new : Option (List ℕ)) (status due : ℕ) (journal : List JournalLine) (output : List ℕ)
     → mode ≢ Check → DeclaresNet (tail_of mode) text net → IsSound net.world → IsJournal net.world (map batch_turns net.batches.items) journal → FollowsDraws (draws_from mode) None net.world (map batch_turns net.batches.items) journal
-    → HoldsAtSettles net.world journal → output ≡ run_text (report_of mode) (prints_journal mode) net.names net.world None journal → due ≡ 0 → Delivers status 0 old new output → Ends mode (Some text) old new status due journal
-ends_worked mode text net old new status due journal output runs declared sound settled drawn holds is none delivered = record {
+    → HoldsAtSettles net.world journal → EachKeepsShiftLimit journal → output ≡ run_text (report_of mode) (prints_journal mode) net.names net.world None journal → due ≡ 0 → Delivers status 0 old new output → Ends mode (Some text) old new status due journal
+ends_worked mode text net old new status due journal output runs declared sound settled drawn holds limit is none delivered = record {
   worked = λ zero. record {
     net = net;
     declared = declared;
     told_journal = subst (λ (t : Tail). ToldJournal t (Some text) net journal) (sym (runs_reads mode runs)) tt;
     settles = record { sound = sound; settled = settled; holds = holds; drawn = drawn };
+    shift_limit = λ runs. limit;
     delivered = rw (is, printed_by mode net journal) at delivered;
   };
   refused = λ one. absurd (omega arith);
@@ -74,9 +76,9 @@ ends_worked mode text net old new status due journal output runs declared sound 
 -- or the script stopped, and the line of the stop was
 stops_script : (mode : Mode) (text : List ℕ) (net : Net) (stop : Stop) (old new : Option (List ℕ)) (status due : ℕ) (journal : List JournalLine) (output : List ℕ)
     → mode ≢ Check → DeclaresNet (tail_of mode) text net → IsSound net.world → IsStoppedJournal stop net.world (map batch_turns net.batches.items) journal → FollowsDraws (draws_from mode) (Some stop) net.world (map batch_turns net.batches.items) journal
-    → ShowsCause (Some stop) net.world (map batch_turns net.batches.items) → output ≡ stop_line net.names net.world stop → due ≡ stop_status stop → Delivers status (stop_status stop) old new output
+    → ShowsCause (Some stop) net.world (map batch_turns net.batches.items) → EachKeepsShiftLimit journal → output ≡ stop_line net.names net.world stop → due ≡ stop_status stop → Delivers status (stop_status stop) old new output
     → StopsScript mode (Some text) old new status due journal
-stops_script mode text net stop old new status due journal output runs declared sound settled drawn shows is due_is delivered = record {
+stops_script mode text net stop old new status due journal output runs declared sound settled drawn shows limit is due_is delivered = record {
   net = net;
   stop = stop;
   runs = runs;
@@ -84,6 +86,7 @@ stops_script mode text net stop old new status due journal output runs declared 
   due_is = due_is;
   sound = sound;
   settled = settled;
+  shift_limit = limit;
   drawn = drawn;
   shows = shows;
   delivered = subst (λ (n : ℕ). Delivers status n old new (stop_line net.names net.world stop)) (sym due_is) (rw is at delivered);
@@ -132,13 +135,13 @@ due_for_text (Some (Ring at)) due is = inr (inr (inr (inr (inl is))))
 -- a script was run to its end, or to a stop
 pub ends_ran : (stop : Option Stop) (mode : Mode) (text : List ℕ) (net : Net) (old new : Option (List ℕ)) (status due : ℕ) (journal : List JournalLine) (output : List ℕ)
     → mode ≢ Check → DeclaresNet (tail_of mode) text net → IsSound net.world → IsJournalTo stop net.world (map batch_turns net.batches.items) journal → FollowsDraws (draws_from mode) stop net.world (map batch_turns net.batches.items) journal
-    → HoldsAtSettles net.world journal → ShowsCause stop net.world (map batch_turns net.batches.items)
+    → HoldsAtSettles net.world journal → ShowsCause stop net.world (map batch_turns net.batches.items) → EachKeepsShiftLimit journal
     → output ≡ run_text (report_of mode) (prints_journal mode) net.names net.world stop journal → due ≡ due_by stop → Delivers status (due_by stop) old new output → Ends mode (Some text) old new status due journal
-ends_ran None mode text net old new status due journal output runs declared sound ran drawn holds shows is due_is delivered =
-    ends_worked mode text net old new status due journal output runs declared sound ran drawn holds is due_is delivered
-ends_ran (Some stop) mode text net old new status due journal output runs declared sound ran drawn holds shows is due_is delivered =
+ends_ran None mode text net old new status due journal output runs declared sound ran drawn holds shows limit is due_is delivered =
+    ends_worked mode text net old new status due journal output runs declared sound ran drawn holds limit is due_is delivered
+ends_ran (Some stop) mode text net old new status due journal output runs declared sound ran drawn holds shows limit is due_is delivered =
     ends_at_stop mode text stop old new status due journal due_is
-    (stops_script mode text net stop old new status due journal output runs declared sound ran drawn shows (is ∙ stopped_by (report_of mode) (prints_journal mode) stop net.names net.world journal) due_is delivered)
+    (stops_script mode text net stop old new status due journal output runs declared sound ran drawn shows limit (is ∙ stopped_by (report_of mode) (prints_journal mode) stop net.names net.world journal) due_is delivered)
 
 keeps_same : (old : Option (List ℕ)) → Keeps old old
 keeps_same None = tt
@@ -180,6 +183,7 @@ ends_checked text net old new status due journal output declared sound has settl
     declared = declared;
     told_journal = has;
     settles = record { sound = sound; settled = settled; holds = journals_hold net.world (map batch_turns net.batches.items) journal sound settled; drawn = tt };
+    shift_limit = λ runs. absurd (runs refl);
     delivered = rw is at delivered;
   };
   refused = λ one. absurd (omega arith);

@@ -14,16 +14,24 @@ use Rattle.mc_top.proofs.BytesBehind.{all_behind}
 use Rattle.mc_top.proofs.NamedJournals.{runs_are_read_back}
 use Rattle.mc_top.proofs.Told.{good_has_none}
 
+-- the lines behind the commands are those that were printed
+printed_bytes : (text : List ℕ) (net : Net) (journal : List JournalLine) → is_too_long text ≡ false → drop net.rest text ≡ print_journal net.names journal → journal_bytes text net.rest ≡ print_journal net.names journal
+printed_bytes text net journal short printed = all_behind text net.rest short ∙ printed
+
+pub printed_lines : (text : List ℕ) (net : Net) (journal : List JournalLine) → SettlesText Journal text net journal → is_too_long text ≡ false → drop net.rest text ≡ print_journal net.names journal
+    → tail_lines net.names net.shape text net.rest ≡ journal
+printed_lines text net journal one short printed =
+    ap (λ (text : List ℕ). journal_lines net.names net.shape text) (printed_bytes text net journal short printed) ∙ (runs_are_read_back Journal text net journal one).0
+
 printed_is_good : (text : List ℕ) (net : Net) (journal : List JournalLine) → SettlesText Journal text net journal → is_too_long text ≡ false → drop net.rest text ≡ print_journal net.names journal → HasGoodJournal text net
 printed_is_good text net journal one short printed =
     let again = runs_are_read_back Journal text net journal one in
-    let bytes : journal_bytes text net.rest ≡ print_journal net.names journal = all_behind text net.rest short ∙ printed in
-    let lines : tail_lines net.names net.shape text net.rest ≡ journal = ap (λ (text : List ℕ). journal_lines net.names net.shape text) bytes ∙ again.0 in
+    let bytes = printed_bytes text net journal short printed in
     let whole : has_bad_tail net.names net.shape text net.rest ≡ false =
     ap (λ (long : Bool). has_bad_line net.names net.shape (journal_bytes text net.rest) || long) short
     ∙ ap (λ (bad : Bool). bad || false) (ap (λ (text : List ℕ). has_bad_line net.names net.shape text) bytes ∙ again.1) in
     record {
-      settles = subst (λ (list : List JournalLine). IsJournal net.world (map batch_turns net.batches.items) list) (sym lines) one.settles;
+      settles = subst (λ (list : List JournalLine). IsJournal net.world (map batch_turns net.batches.items) list) (sym (printed_lines text net journal one short printed)) one.settles;
       whole = whole;
     }
 

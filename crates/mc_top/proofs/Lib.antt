@@ -1,9 +1,11 @@
+mod Accepted
 mod BytesBehind
 mod Causes
 mod Channels
 mod DrawsStop
 mod Ending
 mod EndsAlike
+mod Explaining
 mod FirstWorlds
 mod GenAlike
 mod GoodJournals

@@ -20,6 +20,9 @@ use Rattle.mc_script.specs.declared.command.Batch.{Batch}
 use Rattle.mc_net.specs.Nets.{NamesAll, batch_turns}
 use Rattle.mc_top.specs.Drawn.{FollowsDraws}
 use Rattle.mc_replay.proofs.Holds.{holds_after, journals_hold, replayed_is, segment_holds}
+use Rattle.mc_replay.proofs.Limited.{limit_none, limit_settled}
+use Rattle.mc_replay.specs.Segments.{EachKeepsShiftLimit}
+use Rattle.mc_seq.specs.ShiftLimit.{KeepsShiftLimit}
 use Rattle.mc_replay.specs.Journals.{HoldsAtSettles, IsJournal, lines_for}
 use Rattle.mc_top.specs.Journals.{IsJournalTo, IsStoppedJournal}
 use Rattle.mc_top.specs.Printed.{at_settles}
@@ -87,6 +90,12 @@ settle_more start world last all rest batch turns journal so_far settled more la
     subst (λ (lines : List JournalLine). IsJournal start all lines) (sym (append_assoc journal (lines_for turns) more))
     (so_far (lines_for turns ++ more) (turns, last, more, refl, settled, later))
 
+-- within the limit of Shifts
+limit_more : (turns : List Turn) (journal more : List JournalLine) → ((rest : List JournalLine) → EachKeepsShiftLimit rest → EachKeepsShiftLimit (journal ++ rest)) → KeepsShiftLimit turns → EachKeepsShiftLimit more
+    → EachKeepsShiftLimit ((journal ++ lines_for turns) ++ more)
+limit_more turns journal more so_far kept others =
+    subst (λ (lines : List JournalLine). EachKeepsShiftLimit lines) (sym (append_assoc journal (lines_for turns) more)) (so_far (lines_for turns ++ more) (limit_settled turns more kept others))
+
 -- or one that is settled before a stop
 stop_more : (stop : Stop) (start world last : WorldState) (all rest : List (List Turn)) (batch turns : List Turn) (journal : List JournalLine)
     → ((more : List JournalLine) → IsStoppedJournal stop world (batch ∷ rest) more → IsStoppedJournal stop start all (journal ++ more))
@@ -132,6 +141,7 @@ pub record GoesOn (print : ℕ → WorldState → List ℕ) (opening : List ℕ)
   pub sound : IsSound now.world
   pub shape : HasShape now.world start
   pub journal : (more : List JournalLine) → IsJournal now.world rest more → IsJournal start all (now.journal ++ more)
+  pub shift_limit : (more : List JournalLine) → EachKeepsShiftLimit more → EachKeepsShiftLimit (now.journal ++ more)
   pub stops : (stop : Stop) (more : List JournalLine) → IsStoppedJournal stop now.world rest more → IsStoppedJournal stop start all (now.journal ++ more)
   pub drawn : (stop : Option Stop) (more : List JournalLine) → FollowsDraws now.draws stop now.world rest more → FollowsDraws first stop start all (now.journal ++ more)
   pub output : (more : List JournalLine) → opening ++ at_settles print 1 start (now.journal ++ more) ≡ now.output ++ at_settles print (count + 1) now.world more
@@ -145,6 +155,8 @@ goes_settled print opening start first all rest count batch now next s on = reco
   journal = λ more later.
       subst (λ (lines : List JournalLine). IsJournal start all (lines ++ more)) (sym s.journal)
       (settle_more start now.world next.world all rest batch s.turns now.journal on.journal s.settled more later);
+  shift_limit = λ more kept.
+      subst (λ (lines : List JournalLine). EachKeepsShiftLimit (lines ++ more)) (sym s.journal) (limit_more s.turns now.journal more on.shift_limit s.shift_limit kept);
   stops = λ stop more later.
       subst (λ (lines : List JournalLine). IsStoppedJournal stop start all (lines ++ more)) (sym s.journal)
       (stop_more stop start now.world next.world all rest batch s.turns now.journal (on.stops stop) s.settled more later);
@@ -186,6 +198,7 @@ goes_first print opening start first all sound = record {
   sound = sound;
   shape = same_shape start;
   journal = λ more later. later;
+  shift_limit = λ more kept. kept;
   stops = λ stop more later. later;
   drawn = λ stop more later. later;
   output = λ more. refl;
@@ -201,6 +214,10 @@ goes_to_end print opening start first all i now last past same on =
 -- all was run
 pub all_settled : (print : ℕ → WorldState → List ℕ) (opening : List ℕ) (start : WorldState) (first : Option ℕ) (all : List (List Turn)) (count : ℕ) (now : ScriptState) → GoesOn print opening start first all [] count now → IsJournal start all now.journal
 all_settled print opening start first all count now on = subst (λ (lines : List JournalLine). IsJournal start all lines) (append-nil now.journal) (on.journal [] refl)
+
+-- within the limit of Shifts, settle by settle
+pub all_limited : (print : ℕ → WorldState → List ℕ) (opening : List ℕ) (start : WorldState) (first : Option ℕ) (all : List (List Turn)) (count : ℕ) (now : ScriptState) → GoesOn print opening start first all [] count now → EachKeepsShiftLimit now.journal
+all_limited print opening start first all count now on = subst (λ (lines : List JournalLine). EachKeepsShiftLimit lines) (append-nil now.journal) (on.shift_limit [] limit_none)
 
 -- with no batch left there is nothing more to draw
 none_drawn : (draws : Option ℕ) (world : WorldState) → FollowsDraws draws None world [] []

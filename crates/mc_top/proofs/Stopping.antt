@@ -1,5 +1,6 @@
 -- A script that stops: the slot or the box at which it does has a name, and its journal goes on from what was run.
-use Rattle.std.proofs.Common.{◌≡◌, ◌<◌, ◌++◌, ◌∷◌, [], ℕ, ◌+◌, IfSome, Option, None, Some, List, codes, drop, length, map, refl, ap, sym, ◌∙◌, subst, inl, slice_index_or}
+use Rattle.std.proofs.Common.{◌≡◌, ◌<◌, ◌++◌, ◌∷◌, [], ℕ, ◌+◌, IfOk, IfSome, Ok, Err, Option, None, Some, Result, List, Vec, Global, codes, drop, length, map, refl, ap, sym, ◌∙◌, subst, inl, slice_index_or}
+use Rattle.std.specs.declared.alloc.AllocError.{AllocError}
 use Rattle.mc_box.specs.declared.event.Turn.{Turn}
 use Rattle.mc_box.proofs.Options.{then_some}
 use Rattle.mc_laws.proofs.Numbers.{number_is}
@@ -12,6 +13,8 @@ use Rattle.mc_net.specs.Nets.{NamesAll, batch_turns}
 use Rattle.mc_script.specs.declared.command.Batch.{Batch}
 use Rattle.mc_script.specs.declared.command.JournalLine.{JournalLine}
 use Rattle.mc_script.specs.declared.command.JournalLine.TheVariants.{Turn as Made}
+use Rattle.mc_replay.proofs.Limited.{limit_made}
+use Rattle.mc_replay.specs.Segments.{EachKeepsShiftLimit}
 use Rattle.mc_rounds.specs.Stops.{Stops}
 use Rattle.mc_seq.specs.Draws.{StopsByDraws}
 use Rattle.mc_seq.specs.declared.fault.SettleFault.{SettleFault}
@@ -92,6 +95,7 @@ stops_version names batch old stop run (stops, there) drawn journal output is = 
   last = stops.last;
   stop = VersionEnd stop.at;
   stopped = stops.stopped;
+  shift_limit = stops.shift_limit;
   cause = stops.meets;
   scheduled =
       drawn_weaker old.draws (λ state. (end : ℕ) × StopsByDraws old.world batch state end (EndsVersion stop)) (λ state. (end : ℕ) × StopsBy (VersionEnd stop.at) old.world batch state stop.turns.items end)
@@ -110,6 +114,7 @@ stops_ring names batch old stop run (stops, there) drawn journal output is = rec
   last = stops.last;
   stop = Ring stop.at;
   stopped = stops.stopped;
+  shift_limit = stops.shift_limit;
   cause = (stops.used_up, stops.least);
   scheduled =
       drawn_weaker old.draws (λ state. (end : ℕ) × StopsByDraws old.world batch state end (AtRing stop)) (λ state. (end : ℕ) × StopsBy (Ring stop.at) old.world batch state stop.turns.items end)
@@ -128,6 +133,7 @@ stops_restless names batch old stop run stops drawn journal output is = record {
   last = stops.last;
   stop = Restless stop.at;
   stopped = stops.stopped;
+  shift_limit = stops.shift_limit;
   cause = (stops.used_up, stops.restless);
   scheduled = drawn;
   journal = journal;
@@ -158,6 +164,7 @@ stop_line_same names now start (Restless at) shape = refl
 pub record EndsAtStop (report : Report) (names : NameLists) (start : WorldState) (first : Option ℕ) (all : List (List Turn)) (run : Run) : Type 0 where
   pub ran : IsJournalTo run.stop start all run.journal.items
   pub drawn : FollowsDraws first run.stop start all run.journal.items
+  pub shift_limit : EachKeepsShiftLimit run.journal.items
   pub output : run.output.items ≡ script_text report names start run.stop run.journal.items
 
 -- the turns up to a stop are what is left of the draws' journal, where there are draws
@@ -178,6 +185,7 @@ stops_here report names opening start first all rest count batch now run s on =
     record {
       ran = subst (λ (o : Option Stop). IsJournalTo o start all run.journal.items) (sym s.is) here;
       drawn = subst (λ (o : Option Stop). FollowsDraws first o start all run.journal.items) (sym s.is) drawn;
+      shift_limit = subst (λ (lines : List JournalLine). EachKeepsShiftLimit lines) (sym s.journal) (on.shift_limit (map Made s.turns) (limit_made s.turns s.shift_limit));
       output = s.output ∙ (stop_line_same names now.world start s.stop on.shape ∙ ap (λ (o : Option Stop). script_text report names start o run.journal.items) (sym s.is));
     }
 
@@ -187,3 +195,8 @@ pub stops_at : (report : Report) (names : NameLists) (opening : List ℕ) (start
 stops_at report names opening start first all i none now run within s on =
     stops_here report names opening start first (map batch_turns all) (map batch_turns (drop (i + 1) all)) i (batch_turns (slice_index_or all i none)) now run s
     (subst (λ (left : List (List Turn)). GoesOn (report_text report names) opening start first (map batch_turns all) left i now) (next_left i all none within) on)
+
+-- a run that kept its journal keeps the limit of Shifts in it, too
+pub limited_whole : (result : Result Run AllocError) (run : Run) → IfOk result (λ whole. whole.journal ≡ run.journal) → EachKeepsShiftLimit run.journal.items → IfOk result (λ whole. EachKeepsShiftLimit whole.journal.items)
+limited_whole (Ok whole) run same limit = subst (λ (lines : Vec JournalLine Global). EachKeepsShiftLimit lines.items) (sym same) limit
+limited_whole (Err e) run same limit = tt

@@ -79,6 +79,7 @@ stops_told mode told old new text status due journal read stops = record {
   due_is = stops.due_is;
   sound = stops.sound;
   settled = stops.settled;
+  shift_limit = stops.shift_limit;
   drawn = stops.drawn;
   shows = stops.shows;
   delivered = stops.delivered;
@@ -107,6 +108,7 @@ ends_told mode told old new text status due journal read ends = record {
         declared = told_declares (tail_of mode) told text worked.net read worked.declared;
         told_journal = told_journal (tail_of mode) told text worked.net journal read worked.told_journal;
         settles = worked.settles;
+        shift_limit = worked.shift_limit;
         delivered = worked.delivered;
       };
   refused = λ one. elim (ends.refused one) [

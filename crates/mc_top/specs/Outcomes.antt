@@ -3,6 +3,7 @@ use Rattle.std.specs.Prelude.{◌≡◌, ◌<◌, ℕ, List, [], ◌∷◌, ◌+
 use Rattle.mc_model.specs.Settles.{IsStopped}
 use Rattle.mc_model.specs.Worlds.{WorldState}
 use Rattle.mc_box.specs.declared.event.Turn.{Turn}
+use Rattle.mc_seq.specs.ShiftLimit.{KeepsShiftLimit}
 use Rattle.mc_seq.specs.declared.fault.SettleFault.{SettleFault}
 use Rattle.mc_seq.specs.declared.fault.SettleFault.TheVariants.{NoMemory, Restless as NeverRests, Ring as AtRing, VersionEnd as EndsVersion}
 use Rattle.mc_table.specs.Words.{line_of}
@@ -26,6 +27,7 @@ pub record Stopping (names : NameLists) (batch : List Turn) (old : ScriptState) 
   pub last : WorldState
   pub stop : Stop
   pub stopped : IsStopped old.world batch turns last
+  pub shift_limit : KeepsShiftLimit turns
   pub cause : IsCause stop batch turns last
   pub scheduled : IfSome old.draws (λ state. (end : ℕ) × StopsBy stop old.world batch state turns end)
   pub journal : run.journal.items ≡ old.journal ++ map Made turns

@@ -1,25 +1,78 @@
 -- What a person is to be told of how a call ended.
-use Rattle.std.specs.Prelude.{◌≡◌, ℕ, List}
-use Rattle.std.specs.declared.option.Option.{Option}
+use Rattle.std.specs.Prelude.{◌≡◌, ◌⊎◌, ℕ, ◌+◌, List, [], ◌∷◌, codes, IfSome, None, Option, Some, String, if◌then◌else◌, map, string_bytes}
+use Rattle.std.specs.declared.alloc.Global.{Global}
 use Rattle.std.specs.Io.KnownBytes.{Appends}
+use Rattle.mc_explain.specs.Reasons.{line_at}
 use Rattle.mc_explain.specs.declared.reason.Reason.{Reason}
 use Rattle.mc_explain.specs.declared.reason.Reason.TheVariants as reason
-use Rattle.mc_top.specs.Printed.{fault_line, journal_fault_line}
+use Rattle.mc_lines.specs.declared.tail.Tail.{Tail}
+use Rattle.mc_net.specs.TextLaws.{first_bytes}
+use Rattle.mc_net.specs.Texts.{IsFault}
+use Rattle.mc_replay.specs.Points.{marks_in}
+use Rattle.mc_script.specs.declared.command.JournalLine.{JournalLine}
+use Rattle.mc_table.specs.Words.{line_of}
+use Rattle.mc_top.specs.Modes.{tail_of, text_for}
+use Rattle.mc_top.specs.Printed.{fault_line, journal_fault_line, stop_word}
 use Rattle.mc_top.specs.declared.status.TheConstants.{WORKED, FAULTY_TEXT, VERSION_END, USAGE, NO_MEMORY, READ_FAULT, RESTLESS, RING, WRITE_FAULT, JOURNAL_FAULT}
+use Rattle.mc_top.specs.declared.stop.Stop.{Stop}
+use Rattle.mc_top.specs.declared.top.Done.{Done}
+use Rattle.mc_words.specs.Commands.{IsCommand}
+use Rattle.mc_words.specs.Help.{asks_for_help}
+use Rattle.mc_words.specs.declared.words.Mode.{Mode}
 
--- a status has a reason of its own, and that of a fault has the numbers that were printed
-abbrev pub Explains : Reason → (status : ℕ) → (old new : Option (List ℕ)) → Type 0
-Explains reason.Worked status old new = status ≡ WORKED
-Explains reason.Usage status old new = status ≡ USAGE
-Explains (reason.FaultyText number line text) status old new = (status ≡ FAULTY_TEXT) × Appends old new (fault_line number line)
-Explains reason.VersionEnd status old new = status ≡ VERSION_END
-Explains reason.Ring status old new = status ≡ RING
-Explains reason.Restless status old new = status ≡ RESTLESS
-Explains (reason.FaultyJournal number turn) status old new = (status ≡ JOURNAL_FAULT) × Appends old new (journal_fault_line number turn)
-Explains reason.NoMemory status old new = status ≡ NO_MEMORY
-Explains reason.ReadFault status old new = status ≡ READ_FAULT
-Explains reason.WriteFault status old new = status ≡ WRITE_FAULT
+-- ---- a text's fault
+
+-- the text has the fault of this number on this line, and these bytes are the line's, as far as a line may have some
+abbrev pub IsFaultOf : Tail → (text : List ℕ) → (number line : ℕ) → (shown : List ℕ) → Type 0
+IsFaultOf tail text number line shown = IsFault tail text number line × (shown ≡ line_at line text)
+
+-- so it is of what is told of a text, of which only the first bytes are read
+abbrev pub IsFaultOfTold : Tail → (told : Option (List ℕ)) → (number line : ℕ) → (shown : List ℕ) → Type 0
+IsFaultOfTold tail told number line shown = IfSome told (λ text. IsFault tail text number line × (shown ≡ line_at line (first_bytes tail text)))
+
+-- and of the text on which the mode works that the words ask for
+abbrev pub IsFaultByWords : List (String Global) → (left : Option (List ℕ)) → (number line : ℕ) → (shown : List ℕ) → Type 0
+IsFaultByWords words left number line shown = (mode : Mode) → IsCommand words mode → IsFaultOfTold (tail_of mode) (text_for mode left) number line shown
+
+-- ---- reasons
+
+-- the line that was printed has the word for why a script stopped, and then its slot or its box; and the settle has the number behind those whose marks are in the journal
+abbrev pub TellsStop : (word place : List ℕ) → (settle : ℕ) → (old new : Option (List ℕ)) → List JournalLine → Type 0
+TellsStop word place settle old new journal = Appends old new (line_of (word ∷ place ∷ [])) × (settle ≡ marks_in journal + 1)
+
+-- a status has a reason of its own. That of a fault has the numbers that were printed and tells the fault of the text; that of a stop has the slot or the box that was printed
+abbrev pub Explains : (Tells : (number line : ℕ) → (shown : List ℕ) → Type 0) → Reason → (status : ℕ) → (old new : Option (List ℕ)) → List JournalLine → Type 0
+Explains Tells reason.Worked status old new journal = status ≡ WORKED
+Explains Tells reason.Help status old new journal = status ≡ USAGE
+Explains Tells reason.Usage status old new journal = status ≡ USAGE
+Explains Tells (reason.FaultyText number line text) status old new journal = (status ≡ FAULTY_TEXT) × Appends old new (fault_line number line) × Tells number line text.items
+Explains Tells (reason.VersionEnd place settle) status old new journal = (status ≡ VERSION_END) × TellsStop (codes "version") place.items settle old new journal
+Explains Tells (reason.Ring place settle) status old new journal = (status ≡ RING) × TellsStop (codes "ring") place.items settle old new journal
+Explains Tells (reason.Restless place settle) status old new journal = (status ≡ RESTLESS) × TellsStop (codes "restless") place.items settle old new journal
+Explains Tells (reason.FaultyJournal number turn) status old new journal = (status ≡ JOURNAL_FAULT) × Appends old new (journal_fault_line number turn)
+Explains Tells reason.NoMemory status old new journal = status ≡ NO_MEMORY
+Explains Tells reason.ReadFault status old new journal = status ≡ READ_FAULT
+Explains Tells reason.WriteFault status old new journal = status ≡ WRITE_FAULT
 
 -- it explains the status that is due, where this was written whole
-abbrev pub ExplainsDue : Reason → (due : ℕ) → (output : List ℕ) → Type 0
-ExplainsDue told due output = (old new : Option (List ℕ)) → Appends old new output → Explains told due old new
+abbrev pub ExplainsDue : (Tells : (number line : ℕ) → (shown : List ℕ) → Type 0) → Reason → (due : ℕ) → (output : List ℕ) → List JournalLine → Type 0
+ExplainsDue Tells told due output journal = (old new : Option (List ℕ)) → Appends old new output → Explains Tells told due old new journal
+
+-- a call that was to end so, for a reason, does, or a write failed
+abbrev pub EndsFor : Reason → (due : ℕ) → Done → Type 0
+EndsFor given due done = ((done.status ≡ due) × (done.reason ≡ given)) ⊎ ((done.status ≡ WRITE_FAULT) × (done.reason ≡ reason.WriteFault))
+
+-- words that ask for help are told the commands alone, and others that they are no command
+abbrev pub usage_reason : List (String Global) → Reason
+usage_reason words = if asks_for_help (map string_bytes words) then reason.Help else reason.Usage
+
+-- ---- stops
+
+-- a line has two words, of which this is the first
+abbrev pub HasPlace : (word line : List ℕ) → Type 0
+HasPlace word line = (place : List ℕ) × (line ≡ line_of (word ∷ place ∷ []))
+
+-- what was printed for a stop has its word and a place
+abbrev pub PrintsStop : Option Stop → (output : List ℕ) → Type 0
+PrintsStop None output = Unit {0}
+PrintsStop (Some stop) output = HasPlace (stop_word stop) output

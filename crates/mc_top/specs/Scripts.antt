@@ -5,6 +5,7 @@ use Rattle.mc_model.specs.Worlds.{WorldState}
 use Rattle.mc_box.specs.declared.event.Turn.{Turn}
 use Rattle.mc_script.specs.declared.command.JournalLine.{JournalLine}
 use Rattle.mc_seq.specs.Draws.{IsScheduled}
+use Rattle.mc_seq.specs.ShiftLimit.{KeepsShiftLimit}
 use Rattle.mc_replay.specs.Journals.{lines_for}
 
 -- where its world stands, and its draws, if it has some, and what was kept and printed so far
@@ -28,6 +29,7 @@ FollowSchedule (Some state) (Some end) world batch turns last = IsScheduled worl
 pub record Settling (print : ℕ → WorldState → List ℕ) (number : ℕ) (batch : List Turn) (old new : ScriptState) : Type 0 where
   pub turns : List Turn
   pub settled : IsSettled old.world batch turns new.world
+  pub shift_limit : KeepsShiftLimit turns
   pub scheduled : FollowSchedule old.draws new.draws old.world batch turns new.world
   pub journal : new.journal ≡ old.journal ++ lines_for turns
   pub output : new.output ≡ old.output ++ print number new.world

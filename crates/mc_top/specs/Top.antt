@@ -12,6 +12,7 @@ use Rattle.mc_net.specs.TextLaws.{first_bytes}
 use Rattle.mc_net.specs.Texts.{IsFault}
 use Rattle.mc_net.specs.declared.net.Net.{Net}
 use Rattle.mc_replay.specs.Journals.{HoldsAtSettles, IsJournal}
+use Rattle.mc_replay.specs.Segments.{EachKeepsShiftLimit}
 use Rattle.mc_top.specs.Behind.{HasJournal, HasJournalFault}
 use Rattle.mc_top.specs.Drawn.{FollowsDraws, IsDrawnJournal}
 use Rattle.mc_top.specs.Journals.{IsStoppedJournal, ShowsCause}
@@ -84,12 +85,13 @@ ToldJournal Journal told net journal = IfSome told (λ text. HasJournal text net
 
 -- A mode did its work: it settled the network that the text declares, or checked the journal behind it, and delivered what it prints for the worlds that replaying the journal gives.
 --
--- The headline, for every network, script and interleaving of the boxes: each path line that is printed after a settle is the table's answer for its two end goals, closed where an end closes, flowing where one opens and none closes, either of the two for hold against hold; and a flowing line's media are those of the two ends' newest descriptors
+-- The headline, for every network, script and interleaving of the boxes: each path line that is printed after a settle is the table's answer for its two end goals, closed where an end closes, flowing where one opens and none closes, either of the two for hold against hold; and a flowing line's media are those of the two ends' newest descriptors. In no segment of the journal that a run makes does a box make more Shifts than the limit; one that is checked may have more
 pub record Worked (mode : Mode) (told old new : Option (List ℕ)) (status : ℕ) (journal : List JournalLine) : Type 0 where
   pub net : Net
   pub declared : ToldDeclares (tail_of mode) told net
   pub told_journal : ToldJournal (tail_of mode) told net journal
   pub settles : Settles net (draws_from mode) journal
+  pub shift_limit : mode ≢ Check → EachKeepsShiftLimit journal
   pub delivered : Delivers status WORKED old new (output_of mode net journal)
 
 -- a mode refused the text, and delivered the one line that names its first fault
@@ -110,7 +112,7 @@ pub record RefusesCheck (told old new : Option (List ℕ)) (status : ℕ) (journ
   pub delivered : Delivers status JOURNAL_FAULT old new (journal_fault_line number turn)
   pub no_journal : journal ≡ []
 
--- The script of the network that the text declares stopped, and the one line that says where was delivered. The journal is the settled segments before, and the turns up to the stop: replayed, they lead to a world that shows the cause. Where the mode draws, the draws decide which turns these are
+-- The script of the network that the text declares stopped, and the one line that says where was delivered. The journal is the settled segments before, and the turns up to the stop: replayed, they lead to a world that shows the cause. Where the mode draws, the draws decide which turns these are. In no segment, nor up to the stop, does a box make more Shifts than the limit
 pub record StopsScript (mode : Mode) (told old new : Option (List ℕ)) (status due : ℕ) (journal : List JournalLine) : Type 0 where
   pub net : Net
   pub stop : Stop
@@ -119,6 +121,7 @@ pub record StopsScript (mode : Mode) (told old new : Option (List ℕ)) (status 
   pub due_is : due ≡ stop_status stop
   pub sound : IsSound net.world
   pub settled : IsStoppedJournal stop net.world (map batch_turns net.batches.items) journal
+  pub shift_limit : EachKeepsShiftLimit journal
   pub drawn : FollowsDraws (draws_from mode) (Some stop) net.world (map batch_turns net.batches.items) journal
   pub shows : ShowsCause (Some stop) net.world (map batch_turns net.batches.items)
   pub delivered : Delivers status due old new (stop_line net.names net.world stop)

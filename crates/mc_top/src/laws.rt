@@ -1,5 +1,6 @@
 //! Laws of journals, of texts and of calls, over the definitions alone.
 
+ghost use Rattle.mc_top.specs.Accepted.{PrintedJournalsAreAccepted};
 ghost use Rattle.mc_top.specs.Drawn.{DrawnJournalIsOne};
 ghost use Rattle.mc_top.specs.EndsAlike.{CheckEndsAlike, GenPrintsAlike, GoodIsNotRefused, OneEndsAlike};
 ghost use Rattle.mc_top.specs.JournalLaws.{PrintedJournalsAreGood, RunsAreReadBack};
@@ -74,6 +75,14 @@ pub fn runs_are_read_back()
 /// fault: `check` accepts it.
 pub fn printed_journals_are_good()
     ensures { PrintedJournalsAreGood }
+{}
+
+/// So at each call of `run` or `one` that did its work and prints its journal: its text, with an end for its last line,
+/// and what it printed from the line `journal` on are a text that `check` accepts, as long as both together are within
+/// their limit. No call of `check` refuses it, and each that does its work finds this journal, and prints the settles
+/// that the run printed.
+pub fn printed_journals_are_accepted()
+    ensures { PrintedJournalsAreAccepted }
 {}
 
 /// The text of each scene can be run: it is in the grammar, no Hear meets the last version, and each batch comes to

@@ -7,6 +7,7 @@ mod checking;
 pub mod laws;
 mod modes;
 mod print;
+mod reasons;
 mod report;
 mod run;
 pub mod status;

@@ -13,6 +13,8 @@ ghost use Rattle.mc_table.specs.Words.{line_of};
 ghost use Rattle.mc_text.specs.NameLists.{slot_names, slot_word};
 ghost use Rattle.mc_top.specs.Drawn.{FollowsDraws, StopsDrawn, draws_state};
 ghost use Rattle.mc_replay.specs.Journals.{HoldsAtSettles, lines_for};
+ghost use Rattle.mc_replay.specs.Segments.{EachKeepsShiftLimit};
+ghost use Rattle.mc_seq.specs.ShiftLimit.{KeepsShiftLimit};
 ghost use Rattle.mc_top.specs.Journals.{IsJournalTo, ShowsCause};
 ghost use Rattle.mc_top.specs.Outcomes.{CameOf, EndsAt, EndsBy, IsNamedFault};
 ghost use Rattle.mc_top.specs.Printed.{box_word, script_text, stop_word, with_journal};
@@ -27,9 +29,9 @@ use mc_box::Turn;
 use mc_io::Gate;
 use mc_path::paths;
 use mc_rounds::Settler;
-use mc_rounds::limit::BOX_LIMIT;
 use mc_script::{Batch, JournalLine};
 use mc_seq::{SettleFault, Stopped, StoppedBox, settle_one};
+use mc_text::limit::BOX_LIMIT;
 use mc_text::{Draws, Names};
 use mc_world::{Settled, World};
 use std::alloc::{AllocError, Global};
@@ -151,6 +153,7 @@ fn settle_batch<R: Threads + Sync, G: Gate + Sync>(
     requires allowed { AreAllowed world batch.now }
     requires few { length world.boxes ≤ BOX_LIMIT }
     ensures settled { IfOk result (λ done. IsSettled world batch.now done.turns.items done.world) }
+    ensures shift_limit { IfOk result (λ done. KeepsShiftLimit done.turns.items) }
     ensures scheduled { IfOk result (λ done.
         FollowSchedule (draws_state draws.old) (draws_state draws.new) world batch.now done.turns.items done.world) }
     ensures stops { IfErr result (Stops world batch.now) }
@@ -301,6 +304,7 @@ pub fn run_script<R: Threads + Sync, G: Gate + Sync>(
     ensures ran { IfOk result (λ run. IsJournalTo run.stop world (map batch_turns batches.now) run.journal.items) }
     ensures drawn { IfOk result (λ run.
         FollowsDraws (draws_state draws) run.stop world (map batch_turns batches.now) run.journal.items) }
+    ensures shift_limit { IfOk result (λ run. EachKeepsShiftLimit run.journal.items) }
     ensures holds { IfOk result (λ run. HoldsAtSettles world run.journal.items) }
     ensures shows { IfOk result (λ run. ShowsCause run.stop world (map batch_turns batches.now)) }
     ensures output { IfOk result (λ run. run.output.items

@@ -1,11 +1,9 @@
 //! Where a script stops before its end.
 
-ghost use Rattle.std.specs.Prelude.{◌≡◌, List, ℕ};
-ghost use Rattle.mc_top.specs.Reasons.{ExplainsDue};
+ghost use Rattle.std.specs.Prelude.{◌≡◌};
 ghost use Rattle.mc_top.specs.Statuses.{due_by};
 
 use crate::status::{RESTLESS, RING, VERSION_END, WORKED};
-use mc_explain::Reason;
 
 /// Why a script stopped before its end.
 #[derive(Clone, Copy, Debug, PartialEq, Eq)]
@@ -14,7 +12,7 @@ pub enum Stop {
     VersionEnd(u32),
     /// A batch, or Shifts behind it, left a ring of links; of the slots on one this is the least, by its number.
     Ring(u32),
-    /// The program of this box, by its number, doesn't come to rest: nothing is under way, and the box has made all the
+    /// The program of this box, by its number, doesn't come to rest in a settle: nothing is under way, and the box has made all the
     /// Shifts that it may make in a settle and has one more enabled. It is the least box that has.
     Restless(u32),
 }
@@ -28,17 +26,5 @@ pub fn due_by(stop: Option<Stop>) -> u8
         Some(Stop::VersionEnd(_)) => VERSION_END,
         Some(Stop::Ring(_)) => RING,
         Some(Stop::Restless(_)) => RESTLESS,
-    }
-}
-
-/// What is to be told of a script that stopped so, or came to its end.
-pub fn reason_of(stop: Option<Stop>) -> Reason
-    ensures { (output : List ℕ) → ExplainsDue result (due_by stop) output }
-{
-    match stop {
-        None => Reason::Worked,
-        Some(Stop::VersionEnd(_)) => Reason::VersionEnd,
-        Some(Stop::Ring(_)) => Reason::Ring,
-        Some(Stop::Restless(_)) => Reason::Restless,
     }
 }

@@ -1,5 +1,6 @@
 // The top call.
-ghost use Rattle.std.specs.Prelude.{◌≡◌, ◌≢◌, ◌⊎◌, ◌==◌, ◌≤◌, ℕ, List, [], false, length, map, All, IfErr, IfOk, IsFalse, IsTrue, None, Some};
+ghost use Rattle.std.specs.Prelude.{◌≡◌, ◌≢◌, ◌⊎◌, ◌==◌, ◌≤◌, ℕ, List, [], false, length, map, All, IfErr, IfOk, IsFalse, IsTrue, None, Option, Some};
+ghost use Rattle.mc_explain.specs.Reasons.{IsTextFault};
 ghost use Rattle.mc_io.specs.Bytes.{ConsumesAtMost};
 ghost use Rattle.mc_io.specs.Faults.{Rose, faults_after, is_failed_read};
 ghost use Rattle.mc_journal.specs.Printed.{IsNamedLine};
@@ -12,6 +13,7 @@ ghost use Rattle.mc_lines.specs.declared.tail.Tail.TheVariants.{Journal};
 ghost use Rattle.mc_net.specs.declared.net.Net.{Net};
 ghost use Rattle.mc_replay.specs.Faults.{RefusesJournal};
 ghost use Rattle.mc_replay.specs.Journals.{HoldsAtSettles, IsJournal};
+ghost use Rattle.mc_replay.specs.Segments.{EachKeepsShiftLimit};
 ghost use Rattle.mc_scene.specs.Outputs.{scene_output};
 ghost use Rattle.mc_scene.specs.declared.scenes.Scene.{Scene};
 ghost use Rattle.mc_script.specs.Places.{Fits};
@@ -20,7 +22,7 @@ ghost use Rattle.mc_top.specs.Drawn.{FollowsDraws};
 ghost use Rattle.mc_top.specs.Journals.{IsJournalTo, ShowsCause};
 ghost use Rattle.mc_top.specs.Modes.{AsksToRead, IsWithinLimits, IsWorkable, draws_from, reads, report_of, tail_of, text_for};
 ghost use Rattle.mc_top.specs.Printed.{journal_text, run_text};
-ghost use Rattle.mc_top.specs.Reasons.{Explains, ExplainsDue};
+ghost use Rattle.mc_top.specs.Reasons.{EndsFor, Explains, IsFaultByWords, IsFaultOf, IsFaultOfTold, usage_reason};
 ghost use Rattle.mc_top.specs.Statuses.{IsDue, IsDueForMode, IsDueForText, due_by, judges_text, keeps_journal};
 ghost use Rattle.mc_top.specs.Top.{Delivers, EndsAs, GivesUp, HasReadWhole, IsTextFor, PrintsUsage, ReadsFor};
 ghost use Rattle.mc_words.specs.Commands.{IsCommand};
@@ -32,11 +34,12 @@ use crate::behind::journal_behind;
 use crate::checking::check_script;
 use crate::modes::{draws_from, report_of, tail_of};
 use crate::print::{print_fault, print_journal_fault};
+use crate::reasons::reason_of;
 use crate::run::{Run, run_script, with_journal};
 use crate::status::{
     FAULTY_TEXT, JOURNAL_FAULT, NO_MEMORY, READ_FAULT, USAGE, WORKED, WRITE_FAULT,
 };
-use crate::stop::{due_by, reason_of};
+use crate::stop::due_by;
 use mc_box::Shape;
 use mc_explain::Reason;
 use mc_io::{Gate, ReadFault, Sink, Source, read_up_to, write_whole};
@@ -45,7 +48,7 @@ use mc_replay::CheckFault;
 use mc_scene::{generated, scene_text};
 use mc_script::{Batch, JournalLine};
 use mc_text::Names;
-use mc_words::{Mode, read_mode};
+use mc_words::{Mode, asks_for_help, read_mode};
 use mc_world::World;
 use std::alloc::{AllocError, Global};
 use std::thread::Threads;
@@ -91,12 +94,11 @@ fn deliver<K: Sink>(
     reason: Reason,
 ) -> Done
     requires due { due ≢ WRITE_FAULT }
-    requires reason { ExplainsDue reason due output.now }
     ensures delivers { Delivers result.status due (K.written sink.old) (K.written sink.new) output.now }
     ensures due { result.due ≡ due }
     ensures status { (result.status ≡ due) ⊎ (result.status ≡ WRITE_FAULT) }
     ensures journal { result.journal ≡ journal }
-    ensures reason { Explains result.reason result.status (K.written sink.old) (K.written sink.new) }
+    ensures reason { EndsFor reason due result }
     ensures fault { K.faults sink.new ≡ faults_after (K.faults sink.old) (result.status == WRITE_FAULT) }
 {
     let (status, reason) = match write_whole(sink, output) {
@@ -112,16 +114,15 @@ fn deliver<K: Sink>(
 }
 
 // Writes what a script printed.
-fn deliver_run<K: Sink>(sink: &mut K, run: Run) -> Done
+fn deliver_run<K: Sink>(sink: &mut K, run: Run, reason: Reason) -> Done
     ensures delivers { Delivers result.status result.due (K.written sink.old) (K.written sink.new) run.output.items }
     ensures due { result.due ≡ due_by run.stop }
     ensures status { (result.status ≡ due_by run.stop) ⊎ (result.status ≡ WRITE_FAULT) }
     ensures journal { result.journal ≡ run.journal }
-    ensures reason { Explains result.reason result.status (K.written sink.old) (K.written sink.new) }
+    ensures reason { EndsFor reason result.due result }
     ensures fault { K.faults sink.new ≡ faults_after (K.faults sink.old) (result.status == WRITE_FAULT) }
 {
     let due = due_by(run.stop);
-    let reason = reason_of(run.stop);
     let Run {
         output,
         journal,
@@ -146,17 +147,47 @@ fn give_up(alloc: Global, status: u8, reason: Reason) -> Done
 }
 
 // Writes the line of a text's first fault.
-fn refuse<K: Sink>(alloc: Global, mode: Mode, text: &[u8], fault: TextFault, sink: &mut K) -> Done
+fn refuse<K: Sink>(
+    alloc: Global,
+    mode: Mode,
+    text: &[u8],
+    fault: TextFault,
+    reason: Reason,
+    sink: &mut K,
+) -> Done
+    requires fault { IsFault (tail_of mode) text.now fault.number fault.line }
+    requires told { IsTextFault fault.number fault.line text.now reason }
+    ensures statuses { (result.due ≡ FAULTY_TEXT) ⊎ (result.due ≡ NO_MEMORY) }
+    ensures status { (result.status ≡ result.due) ⊎ (result.status ≡ WRITE_FAULT) }
+    ensures ends { EndsAs mode (Some text.now) (K.written sink.old) (K.written sink.new) result }
+    ensures reason { Explains (IsFaultOf (tail_of mode) text.now) result.reason result.status
+        (K.written sink.old) (K.written sink.new) result.journal.items }
+    ensures fault { K.faults sink.new ≡ faults_after (K.faults sink.old) (result.status == WRITE_FAULT) }
+{
+    match print_fault(alloc, fault) {
+        Ok(line) => deliver(sink, FAULTY_TEXT, &line, Vec::new(alloc), reason),
+        Err(_) => give_up(alloc, NO_MEMORY, Reason::NoMemory),
+    }
+}
+
+// The same, with the line of the text kept for what is told.
+fn refuse_text<K: Sink>(
+    alloc: Global,
+    mode: Mode,
+    text: &[u8],
+    fault: TextFault,
+    sink: &mut K,
+) -> Done
     requires { IsFault (tail_of mode) text.now fault.number fault.line }
     ensures statuses { (result.due ≡ FAULTY_TEXT) ⊎ (result.due ≡ NO_MEMORY) }
     ensures status { (result.status ≡ result.due) ⊎ (result.status ≡ WRITE_FAULT) }
     ensures ends { EndsAs mode (Some text.now) (K.written sink.old) (K.written sink.new) result }
-    ensures reason { Explains result.reason result.status (K.written sink.old) (K.written sink.new) }
+    ensures reason { Explains (IsFaultOf (tail_of mode) text.now) result.reason result.status
+        (K.written sink.old) (K.written sink.new) result.journal.items }
     ensures fault { K.faults sink.new ≡ faults_after (K.faults sink.old) (result.status == WRITE_FAULT) }
 {
-    let reason = Reason::faulty_text(alloc, fault.number, fault.line, text);
-    match print_fault(alloc, fault) {
-        Ok(line) => deliver(sink, FAULTY_TEXT, &line, Vec::new(alloc), reason),
+    match Reason::faulty_text(alloc, fault.number, fault.line, text) {
+        Ok(reason) => refuse(alloc, mode, text, fault, reason, sink),
         Err(_) => give_up(alloc, NO_MEMORY, Reason::NoMemory),
     }
 }
@@ -180,6 +211,7 @@ fn run_by_mode<R: Threads + Sync, G: Gate + Sync>(
     ensures ran { IfOk result (λ run. IsJournalTo run.stop world (map batch_turns batches.now) run.journal.items) }
     ensures drawn { IfOk result (λ run.
         FollowsDraws (draws_from mode) run.stop world (map batch_turns batches.now) run.journal.items) }
+    ensures shift_limit { IfOk result (λ run. EachKeepsShiftLimit run.journal.items) }
     ensures holds { IfOk result (λ run. HoldsAtSettles world run.journal.items) }
     ensures shows { IfOk result (λ run. ShowsCause run.stop world (map batch_turns batches.now)) }
     ensures output { IfOk result (λ run. run.output.items
@@ -208,6 +240,7 @@ fn run_by_net<R: Threads + Sync, G: Gate + Sync>(
         IsJournalTo run.stop net.world (map batch_turns net.batches.items) run.journal.items) }
     ensures drawn { IfOk result (λ run.
         FollowsDraws (draws_from mode) run.stop net.world (map batch_turns net.batches.items) run.journal.items) }
+    ensures shift_limit { IfOk result (λ run. EachKeepsShiftLimit run.journal.items) }
     ensures holds { IfOk result (λ run. HoldsAtSettles net.world run.journal.items) }
     ensures shows { IfOk result (λ run. ShowsCause run.stop net.world (map batch_turns net.batches.items)) }
     ensures output { IfOk result (λ run. run.output.items
@@ -241,14 +274,18 @@ fn run_net<R: Threads + Sync, K: Sink, G: Gate + Sync>(
     ensures statuses { IsDueForText result.due }
     ensures status { (result.status ≡ result.due) ⊎ (result.status ≡ WRITE_FAULT) }
     ensures ends { EndsAs mode (Some text.now) (K.written sink.old) (K.written sink.new) result }
-    ensures reason { Explains result.reason result.status (K.written sink.old) (K.written sink.new) }
+    ensures reason { Explains (IsFaultOf (tail_of mode) text.now) result.reason result.status
+        (K.written sink.old) (K.written sink.new) result.journal.items }
     ensures fault { K.faults sink.new ≡ faults_after (K.faults sink.old) (result.status == WRITE_FAULT) }
 {
     net.world.keeps();
     let Ok(run) = run_by_net(rt, alloc, gate, mode, text, net) else {
         return give_up(alloc, NO_MEMORY, Reason::NoMemory);
     };
-    deliver_run(sink, run)
+    let Ok(reason) = reason_of(alloc, &run) else {
+        return give_up(alloc, NO_MEMORY, Reason::NoMemory);
+    };
+    deliver_run(sink, run, reason)
 }
 
 // Writes the line of a journal's first fault.
@@ -257,7 +294,8 @@ fn refuse_journal<K: Sink>(alloc: Global, number: u8, turn: u32, sink: &mut K) -
     ensures status { (result.status ≡ result.due) ⊎ (result.status ≡ WRITE_FAULT) }
     ensures ends { (text : List ℕ) (net : Net) → DeclaresNet Journal text net → HasJournalFault text net number turn
         → EndsAs Check (Some text) (K.written sink.old) (K.written sink.new) result }
-    ensures reason { Explains result.reason result.status (K.written sink.old) (K.written sink.new) }
+    ensures reason { (text : List ℕ) → Explains (IsFaultOf Journal text) result.reason result.status
+        (K.written sink.old) (K.written sink.new) result.journal.items }
     ensures fault { K.faults sink.new ≡ faults_after (K.faults sink.old) (result.status == WRITE_FAULT) }
 {
     match print_journal_fault(alloc, number, turn) {
@@ -328,7 +366,8 @@ fn check_net<K: Sink>(alloc: Global, text: &[u8], net: Net, sink: &mut K) -> Don
     ensures statuses { IsDueForText result.due }
     ensures status { (result.status ≡ result.due) ⊎ (result.status ≡ WRITE_FAULT) }
     ensures ends { EndsAs Check (Some text.now) (K.written sink.old) (K.written sink.new) result }
-    ensures reason { Explains result.reason result.status (K.written sink.old) (K.written sink.new) }
+    ensures reason { Explains (IsFaultOf Journal text.now) result.reason result.status
+        (K.written sink.old) (K.written sink.new) result.journal.items }
     ensures fault { K.faults sink.new ≡ faults_after (K.faults sink.old) (result.status == WRITE_FAULT) }
 {
     net.world.keeps();
@@ -356,7 +395,8 @@ fn work_on<R: Threads + Sync, K: Sink, G: Gate + Sync>(
     ensures statuses { IsDueForText result.due }
     ensures status { (result.status ≡ result.due) ⊎ (result.status ≡ WRITE_FAULT) }
     ensures ends { EndsAs mode (Some text.now) (K.written sink.old) (K.written sink.new) result }
-    ensures reason { Explains result.reason result.status (K.written sink.old) (K.written sink.new) }
+    ensures reason { Explains (IsFaultOf (tail_of mode) text.now) result.reason result.status
+        (K.written sink.old) (K.written sink.new) result.journal.items }
     ensures fault { K.faults sink.new ≡ faults_after (K.faults sink.old) (result.status == WRITE_FAULT) }
 {
     match mode {
@@ -377,12 +417,13 @@ fn run_text<R: Threads + Sync, K: Sink, G: Gate + Sync>(
     ensures statuses { IsDueForText result.due }
     ensures status { (result.status ≡ result.due) ⊎ (result.status ≡ WRITE_FAULT) }
     ensures ends { EndsAs mode (Some text.now) (K.written sink.old) (K.written sink.new) result }
-    ensures reason { Explains result.reason result.status (K.written sink.old) (K.written sink.new) }
+    ensures reason { Explains (IsFaultOf (tail_of mode) text.now) result.reason result.status
+        (K.written sink.old) (K.written sink.new) result.journal.items }
     ensures fault { K.faults sink.new ≡ faults_after (K.faults sink.old) (result.status == WRITE_FAULT) }
 {
     match read_net(alloc, text, tail_of(mode)) {
         Ok(net) => work_on(rt, alloc, gate, mode, text, net, sink),
-        Err(NetFault::Line(fault)) => refuse(alloc, mode, text, fault, sink),
+        Err(NetFault::Line(fault)) => refuse_text(alloc, mode, text, fault, sink),
         Err(NetFault::NoMemory(_)) => give_up(alloc, NO_MEMORY, Reason::NoMemory),
     }
 }
@@ -406,13 +447,45 @@ fn run_mode<R: Threads + Sync, S: Source, K: Sink, G: Gate + Sync>(
         → HasReadWhole (tail_of mode) (S.left source.old) (S.left source.new) }
     ensures at_most { ConsumesAtMost (S.left source.old) (S.left source.new) (read_limit (tail_of mode)) }
     ensures read_fault { S.faults source.new ≡ faults_after (S.faults source.old) (result.due == READ_FAULT) }
-    ensures reason { Explains result.reason result.status (K.written sink.old) (K.written sink.new) }
+    ensures reason { Explains (IsFaultOfTold (tail_of mode) (text_for mode (S.left source.old))) result.reason
+        result.status (K.written sink.old) (K.written sink.new) result.journal.items }
     ensures write_fault { K.faults sink.new ≡ faults_after (K.faults sink.old) (result.status == WRITE_FAULT) }
 {
     match text_of(alloc, mode, source) {
         Ok(text) => run_text(rt, alloc, gate, mode, &text, sink),
         Err(ReadFault::Failed) => give_up(alloc, READ_FAULT, Reason::ReadFault),
         Err(ReadFault::NoMemory(_)) => give_up(alloc, NO_MEMORY, Reason::NoMemory),
+    }
+}
+
+// Writes the line for words that are no command. Those that ask for help are told the commands without a complaint.
+fn refuse_words<K: Sink>(alloc: Global, words: &[String], sink: &mut K) -> Done
+    ensures output { PrintsUsage (K.written sink.old) (K.written sink.new) result }
+    ensures due { result.due ≡ USAGE }
+    ensures status { (result.status ≡ USAGE) ⊎ (result.status ≡ WRITE_FAULT) }
+    ensures journal { result.journal.items ≡ [] }
+    ensures told { EndsFor (usage_reason words.now) USAGE result }
+    ensures reason { (left : Option (List ℕ)) → Explains (IsFaultByWords words.now left) result.reason result.status
+        (K.written sink.old) (K.written sink.new) result.journal.items }
+    ensures fault { K.faults sink.new ≡ faults_after (K.faults sink.old) (result.status == WRITE_FAULT) }
+{
+    deliver(
+        sink,
+        USAGE,
+        b"usage\n",
+        Vec::new(alloc),
+        usage_reason(words),
+    )
+}
+
+// What is to be told of words that are no command.
+fn usage_reason(words: &[String]) -> Reason
+    ensures { result ≡ usage_reason words.now }
+{
+    if asks_for_help(words) {
+        Reason::Help
+    } else {
+        Reason::Usage
     }
 }
 
@@ -458,8 +531,11 @@ pub fn media_top<R: Threads + Sync, S: Source, K: Sink, G: Gate + Sync>(
     ensures read_fault { S.faults source.new ≡ faults_after (S.faults source.old) (result.due == READ_FAULT) }
     ensures write_fault { K.faults sink.new ≡ faults_after (K.faults sink.old) (result.status == WRITE_FAULT) }
 
-    // What is to be told a person explains the status.
-    ensures reason { Explains result.reason result.status (K.written sink.old) (K.written sink.new) }
+    // What is to be told a person explains the status, by what was printed and, for a fault, by the text. Where the words
+    // are no command, they are told the commands without a complaint exactly where they ask for help.
+    ensures reason { Explains (IsFaultByWords words.items (S.left source.old)) result.reason result.status
+        (K.written sink.old) (K.written sink.new) result.journal.items }
+    ensures usage_reason { result.due ≡ USAGE → EndsFor (usage_reason words.items) USAGE result }
 
     // Where the work can be done and no fault was counted, it is done, but for want of memory.
     ensures complete { (mode : Mode) (text : List ℕ) → IsCommand words.items mode
@@ -479,7 +555,7 @@ pub fn media_top<R: Threads + Sync, S: Source, K: Sink, G: Gate + Sync>(
         return give_up(alloc, NO_MEMORY, Reason::NoMemory);
     };
     let Some(mode) = read else {
-        return deliver(sink, USAGE, b"usage\n", Vec::new(alloc), Reason::Usage);
+        return refuse_words(alloc, &words, sink);
     };
     run_mode(rt, alloc, gate, mode, source, sink)
 }

@@ -7,7 +7,7 @@ use Rattle.mc_top.specs.Outcomes.{CameOf, Stopping}
 use Rattle.mc_top.specs.Printed.{opening_text, report_text}
 use Rattle.mc_top.specs.Scripts.{Settling}
 use Rattle.mc_top.proofs.Causes.{ran_shows}
-use Rattle.mc_top.proofs.Running.{all_drawn, all_printed, all_settled, batch_allowed, goes_first, goes_next, goes_to_end, ran_holds}
+use Rattle.mc_top.proofs.Running.{all_drawn, all_limited, all_printed, all_settled, batch_allowed, goes_first, goes_next, goes_to_end, ran_holds}
 use Rattle.mc_top.proofs.Stopping.{EndsAtStop, stops_at}
 use Rattle.mc_top.proofs.run.run_script.Goals as goal
 
@@ -44,6 +44,9 @@ returns-in-Stopped-clause-ran g c = (stops g c).ran
 pub returns-in-Stopped-clause-drawn : goal.returns-in-Stopped-clause-drawn
 returns-in-Stopped-clause-drawn g c = (stops g c).drawn
 
+pub returns-in-Stopped-clause-shift_limit : goal.returns-in-Stopped-clause-shift_limit
+returns-in-Stopped-clause-shift_limit g c = (stops g c).shift_limit
+
 pub returns-in-Stopped-clause-holds : goal.returns-in-Stopped-clause-holds
 returns-in-Stopped-clause-holds g c = ran_holds c.in-Stopped.run'.stop (map batch_turns c.args.batches.now) c.args.world c.in-Stopped.run'.journal.items c.keeps.ensures.sound (stops g c).ran
 
@@ -59,6 +62,11 @@ returns-clause-ran g c =
 pub returns-clause-drawn : goal.returns-clause-drawn
 returns-clause-drawn g c =
     all_drawn (report_text c.args.report c.args.names.now) (opening_text c.args.report c.args.world) c.args.world (draws_state c.args.draws) (map batch_turns c.args.batches.now) c.loop-index.index _
+    (goes_to_end _ _ _ _ _ c.loop-index.index _ _ (omega (arith, c.loop-index-test.false)) c.progress.view_is c.loop-index.invariant)
+
+pub returns-clause-shift_limit : goal.returns-clause-shift_limit
+returns-clause-shift_limit g c =
+    all_limited (report_text c.args.report c.args.names.now) (opening_text c.args.report c.args.world) c.args.world (draws_state c.args.draws) (map batch_turns c.args.batches.now) c.loop-index.index _
     (goes_to_end _ _ _ _ _ c.loop-index.index _ _ (omega (arith, c.loop-index-test.false)) c.progress.view_is c.loop-index.invariant)
 
 pub returns-clause-holds : goal.returns-clause-holds

@@ -1,4 +1,8 @@
-use Rattle.std.proofs.Common.{◌∙◌}
+use Rattle.mc_explain.specs.declared.reason.Reason.TheVariants.{Worked}
+use Rattle.mc_top.specs.Reasons.{IsFaultOf}
+use Rattle.mc_top.specs.declared.status.TheConstants.{WORKED}
+use Rattle.mc_top.proofs.Explaining.{explains_delivered}
+use Rattle.std.proofs.Common.{◌∙◌, refl}
 use Rattle.mc_lines.specs.declared.tail.Tail.TheVariants.{Journal}
 use Rattle.mc_net.proofs.MadeNets.{nets_are_named}
 use Rattle.mc_top.proofs.Ending.{ends_checked}
@@ -18,3 +22,11 @@ returns-in-Ok-clause-ends g c =
 pub returns-in-Err-At-clause-ends : goal.returns-in-Err-At-clause-ends
 returns-in-Err-At-clause-ends g c =
     c.refuse_journal.ensures.ends c.args.text.now c.args.net c.requires.declares (rw c.in-Err-At.field-0-is at c.in-Err-At.ensures.refused)
+
+pub returns-in-Ok-clause-reason : goal.returns-in-Ok-clause-reason
+returns-in-Ok-clause-reason g c =
+    explains_delivered (IsFaultOf Journal c.args.text.now) Worked WORKED c.deref.result.now (g.K.Sink.written c.args.sink.now) (g.K.Sink.written c.deliver.new.sink) c.deliver.result
+    (λ old new appends. refl) c.deliver.ensures.delivers c.deliver.ensures.reason
+
+pub returns-in-Err-At-clause-reason : goal.returns-in-Err-At-clause-reason
+returns-in-Err-At-clause-reason g c = c.refuse_journal.ensures.reason c.args.text.now

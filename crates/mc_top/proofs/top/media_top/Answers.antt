@@ -1,3 +1,5 @@
+use Rattle.mc_top.specs.Reasons.{IsFaultByWords, IsFaultOfTold}
+use Rattle.mc_top.proofs.Explaining.{explains_weaker, told_by_words}
 use Rattle.std.proofs.Common.{◌∙◌, ap, IsFalse, IsTrue, rules, subst}
 use Rattle.mc_io.specs.Bytes.{ConsumesAtMost}
 use Rattle.mc_lines.specs.Rules.{read_limit}
@@ -52,3 +54,9 @@ pub returns-clause-at_most : goal.returns-clause-at_most
 returns-clause-at_most g c = λ mode is.
     subst (λ (m : Mode). ConsumesAtMost (g.S.Source.left c.args.source.now) (g.S.Source.left c.run_mode.new.source) (read_limit (tail_of m))) (asks_for_one c.args.words.items c.in-Some.mode mode (rw (c.deref.ensures.value, c.in-Some.is) at c.in-Ok.ensures.some) is)
     c.run_mode.ensures.at_most
+
+pub returns-clause-reason : goal.returns-clause-reason
+returns-clause-reason g c =
+    explains_weaker (IsFaultOfTold (tail_of c.in-Some.mode) (text_for c.in-Some.mode (g.S.Source.left c.args.source.now))) (IsFaultByWords c.args.words.items (g.S.Source.left c.args.source.now))
+    (told_by_words c.args.words.items (g.S.Source.left c.args.source.now) c.in-Some.mode (rw (c.deref.ensures.value, c.in-Some.is) at c.in-Ok.ensures.some))
+    c.run_mode.result.reason c.run_mode.result.status (g.K.Sink.written c.args.sink.now) (g.K.Sink.written c.run_mode.new.sink) c.run_mode.result.journal.items c.run_mode.ensures.reason

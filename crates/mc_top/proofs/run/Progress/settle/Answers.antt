@@ -32,6 +32,7 @@ returns-in_ok-keep_settle-in-Ok g c =
     })) c.self.view_is (record {
       turns = c.in-Ok.settled.turns.items;
       settled = settled;
+      shift_limit = c.in-Ok.ensures.shift_limit;
       scheduled = c.in-Ok.ensures.scheduled;
       journal = c.in_ok-keep_settle-in-Ok.ensures.journal;
       output = c.in_ok-keep_settle-in-Ok.ensures.output
