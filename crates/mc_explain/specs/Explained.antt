@@ -15,12 +15,12 @@ abbrev pub commands : List (List ℕ)
 commands =
     codes "  mediactl run [--journal]      settles the text on standard input, and prints its paths"
     ∷ codes "  mediactl one N [--journal]    the same, in an order that the number N draws"
-    ∷ codes "  mediactl check                checks the journal that stands behind the text on standard input"
+    ∷ codes "  mediactl check                checks the journal that stands after the text on standard input"
     ∷ codes "  mediactl gen N SIZE           draws SIZE chains of features by the number N, and prints a summary"
     ∷ codes "  mediactl scene pbx            prints the paths of one phone that speaks with two others in turn"
     ∷ codes "  mediactl scene prepaid        prints the paths of a prepaid call that a voice interrupts"
     ∷ codes "N is a number from 0 to 2147483647, and SIZE one from 1 to 50."
-    ∷ codes "With --journal each turn is printed behind the paths. The manual page mediactl(1) says more."
+    ∷ codes "With --journal each turn is printed after the paths. The manual page mediactl(1) says more."
     ∷ []
 
 -- the rule of texts that a line breaks
@@ -51,7 +51,7 @@ stop settle place why = codes "settle " ++ decimal settle ++ codes " of the scri
 abbrev pub sentences : Reason → List (List ℕ)
 sentences Worked = []
 sentences Help = codes "the commands are:" ∷ commands
-sentences Usage = codes "the words behind the program's name are no command; the commands are:" ∷ commands
+sentences Usage = codes "the words after the program's name are no command; the commands are:" ∷ commands
 sentences (FaultyText number line text) = text_fault number line ∷ []
 sentences (VersionEnd place settle) =
     stop settle place.items (codes "a hear command of this slot would need a version past the last one, 4294967295. Look at the first version of its device.") ∷ []

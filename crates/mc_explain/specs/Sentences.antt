@@ -26,7 +26,7 @@ text_rules =
     ∷ (TWO_MEDIA, codes "the line links a slot for audio and one for video")
     ∷ (LIMIT_PASSED, codes "the line passes a limit: 64 codecs, 8 codecs of a dev or send line, 256 boxes, 1024 channels, 8 tunnels of a channel, 64 slots of a box, 64 states of a program, 16 transitions of a state, 64 told words or 4096 commands")
     ∷ (UNFINISHED, codes "the program that ends here lacks a state, or a state of it lacks the goal of a slot")
-    ∷ (NO_BEGIN, codes "the text ends without a line begin, which must stand behind what it declares, also where no command follows")
+    ∷ (NO_BEGIN, codes "the text ends without a line begin, which must stand after what it declares, also where no command follows")
     ∷ (NO_VERSION_LINE, codes "the first line of a text must be media 1 or media 2")
     ∷ (NAME_TOO_LONG, codes "a new name has more than 16 bytes")
     ∷ []

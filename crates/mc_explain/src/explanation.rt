@@ -14,12 +14,12 @@ use std::alloc::{AllocError, Global};
 const COMMANDS: [&str; 8] = [
     "  mediactl run [--journal]      settles the text on standard input, and prints its paths",
     "  mediactl one N [--journal]    the same, in an order that the number N draws",
-    "  mediactl check                checks the journal that stands behind the text on standard input",
+    "  mediactl check                checks the journal that stands after the text on standard input",
     "  mediactl gen N SIZE           draws SIZE chains of features by the number N, and prints a summary",
     "  mediactl scene pbx            prints the paths of one phone that speaks with two others in turn",
     "  mediactl scene prepaid        prints the paths of a prepaid call that a voice interrupts",
     "N is a number from 0 to 2147483647, and SIZE one from 1 to 50.",
-    "With --journal each turn is printed behind the paths. The manual page mediactl(1) says more.",
+    "With --journal each turn is printed after the paths. The manual page mediactl(1) says more.",
 ];
 
 /// What a person is told of how a call ended: nothing where all was done, and else lines that each begin with
@@ -69,7 +69,7 @@ fn put_sentences(alloc: Global, reason: &Reason, out: &mut Vec<u8>) -> Result<()
         Reason::Worked => Ok(()),
         Reason::Help => put_commands("the commands are:", out),
         Reason::Usage => put_commands(
-            "the words behind the program's name are no command; the commands are:",
+            "the words after the program's name are no command; the commands are:",
             out,
         ),
         Reason::FaultyText { number, line, .. } => put_text_fault(alloc, *number, *line, out),

@@ -22,43 +22,43 @@ const FORMS: [(&str, &str); 19] = [
         "chan",
         "chan MEDIUM BOX SLOT BOX SLOT, with audio or video for MEDIUM",
     ),
-    ("also", "also MEDIUM SLOT SLOT, behind a chan line"),
+    ("also", "also MEDIUM SLOT SLOT, after a chan line"),
     ("prog", "prog FEATURE STATE STATE .."),
     ("state", "state STATE, in the order of the prog line"),
     (
         "goal",
-        "goal SLOT GOAL behind a state line, with open, close or hold for GOAL",
+        "goal SLOT GOAL after a state line, with open, close or hold for GOAL",
     ),
     (
         "when",
-        "when told WORD STATE, or when is SLOT IT STATE with closed, opening, opened, flowing or closing for IT, behind a state line",
+        "when told WORD STATE, or when is SLOT IT STATE with closed, opening, opened, flowing or closing for IT, after a state line",
     ),
     ("begin", "begin, once"),
     (
         "journal",
-        "journal, behind the commands and under check alone",
+        "journal, after the commands and under check alone",
     ),
     (
         "set",
-        "set BOX SLOT GOAL behind begin, with open, close or hold for GOAL",
+        "set BOX SLOT GOAL after begin, with open, close or hold for GOAL",
     ),
     (
         "link",
-        "link FEATURE SLOT SLOT behind begin, or link SLOT SLOT behind a state line",
+        "link FEATURE SLOT SLOT after begin, or link SLOT SLOT after a state line",
     ),
     (
         "hear",
-        "hear DEVICE SLOT on, or hear DEVICE SLOT off, behind begin",
+        "hear DEVICE SLOT on, or hear DEVICE SLOT off, after begin",
     ),
     (
         "talk",
-        "talk DEVICE SLOT on, or talk DEVICE SLOT off, behind begin",
+        "talk DEVICE SLOT on, or talk DEVICE SLOT off, after begin",
     ),
     (
         "tell",
-        "tell FEATURE WORD behind begin, for a feature with a program",
+        "tell FEATURE WORD after begin, for a feature with a program",
     ),
-    ("settle", "settle, behind begin"),
+    ("settle", "settle, after begin"),
 ];
 
 // The limits of what they declare.

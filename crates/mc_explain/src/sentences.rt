@@ -55,7 +55,7 @@ const TEXT_RULES: [(u8, &str); 18] = [
     ),
     (
         text::NO_BEGIN,
-        "the text ends without a line begin, which must stand behind what it declares, also where no command follows",
+        "the text ends without a line begin, which must stand after what it declares, also where no command follows",
     ),
     (
         text::NO_VERSION_LINE,

@@ -45,7 +45,7 @@ fn each_reason_is_told_in_words(rt: HostRuntime) -> Result<(), AllocError> {
         ),
         (
             Reason::Usage,
-            "mediactl: the words behind the program's name are no command; the commands are:\n",
+            "mediactl: the words after the program's name are no command; the commands are:\n",
         ),
         (
             Reason::FaultyJournal {
@@ -132,7 +132,7 @@ fn the_form_of_a_line_is_told(rt: HostRuntime) -> Result<(), AllocError> {
         &rt,
         rt.alloc(),
         &missing,
-        "\nmediactl: such a line: set BOX SLOT GOAL behind begin, with open, close or hold for GOAL\n",
+        "\nmediactl: such a line: set BOX SLOT GOAL after begin, with open, close or hold for GOAL\n",
     )?;
     is_told(
         &rt,
