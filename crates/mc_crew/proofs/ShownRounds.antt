@@ -9,7 +9,7 @@ use Rattle.mc_box.specs.declared.event.Turn.{Turn}
 use Rattle.mc_claims.proofs.Carrying.{taken_same}
 use Rattle.mc_crew.proofs.RoundTurns.{all_below}
 use Rattle.mc_crew.specs.Crews.{TeamState, shifts_at, stimuli_at}
-use Rattle.mc_crew.specs.OwnRounds.{BeginsByRetries, DidBox, HasBox, HasLaneEnd, IsOwnRound, MayNotShift, OwnRoundsShow, ShowsBox, ShowsCause, ShowsRound, TakesAll}
+use Rattle.mc_crew.specs.OwnRounds.{BeginsByRetries, DidBox, HasBox, HasLaneEnd, IsOwnRound, MayNotShift, OwnRoundsShow, ShowsBox, ShowsEnd, ShowsRound, TakesAll}
 use Rattle.mc_crew.specs.Rounds.{EndsBox}
 use Rattle.mc_log.specs.Entries.{AreMade, AreStamped, Claimed, Entry, entries_of, events_that, stamps_of}
 use Rattle.mc_log.specs.Tunnels.{log_takes, tunnels_at}
@@ -63,7 +63,7 @@ fewer_turns stop count other most spent = let apart : count ≢ TURN_LIMIT = λ 
 
 shows_cause : (stop : Stop) (retries : Bool) (old new : TeamState) (turns : List Turn) (who : ℕ) (log : List Claimed) (worker : Worker) (Idle : Type 0) → EndsBox retries old new turns who (Some stop) → HasBox new who worker → length log ≤ TURN_LIMIT
     → (stop ≡ Spent) ↔ (length log ≡ TURN_LIMIT) → (length log < TURN_LIMIT → HasStopped Idle worker stop)
-    → (Idle → (lane : ℕ) → lane < length old.world.lanes → leads_to old.world lane ≡ who → TakesAll old.world who lane log) → ShowsCause old new who log stop
+    → (Idle → (lane : ℕ) → lane < length old.world.lanes → leads_to old.world lane ≡ who → TakesAll old.world who lane log) → ShowsEnd old new who log stop
 shows_cause Rested retries old new turns who log worker Idle ends has most spent cause takes =
     let few : length log < TURN_LIMIT = fewer_turns Rested (length log) (λ same. cc) most spent in
     let stopped = cause few in

@@ -105,12 +105,12 @@ pub record ShowsLastHear (new : TeamState) (who local : ℕ) (log : List Claimed
   pub next : MatchOption (slice_get (stimuli_at new who) 0) ⊥ (λ event. IsLastHear (box_at new.world who) local event)
 
 -- why a round ended: at rest; spent, after as many turns as a round may have; or before such a Hear
-abbrev pub ShowsCause : (old new : TeamState) → ℕ → List Claimed → Stop → Type 0
-ShowsCause old new who log Rested = ShowsRest old new who log
-ShowsCause old new who log Spent = length log ≡ TURN_LIMIT
-ShowsCause old new who log (NoMemory e) = ⊥
-ShowsCause old new who log (VersionEnd local) = ShowsLastHear new who local log
-ShowsCause old new who log (Strange end tunnel) = ⊥
+abbrev pub ShowsEnd : (old new : TeamState) → ℕ → List Claimed → Stop → Type 0
+ShowsEnd old new who log Rested = ShowsRest old new who log
+ShowsEnd old new who log Spent = length log ≡ TURN_LIMIT
+ShowsEnd old new who log (NoMemory e) = ⊥
+ShowsEnd old new who log (VersionEnd local) = ShowsLastHear new who local log
+ShowsEnd old new who log (Strange end tunnel) = ⊥
 
 -- the retries that are asked for come first, one for each slot that owes one, in the order of the slots; no other retry comes
 pub record BeginsByRetries (retries : Bool) (box : BoxState) (log : List Claimed) : Type 0 where
@@ -133,7 +133,7 @@ pub record ShowsRound (retries : Bool) (old new : TeamState) (who : ℕ) (log : 
   pub commands : events_that is_command log ++ stimuli_at new who ≡ stimuli_at old who
   pub shifts : shifts_at new who ≡ shifts_at old who + length (events_that is_shift log)
   pub most : length log ≤ TURN_LIMIT
-  pub cause : ShowsCause old new who log stop
+  pub cause : ShowsEnd old new who log stop
 
 -- a box without work has an empty log, and no stop
 abbrev pub ShowsBox : Bool → (old new : TeamState) → ℕ → List Claimed → Option Stop → Type 0
