@@ -1,5 +1,7 @@
 pub mod Blocks
+pub mod BrokenRules
 pub mod CodecLists
+pub mod DetailsTold
 pub mod Entries
 pub mod FirstBroken
 pub mod Fitting
@@ -8,3 +10,4 @@ pub mod Missing
 pub mod Sends
 pub mod Tails
 pub mod SlotWords
+pub mod WordCounts

@@ -1,4 +1,6 @@
 pub mod BoxLines
+pub mod DetailLaws
+pub mod Details
 pub mod Forms
 pub mod LineReadings
 pub mod Listing

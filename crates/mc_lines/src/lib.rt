@@ -2,7 +2,9 @@
 #![tactic(auto)]
 
 mod codec_words;
+mod detail;
 mod keyword;
+pub mod laws;
 pub mod limit;
 mod places;
 mod reader;
@@ -10,6 +12,7 @@ mod section;
 mod tail;
 mod wanting;
 
+pub use detail::{Detail, Limit, Why};
 pub use keyword::keyword_of;
 pub use reader::{Parts, Reader};
 pub use section::{Keyword, Section};

@@ -12,6 +12,7 @@ mod boxes;
 mod channels;
 mod codecs;
 mod commands;
+mod details;
 mod programs;
 mod sends;
 

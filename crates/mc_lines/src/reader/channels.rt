@@ -189,8 +189,8 @@ impl Reader {
         })
     }
 
-    // The two boxes of the last channel, the initiator first. None where there is no channel.
-    fn last_ends(&self) -> Option<(u32, u32)>
+    /// The two boxes of the last channel, the initiator first. None where there is no channel.
+    pub fn last_ends(&self) -> Option<(u32, u32)>
         requires { IsInForm self.now }
         ensures is { result ≡ last_ends self.now.channels }
         ensures there { IfSome result (λ ends.
