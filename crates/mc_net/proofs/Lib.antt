@@ -1,5 +1,6 @@
 pub mod Batches
 pub mod Declaring
+pub mod Details
 pub mod Enabled
 pub mod Faults
 pub mod FirstBytes

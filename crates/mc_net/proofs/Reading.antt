@@ -32,7 +32,7 @@ pub record HasRead (tail : Tail) (text : List ℕ) (number before : ℕ) (d : De
   pub short : text_limit tail < length text → before ≤ text_limit tail
 
 -- the line at a place, of lines that are left
-at_place : {A : Type 0} (xs : List A) (x : A) (others : List A) (k : ℕ) (default : A) → x ∷ others ≡ drop k xs → slice_index_or xs k default ≡ x
+pub at_place : {A : Type 0} (xs : List A) (x : A) (others : List A) (k : ℕ) (default : A) → x ∷ others ≡ drop k xs → slice_index_or xs k default ≡ x
 at_place [] x others zero default here = absurd cc
 at_place [] x others (suc k) default here = absurd cc
 at_place (y ∷ ys) x others zero default here = cc
@@ -52,7 +52,7 @@ within_place (y ∷ ys) x others zero here = omega arith
 within_place (y ∷ ys) x others (suc k) here = let more = within_place ys x others k here in omega arith
 
 -- where no line is left all were read
-all_read : {A : Type 0} (xs : List A) (k : ℕ) → [] ≡ drop k xs → k ≤ length xs → k ≡ length xs
+pub all_read : {A : Type 0} (xs : List A) (k : ℕ) → [] ≡ drop k xs → k ≤ length xs → k ≡ length xs
 all_read [] zero none within = refl
 all_read [] (suc k) none within = absurd (omega arith)
 all_read (y ∷ ys) zero none within = absurd cc

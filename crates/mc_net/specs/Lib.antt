@@ -1,3 +1,4 @@
+pub mod Details
 pub mod Followed
 pub mod Nets
 pub mod Reading

@@ -16,13 +16,13 @@ use std::alloc::Global;
 /// Where a line begins: how many bytes stand before it, and its number.
 #[derive(Clone, Copy)]
 pub struct Place {
-    before: usize,
-    line: u32,
+    pub before: usize,
+    pub line: u32,
 }
 
 impl Place {
-    // The place behind a line of these bytes.
-    fn behind(self, line: &[u8]) -> Place
+    /// The place behind a line of these bytes.
+    pub fn behind(self, line: &[u8]) -> Place
         requires short { self.before + length line.now + 1 < 2 ^ 64 }
         requires few { self.line + 1 < 2 ^ 32 }
         ensures { result ≡ record { before = self.before + (length line.now + 1); line = self.line + 1 } }
@@ -77,8 +77,8 @@ fn read_lines(reader: &mut Reader, text: &[u8], tail: Tail) -> Result<usize, Net
     }
 }
 
-// What is to be read behind a line, of the bytes that stand behind it: none where the line ends the commands.
-fn still_to_read<'a>(tail: Tail, line: &[u8], others: &'a [u8]) -> &'a [u8]
+/// What is to be read behind a line, of the bytes that stand behind it: none where the line ends the commands.
+pub fn still_to_read<'a>(tail: Tail, line: &[u8], others: &'a [u8]) -> &'a [u8]
     ensures rest { result.now ≡ if ends_commands tail line.now then [] else others.now }
     ensures shorter { length result.now ≤ length others.now }
 {
