@@ -1,9 +1,12 @@
--- A journal has one fault at most.
-use Rattle.std.proofs.Common.{◌≡◌, ◌++◌, ◌+◌, ◌∙◌, ℕ, true, false, inl, inr, List, [], ◌∷◌, None, Some, IsSome, Option, refl, ap, sym, subst}
+-- A journal has one fault at most, and so many lines may stand before it.
+use Rattle.std.proofs.Common.{◌≡◌, ◌<◌, ◌++◌, ◌+◌, ◌∙◌, ℕ, true, false, inl, inr, List, [], ◌∷◌, None, Some, IsSome, Option, length, slice_index_or, take, refl, ap, sym, subst, arith}
+use Rattle.std.proofs.lemmas.List.{take_all, take_more}
+use Rattle.mc_box.specs.declared.event.Turn.{Turn}
 use Rattle.mc_model.specs.Steps.{step}
+use Rattle.mc_model.specs.Worlds.{WorldState}
 use Rattle.mc_script.specs.declared.command.JournalLine.{JournalLine}
 use Rattle.mc_script.specs.declared.command.JournalLine.TheVariants.{Turn as Made, Settled}
-use Rattle.mc_replay.specs.Faults.{BreaksOrder, BreaksStep, IsLineFault, IsMisplacedMark, at_bad, at_end, at_line, marks, order, steps}
+use Rattle.mc_replay.specs.Faults.{BreaksOrder, BreaksStep, IsLineFault, IsMisplacedMark, StandsFor, at_bad, at_end, at_line, marks, order, steps}
 use Rattle.mc_replay.specs.Laws.{OneJournalFault}
 use Rattle.mc_replay.specs.Points.{AllMayStand, KeepsLineRules, MayStand, Point, first_point, point_after, point_behind, turns_in, world_at}
 use Rattle.mc_replay.proofs.Lines.{may_next}
@@ -97,3 +100,26 @@ one_journal_fault world batches lines bad number turn other_number other_turn (a
     absurd (none_faulty lines before others line (first_point world batches) other_number all is fault)
 one_journal_fault world batches lines bad number turn other_number other_turn (at_end all whole few is at) (at_bad too told same here) = absurd (let both : true ≡ false = sym told ∙ whole in cc)
 one_journal_fault world batches lines bad number turn other_number other_turn (at_end all whole few is at) (at_end too nor less same here) = (is ∙ sym same, at ∙ sym here)
+
+-- ---- how many lines stand before it
+
+-- after lines that may all stand comes a faulty one
+pub stand_before : (world : WorldState) (batches : List (List Turn)) (lines : List JournalLine) (k : ℕ) (none : JournalLine) (number : ℕ) → k < length lines → AllMayStand (first_point world batches) (take k lines)
+    → IsLineFault (point_after (first_point world batches) (take k lines)) (slice_index_or lines k none) number → StandsFor world batches lines k
+stand_before world batches lines k none number within may fault =
+    let point : Point = first_point world batches in
+    record {
+      within = omega (arith, within);
+      may = may;
+      last = λ more all.
+          may_or_faulty (point_after point (take k lines)) (slice_index_or lines k none) number
+          (may_next (take k lines) [] (slice_index_or lines k none) point (subst (AllMayStand point) (take_more lines k none within) all)) fault;
+    }
+
+-- all lines may stand
+pub stand_all : (world : WorldState) (batches : List (List Turn)) (lines : List JournalLine) → AllMayStand (first_point world batches) lines → StandsFor world batches lines (length lines)
+stand_all world batches lines may = record {
+  within = omega arith;
+  may = subst (AllMayStand (first_point world batches)) (sym (take_all (length lines) lines (omega arith))) may;
+  last = λ more all. absurd (omega (arith, more));
+}

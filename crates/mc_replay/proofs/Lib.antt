@@ -14,3 +14,4 @@ mod Reading
 mod RetriesKept
 mod Serving
 mod Stands
+pub mod Places

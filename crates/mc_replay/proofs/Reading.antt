@@ -1,6 +1,6 @@
 -- The lines of a journal, read one after the other.
 use Rattle.std.proofs.Common.{◌≡◌, ◌<◌, ◌≤◌, ◌++◌, ◌+◌, ◌∙◌, ℕ, zero, suc, Bool, inl, inr, List, [], ◌∷◌, Some, Err, cond, drop, length, map, take, Vec, slice_index_or, refl, ap, sym, subst, append-nil, append_assoc, arith}
-use Rattle.std.proofs.lemmas.List.{drop_all, length-map, take_more}
+use Rattle.std.proofs.lemmas.List.{drop_all, length-map, length-take-le, take_more}
 use Rattle.std.proofs.lemmas.List.Sums.{sum_by-append, sum_by-cons}
 use Rattle.std.specs.declared.alloc.Global.{Global}
 use Rattle.mc_box.specs.declared.event.Turn.{Turn}
@@ -11,16 +11,17 @@ use Rattle.mc_script.specs.declared.command.Batch.{Batch}
 use Rattle.mc_script.specs.declared.command.JournalLine.{JournalLine}
 use Rattle.mc_script.specs.declared.command.JournalLine.TheVariants.{Turn as Made, Settled}
 use Rattle.mc_view.specs.declared.PathView.{PathView}
-use Rattle.mc_replay.specs.Faults.{RefusesJournal, at_bad, at_end, at_line}
+use Rattle.mc_replay.specs.Faults.{RefusesLines, StandsFor, at_bad, at_end, at_line}
 use Rattle.mc_replay.specs.Journals.{AreShown, IsJournal, next_world}
 use Rattle.mc_replay.specs.Points.{Point, first_point, is_mark, is_turn, marks_in, point_after, point_behind, turns_in, world_at}
 use Rattle.mc_replay.specs.Replays.{AddsShown, EndsJournal, GoesBehind, HasReplayed, IsFresh, Reads, StandsAt, views_of}
-use Rattle.mc_replay.specs.declared.fault.CheckFault.{CheckFault}
-use Rattle.mc_replay.specs.declared.fault.CheckFault.TheVariants.{At, NoMemory}
+use Rattle.mc_replay.specs.declared.fault.ReplayFault.{ReplayFault}
+use Rattle.mc_replay.specs.declared.fault.ReplayFault.TheVariants.{At, NoMemory}
 use Rattle.mc_replay.specs.declared.replay.Replay.{Replay}
+use Rattle.mc_replay.proofs.Faults.{stand_all, stand_before}
 use Rattle.mc_replay.proofs.Good.{all_marked, may_journal}
 use Rattle.mc_replay.proofs.Holds.{replayed_is}
-use Rattle.mc_replay.proofs.Lines.{after_both, may_both}
+use Rattle.mc_replay.proofs.Lines.{after_both, may_both, turns_and_marks}
 use Rattle.mc_replay.proofs.Parts.{last_step, one_world}
 use Rattle.mc_replay.proofs.Prefixes.{after_is}
 
@@ -85,7 +86,20 @@ read_more Shows start batches read line old new shown longer so_far goes adds =
       views = shown_more Shows start batches read line point old new shown longer so_far.views so_far.stands goes.stands adds;
     }
 
+-- each line that was read is counted as a turn or a mark
+pub read_count : (Shows : WorldState → List PathView → Type 0) (start : WorldState) (batches : List (List Turn)) (read : List JournalLine) (replay : Replay) (shown : List (List PathView))
+    → HasReplayed Shows start batches read replay shown → replay.turns + replay.settled ≡ length read
+read_count Shows start batches read replay shown so_far =
+    let all : turns_in read + marks_in read ≡ length read = turns_and_marks read in
+    omega (arith, all, so_far.turns, so_far.marks)
+
 -- ---- a line by its place
+
+-- so many lines were read before it
+pub count_before : (Shows : WorldState → List PathView → Type 0) (start : WorldState) (batches : List (List Turn)) (lines : List JournalLine) (k : ℕ) (replay : Replay) (shown : List (List PathView)) → k < length lines
+    → HasReplayed Shows start batches (take k lines) replay shown → replay.turns + replay.settled ≡ k
+count_before Shows start batches lines k replay shown within so_far =
+    read_count Shows start batches (take k lines) replay shown so_far ∙ length-take-le k lines (omega (arith, within))
 
 pub read_next : (Shows : WorldState → List PathView → Type 0) (start : WorldState) (batches : List (List Turn)) (lines : List JournalLine) (k : ℕ) (none : JournalLine) (old new : Replay) (shown longer : List (List PathView))
     → k < length lines → HasReplayed Shows start batches (take k lines) old shown → GoesBehind batches (point_after (first_point start batches) (take k lines)) (slice_index_or lines k none) old new
@@ -100,11 +114,14 @@ parts_at (x ∷ xs) zero none within = refl
 parts_at (x ∷ xs) (suc k) none within = ap (λ (l : List _). x ∷ l) (parts_at xs k none (omega arith))
 
 -- what is wrong with a line is why the journal isn't taken
-pub refused_at : (Shows : WorldState → List PathView → Type 0) (start : WorldState) (batches : List (List Turn)) (lines : List JournalLine) (k : ℕ) (none : JournalLine) (old new : Replay) (shown : List (List PathView)) (fault : CheckFault) (bad : Bool)
+pub refused_at : (Shows : WorldState → List PathView → Type 0) (start : WorldState) (batches : List (List Turn)) (lines : List JournalLine) (k : ℕ) (none : JournalLine) (old new : Replay) (shown : List (List PathView)) (fault : ReplayFault) (bad : Bool)
     → k < length lines → HasReplayed Shows start batches (take k lines) old shown → Reads batches (point_after (first_point start batches) (take k lines)) (slice_index_or lines k none) old (Err fault) new
-    → RefusesJournal start batches lines bad fault
-refused_at Shows start batches lines k none old new shown (At number turn) bad within so_far why =
-    at_line (take k lines) (drop (suc k) lines) (slice_index_or lines k none) (parts_at lines k none within) so_far.may why.0 (why.1 ∙ ap (λ (n : ℕ). n + 1) so_far.turns)
+    → RefusesLines start batches lines bad fault
+refused_at Shows start batches lines k none old new shown (At fault) bad within so_far why = (
+  at_line (take k lines) (drop (suc k) lines) (slice_index_or lines k none) (parts_at lines k none within) so_far.may why.0 (why.1 ∙ ap (λ (n : ℕ). n + 1) so_far.turns),
+  subst (StandsFor start batches lines) (sym (why.2 ∙ count_before Shows start batches lines k old shown within so_far))
+      (stand_before start batches lines k none fault.number within so_far.may why.0),
+)
 refused_at Shows start batches lines k none old new shown (NoMemory e) bad within so_far why = tt
 
 -- ---- the end
@@ -121,12 +138,16 @@ all_shown Shows start batches lines replay shown read =
     (subst (λ (l : List JournalLine). AreShown Shows start l (shown ++ [])) (append-nil lines) (read.views [] [] refl))
 
 -- what is wrong with the end is so, too
-pub refused_at_end : (Shows : WorldState → List PathView → Type 0) (start : WorldState) (batches : List (List Turn)) (lines : List JournalLine) (replay : Replay) (shown : List (List PathView)) (fault : CheckFault) (bad : Bool)
-    → HasReplayed Shows start batches lines replay shown → EndsJournal (length batches) replay bad (Err fault) → RefusesJournal start batches lines bad fault
-refused_at_end Shows start batches lines replay shown (At number turn) bad read (at, inl (is, line)) =
-    at_bad read.may is line (at ∙ ap (λ (n : ℕ). n + 1) read.turns)
-refused_at_end Shows start batches lines replay shown (At number turn) bad read (at, inr (whole, few, early)) =
-    at_end read.may whole (subst (λ (n : ℕ). n < length batches) read.marks few) early (at ∙ ap (λ (n : ℕ). n + 1) read.turns)
+pub refused_at_end : (Shows : WorldState → List PathView → Type 0) (start : WorldState) (batches : List (List Turn)) (lines : List JournalLine) (replay : Replay) (shown : List (List PathView)) (fault : ReplayFault) (bad : Bool)
+    → HasReplayed Shows start batches lines replay shown → EndsJournal (length batches) replay bad (Err fault) → RefusesLines start batches lines bad fault
+refused_at_end Shows start batches lines replay shown (At fault) bad read (at, before, inl (is, line)) = (
+  at_bad read.may is line (at ∙ ap (λ (n : ℕ). n + 1) read.turns),
+  subst (StandsFor start batches lines) (sym (before ∙ read_count Shows start batches lines replay shown read)) (stand_all start batches lines read.may),
+)
+refused_at_end Shows start batches lines replay shown (At fault) bad read (at, before, inr (whole, few, early)) = (
+  at_end read.may whole (subst (λ (n : ℕ). n < length batches) read.marks few) early (at ∙ ap (λ (n : ℕ). n + 1) read.turns),
+  subst (StandsFor start batches lines) (sym (before ∙ read_count Shows start batches lines replay shown read)) (stand_all start batches lines read.may),
+)
 refused_at_end Shows start batches lines replay shown (NoMemory e) bad read ends = tt
 
 -- a replay begins in the world that it is given

@@ -55,13 +55,14 @@ same_world : (world : WorldState) (batch : List Turn) (segment : Segment) → Fo
 same_world world batch segment follows = one_world world segment.world follows.runs
 
 pub fresh : (world : WorldState) (batches : List (List Turn)) (segment : Segment) → AreAllAllowed world batches → Follows world (first_batch (drop 0 batches)) [] segment
-    → IsFresh world batches (record { segment = segment; settled = 0; turns = 0 })
-fresh world batches segment all follows = record {
+    → segment.retries.made ≡ 0 → IsFresh world batches (record { segment = segment; settled = 0; turns = 0 })
+fresh world batches segment all follows none = record {
   stands = record {
     follows = follows;
     left = refl;
     ended = λ none. refl;
     allowed = subst (λ (w : WorldState). AreAllAllowed w batches) (same_world world (first_batch (drop 0 batches)) segment follows) all;
+    retries = omega (arith, none);
   };
   turns = refl;
   settled = refl;
@@ -75,9 +76,9 @@ still_allowed batches world next turn sound goes all = λ i none within.
     all_kept _ world next sound (step_keeps_sound world next turn sound goes) (step_keeps_shape world next turn sound goes) (all i none within)
 
 pub made : (batches : List (List Turn)) (point : Point) (turn : Turn) (old : Replay) (segment : Segment) → old.settled < length batches → StandsAt batches point old
-    → Follows point.begins (batch_at point) (point.turns ++ turn ∷ []) segment → IsNext (batch_at point) point.turns turn
+    → Follows point.begins (batch_at point) (point.turns ++ turn ∷ []) segment → IsNext (batch_at point) point.turns turn → segment.retries.made ≤ old.segment.retries.made + 1
     → GoesBehind batches point (Made turn) old (record { segment = segment; settled = old.settled; turns = old.turns + 1 })
-made batches point turn old segment within stands follows next =
+made batches point turn old segment within stands follows next more =
     let sound : IsSound old.segment.world = run_keeps_sound point.begins old.segment.world point.turns stands.follows.sound stands.follows.runs in
     let goes : step old.segment.world turn ≡ Some segment.world = last_step point.turns turn point.begins old.segment.world segment.world stands.follows.runs follows.runs in
     let some : point.batches ≢ [] = is_left batches point old within stands in
@@ -88,6 +89,7 @@ made batches point turn old segment within stands follows next =
         left = stands.left;
         ended = λ none. absurd (some none);
         allowed = still_allowed batches old.segment.world segment.world turn sound goes stands.allowed;
+        retries = omega (arith, more, stands.retries);
       };
       turns = refl;
       marks = omega arith;
@@ -110,9 +112,9 @@ not_enabled batches point turn replay within stands next none =
 -- ---- a mark
 
 pub marked : (batches : List (List Turn)) (point : Point) (old : Replay) (segment : Segment) → old.settled < length batches → StandsAt batches point old
-    → IsSettled point.begins (batch_at point) point.turns old.segment.world → Follows old.segment.world (first_batch (drop (old.settled + 1) batches)) [] segment
+    → IsSettled point.begins (batch_at point) point.turns old.segment.world → Follows old.segment.world (first_batch (drop (old.settled + 1) batches)) [] segment → segment.retries.made ≡ old.segment.retries.made
     → GoesBehind batches point Settled old (record { segment = segment; settled = old.settled + 1; turns = old.turns })
-marked batches point old segment within stands settled follows =
+marked batches point old segment within stands settled follows same =
     let there : old.segment.world ≡ world_at point = sym (after_is point.begins old.segment.world point.turns stands.follows.runs) in
     let left : drop 1 point.batches ≡ drop (old.settled + 1) batches = next_place batches point.batches old.settled stands.left in
     record {
@@ -123,6 +125,7 @@ marked batches point old segment within stands settled follows =
         left = left;
         ended = λ none. refl;
         allowed = subst (λ (w : WorldState). AreAllAllowed w batches) (same_world old.segment.world (first_batch (drop (old.settled + 1) batches)) segment follows) stands.allowed;
+        retries = omega (arith, same, stands.retries);
       };
       turns = omega arith;
       marks = refl;

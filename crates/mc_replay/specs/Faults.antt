@@ -1,5 +1,5 @@
--- The first fault of a journal: the rule that it breaks, and where.
-use Rattle.std.specs.Prelude.{◌≡◌, ◌≢◌, ◌⊎◌, ◌+◌, ◌<◌, ℕ, Bool, true, false, IsTrue, List, [], ◌∷◌, ◌++◌, length, None, Some}
+-- The first fault of a journal: the rule that it breaks, and where it stands.
+use Rattle.std.specs.Prelude.{◌≡◌, ◌≢◌, ◌⊎◌, ◌+◌, ◌<◌, ℕ, Bool, true, false, IsTrue, List, [], ◌∷◌, ◌++◌, ◌≤◌, length, take, None, Some}
 use Rattle.mc_box.specs.BoxEvents.{is_command}
 use Rattle.mc_box.specs.declared.event.Turn.{Turn}
 use Rattle.mc_model.specs.Settles.{IsSettled, next_command}
@@ -10,6 +10,8 @@ use Rattle.mc_script.specs.declared.command.JournalLine.TheVariants.{Turn as Mad
 use Rattle.mc_replay.specs.Points.{AllMayStand, Point, batch_at, first_point, marks_in, point_after, turns_in, world_at}
 use Rattle.mc_replay.specs.declared.fault.CheckFault.{CheckFault}
 use Rattle.mc_replay.specs.declared.fault.CheckFault.TheVariants.{At, NoMemory}
+use Rattle.mc_replay.specs.declared.fault.ReplayFault.{ReplayFault}
+use Rattle.mc_replay.specs.declared.fault.ReplayFault.TheVariants as place
 use Rattle.mc_replay.specs.declared.rule.TheConstants.{ENDS_EARLY, NOT_ENABLED, NOT_NEXT, NOT_SETTLED, NO_LINE}
 
 -- a mark stands where the turns have not settled the segment's batch, whatever the world
@@ -49,3 +51,14 @@ pub data IsJournalFault (world : WorldState) (batches : List (List Turn)) (lines
 abbrev pub RefusesJournal : WorldState → List (List Turn) → List JournalLine → Bool → CheckFault → Type 0
 RefusesJournal world batches lines bad (At number turn) = IsJournalFault world batches lines bad number turn
 RefusesJournal world batches lines bad (NoMemory e) = Unit {0}
+
+-- so many of the first lines may all stand where they do, and with one more they may not
+pub record StandsFor (world : WorldState) (batches : List (List Turn)) (lines : List JournalLine) (count : ℕ) : Type 0 where
+  pub within : count ≤ length lines
+  pub may : AllMayStand (first_point world batches) (take count lines)
+  pub last : count < length lines → AllMayStand (first_point world batches) (take (count + 1) lines) → ⊥
+
+-- the same, with how many lines stand before the fault
+abbrev pub RefusesLines : WorldState → List (List Turn) → List JournalLine → Bool → ReplayFault → Type 0
+RefusesLines world batches lines bad (place.At fault) = IsJournalFault world batches lines bad fault.number fault.turn × StandsFor world batches lines fault.before
+RefusesLines world batches lines bad (place.NoMemory e) = Unit {0}

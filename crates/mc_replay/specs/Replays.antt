@@ -11,17 +11,18 @@ use Rattle.mc_replay.specs.Faults.{IsLineFault}
 use Rattle.mc_replay.specs.Follows.{Follows}
 use Rattle.mc_replay.specs.Journals.{AreShown}
 use Rattle.mc_replay.specs.Points.{AllMayStand, MayStand, Point, batch_at, first_point, marks_in, point_after, point_behind, turns_in}
-use Rattle.mc_replay.specs.declared.fault.CheckFault.{CheckFault}
-use Rattle.mc_replay.specs.declared.fault.CheckFault.TheVariants.{At, NoMemory}
+use Rattle.mc_replay.specs.declared.fault.ReplayFault.{ReplayFault}
+use Rattle.mc_replay.specs.declared.fault.ReplayFault.TheVariants.{At, NoMemory}
 use Rattle.mc_replay.specs.declared.replay.Replay.{Replay}
 use Rattle.mc_replay.specs.declared.rule.TheConstants.{ENDS_EARLY, NO_LINE}
 
--- the replay follows the segment of a point, and counts the batches before it
+-- the replay follows the segment of a point, and counts the batches before it; each retry was a turn
 pub record StandsAt (batches : List (List Turn)) (point : Point) (replay : Replay) : Type 0 where
   pub follows : Follows point.begins (batch_at point) point.turns replay.segment
   pub left : point.batches ≡ drop replay.settled batches
   pub ended : point.batches ≡ [] → point.turns ≡ []
   pub allowed : AreAllAllowed replay.segment.world batches
+  pub retries : replay.segment.retries.made ≤ replay.turns
 
 -- a line that may stand there is counted, and the replay stands behind it
 pub record GoesBehind (batches : List (List Turn)) (point : Point) (line : JournalLine) (old new : Replay) : Type 0 where
@@ -30,17 +31,17 @@ pub record GoesBehind (batches : List (List Turn)) (point : Point) (line : Journ
   pub turns : new.turns ≡ old.turns + turns_in (line ∷ [])
   pub marks : new.settled ≡ old.settled + marks_in (line ∷ [])
 
--- what comes of a line: the replay goes on, or the line is faulty
-abbrev pub Reads : List (List Turn) → Point → JournalLine → Replay → Result (Unit {0}) CheckFault → Replay → Type 0
+-- what comes of a line: the replay goes on, or the line is faulty, and stands after as many lines as turns and marks are counted
+abbrev pub Reads : List (List Turn) → Point → JournalLine → Replay → Result (Unit {0}) ReplayFault → Replay → Type 0
 Reads batches point line old (Ok done) new = GoesBehind batches point line old new
-Reads batches point line old (Err (At number turn)) new = IsLineFault point line number × (turn ≡ old.turns + 1)
+Reads batches point line old (Err (At fault)) new = IsLineFault point line fault.number × (fault.turn ≡ old.turns + 1) × (fault.before ≡ old.turns + old.settled)
 Reads batches point line old (Err (NoMemory e)) new = Unit {0}
 
 -- the end has no fault: no line behind the others is bad, and so many batches have their marks
-abbrev pub EndsJournal : (count : ℕ) → Replay → (bad : Bool) → Result (Unit {0}) CheckFault → Type 0
+abbrev pub EndsJournal : (count : ℕ) → Replay → (bad : Bool) → Result (Unit {0}) ReplayFault → Type 0
 EndsJournal count replay bad (Ok done) = (bad ≡ false) × (count ≤ replay.settled)
-EndsJournal count replay bad (Err (At number turn)) = (turn ≡ replay.turns + 1)
-    × (((bad ≡ true) × (number ≡ NO_LINE)) ⊎ ((bad ≡ false) × (replay.settled < count) × (number ≡ ENDS_EARLY)))
+EndsJournal count replay bad (Err (At fault)) = (fault.turn ≡ replay.turns + 1) × (fault.before ≡ replay.turns + replay.settled)
+    × (((bad ≡ true) × (fault.number ≡ NO_LINE)) ⊎ ((bad ≡ false) × (replay.settled < count) × (fault.number ≡ ENDS_EARLY)))
 EndsJournal count replay bad (Err (NoMemory e)) = Unit {0}
 
 -- a replay of which no line is read yet

@@ -1,17 +1,17 @@
 // Journals, checked line by line.
 
-ghost use Rattle.std.specs.Prelude.{◌≡◌, ◌+◌, ◌-◌, ◌<◌, ◌^◌, Bool, [], false, length, map, IfErr, IfOk, IsTrue, OnOk};
+ghost use Rattle.std.specs.Prelude.{◌≡◌, ◌+◌, ◌-◌, ◌<◌, ◌≤◌, ◌^◌, Bool, [], false, length, map, IfErr, IfOk, IsTrue, OnOk};
 ghost use Rattle.mc_model.specs.Settles.{is_quiet};
 ghost use Rattle.mc_model.specs.Shapes.{AreAllAllowed};
 ghost use Rattle.mc_script.specs.declared.command.JournalLine.TheVariants.{Settled};
 ghost use Rattle.mc_script.specs.Batches.{batch_turns};
-ghost use Rattle.mc_replay.specs.Faults.{RefusesJournal};
+ghost use Rattle.mc_replay.specs.Faults.{RefusesJournal, RefusesLines};
 ghost use Rattle.mc_replay.specs.Follows.{Stands};
 ghost use Rattle.mc_replay.specs.Journals.{AreShown, IsJournal};
 ghost use Rattle.mc_replay.specs.Points.{Point};
 ghost use Rattle.mc_replay.specs.Replays.{AddsShown, HasReplayed, IsFresh, Reads, StandsAt, views_of};
 
-use crate::fault::CheckFault;
+use crate::fault::{CheckFault, ReplayFault};
 use crate::replay::Replay;
 use crate::viewer::Viewer;
 use mc_script::{Batch, JournalLine, JournalText};
@@ -46,6 +46,34 @@ pub fn check<V: Viewer>(
     ensures refused { IfErr result (RefusesJournal world (map batch_turns batches.now)
         text.now.lines.items text.now.bad) }
 {
+    match check_lines(alloc, viewer, world, batches, text) {
+        Ok(checked) => Ok(checked),
+        Err(ReplayFault::At(fault)) => Err(CheckFault::At {
+            number: fault.number,
+            turn: fault.turn,
+        }),
+        Err(ReplayFault::NoMemory(e)) => Err(CheckFault::NoMemory(e)),
+    }
+}
+
+/// As `check` does, and tells how many lines stand before a fault.
+pub fn check_lines<V: Viewer>(
+    alloc: Global,
+    viewer: &V,
+    world: World,
+    batches: &[Batch],
+    text: &JournalText,
+) -> Result<Checked, ReplayFault>
+    requires allowed { AreAllAllowed world (map batch_turns batches.now) }
+    requires few { length text.now.lines.items < 2 ^ 32 - 1 }
+    ensures journal { IfOk result (λ checked. IsJournal world (map batch_turns batches.now) text.now.lines.items) }
+    ensures whole { IfOk result (λ checked. text.now.bad ≡ false) }
+    ensures shown { IfOk result (λ checked.
+        AreShown (V.shows viewer.now) world text.now.lines.items (views_of checked.views.items)) }
+    ensures count { IfOk result (λ checked. length checked.views.items ≡ length batches.now) }
+    ensures refused { IfErr result (RefusesLines world (map batch_turns batches.now)
+        text.now.lines.items text.now.bad) }
+{
     let mut replay = Replay::new(alloc, world, batches)?;
     let checked = read_text(alloc, viewer, batches, text, &mut replay);
     discard(replay);
@@ -63,7 +91,7 @@ fn read_text<V: Viewer>(
     batches: &[Batch],
     text: &JournalText,
     replay: &mut Replay,
-) -> Result<Checked, CheckFault>
+) -> Result<Checked, ReplayFault>
     requires fresh { IsFresh replay.old.segment.world (map batch_turns batches.now) replay.old }
     requires few { length text.now.lines.items < 2 ^ 32 - 1 }
     ensures journal { IfOk result (λ checked. IsJournal replay.old.segment.world (map batch_turns batches.now)
@@ -72,7 +100,7 @@ fn read_text<V: Viewer>(
     ensures shown { IfOk result (λ checked. AreShown (V.shows viewer.now) replay.old.segment.world
         text.now.lines.items (views_of checked.views.items)) }
     ensures count { IfOk result (λ checked. length checked.views.items ≡ length batches.now) }
-    ensures refused { IfErr result (RefusesJournal replay.old.segment.world (map batch_turns batches.now)
+    ensures refused { IfErr result (RefusesLines replay.old.segment.world (map batch_turns batches.now)
         text.now.lines.items text.now.bad) }
 {
     let mut views = Vec::new(alloc);
@@ -89,13 +117,13 @@ fn read_lines<V: Viewer>(
     lines: &[JournalLine],
     replay: &mut Replay,
     views: &mut Vec<Vec<PathView>>,
-) -> Result<(), CheckFault>
+) -> Result<(), ReplayFault>
     requires fresh { IsFresh replay.old.segment.world (map batch_turns batches.now) replay.old }
     requires none { views.old.items ≡ [] }
     requires few { length lines.now < 2 ^ 32 - 1 }
     ensures read { OnOk result (HasReplayed (V.shows viewer.now) replay.old.segment.world (map batch_turns batches.now)
         lines.now replay.new (views_of views.new.items)) }
-    ensures refused { IfErr result (λ fault. (bad : Bool) → RefusesJournal replay.old.segment.world
+    ensures refused { IfErr result (λ fault. (bad : Bool) → RefusesLines replay.old.segment.world
         (map batch_turns batches.now) lines.now bad fault) }
 {
     for line in lines {
@@ -112,9 +140,10 @@ fn read_line<V: Viewer>(
     line: JournalLine,
     replay: &mut Replay,
     views: &mut Vec<Vec<PathView>>,
-) -> Result<(), CheckFault>
+) -> Result<(), ReplayFault>
     requires stands { Stands replay.old.segment }
-    requires few { replay.old.turns + 1 < 2 ^ 32 }
+    requires few { replay.old.turns + replay.old.settled + 1 < 2 ^ 32 }
+    requires retries { replay.old.segment.retries.made ≤ replay.old.turns }
     requires allowed { AreAllAllowed replay.old.segment.world (map batch_turns batches.now) }
     ensures reads { (point : Point) → StandsAt (map batch_turns batches.now) point replay.old
         → Reads (map batch_turns batches.now) point line replay.old result replay.new }

@@ -13,6 +13,6 @@ pub mod rule;
 mod segment;
 mod viewer;
 
-pub use checking::{Checked, check};
-pub use fault::CheckFault;
+pub use checking::{Checked, check, check_lines};
+pub use fault::{CheckFault, JournalFault, ReplayFault};
 pub use viewer::Viewer;

@@ -1,6 +1,6 @@
 // A journal that is made again, line by line.
 
-ghost use Rattle.std.specs.Prelude.{◌≡◌, ◌+◌, ◌<◌, ◌^◌, drop, length, map, IfOk, IsTrue, OnOk};
+ghost use Rattle.std.specs.Prelude.{◌≡◌, ◌+◌, ◌<◌, ◌≤◌, ◌^◌, drop, length, map, IfOk, IsTrue, OnOk};
 ghost use Rattle.mc_model.specs.Settles.{is_quiet};
 ghost use Rattle.mc_model.specs.Shapes.{AreAllAllowed};
 ghost use Rattle.mc_script.specs.Batches.{batch_turns};
@@ -8,9 +8,9 @@ ghost use Rattle.mc_script.specs.declared.command.JournalLine.TheVariants.{Turn 
 ghost use Rattle.mc_replay.specs.Follows.{Stands};
 ghost use Rattle.mc_replay.specs.Points.{Point, first_batch};
 ghost use Rattle.mc_replay.specs.Replays.{EndsJournal, IsFresh, Reads, StandsAt};
-ghost use Rattle.mc_replay.specs.declared.fault.CheckFault.TheVariants.{At};
+ghost use Rattle.mc_replay.specs.declared.fault.ReplayFault.TheVariants.{At};
 
-use crate::fault::CheckFault;
+use crate::fault::{JournalFault, ReplayFault};
 use crate::rule;
 use crate::segment::{Segment, TurnFault, begin};
 use mc_box::Turn;
@@ -41,9 +41,10 @@ impl Replay {
     }
 
     // Makes a turn, where it is one of a batch and can happen.
-    pub fn make(&mut self, batches: &[Batch], turn: Turn) -> Result<(), CheckFault>
+    pub fn make(&mut self, batches: &[Batch], turn: Turn) -> Result<(), ReplayFault>
         requires stands { Stands self.old.segment }
-        requires few { self.old.turns + 1 < 2 ^ 32 }
+        requires few { self.old.turns + self.old.settled + 1 < 2 ^ 32 }
+        requires retries { self.old.segment.retries.made ≤ self.old.turns }
         ensures { (point : Point) → StandsAt (map batch_turns batches.now) point self.old
             → Reads (map batch_turns batches.now) point (Made turn) self.old result self.new }
     {
@@ -57,14 +58,14 @@ impl Replay {
             }
             Err(TurnFault::NotNext) => Err(self.fault(rule::NOT_NEXT)),
             Err(TurnFault::NotEnabled) => Err(self.fault(rule::NOT_ENABLED)),
-            Err(TurnFault::NoMemory(e)) => Err(CheckFault::NoMemory(e)),
+            Err(TurnFault::NoMemory(e)) => Err(ReplayFault::NoMemory(e)),
         }
     }
 
     // Takes a mark, where the turns have settled their batch. The next segment begins.
-    pub fn settle(&mut self, alloc: Global, batches: &[Batch]) -> Result<(), CheckFault>
+    pub fn settle(&mut self, alloc: Global, batches: &[Batch]) -> Result<(), ReplayFault>
         requires stands { Stands self.old.segment }
-        requires few { self.old.turns + 1 < 2 ^ 32 }
+        requires few { self.old.turns + self.old.settled + 1 < 2 ^ 32 }
         requires allowed { AreAllAllowed self.old.segment.world (map batch_turns batches.now) }
         ensures reads { (point : Point) → StandsAt (map batch_turns batches.now) point self.old
             → Reads (map batch_turns batches.now) point Settled self.old result self.new }
@@ -80,8 +81,8 @@ impl Replay {
     }
 
     // The end of the lines, behind which a bad one may stand.
-    pub fn end(&self, batches: &[Batch], bad: bool) -> Result<(), CheckFault>
-        requires { self.now.turns + 1 < 2 ^ 32 }
+    pub fn end(&self, batches: &[Batch], bad: bool) -> Result<(), ReplayFault>
+        requires { self.now.turns + self.now.settled + 1 < 2 ^ 32 }
         ensures { EndsJournal (length batches.now) self.now bad result }
     {
         if bad {
@@ -93,15 +94,20 @@ impl Replay {
         Ok(())
     }
 
-    // A fault of the line that is read now.
-    fn fault(&self, number: u8) -> CheckFault
-        requires { self.now.turns + 1 < 2 ^ 32 }
-        ensures { result ≡ At number (self.now.turns + 1) }
+    // A fault of the line that is read now. Each line before it is a turn or a mark.
+    fn fault(&self, number: u8) -> ReplayFault
+        requires { self.now.turns + self.now.settled + 1 < 2 ^ 32 }
+        ensures { result ≡ At (record {
+          number = number;
+          turn = self.now.turns + 1;
+          before = self.now.turns + self.now.settled;
+        }) }
     {
-        CheckFault::At {
+        ReplayFault::At(JournalFault {
             number,
             turn: self.turns + 1,
-        }
+            before: self.turns + self.settled as u32,
+        })
     }
 }
 

@@ -1,6 +1,6 @@
 // The retries of a journal by their running numbers, from 1 on.
 
-ghost use Rattle.std.specs.Prelude.{◌≡◌, ◌<◌, length, OnOk, IfOk};
+ghost use Rattle.std.specs.Prelude.{◌≡◌, ◌<◌, ◌≤◌, ◌+◌, ◌^◌, length, IfOk};
 ghost use Rattle.mc_model.specs.Worlds.{slot_count};
 ghost use Rattle.mc_replay.specs.Moments.{AreNumbered, CountsRetry, WasRetried};
 
@@ -20,7 +20,8 @@ pub struct Retries {
 
 // Where none was made.
 pub fn no_retries(alloc: Global, world: &World) -> Result<Retries, AllocError>
-    ensures { IfOk result (AreNumbered (slot_count world.now)) }
+    ensures numbered { IfOk result (AreNumbered (slot_count world.now)) }
+    ensures none { IfOk result (λ retries. retries.made ≡ 0) }
 {
     let last = vec![in alloc; 0; world.slot_count()]?;
     Ok(Retries {
@@ -31,27 +32,28 @@ pub fn no_retries(alloc: Global, world: &World) -> Result<Retries, AllocError>
 }
 
 // Counts a turn that was made, where it is a retry.
-pub fn count_retry(retries: &mut Retries, world: &World, turn: Turn) -> Result<(), AllocError>
-    requires { length retries.old.last.items ≡ slot_count world.now }
-    ensures { OnOk result (CountsRetry world.now retries.old retries.new turn.who turn.event) }
+pub fn count_retry(retries: &mut Retries, world: &World, turn: Turn)
+    requires slots { length retries.old.last.items ≡ slot_count world.now }
+    requires few { retries.old.made + 1 < 2 ^ 64 }
+    ensures counts { CountsRetry world.now retries.old retries.new turn.who turn.event }
+    ensures made { retries.new.made ≤ retries.old.made + 1 }
 {
     let Event::Retry(local) = turn.event else {
-        return Ok(());
+        return;
     };
-    match world.number(turn.who, local) {
-        Some(slot) => count_at(retries, slot),
-        None => Ok(()),
+    if let Some(slot) = world.number(turn.who, local) {
+        count_at(retries, slot);
     }
 }
 
-// The same by the number of its slot. No journal is so long that the numbers end.
-fn count_at(retries: &mut Retries, slot: u32) -> Result<(), AllocError>
-    requires { slot < length retries.old.last.items }
-    ensures { OnOk result (WasRetried retries.old retries.new slot) }
+// The same by the number of its slot.
+fn count_at(retries: &mut Retries, slot: u32)
+    requires slot { slot < length retries.old.last.items }
+    requires few { retries.old.made + 1 < 2 ^ 64 }
+    ensures { WasRetried retries.old retries.new slot }
 {
-    let number = retries.made.checked_add(1).ok_or(AllocError)?;
+    let number = retries.made + 1;
     retries.low = retries.low.max(retries.last[slot as usize]);
     retries.last[slot as usize] = number;
     retries.made = number;
-    Ok(())
 }

@@ -1,6 +1,6 @@
 // A segment of a journal: the turns since the last settle, replayed one after another.
 
-ghost use Rattle.std.specs.Prelude.{◌≡◌, ◌↔◌, ◌==◌, ◌&&◌, List, [], Some, length, true, IfOk, IsTrue, OnOk};
+ghost use Rattle.std.specs.Prelude.{◌≡◌, ◌↔◌, ◌==◌, ◌&&◌, ◌+◌, ◌<◌, ◌≤◌, ◌^◌, List, [], Some, length, true, IfOk, IsTrue, OnOk};
 ghost use Rattle.mc_box.specs.declared.event.Turn.{Turn};
 ghost use Rattle.mc_model.specs.Shapes.{AreAllowed};
 ghost use Rattle.mc_model.specs.Settles.{is_quiet, rests};
@@ -52,7 +52,8 @@ impl From<AllocError> for TurnFault {
 // The first segment.
 pub fn begin(alloc: Global, world: World, batch: &[Turn]) -> Result<Segment, AllocError>
     requires { AreAllowed world batch.now }
-    ensures { IfOk result (Follows world batch.now []) }
+    ensures follows { IfOk result (Follows world batch.now []) }
+    ensures none { IfOk result (λ segment. segment.retries.made ≡ 0) }
 {
     let (left, counts, retries, moments) = first_parts(alloc, &world, batch)?;
     Ok(Segment {
@@ -71,8 +72,9 @@ fn first_parts(
     batch: &[Turn],
 ) -> Result<(Commands, Counts, Retries, Vec<Moment>), AllocError>
     requires { AreAllowed world.now batch.now }
-    ensures { IfOk result (λ parts. Follows world.now batch.now []
+    ensures follows { IfOk result (λ parts. Follows world.now batch.now []
         (record { world = world.now; left = parts.0; counts = parts.1; retries = parts.2; moments = parts.3 })) }
+    ensures none { IfOk result (λ parts. parts.2.made ≡ 0) }
 {
     world.keeps();
     let counts = count_all(world);
@@ -119,7 +121,8 @@ impl Segment {
     pub fn go_on(&mut self, alloc: Global, batch: &[Turn]) -> Result<(), AllocError>
         requires stands { Stands self.old }
         requires allowed { AreAllowed self.old.world batch.now }
-        ensures { OnOk result (Follows self.old.world batch.now [] self.new) }
+        ensures follows { OnOk result (Follows self.old.world batch.now [] self.new) }
+        ensures made { OnOk result (self.new.retries.made ≡ self.old.retries.made) }
     {
         self.world.keeps();
         self.left = all_commands(alloc, &self.world, batch)?;
@@ -136,9 +139,11 @@ impl Segment {
 
     // Makes a turn.
     pub fn make(&mut self, turn: Turn) -> Result<(), TurnFault>
-        requires { Stands self.old }
-        ensures { (begins : WorldState) (batch turns : List Turn) → Follows begins batch turns self.old
+        requires stands { Stands self.old }
+        requires few { self.old.retries.made + 1 < 2 ^ 64 }
+        ensures makes { (begins : WorldState) (batch turns : List Turn) → Follows begins batch turns self.old
             → MakesTurn begins batch turns turn result self.new }
+        ensures made { OnOk result (self.new.retries.made ≤ self.old.retries.made + 1) }
     {
         self.world.keeps();
         if !may_come(&self.left, turn) {
@@ -146,7 +151,7 @@ impl Segment {
         }
         step(&mut self.world, &mut self.counts, turn)?;
         drop_made(&mut self.left, turn);
-        count_retry(&mut self.retries, &self.world, turn)?;
+        count_retry(&mut self.retries, &self.world, turn);
         forget(&mut self.moments, turn.event);
         keep_moment(
             &mut self.moments,

@@ -3,8 +3,13 @@ use Rattle.std.proofs.lemmas.Result.{err_from_is_err_and}
 use Rattle.mc_script.specs.Batches.{batch_turns}
 use Rattle.mc_replay.specs.Points.{Point, first_point, point_after}
 use Rattle.mc_replay.specs.Replays.{views_of}
-use Rattle.mc_replay.proofs.Reading.{read_next, refused_at}
+use Rattle.mc_replay.proofs.Reading.{count_before, read_next, refused_at}
 use Rattle.mc_replay.proofs.checking.read_lines.Goals as goal
+
+pub read_line-requires-clause-few : goal.read_line-requires-clause-few
+read_line-requires-clause-few g c =
+    let count = count_before (g.V.Viewer.shows c.args.viewer.now) c.args.replay.now.segment.world (map batch_turns c.args.batches.now) c.args.lines.now c.loop-line.line-index c.loop-line.replay (views_of c.loop-line.views.items) (omega arith) c.loop-line.invariant in
+    omega (arith, count, c.requires.few)
 
 pub returns-in_err-read_line-clause-refused : goal.returns-in_err-read_line-clause-refused
 returns-in_err-read_line-clause-refused g c =

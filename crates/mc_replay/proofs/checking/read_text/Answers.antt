@@ -1,19 +1,25 @@
-use Rattle.std.proofs.Common.{◌≤◌, ℕ, List, map, subst, sym, Err}
+use Rattle.std.proofs.Common.{◌≤◌, ℕ, List, ap, length, map, subst, sym, arith, Err}
 use Rattle.std.proofs.lemmas.List.{length-map}
 use Rattle.std.proofs.lemmas.Result.{err_from_is_err_and}
 use Rattle.mc_script.specs.Batches.{batch_turns}
 use Rattle.mc_script.specs.declared.command.JournalLine.{JournalLine}
-use Rattle.mc_replay.specs.Faults.{RefusesJournal}
+use Rattle.mc_replay.specs.Faults.{RefusesLines}
 use Rattle.mc_replay.specs.Replays.{EndsJournal, HasReplayed, views_of}
-use Rattle.mc_replay.proofs.Reading.{all_shown, is_journal, one_each, refused_at_end}
+use Rattle.mc_replay.proofs.Reading.{all_shown, is_journal, one_each, read_count, refused_at_end}
 use Rattle.mc_replay.proofs.checking.read_text.Goals as goal
 
 pub returns-in_err-read_lines-clause-refused : goal.returns-in_err-read_lines-clause-refused
 returns-in_err-read_lines-clause-refused g c =
     let fault = err_from_is_err_and c.from_residual.result c.from_residual.ensures.1 in
     rw (fault.1, fault.2)
-    (subst (λ (lines : List JournalLine). RefusesJournal c.args.replay.now.segment.world (map batch_turns c.args.batches.now) lines c.args.text.now.bad c.in_err-read_lines.field-0.0) c.deref.ensures.value
+    (subst (λ (lines : List JournalLine). RefusesLines c.args.replay.now.segment.world (map batch_turns c.args.batches.now) lines c.args.text.now.bad c.in_err-read_lines.field-0.0) c.deref.ensures.value
     (c.in_err-read_lines.ensures.refused c.args.text.now.bad))
+
+-- as many lines were read as are counted
+pub end-requires : goal.end-requires
+end-requires g c =
+    let read = read_count (g.V.Viewer.shows c.args.viewer.now) c.args.replay.now.segment.world (map batch_turns c.args.batches.now) _ c.read_lines.new.replay (views_of c.read_lines.new.views.items) c.in_ok-read_lines.ensures.read in
+    omega (arith, read, ap length c.deref.ensures.value, c.requires.few)
 
 pub returns-in_err-end-clause-refused : goal.returns-in_err-end-clause-refused
 returns-in_err-end-clause-refused g c =

@@ -12,4 +12,4 @@ begin-requires c = subst (AreAllowed c.args.world) (sym c.batch_at.ensures) (pla
 pub returns : goal.returns
 returns c =
     fresh c.args.world (map batch_turns c.args.batches.now) c.in_ok-segment.segment c.requires
-    (subst (λ (batch : List Turn). Follows c.args.world batch [] c.in_ok-segment.segment) c.batch_at.ensures c.in_ok-segment.ensures)
+    (subst (λ (batch : List Turn). Follows c.args.world batch [] c.in_ok-segment.segment) c.batch_at.ensures c.in_ok-segment.ensures.follows) c.in_ok-segment.ensures.none

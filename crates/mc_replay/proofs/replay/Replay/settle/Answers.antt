@@ -1,4 +1,4 @@
-use Rattle.std.proofs.Common.{◌<◌, ◌≤◌, ◌+◌, ℕ, List, [], map, ap, subst, sym}
+use Rattle.std.proofs.Common.{◌<◌, ◌≤◌, ◌+◌, ◌∙◌, ℕ, List, [], map, ap, subst, sym}
 use Rattle.std.proofs.lemmas.List.{length-map}
 use Rattle.mc_box.specs.declared.event.Turn.{Turn}
 use Rattle.mc_model.specs.Shapes.{AreAllowed}
@@ -18,12 +18,14 @@ returns-then-self-batches-clause-reads c = λ point stands. rw c.fault.ensures (
     none_left (map batch_turns c.args.batches.now) point Settled c.args.self.now
         (subst (λ (n : ℕ). n ≤ c.args.self.now.settled) (sym (length-map c.args.batches.now batch_turns)) w.if-self-batches.true) stands,
     ap (λ (r : Replay). r.turns + 1) w.self-is,
+    ap (λ (r : Replay). r.turns + r.settled) w.self-is,
   )
   | then-self-batches-via-else-self-batches+then-not-is_settled w ↦ (
     misplaced point c.args.self.now.segment.world
         (subst (TellsSettled point.begins (batch_at point) point.turns c.args.self.now.segment.world) w.if-not-is_settled.true
         (w.is_settled.ensures.settled point.begins (batch_at point) point.turns stands.follows)),
     ap (λ (r : Replay). r.turns + 1) w.self-is,
+    ap (λ (r : Replay). r.turns + r.settled) w.self-is,
   )
 ])
 
@@ -40,4 +42,5 @@ returns-clause-reads c = λ point stands.
     (subst (TellsSettled point.begins (batch_at point) point.turns c.args.self.now.segment.world) c.if-not-is_settled.false
     (c.is_settled.ensures.settled point.begins (batch_at point) point.turns stands.follows))
     (subst (λ (batch : List Turn). Follows c.args.self.now.segment.world batch [] c.go_on.new.self) c.batch_at-next.ensures
-    (subst (λ (s : Segment). Follows s.world c.batch_at-next.result.now [] c.go_on.new.self) c.is_settled.ensures.same c.in_ok-go_on.ensures))
+    (subst (λ (s : Segment). Follows s.world c.batch_at-next.result.now [] c.go_on.new.self) c.is_settled.ensures.same c.in_ok-go_on.ensures.follows))
+    (c.in_ok-go_on.ensures.made ∙ ap (λ (s : Segment). s.retries.made) c.is_settled.ensures.same)
