@@ -1,3 +1,4 @@
 pub mod Going
 pub mod Joined
 pub mod Again
+pub mod Places

@@ -2,10 +2,12 @@
 #![tactic(auto)]
 
 pub mod laws;
+mod place;
 mod print;
 mod read;
 mod reading;
 mod turn;
 
+pub use place::{line_count, line_place};
 pub use print::print_journal;
 pub use read::read_journal;
