@@ -1,10 +1,12 @@
 -- What a person is told of how a call ended.
-use Rattle.std.specs.Prelude.{ℕ, ◌-◌, ◌/◌, ◌%◌, ◌==◌, ◌&&◌, ◌||◌, Bool, if◌then◌else◌, List, [], ◌∷◌, ◌++◌, codes, flat_map, get_or, nat_le}
+use Rattle.std.specs.Prelude.{ℕ, ◌-◌, ◌==◌, ◌||◌, Bool, if◌then◌else◌, List, [], ◌∷◌, ◌++◌, codes, flat_map}
 use Rattle.std.specs.Fmt.{decimal}
 use Rattle.mc_explain.specs.Hints.{hints}
+use Rattle.mc_explain.specs.Quotes.{quote, told_line}
 use Rattle.mc_explain.specs.Sentences.{journal_rule, text_rule}
 use Rattle.mc_explain.specs.declared.reason.Reason.{Reason}
 use Rattle.mc_explain.specs.declared.reason.Reason.TheVariants.{FaultyJournal, FaultyText, Help, NoMemory, ReadFault, Restless, Ring, Usage, VersionEnd, Worked, WriteFault}
+use Rattle.mc_lines.specs.declared.detail.Detail.{Detail}
 use Rattle.mc_replay.specs.declared.rule.TheConstants.{NOT_ENABLED, NOT_NEXT}
 use Rattle.mc_text.specs.Lines.{has_bytes}
 
@@ -31,17 +33,17 @@ text_fault number line = codes "line " ++ decimal line ++ codes " of the text br
 abbrev pub is_of_turns : ℕ → Bool
 is_of_turns number = number == NOT_ENABLED || number == NOT_NEXT
 
--- the rule of journals that a turn breaks, by the turn's number
-abbrev pub turn_fault : ℕ → ℕ → List ℕ
-turn_fault number turn = codes "turn " ++ decimal turn ++ codes " of the journal breaks rule " ++ decimal number ++ codes ": " ++ journal_rule number ++ codes "."
+-- the rule of journals that a turn breaks, by the turn's number and its line in the text
+abbrev pub turn_fault : ℕ → ℕ → ℕ → List ℕ
+turn_fault number turn line = codes "line " ++ decimal line ++ codes " of the text, turn " ++ decimal turn ++ codes " of its journal, breaks rule " ++ decimal number ++ codes ": " ++ journal_rule number ++ codes "."
 
--- the rule that is broken behind so many turns
-abbrev pub line_fault : ℕ → ℕ → List ℕ
-line_fault number turns = codes "the journal breaks rule " ++ decimal number ++ codes " with " ++ decimal turns ++ codes " of its turns made: " ++ journal_rule number ++ codes "."
+-- the rule that a line breaks after so many turns
+abbrev pub line_fault : ℕ → ℕ → ℕ → List ℕ
+line_fault number turns line = codes "line " ++ decimal line ++ codes " of the text, with " ++ decimal turns ++ codes " turns of its journal made, breaks rule " ++ decimal number ++ codes ": " ++ journal_rule number ++ codes "."
 
 -- the rule of journals that is broken where so many turns, less one, were made
-abbrev pub journal_fault : ℕ → ℕ → List ℕ
-journal_fault number turn = if is_of_turns number then turn_fault number turn else line_fault number (turn - 1)
+abbrev pub journal_fault : ℕ → ℕ → ℕ → List ℕ
+journal_fault number turn line = if is_of_turns number then turn_fault number turn line else line_fault number (turn - 1) line
 
 -- where a script stopped, and why
 abbrev pub stop : (settle : ℕ) → (place why : List ℕ) → List ℕ
@@ -52,45 +54,31 @@ abbrev pub sentences : Reason → List (List ℕ)
 sentences Worked = []
 sentences Help = codes "the commands are:" ∷ commands
 sentences Usage = codes "the words after the program's name are no command; the commands are:" ∷ commands
-sentences (FaultyText number line text) = text_fault number line ∷ []
+sentences (FaultyText number line text detail) = text_fault number line ∷ []
 sentences (VersionEnd place settle) =
     stop settle place.items (codes "a hear command of this slot would need a version past the last one, 4294967295. Look at the first version of its device.") ∷ []
 sentences (Ring place settle) = stop settle place.items (codes "this slot is on a ring of links, so a path has no ends. Look at the links that lead on from it.") ∷ []
 sentences (Restless place settle) =
     stop settle place.items (codes "the program of this box made 256 steps in this settle, which is the most, and could make one more. Look at its when lines: they may lead round in a circle.") ∷ []
-sentences (FaultyJournal number turn) = journal_fault number turn ∷ []
+sentences (FaultyJournal number turn line text) = journal_fault number turn line ∷ []
 sentences NoMemory = codes "there wasn't enough memory. Nothing was printed." ∷ []
 sentences ReadFault = codes "standard input couldn't be read. Nothing was printed." ∷ []
 sentences WriteFault = codes "standard output couldn't be written. What was printed is only a part." ∷ []
 
 -- ---- lines
 
--- a line of what is told: whose it is, the sentence, and a line end
-abbrev pub told_line : List ℕ → List ℕ
-told_line sentence = codes "mediactl: " ++ sentence ++ 10 ∷ []
+-- a line that has bytes is shown
+abbrev pub line_shown : List ℕ → List ℕ
+line_shown bytes = if has_bytes bytes then quote bytes else []
 
--- a terminal can show the byte
-abbrev pub is_shown : ℕ → Bool
-is_shown byte = nat_le 32 byte && nat_le byte 126
+-- so is that of a text, and then what helps with the rule that it breaks
+abbrev pub text_shown : ℕ → List ℕ → Detail → List ℕ
+text_shown number bytes detail = if has_bytes bytes then quote bytes ++ flat_map told_line (hints number bytes detail) else []
 
-abbrev pub hex_digit : ℕ → ℕ
-hex_digit value = get_or (codes "0123456789abcdef") value 48
-
--- a byte as it is, or its two hexadecimal digits behind `\x`
-abbrev pub escaped : ℕ → List ℕ
-escaped byte = if is_shown byte then byte ∷ [] else 92 ∷ 120 ∷ hex_digit (byte / 16) ∷ hex_digit (byte % 16) ∷ []
-
--- a line that shows these bytes
-abbrev pub quote : List ℕ → List ℕ
-quote bytes = told_line (codes "the line is: " ++ flat_map escaped bytes)
-
--- a line that has bytes is shown, and then what helps with the rule that it breaks
-abbrev pub line_shown : ℕ → List ℕ → List ℕ
-line_shown number bytes = if has_bytes bytes then quote bytes ++ flat_map told_line (hints number bytes) else []
-
--- so is the line of a text that has a fault
+-- the line that is shown for a fault
 abbrev pub shown : Reason → List ℕ
-shown (FaultyText number line text) = line_shown number text.items
+shown (FaultyText number line text detail) = text_shown number text.items detail
+shown (FaultyJournal number turn line text) = line_shown text.items
 shown reason = []
 
 -- all that is told: nothing where all was done

@@ -1,12 +1,14 @@
 // How a call ended, in words.
 ghost use Rattle.std.specs.Prelude.{◌≡◌, ◌≢◌, ◌++◌, ◌-◌, ◌∷◌, [], IfOk, OnOk, flat_map, map};
-ghost use Rattle.mc_explain.specs.Explained.{commands, explained, is_of_turns, journal_fault, line_fault, line_shown, sentences, shown, stop, text_fault, told_line, turn_fault};
+ghost use Rattle.mc_explain.specs.Explained.{commands, explained, is_of_turns, journal_fault, line_fault, line_shown, sentences, shown, stop, text_fault, text_shown, turn_fault};
+ghost use Rattle.mc_explain.specs.Quotes.{told_line};
 ghost use Rattle.mc_explain.specs.declared.reason.Reason.TheVariants.{Worked};
 
 use crate::hints::put_hints;
 use crate::quote::put_quote;
 use crate::reason::Reason;
 use crate::sentences::{journal_rule, text_rule};
+use mc_lines::Detail;
 use mc_replay::rule::{NOT_ENABLED, NOT_NEXT};
 use std::alloc::{AllocError, Global};
 
@@ -35,30 +37,46 @@ pub fn explain(alloc: Global, reason: &Reason) -> Result<Vec<u8>, AllocError>
     Ok(told)
 }
 
-// Appends the line of a text that is shown for a reason, and what helps with its rule. Want of memory may come in the
-// middle, here and below.
+// Appends the line that is shown for a reason, and what helps with its rule. Want of memory may come in the middle,
+// here and below.
 fn put_shown(alloc: Global, reason: &Reason, out: &mut Vec<u8>) -> Result<(), AllocError>
     ensures { OnOk result (out.new.items ≡ out.old.items ++ shown reason.now) }
 {
     match reason {
-        Reason::FaultyText { number, text, .. } => put_line_shown(alloc, *number, text, out),
+        Reason::FaultyText {
+            number,
+            text,
+            detail,
+            ..
+        } => put_text_shown(alloc, *number, text, *detail, out),
+        Reason::FaultyJournal { text, .. } => put_line_shown(text, out),
         _ => Ok(()),
     }
 }
 
-fn put_line_shown(
+fn put_line_shown(text: &[u8], out: &mut Vec<u8>) -> Result<(), AllocError>
+    ensures { OnOk result (out.new.items ≡ out.old.items ++ line_shown text.now) }
+{
+    if text.is_empty() {
+        return Ok(());
+    }
+    put_quote(text, out)
+}
+
+fn put_text_shown(
     alloc: Global,
     number: u8,
     text: &[u8],
+    detail: Detail,
     out: &mut Vec<u8>,
 ) -> Result<(), AllocError>
-    ensures { OnOk result (out.new.items ≡ out.old.items ++ line_shown number text.now) }
+    ensures { OnOk result (out.new.items ≡ out.old.items ++ text_shown number text.now detail) }
 {
     if text.is_empty() {
         return Ok(());
     }
     put_quote(text, out)?;
-    put_hints(alloc, number, text, out)
+    put_hints(alloc, number, text, detail, out)
 }
 
 // Appends the sentences for a reason.
@@ -94,7 +112,12 @@ fn put_sentences(alloc: Global, reason: &Reason, out: &mut Vec<u8>) -> Result<()
             "the program of this box made 256 steps in this settle, which is the most, and could make one more. Look at its when lines: they may lead round in a circle.",
             out,
         ),
-        Reason::FaultyJournal { number, turn } => put_journal_fault(alloc, *number, *turn, out),
+        Reason::FaultyJournal {
+            number,
+            turn,
+            line,
+            ..
+        } => put_journal_fault(alloc, *number, *turn, *line, out),
         Reason::NoMemory => put_line("there wasn't enough memory. Nothing was printed.", out),
         Reason::ReadFault => {
             put_line("standard input couldn't be read. Nothing was printed.", out)
@@ -147,14 +170,15 @@ fn put_journal_fault(
     alloc: Global,
     number: u8,
     turn: u32,
+    line: u32,
     out: &mut Vec<u8>,
 ) -> Result<(), AllocError>
-    ensures { OnOk result (out.new.items ≡ out.old.items ++ told_line (journal_fault number turn)) }
+    ensures { OnOk result (out.new.items ≡ out.old.items ++ told_line (journal_fault number turn line)) }
 {
     if is_of_turns(number) {
-        put_turn_fault(alloc, number, turn, out)
+        put_turn_fault(alloc, number, turn, line, out)
     } else {
-        put_line_fault(alloc, number, turn.saturating_sub(1), out)
+        put_line_fault(alloc, number, turn.saturating_sub(1), line, out)
     }
 }
 
@@ -164,11 +188,19 @@ fn is_of_turns(number: u8) -> bool
     number == NOT_ENABLED || number == NOT_NEXT
 }
 
-fn put_turn_fault(alloc: Global, number: u8, turn: u32, out: &mut Vec<u8>) -> Result<(), AllocError>
-    ensures { OnOk result (out.new.items ≡ out.old.items ++ told_line (turn_fault number turn)) }
+fn put_turn_fault(
+    alloc: Global,
+    number: u8,
+    turn: u32,
+    line: u32,
+    out: &mut Vec<u8>,
+) -> Result<(), AllocError>
+    ensures { OnOk result (out.new.items ≡ out.old.items ++ told_line (turn_fault number turn line)) }
 {
     let rule = journal_rule(number);
-    let sentence = format!(in alloc; "turn {turn} of the journal breaks rule {number}: {rule}.")?;
+    let sentence = format!(in alloc;
+        "line {line} of the text, turn {turn} of its journal, breaks rule {number}: {rule}."
+    )?;
     put_line(&sentence, out)
 }
 
@@ -176,13 +208,14 @@ fn put_line_fault(
     alloc: Global,
     number: u8,
     turns: u32,
+    line: u32,
     out: &mut Vec<u8>,
 ) -> Result<(), AllocError>
-    ensures { OnOk result (out.new.items ≡ out.old.items ++ told_line (line_fault number turns)) }
+    ensures { OnOk result (out.new.items ≡ out.old.items ++ told_line (line_fault number turns line)) }
 {
     let rule = journal_rule(number);
     let sentence = format!(in alloc;
-        "the journal breaks rule {number} with {turns} of its turns made: {rule}."
+        "line {line} of the text, with {turns} turns of its journal made, breaks rule {number}: {rule}."
     )?;
     put_line(&sentence, out)
 }

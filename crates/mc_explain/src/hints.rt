@@ -1,14 +1,21 @@
 // What else helps where a line breaks a rule.
 
-ghost use Rattle.std.specs.Prelude.{◌≡◌, ◌++◌, ◌∷◌, [], OnOk, flat_map, map};
-ghost use Rattle.mc_explain.specs.Explained.{told_line};
-ghost use Rattle.mc_explain.specs.Hints.{first_word, form_hint, form_of, hints, limit_hint, limits_of, said_of, wants_form};
+ghost use Rattle.std.specs.Prelude.{◌≡◌, ◌++◌, ◌∷◌, [], OnOk, codes, flat_map, map};
+ghost use Rattle.mc_explain.specs.Hints.{at_most, detail_hint, first_word, form_hint, form_of, hints, limit_says, said_of, wants_form, why_says, word_at, word_says};
+ghost use Rattle.mc_explain.specs.Quotes.{told_line};
 
 use crate::explanation::put_line;
+use crate::quote::put_escaped;
+use mc_lines::limit::{COMMAND_LIMIT, LIST_LIMIT};
+use mc_lines::{Detail, Limit, Why};
+use mc_model::TUNNEL_LIMIT;
+use mc_plan::limit::CHANNEL_LIMIT;
+use mc_program::limit::{STATE_LIMIT, TRANSITION_LIMIT};
 use mc_script::rule::{
-    EXTRA_WORD, LIMIT_PASSED, MISSING_WORD, NO_SUCH_SLOT, UNDECLARED, WRONG_VERSION, WRONG_WORD,
+    EXTRA_WORD, MISSING_WORD, NO_SUCH_SLOT, UNDECLARED, WRONG_VERSION, WRONG_WORD,
 };
-use mc_text::next_word;
+use mc_text::limit::{BOX_LIMIT, CODEC_LIMIT, SLOT_LIMIT, TOLD_LIMIT};
+use mc_text::{Words, next_word};
 use std::alloc::{AllocError, Global};
 
 // The forms of the lines that a word opens.
@@ -61,72 +68,128 @@ const FORMS: [(&str, &str); 19] = [
     ("settle", "settle, after begin"),
 ];
 
-// The limits of what they declare.
-const LIMITS: [(&str, &str); 14] = [
-    ("codec", "a text has at most 64 codecs"),
-    (
-        "dev",
-        "a text has at most 256 boxes, and a dev line 8 codecs",
-    ),
-    ("feat", "a text has at most 256 boxes"),
-    ("send", "a send line has at most 8 codecs"),
-    (
-        "chan",
-        "a text has at most 1024 channels, and a box 64 slots",
-    ),
-    (
-        "also",
-        "a channel has at most 8 tunnels, and a box 64 slots",
-    ),
-    ("prog", "a program has at most 64 states"),
-    (
-        "when",
-        "a state has at most 16 transitions, and a text 64 told words",
-    ),
-    ("set", "a text has at most 4096 commands"),
-    ("link", "a text has at most 4096 commands"),
-    ("hear", "a text has at most 4096 commands"),
-    ("talk", "a text has at most 4096 commands"),
-    ("tell", "a text has at most 4096 commands"),
-    ("settle", "a text has at most 4096 commands"),
-];
-
-/// Appends what helps with a rule that a line breaks. Want of memory may come in the middle.
+/// Appends what helps with a rule that a line breaks: the word at fault or the limit, and the form of such a line. Want
+/// of memory may come in the middle, here and below.
 pub fn put_hints(
     alloc: Global,
     number: u8,
     line: &[u8],
+    detail: Detail,
     out: &mut Vec<u8>,
 ) -> Result<(), AllocError>
-    ensures { OnOk result (out.new.items ≡ out.old.items ++ flat_map told_line (hints number line.now)) }
+    ensures { OnOk result (out.new.items
+        ≡ out.old.items ++ flat_map told_line (hints number line.now detail)) }
 {
-    if number == LIMIT_PASSED {
-        put_limits(alloc, line, out)
-    } else if wants_form(number) {
-        put_form(alloc, line, out)
-    } else {
-        Ok(())
+    put_detail(alloc, detail, line, out)?;
+    put_form(alloc, number, line, out)
+}
+
+fn put_detail(
+    alloc: Global,
+    detail: Detail,
+    line: &[u8],
+    out: &mut Vec<u8>,
+) -> Result<(), AllocError>
+    ensures { OnOk result (out.new.items
+        ≡ out.old.items ++ flat_map told_line (detail_hint detail line.now)) }
+{
+    match detail {
+        Detail::Nothing => Ok(()),
+        Detail::Word { place, why } => put_word(word_at(line, place), why, out),
+        Detail::Limit(limit) => put_limit(alloc, limit, out),
     }
 }
 
-fn put_form(alloc: Global, line: &[u8], out: &mut Vec<u8>) -> Result<(), AllocError>
-    ensures { OnOk result (out.new.items ≡ out.old.items ++ flat_map told_line (form_hint line.now)) }
+// Appends a word, and why it is at fault.
+fn put_word(word: &[u8], why: Why, out: &mut Vec<u8>) -> Result<(), AllocError>
+    ensures { OnOk result (out.new.items ≡ out.old.items ++ told_line (word_says word.now why)) }
 {
-    put_hint(alloc, "such a line: ", form_of(first_word(line)), out)
+    out.extend_from_slice(b"mediactl: at fault is ")?;
+    put_escaped(word, out)?;
+    out.extend_from_slice(b": ")?;
+    out.extend_from_slice(why_says(why).as_bytes())?;
+    out.push(b'\n')?;
+    Ok(())
 }
 
-fn put_limits(alloc: Global, line: &[u8], out: &mut Vec<u8>) -> Result<(), AllocError>
-    ensures { OnOk result (out.new.items ≡ out.old.items ++ flat_map told_line (limit_hint line.now)) }
+fn why_says(why: Why) -> &'static str
+    ensures { result.now ≡ why_says why }
 {
-    put_hint(alloc, "the limits: ", limits_of(first_word(line)), out)
+    match why {
+        Why::Undeclared => "it isn't declared",
+        Why::NoSlot => "the box has no slot of that name",
+        Why::Opening => "no line may begin with it here",
+        Why::Fixed => "another word must stand in its place",
+        Why::Misspelt => {
+            "a name begins with a small letter, and has small letters, digits, - and _ alone"
+        }
+        Why::NotNext => "another state of the prog line is next",
+        Why::NoDevice => "this box is no device",
+        Why::NoFeature => "this box is no feature",
+        Why::NoProgram => "this box has no program",
+    }
 }
 
-// Appends a line of two parts.
-fn put_hint(alloc: Global, head: &str, rest: &str, out: &mut Vec<u8>) -> Result<(), AllocError>
+// Appends which limit was passed, and its value.
+fn put_limit(alloc: Global, limit: Limit, out: &mut Vec<u8>) -> Result<(), AllocError>
     ensures { OnOk result (out.new.items
-        ≡ out.old.items ++ flat_map told_line ((head.now ++ rest.now) ∷ [])) }
+        ≡ out.old.items ++ told_line (codes "the limit: " ++ limit_says limit)) }
 {
-    let sentence = format!(in alloc; "{head}{rest}")?;
+    match limit {
+        Limit::Codecs => put_most(alloc, "a text", CODEC_LIMIT, "codecs", out),
+        Limit::ListedCodecs => put_most(
+            alloc,
+            "a dev or send line",
+            LIST_LIMIT as usize,
+            "codecs",
+            out,
+        ),
+        Limit::Boxes => put_most(alloc, "a text", BOX_LIMIT, "boxes", out),
+        Limit::Channels => put_most(alloc, "a text", CHANNEL_LIMIT, "channels", out),
+        Limit::Tunnels => put_most(alloc, "a channel", TUNNEL_LIMIT, "tunnels", out),
+        Limit::Slots => put_most(alloc, "a box", SLOT_LIMIT, "slots", out),
+        Limit::States => put_most(alloc, "a program", STATE_LIMIT as usize, "states", out),
+        Limit::Transitions => put_most(alloc, "a state", TRANSITION_LIMIT, "transitions", out),
+        Limit::ToldWords => put_most(alloc, "a text", TOLD_LIMIT, "told words", out),
+        Limit::Commands => put_most(alloc, "a text", COMMAND_LIMIT, "commands", out),
+    }
+}
+
+// Appends how many of some things another may have.
+fn put_most(
+    alloc: Global,
+    whole: &str,
+    most: usize,
+    parts: &str,
+    out: &mut Vec<u8>,
+) -> Result<(), AllocError>
+    ensures { OnOk result (out.new.items
+        ≡ out.old.items ++ told_line (codes "the limit: " ++ at_most whole.now most parts.now)) }
+{
+    let sentence = format!(in alloc; "the limit: {whole} has at most {most} {parts}")?;
+    put_line(&sentence, out)
+}
+
+// The word at a place of a line; none where the line has no such word.
+fn word_at(line: &[u8], place: usize) -> &[u8]
+    ensures { result.now ≡ word_at line.now place }
+{
+    let mut words = Words::new(line);
+    for _ in 0..place {
+        let _ = words.next_word();
+    }
+    words.next_word().unwrap_or(&[])
+}
+
+// Appends the form of such a line, where it helps with the rule.
+fn put_form(alloc: Global, number: u8, line: &[u8], out: &mut Vec<u8>) -> Result<(), AllocError>
+    ensures { OnOk result (out.new.items ≡ out.old.items ++ flat_map told_line (form_hint number line.now)) }
+{
+    if !wants_form(number) {
+        return Ok(());
+    }
+    let form = form_of(first_word(line));
+    let sentence = format!(in alloc; "such a line: {form}")?;
     put_line(&sentence, out)
 }
 
@@ -155,12 +218,6 @@ fn form_of(word: &[u8]) -> &'static str
     ensures { result.now ≡ form_of word.now }
 {
     said_of(&FORMS, word)
-}
-
-fn limits_of(word: &[u8]) -> &'static str
-    ensures { result.now ≡ limits_of word.now }
-{
-    said_of(&LIMITS, word)
 }
 
 // What is said of the lines that a word opens, among words with that.

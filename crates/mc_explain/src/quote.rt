@@ -1,6 +1,6 @@
 // A line of a text, as a terminal can show it.
 ghost use Rattle.std.specs.Prelude.{◌≡◌, ◌<◌, ◌++◌, OnOk, flat_map};
-ghost use Rattle.mc_explain.specs.Explained.{escaped, hex_digit, is_shown, quote};
+ghost use Rattle.mc_explain.specs.Quotes.{escaped, hex_digit, is_shown, quote};
 
 use std::alloc::AllocError;
 
@@ -14,7 +14,8 @@ pub fn put_quote(bytes: &[u8], out: &mut Vec<u8>) -> Result<(), AllocError>
     Ok(())
 }
 
-fn put_escaped(bytes: &[u8], out: &mut Vec<u8>) -> Result<(), AllocError>
+/// Appends bytes as a terminal can show them.
+pub fn put_escaped(bytes: &[u8], out: &mut Vec<u8>) -> Result<(), AllocError>
     ensures { OnOk result (out.new.items ≡ out.old.items ++ flat_map escaped bytes.now) }
 {
     for byte in bytes {
@@ -23,7 +24,7 @@ fn put_escaped(bytes: &[u8], out: &mut Vec<u8>) -> Result<(), AllocError>
     Ok(())
 }
 
-// Appends a byte as it is, or its two hexadecimal digits behind `\x`.
+// Appends a byte as it is, or its two hexadecimal digits after `\x`.
 fn put_byte(byte: u8, out: &mut Vec<u8>) -> Result<(), AllocError>
     ensures { OnOk result (out.new.items ≡ out.old.items ++ escaped byte) }
 {

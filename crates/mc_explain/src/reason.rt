@@ -1,9 +1,10 @@
 // Why a call of the program ended.
 ghost use Rattle.std.specs.Prelude.{◌≡◌, ◌-◌, [], IfOk, drop, get_or, take};
-ghost use Rattle.mc_explain.specs.Reasons.{IsTextFault};
+ghost use Rattle.mc_explain.specs.Reasons.{IsFaultOfJournal, IsTextFault, line_at};
 ghost use Rattle.mc_script.specs.declared.line.TheConstants.{LINE_LIMIT};
 ghost use Rattle.mc_text.specs.Lines.{lines};
 
+use mc_lines::Detail;
 use mc_script::LINE_LIMIT;
 use mc_text::next_line;
 use std::alloc::{AllocError, Global};
@@ -17,12 +18,13 @@ pub enum Reason {
     Help,
     /// The words are no command.
     Usage,
-    /// The text has a fault: the number of the rule that the line breaks, the line's number from 1, and its own bytes
-    /// as far as a line may have some. There are none at the end of the text.
+    /// The text has a fault: the number of the rule that the line breaks, the line's number from 1, its own bytes as far
+    /// as a line may have some, and what else is known of the fault. There are no bytes at the end of the text.
     FaultyText {
         number: u8,
         line: u32,
         text: Vec<u8>,
+        detail: Detail,
     },
     /// The script came to a Hear at the last version: the slot's word, and the number of the settle.
     VersionEnd {
@@ -40,10 +42,13 @@ pub enum Reason {
         place: Vec<u8>,
         settle: usize,
     },
-    /// The journal has a fault: the number of its rule, and one more than the turns before it.
+    /// The journal has a fault: the number of its rule, one more than the turns before it, the number of the line in the
+    /// text that the journal follows, from 1, and the line's bytes. There are none at the end of the journal.
     FaultyJournal {
         number: u8,
         turn: u32,
+        line: u32,
+        text: Vec<u8>,
     },
     /// Memory was wanting.
     NoMemory,
@@ -54,18 +59,51 @@ pub enum Reason {
 }
 
 impl Reason {
-    /// That this line of the text has a fault of this number.
+    /// That this line of the text has a fault of this number, of which this much more is known.
     pub fn faulty_text(
         alloc: Global,
         number: u8,
         line: u32,
+        detail: Detail,
         text: &[u8],
     ) -> Result<Reason, AllocError>
-        ensures { IfOk result (IsTextFault number line text.now) }
+        ensures { IfOk result (IsTextFault number line detail text.now) }
     {
-        let text = Vec::from_slice(alloc, line_at(text, line))?;
-        Ok(Reason::FaultyText { number, line, text })
+        let text = kept_line(alloc, text, line)?;
+        Ok(Reason::FaultyText {
+            number,
+            line,
+            text,
+            detail,
+        })
     }
+
+    /// That the journal of a text has a fault of this number, with so many turns before it less one, on this line of the
+    /// text.
+    pub fn faulty_journal(
+        alloc: Global,
+        number: u8,
+        turn: u32,
+        line: u32,
+        text: &[u8],
+    ) -> Result<Reason, AllocError>
+        ensures { IfOk result (IsFaultOfJournal number turn line text.now) }
+    {
+        let text = kept_line(alloc, text, line)?;
+        Ok(Reason::FaultyJournal {
+            number,
+            turn,
+            line,
+            text,
+        })
+    }
+}
+
+// The bytes of a line, by its number from 1, as they are kept of a fault.
+fn kept_line(alloc: Global, text: &[u8], line: u32) -> Result<Vec<u8>, AllocError>
+    ensures { IfOk result (λ kept. kept.items ≡ line_at line text.now) }
+{
+    Vec::from_slice(alloc, line_at(text, line))
 }
 
 // The bytes of a line, by its number from 1, as far as a line may have some.

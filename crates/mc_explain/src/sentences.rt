@@ -23,7 +23,7 @@ const TEXT_RULES: [(u8, &str); 18] = [
     ),
     (
         text::WRONG_WORD,
-        "no line may begin with its first word here, or a later word of it may not stand in its place",
+        "a word of the line may not stand in its place",
     ),
     (
         text::MISSING_WORD,
@@ -45,10 +45,7 @@ const TEXT_RULES: [(u8, &str); 18] = [
         text::TWO_MEDIA,
         "the line links a slot for audio and one for video",
     ),
-    (
-        text::LIMIT_PASSED,
-        "the line passes a limit: 64 codecs, 8 codecs of a dev or send line, 256 boxes, 1024 channels, 8 tunnels of a channel, 64 slots of a box, 64 states of a program, 16 transitions of a state, 64 told words or 4096 commands",
-    ),
+    (text::LIMIT_PASSED, "the line passes a limit of texts"),
     (
         text::UNFINISHED,
         "the program that ends here lacks a state, or a state of it lacks the goal of a slot",

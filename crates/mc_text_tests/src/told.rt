@@ -2,6 +2,7 @@
 
 use crate::equal::is_equal;
 use mc_explain::{Reason, explain};
+use mc_net::{Detail, Limit, Why};
 use std::alloc::{AllocError, Global};
 use std::process::Abort;
 
@@ -47,20 +48,6 @@ fn each_reason_is_told_in_words(rt: HostRuntime) -> Result<(), AllocError> {
             Reason::Usage,
             "mediactl: the words after the program's name are no command; the commands are:\n",
         ),
-        (
-            Reason::FaultyJournal {
-                number: 31,
-                turn: 2,
-            },
-            "mediactl: turn 2 of the journal breaks rule 31: this turn can't happen here",
-        ),
-        (
-            Reason::FaultyJournal {
-                number: 33,
-                turn: 17,
-            },
-            "mediactl: the journal breaks rule 33 with 16 of its turns made: not all is settled",
-        ),
         (Reason::NoMemory, "memory"),
         (Reason::ReadFault, "standard input"),
         (Reason::WriteFault, "standard output"),
@@ -97,10 +84,31 @@ fn each_stop_is_told_by_its_place(rt: HostRuntime) -> Result<(), AllocError> {
     are_told(&rt, rt.alloc(), &table)
 }
 
+// A journal's fault is told by its line, and by the turns before it; then the line's bytes are shown.
+#[test]
+fn a_fault_of_a_journal_is_told_by_its_line(rt: HostRuntime) -> Result<(), AllocError> {
+    const JOURNAL: &[u8] = b"journal\nturn take bob a\n";
+    let table = [
+        (
+            Reason::faulty_journal(rt.alloc(), 31, 1, 2, JOURNAL)?,
+            "mediactl: line 2 of the text, turn 1 of its journal, breaks rule 31: this turn can't happen here",
+        ),
+        (
+            Reason::faulty_journal(rt.alloc(), 31, 1, 2, JOURNAL)?,
+            ".\nmediactl: the line is: turn take bob a\n",
+        ),
+        (
+            Reason::faulty_journal(rt.alloc(), 35, 17, 3, JOURNAL)?,
+            "mediactl: line 3 of the text, with 16 turns of its journal made, breaks rule 35: the journal ends",
+        ),
+    ];
+    are_told(&rt, rt.alloc(), &table)
+}
+
 // The fault's number and its line are told, and then the line's bytes.
 #[test]
 fn a_faulty_line_is_shown(rt: HostRuntime) -> Result<(), AllocError> {
-    let reason = Reason::faulty_text(rt.alloc(), 3, 2, TEXT)?;
+    let reason = Reason::faulty_text(rt.alloc(), 3, 2, Detail::Nothing, TEXT)?;
     is_told(
         &rt,
         rt.alloc(),
@@ -122,28 +130,33 @@ fn nothing_is_told_where_all_was_done(rt: HostRuntime) -> Result<(), AllocError>
     Ok(())
 }
 
-// The form of a line goes by its first word, and so do the limits of what it declares.
+// The form of a line goes by its first word. Before it the word at fault is told.
 #[test]
 fn the_form_of_a_line_is_told(rt: HostRuntime) -> Result<(), AllocError> {
-    let missing = Reason::faulty_text(rt.alloc(), 6, 1, b"set alice a\n")?;
-    let unknown = Reason::faulty_text(rt.alloc(), 5, 1, b"  fly away\n")?;
-    let many = Reason::faulty_text(rt.alloc(), 14, 1, b"feat f")?;
-    is_told(
-        &rt,
-        rt.alloc(),
-        &missing,
-        "\nmediactl: such a line: set BOX SLOT GOAL after begin, with open, close or hold for GOAL\n",
-    )?;
-    is_told(
-        &rt,
-        rt.alloc(),
-        &unknown,
-        "\nmediactl: such a line: no line of a text begins with this word\n",
-    )?;
-    is_told(
-        &rt,
-        rt.alloc(),
-        &many,
-        "\nmediactl: the limits: a text has at most 256 boxes\n",
-    )
+    let opening = Detail::Word {
+        place: 0,
+        why: Why::Opening,
+    };
+    let table = [
+        (
+            Reason::faulty_text(rt.alloc(), 6, 1, Detail::Nothing, b"set alice a\n")?,
+            "\nmediactl: such a line: set BOX SLOT GOAL after begin, with open, close or hold for GOAL\n",
+        ),
+        (
+            Reason::faulty_text(rt.alloc(), 5, 1, opening, b"  fly away\n")?,
+            "\nmediactl: at fault is fly: no line may begin with it here\nmediactl: such a line: no line of a text begins with this word\n",
+        ),
+    ];
+    are_told(&rt, rt.alloc(), &table)
+}
+
+// At rule 14 the limit is told, with its value.
+#[test]
+fn a_limit_is_told_with_its_value(rt: HostRuntime) -> Result<(), AllocError> {
+    let boxes = Detail::Limit(Limit::Boxes);
+    let table = [(
+        Reason::faulty_text(rt.alloc(), 14, 1, boxes, b"feat f")?,
+        "\nmediactl: the limit: a text has at most 256 boxes\n",
+    )];
+    are_told(&rt, rt.alloc(), &table)
 }

@@ -1,10 +1,9 @@
 -- `check` accepts what a run printed as its journal, behind the text of the run.
-use Rattle.std.proofs.Common.{◌≡◌, ◌≤◌, ◌++◌, ℕ, Bool, true, false, IsTrue, List, drop, length, map, Option, Some, refl, ap, sym, ◌∙◌, subst, append_assoc, arith}
+use Rattle.std.proofs.Common.{◌≡◌, ◌≤◌, ℕ, true, false, List, drop, length, map, Option, Some, refl, ap, sym, ◌∙◌, subst, append_assoc, arith}
 use Rattle.std.proofs.Math.Seq.{drop-append_seam}
 use Rattle.mc_box.specs.BoxShapes.{BoxShapeState}
 use Rattle.mc_box.specs.declared.event.Turn.{Turn}
 use Rattle.mc_journal.specs.Printed.{print_journal}
-use Rattle.mc_journal.specs.Readings.{journal_lines}
 use Rattle.mc_lines.specs.Rules.{text_limit}
 use Rattle.mc_lines.specs.declared.tail.Tail.TheVariants.{Nothing, Journal}
 use Rattle.mc_model.specs.Sound.{IsSound}
@@ -20,14 +19,11 @@ use Rattle.mc_script.specs.declared.command.JournalLine.{JournalLine}
 use Rattle.mc_text.specs.NameLists.{NameLists}
 use Rattle.mc_top.specs.Accepted.{IsAccepted, PrintedJournalsAreAccepted, with_printed}
 use Rattle.mc_top.specs.Behind.{HasGoodJournal, HasJournal, has_bad_tail, is_too_long, tail_lines}
-use Rattle.mc_top.specs.Modes.{CanCheck, output_of}
-use Rattle.mc_top.specs.Printed.{journal_part, journal_text}
+use Rattle.mc_top.specs.Printed.{journal_text}
 use Rattle.mc_top.specs.TextAlone.{SettlesText}
-use Rattle.mc_top.specs.Top.{RefusesCheck, Worked}
+use Rattle.mc_top.specs.Top.{Worked}
 use Rattle.mc_top.proofs.GoodJournals.{printed_journals_are_good, printed_lines}
 use Rattle.mc_top.proofs.Told.{good_has_none}
-use Rattle.mc_words.specs.Commands.{prints_journal}
-use Rattle.mc_words.specs.declared.words.Mode.{Mode}
 use Rattle.mc_words.specs.declared.words.Mode.TheVariants.{Check, Gen, One, Run, Scene}
 
 -- ---- the same network

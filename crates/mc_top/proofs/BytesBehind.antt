@@ -71,6 +71,10 @@ bytes_within false text rest is =
     let short : length text ≤ JOURNAL_TEXT_LIMIT = grind (arith, is) in
     omega (arith, short, length-drop rest text)
 
+-- what stands before the last line end is no longer than all
+pub last_within : (bytes : List ℕ) → length (before_last is_line_end bytes) ≤ length bytes
+last_within bytes = omega (arith, length-take (length bytes - suffix_len is_inside bytes - 1) bytes)
+
 -- the last piece, where it is empty, is no line
 pieces_fewer : (pieces : List (List ℕ)) → length (without_empty_last pieces) ≤ length pieces
 pieces_fewer [] = omega arith

@@ -1,17 +1,22 @@
 -- What is told of how a call ended, where it was to deliver something.
-use Rattle.std.proofs.Common.{◌≡◌, ◌⊎◌, inl, inr, ℕ, List, [], ◌∷◌, ◌++◌, ◌+◌, ◌-◌, ◌∙◌, Bool, true, false, if◌then◌else◌, Option, Some, None, Vec, String, Global, ap, map, refl, string_bytes, subst, sym}
+use Rattle.std.proofs.Common.{◌≡◌, inl, inr, ℕ, List, Bool, true, false, if◌then◌else◌, Option, Some, None, Vec, String, Global, map, refl, string_bytes, subst, sym}
 use Rattle.std.specs.Io.KnownBytes.{Appends}
-use Rattle.mc_explain.specs.Reasons.{IsTextFault, line_at}
+use Rattle.mc_explain.specs.Reasons.{IsFaultOfJournal, IsTextFault}
 use Rattle.mc_explain.specs.declared.reason.Reason.{Reason}
 use Rattle.mc_explain.specs.declared.reason.Reason.TheVariants as reason
 use Rattle.mc_lines.specs.declared.tail.Tail.{Tail}
 use Rattle.mc_lines.specs.declared.tail.Tail.TheVariants.{Nothing, Journal}
+use Rattle.mc_net.specs.Details.{fault_detail}
+use Rattle.mc_net.specs.Nets.{DeclaresNet}
+use Rattle.mc_net.specs.TextLaws.{first_bytes}
 use Rattle.mc_net.specs.Texts.{IsFault}
+use Rattle.mc_net.specs.declared.net.Net.{Net}
 use Rattle.mc_net.proofs.Faults.{declares_or_faults}
 use Rattle.mc_net.proofs.FirstBytes.{faults_of_the_first_bytes}
 use Rattle.mc_scene.specs.Generated.{generated}
 use Rattle.mc_scene.specs.Scenes.{scene_text}
 use Rattle.mc_script.specs.declared.command.JournalLine.{JournalLine}
+use Rattle.mc_top.specs.Behind.{IsLineOfFault}
 use Rattle.mc_top.specs.Modes.{CanRun, IsWithinLimits, tail_of, text_for}
 use Rattle.mc_model.specs.Worlds.{WorldState}
 use Rattle.mc_text.specs.NameLists.{NameLists}
@@ -20,9 +25,9 @@ use Rattle.mc_top.specs.Statuses.{due_by}
 use Rattle.mc_top.specs.declared.report.Report.{Report}
 use Rattle.mc_top.specs.declared.run.Run.{Run as Ran}
 use Rattle.mc_top.specs.declared.stop.Stop.{Stop}
-use Rattle.mc_top.specs.Reasons.{EndsFor, Explains, ExplainsDue, IsFaultByWords, IsFaultOf, IsFaultOfTold, PrintsStop, usage_reason}
+use Rattle.mc_top.specs.Reasons.{EndsFor, Explains, ExplainsDue, IsFaultByWords, IsFaultOf, IsFaultOfTold, IsJournalFaultOf, IsTextFaultOf, PrintsStop, Told, of_journal, of_text, usage_reason}
 use Rattle.mc_top.specs.Top.{Delivers, IsTextFor, IsTextOf}
-use Rattle.mc_top.specs.declared.status.TheConstants.{FAULTY_TEXT, JOURNAL_FAULT, USAGE, WRITE_FAULT}
+use Rattle.mc_top.specs.declared.status.TheConstants.{FAULTY_TEXT, JOURNAL_FAULT, USAGE}
 use Rattle.mc_top.specs.declared.top.Done.{Done}
 use Rattle.mc_top.proofs.MadeTexts.{generated_can_run, scenes_can_run}
 use Rattle.mc_words.proofs.OneMode.{asks_for_one}
@@ -32,7 +37,7 @@ use Rattle.mc_words.specs.declared.words.Mode.{Mode}
 use Rattle.mc_words.specs.declared.words.Mode.TheVariants.{Check, Gen, One, Run, Scene}
 
 -- where what is due was written whole it is explained as it was to be, and else by the failed write
-pub explains_delivered : (Tells : ℕ → ℕ → List ℕ → Type 0) (given : Reason) (due : ℕ) (output : List ℕ) (old new : Option (List ℕ)) (done : Done)
+pub explains_delivered : (Tells : Told → Type 0) (given : Reason) (due : ℕ) (output : List ℕ) (old new : Option (List ℕ)) (done : Done)
     → ExplainsDue Tells given due output done.journal.items → Delivers done.status due old new output → EndsFor given due done
     → Explains Tells done.reason done.status old new done.journal.items
 explains_delivered Tells given due output old new done explains delivers (inl (is, told)) =
@@ -41,48 +46,54 @@ explains_delivered Tells given due output old new done explains delivers (inl (i
 explains_delivered Tells given due output old new done explains delivers (inr (is, told)) =
     subst (λ (r : Reason). Explains Tells r done.status old new done.journal.items) (sym told) is
 
--- the same by less that is said of a text's fault
-pub explains_weaker : (P Q : ℕ → ℕ → List ℕ → Type 0) → ((number line : ℕ) (shown : List ℕ) → P number line shown → Q number line shown)
+-- the same by less that is said of a fault
+pub explains_weaker : (P Q : Told → Type 0) → ((fault : Told) → P fault → Q fault)
     → (told : Reason) (status : ℕ) (old new : Option (List ℕ)) (journal : List JournalLine) → Explains P told status old new journal → Explains Q told status old new journal
 explains_weaker P Q weaker reason.Worked status old new journal is = is
 explains_weaker P Q weaker reason.Help status old new journal is = is
 explains_weaker P Q weaker reason.Usage status old new journal is = is
-explains_weaker P Q weaker (reason.FaultyText number line text) status old new journal (is, printed, tells) = (is, printed, weaker number line text.items tells)
+explains_weaker P Q weaker (reason.FaultyText number line text detail) status old new journal (is, printed, tells) = (is, printed, weaker (of_text number line text.items detail) tells)
 explains_weaker P Q weaker (reason.VersionEnd place settle) status old new journal is = is
 explains_weaker P Q weaker (reason.Ring place settle) status old new journal is = is
 explains_weaker P Q weaker (reason.Restless place settle) status old new journal is = is
-explains_weaker P Q weaker (reason.FaultyJournal number turn) status old new journal is = is
+explains_weaker P Q weaker (reason.FaultyJournal number turn line text) status old new journal (is, printed, tells) = (is, printed, weaker (of_journal line text.items) tells)
 explains_weaker P Q weaker reason.NoMemory status old new journal is = is
 explains_weaker P Q weaker reason.ReadFault status old new journal is = is
 explains_weaker P Q weaker reason.WriteFault status old new journal is = is
 
--- the fault of a text is told by its line
+-- the fault of a text is told by its line, and by what else is known of it
 pub explains_fault : (tail : Tail) (text : List ℕ) (number line : ℕ) (told : Reason) (output : List ℕ) (journal : List JournalLine)
-    → IsTextFault number line text told → IsFault tail text number line → output ≡ fault_line number line → ExplainsDue (IsFaultOf tail text) told FAULTY_TEXT output journal
+    → IsTextFault number line (fault_detail tail text number line) text told → IsFault tail text number line → output ≡ fault_line number line
+    → ExplainsDue (IsFaultOf tail text) told FAULTY_TEXT output journal
 explains_fault tail text number line told output journal (shown, is, bytes) fault printed = λ old new appends.
     subst (λ (r : Reason). Explains (IsFaultOf tail text) r FAULTY_TEXT old new journal) (sym is)
-    (refl, subst (Appends old new) printed appends, (fault, bytes))
+    (refl, subst (Appends old new) printed appends, (fault, bytes, refl))
 
 -- the fault of what was read is that of what was left
-told_of : (tail : Tail) (told : Option (List ℕ)) (text : List ℕ) → IsTextOf tail told text → (number line : ℕ) (shown : List ℕ) → IsFaultOf tail text number line shown → IsFaultOfTold tail told number line shown
-told_of tail None text read number line shown fault = tt
-told_of tail (Some all) text read number line shown (fault, is) =
-    (faults_of_the_first_bytes tail all number line (subst (λ (t : List ℕ). IsFault tail t number line) read fault), is ∙ ap (line_at line) read)
+told_of : (tail : Tail) (told : Option (List ℕ)) (text : List ℕ) → IsTextOf tail told text → (fault : Told) → IsFaultOf tail text fault → IsFaultOfTold tail told fault
+told_of tail None text read (of_text number line shown detail) is = tt
+told_of tail None text read (of_journal line shown) is = tt
+told_of tail (Some all) text read (of_text number line shown detail) is =
+    let here : IsTextFaultOf tail (first_bytes tail all) number line shown detail = subst (λ (t : List ℕ). IsTextFaultOf tail t number line shown detail) read is in
+    (faults_of_the_first_bytes tail all number line here.0, here)
+told_of tail (Some all) text read (of_journal line shown) is = subst (λ (t : List ℕ). IsJournalFaultOf tail t line shown) read is
 
 -- a text that can be run has none
 none_of : (text : List ℕ) (number line : ℕ) → CanRun text → IsFault Nothing text number line → ⊥
 none_of text number line can fault = declares_or_faults Nothing text can.0 number line can.1 fault
 
+none_told : (text made : List ℕ) (fault : Told) → text ≡ made → CanRun made → IsFaultOf Nothing text fault → ⊥
+none_told text made (of_text number line shown detail) is can fault = none_of made number line can (subst (λ (t : List ℕ). IsFault Nothing t number line) is fault.0)
+none_told text made (of_journal line shown) is can fault = fault
+
 -- so of the text on which a mode works
 pub told_for : (mode : Mode) (left : Option (List ℕ)) (text : List ℕ) → IsWithinLimits mode → IsTextFor mode left text
-    → (number line : ℕ) (shown : List ℕ) → IsFaultOf (tail_of mode) text number line shown → IsFaultOfTold (tail_of mode) (text_for mode left) number line shown
-told_for (Run asked) left text within is number line shown fault = told_of Nothing left text is number line shown fault
-told_for (One state asked) left text within is number line shown fault = told_of Nothing left text is number line shown fault
-told_for Check left text within is number line shown fault = told_of Journal left text is number line shown fault
-told_for (Gen number size) left text within is rule line shown fault =
-    absurd (none_of (generated number size) rule line (generated_can_run number size within.1 within.2) (subst (λ (t : List ℕ). IsFault Nothing t rule line) is fault.0))
-told_for (Scene scene) left text within is rule line shown fault =
-    absurd (none_of (scene_text scene) rule line (scenes_can_run scene) (subst (λ (t : List ℕ). IsFault Nothing t rule line) is fault.0))
+    → (fault : Told) → IsFaultOf (tail_of mode) text fault → IsFaultOfTold (tail_of mode) (text_for mode left) fault
+told_for (Run asked) left text within is fault found = told_of Nothing left text is fault found
+told_for (One state asked) left text within is fault found = told_of Nothing left text is fault found
+told_for Check left text within is fault found = told_of Journal left text is fault found
+told_for (Gen number size) left text within is fault found = absurd (none_told text (generated number size) fault is (generated_can_run number size within.1 within.2) found)
+told_for (Scene scene) left text within is fault found = absurd (none_told text (scene_text scene) fault is (scenes_can_run scene) found)
 
 -- ---- scripts and words
 
@@ -104,17 +115,20 @@ explains_run tail text told run old new done explains due journal delivers ends 
     (subst (λ (lines : Vec JournalLine Global). ExplainsDue (IsFaultOf tail text) told (due_by run.stop) run.output.items lines.items) (sym journal) (explains tail text)))
     delivers ends
 
--- a journal's fault
-pub explains_journal_fault : (text : List ℕ) (number turn : ℕ) (output : List ℕ) (journal : List JournalLine) → output ≡ journal_fault_line number turn
-    → ExplainsDue (IsFaultOf Journal text) (reason.FaultyJournal number turn) JOURNAL_FAULT output journal
-explains_journal_fault text number turn output journal printed = λ old new appends. (refl, subst (Appends old new) printed appends)
+-- a journal's fault is told by its line of the text
+pub explains_journal_fault : (text : List ℕ) (net : Net) (number turn line : ℕ) (told : Reason) (output : List ℕ) (journal : List JournalLine)
+    → IsFaultOfJournal number turn line text told → DeclaresNet Journal text net → IsLineOfFault text net line → output ≡ journal_fault_line number turn
+    → ExplainsDue (IsFaultOf Journal text) told JOURNAL_FAULT output journal
+explains_journal_fault text net number turn line told output journal (shown, is, bytes) declares placed printed = λ old new appends.
+    subst (λ (r : Reason). Explains (IsFaultOf Journal text) r JOURNAL_FAULT old new journal) (sym is)
+    (refl, subst (Appends old new) printed appends, (net, declares, placed, bytes))
 
 -- words that are no command
-told_usage : (Tells : ℕ → ℕ → List ℕ → Type 0) (help : Bool) (old new : Option (List ℕ)) (journal : List JournalLine) → Explains Tells (if help then reason.Help else reason.Usage) USAGE old new journal
+told_usage : (Tells : Told → Type 0) (help : Bool) (old new : Option (List ℕ)) (journal : List JournalLine) → Explains Tells (if help then reason.Help else reason.Usage) USAGE old new journal
 told_usage Tells true old new journal = refl
 told_usage Tells false old new journal = refl
 
-pub explains_usage : (Tells : ℕ → ℕ → List ℕ → Type 0) (words : List (String Global)) (old new : Option (List ℕ)) (done : Done) → EndsFor (usage_reason words) USAGE done
+pub explains_usage : (Tells : Told → Type 0) (words : List (String Global)) (old new : Option (List ℕ)) (done : Done) → EndsFor (usage_reason words) USAGE done
     → Explains Tells done.reason done.status old new done.journal.items
 explains_usage Tells words old new done (inl (is, told)) =
     subst (λ (r : Reason). Explains Tells r done.status old new done.journal.items) (sym told)
@@ -124,6 +138,6 @@ explains_usage Tells words old new done (inr (is, told)) =
 
 -- the text on which the mode works that the words ask for
 pub told_by_words : (words : List (String Global)) (left : Option (List ℕ)) (mode : Mode) → IsCommand words mode
-    → (number line : ℕ) (shown : List ℕ) → IsFaultOfTold (tail_of mode) (text_for mode left) number line shown → IsFaultByWords words left number line shown
-told_by_words words left mode asks number line shown told = λ other is.
-    subst (λ (m : Mode). IsFaultOfTold (tail_of m) (text_for m left) number line shown) (asks_for_one words mode other asks is) told
+    → (fault : Told) → IsFaultOfTold (tail_of mode) (text_for mode left) fault → IsFaultByWords words left fault
+told_by_words words left mode asks fault told = λ other is.
+    subst (λ (m : Mode). IsFaultOfTold (tail_of m) (text_for m left) fault) (asks_for_one words mode other asks is) told

@@ -35,3 +35,4 @@ mod Told
 mod ToldWords
 mod UsedUp
 mod Viewing
+pub mod Refusing

@@ -22,7 +22,7 @@ use Rattle.mc_seq.specs.declared.fault.SettleFault.TheVariants.{NoMemory, Restle
 use Rattle.mc_seq.specs.declared.fault.Stopped.{Stopped}
 use Rattle.mc_seq.specs.declared.fault.StoppedBox.{StoppedBox}
 use Rattle.mc_table.specs.Words.{line_of}
-use Rattle.mc_text.specs.NameLists.{NameLists, slot_names, slot_word}
+use Rattle.mc_text.specs.NameLists.{NameLists, slot_word}
 use Rattle.mc_top.specs.Drawn.{FollowsDraws, StopsBy, StopsDrawn}
 use Rattle.mc_top.specs.Journals.{IsJournalTo, IsStoppedJournal}
 use Rattle.mc_top.specs.Outcomes.{EndsBy, IsNamedFault, IsNamedPlace, Stopping}

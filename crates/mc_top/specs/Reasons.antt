@@ -5,12 +5,18 @@ use Rattle.std.specs.Io.KnownBytes.{Appends}
 use Rattle.mc_explain.specs.Reasons.{line_at}
 use Rattle.mc_explain.specs.declared.reason.Reason.{Reason}
 use Rattle.mc_explain.specs.declared.reason.Reason.TheVariants as reason
+use Rattle.mc_lines.specs.declared.detail.Detail.{Detail}
 use Rattle.mc_lines.specs.declared.tail.Tail.{Tail}
+use Rattle.mc_lines.specs.declared.tail.Tail.TheVariants.{Nothing, Journal}
+use Rattle.mc_net.specs.Details.{fault_detail}
+use Rattle.mc_net.specs.Nets.{DeclaresNet}
 use Rattle.mc_net.specs.TextLaws.{first_bytes}
 use Rattle.mc_net.specs.Texts.{IsFault}
+use Rattle.mc_net.specs.declared.net.Net.{Net}
 use Rattle.mc_replay.specs.Points.{marks_in}
 use Rattle.mc_script.specs.declared.command.JournalLine.{JournalLine}
 use Rattle.mc_table.specs.Words.{line_of}
+use Rattle.mc_top.specs.Behind.{IsLineOfFault}
 use Rattle.mc_top.specs.Modes.{tail_of, text_for}
 use Rattle.mc_top.specs.Printed.{fault_line, journal_fault_line, stop_word}
 use Rattle.mc_top.specs.declared.status.TheConstants.{WORKED, FAULTY_TEXT, VERSION_END, USAGE, NO_MEMORY, READ_FAULT, RESTLESS, RING, WRITE_FAULT, JOURNAL_FAULT}
@@ -20,19 +26,35 @@ use Rattle.mc_words.specs.Commands.{IsCommand}
 use Rattle.mc_words.specs.Help.{asks_for_help}
 use Rattle.mc_words.specs.declared.words.Mode.{Mode}
 
--- ---- a text's fault
+-- ---- faults
 
--- the text has the fault of this number on this line, and these bytes are the line's, as far as a line may have some
-abbrev pub IsFaultOf : Tail → (text : List ℕ) → (number line : ℕ) → (shown : List ℕ) → Type 0
-IsFaultOf tail text number line shown = IsFault tail text number line × (shown ≡ line_at line text)
+-- what is told of a fault beside its number: of a text's the line, its bytes, and what else is known; of a journal's the line of the text and its bytes
+pub data Told : Type 0 where
+  of_text : (number line : ℕ) (shown : List ℕ) (detail : Detail) → Told
+  of_journal : (line : ℕ) (shown : List ℕ) → Told
 
--- so it is of what is told of a text, of which only the first bytes are read
-abbrev pub IsFaultOfTold : Tail → (told : Option (List ℕ)) → (number line : ℕ) → (shown : List ℕ) → Type 0
-IsFaultOfTold tail told number line shown = IfSome told (λ text. IsFault tail text number line × (shown ≡ line_at line (first_bytes tail text)))
+-- the text has the fault of this number on this line, these bytes are the line's, as far as a line may have some, and this is what else is known of the fault
+abbrev pub IsTextFaultOf : Tail → (text : List ℕ) → (number line : ℕ) → (shown : List ℕ) → Detail → Type 0
+IsTextFaultOf tail text number line shown detail = IsFault tail text number line × (shown ≡ line_at line text) × (detail ≡ fault_detail tail text number line)
+
+-- the journal's first fault is on this line of the text, with these bytes, by a network that the text declares; it is none where no journal may follow
+abbrev pub IsJournalFaultOf : Tail → (text : List ℕ) → (line : ℕ) → (shown : List ℕ) → Type 0
+IsJournalFaultOf Nothing text line shown = ⊥
+IsJournalFaultOf Journal text line shown = (net : Net) × DeclaresNet Journal text net × IsLineOfFault text net line × (shown ≡ line_at line text)
+
+-- what is told is the fault of a text, or of its journal
+abbrev pub IsFaultOf : Tail → (text : List ℕ) → Told → Type 0
+IsFaultOf tail text (of_text number line shown detail) = IsTextFaultOf tail text number line shown detail
+IsFaultOf tail text (of_journal line shown) = IsJournalFaultOf tail text line shown
+
+-- so it is of what is told of a text, of which only the first bytes are read; a fault of the text is one of the whole, too
+abbrev pub IsFaultOfTold : Tail → (told : Option (List ℕ)) → Told → Type 0
+IsFaultOfTold tail told (of_text number line shown detail) = IfSome told (λ text. IsFault tail text number line × IsTextFaultOf tail (first_bytes tail text) number line shown detail)
+IsFaultOfTold tail told (of_journal line shown) = IfSome told (λ text. IsJournalFaultOf tail (first_bytes tail text) line shown)
 
 -- and of the text on which the mode works that the words ask for
-abbrev pub IsFaultByWords : List (String Global) → (left : Option (List ℕ)) → (number line : ℕ) → (shown : List ℕ) → Type 0
-IsFaultByWords words left number line shown = (mode : Mode) → IsCommand words mode → IsFaultOfTold (tail_of mode) (text_for mode left) number line shown
+abbrev pub IsFaultByWords : List (String Global) → (left : Option (List ℕ)) → Told → Type 0
+IsFaultByWords words left told = (mode : Mode) → IsCommand words mode → IsFaultOfTold (tail_of mode) (text_for mode left) told
 
 -- ---- reasons
 
@@ -40,22 +62,22 @@ IsFaultByWords words left number line shown = (mode : Mode) → IsCommand words 
 abbrev pub TellsStop : (word place : List ℕ) → (settle : ℕ) → (old new : Option (List ℕ)) → List JournalLine → Type 0
 TellsStop word place settle old new journal = Appends old new (line_of (word ∷ place ∷ [])) × (settle ≡ marks_in journal + 1)
 
--- a status has a reason of its own. That of a fault has the numbers that were printed and tells the fault of the text; that of a stop has the slot or the box that was printed
-abbrev pub Explains : (Tells : (number line : ℕ) → (shown : List ℕ) → Type 0) → Reason → (status : ℕ) → (old new : Option (List ℕ)) → List JournalLine → Type 0
+-- a status has a reason of its own. That of a fault has the numbers that were printed and tells the fault; that of a stop has the slot or the box that was printed
+abbrev pub Explains : (Tells : Told → Type 0) → Reason → (status : ℕ) → (old new : Option (List ℕ)) → List JournalLine → Type 0
 Explains Tells reason.Worked status old new journal = status ≡ WORKED
 Explains Tells reason.Help status old new journal = status ≡ USAGE
 Explains Tells reason.Usage status old new journal = status ≡ USAGE
-Explains Tells (reason.FaultyText number line text) status old new journal = (status ≡ FAULTY_TEXT) × Appends old new (fault_line number line) × Tells number line text.items
+Explains Tells (reason.FaultyText number line text detail) status old new journal = (status ≡ FAULTY_TEXT) × Appends old new (fault_line number line) × Tells (of_text number line text.items detail)
 Explains Tells (reason.VersionEnd place settle) status old new journal = (status ≡ VERSION_END) × TellsStop (codes "version") place.items settle old new journal
 Explains Tells (reason.Ring place settle) status old new journal = (status ≡ RING) × TellsStop (codes "ring") place.items settle old new journal
 Explains Tells (reason.Restless place settle) status old new journal = (status ≡ RESTLESS) × TellsStop (codes "restless") place.items settle old new journal
-Explains Tells (reason.FaultyJournal number turn) status old new journal = (status ≡ JOURNAL_FAULT) × Appends old new (journal_fault_line number turn)
+Explains Tells (reason.FaultyJournal number turn line text) status old new journal = (status ≡ JOURNAL_FAULT) × Appends old new (journal_fault_line number turn) × Tells (of_journal line text.items)
 Explains Tells reason.NoMemory status old new journal = status ≡ NO_MEMORY
 Explains Tells reason.ReadFault status old new journal = status ≡ READ_FAULT
 Explains Tells reason.WriteFault status old new journal = status ≡ WRITE_FAULT
 
 -- it explains the status that is due, where this was written whole
-abbrev pub ExplainsDue : (Tells : (number line : ℕ) → (shown : List ℕ) → Type 0) → Reason → (due : ℕ) → (output : List ℕ) → List JournalLine → Type 0
+abbrev pub ExplainsDue : (Tells : Told → Type 0) → Reason → (due : ℕ) → (output : List ℕ) → List JournalLine → Type 0
 ExplainsDue Tells told due output journal = (old new : Option (List ℕ)) → Appends old new output → Explains Tells told due old new journal
 
 -- a call that was to end so, for a reason, does, or a write failed

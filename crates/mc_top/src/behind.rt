@@ -1,13 +1,15 @@
 // The journal that stands behind the commands of a text.
 
-ghost use Rattle.std.specs.Prelude.{◌≡◌, ◌-◌, ◌<◌, ◌^◌, IfOk, drop, length};
+ghost use Rattle.std.specs.Prelude.{◌≡◌, ◌-◌, ◌<◌, ◌≤◌, ◌^◌, IfOk, drop, length};
 ghost use Rattle.std.specs.List.{before_last};
+ghost use Rattle.mc_lines.specs.Rules.{read_limit};
+ghost use Rattle.mc_lines.specs.declared.tail.Tail.TheVariants.{Journal};
 ghost use Rattle.mc_script.specs.Places.{Fits};
 ghost use Rattle.mc_text.specs.Lines.{is_line_end};
-ghost use Rattle.mc_top.specs.Behind.{has_bad_tail, is_too_long, journal_bytes, tail_lines};
+ghost use Rattle.mc_top.specs.Behind.{has_bad_tail, is_too_long, journal_bytes, journal_line, tail_lines};
 
 use mc_box::Shape;
-use mc_journal::read_journal;
+use mc_journal::{line_count, line_place, read_journal};
 use mc_net::JOURNAL_TEXT_LIMIT;
 use mc_script::JournalText;
 use mc_text::Names;
@@ -33,9 +35,22 @@ pub fn journal_behind(
     })
 }
 
+/// The number of a line of a text, from 1: that on which the line of its journal stands that comes after so many others,
+/// or the one that is no line of a journal. After the last line it is that of the end.
+pub fn journal_line(names: &Names, shape: &Shape, text: &[u8], rest: usize, before: u32) -> u32
+    requires fits { Fits names.now shape.now }
+    requires short { length text.now ≤ read_limit Journal }
+    ensures { result ≡ journal_line names.now shape.now text.now rest before }
+{
+    let declaring = line_count(&text[..rest.min(text.len())]);
+    let place = line_place(names, shape, journal_bytes(text, rest), before as usize);
+    (declaring + place + 1) as u32
+}
+
 // The bytes of the journal.
 fn journal_bytes(text: &[u8], rest: usize) -> &[u8]
-    ensures { result.now ≡ journal_bytes text.now rest }
+    ensures bytes { result.now ≡ journal_bytes text.now rest }
+    ensures within { length result.now ≤ length text.now }
 {
     if is_too_long(text) {
         before_last_end(bytes_from(&text[..JOURNAL_TEXT_LIMIT], rest))

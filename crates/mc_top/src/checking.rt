@@ -3,21 +3,46 @@
 ghost use Rattle.std.specs.Prelude.{◌≡◌, ◌-◌, ◌<◌, ◌^◌, false, length, map, All, IfErr, IfOk};
 ghost use Rattle.mc_model.specs.Shapes.{AreAllAllowed};
 ghost use Rattle.mc_net.specs.Nets.{NamesAll, batch_turns};
-ghost use Rattle.mc_replay.specs.Faults.{RefusesJournal};
+ghost use Rattle.mc_replay.specs.Faults.{RefusesLines};
 ghost use Rattle.mc_replay.specs.Journals.{IsJournal};
 ghost use Rattle.mc_replay.specs.Replays.{views_of};
 ghost use Rattle.mc_table.specs.Shown.{IsNamedView};
 ghost use Rattle.mc_top.specs.Printed.{journal_text};
+ghost use Rattle.mc_top.specs.declared.checking.TailFault.TheVariants.{NoMemory};
 ghost use Rattle.mc_top.specs.Shown.{shown_text};
 
 use crate::viewer::PathViewer;
-use mc_replay::{CheckFault, check};
+use mc_replay::{ReplayFault, check_lines};
 use mc_script::{Batch, JournalText};
 use mc_table::print_settle;
 use mc_text::Names;
 use mc_view::PathView;
 use mc_world::World;
 use std::alloc::{AllocError, Global};
+
+/// Where the journal after a text has a fault: the number of its rule, one more than the turns before it, and the number
+/// of its line in the text, from 1.
+#[derive(Clone, Copy)]
+pub struct TailPlace {
+    pub number: u8,
+    pub turn: u32,
+    pub line: u32,
+}
+
+/// Why the journal after a text isn't taken.
+#[derive(Drop)]
+pub enum TailFault {
+    At(TailPlace),
+    NoMemory(AllocError),
+}
+
+impl From<AllocError> for TailFault {
+    ghost from_gives = { λ e fault. fault ≡ NoMemory e };
+
+    fn from(e: AllocError) -> Self {
+        TailFault::NoMemory(e)
+    }
+}
 
 /// Checks a journal, and prints the paths at each of its marks as a run does.
 pub fn check_script(
@@ -26,7 +51,7 @@ pub fn check_script(
     world: World,
     batches: &[Batch],
     journal: &JournalText,
-) -> Result<Vec<u8>, CheckFault>
+) -> Result<Vec<u8>, ReplayFault>
     requires named { NamesAll names.now world }
     requires allowed { AreAllAllowed world (map batch_turns batches.now) }
     requires few { length journal.now.lines.items < 2 ^ 32 - 1 }
@@ -35,11 +60,11 @@ pub fn check_script(
     ensures whole { IfOk result (λ output. journal.now.bad ≡ false) }
     ensures output { IfOk result (λ output.
         output.items ≡ journal_text names.now 1 world journal.now.lines.items) }
-    ensures refused { IfErr result (RefusesJournal world (map batch_turns batches.now)
+    ensures refused { IfErr result (RefusesLines world (map batch_turns batches.now)
         journal.now.lines.items journal.now.bad) }
 {
     world.keeps();
-    let checked = check(alloc, &PathViewer, world, batches, journal)?;
+    let checked = check_lines(alloc, &PathViewer, world, batches, journal)?;
     Ok(print_settles(alloc, names, &checked.views)?)
 }
 

@@ -1,23 +1,24 @@
 // The top call.
 ghost use Rattle.std.specs.Prelude.{◌≡◌, ◌≢◌, ◌⊎◌, ◌==◌, ◌≤◌, ℕ, List, [], false, length, map, All, IfErr, IfOk, IsFalse, IsTrue, None, Option, Some};
-ghost use Rattle.mc_explain.specs.Reasons.{IsTextFault};
+ghost use Rattle.mc_explain.specs.Reasons.{IsFaultOfJournal, IsTextFault};
 ghost use Rattle.mc_io.specs.Bytes.{ConsumesAtMost};
 ghost use Rattle.mc_io.specs.Faults.{Rose, faults_after, is_failed_read};
 ghost use Rattle.mc_journal.specs.Printed.{IsNamedLine};
 ghost use Rattle.mc_model.specs.Shapes.{AreAllAllowed};
+ghost use Rattle.mc_net.specs.Details.{fault_detail};
 ghost use Rattle.mc_net.specs.Nets.{DeclaresNet, NamesAll, batch_turns};
 ghost use Rattle.mc_lines.specs.Rules.{read_limit};
 ghost use Rattle.mc_net.specs.Texts.{IsFault};
 ghost use Rattle.mc_lines.specs.declared.limit.TheConstants.{COMMAND_LIMIT};
 ghost use Rattle.mc_lines.specs.declared.tail.Tail.TheVariants.{Journal};
 ghost use Rattle.mc_net.specs.declared.net.Net.{Net};
-ghost use Rattle.mc_replay.specs.Faults.{RefusesJournal};
 ghost use Rattle.mc_replay.specs.Journals.{HoldsAtSettles, IsJournal};
 ghost use Rattle.mc_replay.specs.Segments.{EachKeepsShiftLimit};
 ghost use Rattle.mc_scene.specs.Outputs.{scene_output};
 ghost use Rattle.mc_scene.specs.declared.scenes.Scene.{Scene};
 ghost use Rattle.mc_script.specs.Places.{Fits};
-ghost use Rattle.mc_top.specs.Behind.{HasJournal, HasJournalFault, has_bad_tail, tail_lines};
+ghost use Rattle.mc_top.specs.Behind.{HasJournal, HasJournalFault, IsLineOfFault, has_bad_tail, tail_lines};
+ghost use Rattle.mc_top.specs.Refusals.{RefusesCheckBy, RefusesTail};
 ghost use Rattle.mc_top.specs.Drawn.{FollowsDraws};
 ghost use Rattle.mc_top.specs.Journals.{IsJournalTo, ShowsCause};
 ghost use Rattle.mc_top.specs.Modes.{AsksToRead, IsWithinLimits, IsWorkable, draws_from, reads, report_of, tail_of, text_for};
@@ -30,8 +31,8 @@ ghost use Rattle.mc_words.specs.Commands.{prints_journal};
 ghost use Rattle.mc_words.specs.declared.words.Mode.{Mode};
 ghost use Rattle.mc_words.specs.declared.words.Mode.TheVariants.{Check, Scene as AScene};
 
-use crate::behind::journal_behind;
-use crate::checking::check_script;
+use crate::behind::{journal_behind, journal_line};
+use crate::checking::{TailFault, TailPlace, check_script};
 use crate::modes::{draws_from, report_of, tail_of};
 use crate::print::{print_fault, print_journal_fault};
 use crate::reasons::reason_of;
@@ -43,8 +44,8 @@ use crate::stop::due_by;
 use mc_box::Shape;
 use mc_explain::Reason;
 use mc_io::{Gate, ReadFault, Sink, Source, read_up_to, write_whole};
-use mc_net::{JOURNAL_TEXT_LIMIT, Net, NetFault, TEXT_LIMIT, TextFault, read_net};
-use mc_replay::CheckFault;
+use mc_net::{JOURNAL_TEXT_LIMIT, Net, NetFault, TEXT_LIMIT, TextFault, fault_detail, read_net};
+use mc_replay::ReplayFault;
 use mc_scene::{generated, scene_text};
 use mc_script::{Batch, JournalLine};
 use mc_text::Names;
@@ -156,7 +157,8 @@ fn refuse<K: Sink>(
     sink: &mut K,
 ) -> Done
     requires fault { IsFault (tail_of mode) text.now fault.number fault.line }
-    requires told { IsTextFault fault.number fault.line text.now reason }
+    requires told { IsTextFault fault.number fault.line
+        (fault_detail (tail_of mode) text.now fault.number fault.line) text.now reason }
     ensures statuses { (result.due ≡ FAULTY_TEXT) ⊎ (result.due ≡ NO_MEMORY) }
     ensures status { (result.status ≡ result.due) ⊎ (result.status ≡ WRITE_FAULT) }
     ensures ends { EndsAs mode (Some text.now) (K.written sink.old) (K.written sink.new) result }
@@ -170,7 +172,7 @@ fn refuse<K: Sink>(
     }
 }
 
-// The same, with the line of the text kept for what is told.
+// The same, with the line of the text and what else is known of its fault kept for what is told.
 fn refuse_text<K: Sink>(
     alloc: Global,
     mode: Mode,
@@ -186,7 +188,10 @@ fn refuse_text<K: Sink>(
         (K.written sink.old) (K.written sink.new) result.journal.items }
     ensures fault { K.faults sink.new ≡ faults_after (K.faults sink.old) (result.status == WRITE_FAULT) }
 {
-    match Reason::faulty_text(alloc, fault.number, fault.line, text) {
+    let Ok(detail) = fault_detail(alloc, text, tail_of(mode), fault) else {
+        return give_up(alloc, NO_MEMORY, Reason::NoMemory);
+    };
+    match Reason::faulty_text(alloc, fault.number, fault.line, detail, text) {
         Ok(reason) => refuse(alloc, mode, text, fault, reason, sink),
         Err(_) => give_up(alloc, NO_MEMORY, Reason::NoMemory),
     }
@@ -289,20 +294,44 @@ fn run_net<R: Threads + Sync, K: Sink, G: Gate + Sync>(
 }
 
 // Writes the line of a journal's first fault.
-fn refuse_journal<K: Sink>(alloc: Global, number: u8, turn: u32, sink: &mut K) -> Done
+fn refuse_journal<K: Sink>(
+    alloc: Global,
+    text: &[u8],
+    place: TailPlace,
+    reason: Reason,
+    sink: &mut K,
+) -> Done
+    requires told { IsFaultOfJournal place.number place.turn place.line text.now reason }
     ensures statuses { (result.due ≡ JOURNAL_FAULT) ⊎ (result.due ≡ NO_MEMORY) }
     ensures status { (result.status ≡ result.due) ⊎ (result.status ≡ WRITE_FAULT) }
-    ensures ends { (text : List ℕ) (net : Net) → DeclaresNet Journal text net → HasJournalFault text net number turn
-        → EndsAs Check (Some text) (K.written sink.old) (K.written sink.new) result }
-    ensures reason { (text : List ℕ) → Explains (IsFaultOf Journal text) result.reason result.status
+    ensures ends { (net : Net) → DeclaresNet Journal text.now net
+        → HasJournalFault text.now net place.number place.turn
+        → EndsAs Check (Some text.now) (K.written sink.old) (K.written sink.new) result }
+    ensures reason { (net : Net) → DeclaresNet Journal text.now net → IsLineOfFault text.now net place.line
+        → Explains (IsFaultOf Journal text.now) result.reason result.status
         (K.written sink.old) (K.written sink.new) result.journal.items }
     ensures fault { K.faults sink.new ≡ faults_after (K.faults sink.old) (result.status == WRITE_FAULT) }
 {
-    match print_journal_fault(alloc, number, turn) {
-        Ok(line) => {
-            let reason = Reason::FaultyJournal { number, turn };
-            deliver(sink, JOURNAL_FAULT, &line, Vec::new(alloc), reason)
-        }
+    match print_journal_fault(alloc, place.number, place.turn) {
+        Ok(line) => deliver(sink, JOURNAL_FAULT, &line, Vec::new(alloc), reason),
+        Err(_) => give_up(alloc, NO_MEMORY, Reason::NoMemory),
+    }
+}
+
+// The same, with the line of the text kept for what is told.
+fn refuse_tail<K: Sink>(alloc: Global, text: &[u8], place: TailPlace, sink: &mut K) -> Done
+    ensures statuses { (result.due ≡ JOURNAL_FAULT) ⊎ (result.due ≡ NO_MEMORY) }
+    ensures status { (result.status ≡ result.due) ⊎ (result.status ≡ WRITE_FAULT) }
+    ensures ends { (net : Net) → DeclaresNet Journal text.now net
+        → HasJournalFault text.now net place.number place.turn
+        → EndsAs Check (Some text.now) (K.written sink.old) (K.written sink.new) result }
+    ensures reason { (net : Net) → DeclaresNet Journal text.now net → IsLineOfFault text.now net place.line
+        → Explains (IsFaultOf Journal text.now) result.reason result.status
+        (K.written sink.old) (K.written sink.new) result.journal.items }
+    ensures fault { K.faults sink.new ≡ faults_after (K.faults sink.old) (result.status == WRITE_FAULT) }
+{
+    match Reason::faulty_journal(alloc, place.number, place.turn, place.line, text) {
+        Ok(reason) => refuse_journal(alloc, text, place, reason, sink),
         Err(_) => give_up(alloc, NO_MEMORY, Reason::NoMemory),
     }
 }
@@ -317,7 +346,8 @@ fn check_lines(
     world: World,
     batches: &[Batch],
     rest: usize,
-) -> Result<(Vec<u8>, Vec<JournalLine>), CheckFault>
+) -> Result<(Vec<u8>, Vec<JournalLine>), TailFault>
+    requires short { length text.now ≤ read_limit Journal }
     requires fits { Fits names.now shape.now }
     requires named { NamesAll names.now world }
     requires allowed { AreAllAllowed world (map batch_turns batches.now) }
@@ -325,12 +355,18 @@ fn check_lines(
     ensures whole { IfOk result (λ both. has_bad_tail names.now shape.now text.now rest ≡ false) }
     ensures journal { IfOk result (λ both. IsJournal world (map batch_turns batches.now) both.1.items) }
     ensures output { IfOk result (λ both. both.0.items ≡ journal_text names.now 1 world both.1.items) }
-    ensures refused { IfErr result (RefusesJournal world (map batch_turns batches.now)
-        (tail_lines names.now shape.now text.now rest) (has_bad_tail names.now shape.now text.now rest)) }
+    ensures refused { IfErr result (RefusesTail names.now shape.now world (map batch_turns batches.now) text.now rest) }
 {
     let journal = journal_behind(alloc, names, shape, text, rest)?;
-    let output = check_script(alloc, names, world, batches, &journal)?;
-    Ok((output, journal.lines))
+    match check_script(alloc, names, world, batches, &journal) {
+        Ok(output) => Ok((output, journal.lines)),
+        Err(ReplayFault::At(fault)) => Err(TailFault::At(TailPlace {
+            number: fault.number,
+            turn: fault.turn,
+            line: journal_line(names, shape, text, rest, fault.before),
+        })),
+        Err(ReplayFault::NoMemory(wanting)) => Err(TailFault::NoMemory(wanting)),
+    }
 }
 
 // The same by the network that the text declares.
@@ -338,15 +374,15 @@ fn check_by_net(
     alloc: Global,
     text: &[u8],
     net: Net,
-) -> Result<(Vec<u8>, Vec<JournalLine>), CheckFault>
+) -> Result<(Vec<u8>, Vec<JournalLine>), TailFault>
+    requires short { length text.now ≤ read_limit Journal }
     requires fits { Fits net.names net.shape }
     requires named { NamesAll net.names net.world }
     requires allowed { AreAllAllowed net.world (map batch_turns net.batches.items) }
     ensures has { IfOk result (λ both. HasJournal text.now net both.1.items) }
     ensures journal { IfOk result (λ both. IsJournal net.world (map batch_turns net.batches.items) both.1.items) }
     ensures output { IfOk result (λ both. both.0.items ≡ journal_text net.names 1 net.world both.1.items) }
-    ensures refused { IfErr result (RefusesJournal net.world (map batch_turns net.batches.items)
-        (tail_lines net.names net.shape text.now net.rest) (has_bad_tail net.names net.shape text.now net.rest)) }
+    ensures refused { IfErr result (RefusesCheckBy text.now net) }
 {
     let Net {
         world,
@@ -360,6 +396,7 @@ fn check_by_net(
 
 // Checks the journal behind a text by the network that the text declares, and writes what is printed for it.
 fn check_net<K: Sink>(alloc: Global, text: &[u8], net: Net, sink: &mut K) -> Done
+    requires short { length text.now ≤ read_limit Journal }
     requires declares { DeclaresNet Journal text.now net }
     requires named { NamesAll net.names net.world }
     requires allowed { AreAllAllowed net.world (map batch_turns net.batches.items) }
@@ -373,8 +410,8 @@ fn check_net<K: Sink>(alloc: Global, text: &[u8], net: Net, sink: &mut K) -> Don
     net.world.keeps();
     match check_by_net(alloc, text, net) {
         Ok((output, lines)) => deliver(sink, WORKED, &output, lines, Reason::Worked),
-        Err(CheckFault::At { number, turn }) => refuse_journal(alloc, number, turn, sink),
-        Err(CheckFault::NoMemory(_)) => give_up(alloc, NO_MEMORY, Reason::NoMemory),
+        Err(TailFault::At(place)) => refuse_tail(alloc, text, place, sink),
+        Err(TailFault::NoMemory(_)) => give_up(alloc, NO_MEMORY, Reason::NoMemory),
     }
 }
 
@@ -388,6 +425,7 @@ fn work_on<R: Threads + Sync, K: Sink, G: Gate + Sync>(
     net: Net,
     sink: &mut K,
 ) -> Done
+    requires short { IsTrue (reads mode) → length text.now ≤ read_limit (tail_of mode) }
     requires declares { DeclaresNet (tail_of mode) text.now net }
     requires named { NamesAll net.names net.world }
     requires allowed { AreAllAllowed net.world (map batch_turns net.batches.items) }
@@ -405,7 +443,7 @@ fn work_on<R: Threads + Sync, K: Sink, G: Gate + Sync>(
     }
 }
 
-// Does a mode's work on a text.
+// Does a mode's work on a text. One that was read is no longer than what is read at most.
 fn run_text<R: Threads + Sync, K: Sink, G: Gate + Sync>(
     rt: &R,
     alloc: Global,
@@ -414,6 +452,7 @@ fn run_text<R: Threads + Sync, K: Sink, G: Gate + Sync>(
     text: &[u8],
     sink: &mut K,
 ) -> Done
+    requires short { IsTrue (reads mode) → length text.now ≤ read_limit (tail_of mode) }
     ensures statuses { IsDueForText result.due }
     ensures status { (result.status ≡ result.due) ⊎ (result.status ≡ WRITE_FAULT) }
     ensures ends { EndsAs mode (Some text.now) (K.written sink.old) (K.written sink.new) result }

@@ -8,7 +8,7 @@ use mc_io::{OpenGate, StdSink, StdSource};
 use mc_top::media_top;
 use mc_top::status::{NO_MEMORY, WORKED};
 use std::alloc::AllocError;
-use std::io::{ErrorKind, Write};
+use std::io::{Error, ErrorKind, Write};
 use std::process::ExitCode;
 use std::rt::Env;
 use std::{env, io};
@@ -30,6 +30,17 @@ fn tell(rt: &HostRuntime, reason: &Reason) {
     let _ = rt.stderr().write_all(&words);
 }
 
+// The same of what the system said of a read or a write that failed.
+fn tell_error(rt: &HostRuntime, error: Option<Error>) {
+    let Some(error) = error else {
+        return;
+    };
+    let Ok(words) = format!(in rt.alloc(); "mediactl: the system says: {error}.\n") else {
+        return;
+    };
+    let _ = rt.stderr().write_all(words.as_bytes());
+}
+
 fn main(rt: HostRuntime) -> ExitCode {
     let Ok(words) = words(&rt) else {
         tell(&rt, &Reason::NoMemory);
@@ -40,6 +51,11 @@ fn main(rt: HostRuntime) -> ExitCode {
     let done = media_top(&rt, rt.alloc(), words, &mut source, &mut sink, &OpenGate);
     if done.status != WORKED {
         tell(&rt, &done.reason);
+    }
+    match done.reason {
+        Reason::ReadFault => tell_error(&rt, source.last_error()),
+        Reason::WriteFault => tell_error(&rt, sink.last_error()),
+        _ => {}
     }
     ExitCode::from(done.status)
 }

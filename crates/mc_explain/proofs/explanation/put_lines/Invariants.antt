@@ -1,5 +1,5 @@
 use Rattle.std.proofs.Common.{◌≡◌, ◌++◌, flat_map, map, take}
-use Rattle.mc_explain.specs.Explained.{told_line}
+use Rattle.mc_explain.specs.Quotes.{told_line}
 use Rattle.mc_explain.proofs.explanation.put_lines.Given as goal
 
 -- the lines so far are appended

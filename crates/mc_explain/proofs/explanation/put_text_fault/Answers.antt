@@ -1,6 +1,6 @@
 use Rattle.std.proofs.Common.{◌++◌, ◌∙◌, List, ℕ, ap}
 use Rattle.std.proofs.lemmas.Result.{on_ok_weaker}
-use Rattle.mc_explain.specs.Explained.{told_line}
+use Rattle.mc_explain.specs.Quotes.{told_line}
 use Rattle.mc_explain.proofs.Faults.{text_fault_is}
 use Rattle.mc_explain.proofs.explanation.put_text_fault.Goals as goal
 

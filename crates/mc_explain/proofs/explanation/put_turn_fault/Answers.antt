@@ -1,11 +1,11 @@
 use Rattle.std.proofs.Common.{◌++◌, ◌∙◌, List, ℕ, ap}
 use Rattle.std.proofs.lemmas.Result.{on_ok_weaker}
-use Rattle.mc_explain.specs.Explained.{told_line}
+use Rattle.mc_explain.specs.Quotes.{told_line}
 use Rattle.mc_explain.proofs.Faults.{turn_fault_is}
 use Rattle.mc_explain.proofs.explanation.put_turn_fault.Goals as goal
 
 pub returns : goal.returns
 returns c =
     on_ok_weaker c.put_line.result
-    (λ ends. ends ∙ ap (λ (sentence : List ℕ). c.args.out.now.items ++ told_line sentence) (turn_fault_is c.args.number c.args.turn c.journal_rule-rule.result.now c.deref.result.now c.journal_rule-rule.ensures (c.deref.ensures ∙ c.in_ok-sentence.ensures.ok)))
+    (λ ends. ends ∙ ap (λ (sentence : List ℕ). c.args.out.now.items ++ told_line sentence) (turn_fault_is c.args.number c.args.turn c.args.line c.journal_rule-rule.result.now c.deref.result.now c.journal_rule-rule.ensures (c.deref.ensures ∙ c.in_ok-sentence.ensures.ok)))
     c.put_line.ensures

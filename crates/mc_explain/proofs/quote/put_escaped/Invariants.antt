@@ -1,5 +1,5 @@
 use Rattle.std.proofs.Common.{◌≡◌, ◌++◌, flat_map, take}
-use Rattle.mc_explain.specs.Explained.{escaped}
+use Rattle.mc_explain.specs.Quotes.{escaped}
 use Rattle.mc_explain.proofs.quote.put_escaped.Given as goal
 
 -- the bytes so far are appended

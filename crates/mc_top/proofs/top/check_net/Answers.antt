@@ -3,6 +3,8 @@ use Rattle.mc_top.specs.Reasons.{IsFaultOf}
 use Rattle.mc_top.specs.declared.status.TheConstants.{WORKED}
 use Rattle.mc_top.proofs.Explaining.{explains_delivered}
 use Rattle.std.proofs.Common.{◌∙◌, refl}
+use Rattle.mc_top.specs.Refusals.{RefusesCheckBy}
+use Rattle.mc_top.specs.declared.checking.TailFault.TheVariants.{At}
 use Rattle.mc_lines.specs.declared.tail.Tail.TheVariants.{Journal}
 use Rattle.mc_net.proofs.MadeNets.{nets_are_named}
 use Rattle.mc_top.proofs.Ending.{ends_checked}
@@ -21,7 +23,8 @@ returns-in-Ok-clause-ends g c =
 
 pub returns-in-Err-At-clause-ends : goal.returns-in-Err-At-clause-ends
 returns-in-Err-At-clause-ends g c =
-    c.refuse_journal.ensures.ends c.args.text.now c.args.net c.requires.declares (rw c.in-Err-At.field-0-is at c.in-Err-At.ensures.refused)
+    let refused : RefusesCheckBy c.args.text.now c.args.net (At c.in-Err-At.place) = rw c.in-Err-At.field-0-is at c.in-Err-At.ensures.refused in
+    c.refuse_tail.ensures.ends c.args.net c.requires.declares refused.0
 
 pub returns-in-Ok-clause-reason : goal.returns-in-Ok-clause-reason
 returns-in-Ok-clause-reason g c =
@@ -29,4 +32,6 @@ returns-in-Ok-clause-reason g c =
     (λ old new appends. refl) c.deliver.ensures.delivers c.deliver.ensures.reason
 
 pub returns-in-Err-At-clause-reason : goal.returns-in-Err-At-clause-reason
-returns-in-Err-At-clause-reason g c = c.refuse_journal.ensures.reason c.args.text.now
+returns-in-Err-At-clause-reason g c =
+    let refused : RefusesCheckBy c.args.text.now c.args.net (At c.in-Err-At.place) = rw c.in-Err-At.field-0-is at c.in-Err-At.ensures.refused in
+    c.refuse_tail.ensures.reason c.args.net c.requires.declares refused.1
