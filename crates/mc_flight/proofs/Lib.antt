@@ -1,0 +1,5 @@
+pub mod AccountSums
+pub mod Tallying
+pub mod Parts
+pub mod Dealing
+pub mod Seating
