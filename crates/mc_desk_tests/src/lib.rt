@@ -6,6 +6,8 @@ mod desks;
 #[cfg(test)]
 mod equal;
 #[cfg(test)]
+mod flights;
+#[cfg(test)]
 mod many;
 #[cfg(test)]
 mod tally;
