@@ -52,7 +52,7 @@ room_changed (lane ∷ lanes) (suc j) d new before after less here (suc k) room 
 -- ---- a vector of lanes that is written as a slice
 
 -- as long as the vector, the slice is what the vector has then
-refilled : (lanes : Vec Lane Global) (new : List Lane) → length new ≡ length lanes.items → (with_items lanes new).items ≡ new
+pub refilled : (lanes : Vec Lane Global) (new : List Lane) → length new ≡ length lanes.items → (with_items lanes new).items ≡ new
 refilled lanes new long = with_items_is lanes new (long ∙ sym lanes.ok.0)
 
 -- a slice with the same signals

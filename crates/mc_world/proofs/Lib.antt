@@ -14,3 +14,8 @@ mod PartnerTables
 mod PlaceTables
 mod WorldSteps
 mod Waits
+mod Serving
+mod Running
+mod FirstHomes
+mod Cutting
+mod CutLanes

@@ -40,7 +40,7 @@ by_origin world who local numbered here inside =
     let origin : (media_at (box_at world who) local).origin ≡ there.0 = subst (λ (p : ℕ × ℕ). (media_at (box_at world p.0) p.1).origin ≡ there.0) there.2 (numbered.origins there.0 there.1) in
     once ∙ ap Some (sym origin)
 
-none_by : (o : Option ℕ) → ((s : ℕ) → o ≡ Some s → ⊥) → o ≡ None
+pub none_by : (o : Option ℕ) → ((s : ℕ) → o ≡ Some s → ⊥) → o ≡ None
 none_by None never = refl
 none_by (Some s) never = absurd (never s refl)
 

@@ -17,6 +17,9 @@ use Rattle.mc_laws.proofs.Numbers.{number_is}
 use Rattle.mc_model.specs.Paths.{partner_by, partner_of}
 use Rattle.mc_model.specs.Worlds.{WorldState, box_at, far, goal_of, number}
 use Rattle.mc_world.specs.Lanes.{HasRoom, HasRoomFrom, lane_by, numbers_of}
+use Rattle.mc_world.specs.Making.{IsBeside}
+use Rattle.mc_world.specs.Senders.{AreSenders}
+use Rattle.mc_world.specs.declared.lanes.Senders.{Senders}
 use Rattle.mc_world.specs.declared.topology.Topology.{Topology}
 use Rattle.mc_world.proofs.LaneChanges.{Lane}
 
@@ -87,4 +90,17 @@ take_room world topology lanes who local slot most partner signal step sound goe
           let slot_is : slot ≡ s = let twice : Some slot ≡ Some s = sym is ∙ (ap (number world who) (sym same) ∙ here) in cc in
           subst (λ (t : ℕ). HasRoom lanes (lane_by topology (far t)) most) slot_is own
       | inr goal ↦ room_at lanes topology most s partner (linked ∙ (linked_is world who local other slot is goal ∙ here)) mate
+    ]
+
+-- the same by the tables
+pub room_by : (topology : Topology) (lanes : List Lane) (who : ℕ) (box : BoxState) (senders : Senders) (most : ℕ) (signal : Signal) (step : BoxStep) → IsSoundBox box → box_event box (Take senders.own.0) (Some signal) ≡ Some step
+    → AreSenders topology who senders → IsBeside topology who box senders → HasRoom lanes (lane_by topology (far senders.own.1)) most → HasRoom lanes (lane_by topology (far senders.partner.1)) most
+    → HasRoomFrom lanes topology who step.sent most
+room_by topology lanes who box senders most signal step sound goes are beside own mate k d below s at =
+    let other : ℕ = (get_or step.sent k d).0 in
+    elim (sender_by (goal_at box senders.own.0) box senders.own.0 other signal step (take_turned box senders.own.0 signal step sound goes) (some_sent step.sent k d below)) [
+      | inl same ↦
+          let slot_is : senders.own.1 ≡ s = let twice : Some senders.own.1 ≡ Some s = sym are.own ∙ (ap (λ (n : ℕ). slice_get (numbers_of topology who) n) (sym same) ∙ at) in cc in
+          subst (λ (t : ℕ). HasRoom lanes (lane_by topology (far t)) most) slot_is own
+      | inr goal ↦ subst (λ (t : ℕ). HasRoom lanes (lane_by topology (far t)) most) (beside other s goal at) mate
     ]

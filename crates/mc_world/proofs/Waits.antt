@@ -47,7 +47,7 @@ behind_served inside lane (first ∷ second ∷ rest) has served =
 abbrev no_signals : List Tagged
 no_signals = []
 
-no_lane : (n k : ℕ) → get_or (replicate n no_signals) k no_signals ≡ no_signals
+pub no_lane : (n k : ℕ) → get_or (replicate n no_signals) k no_signals ≡ no_signals
 no_lane n k = elim (cases_lt k n) [
   | inl below ↦ get_or-replicate n k no_signals no_signals below
   | inr above ↦ get_or-eq_default (replicate n no_signals) no_signals (omega (arith, above, length-replicate n no_signals))
@@ -74,7 +74,7 @@ flag_is inside who local has =
     (λ s is. has.waiting.flagged s (subst (λ (l : List (ℕ × ℕ)). s < length l) (sym has.topology.places) (number_is (world_state inside) who local s is).0) ∙ waits_same inside s has)
 
 -- a box has as many numbers as slots, and so has one that isn't there
-numbers_there : (inside : Inside) (who : ℕ) → HasTables inside → who < length inside.boxes.items → length (numbers_of inside.topology who) ≡ length (box_at (world_state inside) who).slots
+pub numbers_there : (inside : Inside) (who : ℕ) → HasTables inside → who < length inside.boxes.items → length (numbers_of inside.topology who) ≡ length (box_at (world_state inside) who).slots
 numbers_there inside who has here =
     let world : WorldState = world_state inside in
     let slots : ℕ = length (box_at (world_state inside) who).slots in

@@ -78,7 +78,7 @@ pub take_is : (world : WorldState) (topology : Topology) (who local s lane : ℕ
 take_is world topology who local s lane signal step is first goes leads at through =
     rw (is, first, goes, leads) (ap (λ (w : WorldState). Some w) (sent_out_by step.sent (with_box (after_pop world s) who step.after) topology who at through))
 
-is_there : {A : Type 0} (o : Option A) → IsSome o → (x : A) × (o ≡ Some x)
+pub is_there : {A : Type 0} (o : Option A) → IsSome o → (x : A) × (o ≡ Some x)
 is_there None some = absurd (cc)
 is_there (Some x) some = (x, refl)
 
@@ -97,7 +97,7 @@ take_enabled world who local s signal sound is first =
 
 -- ---- an event that takes nothing
 
-act_by : (world : WorldState) (who : ℕ) (event : Event) → is_take event ≡ false → step_by world who event ≡ option_map (after_making world who) (box_event (box_at world who) event None)
+pub act_by : (world : WorldState) (who : ℕ) (event : Event) → is_take event ≡ false → step_by world who event ≡ option_map (after_making world who) (box_event (box_at world who) event None)
 act_by world who (Take slot) other = absurd (cc)
 act_by world who (Set change) other = refl
 act_by world who (Media change) other = refl

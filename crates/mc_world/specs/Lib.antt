@@ -1,8 +1,12 @@
 pub mod Fronts
 pub mod Lanes
+pub mod Making
 pub mod Parts
 pub mod Rings
+pub mod Running
 pub mod Senders
 pub mod StepAnswers
 pub mod Tables
 pub mod Waiting
+pub mod Cuts
+pub mod Pumping

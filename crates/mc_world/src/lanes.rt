@@ -1,6 +1,6 @@
 // Lanes as they change, each given by its place among all lanes.
 
-ghost use Rattle.std.specs.Prelude.{◌≡◌, ℕ, ◌+◌, ◌<◌, true, length, OnOk};
+ghost use Rattle.std.specs.Prelude.{◌≡◌, ℕ, ◌+◌, ◌<◌, true, length, OnErr, OnOk};
 ghost use Rattle.mc_slot.specs.Sending.{sends_of};
 ghost use Rattle.std.specs.List.{slice_get};
 ghost use Rattle.mc_world.specs.Lanes.{signals_of, lane_by, numbers_of, tunnel_by, without_front, one_sent, all_sent, relay, with_sending, IsLaid, HasRoom, HasRoomAway, HasRoomFor, HasRoomFrom};
@@ -148,8 +148,8 @@ pub fn relay(
     send_all(lanes, waiting, topology, who, senders, sends);
 }
 
-// The front of its lane leaves for a slot, and another slot may be next. The room in each lane stays.
-fn pop_front(
+/// The front of its lane leaves for a slot, and another slot may be next. The room in each lane stays.
+pub fn pop_front(
     lanes: &mut [Lane<Tagged>],
     waiting: &mut Waiting,
     topology: &Topology,
@@ -178,6 +178,27 @@ fn pop_front(
         }
         None => waiting.clear(topology, slot),
     }
+}
+
+/// A signal goes to the end of the lane that leads to a slot, once there is room.
+pub fn put_last(
+    lanes: &mut [Lane<Tagged>],
+    waiting: &mut Waiting,
+    topology: &Topology,
+    slot: u32,
+    signal: &Signal,
+) -> Result<(), AllocError>
+    requires laid { IsLaid topology.now (length lanes.old) }
+    requires waiting { IsWaiting topology.now (signals_of lanes.old) waiting.old }
+    requires here { slot < length topology.now.places.items }
+    ensures sent { OnOk result (signals_of lanes.new ≡ with_sending topology.now (signals_of lanes.old) signal.now slot) }
+    ensures same { OnErr result (signals_of lanes.new ≡ signals_of lanes.old) }
+    ensures waiting { IsWaiting topology.now (signals_of lanes.new) waiting.new }
+{
+    let (lane, _) = topology.toward(slot);
+    reserve(lanes, lane, 1)?;
+    push_last(lanes, waiting, topology, slot, signal);
+    Ok(())
 }
 
 // Makes room in a lane. The room in each lane stays.

@@ -1,6 +1,7 @@
 //! Boxes, the channels between them, and the signals under way: the world in which a call is settled.
 #![tactic(auto)]
 
+mod acting;
 mod lanes;
 mod network;
 mod ringing;
@@ -10,6 +11,8 @@ mod waiting;
 
 pub use mc_laws::laws;
 pub use mc_model::{Channel, TUNNEL_LIMIT, Tunnel};
-pub use network::{Parts, StepFault, World};
+pub use network::{
+    CutFault, Engine, Outgoing, Parts, Pieces, PutFault, StepFault, World, engine_of,
+};
 pub use ringing::least_on_ring;
 pub use settled::Settled;

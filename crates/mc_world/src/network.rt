@@ -12,12 +12,16 @@ ghost use Rattle.mc_world.specs.Waiting.{take_waits, waiting_count, CountsTakes}
 ghost use Rattle.mc_model.specs.declared.channel.TheConstants.{TUNNEL_LIMIT};
 ghost use Rattle.mc_model.specs.Worlds.{AreChannels, first_world, slot_count, box_at, place, number, far, tunnel_of, front, lane_of, front_for, slot_of, goal_of, places_among, places_within, tunnels_from, tunnels_within};
 
+mod cut;
+mod engine;
 mod parts;
 mod rings;
 mod step;
 
 use crate::topology::{Topology, far, front_for, numbers_among};
 use crate::waiting::Waiting;
+pub use cut::{CutFault, Pieces, engine_of};
+pub use engine::{Engine, Outgoing, PutFault};
 use mc_box::{Event, MediaBox};
 use mc_lane::Lane;
 use mc_model::{Channel, Tunnel};

@@ -11,9 +11,9 @@ ghost use Rattle.mc_model.specs.Steps.{ends_version_at, step, step_by};
 ghost use Rattle.mc_world.specs.declared.network.step.StepFault.TheVariants.{NoMemory};
 
 use super::World;
+use crate::acting::is_version_end;
 use crate::lanes::{Senders, make_room, make_room_by, relay, send_lane};
-use mc_box::limit::LAST_VERSION;
-use mc_box::{Change, Event, MediaBox, MediaChange};
+use mc_box::{Change, Event};
 use mc_lane::Lane;
 use mc_signal::Signal;
 use mc_slot::{SENDS_LIMIT, Sends, SlotGoal};
@@ -202,15 +202,4 @@ fn stays_ringless(ringless: bool, event: Event) -> bool
     ensures { result ≡ (ringless && not (is_linking event)) }
 {
     ringless && !matches!(event, Event::Set(Change::Link(..)) | Event::Shift)
-}
-
-// Whether an event is a Hear of a slot whose descriptor has the last version.
-fn is_version_end(actor: &MediaBox, event: Event) -> bool
-    requires { IsTrue (is_enabled actor.now event) }
-    ensures { result ≡ is_version_end actor.now event }
-{
-    match event {
-        Event::Media(MediaChange::Hear(local, _)) => actor.own(local).version == LAST_VERSION,
-        _ => false,
-    }
 }

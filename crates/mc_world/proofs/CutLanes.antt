@@ -1,0 +1,81 @@
+-- An engine that was made of channels, and lanes that change between its turns.
+use Rattle.std.proofs.Common.{◌≡◌, ◌<◌, ◌≤◌, ◌+◌, ◌*◌, ◌^◌, ℕ, List, [], ◌∷◌, ◌++◌, Result, Ok, Err, length, map, get_or, refl, ap, sym, ◌∙◌, subst, arith, Vec}
+use Rattle.std.specs.Prelude.{OnErr, OnOk}
+use Rattle.std.specs.Vec.{with_items}
+use Rattle.std.specs.declared.alloc.AllocError.{AllocError}
+use Rattle.std.proofs.Math.ListN.{get_or-map, replicate}
+use Rattle.std.proofs.lemmas.List.{length-map, set-get_or}
+use Rattle.mc_box.specs.Boxes.{no_box}
+use Rattle.mc_signal.specs.declared.Signal.{Signal}
+use Rattle.mc_signal.specs.declared.Tagged.{Tagged}
+use Rattle.mc_laws.proofs.TunnelPlaces.{channel_in, two_each}
+use Rattle.mc_model.specs.Worlds.{ChannelState, TunnelPlace, WorldState, lane_of, no_tunnel, place, slot_count, tunnel_of, tunnels_from}
+use Rattle.mc_world.specs.Lanes.{HasNumbers, IsLaid, lane_by, signals_of, tunnel_by, with_sending}
+use Rattle.mc_world.specs.Running.{AllServedBy, AreServed, IsRunning}
+use Rattle.mc_world.specs.Tables.{IsTopologyOf, channel_of}
+use Rattle.mc_world.specs.Waiting.{IsWaiting}
+use Rattle.mc_world.specs.declared.network.engine.Engine.TheInside.{Inside}
+use Rattle.mc_world.specs.declared.topology.Topology.{Topology}
+use Rattle.mc_world.specs.declared.waiting.Waiting.{Waiting}
+use Rattle.mc_world.proofs.LaneBoxes.{lane_box, lane_run}
+use Rattle.mc_world.proofs.LaneChanges.{Lane, refilled}
+use Rattle.mc_world.proofs.Running.{runs_on}
+use Rattle.mc_world.proofs.Serving.{sending_served}
+use Rattle.mc_world.proofs.TopologyLanes.{lane_same, tunnel_same}
+use Rattle.mc_world.proofs.Waits.{no_lane}
+
+-- ---- tables of channels alone
+
+frame : List ChannelState → WorldState
+frame channels = record { boxes = []; channels = channels; lanes = [] }
+
+two_lanes : (channel channels count : ℕ) → channel < 0 + channels → count ≡ 2 * channels → 2 * channel + 1 < count
+two_lanes channel channels count below is = omega arith
+
+-- where each slot is found by its place, and by no other, tables are laid for the two lanes of each channel
+pub channels_laid : (channels : List ChannelState) (topology : Topology) (boxes count : ℕ) → IsTopologyOf topology channels boxes → HasNumbers topology → count ≡ 2 * length channels → IsLaid topology count
+channels_laid channels topology boxes count is numbers many =
+    let world : WorldState = record { boxes = []; channels = channels; lanes = [] } in
+    let found : List TunnelPlace = tunnels_from 0 channels in
+    let long : length topology.tunnels.items ≡ length (tunnels_from 0 channels) = ap (λ (l : List (ℕ × ℕ)). length l) is.tunnels ∙ length-map (tunnels_from 0 channels) channel_of in
+    let within : (r : ℕ) → r < length topology.places.items → r < slot_count world = λ r below. subst (λ (l : List (ℕ × ℕ)). r < length l) is.places below in
+    let one_lane : (s t : ℕ) → lane_by topology s ≡ lane_by topology t → lane_of world s ≡ lane_of world t = λ s t lane. sym (lane_same world topology s is.tunnels) ∙ (lane ∙ lane_same world topology t is.tunnels) in
+    record {
+      fit = is.few;
+      slots = ap (λ (l : List (ℕ × ℕ)). length l) is.places ∙ (two_each channels 0 ∙ ap (λ (n : ℕ). 2 * n) (sym long));
+      lanes = λ t below.
+          let channel : (get_or topology.tunnels.items t (0, 0)).0 ≡ (get_or found t no_tunnel).channel =
+          ap (λ (l : List (ℕ × ℕ)). (get_or l t (0, 0)).0) is.tunnels ∙ ap (λ (p : ℕ × ℕ). p.0) (get_or-map channel_of found t no_tunnel) in
+          subst (λ (c : ℕ). 2 * c + 1 < count) (sym channel)
+          (two_lanes (get_or found t no_tunnel).channel (length channels) count ((channel_in channels 0 t (subst (λ (n : ℕ). t < n) long below)).1) many);
+      numbers = numbers;
+      home = λ s t one two lane.
+          subst (λ (l : List (ℕ × ℕ)). (get_or l s (0, 0)).0 ≡ (get_or l t (0, 0)).0) (sym is.places) (lane_box world s t (within s one) (within t two) (one_lane s t lane));
+      follow = λ s t one two lane.
+          subst (λ (n : ℕ). s + 2 * n ≡ t + 2 * tunnel_by topology s) (sym (tunnel_same world topology t is.tunnels))
+          (subst (λ (n : ℕ). s + 2 * (tunnel_of world t).within ≡ t + 2 * n) (sym (tunnel_same world topology s is.tunnels)) (lane_run world s t (within s one) (within t two) (one_lane s t lane)));
+    }
+
+-- with nothing under way each signal is for some slot
+pub none_served : (topology : Topology) (lanes : List (List Tagged)) (n : ℕ) → lanes ≡ replicate n [] → AreServed topology lanes
+none_served topology lanes n none lane = subst (λ (l : List Tagged). AllServedBy topology lane l) (sym (ap (λ (l : List (List Tagged)). get_or l lane []) none ∙ no_lane n lane)) tt
+
+-- ---- a signal that is put in
+
+put_served : (topology : Topology) (old new : List (List Tagged)) (signal : Signal) (s : ℕ) (result : Result (Unit {0}) AllocError) → OnOk result (new ≡ with_sending topology old signal s) → OnErr result (new ≡ old)
+    → s < length topology.places.items → AreServed topology old → AreServed topology new
+put_served topology old new signal s (Ok done) sent same here served = subst (λ (l : List (List Tagged)). AreServed topology l) (sym sent) (sending_served topology old signal s here served)
+put_served topology old new signal s (Err fault) sent same here served = subst (λ (l : List (List Tagged)). AreServed topology l) (sym same) served
+
+pub put_runs : (inside : Inside) (first made : List Lane) (waiting : Waiting) (signal : Signal) (s : ℕ) (result : Result (Unit {0}) AllocError) → IsRunning inside → first ≡ inside.lanes.items → length made ≡ length first
+    → OnOk result (signals_of made ≡ with_sending inside.topology (signals_of first) signal s) → OnErr result (signals_of made ≡ signals_of first) → IsWaiting inside.topology (signals_of made) waiting → s < length inside.topology.places.items
+    → IsRunning (record inside { lanes = with_items inside.lanes made; waiting = waiting })
+put_runs inside first made waiting signal s result runs read long sent same waits here =
+    let many : length made ≡ length inside.lanes.items = long ∙ ap (λ (l : List Lane). length l) read in
+    let new : (with_items inside.lanes made).items ≡ made = refilled inside.lanes made many in
+    let served : AreServed inside.topology (signals_of made) =
+    put_served inside.topology (signals_of first) (signals_of made) signal s result sent same here (subst (λ (l : List Lane). AreServed inside.topology (signals_of l)) (sym read) runs.served) in
+    runs_on inside inside.boxes (with_items inside.lanes made) waiting inside.scratch 0 (get_or inside.boxes.items 0 no_box) runs (sym (set-get_or inside.boxes.items 0 no_box)) refl
+    (ap (λ (l : List Lane). length l) new ∙ many)
+    (subst (λ (l : List Lane). AreServed inside.topology (signals_of l)) (sym new) served)
+    (subst (λ (l : List Lane). IsWaiting inside.topology (signals_of l) waiting) (sym new) waits) runs.scratch
