@@ -24,38 +24,6 @@ use Rattle.mc_world.proofs.Serving.{sending_served}
 use Rattle.mc_world.proofs.TopologyLanes.{lane_same, tunnel_same}
 use Rattle.mc_world.proofs.Waits.{no_lane}
 
--- ---- tables of channels alone
-
-frame : List ChannelState → WorldState
-frame channels = record { boxes = []; channels = channels; lanes = [] }
-
-two_lanes : (channel channels count : ℕ) → channel < 0 + channels → count ≡ 2 * channels → 2 * channel + 1 < count
-two_lanes channel channels count below is = omega arith
-
--- where each slot is found by its place, and by no other, tables are laid for the two lanes of each channel
-pub channels_laid : (channels : List ChannelState) (topology : Topology) (boxes count : ℕ) → IsTopologyOf topology channels boxes → HasNumbers topology → count ≡ 2 * length channels → IsLaid topology count
-channels_laid channels topology boxes count is numbers many =
-    let world : WorldState = record { boxes = []; channels = channels; lanes = [] } in
-    let found : List TunnelPlace = tunnels_from 0 channels in
-    let long : length topology.tunnels.items ≡ length (tunnels_from 0 channels) = ap (λ (l : List (ℕ × ℕ)). length l) is.tunnels ∙ length-map (tunnels_from 0 channels) channel_of in
-    let within : (r : ℕ) → r < length topology.places.items → r < slot_count world = λ r below. subst (λ (l : List (ℕ × ℕ)). r < length l) is.places below in
-    let one_lane : (s t : ℕ) → lane_by topology s ≡ lane_by topology t → lane_of world s ≡ lane_of world t = λ s t lane. sym (lane_same world topology s is.tunnels) ∙ (lane ∙ lane_same world topology t is.tunnels) in
-    record {
-      fit = is.few;
-      slots = ap (λ (l : List (ℕ × ℕ)). length l) is.places ∙ (two_each channels 0 ∙ ap (λ (n : ℕ). 2 * n) (sym long));
-      lanes = λ t below.
-          let channel : (get_or topology.tunnels.items t (0, 0)).0 ≡ (get_or found t no_tunnel).channel =
-          ap (λ (l : List (ℕ × ℕ)). (get_or l t (0, 0)).0) is.tunnels ∙ ap (λ (p : ℕ × ℕ). p.0) (get_or-map channel_of found t no_tunnel) in
-          subst (λ (c : ℕ). 2 * c + 1 < count) (sym channel)
-          (two_lanes (get_or found t no_tunnel).channel (length channels) count ((channel_in channels 0 t (subst (λ (n : ℕ). t < n) long below)).1) many);
-      numbers = numbers;
-      home = λ s t one two lane.
-          subst (λ (l : List (ℕ × ℕ)). (get_or l s (0, 0)).0 ≡ (get_or l t (0, 0)).0) (sym is.places) (lane_box world s t (within s one) (within t two) (one_lane s t lane));
-      follow = λ s t one two lane.
-          subst (λ (n : ℕ). s + 2 * n ≡ t + 2 * tunnel_by topology s) (sym (tunnel_same world topology t is.tunnels))
-          (subst (λ (n : ℕ). s + 2 * (tunnel_of world t).within ≡ t + 2 * n) (sym (tunnel_same world topology s is.tunnels)) (lane_run world s t (within s one) (within t two) (one_lane s t lane)));
-    }
-
 -- with nothing under way each signal is for some slot
 pub none_served : (topology : Topology) (lanes : List (List Tagged)) (n : ℕ) → lanes ≡ replicate n [] → AreServed topology lanes
 none_served topology lanes n none lane = subst (λ (l : List Tagged). AllServedBy topology lane l) (sym (ap (λ (l : List (List Tagged)). get_or l lane []) none ∙ no_lane n lane)) tt

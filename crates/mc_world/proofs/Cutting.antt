@@ -45,7 +45,8 @@ by_place topology who local s found below home at is =
     omega (arith, same, less)))
     (λ here. tests who local (place_at topology s) home at)) below
 
-none_past : (topology : Topology) (who : ℕ) → length topology.numbers.items ≤ who → numbers_of topology who ≡ []
+-- a home that isn't there has no numbers
+pub none_past : (topology : Topology) (who : ℕ) → length topology.numbers.items ≤ who → numbers_of topology who ≡ []
 none_past topology who past = get_or-eq_default (map (λ numbers. numbers.items) topology.numbers.items) [] (omega (arith, past, length-map topology.numbers.items (λ numbers. numbers.items)))
 
 numbered : (topology : Topology) (who local s : ℕ) → slice_get (numbers_of topology who) local ≡ Some s → who < length topology.numbers.items

@@ -55,36 +55,6 @@ room_changed (lane ∷ lanes) (suc j) d new before after less here (suc k) room 
 pub refilled : (lanes : Vec Lane Global) (new : List Lane) → length new ≡ length lanes.items → (with_items lanes new).items ≡ new
 refilled lanes new long = with_items_is lanes new (long ∙ sym lanes.ok.0)
 
--- a slice with the same signals
-pub signals_kept : (lanes : Vec Lane Global) (first made : List Lane) → first ≡ lanes.items → length made ≡ length first → signals_of made ≡ signals_of first
-    → signals_of (with_items lanes made).items ≡ signals_of lanes.items
-signals_kept lanes first made is long same = rw (refilled lanes made (rw is at long), same, is) refl
-
--- as many lanes
-pub length_kept : (lanes : Vec Lane Global) (first made second : List Lane) → first ≡ lanes.items → length made ≡ length first → second ≡ (with_items lanes made).items
-    → length second ≡ length lanes.items
-length_kept lanes first made second is long again = ap (λ (l : List Lane). length l) (again ∙ refilled lanes made (rw is at long)) ∙ (long ∙ ap (λ (l : List Lane). length l) is)
-
--- and their room, for as much as is sent
-pub room_kept : (lanes : Vec Lane Global) (first made second : List Lane) (k most count : ℕ) → first ≡ lanes.items → length made ≡ length first → second ≡ (with_items lanes made).items
-    → count ≤ most → HasRoom made k most → HasRoom second k count
-room_kept lanes first made second k most count is long again few room =
-    subst (λ (l : List Lane). HasRoom l k count) (sym (again ∙ refilled lanes made (rw is at long))) (λ d. omega (arith, few, room d))
-
--- and then another slice
-pub twice_refilled : (lanes : Vec Lane Global) (first made second last : List Lane) → first ≡ lanes.items → length made ≡ length first → second ≡ (with_items lanes made).items
-    → length last ≡ length second → (with_items (with_items lanes made) last).items ≡ last
-twice_refilled lanes first made second last is long again last_long = refilled (with_items lanes made) last (rw again at last_long)
-
--- and then one with others
-pub signals_written : (lanes : Vec Lane Global) (first made second last : List Lane) (out : List (List Tagged) → List (List Tagged)) → first ≡ lanes.items
-    → length made ≡ length first → signals_of made ≡ signals_of first → second ≡ (with_items lanes made).items → length last ≡ length second → signals_of last ≡ out (signals_of second)
-    → signals_of (with_items (with_items lanes made) last).items ≡ out (signals_of lanes.items)
-signals_written lanes first made second last out is long same again last_long written =
-    let there : (with_items (with_items lanes made) last).items ≡ last = refilled (with_items lanes made) last (rw again at last_long) in
-    let second_is : signals_of second ≡ signals_of lanes.items = rw again (signals_kept lanes first made is long same) in
-    rw (there, written, second_is) refl
-
 -- what stands at a place is what is read there
 pub got_is : {A : Type 0} (items : List A) (i : ℕ) (item default : A) → Some item ≡ slice_get items i → item ≡ get_or items i default
 got_is [] zero item default is = absurd (cc)

@@ -1,15 +1,36 @@
 -- Rings by a table of partners: what stands there is what a world's own slots say.
 use Rattle.std.proofs.Common.{◌≡◌, ◌<◌, ◌+◌, ℕ, List, Option, Some, None, get_or, refl, ap, sym, ◌∙◌, subst, arith}
 use Rattle.std.specs.Option.{option_and_then, option_map}
-use Rattle.mc_model.specs.Paths.{partner_of}
+use Rattle.mc_slot.specs.declared.Goal.{Goal}
+use Rattle.mc_slot.specs.declared.SlotGoal.{SlotGoal}
+use Rattle.mc_slot.specs.declared.SlotGoal.TheVariants.{End, Link}
+use Rattle.mc_box.specs.Boxes.{goal_at}
+use Rattle.mc_model.specs.Paths.{partner_by, partner_of}
 use Rattle.mc_model.specs.Rings.{IsFirstOnRing, IsOnRing, NoneBefore}
 use Rattle.mc_model.specs.Sound.{IsSound}
-use Rattle.mc_model.specs.Worlds.{WorldState, far, slot_count}
+use Rattle.mc_model.specs.Worlds.{WorldState, box_at, far, goal_of, number, slot_count}
 use Rattle.mc_laws.proofs.ActedWorlds.{far_inside}
 use Rattle.mc_laws.proofs.BothWays.{WalkBoth, both_next, none_yet}
+use Rattle.mc_laws.proofs.Numbers.{number_is}
 use Rattle.mc_laws.proofs.Partners.{are_linked}
 use Rattle.mc_laws.proofs.RingWalks.{ring_partner}
 use Rattle.mc_world.specs.Rings.{ArePartners}
+
+-- ---- a box's slot, by its goal
+
+-- an end has no partner
+pub end_alone : (world : WorldState) (who local slot : ℕ) (goal : Goal) → number world who local ≡ Some slot → goal_at (box_at world who) local ≡ End goal → partner_of world slot ≡ None
+end_alone world who local slot goal is aims =
+    let at = number_is world who local slot is in
+    let goal_is : goal_of world slot ≡ End goal = rw (at.1, at.2) aims in
+    ap (λ (g : SlotGoal). partner_by world g slot) goal_is
+
+-- the partner's number, by the goal of the slot
+pub linked_is : (world : WorldState) (who local other slot : ℕ) → number world who local ≡ Some slot → goal_at (box_at world who) local ≡ Link other → partner_of world slot ≡ number world who other
+linked_is world who local other slot is goal =
+    let at = number_is world who local slot is in
+    let goal_is : goal_of world slot ≡ Link other = rw (at.1, at.2) goal in
+    ap (λ (g : SlotGoal). partner_by world g slot) goal_is ∙ ap (λ (w : ℕ). number world w other) at.1
 
 -- ---- one slot
 

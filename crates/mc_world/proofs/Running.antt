@@ -1,5 +1,5 @@
 -- What an engine keeps, from event to event.
-use Rattle.std.proofs.Common.{inl, inr, ◌≡◌, ◌≢◌, ◌<◌, ◌≤◌, ◌==◌, if◌then◌else◌, zero, suc, true, false, Bool, ℕ, Option, Some, None, IsSome, List, [], ◌∷◌, length, map, position, get_or, Vec, refl, ap, sym, ◌∙◌, subst, arith}
+use Rattle.std.proofs.Common.{inl, inr, ◌≡◌, ◌≢◌, ◌<◌, ◌≤◌, ◌==◌, if◌then◌else◌, zero, suc, true, false, Bool, ℕ, Option, Some, None, IfNone, IfSome, IsSome, List, [], ◌∷◌, length, map, position, get_or, Vec, refl, ap, sym, ◌∙◌, subst, arith}
 use Rattle.std.specs.declared.alloc.Global.{Global}
 use Rattle.std.specs.List.{slice_get}
 use Rattle.std.specs.Vec.{with_item, with_items}
@@ -19,23 +19,29 @@ use Rattle.mc_box.specs.declared.event.Event.{Event}
 use Rattle.mc_box.specs.declared.event.Event.TheVariants.{Take}
 use Rattle.mc_box.proofs.EventActs.{event_acts, take_acts}
 use Rattle.mc_box.proofs.EventGoes.{event_goes, take_goes, take_was_lawful}
+use Rattle.mc_model.specs.Rings.{IsLeastOnRing}
 use Rattle.mc_model.specs.Served.{AllServed, IsFor}
+use Rattle.mc_model.specs.Sound.{IsSound}
 use Rattle.mc_model.specs.Steps.{step_by}
 use Rattle.mc_model.specs.Worlds.{WorldState, all_tunnels, box_at, front, front_for, is_place, lane_of, number, places, tunnel_of}
+use Rattle.mc_world.specs.Fronts.{NextServed}
 use Rattle.mc_world.specs.Lanes.{IsLaid, all_sent, lane_by, numbers_of, signals_of, tunnel_by, without_front}
 use Rattle.mc_world.specs.Making.{MakesEvent}
+use Rattle.mc_world.specs.Pumping.{WaitsAt}
 use Rattle.mc_world.specs.Running.{AllServedBy, AreServed, IsRunning, running_state}
-use Rattle.mc_world.specs.Tables.{HasTables, channel_of, world_state}
+use Rattle.mc_world.specs.Tables.{HasTables, IsTopologyOf, channel_of, world_state}
 use Rattle.mc_world.specs.Waiting.{IsWaiting, bit, flag_of, take_waits, waits_by}
 use Rattle.mc_world.specs.declared.network.World.TheInside as world
 use Rattle.mc_world.specs.declared.network.engine.Engine.TheInside.{Inside}
 use Rattle.mc_world.specs.declared.waiting.Waiting.{Waiting}
 use Rattle.mc_laws.proofs.Numbers.{found_at}
 use Rattle.mc_turn.specs.Sums.{total}
+use Rattle.mc_world.proofs.Cutting.{none_past}
 use Rattle.mc_world.proofs.LaneChanges.{Lane, refilled}
-use Rattle.mc_world.proofs.Serving.{all_served, each_set, front_left}
+use Rattle.mc_world.proofs.Serving.{all_served, each_set, front_left, next_served}
+use Rattle.mc_world.proofs.Tables.{box_read}
 use Rattle.mc_world.proofs.TopologyLanes.{lane_same, tables_laid, tunnel_same}
-use Rattle.mc_world.proofs.Waits.{numbers_there}
+use Rattle.mc_world.proofs.Waits.{flag_is, numbers_there, waits_same}
 use Rattle.mc_world.proofs.WorldSteps.{act_by, act_is, is_there, take_is}
 
 -- ---- a world that is taken for an engine
@@ -55,9 +61,12 @@ served_by inside lane (first ∷ rest) has served =
       served_by inside lane rest has served.1,
     )
 
-pub world_runs : (inside : world.Inside) (scratch : Queue (ℕ × Signal)) → HasTables inside → scratch ≡ record { items = []; spare = 0 }
-    → IsRunning (record { boxes = inside.boxes; channels = inside.channels; lanes = inside.lanes; topology = inside.topology; waiting = inside.waiting; scratch = scratch })
-world_runs inside scratch has none = record {
+-- its boxes, channels, lanes and tables as an engine has them
+abbrev pub as_engine : world.Inside → Inside
+as_engine inside = record { boxes = inside.boxes; channels = inside.channels; lanes = inside.lanes; topology = inside.topology; waiting = inside.waiting; scratch = inside.scratch }
+
+pub world_runs : (inside : world.Inside) → HasTables inside → IsRunning (as_engine inside)
+world_runs inside has = record {
   channels = has.channels;
   topology = record { places = has.topology.places; tunnels = has.topology.tunnels; found = has.topology.found; few = has.topology.few; homes = refl };
   lanes = has.lanes;
@@ -66,7 +75,7 @@ world_runs inside scratch has none = record {
   homes = omega (arith, has.topology.homes);
   slots = λ who here. numbers_there inside who has here;
   served = λ lane. served_by inside lane (get_or (signals_of inside.lanes.items) lane []) has (has.sound.served lane);
-  scratch = ap (λ (queue : Queue (ℕ × Signal)). queue.items) none;
+  scratch = has.scratch;
 }
 
 -- ---- numbers and fronts
@@ -95,9 +104,7 @@ pub slot_inside : (inside : Inside) (who local s : ℕ) → IsRunning inside →
 slot_inside inside who local s runs here is = subst (λ (n : ℕ). local < n) (runs.slots who here) (get_inside (numbers_of inside.topology who) local s is)
 
 pub waits_is : (inside : Inside) (s : ℕ) → IsRunning inside → waits_by inside.topology (signals_of inside.lanes.items) s ≡ is_some (front (running_state inside) s)
-waits_is inside s runs =
-    ap (λ (w : ℕ). is_some (front_for w (get_or (signals_of inside.lanes.items) (lane_by inside.topology s) []))) (tunnel_at inside s runs)
-    ∙ ap (λ (k : ℕ). is_some (front_for (tunnel_of (running_state inside) s).within (get_or (signals_of inside.lanes.items) k []))) (lane_at inside s runs)
+waits_is inside s runs = waits_same (running_state inside) inside.topology s runs.topology.tunnels
 
 -- ---- an event that is made
 
@@ -178,6 +185,35 @@ unmoved inside world who home after first made waiting scratch view reads same l
     let lanes : signals_of (with_items inside.lanes made).items ≡ signals_of inside.lanes.items = signals_then inside first made reads.first_is long ∙ (kept ∙ ap (λ (l : List Lane). signals_of l) reads.first_is) in
     ap (λ (l : List BoxState). record { boxes = l; channels = inside.channels.items; lanes = signals_of (with_items inside.lanes made).items }) boxes
     ∙ (ap (λ (l : List (List Tagged)). record { boxes = inside.boxes.items; channels = inside.channels.items; lanes = l }) lanes ∙ view)
+
+-- what an engine keeps of its tables and fronts, for lanes that were read of it
+pub read_laid : (inside : Inside) (first : List Lane) → IsRunning inside → first ≡ inside.lanes.items → IsLaid inside.topology (length first)
+read_laid inside first runs is = subst (λ (l : List Lane). IsLaid inside.topology (length l)) (sym is) runs.laid
+
+pub read_served : (inside : Inside) (first : List Lane) (s : ℕ) → IsRunning inside → first ≡ inside.lanes.items → NextServed inside.topology (signals_of first) s
+read_served inside first s runs is = subst (λ (l : List Lane). NextServed inside.topology (signals_of l) s) (sym is) (next_served inside.topology (signals_of inside.lanes.items) s runs.served)
+
+-- a box that was read of a sound world is sound
+pub home_sound : (inside : world.Inside) (world : WorldState) (who : ℕ) (home : BoxState) → world_state inside ≡ world → who < length world.boxes → IsSound world → home ≡ get_or inside.boxes.items who home → IsSoundBox home
+home_sound inside world who home view here sound is = subst (λ (box : BoxState). IsSoundBox box) (sym (box_read inside world who home view here is)) (sound.boxes who here)
+
+-- so a world in which nothing came of it keeps its tables
+pub unmoved_tables : (inside : world.Inside) (who : ℕ) (home after : BoxState) (first made : List Lane) (waiting : Waiting) (scratch : Queue (ℕ × Signal)) → HasTables inside → Reads (as_engine inside) who home first → after ≡ home
+    → length made ≡ length first → signals_of made ≡ signals_of first → IsWaiting inside.topology (signals_of made) waiting → scratch.items ≡ []
+    → HasTables (record inside { boxes = with_item inside.boxes who after; lanes = with_items inside.lanes made; waiting = waiting; scratch = scratch })
+unmoved_tables inside who home after first made waiting scratch has reads same long kept waits none =
+    let runs = unmoved_runs (as_engine inside) who home after first made waiting scratch (world_runs inside has) reads same long kept waits none in
+    let is : world_state inside ≡ world_state (record inside { boxes = with_item inside.boxes who after; lanes = with_items inside.lanes made; waiting = waiting; scratch = scratch }) =
+    sym (unmoved (as_engine inside) (world_state inside) who home after first made waiting scratch refl reads same long kept) in
+    record {
+      channels = has.channels;
+      topology = subst (λ (n : ℕ). IsTopologyOf inside.topology inside.channels.items n) (sym (length-set inside.boxes.items who after)) has.topology;
+      lanes = runs.lanes;
+      waiting = runs.waiting;
+      scratch = none;
+      sound = subst (λ (w : WorldState). IsSound w) is has.sound;
+      ringless = λ remembered. subst (λ (w : WorldState). IsLeastOnRing w None) is (has.ringless remembered);
+    }
 
 -- ---- a Take
 
@@ -274,16 +310,9 @@ act_can inside world who event home first view reads sound other enabled more =
 
 -- ---- what waits
 
-flag_from : (world : WorldState) (flags : List Bool) (o : Option ℕ) → ((s : ℕ) → o ≡ Some s → get_or flags s false ≡ is_some (front world s)) → flag_of flags o ≡ is_some (option_and_then (front world) o)
-flag_from world flags None each = refl
-flag_from world flags (Some s) each = each s refl
-
 -- a box's slot has a flag where a signal waits for it
 pub flag_there : (inside : Inside) (who local : ℕ) → IsRunning inside → flag_of inside.waiting.flags.items (slice_get (numbers_of inside.topology who) local) ≡ take_waits (running_state inside) who local
-flag_there inside who local runs =
-    ap (flag_of inside.waiting.flags.items) (number_by inside who local runs)
-    ∙ flag_from (running_state inside) inside.waiting.flags.items (number (running_state inside) who local)
-    (λ s is. runs.waiting.flagged s (number_inside inside who local s runs (number_by inside who local runs ∙ is)) ∙ waits_is inside s runs)
+flag_there inside who local runs = flag_is (running_state inside) inside.topology inside.waiting (length inside.topology.numbers.items) who local runs.topology runs.waiting
 
 -- a sum of bits that is 0 has none
 slice_get-past : (items : List ℕ) (k : ℕ) → length items ≤ k → slice_get items k ≡ None
@@ -302,20 +331,39 @@ bit_none : (b : Bool) → bit b ≡ 0 → b ≡ false
 bit_none true none = absurd (omega (arith, none))
 bit_none false none = refl
 
-none_behind : (flags : List Bool) (o : Option ℕ) → o ≡ None → flag_of flags o ≡ false
-none_behind flags None is = refl
-none_behind flags (Some s) is = absurd (cc)
+no_flag : (flags : List Bool) (o : Option ℕ) → o ≡ None → flag_of flags o ≡ false
+no_flag flags None is = refl
+no_flag flags (Some s) is = absurd (cc)
 
 none_flagged : (numbers : List ℕ) (flags : List Bool) (local : ℕ) → total (λ (k : ℕ). bit (flag_of flags (slice_get numbers k))) (length numbers) ≡ 0 → flag_of flags (slice_get numbers local) ≡ false
 none_flagged numbers flags local none = elim (cases_lt local (length numbers)) [
   | inl below ↦ bit_none (flag_of flags (slice_get numbers local)) (one_of (λ (k : ℕ). bit (flag_of flags (slice_get numbers k))) (length numbers) local none below)
-  | inr past ↦ none_behind flags (slice_get numbers local) (slice_get-past numbers local past)
+  | inr past ↦ no_flag flags (slice_get numbers local) (slice_get-past numbers local past)
 ]
 
 -- where none is counted none waits
-pub none_there : (inside : Inside) (world : WorldState) (who local : ℕ) → IsRunning inside → running_state inside ≡ world → who < length inside.boxes.items → get_or inside.waiting.takes who 0 ≡ 0 → take_waits world who local ≡ false
-none_there inside world who local runs view here none =
-    subst (λ (w : WorldState). take_waits w who local ≡ false) view
-    (sym (flag_there inside who local runs)
-    ∙ none_flagged (numbers_of inside.topology who) inside.waiting.flags.items local
-    (sym (runs.waiting.counted.each who (omega (arith, here, runs.homes))) ∙ none))
+pub none_there : (inside : Inside) (world : WorldState) (who local : ℕ) → IsRunning inside → running_state inside ≡ world → (who < length inside.topology.numbers.items → get_or inside.waiting.takes who 0 ≡ 0) → take_waits world who local ≡ false
+none_there inside world who local runs view none =
+    let off : flag_of inside.waiting.flags.items (slice_get (numbers_of inside.topology who) local) ≡ false = elim (cases_lt who (length inside.topology.numbers.items)) [
+      | inl below ↦ none_flagged (numbers_of inside.topology who) inside.waiting.flags.items local (sym (runs.waiting.counted.each who below) ∙ none below)
+      | inr past ↦ no_flag inside.waiting.flags.items (slice_get (numbers_of inside.topology who) local) (slice_get-past (numbers_of inside.topology who) local (omega (arith, ap (λ (l : List ℕ). length l) (none_past inside.topology who past))))
+    ] in
+    subst (λ (w : WorldState). take_waits w who local ≡ false) view (sym (flag_there inside who local runs) ∙ off)
+
+-- a signal waits at the slot of a flag
+pub waits_at : (inside : Inside) (world : WorldState) (who local : ℕ) (found : Option ℕ) → IsRunning inside → running_state inside ≡ world → found ≡ slice_get (numbers_of inside.topology who) local
+    → flag_of inside.waiting.flags.items (slice_get (numbers_of inside.topology who) local) ≡ true → IfSome found (λ slot. WaitsAt world who slot)
+waits_at inside world who local None runs view is flag = tt
+waits_at inside world who local (Some s) runs view is flag =
+    let at = found_at inside.topology.places.items who local s (sym (runs.topology.found who local) ∙ sym is) in
+    let on : get_or inside.waiting.flags.items s false ≡ true = ap (flag_of inside.waiting.flags.items) is ∙ flag in
+    subst (λ (w : WorldState). WaitsAt w who s) view (record {
+      here = subst (λ (l : List (ℕ × ℕ)). s < length l) runs.topology.places at.0;
+      home = subst (λ (l : List (ℕ × ℕ)). (get_or l s (0, 0)).0 ≡ who) runs.topology.places at.1;
+      waits = sym (waits_is inside s runs) ∙ (sym (runs.waiting.flagged s at.0) ∙ on);
+    })
+
+-- which is there
+pub flag_has : (P : Type 0) (flags : List Bool) (numbers : List ℕ) (local : ℕ) (found : Option ℕ) → found ≡ slice_get numbers local → flag_of flags (slice_get numbers local) ≡ true → IfNone found P
+flag_has P flags numbers local None is flag = let off : false ≡ true = ap (flag_of flags) is ∙ flag in absurd (cc)
+flag_has P flags numbers local (Some s) is flag = tt

@@ -55,44 +55,7 @@ sender_by (Link partner) box local other signal step took some = elim (cases_eq 
   ]
 ]
 
--- an end has no partner
-pub end_alone : (world : WorldState) (who local slot : ℕ) (goal : Goal) → number world who local ≡ Some slot → goal_at (box_at world who) local ≡ End goal → partner_of world slot ≡ None
-end_alone world who local slot goal is aims =
-    let at = number_is world who local slot is in
-    let goal_is : goal_of world slot ≡ End goal = rw (at.1, at.2) aims in
-    ap (λ (g : SlotGoal). partner_by world g slot) goal_is
-
--- the partner's number, by the goal of the slot
-pub linked_is : (world : WorldState) (who local other slot : ℕ) → number world who local ≡ Some slot → goal_at (box_at world who) local ≡ Link other → partner_of world slot ≡ number world who other
-linked_is world who local other slot is goal =
-    let at = number_is world who local slot is in
-    let goal_is : goal_of world slot ≡ Link other = rw (at.1, at.2) goal in
-    ap (λ (g : SlotGoal). partner_by world g slot) goal_is ∙ ap (λ (w : ℕ). number world w other) at.1
-
-room_at : (lanes : List Lane) (topology : Topology) (most s : ℕ) (partner : Option ℕ) → partner ≡ Some s → IfSome partner (λ p. HasRoom lanes (lane_by topology (far p)) most) → HasRoom lanes (lane_by topology (far s)) most
-room_at lanes topology most s None is room = absurd (cc)
-room_at lanes topology most s (Some p) is room = let same : p ≡ s = cc in subst (λ (t : ℕ). HasRoom lanes (lane_by topology (far t)) most) same room
-
--- what has room where there is a partner
-pub room_beside : (lanes : List Lane) (topology : Topology) (most beside : ℕ) (partner : Option ℕ) → ((p : ℕ) → partner ≡ Some p → beside ≡ p) → HasRoom lanes (lane_by topology (far beside)) most → IfSome partner (λ p. HasRoom lanes (lane_by topology (far p)) most)
-room_beside lanes topology most beside None is room = tt
-room_beside lanes topology most beside (Some p) is room = subst (λ (t : ℕ). HasRoom lanes (lane_by topology (far t)) most) (is p refl) room
-
 -- so room in the two lanes away from these is room for all that a Take sends
-pub take_room : (world : WorldState) (topology : Topology) (lanes : List Lane) (who local slot most : ℕ) (partner : Option ℕ) (signal : Signal) (step : BoxStep) → IsSoundBox (box_at world who)
-    → box_event (box_at world who) (Take local) (Some signal) ≡ Some step → number world who local ≡ Some slot → partner ≡ partner_of world slot → ((other : ℕ) → slice_get (numbers_of topology who) other ≡ number world who other)
-    → HasRoom lanes (lane_by topology (far slot)) most → IfSome partner (λ p. HasRoom lanes (lane_by topology (far p)) most) → HasRoomFrom lanes topology who step.sent most
-take_room world topology lanes who local slot most partner signal step sound goes is linked found own mate k d below s at =
-    let other : ℕ = (get_or step.sent k d).0 in
-    let here : number world who (get_or step.sent k d).0 ≡ Some s = sym (found (get_or step.sent k d).0) ∙ at in
-    elim (sender_by (goal_at (box_at world who) local) (box_at world who) local other signal step (take_turned (box_at world who) local signal step sound goes) (some_sent step.sent k d below)) [
-      | inl same ↦
-          let slot_is : slot ≡ s = let twice : Some slot ≡ Some s = sym is ∙ (ap (number world who) (sym same) ∙ here) in cc in
-          subst (λ (t : ℕ). HasRoom lanes (lane_by topology (far t)) most) slot_is own
-      | inr goal ↦ room_at lanes topology most s partner (linked ∙ (linked_is world who local other slot is goal ∙ here)) mate
-    ]
-
--- the same by the tables
 pub room_by : (topology : Topology) (lanes : List Lane) (who : ℕ) (box : BoxState) (senders : Senders) (most : ℕ) (signal : Signal) (step : BoxStep) → IsSoundBox box → box_event box (Take senders.own.0) (Some signal) ≡ Some step
     → AreSenders topology who senders → IsBeside topology who box senders → HasRoom lanes (lane_by topology (far senders.own.1)) most → HasRoom lanes (lane_by topology (far senders.partner.1)) most
     → HasRoomFrom lanes topology who step.sent most

@@ -16,7 +16,7 @@ use Rattle.mc_world.proofs.LaneBoxes.{lane_box, lane_run}
 use Rattle.mc_world.proofs.FlagCounts.{number_there}
 use Rattle.mc_world.proofs.LaneChanges.{Lane}
 use Rattle.mc_world.specs.Tables.{HasTables, IsTopologyOf, channel_of, world_state}
-use Rattle.mc_model.specs.Worlds.{TunnelPlace, WorldState, box_at, place, slot_count, far, is_place, tunnel_of, all_tunnels, tunnels_from, lane_of, no_tunnel, number, places}
+use Rattle.mc_model.specs.Worlds.{ChannelState, TunnelPlace, WorldState, box_at, place, slot_count, far, is_place, tunnel_of, all_tunnels, tunnels_from, lane_of, no_tunnel, number, places}
 use Rattle.mc_world.specs.declared.network.World.TheInside.{Inside}
 use Rattle.mc_world.specs.declared.topology.Topology.{Topology}
 use Rattle.mc_laws.proofs.TunnelPlaces.{channel_in, two_each}
@@ -83,30 +83,33 @@ topology_numbers world topology is sound = record {
       (λ local s at. number_few world who local s sound at);
 }
 
--- and are of its lanes
-pub topology_laid : (world : WorldState) (topology : Topology) → IsTopologyOf topology world.channels (length world.boxes) → IsSound world → IsLaid topology (length world.lanes)
-topology_laid world topology is sound =
-    let found : List TunnelPlace = tunnels_from 0 world.channels in
-    let long : length topology.tunnels.items ≡ length (tunnels_from 0 world.channels) =
-    ap (λ (l : List (ℕ × ℕ)). length l) is.tunnels ∙ length-map (tunnels_from 0 world.channels) channel_of in
+-- where each slot is found by its place, and by no other, tables are laid for the two lanes of each channel
+pub channels_laid : (channels : List ChannelState) (topology : Topology) (boxes count : ℕ) → IsTopologyOf topology channels boxes → HasNumbers topology → count ≡ 2 * length channels → IsLaid topology count
+channels_laid channels topology boxes count is numbers many =
+    let world : WorldState = record { boxes = []; channels = channels; lanes = [] } in
+    let found : List TunnelPlace = tunnels_from 0 channels in
+    let long : length topology.tunnels.items ≡ length (tunnels_from 0 channels) = ap (λ (l : List (ℕ × ℕ)). length l) is.tunnels ∙ length-map (tunnels_from 0 channels) channel_of in
     let within : (r : ℕ) → r < length topology.places.items → r < slot_count world = λ r below. subst (λ (l : List (ℕ × ℕ)). r < length l) is.places below in
     let one_lane : (s t : ℕ) → lane_by topology s ≡ lane_by topology t → lane_of world s ≡ lane_of world t = λ s t lane. sym (lane_same world topology s is.tunnels) ∙ (lane ∙ lane_same world topology t is.tunnels) in
     record {
       fit = is.few;
-      slots = ap (λ (l : List (ℕ × ℕ)). length l) is.places ∙ (two_each world.channels 0 ∙ ap (λ (n : ℕ). 2 * n) (sym long));
+      slots = ap (λ (l : List (ℕ × ℕ)). length l) is.places ∙ (two_each channels 0 ∙ ap (λ (n : ℕ). 2 * n) (sym long));
       lanes = λ t below.
           let channel : (get_or topology.tunnels.items t (0, 0)).0 ≡ (get_or found t no_tunnel).channel =
           ap (λ (l : List (ℕ × ℕ)). (get_or l t (0, 0)).0) is.tunnels ∙ ap (λ (p : ℕ × ℕ). p.0) (tunnel_at found t) in
-          subst (λ (c : ℕ). 2 * c + 1 < length world.lanes) (sym channel)
-          (channel_lanes (get_or found t no_tunnel).channel (length world.channels) (length world.lanes)
-          ((channel_in world.channels 0 t (subst (λ (n : ℕ). t < n) long below)).1) sound.numbered.lanes);
-      numbers = topology_numbers world topology is sound;
+          subst (λ (c : ℕ). 2 * c + 1 < count) (sym channel)
+          (channel_lanes (get_or found t no_tunnel).channel (length channels) count ((channel_in channels 0 t (subst (λ (n : ℕ). t < n) long below)).1) many);
+      numbers = numbers;
       home = λ s t one two lane.
           subst (λ (l : List (ℕ × ℕ)). (get_or l s (0, 0)).0 ≡ (get_or l t (0, 0)).0) (sym is.places) (lane_box world s t (within s one) (within t two) (one_lane s t lane));
       follow = λ s t one two lane.
           subst (λ (n : ℕ). s + 2 * n ≡ t + 2 * tunnel_by topology s) (sym (tunnel_same world topology t is.tunnels))
           (subst (λ (n : ℕ). s + 2 * (tunnel_of world t).within ≡ t + 2 * n) (sym (tunnel_same world topology s is.tunnels)) (lane_run world s t (within s one) (within t two) (one_lane s t lane)));
     }
+
+-- and so are those of a sound world
+pub topology_laid : (world : WorldState) (topology : Topology) → IsTopologyOf topology world.channels (length world.boxes) → IsSound world → IsLaid topology (length world.lanes)
+topology_laid world topology is sound = channels_laid world.channels topology (length world.boxes) (length world.lanes) is (topology_numbers world topology is sound) sound.numbered.lanes
 
 -- so those that a world keeps
 pub tables_numbers : (inside : Inside) → HasTables inside → HasNumbers inside.topology

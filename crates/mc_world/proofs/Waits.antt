@@ -11,13 +11,13 @@ use Rattle.mc_box.specs.Boxes.{BoxState, no_box}
 use Rattle.mc_box.specs.declared.limit.TheConstants.{SLOT_LIMIT}
 use Rattle.mc_turn.proofs.Sums.{total_same}
 use Rattle.mc_laws.proofs.Numbers.{number_is}
-use Rattle.mc_model.specs.Served.{AllServed, IsFor}
-use Rattle.mc_model.specs.Worlds.{WorldState, box_at, front, front_for, is_place, number, place, tunnel_of}
+use Rattle.mc_model.specs.Worlds.{WorldState, all_tunnels, box_at, front, front_for, is_place, number, place, tunnel_of}
 use Rattle.mc_world.specs.Lanes.{lane_by, numbers_of, signals_of, tunnel_by}
-use Rattle.mc_world.specs.Tables.{HasTables, world_state}
-use Rattle.mc_world.specs.Waiting.{AreFlagged, CountsTakes, FirstServed, bit, flag_count, flag_of, take_waits, waiting_count, waits_by}
+use Rattle.mc_world.specs.Tables.{HasTables, IsTopologyOf, channel_of, world_state}
+use Rattle.mc_world.specs.Waiting.{AreFlagged, CountsTakes, IsWaiting, bit, flag_count, flag_of, take_waits, waiting_count, waits_by}
 use Rattle.mc_world.specs.declared.network.World.TheInside.{Inside}
 use Rattle.mc_world.specs.declared.topology.Topology.{Topology}
+use Rattle.mc_world.specs.declared.waiting.Waiting.{Waiting}
 use Rattle.mc_world.proofs.FlagCounts.{count_small}
 use Rattle.mc_world.proofs.SlotNumbers.{by_origin}
 use Rattle.mc_world.proofs.TopologyLanes.{few_numbers, lane_same, tables_numbers, tunnel_same}
@@ -25,24 +25,10 @@ use Rattle.mc_world.proofs.TopologyLanes.{few_numbers, lane_same, tables_numbers
 -- ---- fronts
 
 -- by the tables it is the front of the world
-pub waits_same : (inside : Inside) (s : ℕ) → HasTables inside → waits_by inside.topology (signals_of inside.lanes.items) s ≡ is_some (front (world_state inside) s)
-waits_same inside s has =
-    ap (λ (w : ℕ). is_some (front_for w (get_or (signals_of inside.lanes.items) (lane_by inside.topology s) []))) (tunnel_same (world_state inside) inside.topology s has.topology.tunnels)
-    ∙ ap (λ (k : ℕ). is_some (front_for (tunnel_of (world_state inside) s).within (get_or (signals_of inside.lanes.items) k []))) (lane_same (world_state inside) inside.topology s has.topology.tunnels)
-
--- the signal behind the front is for some slot
-pub behind_served : (inside : Inside) (lane : ℕ) (signals : List Tagged) → HasTables inside → AllServed (world_state inside) lane signals → FirstServed inside.topology lane (drop 1 signals)
-behind_served inside lane [] has served = tt
-behind_served inside lane (first ∷ []) has served = tt
-behind_served inside lane (first ∷ second ∷ rest) has served =
-    let for : IsFor (world_state inside) lane second served.1.0.0 = served.1.0.1 in (
-      served.1.0.0,
-      record {
-        inside = subst (λ (l : List (ℕ × ℕ)). served.1.0.0 < length l) (sym has.topology.places) for.inside;
-        leads = lane_same (world_state inside) inside.topology served.1.0.0 has.topology.tunnels ∙ for.leads;
-        within = tunnel_same (world_state inside) inside.topology served.1.0.0 has.topology.tunnels ∙ for.within;
-      },
-    )
+pub waits_same : (world : WorldState) (topology : Topology) (s : ℕ) → topology.tunnels.items ≡ map channel_of (all_tunnels world) → waits_by topology world.lanes s ≡ is_some (front world s)
+waits_same world topology s is =
+    ap (λ (w : ℕ). is_some (front_for w (get_or world.lanes (lane_by topology s) []))) (tunnel_same world topology s is)
+    ∙ ap (λ (k : ℕ). is_some (front_for (tunnel_of world s).within (get_or world.lanes k []))) (lane_same world topology s is)
 
 abbrev no_signals : List Tagged
 no_signals = []
@@ -67,11 +53,12 @@ flag_by world flags None each = refl
 flag_by world flags (Some s) each = each s refl
 
 -- a box's slot has a flag where a signal waits for it
-pub flag_is : (inside : Inside) (who local : ℕ) → HasTables inside → flag_of inside.waiting.flags.items (slice_get (numbers_of inside.topology who) local) ≡ take_waits (world_state inside) who local
-flag_is inside who local has =
-    ap (flag_of inside.waiting.flags.items) (has.topology.found who local ∙ ap (position (is_place (who, local))) has.topology.places)
-    ∙ flag_by (world_state inside) inside.waiting.flags.items (number (world_state inside) who local)
-    (λ s is. has.waiting.flagged s (subst (λ (l : List (ℕ × ℕ)). s < length l) (sym has.topology.places) (number_is (world_state inside) who local s is).0) ∙ waits_same inside s has)
+pub flag_is : (world : WorldState) (topology : Topology) (waiting : Waiting) (homes who local : ℕ) → IsTopologyOf topology world.channels homes → IsWaiting topology world.lanes waiting
+    → flag_of waiting.flags.items (slice_get (numbers_of topology who) local) ≡ take_waits world who local
+flag_is world topology waiting homes who local is waits =
+    ap (flag_of waiting.flags.items) (is.found who local ∙ ap (position (is_place (who, local))) is.places)
+    ∙ flag_by world waiting.flags.items (number world who local)
+    (λ s at. waits.flagged s (subst (λ (l : List (ℕ × ℕ)). s < length l) (sym is.places) (number_is world who local s at).0) ∙ waits_same world topology s is.tunnels)
 
 -- a box has as many numbers as slots, and so has one that isn't there
 pub numbers_there : (inside : Inside) (who : ℕ) → HasTables inside → who < length inside.boxes.items → length (numbers_of inside.topology who) ≡ length (box_at (world_state inside) who).slots
@@ -104,7 +91,7 @@ numbers_long inside who has = elim (cases_lt who (length inside.boxes.items)) [
 pub counts_same : (inside : Inside) (who count : ℕ) → HasTables inside → flag_count inside.topology inside.waiting.flags.items who count ≡ waiting_count (world_state inside) who count
 counts_same inside who count has =
     total_same (λ local. bit (flag_of inside.waiting.flags.items (slice_get (numbers_of inside.topology who) local))) (λ local. bit (take_waits (world_state inside) who local)) count
-    (λ local below. ap bit (flag_is inside who local has))
+    (λ local below. ap bit (flag_is (world_state inside) inside.topology inside.waiting (length inside.boxes.items) who local has.topology has.waiting))
 
 -- and so over all of a box
 pub box_count : (inside : Inside) (who : ℕ) → HasTables inside

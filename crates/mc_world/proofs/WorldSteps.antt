@@ -49,11 +49,6 @@ number_slot world who local s is =
     let found = number_is world who local s is in
     rw (found.1, found.2) refl
 
--- a slot with a number has its place in the table
-pub slot_there : (inside : Inside) (world : WorldState) (who local s : ℕ) → HasTables inside → world_state inside ≡ world → number world who local ≡ Some s → s < length inside.topology.places.items
-slot_there inside world who local s has view is =
-    subst (λ (l : List (ℕ × ℕ)). s < length l) (sym has.topology.places) (subst (λ (w : WorldState). s < length (places w)) (sym view) ((number_is world who local s is).0))
-
 -- the front of the lane that leads to a slot
 pub front_is : (world : WorldState) (s lane tunnel : ℕ) (found : Option Signal) → lane ≡ lane_of world s → tunnel ≡ (tunnel_of world s).within
     → found ≡ front_for tunnel (get_or world.lanes lane []) → found ≡ front world s
@@ -82,19 +77,6 @@ pub is_there : {A : Type 0} (o : Option A) → IsSome o → (x : A) × (o ≡ So
 is_there None some = absurd (cc)
 is_there (Some x) some = (x, refl)
 
-if_there : {A : Type 0} (test : Bool) (o : Option A) → IsSome (if test then o else None) → IsSome o
-if_there true o some = some
-if_there false o some = absurd (cc)
-
--- a Take can happen where the front is for it
-pub take_enabled : (world : WorldState) (who local s : ℕ) (signal : Signal) → IsSound world → number world who local ≡ Some s → front world s ≡ Some signal
-    → IsSome (step_by world who (Take local))
-take_enabled world who local s signal sound is first =
-    let found = number_is world who local s is in
-    let goes : IsSome (if nat_lt (place world s).0 (length world.boxes) then step_by world (place world s).0 (Take (place world s).1) else None) =
-    front_step_goes world s signal sound found.0 first in
-    if_there (nat_lt who (length world.boxes)) (step_by world who (Take local)) (rw (found.1, found.2) at goes)
-
 -- ---- an event that takes nothing
 
 pub act_by : (world : WorldState) (who : ℕ) (event : Event) → is_take event ≡ false → step_by world who event ≡ option_map (after_making world who) (box_event (box_at world who) event None)
@@ -109,13 +91,6 @@ act_by world who Shift other = refl
 pub done_of : {E P : Type 0} (result : Result (Unit {0}) E) → is_err result ≡ false → OnOk result P → P
 done_of (Ok done) is holds = holds
 done_of (Err e) is holds = absurd (cc)
-
--- where it is enabled, and its slot's version isn't the last, it happens
-pub act_goes : (world : WorldState) (who : ℕ) (event : Event) → IsSound world → who < length world.boxes → is_take event ≡ false → is_enabled (box_at world who) event ≡ true
-    → is_version_end (box_at world who) event ≡ false → IsSome (step_by world who event)
-act_goes world who event sound below other enabled more =
-    let step = is_there (box_event (box_at world who) event None) (event_goes (box_at world who) event (sound.boxes who below) enabled other more) in
-    rw (act_by world who event other, step.1) refl
 
 pub act_is : (world : WorldState) (topology : Topology) (who : ℕ) (event : Event) (step : BoxStep) → is_take event ≡ false
     → box_event (box_at world who) event None ≡ Some step → topology.places.items ≡ places world → topology.tunnels.items ≡ map channel_of (all_tunnels world)
@@ -143,43 +118,6 @@ stays_ringless world next who event sound here links goes none =
 
 -- ---- the world that code leaves
 
--- a Take, from what the box and the lanes are then
-pub take_made : (inside : Inside) (world : WorldState) (who local s lane : ℕ) (signal : Signal) (step : BoxStep) (lanes : List (List Tagged)) → HasTables inside → world_state inside ≡ world
-    → number world who local ≡ Some s → front world s ≡ Some signal → lane ≡ lane_of world s → box_event (box_at world who) (Take local) (Some signal) ≡ Some step
-    → lanes ≡ all_sent inside.topology who (without_front (signals_of inside.lanes.items) lane) step.sent
-    → step_by world who (Take local) ≡ Some (record (world_state inside) { boxes = set inside.boxes.items who step.after; lanes = lanes })
-take_made inside world who local s lane signal step lanes has view is first leads goes lanes_is =
-    take_is world inside.topology who local s lane signal step is first goes leads
-    (subst (λ (w : WorldState). inside.topology.places.items ≡ places w) view has.topology.places)
-    (subst (λ (w : WorldState). inside.topology.tunnels.items ≡ map channel_of (all_tunnels w)) view has.topology.tunnels)
-    ∙ (ap (λ (w : WorldState). Some (record w { boxes = set w.boxes who step.after; lanes = all_sent inside.topology who (without_front w.lanes lane) step.sent })) (sym view)
-    ∙ ap (λ (l : List (List Tagged)). Some (record (world_state inside) { boxes = set inside.boxes.items who step.after; lanes = l })) (sym lanes_is))
-
--- another event
-pub act_made : (inside : Inside) (world : WorldState) (who : ℕ) (event : Event) (step : BoxStep) (lanes : List (List Tagged)) → HasTables inside → world_state inside ≡ world
-    → is_take event ≡ false → box_event (box_at world who) event None ≡ Some step → lanes ≡ all_sent inside.topology who (signals_of inside.lanes.items) step.sent
-    → step_by world who event ≡ Some (record (world_state inside) { boxes = set inside.boxes.items who step.after; lanes = lanes })
-act_made inside world who event step lanes has view other goes lanes_is =
-    act_is world inside.topology who event step other goes
-    (subst (λ (w : WorldState). inside.topology.places.items ≡ places w) view has.topology.places)
-    (subst (λ (w : WorldState). inside.topology.tunnels.items ≡ map channel_of (all_tunnels w)) view has.topology.tunnels)
-    ∙ (ap (λ (w : WorldState). Some (put w inside.topology who step)) (sym view)
-    ∙ ap (λ (l : List (List Tagged)). Some (record (world_state inside) { boxes = set inside.boxes.items who step.after; lanes = l })) (sym lanes_is))
-
--- lanes that have the same signals leave what a world keeps
-pub lanes_tables : (inside : Inside) (lanes : Vec (Queue Tagged) Global) → HasTables inside → signals_of lanes.items ≡ signals_of inside.lanes.items → HasTables (record inside { lanes = lanes })
-lanes_tables inside lanes has same =
-    let signals : signals_of inside.lanes.items ≡ signals_of lanes.items = sym same in
-    record {
-      channels = has.channels;
-      topology = has.topology;
-      lanes = sym (length-map lanes.items (λ (lane : Queue Tagged). lane.items))
-          ∙ (ap (λ (l : List (List Tagged)). length l) same ∙ (length-map inside.lanes.items (λ (lane : Queue Tagged). lane.items) ∙ has.lanes));
-      waiting = subst (λ (l : List (List Tagged)). IsWaiting inside.topology l inside.waiting) signals has.waiting;
-      sound = subst (λ (l : List (List Tagged)). IsSound (record (world_state inside) { lanes = l })) signals has.sound;
-      ringless = λ remembered. subst (λ (l : List (List Tagged)). IsLeastOnRing (record (world_state inside) { lanes = l }) None) signals (has.ringless remembered);
-    }
-
 -- where it is remembered still, it was before, and the event links no slots
 pub still_remembered : (before after : Bool) (event : Event) → after ≡ (before && not (is_linking event)) → after ≡ true → (before ≡ true) × (is_linking event ≡ false)
 still_remembered before after event is remembered =
@@ -191,12 +129,12 @@ still_remembered before after event is remembered =
     not_true false is = refl
 
 -- it has the tables as before, is sound, since a step of a sound world led to it, and has no ring where that is remembered still
-pub step_tables : (inside : Inside) (world : WorldState) (who : ℕ) (event : Event) (boxes : Vec BoxState Global) (lanes : Vec (Queue Tagged) Global) (waiting : Waiting) (ringless : Bool) → HasTables inside
-    → world_state inside ≡ world → who < length world.boxes → length boxes.items ≡ length inside.boxes.items → IsWaiting inside.topology (signals_of lanes.items) waiting
+pub step_tables : (inside : Inside) (world : WorldState) (who : ℕ) (event : Event) (boxes : Vec BoxState Global) (lanes : Vec (Queue Tagged) Global) (waiting : Waiting) (scratch : Queue (ℕ × Signal)) (ringless : Bool) → HasTables inside
+    → world_state inside ≡ world → who < length world.boxes → length boxes.items ≡ length inside.boxes.items → IsWaiting inside.topology (signals_of lanes.items) waiting → scratch.items ≡ []
     → (ringless ≡ true → (inside.ringless ≡ true) × (is_linking event ≡ false))
     → step_by world who event ≡ Some (world_state (record inside { boxes = boxes; lanes = lanes; waiting = waiting }))
-    → HasTables (record inside { boxes = boxes; lanes = lanes; waiting = waiting; ringless = ringless })
-step_tables inside world who event boxes lanes waiting ringless has view here homes waits links goes =
+    → HasTables (record inside { boxes = boxes; lanes = lanes; waiting = waiting; scratch = scratch; ringless = ringless })
+step_tables inside world who event boxes lanes waiting scratch ringless has view here homes waits none links goes =
     let sound : IsSound world = subst (λ (w : WorldState). IsSound w) view has.sound in
     let next : WorldState = world_state (record inside { boxes = boxes; lanes = lanes; waiting = waiting }) in
     let kept : IsSound next = stays_sound world next who event sound here goes in
@@ -205,6 +143,7 @@ step_tables inside world who event boxes lanes waiting ringless has view here ho
       topology = subst (λ (n : ℕ). IsTopologyOf inside.topology inside.channels.items n) (sym homes) has.topology;
       lanes = sym (length-map lanes.items (λ (lane : Queue Tagged). lane.items)) ∙ kept.numbered.lanes;
       waiting = waits;
+      scratch = none;
       sound = kept;
       ringless = λ remembered.
           let parts = links remembered in

@@ -1,5 +1,5 @@
 -- What a world keeps: the tables beside its boxes and channels, and that it is sound.
-use Rattle.std.specs.Prelude.{◌≡◌, ℕ, List, None, true, ◌*◌, ◌^◌, ◌≤◌, length, map, position}
+use Rattle.std.specs.Prelude.{◌≡◌, ℕ, List, [], None, true, ◌*◌, ◌^◌, ◌≤◌, length, map, position}
 use Rattle.std.specs.List.{slice_get}
 use Rattle.mc_world.specs.Lanes.{numbers_of, signals_of}
 use Rattle.mc_world.specs.Waiting.{IsWaiting}
@@ -29,11 +29,12 @@ pub record IsTopologyOf (topology : Topology) (channels : List ChannelState) (bo
   pub few : length topology.places.items ≤ 2 ^ 32
   pub homes : length topology.numbers.items ≡ boxes
 
--- the channels are within the limits, the tables are those of the channels and boxes, each channel has its two lanes, flags and counts say what waits on these, the world is sound, and it has no ring where that is remembered
+-- the channels are within the limits, the tables are those of the channels and boxes, each channel has its two lanes, flags and counts say what waits on these, nothing is left of what was sent last, the world is sound, and it has no ring where that is remembered
 pub record HasTables (inside : Inside) : Type 0 where
   pub channels : AreChannels inside.channels.items
   pub topology : IsTopologyOf inside.topology inside.channels.items (length inside.boxes.items)
   pub lanes : length inside.lanes.items ≡ 2 * length inside.channels.items
   pub waiting : IsWaiting inside.topology (signals_of inside.lanes.items) inside.waiting
+  pub scratch : inside.scratch.items ≡ []
   pub sound : IsSound (world_state inside)
   pub ringless : inside.ringless ≡ true → IsLeastOnRing (world_state inside) None

@@ -45,9 +45,10 @@ pub struct World {
     lanes: Vec<Lane<Tagged>>,
     topology: Topology,
     waiting: Waiting,
+    // what a box sends in one turn, empty between turns, so that a turn takes no memory of its own
+    scratch: Lane<(u8, Signal)>,
     // no slot stands on a ring; where this is false one may or not
     ringless: bool,
-    alloc: Global,
 }
 
 impl Model for World {
@@ -92,8 +93,8 @@ impl World {
             lanes,
             topology,
             waiting,
+            scratch: Lane::new(alloc),
             ringless: true,
-            alloc,
         })
     }
 

@@ -1,13 +1,13 @@
 // The engine of a network that need not be whole: some of its boxes, all channels that touch them, and what is under
 // way.
 
-ghost use Rattle.std.specs.Prelude.{◌≡◌, ◌↔◌, ◌<◌, ◌≤◌, ◌*◌, ◌+◌, ℕ, true, false, length, slice_index_or, Some, IfNone, IfSome, IsSome, IsTrue, OnErr, OnOk};
+ghost use Rattle.std.specs.Prelude.{◌≡◌, ◌↔◌, ◌<◌, ◌≤◌, ◌*◌, ◌+◌, ℕ, true, false, length, slice_index_or, Some, IfNone, IfSome, IsFalse, IsSome, IsTrue, OnErr, OnOk};
 ghost use Rattle.mc_slot.specs.Moves.{slot_take};
 ghost use Rattle.mc_box.specs.BoxEvents.{is_enabled, is_take, is_version_end, turn_of};
 ghost use Rattle.mc_box.specs.Boxes.{slot_at};
 ghost use Rattle.mc_model.specs.Steps.{ends_version_at, step, step_by};
-ghost use Rattle.mc_model.specs.Worlds.{AreChannels, box_at, front, lane_of, number, slot_count, tunnel_of};
-ghost use Rattle.mc_world.specs.Pumping.{IsOutgoing, with_last, without_first};
+ghost use Rattle.mc_model.specs.Worlds.{AreChannels, box_at, front, lane_of, number, place, slot_count, tunnel_of};
+ghost use Rattle.mc_world.specs.Pumping.{IsOutgoing, WaitsAt, leads_to, with_last, without_first};
 ghost use Rattle.mc_world.specs.StepAnswers.{Answers, CannotHappen, LacksVersion};
 ghost use Rattle.mc_world.specs.Waiting.{take_waits};
 ghost use Rattle.mc_box.specs.declared.event.Event.{Event};
@@ -62,7 +62,7 @@ impl World {
             lanes: self.lanes,
             topology: self.topology,
             waiting: self.waiting,
-            scratch: Lane::new(self.alloc),
+            scratch: self.scratch,
         }
     }
 }
@@ -215,7 +215,8 @@ impl Engine {
     }
 }
 
-/// What waits first for a home of no box here: at one of its slots, in the lane that leads there.
+/// A signal that is under way to one of a home's slots, and stands first in the lane that leads there: the slot, the
+/// lane, the number of the slot's tunnel within its channel, and the signal.
 #[derive(Clone, Copy, Debug)]
 pub struct Outgoing {
     pub slot: u32,
@@ -243,13 +244,18 @@ impl From<AllocError> for PutFault {
 }
 
 impl Engine {
-    /// What waits first for a home, here or elsewhere.
+    /// A signal that stands first in its lane, for the first slot of a home at which one waits. None where none waits
+    /// at any slot of the home.
     pub fn first_out(&self, who: u32) -> Option<Outgoing>
-        ensures { IfSome result (λ out. IsOutgoing self.now out) }
+        ensures some { IfSome result (λ out. IsOutgoing self.now out) }
+        ensures home { IfSome result (λ out. (place self.now out.slot).0 ≡ who) }
+        ensures none { IfNone result ((local : ℕ) → take_waits self.now who local ≡ false) }
     {
         let slot = self.waiting_slot(who)?;
         let (lane, tunnel) = self.topology.toward(slot);
-        let signal = front_for(&self.lanes[lane], tunnel)?;
+        let Some(signal) = front_for(&self.lanes[lane], tunnel) else {
+            unreachable!()
+        };
         Some(Outgoing {
             slot,
             lane,
@@ -258,20 +264,23 @@ impl Engine {
         })
     }
 
-    // The first slot of a home at which something waits.
+    // The first slot of a home at which a signal waits.
     fn waiting_slot(&self, who: u32) -> Option<u32>
-        ensures { IfSome result (λ slot. slot < slot_count self.now) }
+        ensures some { IfSome result (λ slot. WaitsAt self.now who slot) }
+        ensures none { IfNone result ((local : ℕ) → take_waits self.now who local ≡ false) }
     {
-        if who as usize >= self.topology.numbers.len()
-            || self.waiting.takes.get(who as usize) == 0
-        {
+        if !has_one(
+            &self.waiting.takes,
+            self.topology.numbers.len(),
+            who as usize,
+        ) {
             return None;
         }
         let local = self.waiting.kth(&self.topology, who, 0);
         self.topology.number(who, local)
     }
 
-    /// Takes it away.
+    /// Such a signal leaves its lane.
     pub fn pop_out(&mut self, out: &Outgoing)
         requires { IsOutgoing self.old out.now }
         ensures { self.new ≡ without_first self.old out.now.lane }
@@ -285,7 +294,8 @@ impl Engine {
         );
     }
 
-    /// Puts a signal last into a lane, for the slot at its end that has this tunnel. Where it fails nothing changes.
+    /// Puts a signal last into a lane, for a slot to which the lane leads, with the slot's tunnel. It's `Stray` where
+    /// there is no such slot, or the lane or the tunnel is another one's.
     pub fn put_in(
         &mut self,
         lane: usize,
@@ -296,16 +306,25 @@ impl Engine {
         ensures put { OnOk result (self.new ≡ with_last self.old lane (record { tunnel = tunnel; signal = signal })) }
         ensures there { OnOk result (lane < length self.old.lanes) }
         ensures same { OnErr result (self.new ≡ self.old) }
+        ensures stray { (result ≡ Err PutFault.Stray) ↔ IsFalse (leads_to self.old lane tunnel slot) }
     {
-        if slot as usize >= self.topology.places.len() {
-            return Err(PutFault::Stray);
-        }
-        let toward = self.topology.toward(slot);
-        if toward.0 != lane || toward.1 != tunnel {
+        if !self.leads_to(lane, tunnel, slot) {
             return Err(PutFault::Stray);
         }
         self.put_last(slot, signal)?;
         Ok(())
+    }
+
+    // Whether this lane leads to a slot, and this is the slot's tunnel.
+    fn leads_to(&self, lane: usize, tunnel: u8, slot: u32) -> bool
+        ensures leads { result ≡ leads_to self.now lane tunnel slot }
+        ensures there { IsTrue result → lane < length self.now.lanes }
+    {
+        if slot as usize >= self.topology.places.len() {
+            return false;
+        }
+        let toward = self.topology.toward(slot);
+        toward.0 == lane && toward.1 == tunnel
     }
 
     // The same for a slot that is there.
@@ -348,7 +367,8 @@ fn next_home(counts: &Sums, homes: usize, last: u32) -> Option<usize>
 
 // Whether something is counted at a place among the first.
 fn has_one(counts: &Sums, homes: usize, place: usize) -> bool
-    ensures { IsTrue result → (place < homes) × (0 < slice_index_or counts.now place 0) }
+    ensures some { IsTrue result → (place < homes) × (0 < slice_index_or counts.now place 0) }
+    ensures none { IsFalse result → place < homes → slice_index_or counts.now place 0 ≡ 0 }
 {
     place < homes && counts.get(place) > 0
 }

@@ -86,8 +86,8 @@ impl World {
             lanes: parts.lanes,
             topology: parts.topology,
             waiting,
+            scratch: Lane::new(alloc),
             ringless: false,
-            alloc,
         })
     }
 }

@@ -1,9 +1,10 @@
 // One step of a world.
 
-ghost use Rattle.std.specs.Prelude.{◌≡◌, ◌↔◌, ◌<◌, ◌≤◌, ◌*◌, ◌&&◌, ℕ, [], not, Some, None, true, false, length, IfOk, IsFalse, IsTrue, OnOk, OnErr};
+ghost use Rattle.std.specs.Prelude.{◌≡◌, ◌↔◌, ◌<◌, ◌&&◌, not, Some, None, true, false, length, IsSome, OnOk, OnErr};
+ghost use Rattle.mc_slot.specs.Moves.{slot_take};
 ghost use Rattle.mc_box.specs.BoxEvents.{is_enabled, is_take, is_version_end, turn_of};
+ghost use Rattle.mc_box.specs.Boxes.{slot_at};
 ghost use Rattle.mc_box.specs.LinkFree.{is_linking};
-ghost use Rattle.mc_model.specs.Paths.{partner_of};
 ghost use Rattle.mc_model.specs.Sound.{IsSound};
 ghost use Rattle.mc_model.specs.Worlds.{box_at, front, lane_of, number, tunnel_of};
 ghost use Rattle.mc_world.specs.StepAnswers.{Answers, CannotHappen, LacksVersion};
@@ -11,13 +12,10 @@ ghost use Rattle.mc_model.specs.Steps.{ends_version_at, step, step_by};
 ghost use Rattle.mc_world.specs.declared.network.step.StepFault.TheVariants.{NoMemory};
 
 use super::World;
-use crate::acting::is_version_end;
-use crate::lanes::{Senders, make_room, make_room_by, relay, send_lane};
+use crate::acting::{act, is_version_end, senders_of, take_front};
 use mc_box::{Change, Event};
-use mc_lane::Lane;
 use mc_signal::Signal;
-use mc_slot::{SENDS_LIMIT, Sends, SlotGoal};
-use std::alloc::{AllocError, Global};
+use std::alloc::AllocError;
 
 /// Why a step isn't made.
 #[derive(Debug, Drop)]
@@ -81,64 +79,41 @@ impl World {
         let Some(signal) = self.front_in(toward) else {
             return Err(StepFault::NotEnabled);
         };
-        let senders = Senders {
-            own: (local, slot),
-            partner: self.sender_beside(who, local, slot),
-        };
-        self.take_front(who, &senders, toward, signal)
+        self.take_front(who, local, slot, toward, signal)
     }
 
-    // The first of these slots takes the front of its lane.
+    // The same where this slot has this number, and the signal is the front for it.
     fn take_front(
         &mut self,
         who: u32,
-        senders: &Senders,
+        local: u8,
+        slot: u32,
         toward: (usize, u8),
         signal: Signal,
     ) -> Result<(), StepFault>
         requires sound { IsSound self.old }
         requires here { who < length self.old.boxes }
-        requires own { number self.old who senders.now.own.0 ≡ Some senders.now.own.1 }
-        requires partner { number self.old who senders.now.partner.0 ≡ Some senders.now.partner.1 }
-        requires beside { (partner : ℕ) → partner_of self.old senders.now.own.1 ≡ Some partner
-            → senders.now.partner.1 ≡ partner }
-        requires lane { toward.0 ≡ lane_of self.old senders.now.own.1 }
-        requires tunnel { toward.1 ≡ (tunnel_of self.old senders.now.own.1).within }
-        requires front { front self.old senders.now.own.1 ≡ Some signal }
-        ensures { Answers self.old self.new (step_by self.old who (Event.Take senders.now.own.0)) false result }
+        requires inside { local < length (box_at self.old who).slots }
+        requires number { number self.old who local ≡ Some slot }
+        requires lane { toward.0 ≡ lane_of self.old slot }
+        requires tunnel { toward.1 ≡ (tunnel_of self.old slot).within }
+        requires front { front self.old slot ≡ Some signal }
+        requires lawful { IsSome (slot_take (slot_at (box_at self.old who) local) signal) }
+        ensures { Answers self.old self.new (step_by self.old who (Event.Take local)) false result }
     {
-        make_room_by(&mut self.lanes, &self.topology, senders, SENDS_LIMIT)?;
-        let actor = &mut self.boxes[who as usize];
-        let mut sends = Sends::none();
-        actor.send_take(senders.own.0, signal, &mut sends);
-        relay(
+        let home = &mut self.boxes[who as usize];
+        let senders = senders_of(&self.topology, home, who, local, slot);
+        take_front(
             &mut self.lanes,
             &mut self.waiting,
             &self.topology,
+            home,
             who,
-            senders,
+            &senders,
             toward,
-            &sends,
-        );
+            signal,
+        )?;
         Ok(())
-    }
-
-    // The slot that a box's slot is linked with, by its local number and its number; the slot itself where its goal is
-    // an end's.
-    fn sender_beside(&self, who: u32, local: u8, slot: u32) -> (u8, u32)
-        requires here { who < length self.now.boxes }
-        requires number { number self.now who local ≡ Some slot }
-        requires inside { local < length (box_at self.now who).slots }
-        ensures number { number self.now who result.0 ≡ Some result.1 }
-        ensures partner { (partner : ℕ) → partner_of self.now slot ≡ Some partner → result.1 ≡ partner }
-    {
-        match self.boxes[who as usize].goal(local) {
-            SlotGoal::End(_) => (local, slot),
-            SlotGoal::Link(partner) => match self.number(who, partner) {
-                Some(number) => (partner, number),
-                None => (local, slot),
-            },
-        }
     }
 
     // An event that takes no signal happens to a box.
@@ -148,53 +123,38 @@ impl World {
         requires other { is_take event ≡ false }
         ensures { Answers self.old self.new (step_by self.old who event) (ends_version_at self.old who event) result }
     {
-        let actor = &self.boxes[who as usize];
-        if !actor.enabled(&event) {
+        let home = &self.boxes[who as usize];
+        if !home.enabled(&event) {
             return Err(StepFault::NotEnabled);
         }
-        if is_version_end(actor, event) {
+        if is_version_end(home, event) {
             return Err(StepFault::VersionEnd);
         }
-        let most = 2 * actor.slots().len();
-        self.act_enabled(who, event, most)
+        self.act_enabled(who, event)
     }
 
-    // The same where it's enabled, and ends no version. It sends so much at most.
-    fn act_enabled(&mut self, who: u32, event: Event, most: usize) -> Result<(), StepFault>
+    // The same where it's enabled, and ends no version.
+    fn act_enabled(&mut self, who: u32, event: Event) -> Result<(), StepFault>
         requires sound { IsSound self.old }
         requires here { who < length self.old.boxes }
         requires other { is_take event ≡ false }
         requires enabled { is_enabled (box_at self.old who) event ≡ true }
         requires goes_on { is_version_end (box_at self.old who) event ≡ false }
-        requires most { most ≡ 2 * length (box_at self.old who).slots }
         ensures { Answers self.old self.new (step_by self.old who event) (ends_version_at self.old who event) result }
     {
-        make_room(&mut self.lanes, &self.topology, who, most)?;
-        let mut sends = queue_for(self.alloc, most)?;
-        let actor = &mut self.boxes[who as usize];
-        if actor.act(event, &mut sends).is_err() {
-            unreachable!()
-        }
-        send_lane(
+        let home = &mut self.boxes[who as usize];
+        act(
             &mut self.lanes,
             &mut self.waiting,
             &self.topology,
+            home,
             who,
-            &sends,
-        );
+            event,
+            &mut self.scratch,
+        )?;
         self.ringless = stays_ringless(self.ringless, event);
         Ok(())
     }
-}
-
-// An empty queue with room for so much.
-fn queue_for(alloc: Global, most: usize) -> Result<Lane<(u8, Signal)>, AllocError>
-    ensures none { IfOk result (λ queue. queue.items ≡ []) }
-    ensures room { IfOk result (λ queue. most ≤ queue.spare) }
-{
-    let mut queue = Lane::new(alloc);
-    queue.reserve(most)?;
-    Ok(queue)
 }
 
 // Whether it stays remembered that there is no ring: an event that links slots may make one, and no other does.

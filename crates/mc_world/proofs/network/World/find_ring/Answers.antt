@@ -17,6 +17,7 @@ invariant_of-self c =
       topology = has.topology;
       lanes = has.lanes;
       waiting = has.waiting;
+      scratch = has.scratch;
       sound = has.sound;
       ringless = λ remembered.
           subst (λ (w : WorldState). IsLeastOnRing w None) (sym c.self.view_is)

@@ -2,6 +2,7 @@ use Rattle.std.proofs.Common.{◌≡◌, ◌*◌, ◌≤◌, ◌^◌, ap, [], le
 use Rattle.std.proofs.Math.ListN.{replicate}
 use Rattle.std.proofs.lemmas.List.{length-map, length-replicate}
 use Rattle.mc_lane.specs.Queue.{Queue}
+use Rattle.mc_signal.specs.declared.Signal.{Signal}
 use Rattle.mc_signal.specs.declared.Tagged.{Tagged}
 use Rattle.mc_box.specs.Boxes.{BoxState}
 use Rattle.mc_world.specs.Lanes.{origins, signals_of}
@@ -47,6 +48,7 @@ invariant_of-result c =
         counted = c.in_ok-waiting.ensures.counted;
         flagged = none_flagged (record { places = c.in_ok-places.places; tunnels = c.in_ok-tunnels.tunnels; numbers = c.in_ok-numbers.numbers }) (signals_of c.in_ok-lanes.lanes.items) c.in_ok-waiting.waiting.flags.items (2 * length c.args.channels.items) none c.in_ok-waiting.ensures.none;
       };
+      scratch = ap (λ (queue : Queue (ℕ × Signal)). queue.items) c.new-2.ensures;
       sound = subst (λ (world : WorldState). IsSound world) first (first_is_sound c.args.boxes.items c.args.channels.items c.requires.fresh c.requires.numbered);
       ringless = λ remembered.
           subst (λ (world : WorldState). IsLeastOnRing world None) first (first_has_none c.args.boxes.items c.args.channels.items c.requires.fresh c.requires.numbered);

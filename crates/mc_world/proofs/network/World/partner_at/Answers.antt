@@ -1,6 +1,6 @@
 use Rattle.std.proofs.Common.{sym, ◌∙◌}
 use Rattle.mc_world.proofs.Tables.{box_read}
-use Rattle.mc_world.proofs.TakeSends.{end_alone, linked_is}
+use Rattle.mc_world.proofs.PartnerTables.{end_alone, linked_is}
 use Rattle.mc_world.proofs.network.World.partner_at.Goals as goal
 
 pub returns-in-End-clause-partner : goal.returns-in-End-clause-partner

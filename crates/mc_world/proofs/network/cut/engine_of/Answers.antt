@@ -10,7 +10,8 @@ use Rattle.mc_world.specs.Running.{HasSlots}
 use Rattle.mc_world.specs.Tables.{IsTopologyOf}
 use Rattle.mc_world.specs.declared.topology.Topology.{Topology}
 use Rattle.mc_model.specs.Worlds.{is_place, places_among}
-use Rattle.mc_world.proofs.CutLanes.{channels_laid, none_served}
+use Rattle.mc_world.proofs.CutLanes.{none_served}
+use Rattle.mc_world.proofs.TopologyLanes.{channels_laid}
 use Rattle.mc_world.proofs.Cutting.{placed_numbers}
 use Rattle.mc_world.proofs.TunnelTables.{few_slots}
 use Rattle.mc_world.proofs.Waits.{none_flagged}

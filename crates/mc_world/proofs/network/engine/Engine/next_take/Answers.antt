@@ -10,7 +10,7 @@ returns-in_err-who-clause-none c =
     subst (λ (o : Option (ℕ × ℕ)). IfNone o ((who local : ℕ) → who < length c.args.self.now.boxes → take_waits c.args.self.now who local ≡ false)) (sym c.from_residual.ensures)
     (λ who local here.
     let home : who < length c.self.inside.boxes.items = subst (λ (w : WorldState). who < length w.boxes) (sym c.self.view_is) here in
-    none_there c.self.inside c.args.self.now who local c.self.invariant c.self.view_is home (c.in_err-who.ensures.none who (omega (arith, home, c.len.ensures, c.self.inside.boxes.ok.0))))
+    none_there c.self.inside c.args.self.now who local c.self.invariant c.self.view_is (λ _. c.in_err-who.ensures.none who (omega (arith, home, c.len.ensures, c.self.inside.boxes.ok.0))))
 
 pub overflow_cast-who : goal.overflow_cast-who
 overflow_cast-who c =
