@@ -8,6 +8,7 @@ use Rattle.std.proofs.Math.ListN.{set}
 use Rattle.std.proofs.lemmas.Bool.{cases_eq, cases_lt}
 use Rattle.std.proofs.lemmas.Grind.{common_steps}
 use Rattle.std.proofs.lemmas.List.{get_or_read, length-set, set-get_or}
+use Rattle.std.proofs.lemmas.Option.{slice_get_past}
 use Rattle.mc_lane.specs.Queue.{Queue}
 use Rattle.mc_signal.specs.declared.Signal.{Signal}
 use Rattle.mc_signal.specs.declared.Tagged.{Tagged}
@@ -35,6 +36,7 @@ use Rattle.mc_world.specs.declared.network.World.TheInside as world
 use Rattle.mc_world.specs.declared.network.engine.Engine.TheInside.{Inside}
 use Rattle.mc_world.specs.declared.waiting.Waiting.{Waiting}
 use Rattle.mc_laws.proofs.Numbers.{found_at}
+use Rattle.mc_laws.proofs.Sums.{total_has}
 use Rattle.mc_turn.specs.Sums.{total}
 use Rattle.mc_world.proofs.Cutting.{none_past}
 use Rattle.mc_world.proofs.LaneChanges.{Lane, refilled}
@@ -93,15 +95,6 @@ tunnel_at inside s runs = tunnel_same (running_state inside) inside.topology s r
 -- a slot with a number is there
 pub number_inside : (inside : Inside) (who local s : ℕ) → IsRunning inside → slice_get (numbers_of inside.topology who) local ≡ Some s → s < length inside.topology.places.items
 number_inside inside who local s runs is = (found_at inside.topology.places.items who local s (sym (runs.topology.found who local) ∙ is)).0
-
-get_inside : {A : Type 0} (items : List A) (k : ℕ) (item : A) → slice_get items k ≡ Some item → k < length items
-get_inside [] k item is = absurd (cc)
-get_inside (first ∷ items) zero item is = omega arith
-get_inside (first ∷ items) (suc k) item is = let low = get_inside items k item is in omega arith
-
--- and its box has it
-pub slot_inside : (inside : Inside) (who local s : ℕ) → IsRunning inside → who < length inside.boxes.items → slice_get (numbers_of inside.topology who) local ≡ Some s → local < length (get_or inside.boxes.items who no_box).slots
-slot_inside inside who local s runs here is = subst (λ (n : ℕ). local < n) (runs.slots who here) (get_inside (numbers_of inside.topology who) local s is)
 
 pub waits_is : (inside : Inside) (s : ℕ) → IsRunning inside → waits_by inside.topology (signals_of inside.lanes.items) s ≡ is_some (front (running_state inside) s)
 waits_is inside s runs = waits_same (running_state inside) inside.topology s runs.topology.tunnels
@@ -314,19 +307,6 @@ act_can inside world who event home first view reads sound other enabled more =
 pub flag_there : (inside : Inside) (who local : ℕ) → IsRunning inside → flag_of inside.waiting.flags.items (slice_get (numbers_of inside.topology who) local) ≡ take_waits (running_state inside) who local
 flag_there inside who local runs = flag_is (running_state inside) inside.topology inside.waiting (length inside.topology.numbers.items) who local runs.topology runs.waiting
 
--- a sum of bits that is 0 has none
-slice_get-past : (items : List ℕ) (k : ℕ) → length items ≤ k → slice_get items k ≡ None
-slice_get-past [] k past = refl
-slice_get-past (first ∷ items) zero past = absurd (omega arith)
-slice_get-past (first ∷ items) (suc k) past = slice_get-past items k (omega arith)
-
-one_of : (f : ℕ → ℕ) (count k : ℕ) → total f count ≡ 0 → k < count → f k ≡ 0
-one_of f zero k none below = absurd (omega arith)
-one_of f (suc count) k none below = elim (cases_eq k count) [
-  | inl same ↦ subst (λ (n : ℕ). f n ≡ 0) (sym same) (omega (arith, none))
-  | inr apart ↦ one_of f count k (omega (arith, none)) (omega (arith, below, apart))
-]
-
 bit_none : (b : Bool) → bit b ≡ 0 → b ≡ false
 bit_none true none = absurd (omega (arith, none))
 bit_none false none = refl
@@ -335,10 +315,11 @@ no_flag : (flags : List Bool) (o : Option ℕ) → o ≡ None → flag_of flags 
 no_flag flags None is = refl
 no_flag flags (Some s) is = absurd (cc)
 
+-- a sum of bits that is 0 has none
 none_flagged : (numbers : List ℕ) (flags : List Bool) (local : ℕ) → total (λ (k : ℕ). bit (flag_of flags (slice_get numbers k))) (length numbers) ≡ 0 → flag_of flags (slice_get numbers local) ≡ false
 none_flagged numbers flags local none = elim (cases_lt local (length numbers)) [
-  | inl below ↦ bit_none (flag_of flags (slice_get numbers local)) (one_of (λ (k : ℕ). bit (flag_of flags (slice_get numbers k))) (length numbers) local none below)
-  | inr past ↦ no_flag flags (slice_get numbers local) (slice_get-past numbers local past)
+  | inl below ↦ bit_none (flag_of flags (slice_get numbers local)) (omega (arith, none, total_has (λ (k : ℕ). bit (flag_of flags (slice_get numbers k))) (length numbers) local below))
+  | inr past ↦ no_flag flags (slice_get numbers local) (slice_get_past numbers local past)
 ]
 
 -- where none is counted none waits
@@ -346,7 +327,7 @@ pub none_there : (inside : Inside) (world : WorldState) (who local : ℕ) → Is
 none_there inside world who local runs view none =
     let off : flag_of inside.waiting.flags.items (slice_get (numbers_of inside.topology who) local) ≡ false = elim (cases_lt who (length inside.topology.numbers.items)) [
       | inl below ↦ none_flagged (numbers_of inside.topology who) inside.waiting.flags.items local (sym (runs.waiting.counted.each who below) ∙ none below)
-      | inr past ↦ no_flag inside.waiting.flags.items (slice_get (numbers_of inside.topology who) local) (slice_get-past (numbers_of inside.topology who) local (omega (arith, ap (λ (l : List ℕ). length l) (none_past inside.topology who past))))
+      | inr past ↦ no_flag inside.waiting.flags.items (slice_get (numbers_of inside.topology who) local) (slice_get_past (numbers_of inside.topology who) local (omega (arith, ap (λ (l : List ℕ). length l) (none_past inside.topology who past))))
     ] in
     subst (λ (w : WorldState). take_waits w who local ≡ false) view (sym (flag_there inside who local runs) ∙ off)
 

@@ -120,11 +120,6 @@ tables_laid inside has = subst (λ (n : ℕ). IsLaid inside.topology n) (length-
 
 -- ---- where a sending goes
 
--- one sending is that to the far slot
-pub sent_one : (topology : Topology) (who local s : ℕ) (signal : Signal) (lanes : List (List Tagged)) → position (is_place (who, local)) topology.places.items ≡ Some s
-    → with_sending topology lanes signal (far s) ≡ one_sent topology who lanes (local, signal)
-sent_one topology who local s signal lanes is = rw is refl
-
 push_at : (world : WorldState) (signal : Signal) (lane one within tunnel : ℕ) → one ≡ lane → tunnel ≡ within
     → record world { lanes = set world.lanes lane (get_or world.lanes lane [] ++ record { tunnel = within; signal = signal } ∷ []) }
     ≡ record world { lanes = set world.lanes one (get_or world.lanes one [] ++ record { tunnel = tunnel; signal = signal } ∷ []) }

@@ -87,11 +87,6 @@ act_by world who (Tell word) other = refl
 act_by world who (Retry slot) other = refl
 act_by world who Shift other = refl
 
--- what holds of a success holds where there is no error
-pub done_of : {E P : Type 0} (result : Result (Unit {0}) E) → is_err result ≡ false → OnOk result P → P
-done_of (Ok done) is holds = holds
-done_of (Err e) is holds = absurd (cc)
-
 pub act_is : (world : WorldState) (topology : Topology) (who : ℕ) (event : Event) (step : BoxStep) → is_take event ≡ false
     → box_event (box_at world who) event None ≡ Some step → topology.places.items ≡ places world → topology.tunnels.items ≡ map channel_of (all_tunnels world)
     → step_by world who event ≡ Some (put world topology who step)

@@ -1,4 +1,4 @@
--- What stands behind the front of a lane.
+-- What comes after the front of a lane.
 use Rattle.std.specs.Prelude.{ℕ, List, [], drop, slice_index_or}
 use Rattle.mc_signal.specs.declared.Tagged.{Tagged}
 use Rattle.mc_world.specs.Lanes.{lane_by}
