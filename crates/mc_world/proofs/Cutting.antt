@@ -49,7 +49,7 @@ by_place topology who local s found below home at is =
 pub none_past : (topology : Topology) (who : ℕ) → length topology.numbers.items ≤ who → numbers_of topology who ≡ []
 none_past topology who past = get_or-eq_default (map (λ numbers. numbers.items) topology.numbers.items) [] (omega (arith, past, length-map topology.numbers.items (λ numbers. numbers.items)))
 
-numbered : (topology : Topology) (who local s : ℕ) → slice_get (numbers_of topology who) local ≡ Some s → who < length topology.numbers.items
+pub numbered : (topology : Topology) (who local s : ℕ) → slice_get (numbers_of topology who) local ≡ Some s → who < length topology.numbers.items
 numbered topology who local s is = elim (cases_lt who (length topology.numbers.items)) [
   | inl below ↦ below
   | inr past ↦ let none : slice_get [] local ≡ Some s = subst (λ (l : List ℕ). slice_get l local ≡ Some s) (none_past topology who past) is in absurd (cc)

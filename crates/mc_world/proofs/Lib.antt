@@ -18,4 +18,5 @@ mod Serving
 mod Running
 mod FirstHomes
 mod Cutting
+mod Filling
 mod CutLanes

@@ -1,11 +1,10 @@
 // An engine of some boxes of a network, made anew and taken apart.
 
-ghost use Rattle.std.specs.Prelude.{◌≡◌, ◌^◌, ◌<◌, ◌≤◌, ℕ, [], length, map, IfErr, IfOk, IsTrue, Some};
+ghost use Rattle.std.specs.Prelude.{◌≡◌, ◌↔◌, ◌^◌, ◌<◌, ◌≤◌, ℕ, [], length, map, replicate, IfOk, IsTrue, OnOk, Some};
 ghost use Rattle.std.specs.List.{slice_get};
 ghost use Rattle.mc_model.specs.Worlds.{AreChannels, first_world};
-ghost use Rattle.mc_world.specs.Cuts.{ArePlaced, EachFound, EachPlaced};
+ghost use Rattle.mc_world.specs.Cuts.{AreFilled, ArePlaced, EachFound, EachPlaced, Fits, HasPlaces, HaveSlots, IsCut, PutsAt};
 ghost use Rattle.mc_world.specs.Lanes.{HasNumbers, numbers_of, signals_of};
-ghost use Rattle.mc_world.specs.Running.{HasSlots};
 
 use super::engine::Engine;
 use super::{empty_lanes, places_among, tunnels_among};
@@ -22,8 +21,9 @@ use std::alloc::{AllocError, Global};
 #[derive(Debug, Drop)]
 pub enum CutFault {
     NoMemory(AllocError),
-    /// A box has more or fewer slots than places in channels, two slots have one place, a box has none at one of its
-    /// local numbers, or a number is past the last home.
+    /// A box has no home, or more or fewer slots there than the channels have places; or at some home two slots have
+    /// one place, a local number below another has none, or there are more slots than a box may have; or a place is
+    /// past the last home.
     NoCut,
 }
 
@@ -55,7 +55,9 @@ pub fn engine_of(
 ) -> Result<Engine, CutFault>
     requires channels { AreChannels channels.items }
     requires few { homes ≤ 2 ^ 32 }
-    ensures { IfOk result (λ engine. engine ≡ first_world boxes.items channels.items) }
+    ensures first { IfOk result (λ engine. engine ≡ first_world boxes.items channels.items) }
+    ensures cut { IfOk result (λ engine. IsCut boxes.items channels.items homes) }
+    ensures no_cut { result ≡ Err CutFault.NoCut → IsCut boxes.items channels.items homes → ⊥ }
 {
     let lanes = empty_lanes(alloc, channels.len())?;
     let places = places_among(alloc, &channels)?;
@@ -66,7 +68,7 @@ pub fn engine_of(
         tunnels,
         numbers,
     };
-    if !are_placed(&topology) || !have_slots(&topology, &boxes) {
+    if !fits(&topology, &boxes) {
         return Err(CutFault::NoCut);
     }
     let waiting = Waiting::new(alloc, &topology)?;
@@ -95,18 +97,21 @@ impl Engine {
     }
 }
 
-// For each home the numbers of its slots, each at the slot's local number.
+// For each home the numbers of its slots, each at the slot's local number. A place past the homes is left out.
 fn numbers_by_place(
     alloc: Global,
     homes: usize,
     places: &[(u32, u8)],
 ) -> Result<Vec<Vec<u32>>, AllocError>
-    ensures { IfOk result (λ numbers. length numbers.items ≡ homes) }
+    requires few { length places.now ≤ 2 ^ 32 }
+    ensures homes { IfOk result (λ numbers. length numbers.items ≡ homes) }
+    ensures filled { IfOk result (λ numbers. (count : ℕ → ℕ) → HasPlaces places.now homes count
+        → AreFilled places.now count (length places.now) (map (λ numbers. numbers.items) numbers.items)) }
 {
     let mut numbers = no_numbers(alloc, homes)?;
     for slot in 0..places.len() {
         let (who, local) = places[slot];
-        if (who as usize) < numbers.len() && slot <= u32::MAX as usize {
+        if (who as usize) < numbers.len() {
             put_number(&mut numbers[who as usize], local, slot as u32)?;
         }
     }
@@ -115,7 +120,7 @@ fn numbers_by_place(
 
 // So many homes without slots.
 fn no_numbers(alloc: Global, homes: usize) -> Result<Vec<Vec<u32>>, AllocError>
-    ensures { IfOk result (λ numbers. length numbers.items ≡ homes) }
+    ensures { IfOk result (λ numbers. map (λ numbers. numbers.items) numbers.items ≡ replicate homes []) }
 {
     let mut numbers = Vec::new(alloc);
     for _done in 0..homes {
@@ -125,21 +130,39 @@ fn no_numbers(alloc: Global, homes: usize) -> Result<Vec<Vec<u32>>, AllocError>
 }
 
 // A slot's number stands at its local number.
-fn put_number(home: &mut Vec<u32>, local: u8, slot: u32) -> Result<(), AllocError> {
+fn put_number(home: &mut Vec<u32>, local: u8, slot: u32) -> Result<(), AllocError>
+    ensures { OnOk result (PutsAt home.old.items home.new.items local slot) }
+{
     let place = local as usize;
-    for _done in home.len()..place + 1 {
-        home.push(slot)?;
-    }
-    if place < home.len() {
-        home[place] = slot;
+    lengthen(home, place + 1)?;
+    home[place] = slot;
+    Ok(())
+}
+
+// Makes a home's list of numbers at least so long.
+fn lengthen(home: &mut Vec<u32>, least: usize) -> Result<(), AllocError>
+    ensures same { (k s : ℕ) → slice_get home.old.items k ≡ Some s → slice_get home.new.items k ≡ Some s }
+    ensures least { OnOk result (least ≤ length home.new.items) }
+    ensures most { (m : ℕ) → length home.old.items ≤ m → least ≤ m → length home.new.items ≤ m }
+{
+    for _done in home.len()..least {
+        home.push(0)?;
     }
     Ok(())
+}
+
+// Whether a table that was filled by place is right, and each box has as many numbers as slots.
+fn fits(topology: &Topology, boxes: &[MediaBox]) -> bool
+    requires few { length topology.now.places.items ≤ 2 ^ 32 }
+    ensures { IsTrue result ↔ Fits topology.now boxes.now }
+{
+    are_placed(topology) && have_slots(topology, boxes)
 }
 
 // Whether each slot is found by its place, and each number is that of the slot with this place.
 fn are_placed(topology: &Topology) -> bool
     requires few { length topology.now.places.items ≤ 2 ^ 32 }
-    ensures { IsTrue result → ArePlaced topology.now }
+    ensures { IsTrue result ↔ ArePlaced topology.now }
 {
     each_found(topology) && each_placed(topology)
 }
@@ -147,7 +170,7 @@ fn are_placed(topology: &Topology) -> bool
 // Whether each slot is found by its place.
 fn each_found(topology: &Topology) -> bool
     requires few { length topology.now.places.items ≤ 2 ^ 32 }
-    ensures { IsTrue result → EachFound topology.now (length topology.now.places.items) }
+    ensures { IsTrue result ↔ EachFound topology.now (length topology.now.places.items) }
 {
     for slot in 0..topology.places.len() {
         let (who, local) = topology.places[slot];
@@ -160,7 +183,7 @@ fn each_found(topology: &Topology) -> bool
 
 // Whether a box's slot has this number.
 fn is_number(topology: &Topology, who: u32, local: u8, slot: usize) -> bool
-    ensures { IsTrue result → slice_get (numbers_of topology.now who) local ≡ Some slot }
+    ensures { IsTrue result ↔ (slice_get (numbers_of topology.now who) local ≡ Some slot) }
 {
     match topology.number(who, local) {
         Some(number) => number as usize == slot,
@@ -170,7 +193,7 @@ fn is_number(topology: &Topology, who: u32, local: u8, slot: usize) -> bool
 
 // Whether each number is that of the slot with its place, and no home has more than a box may.
 fn each_placed(topology: &Topology) -> bool
-    ensures { IsTrue result → ((who : ℕ) → who < length topology.now.numbers.items → EachPlaced topology.now who) }
+    ensures { IsTrue result ↔ ((who : ℕ) → who < length topology.now.numbers.items → EachPlaced topology.now who) }
 {
     for who in 0..topology.numbers.len() {
         if !home_placed(topology, who) {
@@ -183,7 +206,7 @@ fn each_placed(topology: &Topology) -> bool
 // The same of one home.
 fn home_placed(topology: &Topology, who: usize) -> bool
     requires here { who < length topology.now.numbers.items }
-    ensures { IsTrue result → EachPlaced topology.now who }
+    ensures { IsTrue result ↔ EachPlaced topology.now who }
 {
     let numbers = &topology.numbers[who];
     if numbers.len() > SLOT_LIMIT {
@@ -199,7 +222,7 @@ fn home_placed(topology: &Topology, who: usize) -> bool
 
 // Whether a slot has this place.
 fn is_placed(topology: &Topology, slot: u32, who: usize, local: usize) -> bool
-    ensures { IsTrue result → slice_get topology.now.places.items slot ≡ Some (who, local) }
+    ensures { IsTrue result ↔ (slice_get topology.now.places.items slot ≡ Some (who, local)) }
 {
     match topology.places.get(slot as usize) {
         Some(place) => place.0 as usize == who && place.1 as usize == local,
@@ -207,10 +230,9 @@ fn is_placed(topology: &Topology, slot: u32, who: usize, local: usize) -> bool
     }
 }
 
-// Whether each box has as many numbers as slots.
+// Whether each box has a home, and as many numbers there as slots.
 fn have_slots(topology: &Topology, boxes: &[MediaBox]) -> bool
-    ensures homes { IsTrue result → length boxes.now ≤ length topology.now.numbers.items }
-    ensures slots { IsTrue result → HasSlots topology.now boxes.now }
+    ensures { IsTrue result ↔ HaveSlots topology.now boxes.now }
 {
     if boxes.len() > topology.numbers.len() {
         return false;
