@@ -1,27 +1,22 @@
 -- An engine that was made of channels, and lanes that change between its turns.
-use Rattle.std.proofs.Common.{◌≡◌, ◌<◌, ◌≤◌, ◌+◌, ◌*◌, ◌^◌, ℕ, List, [], ◌∷◌, ◌++◌, Result, Ok, Err, length, map, get_or, refl, ap, sym, ◌∙◌, subst, arith, Vec}
+use Rattle.std.proofs.Common.{◌≡◌, ◌<◌, ℕ, List, [], Result, Ok, Err, length, get_or, refl, ap, sym, ◌∙◌, subst}
 use Rattle.std.specs.Prelude.{OnErr, OnOk}
 use Rattle.std.specs.Vec.{with_items}
 use Rattle.std.specs.declared.alloc.AllocError.{AllocError}
-use Rattle.std.proofs.Math.ListN.{get_or-map, replicate}
-use Rattle.std.proofs.lemmas.List.{length-map, set-get_or}
+use Rattle.std.proofs.Math.ListN.{replicate}
+use Rattle.std.proofs.lemmas.List.{set-get_or}
 use Rattle.mc_box.specs.Boxes.{no_box}
 use Rattle.mc_signal.specs.declared.Signal.{Signal}
 use Rattle.mc_signal.specs.declared.Tagged.{Tagged}
-use Rattle.mc_laws.proofs.TunnelPlaces.{channel_in, two_each}
-use Rattle.mc_model.specs.Worlds.{ChannelState, TunnelPlace, WorldState, lane_of, no_tunnel, place, slot_count, tunnel_of, tunnels_from}
-use Rattle.mc_world.specs.Lanes.{HasNumbers, IsLaid, lane_by, signals_of, tunnel_by, with_sending}
+use Rattle.mc_world.specs.Lanes.{signals_of, with_sending}
 use Rattle.mc_world.specs.Running.{AllServedBy, AreServed, IsRunning}
-use Rattle.mc_world.specs.Tables.{IsTopologyOf, channel_of}
 use Rattle.mc_world.specs.Waiting.{IsWaiting}
 use Rattle.mc_world.specs.declared.network.engine.Engine.TheInside.{Inside}
 use Rattle.mc_world.specs.declared.topology.Topology.{Topology}
 use Rattle.mc_world.specs.declared.waiting.Waiting.{Waiting}
-use Rattle.mc_world.proofs.LaneBoxes.{lane_box, lane_run}
 use Rattle.mc_world.proofs.LaneChanges.{Lane, refilled}
 use Rattle.mc_world.proofs.Running.{runs_on}
 use Rattle.mc_world.proofs.Serving.{sending_served}
-use Rattle.mc_world.proofs.TopologyLanes.{lane_same, tunnel_same}
 use Rattle.mc_world.proofs.Waits.{no_lane}
 
 -- with nothing under way each signal is for some slot

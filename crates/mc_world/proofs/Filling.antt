@@ -1,5 +1,5 @@
 -- A table that is filled by place: it passes where boxes and channels are those of an engine, and they are where it passes.
-use Rattle.std.proofs.Common.{inl, inr, ◌≡◌, ◌≢◌, ◌<◌, ◌≤◌, ◌+◌, suc, ℕ, Some, List, [], ◌∷◌, ◌++◌, length, map, get_or, Vec, refl, ap, sym, ◌∙◌, subst, arith}
+use Rattle.std.proofs.Common.{inl, inr, ◌≡◌, ◌≢◌, ◌<◌, ◌≤◌, ◌+◌, ℕ, Some, List, [], ◌∷◌, ◌++◌, length, map, get_or, Vec, refl, ap, sym, ◌∙◌, subst, arith}
 use Rattle.std.specs.declared.alloc.Global.{Global}
 use Rattle.std.specs.List.{slice_get}
 use Rattle.std.proofs.Math.ListN.{get_or-eq_default, get_or-map, replicate, set}
@@ -7,10 +7,9 @@ use Rattle.std.proofs.lemmas.Bool.{cases_eq, cases_lt}
 use Rattle.std.proofs.lemmas.List.{get_or-replicate, get_or_read, get_or-set_other, get_or-set_same, length-map, length-replicate, map-set, map_push, replicate_more}
 use Rattle.std.proofs.lemmas.Option.{get_or_from_slice_get, slice_get-get_or, slice_get_within}
 use Rattle.mc_box.specs.Boxes.{BoxState}
-use Rattle.mc_box.specs.declared.limit.TheConstants.{SLOT_LIMIT}
 use Rattle.mc_laws.proofs.Numbers.{some_same}
 use Rattle.mc_model.specs.Worlds.{ChannelState, places_among}
-use Rattle.mc_world.specs.Cuts.{AreFilled, ArePlaced, EachPlaced, Fits, HasPlaces, HaveSlots, IsCut, PutsAt}
+use Rattle.mc_world.specs.Cuts.{AreFilled, ArePlaced, Fits, HasPlaces, IsCut, PutsAt}
 use Rattle.mc_world.specs.Lanes.{numbers_of}
 use Rattle.mc_world.specs.declared.topology.Topology.{Topology}
 use Rattle.mc_world.proofs.Cutting.{numbered}

@@ -1,11 +1,11 @@
 -- What an engine keeps, from event to event.
-use Rattle.std.proofs.Common.{inl, inr, ◌≡◌, ◌≢◌, ◌<◌, ◌≤◌, ◌==◌, if◌then◌else◌, zero, suc, true, false, Bool, ℕ, Option, Some, None, IfNone, IfSome, IsSome, List, [], ◌∷◌, length, map, position, get_or, Vec, refl, ap, sym, ◌∙◌, subst, arith}
+use Rattle.std.proofs.Common.{inl, inr, ◌≡◌, ◌≢◌, ◌<◌, ◌==◌, if◌then◌else◌, true, false, Bool, ℕ, Option, Some, None, IfNone, IfSome, IsSome, List, [], ◌∷◌, length, map, position, get_or, Vec, refl, ap, sym, ◌∙◌, subst, arith}
 use Rattle.std.specs.declared.alloc.Global.{Global}
 use Rattle.std.specs.List.{slice_get}
 use Rattle.std.specs.Vec.{with_item, with_items}
-use Rattle.std.specs.Option.{is_some, option_and_then}
+use Rattle.std.specs.Option.{is_some}
 use Rattle.std.proofs.Math.ListN.{set}
-use Rattle.std.proofs.lemmas.Bool.{cases_eq, cases_lt}
+use Rattle.std.proofs.lemmas.Bool.{cases_lt}
 use Rattle.std.proofs.lemmas.Grind.{common_steps}
 use Rattle.std.proofs.lemmas.List.{get_or_read, length-set, set-get_or}
 use Rattle.std.proofs.lemmas.Option.{slice_get_past}
@@ -24,7 +24,7 @@ use Rattle.mc_model.specs.Rings.{IsLeastOnRing}
 use Rattle.mc_model.specs.Served.{AllServed, IsFor}
 use Rattle.mc_model.specs.Sound.{IsSound}
 use Rattle.mc_model.specs.Steps.{step_by}
-use Rattle.mc_model.specs.Worlds.{WorldState, all_tunnels, box_at, front, front_for, is_place, lane_of, number, places, tunnel_of}
+use Rattle.mc_model.specs.Worlds.{WorldState, all_tunnels, box_at, front, is_place, lane_of, number, places, tunnel_of}
 use Rattle.mc_world.specs.Fronts.{NextServed}
 use Rattle.mc_world.specs.Lanes.{IsLaid, all_sent, lane_by, numbers_of, signals_of, tunnel_by, without_front}
 use Rattle.mc_world.specs.Making.{MakesEvent}

@@ -1,10 +1,9 @@
 -- By which slots a Take sends: by its own, and over a link by its partner.
-use Rattle.std.proofs.Common.{◌≡◌, ◌<◌, ◌==◌, ◌⊎◌, inl, inr, if◌then◌else◌, ℕ, zero, suc, Bool, true, false, Option, Some, None, IfSome, List, [], ◌∷◌, length, get_or, ap, refl, sym, ◌∙◌, subst, arith}
+use Rattle.std.proofs.Common.{◌≡◌, ◌<◌, ◌==◌, ◌⊎◌, inl, inr, if◌then◌else◌, ℕ, zero, suc, Bool, true, false, Some, List, [], ◌∷◌, length, get_or, ap, sym, ◌∙◌, subst, arith}
 use Rattle.std.specs.List.{slice_get}
 use Rattle.std.proofs.lemmas.Bool.{cases_eq}
 use Rattle.std.proofs.lemmas.Grind.{common_steps}
 use Rattle.mc_signal.specs.declared.Signal.{Signal}
-use Rattle.mc_slot.specs.declared.Goal.{Goal}
 use Rattle.mc_slot.specs.declared.SlotGoal.{SlotGoal}
 use Rattle.mc_slot.specs.declared.SlotGoal.TheVariants.{End, Link}
 use Rattle.mc_box.specs.Acting.{sent_by}
@@ -13,9 +12,7 @@ use Rattle.mc_box.specs.BoxSound.{IsSoundBox}
 use Rattle.mc_box.specs.Boxes.{BoxState, goal_at}
 use Rattle.mc_box.specs.declared.event.Event.TheVariants.{Take}
 use Rattle.mc_box.proofs.TakeTurns.{TookBy, take_turned}
-use Rattle.mc_laws.proofs.Numbers.{number_is}
-use Rattle.mc_model.specs.Paths.{partner_by, partner_of}
-use Rattle.mc_model.specs.Worlds.{WorldState, box_at, far, goal_of, number}
+use Rattle.mc_model.specs.Worlds.{far}
 use Rattle.mc_world.specs.Lanes.{HasRoom, HasRoomFrom, lane_by, numbers_of}
 use Rattle.mc_world.specs.Making.{IsBeside}
 use Rattle.mc_world.specs.Senders.{AreSenders}

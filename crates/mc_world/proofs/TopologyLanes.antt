@@ -7,7 +7,6 @@ use Rattle.std.proofs.lemmas.List.{length-map}
 use Rattle.std.proofs.lemmas.Option.{slice_get-get_or}
 use Rattle.std.specs.List.{slice_get}
 use Rattle.mc_signal.specs.declared.Signal.{Signal}
-use Rattle.mc_signal.specs.declared.Tagged.{Tagged}
 use Rattle.mc_world.specs.Lanes.{HasNumbers, IsLaid, numbers_of, all_sent, lane_by, one_sent, with_sending, tunnel_by}
 use Rattle.mc_model.specs.Steps.{after_push, after_sends}
 use Rattle.mc_box.specs.declared.limit.TheConstants.{SLOT_LIMIT}

@@ -1,5 +1,5 @@
 -- What a world's flags and counts say of its fronts.
-use Rattle.std.proofs.Common.{◌≡◌, ◌<◌, ◌≤◌, inl, inr, ℕ, Bool, false, List, [], ◌∷◌, Option, Some, None, length, drop, get_or, map, position, Vec, Global, refl, ap, sym, ◌∙◌, subst, arith}
+use Rattle.std.proofs.Common.{◌≡◌, ◌<◌, ◌≤◌, inl, inr, ℕ, Bool, false, List, [], Option, Some, None, length, get_or, map, position, Vec, Global, refl, ap, sym, ◌∙◌, subst, arith}
 use Rattle.std.specs.List.{slice_get}
 use Rattle.std.specs.Option.{is_some, option_and_then}
 use Rattle.std.proofs.Math.ListN.{replicate, get_or-eq_default}
@@ -12,7 +12,7 @@ use Rattle.mc_box.specs.declared.limit.TheConstants.{SLOT_LIMIT}
 use Rattle.mc_turn.proofs.Sums.{total_same}
 use Rattle.mc_laws.proofs.Numbers.{number_is}
 use Rattle.mc_model.specs.Worlds.{WorldState, all_tunnels, box_at, front, front_for, is_place, number, place, tunnel_of}
-use Rattle.mc_world.specs.Lanes.{lane_by, numbers_of, signals_of, tunnel_by}
+use Rattle.mc_world.specs.Lanes.{lane_by, numbers_of, tunnel_by}
 use Rattle.mc_world.specs.Tables.{HasTables, IsTopologyOf, channel_of, world_state}
 use Rattle.mc_world.specs.Waiting.{AreFlagged, CountsTakes, IsWaiting, bit, flag_count, flag_of, take_waits, waiting_count, waits_by}
 use Rattle.mc_world.specs.declared.network.World.TheInside.{Inside}

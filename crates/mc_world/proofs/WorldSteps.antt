@@ -1,22 +1,21 @@
 -- The steps of a world, from what its boxes and lanes do.
-use Rattle.std.proofs.Common.{◌≡◌, ℕ, ◌<◌, if◌then◌else◌, ◌&&◌, not, Bool, true, false, Option, Some, None, IsSome, List, [], get_or, length, map, nat_lt, Vec, Result, Ok, Err, OnOk, OnErr, IsFalse, IsTrue, ◌↔◌, refl, ap, sym, subst, ◌∙◌}
+use Rattle.std.proofs.Common.{◌≡◌, ℕ, ◌<◌, ◌&&◌, not, Bool, true, false, Option, Some, None, IsSome, [], get_or, length, map, nat_lt, Vec, Result, Ok, Err, OnOk, OnErr, IsFalse, IsTrue, ◌↔◌, refl, ap, sym, subst, ◌∙◌}
 use Rattle.std.proofs.Math.ListN.{set}
 use Rattle.std.proofs.lemmas.Bool.{and_parts}
 use Rattle.std.proofs.lemmas.List.{length-map}
 use Rattle.std.specs.declared.alloc.Global.{Global}
 use Rattle.std.specs.Option.{option_map}
-use Rattle.std.specs.Result.{is_err}
 use Rattle.mc_lane.specs.Queue.{Queue}
 use Rattle.mc_signal.specs.declared.Signal.{Signal}
 use Rattle.mc_signal.specs.declared.Tagged.{Tagged}
-use Rattle.mc_box.specs.BoxEvents.{BoxStep, box_event, is_enabled, is_take, is_version_end, turn_of}
+use Rattle.mc_box.specs.BoxEvents.{BoxStep, box_event, is_take, turn_of}
 use Rattle.mc_box.specs.Boxes.{BoxState, slot_at}
 use Rattle.mc_box.specs.LinkFree.{is_linking}
 use Rattle.mc_model.specs.Rings.{IsLeastOnRing}
 use Rattle.mc_world.specs.Lanes.{all_sent, signals_of, without_front}
 use Rattle.mc_model.specs.Sound.{IsNumbered, IsSound}
 use Rattle.mc_model.specs.Steps.{after_making, after_pop, ends_version_at, step, step_by, with_box}
-use Rattle.mc_model.specs.Worlds.{WorldState, box_at, front, front_for, all_tunnels, lane_of, number, place, places, slot_of, tunnel_of}
+use Rattle.mc_model.specs.Worlds.{WorldState, box_at, front, front_for, all_tunnels, lane_of, number, places, slot_of, tunnel_of}
 use Rattle.mc_box.specs.declared.event.Event.{Event}
 use Rattle.mc_box.specs.declared.event.Event.TheVariants.{Take, Set, Media, Tell, Retry, Shift}
 use Rattle.mc_world.specs.declared.network.World.TheInside.{Inside}
@@ -27,9 +26,8 @@ use Rattle.mc_world.specs.Waiting.{IsWaiting}
 use Rattle.mc_world.specs.declared.network.step.StepFault.{StepFault}
 use Rattle.mc_world.specs.declared.network.step.StepFault.TheVariants.{NotEnabled, NoMemory, VersionEnd}
 use Rattle.mc_world.specs.Tables.{HasTables, IsTopologyOf, channel_of, world_state}
-use Rattle.mc_box.proofs.EventGoes.{event_goes}
 use Rattle.mc_laws.proofs.Numbers.{number_is}
-use Rattle.mc_laws.proofs.StepGoes.{below_test, front_step_goes}
+use Rattle.mc_laws.proofs.StepGoes.{below_test}
 use Rattle.mc_laws.proofs.StepKeeps.{step_keeps_sound}
 use Rattle.mc_world.proofs.Ringless.{step_makes_none}
 use Rattle.mc_world.proofs.TopologyLanes.{sent_out_by}

@@ -1,4 +1,4 @@
-use Rattle.std.proofs.Common.{◌≡◌, ◌*◌, ◌≤◌, ◌^◌, ap, [], length, map, position, ℕ, List, IsTrue, Vec, Global, ◌∙◌, refl, subst, sym, rules, arith}
+use Rattle.std.proofs.Common.{◌≡◌, ◌*◌, ◌≤◌, ◌^◌, ap, [], length, map, ℕ, List, IsTrue, Vec, Global, ◌∙◌, refl, subst, sym, rules, arith}
 use Rattle.std.proofs.Math.ListN.{replicate}
 use Rattle.std.proofs.lemmas.List.{length-map, length-replicate}
 use Rattle.mc_lane.specs.Queue.{Queue}
@@ -7,10 +7,9 @@ use Rattle.mc_signal.specs.declared.Tagged.{Tagged}
 use Rattle.mc_box.specs.Boxes.{BoxState}
 use Rattle.mc_world.specs.Cuts.{AreFilled, Fits, HasPlaces}
 use Rattle.mc_world.specs.Lanes.{HasNumbers, signals_of}
-use Rattle.mc_world.specs.Running.{HasSlots}
 use Rattle.mc_world.specs.Tables.{IsTopologyOf}
 use Rattle.mc_world.specs.declared.topology.Topology.{Topology}
-use Rattle.mc_model.specs.Worlds.{AreChannels, ChannelState, is_place, places_among}
+use Rattle.mc_model.specs.Worlds.{AreChannels, ChannelState, places_among}
 use Rattle.mc_world.proofs.CutLanes.{none_served}
 use Rattle.mc_world.proofs.TopologyLanes.{channels_laid}
 use Rattle.mc_world.proofs.Cutting.{placed_numbers}

@@ -1,4 +1,4 @@
-use Rattle.std.proofs.Common.{◌≡◌, ◌+◌, ◌<◌, ◌∙◌, ap, get_or, length, map, subst, sym, ℕ, List, Vec, Global, [], arith}
+use Rattle.std.proofs.Common.{◌≡◌, ◌+◌, ◌<◌, ◌∙◌, get_or, length, map, subst, sym, ℕ, Vec, Global, arith}
 use Rattle.std.proofs.lemmas.List.{length-set}
 use Rattle.mc_world.specs.Cuts.{AreFilled, HasPlaces}
 use Rattle.mc_world.proofs.Filling.{fill_next, was_read}
