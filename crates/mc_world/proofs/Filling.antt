@@ -9,7 +9,7 @@ use Rattle.std.proofs.lemmas.Option.{get_or_from_slice_get, slice_get-get_or, sl
 use Rattle.mc_box.specs.Boxes.{BoxState}
 use Rattle.mc_laws.proofs.Numbers.{some_same}
 use Rattle.mc_model.specs.Worlds.{ChannelState, places_among}
-use Rattle.mc_world.specs.Cuts.{AreFilled, ArePlaced, Fits, HasPlaces, IsCut, PutsAt}
+use Rattle.mc_world.specs.Cuts.{AreFilled, ArePlaced, FitsBoxes, HasPlaces, IsCut, PutsAt}
 use Rattle.mc_world.specs.Lanes.{numbers_of}
 use Rattle.mc_world.specs.declared.topology.Topology.{Topology}
 use Rattle.mc_world.proofs.Cutting.{numbered}
@@ -130,7 +130,7 @@ all_placed topology homes count has filled many = record {
 -- so does that of boxes and channels of an engine
 pub cut_passes : (topology : Topology) (boxes : List BoxState) (channels : List ChannelState) (homes : ℕ) → topology.places.items ≡ places_among channels → length topology.numbers.items ≡ homes
     → ((count : ℕ → ℕ) → HasPlaces topology.places.items homes count → AreFilled topology.places.items count (length topology.places.items) (tables_of topology)) → IsCut boxes channels homes
-    → Fits topology boxes
+    → FitsBoxes topology boxes
 cut_passes topology boxes channels homes are many fills cut =
     let has : HasPlaces topology.places.items homes cut.count = subst (λ (l : List (ℕ × ℕ)). HasPlaces l homes cut.count) (sym are) cut.places in
     let filled = fills cut.count has in
@@ -154,7 +154,7 @@ passed_places topology are = record {
   few = λ who here. (are.placed who here).few;
 }
 
-pub passed_cut : (topology : Topology) (boxes : List BoxState) (channels : List ChannelState) (homes : ℕ) → topology.places.items ≡ places_among channels → length topology.numbers.items ≡ homes → Fits topology boxes → IsCut boxes channels homes
+pub passed_cut : (topology : Topology) (boxes : List BoxState) (channels : List ChannelState) (homes : ℕ) → topology.places.items ≡ places_among channels → length topology.numbers.items ≡ homes → FitsBoxes topology boxes → IsCut boxes channels homes
 passed_cut topology boxes channels homes are many fits = record {
   count = λ who. length (numbers_of topology who);
   places = subst (λ (l : List (ℕ × ℕ)). HasPlaces l homes (λ who. length (numbers_of topology who))) are

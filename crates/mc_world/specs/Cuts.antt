@@ -30,7 +30,7 @@ pub record HaveSlots (topology : Topology) (boxes : List BoxState) : Type 0 wher
   pub slots : HasSlots topology boxes
 
 -- so tables are those of these boxes, and maybe of others
-pub record Fits (topology : Topology) (boxes : List BoxState) : Type 0 where
+pub record FitsBoxes (topology : Topology) (boxes : List BoxState) : Type 0 where
   pub placed : ArePlaced topology
   pub slots : HaveSlots topology boxes
 

@@ -3,7 +3,7 @@
 ghost use Rattle.std.specs.Prelude.{◌≡◌, ◌↔◌, ◌^◌, ◌<◌, ◌≤◌, ℕ, [], length, map, replicate, IfOk, IsTrue, OnOk, Some};
 ghost use Rattle.std.specs.List.{slice_get};
 ghost use Rattle.mc_model.specs.Worlds.{AreChannels, first_world};
-ghost use Rattle.mc_world.specs.Cuts.{AreFilled, ArePlaced, EachFound, EachPlaced, Fits, HasPlaces, HaveSlots, IsCut, PutsAt};
+ghost use Rattle.mc_world.specs.Cuts.{AreFilled, ArePlaced, EachFound, EachPlaced, FitsBoxes, HasPlaces, HaveSlots, IsCut, PutsAt};
 ghost use Rattle.mc_world.specs.Lanes.{HasNumbers, numbers_of, signals_of};
 
 use super::engine::Engine;
@@ -68,7 +68,7 @@ pub fn engine_of(
         tunnels,
         numbers,
     };
-    if !fits(&topology, &boxes) {
+    if !fits_boxes(&topology, &boxes) {
         return Err(CutFault::NoCut);
     }
     let waiting = Waiting::new(alloc, &topology)?;
@@ -152,9 +152,9 @@ fn lengthen(home: &mut Vec<u32>, least: usize) -> Result<(), AllocError>
 }
 
 // Whether a table that was filled by place is right, and each box has as many numbers as slots.
-fn fits(topology: &Topology, boxes: &[MediaBox]) -> bool
+fn fits_boxes(topology: &Topology, boxes: &[MediaBox]) -> bool
     requires few { length topology.now.places.items ≤ 2 ^ 32 }
-    ensures { IsTrue result ↔ Fits topology.now boxes.now }
+    ensures { IsTrue result ↔ FitsBoxes topology.now boxes.now }
 {
     are_placed(topology) && have_slots(topology, boxes)
 }

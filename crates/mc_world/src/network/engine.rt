@@ -127,11 +127,11 @@ impl Engine {
         if !may_take(&self.boxes[who as usize], local, &signal) {
             return Err(StepFault::NotEnabled);
         }
-        self.take_lawful(who, local, slot, toward, signal)
+        self.take_front(who, local, slot, toward, signal)
     }
 
     // The same where it may.
-    fn take_lawful(
+    fn take_front(
         &mut self,
         who: u32,
         local: u8,

@@ -5,7 +5,7 @@ use Rattle.mc_lane.specs.Queue.{Queue}
 use Rattle.mc_signal.specs.declared.Signal.{Signal}
 use Rattle.mc_signal.specs.declared.Tagged.{Tagged}
 use Rattle.mc_box.specs.Boxes.{BoxState}
-use Rattle.mc_world.specs.Cuts.{AreFilled, Fits, HasPlaces}
+use Rattle.mc_world.specs.Cuts.{AreFilled, FitsBoxes, HasPlaces}
 use Rattle.mc_world.specs.Lanes.{HasNumbers, signals_of}
 use Rattle.mc_world.specs.Tables.{IsTopologyOf}
 use Rattle.mc_world.specs.declared.topology.Topology.{Topology}
@@ -27,8 +27,8 @@ few_places channels places are is =
 pub numbers_by_place-requires : goal.numbers_by_place-requires
 numbers_by_place-requires c = record { few = few_places c.args.channels.items c.deref-3.result.now c.requires.channels (search rules) }
 
-pub fits-requires : goal.fits-requires
-fits-requires c = record { few = few_places c.args.channels.items c.in_ok-places.places.items c.requires.channels (search rules) }
+pub fits_boxes-requires : goal.fits_boxes-requires
+fits_boxes-requires c = record { few = few_places c.args.channels.items c.in_ok-places.places.items c.requires.channels (search rules) }
 
 pub invariant_of-result : goal.invariant_of-result
 invariant_of-result c =
@@ -40,7 +40,7 @@ invariant_of-result c =
     sym (length-map c.in_ok-lanes.lanes.items (λ (lane : Queue Tagged). lane.items)) ∙ ap (λ (l : List (List Tagged)). length l) c.in_ok-lanes.ensures ∙ length-replicate (2 * c.len.result) _ in
     let many : length c.in_ok-lanes.lanes.items ≡ 2 * length c.args.channels.items = omega (arith, lanes, c.len.ensures, c.args.channels.ok.0) in
     let none : signals_of c.in_ok-lanes.lanes.items ≡ replicate (2 * length c.args.channels.items) [] = rw (c.len.ensures, c.args.channels.ok.0) at c.in_ok-lanes.ensures in
-    let passed : Fits topology c.args.boxes.items = subst (λ (l : List BoxState). Fits topology l) c.deref-4.ensures.value (c.fits.ensures.0 (search rules)) in
+    let passed : FitsBoxes topology c.args.boxes.items = subst (λ (l : List BoxState). FitsBoxes topology l) c.deref-4.ensures.value (c.fits_boxes.ensures.0 (search rules)) in
     let numbers : HasNumbers topology = placed_numbers topology passed.placed in
     let is : IsTopologyOf topology c.args.channels.items (length topology.numbers.items) = record {
       places = places;
@@ -65,19 +65,19 @@ invariant_of-result c =
     }
 
 -- where it is refused the table is not right
-pub returns-then-not-fits-clause-no_cut : goal.returns-then-not-fits-clause-no_cut
-returns-then-not-fits-clause-no_cut c refused cut =
+pub returns-then-not-fits_boxes-clause-no_cut : goal.returns-then-not-fits_boxes-clause-no_cut
+returns-then-not-fits_boxes-clause-no_cut c refused cut =
     let topology : Topology = record { places = c.in_ok-places.places; tunnels = c.in_ok-tunnels.tunnels; numbers = c.in_ok-numbers.numbers } in
-    let fits : Fits topology c.args.boxes.items =
+    let fits : FitsBoxes topology c.args.boxes.items =
     cut_passes topology c.args.boxes.items c.args.channels.items c.args.homes (search rules) c.in_ok-numbers.ensures.homes
     (λ count has. subst (λ (l : List (ℕ × ℕ)). AreFilled l count (length l) (map (λ (numbers : Vec ℕ Global). numbers.items) c.in_ok-numbers.numbers.items)) c.deref-3.ensures.value
     (c.in_ok-numbers.ensures.filled count (subst (λ (l : List (ℕ × ℕ)). HasPlaces l c.args.homes count) (sym c.deref-3.ensures.value) has))) cut in
-    let passed : IsTrue c.fits.result = c.fits.ensures.1 (subst (λ (l : List BoxState). Fits topology l) (sym c.deref-4.ensures.value) fits) in
+    let passed : IsTrue c.fits_boxes.result = c.fits_boxes.ensures.1 (subst (λ (l : List BoxState). FitsBoxes topology l) (sym c.deref-4.ensures.value) fits) in
     absurd (cc)
 
 -- and where it is not
 pub returns-clause-cut : goal.returns-clause-cut
 returns-clause-cut c =
     let topology : Topology = record { places = c.in_ok-places.places; tunnels = c.in_ok-tunnels.tunnels; numbers = c.in_ok-numbers.numbers } in
-    let passed : Fits topology c.args.boxes.items = subst (λ (l : List BoxState). Fits topology l) c.deref-4.ensures.value (c.fits.ensures.0 (search rules)) in
+    let passed : FitsBoxes topology c.args.boxes.items = subst (λ (l : List BoxState). FitsBoxes topology l) c.deref-4.ensures.value (c.fits_boxes.ensures.0 (search rules)) in
     passed_cut topology c.args.boxes.items c.args.channels.items c.args.homes (search rules) c.in_ok-numbers.ensures.homes passed

@@ -5,8 +5,8 @@ use Rattle.mc_model.specs.Worlds.{WorldState}
 use Rattle.mc_world.specs.Lanes.{lane_by, signals_of, without_front}
 use Rattle.mc_world.specs.Making.{MakesEvent}
 use Rattle.mc_world.proofs.Running.{Reads, take_can, took, took_runs, unmoved, unmoved_runs}
-use Rattle.mc_world.proofs.network.engine.Engine.take_lawful.Goals as goal
-use Rattle.mc_world.proofs.network.engine.Engine.take_lawful.Goals.{In_ok-take_front}
+use Rattle.mc_world.proofs.network.engine.Engine.take_front.Goals as goal
+use Rattle.mc_world.proofs.network.engine.Engine.take_front.Goals.{In_ok-take_front}
 
 reads_err : (c : goal.After-from_residual) → Reads c.self.inside c.args.who c.index_mut-home.result.now c.deref_mut.result.now
 reads_err c = record {
