@@ -30,5 +30,5 @@ abbrev pub with_last : WorldState → ℕ → Tagged → WorldState
 with_last world lane tagged = record world { lanes = slice_set world.lanes lane (slice_index_or world.lanes lane [] ++ tagged ∷ []) }
 
 -- whether there is a slot with this number, to which this lane leads, and whose tunnel has this number within its channel
-abbrev pub leads_to : WorldState → ℕ → ℕ → ℕ → Bool
-leads_to world lane tunnel slot = nat_lt slot (slot_count world) && (lane_of world slot == lane && (tunnel_of world slot).within == tunnel)
+abbrev pub is_slot_at : WorldState → ℕ → ℕ → ℕ → Bool
+is_slot_at world lane tunnel slot = nat_lt slot (slot_count world) && (lane_of world slot == lane && (tunnel_of world slot).within == tunnel)

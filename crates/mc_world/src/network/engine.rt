@@ -7,7 +7,7 @@ ghost use Rattle.mc_box.specs.BoxEvents.{is_enabled, is_take, is_version_end, tu
 ghost use Rattle.mc_box.specs.Boxes.{slot_at};
 ghost use Rattle.mc_model.specs.Steps.{ends_version_at, step, step_by};
 ghost use Rattle.mc_model.specs.Worlds.{AreChannels, box_at, front, lane_of, number, place, slot_count, tunnel_of};
-ghost use Rattle.mc_world.specs.Pumping.{IsOutgoing, WaitsAt, leads_to, with_last, without_first};
+ghost use Rattle.mc_world.specs.Pumping.{IsOutgoing, WaitsAt, is_slot_at, with_last, without_first};
 ghost use Rattle.mc_world.specs.StepAnswers.{Answers, CannotHappen, LacksVersion};
 ghost use Rattle.mc_world.specs.Waiting.{take_waits};
 ghost use Rattle.mc_box.specs.declared.event.Event.{Event};
@@ -306,9 +306,9 @@ impl Engine {
         ensures put { OnOk result (self.new ≡ with_last self.old lane (record { tunnel = tunnel; signal = signal })) }
         ensures there { OnOk result (lane < length self.old.lanes) }
         ensures same { OnErr result (self.new ≡ self.old) }
-        ensures stray { (result ≡ Err PutFault.Stray) ↔ IsFalse (leads_to self.old lane tunnel slot) }
+        ensures stray { (result ≡ Err PutFault.Stray) ↔ IsFalse (is_slot_at self.old lane tunnel slot) }
     {
-        if !self.leads_to(lane, tunnel, slot) {
+        if !self.is_slot_at(lane, tunnel, slot) {
             return Err(PutFault::Stray);
         }
         self.put_last(slot, signal)?;
@@ -316,8 +316,8 @@ impl Engine {
     }
 
     // Whether this lane leads to a slot, and this is the slot's tunnel.
-    fn leads_to(&self, lane: usize, tunnel: u8, slot: u32) -> bool
-        ensures leads { result ≡ leads_to self.now lane tunnel slot }
+    fn is_slot_at(&self, lane: usize, tunnel: u8, slot: u32) -> bool
+        ensures leads { result ≡ is_slot_at self.now lane tunnel slot }
         ensures there { IsTrue result → lane < length self.now.lanes }
     {
         if slot as usize >= self.topology.places.len() {
