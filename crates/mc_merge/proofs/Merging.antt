@@ -144,7 +144,7 @@ never_falls world logs boxes (key ∷ keys) reads late = (later_all world logs b
 
 -- ---- what is taken from a lane, and sent into it
 
-taken_own : (entries : List Placed) (world : WorldState) (lane : ℕ) → all_taken world lane entries ≡ takings (into_box world (leads_to world lane) lane) (own (leads_to world lane) entries)
+pub taken_own : (entries : List Placed) (world : WorldState) (lane : ℕ) → all_taken world lane entries ≡ takings (into_box world (leads_to world lane) lane) (own (leads_to world lane) entries)
 taken_own [] world lane = refl
 taken_own (placed ∷ rest) world lane = elim (cases_eq placed.0 (leads_to world lane)) [
   | inl is ↦
@@ -156,7 +156,7 @@ taken_own (placed ∷ rest) world lane = elim (cases_eq placed.0 (leads_to world
       ∙ (taken_own rest world lane ∙ ap (takings (into_box world (leads_to world lane) lane)) (sym (own_else (leads_to world lane) placed rest away)))
 ]
 
-sent_own : (entries : List Placed) (world : WorldState) (lane : ℕ) → all_sent world lane entries ≡ log_sends (out_of_box world (leads_from world lane) lane) (own (leads_from world lane) entries)
+pub sent_own : (entries : List Placed) (world : WorldState) (lane : ℕ) → all_sent world lane entries ≡ log_sends (out_of_box world (leads_from world lane) lane) (own (leads_from world lane) entries)
 sent_own [] world lane = refl
 sent_own (placed ∷ rest) world lane = elim (cases_eq placed.0 (leads_from world lane)) [
   | inl is ↦

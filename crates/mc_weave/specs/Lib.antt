@@ -1,0 +1,13 @@
+pub mod Account
+pub mod Clocks
+pub mod Fits
+pub mod Logs
+pub mod Order
+pub mod Passing
+pub mod Phases
+pub mod Steps
+pub mod Together
+pub mod Turns
+pub mod Uses
+pub mod Weaving
+pub mod Wholes
