@@ -1,0 +1,12 @@
+pub mod Filling
+pub mod Layouts
+pub mod Leads
+pub mod Members
+pub mod Numbers
+pub mod PartNumbers
+pub mod Placed
+pub mod Ranks
+pub mod Same
+pub mod Shares
+pub mod Slots
+pub mod Tunnels

@@ -1,0 +1,3 @@
+pub mod CutLaws
+pub mod Cuts
+pub mod Cutting

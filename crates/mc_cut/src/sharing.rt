@@ -1,0 +1,48 @@
+// Things by part.
+
+ghost use Rattle.std.specs.Prelude.{◌≡◌, ◌<◌, [], length, replicate, All, IfOk, OnOk};
+ghost use Rattle.mc_cut.specs.Cutting.{inner_lists, shares_of, with_given};
+
+use std::alloc::{AllocError, Global};
+
+/// What each of so many parts has of these things, in their order, where `assigned` has the part of each. It fails only
+/// for want of memory.
+pub fn share<T: Drop>(
+    alloc: Global,
+    assigned: &[u32],
+    count: usize,
+    things: Vec<T>,
+) -> Result<Vec<Vec<T>>, AllocError>
+    requires each { length things.items ≡ length assigned.now }
+    requires parts { All (λ part. part < count) assigned.now }
+    ensures { IfOk result (λ shares. inner_lists shares.items ≡ shares_of things.items assigned.now count) }
+{
+    let mut shares = empty_lists(alloc, count)?;
+    let mut who = 0;
+    for thing in things {
+        let part = assigned[who] as usize;
+        give(&mut shares, part, thing)?;
+        who += 1;
+    }
+    Ok(shares)
+}
+
+// So many empty lists.
+fn empty_lists<T: Drop>(alloc: Global, count: usize) -> Result<Vec<Vec<T>>, AllocError>
+    ensures { IfOk result (λ lists. inner_lists lists.items ≡ replicate count []) }
+{
+    let mut lists = Vec::with_capacity(alloc, count)?;
+    for _done in 0..count {
+        lists.push(Vec::new(alloc))?;
+    }
+    Ok(lists)
+}
+
+// A part gets one more.
+fn give<T: Drop>(lists: &mut Vec<Vec<T>>, part: usize, thing: T) -> Result<(), AllocError>
+    requires { part < length lists.old.items }
+    ensures { OnOk result (inner_lists lists.new.items ≡ with_given (inner_lists lists.old.items) part thing) }
+{
+    lists[part].push(thing)?;
+    Ok(())
+}
