@@ -129,6 +129,22 @@ impl InPort {
     }
 }
 
+/// How many items are left in a ring, where both ends are at hand. The taking end knows of them all then.
+pub fn look_beside(from: &mut OutPort, to: &mut InPort) -> usize
+    requires { IsPair from.old to.old }
+    ensures out_ring { out_ring from.new ≡ out_ring from.old }
+    ensures in_ring { in_ring to.new ≡ in_ring to.old }
+    ensures given { given from.new ≡ given from.old }
+    ensures received { received to.new ≡ received to.old }
+    ensures left { received to.old ++ left_in from.old to.old ≡ given from.old }
+    ensures known { known to.new ≡ left_in from.old to.old }
+    ensures count { result ≡ length (left_in from.old to.old) }
+    ensures looks { look_count to.new ≡ look_count to.old }
+    ensures handed_back { back_count from.new ≡ back_count from.old }
+{
+    to.end.slots_beside(&mut from.end)
+}
+
 /// Moves what is left in a ring into a lane, without its stamps, where both ends are at hand. It fails only for want of
 /// memory, and moves nothing then; the taking end may know of more of what was given.
 pub fn drain_beside(

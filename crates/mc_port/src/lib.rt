@@ -5,5 +5,5 @@ mod ends;
 pub mod limit;
 mod stamped;
 
-pub use ends::{InPort, OutPort, drain_beside, pair};
+pub use ends::{InPort, OutPort, drain_beside, look_beside, pair};
 pub use stamped::Stamped;

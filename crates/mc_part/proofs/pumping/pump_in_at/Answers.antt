@@ -1,0 +1,24 @@
+use Rattle.std.proofs.Common.{◌∙◌, refl}
+use Rattle.mc_part.proofs.Ran.{run_ports, runs_none, runs_on, still_away}
+use Rattle.mc_part.specs.Parts.{no_retries}
+use Rattle.mc_part.proofs.pumping.pump_in_at.Goals as goal
+
+pub loop-init : goal.loop-init
+loop-init c = record { run = runs_none c.args.part.now c.requires.within; within = c.requires.within; log = refl; ports = refl }
+
+pub take_one-requires-clause-away : goal.take_one-requires-clause-away
+take_one-requires-clause-away c = still_away c.args.part.now c.loop.part no_retries c.loop.invariant.run c.requires.away
+
+pub loop-preserved : goal.loop-preserved
+loop-preserved c = record {
+  run = runs_on c.args.part.now c.loop.part c.take_one.new.part c.loop.invariant.run c.take_one.ensures.run;
+  within = c.take_one.ensures.within;
+  log = c.take_one.ensures.log ∙ c.loop.invariant.log;
+  ports = run_ports c.loop.part c.take_one.new.part no_retries c.take_one.ensures.run ∙ c.loop.invariant.ports;
+}
+
+pub returns-in_err-take_one-clause-run : goal.returns-in_err-take_one-clause-run
+returns-in_err-take_one-clause-run c = runs_on c.args.part.now c.loop.part c.take_one.new.part c.loop.invariant.run c.take_one.ensures.run
+
+pub returns-then-not-branch-clause-run : goal.returns-then-not-branch-clause-run
+returns-then-not-branch-clause-run c = runs_on c.args.part.now c.loop.part c.take_one.new.part c.loop.invariant.run c.take_one.ensures.run

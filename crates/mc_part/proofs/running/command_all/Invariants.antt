@@ -1,0 +1,13 @@
+use Rattle.std.proofs.Common.{◌-◌, length}
+use Rattle.mc_part.specs.Running.{AreCalmFrom, Goes}
+use Rattle.mc_part.proofs.running.command_all.Given as goal
+
+-- what was made so far is the part's work; boxes that can shift have commands
+abbrev pub invariant-commands : goal.invariant-commands
+invariant-commands l = record {
+  goes : Goes l.fn.budget l.fn.part l.part;
+  calm : AreCalmFrom 0 l.fn.part → AreCalmFrom 0 l.part;
+}
+
+abbrev pub decreases-commands : goal.decreases-commands
+decreases-commands l = length l.part.commands.items - l.part.used

@@ -1,0 +1,9 @@
+pub mod Carrying
+pub mod Drains
+pub mod Parts
+pub mod Phases
+pub mod Ports
+pub mod Retries
+pub mod Running
+pub mod Spans
+pub mod Networks

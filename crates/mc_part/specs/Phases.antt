@@ -1,0 +1,47 @@
+-- What parts do in a phase.
+use Rattle.std.specs.Prelude.{◌≡◌, ◌≤◌, ℕ, Bool, true, false, List, length, max, slice_get, Result, Some}
+use Rattle.mc_part.specs.Parts.{IsWithin, LeadsAway}
+use Rattle.mc_part.specs.Running.{AreCalmFrom, EndsAs, HasRoom, Progresses, RunsAs}
+use Rattle.mc_part.specs.declared.stop.Ended.{Ended}
+use Rattle.mc_part.specs.declared.stop.PartStop.{PartStop}
+use Rattle.mc_part.specs.declared.part_run.PartRun.{PartRun}
+
+-- each of these
+abbrev pub EachOf : {A : Type 0} → (A → Type 0) → List A → Type 0
+EachOf {A = A} P items = (i : ℕ) (item : A) → slice_get items i ≡ Some item → P item
+
+-- each of these became the one at its place
+pub record EachChanged {A : Type 0} (R : A → A → Type 0) (old new : List A) : Type 0 where
+  pub count : length new ≡ length old
+  pub each : (i : ℕ) (a b : A) → slice_get old i ≡ Some a → slice_get new i ≡ Some b → R a b
+
+-- a part may run: the channels of its ports lead away, its stamps and counts fit, no box but those that have commands
+-- can shift, and retries fit into the budget
+pub record IsReady (retries : Bool) (budget : ℕ) (run : PartRun) : Type 0 where
+  pub away : LeadsAway run.part
+  pub within : IsWithin run.part
+  pub calm : AreCalmFrom 0 run.part
+  pub room : HasRoom retries budget run.part
+
+abbrev pub AreReady : Bool → ℕ → List PartRun → Type 0
+AreReady retries budget runs = EachOf (IsReady retries budget) runs
+
+-- what its run answered, and what that says
+pub record HasEnded (retries : Bool) (budget : ℕ) (a b : PartRun) : Type 0 where
+  pub result : Result Ended PartStop
+  pub is : b.ended ≡ Some result
+  pub runs : RunsAs retries a.part b.part result
+  pub few : length b.part.log.items ≤ max budget (length a.part.log.items)
+  pub ends : EndsAs result b.part budget
+  pub progress : Progresses retries budget a.part b.part result
+
+-- it ran, if it had something to do; and what it keeps while it runs it keeps
+pub record HasGone (retries : Bool) (budget : ℕ) (a b : PartRun) : Type 0 where
+  pub away : LeadsAway b.part
+  pub within : IsWithin b.part
+  pub active : b.active ≡ a.active
+  pub idle : a.active ≡ false → b ≡ a
+  pub ended : a.active ≡ true → HasEnded retries budget a b
+
+abbrev pub HaveGone : Bool → ℕ → List PartRun → List PartRun → Type 0
+HaveGone retries budget old new = EachChanged (HasGone retries budget) old new
