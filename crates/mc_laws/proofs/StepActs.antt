@@ -152,7 +152,7 @@ all_left : (world : WorldState) (who : ℕ) → Left world who world.lanes
 all_left world who = record { count = refl; rest = λ lane. inl refl; others = λ s inside away. refl }
 
 -- an event that takes nothing
-act_happens : (event : Event) (world next : WorldState) (who : ℕ) (step : BoxStep) → IsSound world → who < length world.boxes → box_event (box_at world who) event None ≡ Some step
+pub act_happens : (event : Event) (world next : WorldState) (who : ℕ) (step : BoxStep) → IsSound world → who < length world.boxes → box_event (box_at world who) event None ≡ Some step
     → after_making world who step ≡ next → Happened world next who event None world.lanes
 act_happens event world next who step sound below goes made_is =
     box_happens world next who event None step world.lanes sound.numbered below goes (all_left world who)
@@ -208,7 +208,7 @@ comes_else world who s local k signal numbered below there inside local_is front
     subst (λ (t : ℕ). list_in world (without world s) t ≡ list_to world t) (sym no) (left_else world s found.0 signal there inside found.1 other fronts)
 
 -- a Take
-take_happens : (world next : WorldState) (who local s : ℕ) (signal : Signal) (step : BoxStep) → IsSound world → who < length world.boxes → number world who local ≡ Some s → front world s ≡ Some signal
+pub take_happens : (world next : WorldState) (who local s : ℕ) (signal : Signal) (step : BoxStep) → IsSound world → who < length world.boxes → number world who local ≡ Some s → front world s ≡ Some signal
     → box_event (box_at world who) (Take local) (Some signal) ≡ Some step → after_making (after_pop world s) who step ≡ next → Happened world next who (Take local) (Some signal) (without world s)
 take_happens world next who local s signal step sound below is first goes made_is =
     let found = number_is world who local s is in

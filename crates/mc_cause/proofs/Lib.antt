@@ -1,0 +1,15 @@
+pub mod Begins
+pub mod Counts
+pub mod Known
+pub mod Looking
+pub mod Never
+pub mod NewOnes
+pub mod Noted
+pub mod Noting
+pub mod Others
+pub mod Quiet
+pub mod Sending
+pub mod Telling
+pub mod Tells
+pub mod Told
+pub mod Worked

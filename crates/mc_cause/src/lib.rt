@@ -1,0 +1,12 @@
+//! Why a slot is closed: the turn from which the close came, carried beside each close under way.
+#![tactic(auto)]
+
+mod causes;
+pub mod laws;
+mod look;
+mod notes;
+mod whys;
+
+pub use causes::Causes;
+pub use look::{Look, Seen};
+pub use whys::Whys;

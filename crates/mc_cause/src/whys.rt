@@ -1,0 +1,111 @@
+// Why slots are closed, beside a world that another keeps.
+
+ghost use Rattle.std.specs.Prelude.{◌≡◌, ◌<◌, ◌+◌, ◌^◌, ◌++◌, [], ◌∷◌, List, length, replicate, slice_index_or, None, IfOk};
+ghost use Rattle.mc_box.specs.declared.event.Turn.{Turn};
+ghost use Rattle.mc_cause.specs.Carried.{AreOfSlots, HasHappened, HasLooked, Looks, TellsCauses};
+ghost use Rattle.mc_cause.specs.CauseLaws.{NoneCloses};
+ghost use Rattle.mc_model.specs.Worlds.{WorldState};
+
+use crate::look::{Look, look_before};
+use crate::notes::note;
+use mc_box::Turn;
+use mc_world::World;
+use std::alloc::{AllocError, Global};
+use std::marker::Model;
+
+/// Why the closed slots of a world are closed, for whoever keeps the world. Before each turn they `look`, then the turn
+/// is made, and `note` has both. A number beside each close under way tells from which turn it came.
+#[derive(Debug, Drop)]
+pub struct Whys {
+    turns: u32,
+    // of each slot that waits for a closeack, from which turn its close came
+    origins: Vec<Option<u32>>,
+    // of each slot, from which turn the close came by which it last became closed
+    whys: Vec<Option<u32>>,
+}
+
+impl Model for Whys {
+    ghost use Rattle.mc_cause.specs.Carried.{WhysState};
+
+    ghost Value = { WhysState };
+
+    ghost view = { λ inside. record {
+      turns = inside.turns;
+      origins = inside.origins.items;
+      whys = inside.whys.items;
+    } };
+}
+
+impl Whys {
+    /// Those of no turns. No slot of the world waits for a closeack, as in each first world.
+    pub fn new(alloc: Global, world: &World) -> Result<Whys, AllocError>
+        requires { NoneCloses world.now }
+        ensures slots { IfOk result (AreOfSlots world.now) }
+        ensures tells { IfOk result (TellsCauses world.now [] world.now) }
+    {
+        world.keeps();
+        let origins = nones(alloc, world.slot_count())?;
+        let whys = nones(alloc, world.slot_count())?;
+        Ok(Whys {
+            turns: 0,
+            origins,
+            whys,
+        })
+    }
+
+    /// What a turn may do to closes, seen in the world before it. It is noted once the turn was made.
+    pub fn look(&self, world: &World, turn: Turn) -> Look
+        ensures { Looks world.now turn result }
+    {
+        look_before(world, turn)
+    }
+
+    /// Notes a turn that was made, by the world after it and by what `look` saw before it. Fewer than 4,294,967,295 turns
+    /// were made before.
+    pub fn note(&mut self, world: &World, turn: Turn, look: Look)
+        requires few { self.old.turns + 1 < 2 ^ 32 }
+        requires looked { HasLooked world.now turn look self.old }
+        ensures turns { self.new.turns ≡ self.old.turns + 1 }
+        ensures slots { AreOfSlots world.now self.new }
+        ensures tells { (first before : WorldState) (turns : List Turn) → TellsCauses first turns before self.old
+            → HasHappened before world.now turn look → TellsCauses first (turns ++ turn ∷ []) world.now self.new }
+    {
+        let number = self.turns + 1;
+        self.turns = number;
+        note(
+            world,
+            turn.who,
+            look,
+            number,
+            &mut self.origins,
+            &mut self.whys,
+        );
+    }
+
+    /// Why a slot is closed: from which turn the close came by which it last became closed, counted from 1. None where
+    /// it never did.
+    pub fn why(&self, slot: u32) -> Option<u32>
+        requires { slot < length self.now.whys }
+        ensures { result ≡ slice_index_or self.now.whys slot None }
+    {
+        self.whys[slot as usize]
+    }
+
+    /// The same of all slots, by their numbers.
+    pub fn all(&self) -> &[Option<u32>]
+        ensures { result.now ≡ self.now.whys }
+    {
+        &self.whys
+    }
+}
+
+// So many numbers, none of which is there.
+fn nones(alloc: Global, count: usize) -> Result<Vec<Option<u32>>, AllocError>
+    ensures { IfOk result (λ numbers. numbers.items ≡ replicate count None) }
+{
+    let mut numbers = Vec::new(alloc);
+    for _done in 0..count {
+        numbers.push(None)?;
+    }
+    Ok(numbers)
+}
