@@ -235,15 +235,16 @@ all_hold (turn ∷ rest) before all P first world last known begin ran sound cou
     (all_hold rest (before ++ turn ∷ []) all P first one.0 last (known_after known world turn) begin (run_more before first world one.0 turn ran one.1) (step_keeps_sound world one.0 turn sound one.1)
     (more_counted world one.0 turn known sound one.1 counted) (more_holds P world one.0 turn known sound one.1 counted holds begins) more (is ∙ sym (append_assoc before (turn ∷ []) rest)) one.2)
 
+-- turns leave the number of slots as it is
+pub run_count : (turns : List Turn) (world last : WorldState) → IsSound world → run world turns ≡ Some last → slot_count last ≡ slot_count world
+run_count [] world last sound goes = let same : world ≡ last = cc in ap slot_count (sym same)
+run_count (turn ∷ turns) world last sound goes =
+    let one = then_some (λ (next : WorldState). run next turns) (step world turn) last goes in
+    run_count turns one.0 last (step_keeps_sound world one.0 turn sound one.1) one.2 ∙ same_count world one.0 turn sound one.1
+
 pub causes_begin : CausesBegin
 causes_begin world last turns s at sound none goes inside is =
     let begin : HoldsOfBegins (Begins world turns) world turns = λ before rest turn splits begins. record { before = before; turn = turn; rest = rest; splits = splits; counted = refl; begins = begins } in
     let nothing : Holds (Begins world turns) world none_known = record { origins = λ t below. tt; causes = λ t n below caused. absurd (cc) } in
     let all = all_hold turns [] turns (Begins world turns) world world last none_known begin refl sound (none_counted world sound none) nothing refl refl goes in
     all.causes s at (subst (λ (n : ℕ). s < n) (sym (run_count turns world last sound goes)) inside) is
-  where
-    run_count : (turns : List Turn) (world last : WorldState) → IsSound world → run world turns ≡ Some last → slot_count last ≡ slot_count world
-    run_count [] world last sound goes = let same : world ≡ last = cc in ap slot_count (sym same)
-    run_count (turn ∷ turns) world last sound goes =
-        let one = then_some (λ (next : WorldState). run next turns) (step world turn) last goes in
-        run_count turns one.0 last (step_keeps_sound world one.0 turn sound one.1) one.2 ∙ same_count world one.0 turn sound one.1

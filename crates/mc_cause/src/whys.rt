@@ -92,10 +92,10 @@ impl Whys {
     }
 
     /// The same of all slots, by their numbers.
-    pub fn all(&self) -> &[Option<u32>]
-        ensures { result.now ≡ self.now.whys }
+    pub fn all(&self, alloc: Global) -> Result<Vec<Option<u32>>, AllocError>
+        ensures { IfOk result (λ all. all.items ≡ self.now.whys) }
     {
-        &self.whys
+        copied(alloc, &self.whys)
     }
 }
 
@@ -108,4 +108,16 @@ fn nones(alloc: Global, count: usize) -> Result<Vec<Option<u32>>, AllocError>
         numbers.push(None)?;
     }
     Ok(numbers)
+}
+
+// The same numbers once more.
+fn copied(alloc: Global, numbers: &[Option<u32>]) -> Result<Vec<Option<u32>>, AllocError>
+    ensures { IfOk result (λ copied. copied.items ≡ numbers.now) }
+{
+    let mut copied = Vec::new(alloc);
+    copied.reserve_exact(numbers.len())?;
+    for number in numbers {
+        copied.push(*number)?;
+    }
+    Ok(copied)
 }
