@@ -14,4 +14,5 @@ mod Reading
 mod RetriesKept
 mod Serving
 mod Stands
+mod ToldLines
 pub mod Places

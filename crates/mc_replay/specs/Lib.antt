@@ -7,3 +7,4 @@ pub mod Moments
 pub mod Points
 pub mod Replays
 pub mod Segments
+pub mod Told

@@ -11,8 +11,9 @@ mod replay;
 mod retries;
 pub mod rule;
 mod segment;
+mod telling;
 mod viewer;
 
-pub use checking::{Checked, check, check_lines};
+pub use checking::{Checked, Told, check, check_lines, tell_lines};
 pub use fault::{CheckFault, JournalFault, ReplayFault};
 pub use viewer::Viewer;

@@ -1,8 +1,9 @@
 // A journal that is made again, line by line.
 
-ghost use Rattle.std.specs.Prelude.{◌≡◌, ◌+◌, ◌<◌, ◌≤◌, ◌^◌, drop, length, map, IfOk, IsTrue, OnOk};
+ghost use Rattle.std.specs.Prelude.{◌≡◌, ◌+◌, ◌<◌, ◌≤◌, ◌^◌, drop, length, map, IfOk, IsTrue, OnOk, Some};
 ghost use Rattle.mc_model.specs.Settles.{is_quiet};
 ghost use Rattle.mc_model.specs.Shapes.{AreAllAllowed};
+ghost use Rattle.mc_model.specs.Steps.{step};
 ghost use Rattle.mc_script.specs.Batches.{batch_turns};
 ghost use Rattle.mc_script.specs.declared.command.JournalLine.TheVariants.{Turn as Made, Settled};
 ghost use Rattle.mc_replay.specs.Follows.{Stands};
@@ -45,8 +46,10 @@ impl Replay {
         requires stands { Stands self.old.segment }
         requires few { self.old.turns + self.old.settled + 1 < 2 ^ 32 }
         requires retries { self.old.segment.retries.made ≤ self.old.turns }
-        ensures { (point : Point) → StandsAt (map batch_turns batches.now) point self.old
+        ensures reads { (point : Point) → StandsAt (map batch_turns batches.now) point self.old
             → Reads (map batch_turns batches.now) point (Made turn) self.old result self.new }
+        ensures goes { OnOk result (step self.old.segment.world turn ≡ Some self.new.segment.world) }
+        ensures turns { OnOk result (self.new.turns ≡ self.old.turns + 1) }
     {
         if self.settled >= batches.len() {
             return Err(self.fault(rule::NOT_SETTLED));
@@ -70,6 +73,8 @@ impl Replay {
         ensures reads { (point : Point) → StandsAt (map batch_turns batches.now) point self.old
             → Reads (map batch_turns batches.now) point Settled self.old result self.new }
         ensures quiet { OnOk result (IsTrue (is_quiet self.new.segment.world)) }
+        ensures world { OnOk result (self.new.segment.world ≡ self.old.segment.world) }
+        ensures turns { OnOk result (self.new.turns ≡ self.old.turns) }
     {
         if self.settled >= batches.len() || !self.segment.is_settled() {
             return Err(self.fault(rule::NOT_SETTLED));

@@ -4,6 +4,7 @@ ghost use Rattle.std.specs.Prelude.{◌≡◌, ◌↔◌, ◌==◌, ◌&&◌, �
 ghost use Rattle.mc_box.specs.declared.event.Turn.{Turn};
 ghost use Rattle.mc_model.specs.Shapes.{AreAllowed};
 ghost use Rattle.mc_model.specs.Settles.{is_quiet, rests};
+ghost use Rattle.mc_model.specs.Steps.{step};
 ghost use Rattle.mc_model.specs.Worlds.{WorldState};
 ghost use Rattle.mc_seq.specs.Commands.{AreKept, commands_left};
 ghost use Rattle.mc_seq.specs.Schedule.{left_by, next_of};
@@ -123,6 +124,7 @@ impl Segment {
         requires allowed { AreAllowed self.old.world batch.now }
         ensures follows { OnOk result (Follows self.old.world batch.now [] self.new) }
         ensures made { OnOk result (self.new.retries.made ≡ self.old.retries.made) }
+        ensures world { OnOk result (self.new.world ≡ self.old.world) }
     {
         self.world.keeps();
         self.left = all_commands(alloc, &self.world, batch)?;
@@ -144,6 +146,7 @@ impl Segment {
         ensures makes { (begins : WorldState) (batch turns : List Turn) → Follows begins batch turns self.old
             → MakesTurn begins batch turns turn result self.new }
         ensures made { OnOk result (self.new.retries.made ≤ self.old.retries.made + 1) }
+        ensures goes { OnOk result (step self.old.world turn ≡ Some self.new.world) }
     {
         self.world.keeps();
         if !may_come(&self.left, turn) {

@@ -1,3 +1,4 @@
 pub mod Shown
 pub mod Summaries
+pub mod Whys
 pub mod Words

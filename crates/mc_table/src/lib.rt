@@ -4,8 +4,10 @@
 mod line;
 mod settle;
 mod summary;
+mod whys;
 mod words;
 
 pub use line::put_line;
 pub use settle::print_settle;
 pub use summary::print_summary;
+pub use whys::print_whys;

@@ -5,6 +5,8 @@ use Rattle.mc_script.specs.Batches.{batch_turns}
 use Rattle.mc_script.specs.declared.command.JournalLine.{JournalLine}
 use Rattle.mc_replay.specs.Faults.{RefusesLines}
 use Rattle.mc_replay.specs.Replays.{EndsJournal, HasReplayed, views_of}
+use Rattle.mc_replay.specs.Told.{HasTold}
+use Rattle.mc_replay.proofs.ToldLines.{all_told}
 use Rattle.mc_replay.proofs.Reading.{all_shown, is_journal, one_each, read_count, refused_at_end}
 use Rattle.mc_replay.proofs.checking.read_text.Goals as goal
 
@@ -44,3 +46,8 @@ returns-clause-shown g c =
 pub returns-clause-count : goal.returns-clause-count
 returns-clause-count g c =
     one_each (g.V.Viewer.shows c.args.viewer.now) c.args.replay.now.segment.world c.args.batches.now c.args.text.now.lines.items c.read_lines.new.views.items (returns-clause-journal g c) (returns-clause-shown g c)
+
+pub returns-clause-told : goal.returns-clause-told
+returns-clause-told g c = λ told.
+    all_told c.args.replay.now.segment.world c.read_lines.new.replay.segment.world c.args.text.now.lines.items c.read_lines.new.telling
+    (subst (λ (lines : List JournalLine). HasTold c.args.replay.now.segment.world lines c.read_lines.new.replay.segment.world c.read_lines.new.telling) c.deref.ensures.value (c.in_ok-read_lines.ensures.told told))
