@@ -18,6 +18,7 @@ commands =
     codes "  mediactl run [--journal]      settles the text on standard input, and prints its paths"
     ∷ codes "  mediactl one N [--journal]    the same, in an order that the number N draws"
     ∷ codes "  mediactl check                checks the journal that stands after the text on standard input"
+    ∷ codes "  mediactl why                  the same, and tells of each closed path which turn closed it"
     ∷ codes "  mediactl gen N SIZE           draws SIZE chains of features by the number N, and prints a summary"
     ∷ codes "  mediactl scene pbx            prints the paths of one phone that speaks with two others in turn"
     ∷ codes "  mediactl scene prepaid        prints the paths of a prepaid call that a voice interrupts"

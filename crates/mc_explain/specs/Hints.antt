@@ -37,7 +37,7 @@ forms =
     ∷ (codes "goal", codes "goal SLOT GOAL after a state line, with open, close or hold for GOAL")
     ∷ (codes "when", codes "when told WORD STATE, or when is SLOT IT STATE with closed, opening, opened, flowing or closing for IT, after a state line")
     ∷ (codes "begin", codes "begin, once")
-    ∷ (codes "journal", codes "journal, after the commands and under check alone")
+    ∷ (codes "journal", codes "journal, after the commands, under check and why alone")
     ∷ (codes "set", codes "set BOX SLOT GOAL after begin, with open, close or hold for GOAL")
     ∷ (codes "link", codes "link FEATURE SLOT SLOT after begin, or link SLOT SLOT after a state line")
     ∷ (codes "hear", codes "hear DEVICE SLOT on, or hear DEVICE SLOT off, after begin")

@@ -11,7 +11,7 @@ sentence_in (rule ∷ rules) number = if rule.0 == number then rule.1 else sente
 -- the rules on the lines of a text, each with its sentence
 abbrev pub text_rules : List (ℕ × List ℕ)
 text_rules =
-    (TEXT_TOO_LONG, codes "the text is too long: it may have 1048576 bytes, and under check 16777216 with its journal")
+    (TEXT_TOO_LONG, codes "the text is too long: it may have 1048576 bytes, and under check and why 16777216 with its journal")
     ∷ (LINE_TOO_LONG, codes "the line has more than 256 bytes")
     ∷ (STRANGE_BYTE, codes "the line has a byte that no text may have, such as a tab or a carriage return")
     ∷ (UNDECLARED, codes "the line names a codec, a box, a state or a told word that isn't declared")

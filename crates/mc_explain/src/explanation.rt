@@ -13,10 +13,11 @@ use mc_replay::rule::{NOT_ENABLED, NOT_NEXT};
 use std::alloc::{AllocError, Global};
 
 // How the program is called.
-const COMMANDS: [&str; 8] = [
+const COMMANDS: [&str; 9] = [
     "  mediactl run [--journal]      settles the text on standard input, and prints its paths",
     "  mediactl one N [--journal]    the same, in an order that the number N draws",
     "  mediactl check                checks the journal that stands after the text on standard input",
+    "  mediactl why                  the same, and tells of each closed path which turn closed it",
     "  mediactl gen N SIZE           draws SIZE chains of features by the number N, and prints a summary",
     "  mediactl scene pbx            prints the paths of one phone that speaks with two others in turn",
     "  mediactl scene prepaid        prints the paths of a prepaid call that a voice interrupts",

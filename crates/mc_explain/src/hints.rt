@@ -43,7 +43,7 @@ const FORMS: [(&str, &str); 19] = [
     ("begin", "begin, once"),
     (
         "journal",
-        "journal, after the commands and under check alone",
+        "journal, after the commands, under check and why alone",
     ),
     (
         "set",

@@ -10,7 +10,7 @@ use mc_script::rule as text;
 const TEXT_RULES: [(u8, &str); 18] = [
     (
         text::TEXT_TOO_LONG,
-        "the text is too long: it may have 1048576 bytes, and under check 16777216 with its journal",
+        "the text is too long: it may have 1048576 bytes, and under check and why 16777216 with its journal",
     ),
     (text::LINE_TOO_LONG, "the line has more than 256 bytes"),
     (

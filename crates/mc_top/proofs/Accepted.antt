@@ -75,7 +75,7 @@ accepts text net journal declares good lines = record {
     all_good : (other : Net) → DeclaresNet Journal text other → HasGoodJournal text other
     all_good other declared = same_good text net other (one_net Journal text net other declares declared) good
 
-    kept_is : (old new : Option (List ℕ)) (status : ℕ) (kept : List JournalLine) → Worked Check (Some text) old new status kept → kept ≡ journal
+    kept_is : (old new : Option (List ℕ)) (status : ℕ) (kept : List JournalLine) → Worked (Check false) (Some text) old new status kept → kept ≡ journal
     kept_is old new status kept check = lines_found text check.net kept check.told_journal ∙ sym (same_lines text net check.net (one_net Journal text net check.net declares check.declared)) ∙ lines
 
 -- ---- a printed journal
@@ -116,6 +116,6 @@ printed_journals_are_accepted (One state true) text old new status journal asked
   accepted = accepted text run.net journal run.declared run.settles.sound run.settles.settled short;
 }
 printed_journals_are_accepted (One state false) text old new status journal asked run short = absurd cc
-printed_journals_are_accepted Check text old new status journal asked run short = absurd cc
+printed_journals_are_accepted (Check why) text old new status journal asked run short = absurd cc
 printed_journals_are_accepted (Gen number size) text old new status journal asked run short = absurd cc
 printed_journals_are_accepted (Scene scene) text old new status journal asked run short = absurd cc

@@ -6,7 +6,7 @@ use Rattle.mc_replay.specs.Journals.{HoldsAtSettles, IsJournal}
 use Rattle.mc_replay.specs.Segments.{EachKeepsShiftLimit}
 use Rattle.mc_top.specs.Journals.{IsJournalTo, IsStoppedJournal, ShowsCause}
 use Rattle.mc_top.specs.Drawn.{FollowsDraws}
-use Rattle.mc_top.specs.Modes.{draws_from, output_of, report_of, tail_of}
+use Rattle.mc_top.specs.Modes.{checks, draws_from, output_of, report_of, tail_of}
 use Rattle.mc_model.specs.Sound.{IsSound}
 use Rattle.mc_model.specs.Worlds.{WorldState}
 use Rattle.mc_text.specs.NameLists.{NameLists}
@@ -17,7 +17,7 @@ use Rattle.mc_lines.specs.declared.tail.Tail.TheVariants.{Nothing, Journal}
 use Rattle.mc_net.specs.declared.net.Net.{Net}
 use Rattle.mc_replay.proofs.Holds.{journals_hold}
 use Rattle.mc_top.specs.Behind.{HasJournal, HasJournalFault}
-use Rattle.mc_top.specs.Printed.{fault_line, journal_fault_line, journal_text, run_text, script_text, stop_line, with_journal}
+use Rattle.mc_top.specs.Printed.{checked_text, fault_line, journal_fault_line, journal_text, run_text, script_text, stop_line, with_journal}
 use Rattle.mc_top.specs.Statuses.{IsDueForText, due_by, keeps_journal, stop_status}
 use Rattle.mc_top.specs.Top.{Delivers, Ends, StopsScript, ToldJournal}
 use Rattle.mc_script.specs.declared.command.JournalLine.{JournalLine}
@@ -29,18 +29,18 @@ use Rattle.mc_words.specs.declared.words.Mode.{Mode}
 use Rattle.mc_words.specs.declared.words.Mode.TheVariants.{Check, Gen, One, Run, Scene}
 
 -- what a mode prints is what its run prints
-printed_by : (mode : Mode) (net : Net) (journal : List JournalLine) → run_text (report_of mode) (prints_journal mode) net.names net.world None journal ≡ output_of mode net journal
-printed_by (Run asked) net journal = refl
-printed_by (One state asked) net journal = refl
-printed_by Check net journal = refl
-printed_by (Gen number size) net journal = refl
-printed_by (Scene scene) net journal = refl
+printed_by : (mode : Mode) (net : Net) (journal : List JournalLine) → checks mode ≡ false → run_text (report_of mode) (prints_journal mode) net.names net.world None journal ≡ output_of mode net journal
+printed_by (Run asked) net journal runs = refl
+printed_by (One state asked) net journal runs = refl
+printed_by (Check why) net journal runs = absurd (cc)
+printed_by (Gen number size) net journal runs = refl
+printed_by (Scene scene) net journal runs = refl
 
 -- a mode that runs a script reads a text behind whose commands nothing stands
-runs_reads : (mode : Mode) → mode ≢ Check → tail_of mode ≡ Nothing
+runs_reads : (mode : Mode) → checks mode ≡ false → tail_of mode ≡ Nothing
 runs_reads (Run asked) runs = refl
 runs_reads (One state asked) runs = refl
-runs_reads Check runs = absurd (runs refl)
+runs_reads (Check why) runs = absurd (cc)
 runs_reads (Gen number size) runs = refl
 runs_reads (Scene scene) runs = refl
 
@@ -55,7 +55,7 @@ kept_zero due none some = let here : keeps_journal 0 ≡ false = subst (λ (n : 
 
 -- the work was done, and what it printed was delivered
 ends_worked : (mode : Mode) (text : List ℕ) (net : Net) (old new : Option (List ℕ)) (status due : ℕ) (journal : List JournalLine) (output : List ℕ)
-    → mode ≢ Check → DeclaresNet (tail_of mode) text net → IsSound net.world → IsJournal net.world (map batch_turns net.batches.items) journal → FollowsDraws (draws_from mode) None net.world (map batch_turns net.batches.items) journal
+    → checks mode ≡ false → DeclaresNet (tail_of mode) text net → IsSound net.world → IsJournal net.world (map batch_turns net.batches.items) journal → FollowsDraws (draws_from mode) None net.world (map batch_turns net.batches.items) journal
     → HoldsAtSettles net.world journal → EachKeepsShiftLimit journal → output ≡ run_text (report_of mode) (prints_journal mode) net.names net.world None journal → due ≡ 0 → Delivers status 0 old new output → Ends mode (Some text) old new status due journal
 ends_worked mode text net old new status due journal output runs declared sound settled drawn holds limit is none delivered = record {
   worked = λ zero. record {
@@ -75,7 +75,7 @@ ends_worked mode text net old new status due journal output runs declared sound 
 
 -- or the script stopped, and the line of the stop was
 stops_script : (mode : Mode) (text : List ℕ) (net : Net) (stop : Stop) (old new : Option (List ℕ)) (status due : ℕ) (journal : List JournalLine) (output : List ℕ)
-    → mode ≢ Check → DeclaresNet (tail_of mode) text net → IsSound net.world → IsStoppedJournal stop net.world (map batch_turns net.batches.items) journal → FollowsDraws (draws_from mode) (Some stop) net.world (map batch_turns net.batches.items) journal
+    → checks mode ≡ false → DeclaresNet (tail_of mode) text net → IsSound net.world → IsStoppedJournal stop net.world (map batch_turns net.batches.items) journal → FollowsDraws (draws_from mode) (Some stop) net.world (map batch_turns net.batches.items) journal
     → ShowsCause (Some stop) net.world (map batch_turns net.batches.items) → EachKeepsShiftLimit journal → output ≡ stop_line net.names net.world stop → due ≡ stop_status stop → Delivers status (stop_status stop) old new output
     → StopsScript mode (Some text) old new status due journal
 stops_script mode text net stop old new status due journal output runs declared sound settled drawn shows limit is due_is delivered = record {
@@ -134,7 +134,7 @@ due_for_text (Some (Ring at)) due is = inr (inr (inr (inr (inl is))))
 
 -- a script was run to its end, or to a stop
 pub ends_ran : (stop : Option Stop) (mode : Mode) (text : List ℕ) (net : Net) (old new : Option (List ℕ)) (status due : ℕ) (journal : List JournalLine) (output : List ℕ)
-    → mode ≢ Check → DeclaresNet (tail_of mode) text net → IsSound net.world → IsJournalTo stop net.world (map batch_turns net.batches.items) journal → FollowsDraws (draws_from mode) stop net.world (map batch_turns net.batches.items) journal
+    → checks mode ≡ false → DeclaresNet (tail_of mode) text net → IsSound net.world → IsJournalTo stop net.world (map batch_turns net.batches.items) journal → FollowsDraws (draws_from mode) stop net.world (map batch_turns net.batches.items) journal
     → HoldsAtSettles net.world journal → ShowsCause stop net.world (map batch_turns net.batches.items) → EachKeepsShiftLimit journal
     → output ≡ run_text (report_of mode) (prints_journal mode) net.names net.world stop journal → due ≡ due_by stop → Delivers status (due_by stop) old new output → Ends mode (Some text) old new status due journal
 ends_ran None mode text net old new status due journal output runs declared sound ran drawn holds shows limit is due_is delivered =
@@ -174,16 +174,16 @@ ends_refused mode text number line old new status due journal output fault is on
 -- ---- a journal that is checked
 
 -- it is good, and what it settles was delivered
-pub ends_checked : (text : List ℕ) (net : Net) (old new : Option (List ℕ)) (status due : ℕ) (journal : List JournalLine) (output : List ℕ)
+pub ends_checked : (why : Bool) (text : List ℕ) (net : Net) (old new : Option (List ℕ)) (status due : ℕ) (journal : List JournalLine) (output : List ℕ)
     → DeclaresNet Journal text net → IsSound net.world → HasJournal text net journal → IsJournal net.world (map batch_turns net.batches.items) journal
-    → output ≡ journal_text net.names 1 net.world journal → due ≡ 0 → Delivers status 0 old new output → Ends Check (Some text) old new status due journal
-ends_checked text net old new status due journal output declared sound has settled is none delivered = record {
+    → output ≡ checked_text why net.names net.world journal → due ≡ 0 → Delivers status 0 old new output → Ends (Check why) (Some text) old new status due journal
+ends_checked why text net old new status due journal output declared sound has settled is none delivered = record {
   worked = λ zero. record {
     net = net;
     declared = declared;
     told_journal = has;
     settles = record { sound = sound; settled = settled; holds = journals_hold net.world (map batch_turns net.batches.items) journal sound settled; drawn = tt };
-    shift_limit = λ runs. absurd (runs refl);
+    shift_limit = λ runs. absurd (cc);
     delivered = rw is at delivered;
   };
   refused = λ one. absurd (omega arith);
@@ -194,10 +194,10 @@ ends_checked text net old new status due journal output declared sound has settl
 }
 
 -- it has a fault, and the line that names it was delivered
-pub ends_check_refused : (text : List ℕ) (net : Net) (number turn : ℕ) (old new : Option (List ℕ)) (status due : ℕ) (journal : List JournalLine) (output : List ℕ)
+pub ends_check_refused : (why : Bool) (text : List ℕ) (net : Net) (number turn : ℕ) (old new : Option (List ℕ)) (status due : ℕ) (journal : List JournalLine) (output : List ℕ)
     → DeclaresNet Journal text net → HasJournalFault text net number turn → output ≡ journal_fault_line number turn → due ≡ 8 → Delivers status 8 old new output → journal ≡ []
-    → Ends Check (Some text) old new status due journal
-ends_check_refused text net number turn old new status due journal output declared fault is eight delivered none = record {
+    → Ends (Check why) (Some text) old new status due journal
+ends_check_refused why text net number turn old new status due journal output declared fault is eight delivered none = record {
   worked = λ zero. absurd (omega arith);
   refused = λ one. absurd (omega arith);
   at_stop = λ either. absurd (grind (arith, either));

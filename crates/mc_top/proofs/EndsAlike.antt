@@ -1,5 +1,5 @@
 -- Two calls that judged one text end alike, where the draws or the told journal leave nothing open.
-use Rattle.std.proofs.Common.{◌≡◌, ◌⊎◌, inl, inr, ℕ, Bool, IsTrue, List, Option, None, Some, map, refl, ap, sym, ◌∙◌, subst, arith}
+use Rattle.std.proofs.Common.{◌≡◌, ◌⊎◌, inl, inr, ℕ, Bool, true, IsTrue, List, Option, None, Some, map, refl, ap, sym, ◌∙◌, subst, arith}
 use Rattle.std.proofs.lemmas.Grind.{common_steps}
 use Rattle.mc_lines.specs.declared.tail.Tail.{Tail}
 use Rattle.mc_lines.specs.declared.tail.Tail.TheVariants.{Nothing, Journal}
@@ -14,7 +14,8 @@ use Rattle.mc_script.specs.declared.command.JournalLine.{JournalLine}
 use Rattle.mc_top.specs.Behind.{HasJournal, HasJournalFault, has_bad_tail, tail_lines}
 use Rattle.mc_top.specs.Drawn.{DrawnJournalIsOne, IsDrawnJournal}
 use Rattle.mc_top.specs.EndsAlike.{CheckEndsAlike, EndAlike, GoodIsNotRefused, Judges, OneEndsAlike, PrintAlike}
-use Rattle.mc_top.specs.Printed.{fault_line, journal_fault_line, journal_text, run_text, stop_line}
+use Rattle.mc_top.specs.Modes.{checks}
+use Rattle.mc_top.specs.Printed.{checked_text, fault_line, journal_fault_line, journal_text, run_text, stop_line}
 use Rattle.mc_top.specs.Statuses.{judges_text, stop_status}
 use Rattle.mc_top.specs.Top.{Delivers, Refused, RefusesCheck, StopsScript, Worked}
 use Rattle.mc_top.specs.declared.report.Report.TheVariants.{Paths}
@@ -105,7 +106,7 @@ drawn_end state asked text old new done judges = by (judged_cases done.due judge
     by (inr (inl one)) = by_refused one (judges.ends.refused one)
     by (inr (inr (inl six))) = stopped (judges.ends.at_stop (inl six))
     by (inr (inr (inr (inl seven)))) = stopped (judges.ends.at_stop (inr seven))
-    by (inr (inr (inr (inr eight)))) = absurd (let is : One state asked ≡ Check = (judges.ends.check_refused eight).0 in cc)
+    by (inr (inr (inr (inr eight)))) = absurd (let is : checks (One state asked) ≡ true = (judges.ends.check_refused eight).0 in cc)
 
 module _ (one_journal : DrawnJournalIsOne) (state : ℕ) (asked : Bool) (text : List ℕ) where
   both_worked : (old new from to : Option (List ℕ)) (done other : Done) → done.due ≡ WORKED → other.due ≡ WORKED → Worked (One state asked) (Some text) old new done.status done.journal.items
@@ -155,23 +156,23 @@ one_ends_alike one_journal state asked text old new from to done other one two =
 -- ---- calls of `check`
 
 -- what a call comes to that checks, and judged a text
-data CheckedEnd (text : List ℕ) (old new : Option (List ℕ)) (done : Done) : Type 0 where
-  good : done.due ≡ WORKED → Worked Check (Some text) old new done.status done.journal.items → CheckedEnd text old new done
-  no_text : done.due ≡ FAULTY_TEXT → Refused Check (Some text) old new done.status done.journal.items → CheckedEnd text old new done
-  faulty : done.due ≡ JOURNAL_FAULT → RefusesCheck (Some text) old new done.status done.journal.items → CheckedEnd text old new done
+data CheckedEnd (why : Bool) (text : List ℕ) (old new : Option (List ℕ)) (done : Done) : Type 0 where
+  good : done.due ≡ WORKED → Worked (Check why) (Some text) old new done.status done.journal.items → CheckedEnd why text old new done
+  no_text : done.due ≡ FAULTY_TEXT → Refused (Check why) (Some text) old new done.status done.journal.items → CheckedEnd why text old new done
+  faulty : done.due ≡ JOURNAL_FAULT → RefusesCheck (Some text) old new done.status done.journal.items → CheckedEnd why text old new done
 
 -- it doesn't stop
-checks_on : {text : List ℕ} {old new : Option (List ℕ)} {status due : ℕ} {journal : List JournalLine} → StopsScript Check (Some text) old new status due journal → ⊥
-checks_on stops = stops.runs refl
+checks_on : {why : Bool} {text : List ℕ} {old new : Option (List ℕ)} {status due : ℕ} {journal : List JournalLine} → StopsScript (Check why) (Some text) old new status due journal → ⊥
+checks_on stops = let runs = stops.runs in cc
 
-checked_end : (text : List ℕ) (old new : Option (List ℕ)) (done : Done) → Judges Check text old new done → CheckedEnd text old new done
-checked_end text old new done judges = by (judged_cases done.due judges.judged)
+checked_end : (why : Bool) (text : List ℕ) (old new : Option (List ℕ)) (done : Done) → Judges (Check why) text old new done → CheckedEnd why text old new done
+checked_end why text old new done judges = by (judged_cases done.due judges.judged)
   where
-    by_refused : done.due ≡ FAULTY_TEXT → Refused Check (Some text) old new done.status done.journal.items ⊎ StopsScript Check (Some text) old new done.status done.due done.journal.items → CheckedEnd text old new done
+    by_refused : done.due ≡ FAULTY_TEXT → Refused (Check why) (Some text) old new done.status done.journal.items ⊎ StopsScript (Check why) (Some text) old new done.status done.due done.journal.items → CheckedEnd why text old new done
     by_refused one (inl fault) = no_text one fault
     by_refused one (inr stops) = absurd (checks_on stops)
 
-    by : (done.due ≡ WORKED) ⊎ ((done.due ≡ FAULTY_TEXT) ⊎ ((done.due ≡ RESTLESS) ⊎ ((done.due ≡ RING) ⊎ (done.due ≡ JOURNAL_FAULT)))) → CheckedEnd text old new done
+    by : (done.due ≡ WORKED) ⊎ ((done.due ≡ FAULTY_TEXT) ⊎ ((done.due ≡ RESTLESS) ⊎ ((done.due ≡ RING) ⊎ (done.due ≡ JOURNAL_FAULT)))) → CheckedEnd why text old new done
     by (inl none) = good none (judges.ends.worked none)
     by (inr (inl one)) = by_refused one (judges.ends.refused one)
     by (inr (inr (inl six))) = absurd (checks_on (judges.ends.at_stop (inl six)))
@@ -179,18 +180,18 @@ checked_end text old new done judges = by (judged_cases done.due judges.judged)
     by (inr (inr (inr (inr eight)))) = faulty eight (judges.ends.check_refused eight).1
 
 -- a journal isn't good and faulty
-good_faulty : (text : List ℕ) (old new from to : Option (List ℕ)) (status end : ℕ) (journal more : List JournalLine) → Worked Check (Some text) old new status journal → RefusesCheck (Some text) from to end more → ⊥
-good_faulty text old new from to status end journal more one two =
+good_faulty : (why : Bool) (text : List ℕ) (old new from to : Option (List ℕ)) (status end : ℕ) (journal more : List JournalLine) → Worked (Check why) (Some text) old new status journal → RefusesCheck (Some text) from to end more → ⊥
+good_faulty why text old new from to status end journal more one two =
     fault_apart text one.net two.net journal two.number two.turn (declared_same Journal text one.net two.net one.declared two.declared) one.told_journal one.settles.settled two.fault
 
-module _ (one_fault_alone : OneJournalFault) (text : List ℕ) where
-  both_good : (old new from to : Option (List ℕ)) (done other : Done) → done.due ≡ WORKED → other.due ≡ WORKED → Worked Check (Some text) old new done.status done.journal.items
-      → Worked Check (Some text) from to other.status other.journal.items → EndAlike old new from to done other
+module _ (one_fault_alone : OneJournalFault) (why : Bool) (text : List ℕ) where
+  both_good : (old new from to : Option (List ℕ)) (done other : Done) → done.due ≡ WORKED → other.due ≡ WORKED → Worked (Check why) (Some text) old new done.status done.journal.items
+      → Worked (Check why) (Some text) from to other.status other.journal.items → EndAlike old new from to done other
   both_good old new from to done other due also one two =
       let same : seen one.net ≡ seen two.net = declared_same Journal text one.net two.net one.declared two.declared in
       let journal : done.journal.items ≡ other.journal.items = one.told_journal.lines ∙ (ap (λ (n : Seen). tail_lines n.names n.shape text n.rest) same ∙ sym two.told_journal.lines) in
-      alike old new from to done other WORKED (journal_text one.net.names 1 one.net.world done.journal.items) (journal_text two.net.names 1 two.net.world other.journal.items) due also journal
-      (ap (λ (n : Seen). journal_text n.names 1 n.world done.journal.items) same ∙ ap (λ (lines : List JournalLine). journal_text two.net.names 1 two.net.world lines) journal)
+      alike old new from to done other WORKED (checked_text why one.net.names one.net.world done.journal.items) (checked_text why two.net.names two.net.world other.journal.items) due also journal
+      (ap (λ (n : Seen). checked_text why n.names n.world done.journal.items) same ∙ ap (λ (lines : List JournalLine). checked_text why two.net.names two.net.world lines) journal)
       one.delivered two.delivered
 
   both_faulty : (old new from to : Option (List ℕ)) (done other : Done) → done.due ≡ JOURNAL_FAULT → other.due ≡ JOURNAL_FAULT → RefusesCheck (Some text) old new done.status done.journal.items
@@ -201,22 +202,22 @@ module _ (one_fault_alone : OneJournalFault) (text : List ℕ) where
       alike old new from to done other JOURNAL_FAULT (journal_fault_line one.number one.turn) (journal_fault_line two.number two.turn) due also (one.no_journal ∙ sym two.no_journal)
       (ap (λ (n : ℕ). journal_fault_line n one.turn) fault.0 ∙ ap (λ (n : ℕ). journal_fault_line two.number n) fault.1) one.delivered two.delivered
 
-  checked_alike : (old new from to : Option (List ℕ)) (done other : Done) → CheckedEnd text old new done → CheckedEnd text from to other → EndAlike old new from to done other
+  checked_alike : (old new from to : Option (List ℕ)) (done other : Done) → CheckedEnd why text old new done → CheckedEnd why text from to other → EndAlike old new from to done other
   checked_alike old new from to done other (good due one) (good also two) = both_good old new from to done other due also one two
   checked_alike old new from to done other (good due one) (no_text also two) = absurd (declared_sound Journal text one.net two.number two.line one.declared two.fault)
-  checked_alike old new from to done other (good due one) (faulty also two) = absurd (good_faulty text old new from to done.status other.status done.journal.items other.journal.items one two)
+  checked_alike old new from to done other (good due one) (faulty also two) = absurd (good_faulty why text old new from to done.status other.status done.journal.items other.journal.items one two)
   checked_alike old new from to done other (no_text due one) (good also two) = absurd (declared_sound Journal text two.net one.number one.line two.declared one.fault)
   checked_alike old new from to done other (no_text due one) (no_text also two) =
       refused_both Journal text old new from to done other one.number one.line two.number two.line one.fault two.fault due also one.delivered two.delivered (one.no_journal ∙ sym two.no_journal)
   checked_alike old new from to done other (no_text due one) (faulty also two) = absurd (declared_sound Journal text two.net one.number one.line two.declared one.fault)
-  checked_alike old new from to done other (faulty due one) (good also two) = absurd (good_faulty text from to old new other.status done.status other.journal.items done.journal.items two one)
+  checked_alike old new from to done other (faulty due one) (good also two) = absurd (good_faulty why text from to old new other.status done.status other.journal.items done.journal.items two one)
   checked_alike old new from to done other (faulty due one) (no_text also two) = absurd (declared_sound Journal text one.net two.number two.line one.declared two.fault)
   checked_alike old new from to done other (faulty due one) (faulty also two) = both_faulty old new from to done other due also one two
 
 pub check_ends_alike : OneJournalFault → CheckEndsAlike
-check_ends_alike one_fault_alone text old new from to done other one two =
-    checked_alike one_fault_alone text old new from to done other (checked_end text old new done one) (checked_end text from to other two)
+check_ends_alike one_fault_alone why text old new from to done other one two =
+    checked_alike one_fault_alone why text old new from to done other (checked_end why text old new done one) (checked_end why text from to other two)
 
 pub good_is_not_refused : GoodIsNotRefused
-good_is_not_refused text old new from to done other one two due also =
-    good_faulty text old new from to done.status other.status done.journal.items other.journal.items (one.worked due) (two.check_refused also).1
+good_is_not_refused why also_why text old new from to done other one two due also =
+    good_faulty why text old new from to done.status other.status done.journal.items other.journal.items (one.worked due) (two.check_refused also).1

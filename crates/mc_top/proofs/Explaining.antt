@@ -91,7 +91,7 @@ pub told_for : (mode : Mode) (left : Option (List ℕ)) (text : List ℕ) → Is
     → (fault : Told) → IsFaultOf (tail_of mode) text fault → IsFaultOfTold (tail_of mode) (text_for mode left) fault
 told_for (Run asked) left text within is fault found = told_of Nothing left text is fault found
 told_for (One state asked) left text within is fault found = told_of Nothing left text is fault found
-told_for Check left text within is fault found = told_of Journal left text is fault found
+told_for (Check why) left text within is fault found = told_of Journal left text is fault found
 told_for (Gen number size) left text within is fault found = absurd (none_told text (generated number size) fault is (generated_can_run number size within.1 within.2) found)
 told_for (Scene scene) left text within is fault found = absurd (none_told text (scene_text scene) fault is (scenes_can_run scene) found)
 

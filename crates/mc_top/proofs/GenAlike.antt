@@ -62,6 +62,6 @@ gen_prints_alike number size old new from to done other within first second =
     let one = first.ends.worked due in
     let two = second.ends.worked also in
     print_alike old new from to done other WORKED (output_of (Gen number size) one.net done.journal.items) (output_of (Gen number size) two.net other.journal.items) due also
-    (calls_print_same (generated number size) done.journal.items other.journal.items (Gen number size) (Gen number size) old new from to done.status other.status refl refl refl refl one two
+    (calls_print_same (generated number size) done.journal.items other.journal.items (Gen number size) (Gen number size) old new from to done.status other.status refl refl refl refl refl refl one two
     (no_programs number size one.net within one.declared) (all_decided number size one.net within one.declared))
     one.delivered two.delivered

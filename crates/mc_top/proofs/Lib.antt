@@ -14,6 +14,7 @@ mod LeftRings
 mod MadeTexts
 mod NamedJournals
 mod NamedRings
+mod NoneClose
 mod OneJournal
 mod OwnTexts
 mod PbxScene
@@ -32,6 +33,7 @@ mod SummedAlike
 mod Summing
 mod TextAlone
 mod Told
+mod ToldSettles
 mod ToldWords
 mod UsedUp
 mod Viewing

@@ -21,7 +21,7 @@ use Rattle.mc_top.proofs.Told.{WorksOn, ends_told, works_out}
 pub within_limits : (words : List (String Global)) (mode : Mode) → IsCommand words mode → IsWithinLimits mode
 within_limits words (Run asked) is = tt
 within_limits words (One state asked) is = tt
-within_limits words Check is = tt
+within_limits words (Check why) is = tt
 within_limits words (Gen number size) is = (is.0.3.1, is.0.5, is.0.4.1)
 within_limits words (Scene scene) is = tt
 
@@ -37,7 +37,7 @@ pub ends_for : (mode : Mode) (left old new : Option (List ℕ)) (text : List ℕ
     → IsTextFor mode left text → Ends mode (Some text) old new status due journal → Ends mode (text_for mode left) old new status due journal
 ends_for (Run asked) left old new text status due journal is ends = ends_told (Run asked) left old new text status due journal is ends
 ends_for (One state asked) left old new text status due journal is ends = ends_told (One state asked) left old new text status due journal is ends
-ends_for Check left old new text status due journal is ends = ends_told Check left old new text status due journal is ends
+ends_for (Check why) left old new text status due journal is ends = ends_told (Check why) left old new text status due journal is ends
 ends_for (Gen number size) left old new text status due journal is ends = subst (λ (t : List ℕ). Ends (Gen number size) (Some t) old new status due journal) is ends
 ends_for (Scene scene) left old new text status due journal is ends = subst (λ (t : List ℕ). Ends (Scene scene) (Some t) old new status due journal) is ends
 
@@ -47,7 +47,7 @@ ends_for (Scene scene) left old new text status due journal is ends = subst (λ 
 pub works_on : (mode : Mode) (left : Option (List ℕ)) (text : List ℕ) → IsWithinLimits mode → text_for mode left ≡ Some text → IsWorkable mode text → WorksOn mode text
 works_on (Run asked) left text within is works = works
 works_on (One state asked) left text within is works = works
-works_on Check left text within is works = works
+works_on (Check why) left text within is works = works
 works_on (Gen number size) left text within is works = let same : generated number size ≡ text = cc in subst CanRun same (generated_can_run number size within.1 within.2)
 works_on (Scene scene) left text within is works = let same : scene_text scene ≡ text = cc in subst CanRun same (scenes_can_run scene)
 
@@ -55,7 +55,7 @@ works_on (Scene scene) left text within is works = let same : scene_text scene �
 own_text : (mode : Mode) (left : Option (List ℕ)) → reads mode ≡ false → (text : List ℕ) × (text_for mode left ≡ Some text) × IsWorkable mode text
 own_text (Run asked) left none = absurd cc
 own_text (One state asked) left none = absurd cc
-own_text Check left none = absurd cc
+own_text (Check why) left none = absurd cc
 own_text (Gen number size) left none = (generated number size, refl, tt)
 own_text (Scene scene) left none = (scene_text scene, refl, tt)
 

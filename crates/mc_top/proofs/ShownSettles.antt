@@ -31,7 +31,7 @@ use Rattle.mc_view.specs.declared.PathView.{PathView}
 -- ---- replaying
 
 -- what is shown behind the turns of a run is shown where the run leads
-shown_behind : (Shows : WorldState → List PathView → Type 0) (turns : List Turn) (world last : WorldState) (rest : List JournalLine) (shown : List (List PathView)) → run world turns ≡ Some last
+pub shown_behind : (Shows : WorldState → List PathView → Type 0) (turns : List Turn) (world last : WorldState) (rest : List JournalLine) (shown : List (List PathView)) → run world turns ≡ Some last
     → AreShown Shows world (map Made turns ++ rest) shown → AreShown Shows last rest shown
 shown_behind Shows [] world last rest shown goes are = let same : world ≡ last = cc in subst (λ (w : WorldState). AreShown Shows w rest shown) same are
 shown_behind Shows (turn ∷ turns) world last rest shown goes are =

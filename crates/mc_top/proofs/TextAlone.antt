@@ -19,7 +19,7 @@ use Rattle.mc_script.specs.declared.command.JournalLine.{JournalLine}
 use Rattle.mc_script.specs.declared.command.JournalLine.TheVariants.{Turn as Made, Settled}
 use Rattle.mc_text.specs.NameLists.{NameLists}
 use Rattle.mc_replay.specs.Journals.{IsJournal, lines_for}
-use Rattle.mc_top.specs.Modes.{output_of, report_of, tail_of}
+use Rattle.mc_top.specs.Modes.{output_of, report_of, tail_of, tells_why}
 use Rattle.mc_top.specs.Printed.{at_settles, journal_text, opening_text, report_text, script_text, settle_text}
 use Rattle.mc_top.specs.TextAlone.{CallsPrintSame, SettlesText, TextAloneDecides}
 use Rattle.mc_top.specs.Top.{Worked}
@@ -81,14 +81,15 @@ text_alone_decides report tail text net other first second one two none decided 
     ∙ ap (λ (n : Seen). script_text report n.names n.world None second) same
 
 -- what a mode prints that doesn't print its journal
-output_is : (mode : Mode) (net : Net) (journal : List JournalLine) → prints_journal mode ≡ false → output_of mode net journal ≡ script_text (report_of mode) net.names net.world None journal
-output_is (Run true) net journal none = absurd cc
-output_is (Run false) net journal none = refl
-output_is (One state true) net journal none = absurd cc
-output_is (One state false) net journal none = refl
-output_is Check net journal none = refl
-output_is (Gen number size) net journal none = refl
-output_is (Scene scene) net journal none = refl
+output_is : (mode : Mode) (net : Net) (journal : List JournalLine) → prints_journal mode ≡ false → tells_why mode ≡ false → output_of mode net journal ≡ script_text (report_of mode) net.names net.world None journal
+output_is (Run true) net journal none other = absurd cc
+output_is (Run false) net journal none other = refl
+output_is (One state true) net journal none other = absurd cc
+output_is (One state false) net journal none other = refl
+output_is (Check true) net journal none other = absurd cc
+output_is (Check false) net journal none other = refl
+output_is (Gen number size) net journal none other = refl
+output_is (Scene scene) net journal none other = refl
 
 -- a mode that did its work settled the text
 settles_text : (text : List ℕ) (mode : Mode) (old new : Option (List ℕ)) (status : ℕ) (journal : List JournalLine) → (worked : Worked mode (Some text) old new status journal)
@@ -96,8 +97,8 @@ settles_text : (text : List ℕ) (mode : Mode) (old new : Option (List ℕ)) (st
 settles_text text mode old new status journal worked = record { declares = worked.declared; sound = worked.settles.sound; settles = worked.settles.settled }
 
 pub calls_print_same : CallsPrintSame
-calls_print_same text first second mode instead old new from to status end same reports plain also one two none decided =
-    output_is mode one.net first plain
+calls_print_same text first second mode instead old new from to status end same reports plain also silent quiet one two none decided =
+    output_is mode one.net first plain silent
     ∙ (text_alone_decides (report_of mode) (tail_of mode) text one.net two.net first second (settles_text text mode old new status first one)
     (subst (λ (t : Tail). SettlesText t text two.net second) (sym same) (settles_text text instead from to end second two)) none decided
-    ∙ (ap (λ (report : Report). script_text report two.net.names two.net.world None second) reports ∙ sym (output_is instead two.net second also)))
+    ∙ (ap (λ (report : Report). script_text report two.net.names two.net.world None second) reports ∙ sym (output_is instead two.net second also quiet)))

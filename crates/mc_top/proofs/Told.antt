@@ -1,5 +1,5 @@
 -- What was read of what a source has left.
-use Rattle.std.proofs.Common.{◌≡◌, ◌≢◌, ◌⊎◌, ◌==◌, inl, inr, ℕ, List, ◌≤◌, Bool, true, None, Some, IfSome, map, arith, refl, subst, sym, ap, ◌∙◌}
+use Rattle.std.proofs.Common.{◌≡◌, ◌≢◌, ◌⊎◌, ◌==◌, inl, inr, ℕ, List, ◌≤◌, Bool, true, false, None, Some, IfSome, map, arith, refl, subst, sym, ap, ◌∙◌}
 use Rattle.std.specs.declared.option.Option.{Option}
 use Rattle.mc_io.specs.Faults.{Rose, faults_after, next_count}
 use Rattle.mc_script.specs.declared.command.JournalLine.{JournalLine}
@@ -18,7 +18,7 @@ use Rattle.mc_replay.specs.Faults.{IsJournalFault}
 use Rattle.mc_top.specs.Behind.{HasGoodJournal, HasJournal, HasJournalFault, has_bad_tail, tail_lines}
 use Rattle.mc_top.specs.Journals.{ShowsCause}
 use Rattle.mc_top.specs.Top.{Ends, IsTextOf, RefusesCheck, StopsScript, ToldDeclares, ToldFault, ToldJournal}
-use Rattle.mc_top.specs.Modes.{CanCheck, CanRun, tail_of}
+use Rattle.mc_top.specs.Modes.{CanCheck, CanRun, checks, tail_of}
 use Rattle.mc_top.specs.declared.stop.Stop.{Stop}
 use Rattle.mc_top.specs.Rings.{AlwaysRests}
 use Rattle.mc_top.proofs.BytesBehind.{bad_alike, lines_alike}
@@ -97,6 +97,11 @@ refuses_told told old new text status journal read refused = record {
   no_journal = refused.no_journal;
 }
 
+-- a mode that checks reads a text with a journal behind its commands
+checks_read : (mode : Mode) → checks mode ≡ true → tail_of mode ≡ Journal
+checks_read (Check why) is = refl
+checks_read mode is = absurd (cc)
+
 -- what was said of the text that was read holds of what was left
 pub ends_told : (mode : Mode) (told old new : Option (List ℕ)) (text : List ℕ) (status due : ℕ) (journal : List JournalLine)
     → IsTextOf (tail_of mode) told text → Ends mode (Some text) old new status due journal → Ends mode told old new status due journal
@@ -124,7 +129,7 @@ ends_told mode told old new text status due journal read ends = record {
   at_stop = λ either. stops_told mode told old new text status due journal read (ends.at_stop either);
   check_refused = λ eight.
       let refused = ends.check_refused eight in
-      (refused.0, refuses_told told old new text status journal (subst (λ (m : Mode). IsTextOf (tail_of m) told text) refused.0 read) refused.1);
+      (refused.0, refuses_told told old new text status journal (subst (λ (t : Tail). IsTextOf t told text) (checks_read mode refused.0) read) refused.1);
   gave_up = ends.gave_up;
   no_journal = ends.no_journal;
 }
@@ -135,7 +140,7 @@ ends_told mode told old new text status due journal read ends = record {
 abbrev pub WorksOn : Mode → List ℕ → Type 0
 WorksOn (Run asked) text = CanRun text
 WorksOn (One state asked) text = CanRun text
-WorksOn Check text = CanCheck text
+WorksOn (Check why) text = CanCheck text
 WorksOn (Gen number size) text = CanRun text
 WorksOn (Scene scene) text = CanRun text
 
@@ -143,7 +148,7 @@ WorksOn (Scene scene) text = CanRun text
 says_some : (mode : Mode) (text : List ℕ) → WorksOn mode text → (d : Declared) × Says (tail_of mode) text d
 says_some (Run asked) text works = (works.0, works.1)
 says_some (One state asked) text works = (works.0, works.1)
-says_some Check text works = (works.declares.declared, works.declares.says)
+says_some (Check why) text works = (works.declares.declared, works.declares.says)
 says_some (Gen number size) text works = (works.0, works.1)
 says_some (Scene scene) text works = (works.0, works.1)
 
@@ -167,11 +172,11 @@ can_run : (told : Option (List ℕ)) (text : List ℕ) (net : Net) (stop : Stop)
 can_run told text net stop declares is can shows = stop_says told text can.0 net stop declares is can.1 can.2 can.3 shows
 
 -- nor does its script stop, in a mode that runs one
-stop_works : (mode : Mode) (told : Option (List ℕ)) (text : List ℕ) (net : Net) (stop : Stop) → mode ≢ Check → ToldDeclares (tail_of mode) told net → told ≡ Some text → WorksOn mode text
+stop_works : (mode : Mode) (told : Option (List ℕ)) (text : List ℕ) (net : Net) (stop : Stop) → checks mode ≡ false → ToldDeclares (tail_of mode) told net → told ≡ Some text → WorksOn mode text
     → ShowsCause (Some stop) net.world (map batch_turns net.batches.items) → ⊥
 stop_works (Run asked) told text net stop runs declares is works shows = can_run told text net stop declares is works shows
 stop_works (One first asked) told text net stop runs declares is works shows = can_run told text net stop declares is works shows
-stop_works Check told text net stop runs declares is works shows = absurd (runs refl)
+stop_works (Check why) told text net stop runs declares is works shows = absurd (cc)
 stop_works (Gen number size) told text net stop runs declares is works shows = can_run told text net stop declares is works shows
 stop_works (Scene scene) told text net stop runs declares is works shows = can_run told text net stop declares is works shows
 
@@ -193,9 +198,14 @@ check_says (Some all) text net number turn declares fault is can =
     let one : seen can.net ≡ seen net = declared_same Journal text can.net net can.declares (subst (λ (t : List ℕ). DeclaresNet Journal t net) same declares) in
     good_has_none text can.net number turn can.good (fault_of_same text net can.net number turn (sym one) (subst (λ (t : List ℕ). HasJournalFault t net number turn) same fault))
 
-check_works : (mode : Mode) (told old new : Option (List ℕ)) (text : List ℕ) (status : ℕ) (journal : List JournalLine) → (mode ≡ Check) × RefusesCheck told old new status journal → told ≡ Some text → WorksOn mode text → ⊥
-check_works mode told old new text status journal (checks, refused) is works =
-    check_says told text refused.net refused.number refused.turn refused.declared refused.fault is (subst (λ (m : Mode). WorksOn m text) checks works)
+-- a mode that checks works on what can be checked
+check_can : (mode : Mode) (text : List ℕ) → checks mode ≡ true → WorksOn mode text → CanCheck text
+check_can (Check why) text is works = works
+check_can mode text is works = absurd (cc)
+
+check_works : (mode : Mode) (told old new : Option (List ℕ)) (text : List ℕ) (status : ℕ) (journal : List JournalLine) → (checks mode ≡ true) × RefusesCheck told old new status journal → told ≡ Some text → WorksOn mode text → ⊥
+check_works mode told old new text status journal (is_check, refused) is works =
+    check_says told text refused.net refused.number refused.turn refused.declared refused.fault is (check_can mode text is_check works)
 
 -- ---- counted faults
 

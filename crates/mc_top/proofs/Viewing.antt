@@ -36,7 +36,7 @@ use Rattle.mc_top.specs.Printed.{hears_line, hears_lines, path_line, path_text, 
 -- ---- text
 
 -- a path as it is shown, where it flows and where it doesn't
-abbrev view_by : WorldState → PathEnds → Bool → PathView
+abbrev pub view_by : WorldState → PathEnds → Bool → PathView
 view_by world path flowing = record (view_of world path) {
   low = end_view world flowing path.low;
   high = end_view world flowing path.high;
@@ -182,10 +182,10 @@ ends_named names world path all sound low high (inr flowing) =
     })
 
 -- the ends of a path are slots
-abbrev AreInside : WorldState → PathEnds → Type 0
+abbrev pub AreInside : WorldState → PathEnds → Type 0
 AreInside world path = (path.low < slot_count world) × (path.high < slot_count world)
 
-are_inside : (world : WorldState) → IsSound world → All (AreInside world) (paths world)
+pub are_inside : (world : WorldState) → IsSound world → All (AreInside world) (paths world)
 are_inside world sound =
     each_from (AreInside world) (path_from world) (places world) 0 (slot_count world) (omega arith)
     (λ s inside path is.

@@ -20,8 +20,8 @@ with_printed text names journal = ended text ++ journal_part names journal
 pub record IsAccepted (text : List ℕ) (journal : List JournalLine) (settles : List ℕ) : Type 0 where
   pub can : CanCheck text
   pub never_refused : (old new : Option (List ℕ)) (status : ℕ) (kept : List JournalLine) → RefusesCheck (Some text) old new status kept → ⊥
-  pub found : (old new : Option (List ℕ)) (status : ℕ) (kept : List JournalLine) → Worked Check (Some text) old new status kept → kept ≡ journal
-  pub prints : (old new : Option (List ℕ)) (status : ℕ) (kept : List JournalLine) → (check : Worked Check (Some text) old new status kept) → output_of Check check.net kept ≡ settles
+  pub found : (old new : Option (List ℕ)) (status : ℕ) (kept : List JournalLine) → Worked (Check false) (Some text) old new status kept → kept ≡ journal
+  pub prints : (old new : Option (List ℕ)) (status : ℕ) (kept : List JournalLine) → (check : Worked (Check false) (Some text) old new status kept) → output_of (Check false) check.net kept ≡ settles
 
 -- a call prints settles and behind them a journal, which `check` accepts behind the text of the call, with the same settles
 pub record PrintsAccepted (mode : Mode) (text : List ℕ) (net : Net) (journal : List JournalLine) : Type 0 where

@@ -34,13 +34,13 @@ AlwaysEndsAlike mode = (text : List ℕ) (old new from to : Option (List ℕ)) (
 abbrev pub OneEndsAlike : Type 0
 OneEndsAlike = (state : ℕ) (asked : Bool) → AlwaysEndsAlike (One state asked)
 
--- and those of `check`, by the text
+-- and those of `check` and of `why`, by the text
 abbrev pub CheckEndsAlike : Type 0
-CheckEndsAlike = AlwaysEndsAlike Check
+CheckEndsAlike = (why : Bool) → AlwaysEndsAlike (Check why)
 
--- a text whose journal is good for one call of `check` is refused by none
+-- a text whose journal is good for one call of `check` or `why` is refused by none
 abbrev pub GoodIsNotRefused : Type 0
-GoodIsNotRefused = (text : List ℕ) (old new from to : Option (List ℕ)) (done other : Done) → EndsAs Check (Some text) old new done → EndsAs Check (Some text) from to other
+GoodIsNotRefused = (why also : Bool) (text : List ℕ) (old new from to : Option (List ℕ)) (done other : Done) → EndsAs (Check why) (Some text) old new done → EndsAs (Check also) (Some text) from to other
     → done.due ≡ WORKED → other.due ≡ JOURNAL_FAULT → ⊥
 
 -- what two calls of `gen` print is decided by its words, whichever journals they keep

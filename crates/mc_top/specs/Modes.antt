@@ -14,7 +14,7 @@ use Rattle.mc_scene.specs.Scenes.{scene_text}
 use Rattle.mc_scene.specs.declared.limit.TheConstants.{NUMBER_LIMIT, SIZE_LIMIT}
 use Rattle.mc_script.specs.declared.command.JournalLine.{JournalLine}
 use Rattle.mc_top.specs.Behind.{HasGoodJournal}
-use Rattle.mc_top.specs.Printed.{journal_text, run_text, summaries_text}
+use Rattle.mc_top.specs.Printed.{checked_text, journal_text, run_text, summaries_text}
 use Rattle.mc_top.specs.Rings.{AlwaysRests}
 use Rattle.mc_top.specs.Summaries.{heading_text}
 use Rattle.mc_top.specs.declared.report.Report.{Report}
@@ -32,7 +32,7 @@ IsWithinLimits mode = Unit {0}
 abbrev pub reads : Mode → Bool
 reads (Run journal) = true
 reads (One state journal) = true
-reads Check = true
+reads (Check why) = true
 reads (Gen number size) = false
 reads (Scene scene) = false
 
@@ -40,11 +40,24 @@ reads (Scene scene) = false
 abbrev pub AsksToRead : List (String Global) → Type 0
 AsksToRead words = (mode : Mode) × IsCommand words mode × IsTrue (reads mode)
 
+-- a mode checks a journal, and runs no script
+abbrev pub checks : Mode → Bool
+checks (Run journal) = false
+checks (One state journal) = false
+checks (Check why) = true
+checks (Gen number size) = false
+checks (Scene scene) = false
+
+-- a mode tells why paths closed
+abbrev pub tells_why : Mode → Bool
+tells_why (Check why) = why
+tells_why mode = false
+
 -- the text that a mode works on, where it is told: what the source has left, or the mode's own
 abbrev pub text_for : Mode → Option (List ℕ) → Option (List ℕ)
 text_for (Run journal) left = left
 text_for (One state journal) left = left
-text_for Check left = left
+text_for (Check why) left = left
 text_for (Gen number size) left = Some (generated number size)
 text_for (Scene scene) left = Some (scene_text scene)
 
@@ -52,7 +65,7 @@ text_for (Scene scene) left = Some (scene_text scene)
 abbrev pub tail_of : Mode → Tail
 tail_of (Run journal) = Nothing
 tail_of (One state journal) = Nothing
-tail_of Check = Journal
+tail_of (Check why) = Journal
 tail_of (Gen number size) = Nothing
 tail_of (Scene scene) = Nothing
 
@@ -60,7 +73,7 @@ tail_of (Scene scene) = Nothing
 abbrev pub draws_from : Mode → Option ℕ
 draws_from (Run journal) = None
 draws_from (One state journal) = Some state
-draws_from Check = None
+draws_from (Check why) = None
 draws_from (Gen number size) = None
 draws_from (Scene scene) = None
 
@@ -78,7 +91,7 @@ pub record CanCheck (text : List ℕ) : Type 0 where
 abbrev pub IsWorkable : Mode → List ℕ → Type 0
 IsWorkable (Run journal) text = CanRun text
 IsWorkable (One state journal) text = CanRun text
-IsWorkable Check text = CanCheck text
+IsWorkable (Check why) text = CanCheck text
 IsWorkable (Gen number size) text = Unit {0}
 IsWorkable (Scene scene) text = Unit {0}
 
@@ -86,7 +99,7 @@ IsWorkable (Scene scene) text = Unit {0}
 abbrev pub report_of : Mode → Report
 report_of (Run journal) = Paths
 report_of (One state journal) = Paths
-report_of Check = Paths
+report_of (Check why) = Paths
 report_of (Gen number size) = Summary number size
 report_of (Scene scene) = Paths
 
@@ -94,6 +107,6 @@ report_of (Scene scene) = Paths
 abbrev pub output_of : Mode → Net → List JournalLine → List ℕ
 output_of (Run journal) net lines = run_text Paths journal net.names net.world None lines
 output_of (One state journal) net lines = run_text Paths journal net.names net.world None lines
-output_of Check net lines = journal_text net.names 1 net.world lines
+output_of (Check why) net lines = checked_text why net.names net.world lines
 output_of (Gen number size) net lines = heading_text number size net.world ++ summaries_text 1 net.world lines
 output_of (Scene scene) net lines = journal_text net.names 1 net.world lines

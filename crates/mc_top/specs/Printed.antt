@@ -1,7 +1,9 @@
 -- What is printed at the settles of a journal, and for a faulty text or journal.
-use Rattle.std.specs.Prelude.{ℕ, ◌+◌, Bool, true, List, [], ◌∷◌, ◌++◌, codes, slice_index_or, Option, Some, None}
+use Rattle.std.specs.Prelude.{ℕ, ◌+◌, Bool, true, false, List, [], ◌∷◌, ◌++◌, codes, slice_index_or, Option, Some, None}
 use Rattle.std.specs.Fmt.{decimal}
 use Rattle.std.specs.List.{flat_map}
+use Rattle.mc_box.specs.declared.event.Turn.{Turn}
+use Rattle.mc_cause.specs.Causes.{why}
 use Rattle.mc_slot.specs.declared.State.{State}
 use Rattle.mc_slot.specs.declared.State.TheVariants.{Flowing}
 use Rattle.mc_model.specs.PathTable.{path_state, low_hears, high_hears}
@@ -10,6 +12,7 @@ use Rattle.mc_model.specs.Worlds.{WorldState, tunnel_of, place}
 use Rattle.mc_text.specs.NameLists.{NameLists, slot_word}
 use Rattle.mc_script.specs.Meaning.{goal_word}
 use Rattle.mc_journal.specs.Printed.{print_journal}
+use Rattle.mc_table.specs.Whys.{why_word}
 use Rattle.mc_table.specs.Words.{codec_word, line_of, medium_word}
 use Rattle.mc_replay.specs.Journals.{next_world}
 use Rattle.mc_script.specs.declared.command.JournalLine.{JournalLine}
@@ -78,6 +81,33 @@ journal_text names number world journal = at_settles (settle_text names) number 
 -- the settles of a journal, each in one line
 abbrev pub summaries_text : ℕ → WorldState → List JournalLine → List ℕ
 summaries_text number world journal = at_settles summary_text number world journal
+
+-- ---- why paths closed
+
+-- why a slot is closed after some turns of a world: the number of the turn from which its last close came, or that it never became closed
+abbrev pub why_line : NameLists → WorldState → List Turn → WorldState → ℕ → List ℕ
+why_line names first turns world s = line_of (codes "why" ∷ place_word names world s ∷ why_word (why first turns s) ∷ [])
+
+-- both ends of a path, where it doesn't flow
+abbrev pub why_lines : State → NameLists → WorldState → List Turn → WorldState → PathEnds → List ℕ
+why_lines Flowing names first turns world path = []
+why_lines state names first turns world path = why_line names first turns world path.low ++ why_line names first turns world path.high
+
+-- the ends of all closed paths, in their order
+abbrev pub whys_text : NameLists → WorldState → List Turn → WorldState → List ℕ
+whys_text names first turns world = flat_map (λ path. why_lines (path_state world path) names first turns world path) (paths world)
+
+-- the settles that replaying a journal from a world gives, each with its paths, and then why those closed that are closed: by the turns of the whole journal, of which these were made in a first world
+abbrev pub told_text : NameLists → ℕ → WorldState → List Turn → WorldState → List JournalLine → List ℕ
+told_text names number first turns world [] = []
+told_text names number first turns world (Made turn ∷ journal) = told_text names number first (turns ++ turn ∷ []) (next_world world turn) journal
+told_text names number first turns world (Settled ∷ journal) =
+    (settle_text names number world ++ whys_text names first turns world) ++ told_text names (number + 1) first turns world journal
+
+-- what is printed for a journal that is checked, with why paths closed or without it
+abbrev pub checked_text : (why : Bool) → NameLists → WorldState → List JournalLine → List ℕ
+checked_text false names world journal = journal_text names 1 world journal
+checked_text true names world journal = told_text names 1 world [] world journal
 
 -- ---- what a run reports
 

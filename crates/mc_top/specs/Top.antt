@@ -16,7 +16,7 @@ use Rattle.mc_replay.specs.Segments.{EachKeepsShiftLimit}
 use Rattle.mc_top.specs.Behind.{HasJournal, HasJournalFault}
 use Rattle.mc_top.specs.Drawn.{FollowsDraws, IsDrawnJournal}
 use Rattle.mc_top.specs.Journals.{IsStoppedJournal, ShowsCause}
-use Rattle.mc_top.specs.Modes.{draws_from, output_of, reads, tail_of}
+use Rattle.mc_top.specs.Modes.{checks, draws_from, output_of, reads, tail_of}
 use Rattle.mc_top.specs.Printed.{fault_line, journal_fault_line, stop_line}
 use Rattle.mc_top.specs.Statuses.{keeps_journal, stop_status}
 use Rattle.mc_scene.specs.Generated.{generated}
@@ -59,7 +59,7 @@ IsTextOf tail told text = IfSome told (λ all. text ≡ first_bytes tail all)
 abbrev pub IsTextFor : Mode → (left : Option (List ℕ)) → List ℕ → Type 0
 IsTextFor (Run journal) left text = IsTextOf Nothing left text
 IsTextFor (One state journal) left text = IsTextOf Nothing left text
-IsTextFor Check left text = IsTextOf Journal left text
+IsTextFor (Check why) left text = IsTextOf Journal left text
 IsTextFor (Gen number size) left text = text ≡ generated number size
 IsTextFor (Scene scene) left text = text ≡ scene_text scene
 
@@ -91,7 +91,7 @@ pub record Worked (mode : Mode) (told old new : Option (List ℕ)) (status : ℕ
   pub declared : ToldDeclares (tail_of mode) told net
   pub told_journal : ToldJournal (tail_of mode) told net journal
   pub settles : Settles net (draws_from mode) journal
-  pub shift_limit : mode ≢ Check → EachKeepsShiftLimit journal
+  pub shift_limit : IsFalse (checks mode) → EachKeepsShiftLimit journal
   pub delivered : Delivers status WORKED old new (output_of mode net journal)
 
 -- a mode refused the text, and delivered the one line that names its first fault
@@ -116,7 +116,7 @@ pub record RefusesCheck (told old new : Option (List ℕ)) (status : ℕ) (journ
 pub record StopsScript (mode : Mode) (told old new : Option (List ℕ)) (status due : ℕ) (journal : List JournalLine) : Type 0 where
   pub net : Net
   pub stop : Stop
-  pub runs : mode ≢ Check
+  pub runs : IsFalse (checks mode)
   pub declared : ToldDeclares (tail_of mode) told net
   pub due_is : due ≡ stop_status stop
   pub sound : IsSound net.world
@@ -131,7 +131,7 @@ pub record Ends (mode : Mode) (told old new : Option (List ℕ)) (status due : �
   pub worked : due ≡ WORKED → Worked mode told old new status journal
   pub refused : due ≡ FAULTY_TEXT → Refused mode told old new status journal ⊎ StopsScript mode told old new status due journal
   pub at_stop : (due ≡ RESTLESS) ⊎ (due ≡ RING) → StopsScript mode told old new status due journal
-  pub check_refused : due ≡ JOURNAL_FAULT → (mode ≡ Check) × RefusesCheck told old new status journal
+  pub check_refused : due ≡ JOURNAL_FAULT → IsTrue (checks mode) × RefusesCheck told old new status journal
   pub gave_up : (due ≡ NO_MEMORY) ⊎ (due ≡ READ_FAULT) → (status ≡ due) × Keeps old new
   pub no_journal : IsFalse (keeps_journal due) → journal ≡ []
 

@@ -15,7 +15,7 @@ pub fn tail_of(mode: Mode) -> Tail
     match mode {
         Mode::Run { .. } => Tail::Nothing,
         Mode::One { .. } => Tail::Nothing,
-        Mode::Check => Tail::Journal,
+        Mode::Check { .. } => Tail::Journal,
         Mode::Gen { .. } => Tail::Nothing,
         Mode::Scene { .. } => Tail::Nothing,
     }
@@ -28,7 +28,7 @@ pub fn draws_from(mode: Mode) -> Option<Draws>
     match mode {
         Mode::Run { .. } => None,
         Mode::One { state, .. } => Some(Draws { state }),
-        Mode::Check => None,
+        Mode::Check { .. } => None,
         Mode::Gen { .. } => None,
         Mode::Scene { .. } => None,
     }
@@ -41,7 +41,7 @@ pub fn report_of(mode: Mode) -> Report
     match mode {
         Mode::Run { .. } => Report::Paths,
         Mode::One { .. } => Report::Paths,
-        Mode::Check => Report::Paths,
+        Mode::Check { .. } => Report::Paths,
         Mode::Gen { number, size } => Report::Summary { number, size },
         Mode::Scene { .. } => Report::Paths,
     }

@@ -1,5 +1,5 @@
 // The top call.
-ghost use Rattle.std.specs.Prelude.{◌≡◌, ◌≢◌, ◌⊎◌, ◌==◌, ◌≤◌, ℕ, List, [], false, length, map, All, IfErr, IfOk, IsFalse, IsTrue, None, Option, Some};
+ghost use Rattle.std.specs.Prelude.{◌≡◌, ◌≢◌, ◌⊎◌, ◌==◌, ◌≤◌, ◌<◌, ◌-◌, ◌^◌, ℕ, Bool, List, [], false, length, map, All, IfErr, IfOk, IsFalse, IsTrue, None, Option, Some};
 ghost use Rattle.mc_explain.specs.Reasons.{IsFaultOfJournal, IsTextFault};
 ghost use Rattle.mc_io.specs.Bytes.{ConsumesAtMost};
 ghost use Rattle.mc_io.specs.Faults.{Rose, faults_after, is_failed_read};
@@ -12,6 +12,8 @@ ghost use Rattle.mc_net.specs.Texts.{IsFault};
 ghost use Rattle.mc_lines.specs.declared.limit.TheConstants.{COMMAND_LIMIT};
 ghost use Rattle.mc_lines.specs.declared.tail.Tail.TheVariants.{Journal};
 ghost use Rattle.mc_net.specs.declared.net.Net.{Net};
+ghost use Rattle.mc_cause.specs.CauseLaws.{NoneCloses};
+ghost use Rattle.mc_replay.specs.Faults.{RefusesLines};
 ghost use Rattle.mc_replay.specs.Journals.{HoldsAtSettles, IsJournal};
 ghost use Rattle.mc_replay.specs.Segments.{EachKeepsShiftLimit};
 ghost use Rattle.mc_scene.specs.Outputs.{scene_output};
@@ -21,8 +23,8 @@ ghost use Rattle.mc_top.specs.Behind.{HasJournal, HasJournalFault, IsLineOfFault
 ghost use Rattle.mc_top.specs.Refusals.{RefusesCheckBy, RefusesTail};
 ghost use Rattle.mc_top.specs.Drawn.{FollowsDraws};
 ghost use Rattle.mc_top.specs.Journals.{IsJournalTo, ShowsCause};
-ghost use Rattle.mc_top.specs.Modes.{AsksToRead, IsWithinLimits, IsWorkable, draws_from, reads, report_of, tail_of, text_for};
-ghost use Rattle.mc_top.specs.Printed.{journal_text, run_text};
+ghost use Rattle.mc_top.specs.Modes.{AsksToRead, IsWithinLimits, IsWorkable, checks, draws_from, reads, report_of, tail_of, text_for};
+ghost use Rattle.mc_top.specs.Printed.{checked_text, run_text};
 ghost use Rattle.mc_top.specs.Reasons.{EndsFor, Explains, IsFaultByWords, IsFaultOf, IsFaultOfTold, usage_reason};
 ghost use Rattle.mc_top.specs.Statuses.{IsDue, IsDueForMode, IsDueForText, due_by, judges_text, keeps_journal};
 ghost use Rattle.mc_top.specs.Top.{Delivers, EndsAs, GivesUp, HasReadWhole, IsTextFor, PrintsUsage, ReadsFor};
@@ -32,7 +34,7 @@ ghost use Rattle.mc_words.specs.declared.words.Mode.{Mode};
 ghost use Rattle.mc_words.specs.declared.words.Mode.TheVariants.{Check, Scene as AScene};
 
 use crate::behind::{journal_behind, journal_line};
-use crate::checking::{TailFault, TailPlace, check_script};
+use crate::checking::{TailFault, TailPlace, check_script, tell_script};
 use crate::modes::{draws_from, report_of, tail_of};
 use crate::print::{print_fault, print_journal_fault};
 use crate::reasons::reason_of;
@@ -47,7 +49,7 @@ use mc_io::{Gate, ReadFault, Sink, Source, read_up_to, write_whole};
 use mc_net::{JOURNAL_TEXT_LIMIT, Net, NetFault, TEXT_LIMIT, TextFault, fault_detail, read_net};
 use mc_replay::ReplayFault;
 use mc_scene::{generated, scene_text};
-use mc_script::{Batch, JournalLine};
+use mc_script::{Batch, JournalLine, JournalText};
 use mc_text::Names;
 use mc_words::{Mode, asks_for_help, read_mode};
 use mc_world::World;
@@ -80,7 +82,7 @@ fn text_of<S: Source>(alloc: Global, mode: Mode, source: &mut S) -> Result<Vec<u
     match mode {
         Mode::Run { .. } => read_up_to(alloc, source, TEXT_LIMIT),
         Mode::One { .. } => read_up_to(alloc, source, TEXT_LIMIT),
-        Mode::Check => read_up_to(alloc, source, JOURNAL_TEXT_LIMIT),
+        Mode::Check { .. } => read_up_to(alloc, source, JOURNAL_TEXT_LIMIT),
         Mode::Gen { number, size } => Ok(generated(alloc, number, size)?),
         Mode::Scene { scene } => Ok(scene_text(alloc, scene)?),
     }
@@ -271,7 +273,7 @@ fn run_net<R: Threads + Sync, K: Sink, G: Gate + Sync>(
     net: Net,
     sink: &mut K,
 ) -> Done
-    requires runs { mode ≢ Check }
+    requires runs { IsFalse (checks mode) }
     requires declares { DeclaresNet (tail_of mode) text.now net }
     requires named { NamesAll net.names net.world }
     requires allowed { AreAllAllowed net.world (map batch_turns net.batches.items) }
@@ -304,9 +306,9 @@ fn refuse_journal<K: Sink>(
     requires told { IsFaultOfJournal place.number place.turn place.line text.now reason }
     ensures statuses { (result.due ≡ JOURNAL_FAULT) ⊎ (result.due ≡ NO_MEMORY) }
     ensures status { (result.status ≡ result.due) ⊎ (result.status ≡ WRITE_FAULT) }
-    ensures ends { (net : Net) → DeclaresNet Journal text.now net
+    ensures ends { (why : Bool) (net : Net) → DeclaresNet Journal text.now net
         → HasJournalFault text.now net place.number place.turn
-        → EndsAs Check (Some text.now) (K.written sink.old) (K.written sink.new) result }
+        → EndsAs (Check why) (Some text.now) (K.written sink.old) (K.written sink.new) result }
     ensures reason { (net : Net) → DeclaresNet Journal text.now net → IsLineOfFault text.now net place.line
         → Explains (IsFaultOf Journal text.now) result.reason result.status
         (K.written sink.old) (K.written sink.new) result.journal.items }
@@ -322,9 +324,9 @@ fn refuse_journal<K: Sink>(
 fn refuse_tail<K: Sink>(alloc: Global, text: &[u8], place: TailPlace, sink: &mut K) -> Done
     ensures statuses { (result.due ≡ JOURNAL_FAULT) ⊎ (result.due ≡ NO_MEMORY) }
     ensures status { (result.status ≡ result.due) ⊎ (result.status ≡ WRITE_FAULT) }
-    ensures ends { (net : Net) → DeclaresNet Journal text.now net
+    ensures ends { (why : Bool) (net : Net) → DeclaresNet Journal text.now net
         → HasJournalFault text.now net place.number place.turn
-        → EndsAs Check (Some text.now) (K.written sink.old) (K.written sink.new) result }
+        → EndsAs (Check why) (Some text.now) (K.written sink.old) (K.written sink.new) result }
     ensures reason { (net : Net) → DeclaresNet Journal text.now net → IsLineOfFault text.now net place.line
         → Explains (IsFaultOf Journal text.now) result.reason result.status
         (K.written sink.old) (K.written sink.new) result.journal.items }
@@ -336,10 +338,39 @@ fn refuse_tail<K: Sink>(alloc: Global, text: &[u8], place: TailPlace, sink: &mut
     }
 }
 
+// Checks a journal, and prints what it settles, with why paths closed or without it.
+fn check_whys(
+    alloc: Global,
+    why: bool,
+    names: &Names,
+    world: World,
+    batches: &[Batch],
+    journal: &JournalText,
+) -> Result<Vec<u8>, ReplayFault>
+    requires named { NamesAll names.now world }
+    requires allowed { AreAllAllowed world (map batch_turns batches.now) }
+    requires few { length journal.now.lines.items < 2 ^ 32 - 1 }
+    requires none { NoneCloses world }
+    ensures journal { IfOk result (λ output.
+        IsJournal world (map batch_turns batches.now) journal.now.lines.items) }
+    ensures whole { IfOk result (λ output. journal.now.bad ≡ false) }
+    ensures output { IfOk result (λ output.
+        output.items ≡ checked_text why names.now world journal.now.lines.items) }
+    ensures refused { IfErr result (RefusesLines world (map batch_turns batches.now)
+        journal.now.lines.items journal.now.bad) }
+{
+    if why {
+        tell_script(alloc, names, world, batches, journal)
+    } else {
+        check_script(alloc, names, world, batches, journal)
+    }
+}
+
 // Checks the journal behind a text by a network's names, shapes, world and commands. Its lines, behind what is printed
 // for them.
 fn check_lines(
     alloc: Global,
+    why: bool,
     text: &[u8],
     names: &Names,
     shape: &Shape,
@@ -351,14 +382,15 @@ fn check_lines(
     requires fits { Fits names.now shape.now }
     requires named { NamesAll names.now world }
     requires allowed { AreAllAllowed world (map batch_turns batches.now) }
+    requires none { NoneCloses world }
     ensures lines { IfOk result (λ both. both.1.items ≡ tail_lines names.now shape.now text.now rest) }
     ensures whole { IfOk result (λ both. has_bad_tail names.now shape.now text.now rest ≡ false) }
     ensures journal { IfOk result (λ both. IsJournal world (map batch_turns batches.now) both.1.items) }
-    ensures output { IfOk result (λ both. both.0.items ≡ journal_text names.now 1 world both.1.items) }
+    ensures output { IfOk result (λ both. both.0.items ≡ checked_text why names.now world both.1.items) }
     ensures refused { IfErr result (RefusesTail names.now shape.now world (map batch_turns batches.now) text.now rest) }
 {
     let journal = journal_behind(alloc, names, shape, text, rest)?;
-    match check_script(alloc, names, world, batches, &journal) {
+    match check_whys(alloc, why, names, world, batches, &journal) {
         Ok(output) => Ok((output, journal.lines)),
         Err(ReplayFault::At(fault)) => Err(TailFault::At(TailPlace {
             number: fault.number,
@@ -372,6 +404,7 @@ fn check_lines(
 // The same by the network that the text declares.
 fn check_by_net(
     alloc: Global,
+    why: bool,
     text: &[u8],
     net: Net,
 ) -> Result<(Vec<u8>, Vec<JournalLine>), TailFault>
@@ -379,9 +412,10 @@ fn check_by_net(
     requires fits { Fits net.names net.shape }
     requires named { NamesAll net.names net.world }
     requires allowed { AreAllAllowed net.world (map batch_turns net.batches.items) }
+    requires none { NoneCloses net.world }
     ensures has { IfOk result (λ both. HasJournal text.now net both.1.items) }
     ensures journal { IfOk result (λ both. IsJournal net.world (map batch_turns net.batches.items) both.1.items) }
-    ensures output { IfOk result (λ both. both.0.items ≡ journal_text net.names 1 net.world both.1.items) }
+    ensures output { IfOk result (λ both. both.0.items ≡ checked_text why net.names net.world both.1.items) }
     ensures refused { IfErr result (RefusesCheckBy text.now net) }
 {
     let Net {
@@ -391,24 +425,24 @@ fn check_by_net(
         batches,
         rest,
     } = net;
-    check_lines(alloc, text, &names, &shape, world, &batches, rest)
+    check_lines(alloc, why, text, &names, &shape, world, &batches, rest)
 }
 
 // Checks the journal behind a text by the network that the text declares, and writes what is printed for it.
-fn check_net<K: Sink>(alloc: Global, text: &[u8], net: Net, sink: &mut K) -> Done
+fn check_net<K: Sink>(alloc: Global, why: bool, text: &[u8], net: Net, sink: &mut K) -> Done
     requires short { length text.now ≤ read_limit Journal }
     requires declares { DeclaresNet Journal text.now net }
     requires named { NamesAll net.names net.world }
     requires allowed { AreAllAllowed net.world (map batch_turns net.batches.items) }
     ensures statuses { IsDueForText result.due }
     ensures status { (result.status ≡ result.due) ⊎ (result.status ≡ WRITE_FAULT) }
-    ensures ends { EndsAs Check (Some text.now) (K.written sink.old) (K.written sink.new) result }
+    ensures ends { EndsAs (Check why) (Some text.now) (K.written sink.old) (K.written sink.new) result }
     ensures reason { Explains (IsFaultOf Journal text.now) result.reason result.status
         (K.written sink.old) (K.written sink.new) result.journal.items }
     ensures fault { K.faults sink.new ≡ faults_after (K.faults sink.old) (result.status == WRITE_FAULT) }
 {
     net.world.keeps();
-    match check_by_net(alloc, text, net) {
+    match check_by_net(alloc, why, text, net) {
         Ok((output, lines)) => deliver(sink, WORKED, &output, lines, Reason::Worked),
         Err(TailFault::At(place)) => refuse_tail(alloc, text, place, sink),
         Err(TailFault::NoMemory(_)) => give_up(alloc, NO_MEMORY, Reason::NoMemory),
@@ -438,7 +472,7 @@ fn work_on<R: Threads + Sync, K: Sink, G: Gate + Sync>(
     ensures fault { K.faults sink.new ≡ faults_after (K.faults sink.old) (result.status == WRITE_FAULT) }
 {
     match mode {
-        Mode::Check => check_net(alloc, text, net, sink),
+        Mode::Check { why } => check_net(alloc, why, text, net, sink),
         _ => run_net(rt, alloc, gate, mode, text, net, sink),
     }
 }

@@ -21,7 +21,7 @@ asks_if_none words first second third journal (Some m) are none = tt
 few_words : (m : Mode) (words : List (List ℕ)) → Spells m words → length words ≤ 3
 few_words (mode.Run journal) words is = let n : length words ≡ 1 = ap length is in omega arith
 few_words (mode.One state journal) words (word, is, spelt) = let n : length words ≡ 2 = ap length is in omega arith
-few_words mode.Check words is = let n : length words ≡ 1 = ap length is in omega arith
+few_words (mode.Check why) words is = let n : length words ≡ 1 = ap length is in omega arith
 few_words (mode.Gen number size) words (word, size_word, is, spelt, sized, some) = let n : length words ≡ 3 = ap length is in omega arith
 few_words (mode.Scene scene) words is = let n : length words ≡ 2 = ap length is in omega arith
 

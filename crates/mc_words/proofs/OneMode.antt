@@ -1,8 +1,8 @@
 -- The words ask for one mode.
-use Rattle.std.proofs.Common.{◌≡◌, ◌≤◌, ℕ, Bool, List, [], ◌∷◌, Some, codes, map, refl, ap, ap₂, sym, ◌∙◌}
+use Rattle.std.proofs.Common.{◌≡◌, ◌<◌, ◌≤◌, ℕ, Bool, true, false, List, [], ◌∷◌, Some, codes, get_or, map, refl, ap, ap₂, sym, ◌∙◌, arith}
 use Rattle.std.specs.Prelude.{string_bytes}
 use Rattle.mc_text.specs.Spelling.{number_of}
-use Rattle.mc_words.specs.Commands.{AsksFor, Spells, SpellsWithin, WordsAskForOneMode, plain_words, prints_journal, scene_word}
+use Rattle.mc_words.specs.Commands.{AsksFor, Spells, SpellsWithin, WordsAskForOneMode, check_word, plain_words, prints_journal, scene_word}
 use Rattle.mc_words.specs.declared.words.Mode.{Mode}
 use Rattle.mc_words.specs.declared.words.Mode.TheVariants as mode
 use Rattle.mc_scene.specs.declared.limit.TheConstants.{NUMBER_LIMIT, SIZE_LIMIT}
@@ -22,7 +22,7 @@ same_scene Prepaid Prepaid e = refl
 abbrev mode_word : Mode → List ℕ
 mode_word (mode.Run journal) = codes "run"
 mode_word (mode.One state journal) = codes "one"
-mode_word mode.Check = codes "check"
+mode_word (mode.Check why) = check_word why
 mode_word (mode.Gen number size) = codes "gen"
 mode_word (mode.Scene scene) = codes "scene"
 
@@ -30,7 +30,7 @@ mode_word (mode.Scene scene) = codes "scene"
 begins : (m : Mode) (words : List (List ℕ)) → Spells m words → (rest : List (List ℕ)) × (words ≡ mode_word m ∷ rest)
 begins (mode.Run journal) words is = ([], is)
 begins (mode.One state journal) words (word, is, spelt) = (word ∷ [], is)
-begins mode.Check words is = ([], is)
+begins (mode.Check why) words is = ([], is)
 begins (mode.Gen number size) words (word, size_word, is, spelt, sized, some) = (word ∷ size_word ∷ [], is)
 begins (mode.Scene scene) words is = (scene_word scene ∷ [], is)
 
@@ -39,6 +39,13 @@ same_word m other words one two =
     let both : mode_word m ∷ (begins m words one).0 ≡ mode_word other ∷ (begins other words two).0 = sym (begins m words one).1 ∙ (begins other words two).1 in
     cc
 
+-- two words that are the same begin alike
+first_letter : (word other : List ℕ) → word ≡ other → get_or word 0 0 ≡ get_or other 0 0
+first_letter word other same = ap (λ (w : List ℕ). get_or w 0 0) same
+
+letters_apart : (one other : ℕ) → one < other → one ≡ other → ⊥
+letters_apart one other less same = omega arith
+
 -- plain words spell one mode, with the journal or without it
 spells_one : (m other : Mode) (words : List (List ℕ)) → mode_word m ≡ mode_word other → Spells m words → Spells other words → prints_journal m ≡ prints_journal other → m ≡ other
 spells_one (mode.Run asked) (mode.Run flag) words first one two same = ap mode.Run same
@@ -46,7 +53,10 @@ spells_one (mode.One state asked) (mode.One more flag) words first (word, one, s
     let both : codes "one" ∷ word ∷ [] ≡ codes "one" ∷ next ∷ [] = sym one ∙ two in
     let alike : word ≡ next = cc (both) in
     ap₂ mode.One (same_number _ word next state more alike spelt spelt_next) same
-spells_one mode.Check mode.Check words first one two same = refl
+spells_one (mode.Check false) (mode.Check false) words first one two same = refl
+spells_one (mode.Check true) (mode.Check true) words first one two same = refl
+spells_one (mode.Check false) (mode.Check true) words first one two same = absurd (letters_apart 99 119 (omega arith) (first_letter (codes "check") (codes "why") first))
+spells_one (mode.Check true) (mode.Check false) words first one two same = absurd (letters_apart 99 119 (omega arith) (sym (first_letter (codes "why") (codes "check") first)))
 spells_one (mode.Gen number size) (mode.Gen next more) words first (word, size_word, one, spelt, sized, some) (other, other_size, two, spelt_next, sized_next, some_next) same =
     let both : codes "gen" ∷ word ∷ size_word ∷ [] ≡ codes "gen" ∷ other ∷ other_size ∷ [] = sym one ∙ two in
     let alike : word ≡ other = cc (both) in
@@ -57,24 +67,32 @@ spells_one (mode.Scene scene) (mode.Scene other) words first one two same =
     let alike : scene_word scene ≡ scene_word other = cc (both) in
     ap mode.Scene (same_scene scene other alike)
 spells_one (mode.Run asked) (mode.One more flag) words first one two same = let clash : codes "run" ≡ codes "one" = first in cc
-spells_one (mode.Run asked) mode.Check words first one two same = let clash : codes "run" ≡ codes "check" = first in cc
+spells_one (mode.Run asked) (mode.Check false) words first one two same = let clash : codes "run" ≡ codes "check" = first in cc
+spells_one (mode.Run asked) (mode.Check true) words first one two same = absurd (letters_apart 114 119 (omega arith) (first_letter (codes "run") (codes "why") first))
 spells_one (mode.Run asked) (mode.Gen next more) words first one two same = let clash : codes "run" ≡ codes "gen" = first in cc
 spells_one (mode.Run asked) (mode.Scene other) words first one two same = let clash : codes "run" ≡ codes "scene" = first in cc
 spells_one (mode.One state asked) (mode.Run flag) words first one two same = let clash : codes "one" ≡ codes "run" = first in cc
-spells_one (mode.One state asked) mode.Check words first one two same = let clash : codes "one" ≡ codes "check" = first in cc
+spells_one (mode.One state asked) (mode.Check false) words first one two same = let clash : codes "one" ≡ codes "check" = first in cc
+spells_one (mode.One state asked) (mode.Check true) words first one two same = absurd (letters_apart 111 119 (omega arith) (first_letter (codes "one") (codes "why") first))
 spells_one (mode.One state asked) (mode.Gen next more) words first one two same = let clash : codes "one" ≡ codes "gen" = first in cc
 spells_one (mode.One state asked) (mode.Scene other) words first one two same = let clash : codes "one" ≡ codes "scene" = first in cc
-spells_one mode.Check (mode.Run flag) words first one two same = let clash : codes "check" ≡ codes "run" = first in cc
-spells_one mode.Check (mode.One more flag) words first one two same = let clash : codes "check" ≡ codes "one" = first in cc
-spells_one mode.Check (mode.Gen next more) words first one two same = let clash : codes "check" ≡ codes "gen" = first in cc
-spells_one mode.Check (mode.Scene other) words first one two same = let clash : codes "check" ≡ codes "scene" = first in cc
+spells_one (mode.Check false) (mode.Run flag) words first one two same = let clash : codes "check" ≡ codes "run" = first in cc
+spells_one (mode.Check true) (mode.Run flag) words first one two same = absurd (letters_apart 114 119 (omega arith) (sym (first_letter (codes "why") (codes "run") first)))
+spells_one (mode.Check false) (mode.One more flag) words first one two same = let clash : codes "check" ≡ codes "one" = first in cc
+spells_one (mode.Check true) (mode.One more flag) words first one two same = absurd (letters_apart 111 119 (omega arith) (sym (first_letter (codes "why") (codes "one") first)))
+spells_one (mode.Check false) (mode.Gen next more) words first one two same = let clash : codes "check" ≡ codes "gen" = first in cc
+spells_one (mode.Check true) (mode.Gen next more) words first one two same = absurd (letters_apart 103 119 (omega arith) (sym (first_letter (codes "why") (codes "gen") first)))
+spells_one (mode.Check false) (mode.Scene other) words first one two same = let clash : codes "check" ≡ codes "scene" = first in cc
+spells_one (mode.Check true) (mode.Scene other) words first one two same = absurd (letters_apart 115 119 (omega arith) (sym (first_letter (codes "why") (codes "scene") first)))
 spells_one (mode.Gen number size) (mode.Run flag) words first one two same = let clash : codes "gen" ≡ codes "run" = first in cc
 spells_one (mode.Gen number size) (mode.One more flag) words first one two same = let clash : codes "gen" ≡ codes "one" = first in cc
-spells_one (mode.Gen number size) mode.Check words first one two same = let clash : codes "gen" ≡ codes "check" = first in cc
+spells_one (mode.Gen number size) (mode.Check false) words first one two same = let clash : codes "gen" ≡ codes "check" = first in cc
+spells_one (mode.Gen number size) (mode.Check true) words first one two same = absurd (letters_apart 103 119 (omega arith) (first_letter (codes "gen") (codes "why") first))
 spells_one (mode.Gen number size) (mode.Scene other) words first one two same = let clash : codes "gen" ≡ codes "scene" = first in cc
 spells_one (mode.Scene scene) (mode.Run flag) words first one two same = let clash : codes "scene" ≡ codes "run" = first in cc
 spells_one (mode.Scene scene) (mode.One more flag) words first one two same = let clash : codes "scene" ≡ codes "one" = first in cc
-spells_one (mode.Scene scene) mode.Check words first one two same = let clash : codes "scene" ≡ codes "check" = first in cc
+spells_one (mode.Scene scene) (mode.Check false) words first one two same = let clash : codes "scene" ≡ codes "check" = first in cc
+spells_one (mode.Scene scene) (mode.Check true) words first one two same = absurd (letters_apart 115 119 (omega arith) (first_letter (codes "scene") (codes "why") first))
 spells_one (mode.Scene scene) (mode.Gen next more) words first one two same = let clash : codes "scene" ≡ codes "gen" = first in cc
 
 pub asks_for_one : WordsAskForOneMode
@@ -84,7 +102,8 @@ asks_for_one words m other one two = spells_one m other (plain_words (map string
 pub no_number : (first second third : List ℕ) (journal : Bool) → first ≡ codes "gen" → ((number : ℕ) → SpellsWithin NUMBER_LIMIT second number → ⊥) → (m : Mode) → AsksFor m journal (first ∷ second ∷ third ∷ []) → ⊥
 no_number first second third journal is none (mode.Run asked) asks = let clash : first ∷ second ∷ third ∷ [] ≡ codes "run" ∷ [] = asks.0 in cc
 no_number first second third journal is none (mode.One state asked) ((word, one, spelt), same) = let clash : first ∷ second ∷ third ∷ [] ≡ codes "one" ∷ word ∷ [] = one in cc
-no_number first second third journal is none mode.Check asks = let clash : first ∷ second ∷ third ∷ [] ≡ codes "check" ∷ [] = asks.0 in cc
+no_number first second third journal is none (mode.Check false) asks = let clash : first ∷ second ∷ third ∷ [] ≡ codes "check" ∷ [] = asks.0 in cc
+no_number first second third journal is none (mode.Check true) asks = let clash : first ∷ second ∷ third ∷ [] ≡ codes "why" ∷ [] = asks.0 in cc
 no_number first second third journal is none (mode.Gen number size) ((word, size_word, one, spelt, sized, some), same) =
     let both : first ∷ second ∷ third ∷ [] ≡ codes "gen" ∷ word ∷ size_word ∷ [] = one in
     let alike : second ≡ word = cc (both) in
@@ -95,7 +114,8 @@ no_number first second third journal is none (mode.Scene scene) asks = let clash
 pub no_size : (first second third : List ℕ) (journal : Bool) → first ≡ codes "gen" → ((size : ℕ) → SpellsWithin SIZE_LIMIT third size → 1 ≤ size → ⊥) → (m : Mode) → AsksFor m journal (first ∷ second ∷ third ∷ []) → ⊥
 no_size first second third journal is none (mode.Run asked) asks = let clash : first ∷ second ∷ third ∷ [] ≡ codes "run" ∷ [] = asks.0 in cc
 no_size first second third journal is none (mode.One state asked) ((word, one, spelt), same) = let clash : first ∷ second ∷ third ∷ [] ≡ codes "one" ∷ word ∷ [] = one in cc
-no_size first second third journal is none mode.Check asks = let clash : first ∷ second ∷ third ∷ [] ≡ codes "check" ∷ [] = asks.0 in cc
+no_size first second third journal is none (mode.Check false) asks = let clash : first ∷ second ∷ third ∷ [] ≡ codes "check" ∷ [] = asks.0 in cc
+no_size first second third journal is none (mode.Check true) asks = let clash : first ∷ second ∷ third ∷ [] ≡ codes "why" ∷ [] = asks.0 in cc
 no_size first second third journal is none (mode.Gen number size) ((word, size_word, one, spelt, sized, some), same) =
     let both : first ∷ second ∷ third ∷ [] ≡ codes "gen" ∷ word ∷ size_word ∷ [] = one in
     let alike : third ≡ size_word = cc (both) in
@@ -109,7 +129,8 @@ no_state first second journal is none (mode.One state asked) ((word, one, spelt)
     let both : first ∷ second ∷ [] ≡ codes "one" ∷ word ∷ [] = one in
     let alike : second ≡ word = cc (both) in
     none state (ap number_of alike ∙ spelt.0, spelt.1)
-no_state first second journal is none mode.Check asks = let clash : first ∷ second ∷ [] ≡ codes "check" ∷ [] = asks.0 in cc
+no_state first second journal is none (mode.Check false) asks = let clash : first ∷ second ∷ [] ≡ codes "check" ∷ [] = asks.0 in cc
+no_state first second journal is none (mode.Check true) asks = let clash : first ∷ second ∷ [] ≡ codes "why" ∷ [] = asks.0 in cc
 no_state first second journal is none (mode.Gen number size) ((word, size_word, one, spelt, sized, some), same) = let clash : first ∷ second ∷ [] ≡ codes "gen" ∷ word ∷ size_word ∷ [] = one in cc
 no_state first second journal is none (mode.Scene scene) asks =
     let both : first ∷ second ∷ [] ≡ codes "scene" ∷ scene_word scene ∷ [] = asks.0 in
@@ -125,7 +146,8 @@ no_scene first second journal is none (mode.One state asked) ((word, one, spelt)
     let named : first ≡ codes "one" = cc (both) in
     let clash : codes "scene" ≡ codes "one" = sym is ∙ named in
     cc
-no_scene first second journal is none mode.Check asks = let clash : first ∷ second ∷ [] ≡ codes "check" ∷ [] = asks.0 in cc
+no_scene first second journal is none (mode.Check false) asks = let clash : first ∷ second ∷ [] ≡ codes "check" ∷ [] = asks.0 in cc
+no_scene first second journal is none (mode.Check true) asks = let clash : first ∷ second ∷ [] ≡ codes "why" ∷ [] = asks.0 in cc
 no_scene first second journal is none (mode.Gen number size) ((word, size_word, one, spelt, sized, some), same) = let clash : first ∷ second ∷ [] ≡ codes "gen" ∷ word ∷ size_word ∷ [] = one in cc
 no_scene first second journal is none (mode.Scene scene) asks =
     let both : first ∷ second ∷ [] ≡ codes "scene" ∷ scene_word scene ∷ [] = asks.0 in

@@ -1,5 +1,5 @@
 -- What the words of the command line ask for.
-use Rattle.std.specs.Prelude.{◌≡◌, ◌≤◌, ℕ, Bool, false, List, [], ◌∷◌, Some, codes, map, string_bytes, String}
+use Rattle.std.specs.Prelude.{◌≡◌, ◌≤◌, ℕ, Bool, false, true, List, [], ◌∷◌, Some, codes, map, string_bytes, String}
 use Rattle.std.specs.declared.alloc.Global.{Global}
 pub use Rattle.mc_arguments.specs.Arguments.{HasNoOtherFlag, begins_with_dash, has_journal_flag, is_dashes, is_journal_flag, is_other_flag, plain_words}
 use Rattle.mc_text.specs.Spelling.{number_of}
@@ -18,11 +18,16 @@ abbrev pub scene_word : Scene → List ℕ
 scene_word Pbx = codes "pbx"
 scene_word Prepaid = codes "prepaid"
 
+-- the word for a check, with why paths closed or without it
+abbrev pub check_word : (why : Bool) → List ℕ
+check_word false = codes "check"
+check_word true = codes "why"
+
 -- plain words ask for a mode
 abbrev pub Spells : Mode → List (List ℕ) → Type 0
 Spells (mode.Run journal) words = words ≡ codes "run" ∷ []
 Spells (mode.One state journal) words = (word : List ℕ) × (words ≡ codes "one" ∷ word ∷ []) × SpellsWithin NUMBER_LIMIT word state
-Spells mode.Check words = words ≡ codes "check" ∷ []
+Spells (mode.Check why) words = words ≡ check_word why ∷ []
 Spells (mode.Gen number size) words = (word : List ℕ) × (size_word : List ℕ) × (words ≡ codes "gen" ∷ word ∷ size_word ∷ [])
     × SpellsWithin NUMBER_LIMIT word number × SpellsWithin SIZE_LIMIT size_word size × (1 ≤ size)
 Spells (mode.Scene scene) words = words ≡ codes "scene" ∷ scene_word scene ∷ []
@@ -31,7 +36,7 @@ Spells (mode.Scene scene) words = words ≡ codes "scene" ∷ scene_word scene �
 abbrev pub prints_journal : Mode → Bool
 prints_journal (mode.Run journal) = journal
 prints_journal (mode.One state journal) = journal
-prints_journal mode.Check = false
+prints_journal (mode.Check why) = false
 prints_journal (mode.Gen number size) = false
 prints_journal (mode.Scene scene) = false
 

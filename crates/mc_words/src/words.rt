@@ -18,8 +18,9 @@ pub enum Mode {
     Run { journal: bool },
     /// The same, by draws that begin at a state.
     One { state: u32, journal: bool },
-    /// Reads a text with a journal behind its commands, checks the journal, and prints what it settles.
-    Check,
+    /// Reads a text with a journal behind its commands, checks the journal, and prints what it settles; and why closed
+    /// paths closed, if it is asked for.
+    Check { why: bool },
     /// Runs a text of so many chains, drawn by a number.
     Gen { number: u32, size: u32 },
     /// Runs the text of a scene.
@@ -34,7 +35,7 @@ impl Mode {
         match self {
             Mode::Run { journal } => journal,
             Mode::One { journal, .. } => journal,
-            Mode::Check => false,
+            Mode::Check { .. } => false,
             Mode::Gen { .. } => false,
             Mode::Scene { .. } => false,
         }
@@ -92,7 +93,9 @@ fn mode_of_word(word: &str, journal: bool) -> Option<Mode>
     if word == "run" {
         Some(Mode::Run { journal })
     } else if word == "check" && !journal {
-        Some(Mode::Check)
+        Some(Mode::Check { why: false })
+    } else if word == "why" && !journal {
+        Some(Mode::Check { why: true })
     } else {
         None
     }

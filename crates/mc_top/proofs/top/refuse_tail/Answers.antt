@@ -7,8 +7,8 @@ use Rattle.mc_top.proofs.top.refuse_tail.Goals as goal
 use Rattle.mc_words.specs.declared.words.Mode.TheVariants.{Check}
 
 pub returns-in-Err-clause-ends : goal.returns-in-Err-clause-ends
-returns-in-Err-clause-ends g c = λ net declares fault.
-    ends_gave_up Check c.args.text.now (g.K.Sink.written c.args.sink.now) c.give_up.result.status c.give_up.result.due c.give_up.result.journal.items
+returns-in-Err-clause-ends g c = λ why net declares fault.
+    ends_gave_up (Check why) c.args.text.now (g.K.Sink.written c.args.sink.now) c.give_up.result.status c.give_up.result.due c.give_up.result.journal.items
     c.give_up.ensures.status c.give_up.ensures.due c.give_up.ensures.journal
 
 pub returns-in-Err-clause-reason : goal.returns-in-Err-clause-reason
