@@ -8,6 +8,7 @@ mod programs;
 mod refusals;
 mod scenes;
 mod threads;
+mod whys;
 
 use mc_io::{Gate, MemSink, MemSource, OpenGate};
 use mc_script::JournalLine;
@@ -286,7 +287,7 @@ fn calls_and_what_they_print(rt: HostRuntime) -> Result<(), AllocError> {
     are_answered(&rt, rt.alloc(), &["run"], &CALLS)
 }
 
-const OTHER_WORDS: [&[&str]; 28] = [
+const OTHER_WORDS: [&[&str]; 30] = [
     &["fly"],
     &[],
     &["run", "x"],
@@ -313,6 +314,8 @@ const OTHER_WORDS: [&[&str]; 28] = [
     &["check", "--journal"],
     &["--journal", "check"],
     &["check", "x"],
+    &["why", "--journal"],
+    &["why", "why"],
     &["--help"],
     &["--version"],
 ];

@@ -88,7 +88,7 @@ const VIDEO: &str = "media 1\n\
     settle\n";
 
 // A call through one feature, accepted and then ended by bob.
-const FEATURE: &str = "media 1\n\
+pub const FEATURE: &str = "media 1\n\
     codec g711\n\
     dev alice g711\n\
     feat f\n\
@@ -103,7 +103,7 @@ const FEATURE: &str = "media 1\n\
     set bob a close\n\
     settle\n";
 
-const FEATURE_PRINTED: &str = "settle 1\n\
+pub const FEATURE_PRINTED: &str = "settle 1\n\
     path alice/a bob/a open hold flowing audio\n\
     hears alice/a g711\n\
     hears bob/a g711\n\
