@@ -98,7 +98,7 @@ class Runner:
 
 def examples():
     """Every example: its name, its words, what it reads, and what lies beside it as what is printed."""
-    for folder, words in (('examples', ['run']), ('examples/journals', ['check']), ('examples/scenes', None)):
+    for folder, words in (('examples', ['run']), ('examples/journals', ['check']), ('examples/why', ['why']), ('examples/scenes', None)):
         for name in sorted(os.listdir(os.path.join(TOP, folder))):
             path = os.path.join(TOP, folder, name)
             if not os.path.isfile(path + '.stdout'):
