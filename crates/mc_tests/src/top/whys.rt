@@ -245,11 +245,11 @@ const HANG_UP: JournalLine = JournalLine::Turn(Turn {
 });
 
 // The number of that turn, after the mark of the first settle.
-fn hang_up_number(lines: &[JournalLine]) -> u32 {
+fn hang_up_number(lines: &[JournalLine]) -> usize {
     let mut number = 0;
     for (index, line) in lines.iter().enumerate() {
         if *line == HANG_UP {
-            number = index as u32;
+            number = index;
         }
     }
     number
