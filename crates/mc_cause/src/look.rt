@@ -20,7 +20,8 @@ pub enum Look {
     MayClose(Option<Seen>),
 }
 
-/// The slot that takes a signal, the one that it is linked with, the signal, and whether the slot is closed before that.
+/// The slot that takes a signal, the one that it is linked with, the signal, and whether the slot is closed before
+/// that.
 #[derive(Clone, Copy, Debug)]
 pub struct Seen {
     pub slot: u32,

@@ -78,7 +78,8 @@ fn noted(state: State, old: Option<u32>, origin: u32) -> Option<u32>
 fn note_slot(world: &World, slot: u32, origin: u32, origins: &mut [Option<u32>])
     requires long { length origins.old ≡ slot_count world.now }
     requires inside { slot < slot_count world.now }
-    ensures { origins.new ≡ slice_set origins.old slot (noted (slot_of world.now slot).state (slice_index_or origins.old slot None) origin) }
+    ensures { origins.new ≡ slice_set origins.old slot
+        (noted (slot_of world.now slot).state (slice_index_or origins.old slot None) origin) }
 {
     let old = origins[slot as usize];
     origins[slot as usize] = noted(world.slot(slot).state, old, origin);
@@ -153,7 +154,8 @@ fn note_why(world: &World, taken: Seen, cause: Option<u32>, whys: &mut [Option<u
     requires long { length whys.old ≡ slot_count world.now }
     requires inside { taken.slot < slot_count world.now }
     ensures { whys.new ≡ slice_set whys.old taken.slot
-        (closing_cause taken.closed (slot_of world.now taken.slot).state cause (slice_index_or whys.old taken.slot None)) }
+        (closing_cause taken.closed (slot_of world.now taken.slot).state cause
+        (slice_index_or whys.old taken.slot None)) }
 {
     let old = whys[taken.slot as usize];
     whys[taken.slot as usize] = closing_cause(

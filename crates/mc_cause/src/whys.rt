@@ -60,8 +60,8 @@ impl Whys {
         look_before(world, turn)
     }
 
-    /// Notes a turn that was made, by the world after it and by what `look` saw before it. Fewer than 4,294,967,295 turns
-    /// were made before.
+    /// Notes a turn that was made, by the world after it and by what `look` saw before it. Fewer than 4,294,967,295
+    /// turns were made before.
     pub fn note(&mut self, world: &World, turn: Turn, look: Look)
         requires few { self.old.turns + 1 < 2 ^ 32 }
         requires looked { HasLooked world.now turn look self.old }

@@ -28,8 +28,8 @@ pub struct Checked {
     pub views: Vec<Vec<PathView>>,
 }
 
-/// What a journal shows, and tells: at each of its marks, in order, the views, and of each slot, by its number, why it is
-/// closed.
+/// What a journal shows, and tells: at each of its marks, in order, the views, and of each slot, by its number, why it
+/// is closed.
 #[derive(Debug, Drop)]
 pub struct Told {
     pub views: Vec<Vec<PathView>>,

@@ -65,8 +65,8 @@ fn put_both(
     put_why(alloc, names, &view.high, whys, out)
 }
 
-/// The lines that tell of each closed path why its two ends are closed, by the list that has, of each slot by its number,
-/// the turn from which its last close came. Boxes and slots have names.
+/// The lines that tell of each closed path why its two ends are closed, by the list that has, of each slot by its
+/// number, the turn from which its last close came. Boxes and slots have names.
 pub fn print_whys(
     alloc: Global,
     names: &Names,
