@@ -1,0 +1,10 @@
+//! Conferences: whom a mixer at a box would let each party hear.
+#![tactic(auto)]
+
+mod mixing;
+mod party;
+mod printing;
+
+pub use mixing::{Mix, mixes};
+pub use party::{Leg, legs};
+pub use printing::print_conf;
