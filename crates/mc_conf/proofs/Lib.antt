@@ -1,2 +1,6 @@
+mod AllPairs
+mod LegLaws
+mod Members
 mod Named
+mod SameLegs
 mod Sorting

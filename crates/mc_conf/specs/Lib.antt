@@ -1,3 +1,4 @@
 pub mod Legs
 pub mod Mixes
+pub mod Pairs
 pub mod Printed

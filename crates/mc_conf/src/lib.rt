@@ -1,6 +1,7 @@
 //! Conferences: whom a mixer at a box would let each party hear.
 #![tactic(auto)]
 
+pub mod laws;
 mod mixing;
 mod party;
 mod printing;
