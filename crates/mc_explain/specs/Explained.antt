@@ -5,7 +5,7 @@ use Rattle.mc_explain.specs.Hints.{hints}
 use Rattle.mc_explain.specs.Quotes.{quote, told_line}
 use Rattle.mc_explain.specs.Sentences.{journal_rule, text_rule}
 use Rattle.mc_explain.specs.declared.reason.Reason.{Reason}
-use Rattle.mc_explain.specs.declared.reason.Reason.TheVariants.{FaultyJournal, FaultyText, Help, NoMemory, ReadFault, Restless, Ring, Usage, VersionEnd, Worked, WriteFault}
+use Rattle.mc_explain.specs.declared.reason.Reason.TheVariants.{FaultyJournal, FaultyText, Help, NoBox, NoMemory, ReadFault, Restless, Ring, Usage, VersionEnd, Worked, WriteFault}
 use Rattle.mc_lines.specs.declared.detail.Detail.{Detail}
 use Rattle.mc_replay.specs.declared.rule.TheConstants.{NOT_ENABLED, NOT_NEXT}
 use Rattle.mc_text.specs.Lines.{has_bytes}
@@ -22,6 +22,7 @@ commands =
     ∷ codes "  mediactl gen N SIZE           draws SIZE chains of features by the number N, and prints a summary"
     ∷ codes "  mediactl scene pbx            prints the paths of one phone that speaks with two others in turn"
     ∷ codes "  mediactl scene prepaid        prints the paths of a prepaid call that a voice interrupts"
+    ∷ codes "  mediactl conf BOX             runs the text, and prints whom a mixer at the feature BOX would let each party hear"
     ∷ codes "N is a number from 0 to 2147483647, and SIZE one from 1 to 50."
     ∷ codes "With --journal each turn is printed after the paths. The manual page mediactl(1) says more."
     ∷ []
@@ -50,6 +51,14 @@ journal_fault number turn line = if is_of_turns number then turn_fault number tu
 abbrev pub stop : (settle : ℕ) → (place why : List ℕ) → List ℕ
 stop settle place why = codes "settle " ++ decimal settle ++ codes " of the script stopped at " ++ place ++ codes ": " ++ why
 
+-- which features there are, by their names, each after a space
+abbrev pub features_told : List ℕ → List ℕ
+features_told features = if has_bytes features then codes ". Its features are:" ++ features ++ codes "." else codes ", nor any other."
+
+-- no feature has this name
+abbrev pub no_box : (place features : List ℕ) → List ℕ
+no_box place features = codes "the text declares no feature " ++ place ++ features_told features
+
 -- what there is to say of each reason
 abbrev pub sentences : Reason → List (List ℕ)
 sentences Worked = []
@@ -62,6 +71,7 @@ sentences (Ring place settle) = stop settle place.items (codes "this slot is on 
 sentences (Restless place settle) =
     stop settle place.items (codes "the program of this box made 256 steps in this settle, which is the most, and could make one more. Look at its when lines: they may lead round in a circle.") ∷ []
 sentences (FaultyJournal number turn line text) = journal_fault number turn line ∷ []
+sentences (NoBox place features) = no_box place.items features.items ∷ []
 sentences NoMemory = codes "there wasn't enough memory. Nothing was printed." ∷ []
 sentences ReadFault = codes "standard input couldn't be read. Nothing was printed." ∷ []
 sentences WriteFault = codes "standard output couldn't be written. What was printed is only a part." ∷ []

@@ -1,6 +1,6 @@
 // How a call ended, in words.
 ghost use Rattle.std.specs.Prelude.{◌≡◌, ◌≢◌, ◌++◌, ◌-◌, ◌∷◌, [], IfOk, OnOk, flat_map, map};
-ghost use Rattle.mc_explain.specs.Explained.{commands, explained, is_of_turns, journal_fault, line_fault, line_shown, sentences, shown, stop, text_fault, text_shown, turn_fault};
+ghost use Rattle.mc_explain.specs.Explained.{commands, explained, features_told, is_of_turns, journal_fault, line_fault, line_shown, no_box, sentences, shown, stop, text_fault, text_shown, turn_fault};
 ghost use Rattle.mc_explain.specs.Quotes.{told_line};
 ghost use Rattle.mc_explain.specs.declared.reason.Reason.TheVariants.{Worked};
 
@@ -13,7 +13,7 @@ use mc_replay::rule::{NOT_ENABLED, NOT_NEXT};
 use std::alloc::{AllocError, Global};
 
 // How the program is called.
-const COMMANDS: [&str; 9] = [
+const COMMANDS: [&str; 10] = [
     "  mediactl run [--journal]      settles the text on standard input, and prints its paths",
     "  mediactl one N [--journal]    the same, in an order that the number N draws",
     "  mediactl check                checks the journal that stands after the text on standard input",
@@ -21,6 +21,7 @@ const COMMANDS: [&str; 9] = [
     "  mediactl gen N SIZE           draws SIZE chains of features by the number N, and prints a summary",
     "  mediactl scene pbx            prints the paths of one phone that speaks with two others in turn",
     "  mediactl scene prepaid        prints the paths of a prepaid call that a voice interrupts",
+    "  mediactl conf BOX             runs the text, and prints whom a mixer at the feature BOX would let each party hear",
     "N is a number from 0 to 2147483647, and SIZE one from 1 to 50.",
     "With --journal each turn is printed after the paths. The manual page mediactl(1) says more.",
 ];
@@ -119,6 +120,7 @@ fn put_sentences(alloc: Global, reason: &Reason, out: &mut Vec<u8>) -> Result<()
             line,
             ..
         } => put_journal_fault(alloc, *number, *turn, *line, out),
+        Reason::NoBox { place, features } => put_no_box(place, features, out),
         Reason::NoMemory => put_line("there wasn't enough memory. Nothing was printed.", out),
         Reason::ReadFault => {
             put_line("standard input couldn't be read. Nothing was printed.", out)
@@ -238,5 +240,30 @@ fn put_stop(
     out.extend_from_slice(b": ")?;
     out.extend_from_slice(why.as_bytes())?;
     out.push(b'\n')?;
+    Ok(())
+}
+
+// Appends that no feature has a name, and which features there are.
+fn put_no_box(place: &[u8], features: &[u8], out: &mut Vec<u8>) -> Result<(), AllocError>
+    ensures { OnOk result (out.new.items
+        ≡ out.old.items ++ flat_map told_line (no_box place.now features.now ∷ [])) }
+{
+    out.extend_from_slice(b"mediactl: the text declares no feature ")?;
+    out.extend_from_slice(place)?;
+    put_features(features, out)?;
+    out.push(b'\n')?;
+    Ok(())
+}
+
+fn put_features(features: &[u8], out: &mut Vec<u8>) -> Result<(), AllocError>
+    ensures { OnOk result (out.new.items ≡ out.old.items ++ features_told features.now) }
+{
+    if features.is_empty() {
+        out.extend_from_slice(b", nor any other.")?;
+    } else {
+        out.extend_from_slice(b". Its features are:")?;
+        out.extend_from_slice(features)?;
+        out.push(b'.')?;
+    }
     Ok(())
 }

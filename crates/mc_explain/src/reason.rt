@@ -50,6 +50,12 @@ pub enum Reason {
         line: u32,
         text: Vec<u8>,
     },
+    /// The text declares no feature of the name that the words have: that name, and the names of the features that there
+    /// are, each after a space.
+    NoBox {
+        place: Vec<u8>,
+        features: Vec<u8>,
+    },
     /// Memory was wanting.
     NoMemory,
     /// A call of the source failed.

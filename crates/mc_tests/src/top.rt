@@ -1,4 +1,5 @@
 // Whole calls over sources and sinks in memory: what is written, and the status.
+mod conferences;
 mod draws;
 mod journals;
 mod limits;

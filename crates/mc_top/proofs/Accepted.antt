@@ -24,7 +24,7 @@ use Rattle.mc_top.specs.TextAlone.{SettlesText}
 use Rattle.mc_top.specs.Top.{Worked}
 use Rattle.mc_top.proofs.GoodJournals.{printed_journals_are_good, printed_lines}
 use Rattle.mc_top.proofs.Told.{good_has_none}
-use Rattle.mc_words.specs.declared.words.Mode.TheVariants.{Check, Gen, One, Run, Scene}
+use Rattle.mc_words.specs.declared.words.Mode.TheVariants.{Check, Conf, Gen, One, Run, Scene}
 
 -- ---- the same network
 
@@ -119,3 +119,4 @@ printed_journals_are_accepted (One state false) text old new status journal aske
 printed_journals_are_accepted (Check why) text old new status journal asked run short = absurd cc
 printed_journals_are_accepted (Gen number size) text old new status journal asked run short = absurd cc
 printed_journals_are_accepted (Scene scene) text old new status journal asked run short = absurd cc
+printed_journals_are_accepted (Conf name) text old new status journal asked run short = absurd cc

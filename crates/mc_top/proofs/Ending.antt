@@ -1,12 +1,17 @@
 -- How a run ends.
-use Rattle.std.proofs.Common.{◌≡◌, ◌≢◌, ◌⊎◌, ◌∙◌, ℕ, Bool, true, false, List, [], map, inl, inr, refl, ap, sym, subst, arith, None, Some}
+use Rattle.std.proofs.Common.{◌≡◌, ◌≢◌, ◌⊎◌, ◌∙◌, ◌<◌, length, ℕ, Bool, true, false, List, [], map, inl, inr, refl, ap, sym, subst, arith, None, Some}
 use Rattle.std.specs.declared.option.Option.{Option}
 use Rattle.std.specs.Io.KnownBytes.{Keeps}
 use Rattle.mc_replay.specs.Journals.{HoldsAtSettles, IsJournal}
 use Rattle.mc_replay.specs.Segments.{EachKeepsShiftLimit}
 use Rattle.mc_top.specs.Journals.{IsJournalTo, IsStoppedJournal, ShowsCause}
 use Rattle.mc_top.specs.Drawn.{FollowsDraws}
-use Rattle.mc_top.specs.Modes.{checks, draws_from, output_of, report_of, tail_of}
+use Rattle.mc_program.proofs.Found.{found_within}
+use Rattle.mc_text.specs.NameLists.{place_of}
+use Rattle.std.specs.Option.{unwrap_or}
+use Rattle.mc_top.specs.Shown.{HasNamedBox}
+use Rattle.mc_words.specs.Commands.{bytes_of, name_for}
+use Rattle.mc_top.specs.Modes.{checks, draws_from, has_box, is_feature_at, output_of, report_of, tail_of}
 use Rattle.mc_model.specs.Sound.{IsSound}
 use Rattle.mc_model.specs.Worlds.{WorldState}
 use Rattle.mc_text.specs.NameLists.{NameLists}
@@ -17,7 +22,7 @@ use Rattle.mc_lines.specs.declared.tail.Tail.TheVariants.{Nothing, Journal}
 use Rattle.mc_net.specs.declared.net.Net.{Net}
 use Rattle.mc_replay.proofs.Holds.{journals_hold}
 use Rattle.mc_top.specs.Behind.{HasJournal, HasJournalFault}
-use Rattle.mc_top.specs.Printed.{checked_text, fault_line, journal_fault_line, journal_text, run_text, script_text, stop_line, with_journal}
+use Rattle.mc_top.specs.Printed.{checked_text, fault_line, journal_fault_line, journal_text, no_box_line, run_text, script_text, stop_line, with_journal}
 use Rattle.mc_top.specs.Statuses.{IsDueForText, due_by, keeps_journal, stop_status}
 use Rattle.mc_top.specs.Top.{Delivers, Ends, StopsScript, ToldJournal}
 use Rattle.mc_script.specs.declared.command.JournalLine.{JournalLine}
@@ -26,15 +31,16 @@ use Rattle.mc_top.specs.declared.stop.Stop.{Stop}
 use Rattle.mc_top.specs.declared.stop.Stop.TheVariants.{Restless, Ring, VersionEnd}
 use Rattle.mc_words.specs.Commands.{prints_journal}
 use Rattle.mc_words.specs.declared.words.Mode.{Mode}
-use Rattle.mc_words.specs.declared.words.Mode.TheVariants.{Check, Gen, One, Run, Scene}
+use Rattle.mc_words.specs.declared.words.Mode.TheVariants.{Check, Conf, Gen, One, Run, Scene}
 
 -- what a mode prints is what its run prints
-printed_by : (mode : Mode) (net : Net) (journal : List JournalLine) → checks mode ≡ false → run_text (report_of mode) (prints_journal mode) net.names net.world None journal ≡ output_of mode net journal
+printed_by : (mode : Mode) (net : Net) (journal : List JournalLine) → checks mode ≡ false → run_text (report_of mode net.names) (prints_journal mode) net.names net.world None journal ≡ output_of mode net journal
 printed_by (Run asked) net journal runs = refl
 printed_by (One state asked) net journal runs = refl
 printed_by (Check why) net journal runs = absurd (cc)
 printed_by (Gen number size) net journal runs = refl
 printed_by (Scene scene) net journal runs = refl
+printed_by (Conf name) net journal runs = refl
 
 -- a mode that runs a script reads a text behind whose commands nothing stands
 runs_reads : (mode : Mode) → checks mode ≡ false → tail_of mode ≡ Nothing
@@ -43,6 +49,7 @@ runs_reads (One state asked) runs = refl
 runs_reads (Check why) runs = absurd (cc)
 runs_reads (Gen number size) runs = refl
 runs_reads (Scene scene) runs = refl
+runs_reads (Conf name) runs = refl
 
 -- behind the line of a stop stands no journal
 stopped_by : (report : Report) (asked : Bool) (stop : Stop) (names : NameLists) (world : WorldState) (journal : List JournalLine) → run_text report asked names world (Some stop) journal ≡ stop_line names world stop
@@ -55,12 +62,13 @@ kept_zero due none some = let here : keeps_journal 0 ≡ false = subst (λ (n : 
 
 -- the work was done, and what it printed was delivered
 ends_worked : (mode : Mode) (text : List ℕ) (net : Net) (old new : Option (List ℕ)) (status due : ℕ) (journal : List JournalLine) (output : List ℕ)
-    → checks mode ≡ false → DeclaresNet (tail_of mode) text net → IsSound net.world → IsJournal net.world (map batch_turns net.batches.items) journal → FollowsDraws (draws_from mode) None net.world (map batch_turns net.batches.items) journal
-    → HoldsAtSettles net.world journal → EachKeepsShiftLimit journal → output ≡ run_text (report_of mode) (prints_journal mode) net.names net.world None journal → due ≡ 0 → Delivers status 0 old new output → Ends mode (Some text) old new status due journal
-ends_worked mode text net old new status due journal output runs declared sound settled drawn holds limit is none delivered = record {
+    → checks mode ≡ false → DeclaresNet (tail_of mode) text net → has_box mode net.names net.world ≡ true → IsSound net.world → IsJournal net.world (map batch_turns net.batches.items) journal → FollowsDraws (draws_from mode) None net.world (map batch_turns net.batches.items) journal
+    → HoldsAtSettles net.world journal → EachKeepsShiftLimit journal → output ≡ run_text (report_of mode net.names) (prints_journal mode) net.names net.world None journal → due ≡ 0 → Delivers status 0 old new output → Ends mode (Some text) old new status due journal
+ends_worked mode text net old new status due journal output runs declared boxed sound settled drawn holds limit is none delivered = record {
   worked = λ zero. record {
     net = net;
     declared = declared;
+    box = boxed;
     told_journal = subst (λ (t : Tail). ToldJournal t (Some text) net journal) (sym (runs_reads mode runs)) tt;
     settles = record { sound = sound; settled = settled; holds = holds; drawn = drawn };
     shift_limit = λ runs. limit;
@@ -69,20 +77,22 @@ ends_worked mode text net old new status due journal output runs declared sound 
   refused = λ one. absurd (omega arith);
   at_stop = λ either. absurd (grind (arith, either));
   check_refused = λ eight. absurd (omega arith);
+  no_box = λ nine. absurd (omega arith);
   gave_up = λ ended. elim ended [ inl three ↦ absurd (omega arith) | inr four ↦ absurd (omega arith) ];
   no_journal = λ some. absurd (kept_zero due none some);
 }
 
 -- or the script stopped, and the line of the stop was
 stops_script : (mode : Mode) (text : List ℕ) (net : Net) (stop : Stop) (old new : Option (List ℕ)) (status due : ℕ) (journal : List JournalLine) (output : List ℕ)
-    → checks mode ≡ false → DeclaresNet (tail_of mode) text net → IsSound net.world → IsStoppedJournal stop net.world (map batch_turns net.batches.items) journal → FollowsDraws (draws_from mode) (Some stop) net.world (map batch_turns net.batches.items) journal
+    → checks mode ≡ false → DeclaresNet (tail_of mode) text net → has_box mode net.names net.world ≡ true → IsSound net.world → IsStoppedJournal stop net.world (map batch_turns net.batches.items) journal → FollowsDraws (draws_from mode) (Some stop) net.world (map batch_turns net.batches.items) journal
     → ShowsCause (Some stop) net.world (map batch_turns net.batches.items) → EachKeepsShiftLimit journal → output ≡ stop_line net.names net.world stop → due ≡ stop_status stop → Delivers status (stop_status stop) old new output
     → StopsScript mode (Some text) old new status due journal
-stops_script mode text net stop old new status due journal output runs declared sound settled drawn shows limit is due_is delivered = record {
+stops_script mode text net stop old new status due journal output runs declared boxed sound settled drawn shows limit is due_is delivered = record {
   net = net;
   stop = stop;
   runs = runs;
   declared = declared;
+  box = boxed;
   due_is = due_is;
   sound = sound;
   settled = settled;
@@ -112,14 +122,15 @@ ends_at_stop mode text stop old new status due journal is stops =
       refused = λ one. inr stops;
       at_stop = λ either. stops;
       check_refused = λ eight. absurd (grind (arith, either));
+      no_box = λ nine. absurd (grind (arith, either));
       gave_up = λ ended. absurd (grind (arith, either, ended));
       no_journal = λ some. absurd (stop_keeps stop due is some);
     }
 
 -- what a run printed, by what its mode reports and whether it asks for the journal
 pub run_is : (mode : Mode) (report : Report) (asked : Bool) (stop : Option Stop) (names : NameLists) (world : WorldState) (journal : List JournalLine) (text whole : List ℕ)
-    → report ≡ report_of mode → asked ≡ prints_journal mode → text ≡ script_text report names world stop journal → whole ≡ with_journal asked stop names journal text
-    → whole ≡ run_text (report_of mode) (prints_journal mode) names world stop journal
+    → report ≡ report_of mode names → asked ≡ prints_journal mode → text ≡ script_text report names world stop journal → whole ≡ with_journal asked stop names journal text
+    → whole ≡ run_text (report_of mode names) (prints_journal mode) names world stop journal
 run_is mode report asked stop names world journal text whole reported flag is printed =
     printed
     ∙ (ap (λ (b : Bool). with_journal b stop names journal text) flag
@@ -134,14 +145,14 @@ due_for_text (Some (Ring at)) due is = inr (inr (inr (inr (inl is))))
 
 -- a script was run to its end, or to a stop
 pub ends_ran : (stop : Option Stop) (mode : Mode) (text : List ℕ) (net : Net) (old new : Option (List ℕ)) (status due : ℕ) (journal : List JournalLine) (output : List ℕ)
-    → checks mode ≡ false → DeclaresNet (tail_of mode) text net → IsSound net.world → IsJournalTo stop net.world (map batch_turns net.batches.items) journal → FollowsDraws (draws_from mode) stop net.world (map batch_turns net.batches.items) journal
+    → checks mode ≡ false → DeclaresNet (tail_of mode) text net → has_box mode net.names net.world ≡ true → IsSound net.world → IsJournalTo stop net.world (map batch_turns net.batches.items) journal → FollowsDraws (draws_from mode) stop net.world (map batch_turns net.batches.items) journal
     → HoldsAtSettles net.world journal → ShowsCause stop net.world (map batch_turns net.batches.items) → EachKeepsShiftLimit journal
-    → output ≡ run_text (report_of mode) (prints_journal mode) net.names net.world stop journal → due ≡ due_by stop → Delivers status (due_by stop) old new output → Ends mode (Some text) old new status due journal
-ends_ran None mode text net old new status due journal output runs declared sound ran drawn holds shows limit is due_is delivered =
-    ends_worked mode text net old new status due journal output runs declared sound ran drawn holds limit is due_is delivered
-ends_ran (Some stop) mode text net old new status due journal output runs declared sound ran drawn holds shows limit is due_is delivered =
+    → output ≡ run_text (report_of mode net.names) (prints_journal mode) net.names net.world stop journal → due ≡ due_by stop → Delivers status (due_by stop) old new output → Ends mode (Some text) old new status due journal
+ends_ran None mode text net old new status due journal output runs declared boxed sound ran drawn holds shows limit is due_is delivered =
+    ends_worked mode text net old new status due journal output runs declared boxed sound ran drawn holds limit is due_is delivered
+ends_ran (Some stop) mode text net old new status due journal output runs declared boxed sound ran drawn holds shows limit is due_is delivered =
     ends_at_stop mode text stop old new status due journal due_is
-    (stops_script mode text net stop old new status due journal output runs declared sound ran drawn shows limit (is ∙ stopped_by (report_of mode) (prints_journal mode) stop net.names net.world journal) due_is delivered)
+    (stops_script mode text net stop old new status due journal output runs declared boxed sound ran drawn shows limit (is ∙ stopped_by (report_of mode net.names) (prints_journal mode) stop net.names net.world journal) due_is delivered)
 
 keeps_same : (old : Option (List ℕ)) → Keeps old old
 keeps_same None = tt
@@ -155,6 +166,7 @@ ends_gave_up mode text old status due journal three due_three none = record {
   refused = λ one. absurd (omega arith);
   at_stop = λ either. absurd (grind (arith, either));
   check_refused = λ eight. absurd (omega arith);
+  no_box = λ nine. absurd (omega arith);
   gave_up = λ ended. (omega arith, keeps_same old);
   no_journal = λ some. none;
 }
@@ -167,6 +179,7 @@ ends_refused mode text number line old new status due journal output fault is on
   refused = λ due_one. inl (record { number = number; line = line; fault = fault; delivered = rw is at delivered; no_journal = none });
   at_stop = λ either. absurd (grind (arith, either));
   check_refused = λ eight. absurd (omega arith);
+  no_box = λ nine. absurd (omega arith);
   gave_up = λ ended. elim ended [ inl three ↦ absurd (omega arith) | inr four ↦ absurd (omega arith) ];
   no_journal = λ some. none;
 }
@@ -181,6 +194,7 @@ ends_checked why text net old new status due journal output declared sound has s
   worked = λ zero. record {
     net = net;
     declared = declared;
+    box = refl;
     told_journal = has;
     settles = record { sound = sound; settled = settled; holds = journals_hold net.world (map batch_turns net.batches.items) journal sound settled; drawn = tt };
     shift_limit = λ runs. absurd (cc);
@@ -189,6 +203,7 @@ ends_checked why text net old new status due journal output declared sound has s
   refused = λ one. absurd (omega arith);
   at_stop = λ either. absurd (grind (arith, either));
   check_refused = λ eight. absurd (omega arith);
+  no_box = λ nine. absurd (omega arith);
   gave_up = λ ended. elim ended [ inl three ↦ absurd (omega arith) | inr four ↦ absurd (omega arith) ];
   no_journal = λ some. absurd (kept_zero due none some);
 }
@@ -202,6 +217,41 @@ ends_check_refused why text net number turn old new status due journal output de
   refused = λ one. absurd (omega arith);
   at_stop = λ either. absurd (grind (arith, either));
   check_refused = λ due_eight. (refl, record { net = net; number = number; turn = turn; declared = declared; fault = fault; delivered = rw is at delivered; no_journal = none });
+  no_box = λ nine. absurd (omega arith);
   gave_up = λ ended. elim ended [ inl three ↦ absurd (omega arith) | inr four ↦ absurd (omega arith) ];
   no_journal = λ some. none;
 }
+
+-- ---- a box that isn't there
+
+-- no feature has its name, and the line that says so was delivered
+pub ends_no_box : (mode : Mode) (text : List ℕ) (net : Net) (names : NameLists) (world : WorldState) (old new : Option (List ℕ)) (status due : ℕ) (journal : List JournalLine) (output : List ℕ)
+    → DeclaresNet (tail_of mode) text net → net.names ≡ names → net.world ≡ world → has_box mode names world ≡ false → output ≡ no_box_line (name_for mode) → due ≡ 9 → Delivers status 9 old new output → journal ≡ []
+    → Ends mode (Some text) old new status due journal
+ends_no_box mode text net names world old new status due journal output declared named stands none is nine delivered kept = record {
+  worked = λ zero. absurd (omega arith);
+  refused = λ one. absurd (omega arith);
+  at_stop = λ either. absurd (grind (arith, either));
+  check_refused = λ eight. absurd (omega arith);
+  no_box = λ due_nine. record {
+    net = net;
+    declared = declared;
+    none = ap (λ (n : NameLists). has_box mode n net.world) named ∙ (ap (λ (w : WorldState). has_box mode names w) stands ∙ none);
+    delivered = rw is at delivered;
+    no_journal = kept;
+  };
+  gave_up = λ ended. elim ended [ inl three ↦ absurd (omega arith) | inr four ↦ absurd (omega arith) ];
+  no_journal = λ some. kept;
+}
+
+-- the box of a conference has a name where it is there
+pub named_box : (mode : Mode) (names : NameLists) (world : WorldState) → has_box mode names world ≡ true → HasNamedBox names (report_of mode names)
+named_box (Run asked) names world has = tt
+named_box (One state asked) names world has = tt
+named_box (Check why) names world has = tt
+named_box (Gen number size) names world has = tt
+named_box (Scene scene) names world has = tt
+named_box (Conf name) names world has = by_place (place_of names.boxes (bytes_of name)) (λ who found. found_within names.boxes (bytes_of name) who found) has where
+  by_place : (found : Option ℕ) → ((who : ℕ) → found ≡ Some who → who < length names.boxes) → is_feature_at world found ≡ true → unwrap_or found 0 < length names.boxes
+  by_place None within is = absurd (cc)
+  by_place (Some who) within is = within who refl

@@ -1,5 +1,5 @@
 -- Two calls that judged one text end alike, where the draws or the told journal leave nothing open.
-use Rattle.std.proofs.Common.{◌≡◌, ◌⊎◌, inl, inr, ℕ, Bool, true, IsTrue, List, Option, None, Some, map, refl, ap, sym, ◌∙◌, subst, arith}
+use Rattle.std.proofs.Common.{◌≡◌, ◌⊎◌, inl, inr, ℕ, Bool, true, false, IsTrue, List, Option, None, Some, map, refl, ap, sym, ◌∙◌, subst, arith}
 use Rattle.std.proofs.lemmas.Grind.{common_steps}
 use Rattle.mc_lines.specs.declared.tail.Tail.{Tail}
 use Rattle.mc_lines.specs.declared.tail.Tail.TheVariants.{Nothing, Journal}
@@ -19,7 +19,7 @@ use Rattle.mc_top.specs.Printed.{checked_text, fault_line, journal_fault_line, j
 use Rattle.mc_top.specs.Statuses.{judges_text, stop_status}
 use Rattle.mc_top.specs.Top.{Delivers, Refused, RefusesCheck, StopsScript, Worked}
 use Rattle.mc_top.specs.declared.report.Report.TheVariants.{Paths}
-use Rattle.mc_top.specs.declared.status.TheConstants.{WORKED, FAULTY_TEXT, RESTLESS, RING, JOURNAL_FAULT}
+use Rattle.mc_top.specs.declared.status.TheConstants.{WORKED, FAULTY_TEXT, RESTLESS, RING, JOURNAL_FAULT, NO_BOX}
 use Rattle.mc_top.specs.declared.stop.Stop.{Stop}
 use Rattle.mc_top.specs.declared.top.Done.{Done}
 use Rattle.mc_top.proofs.SeenNets.{Seen, declared_same, seen}
@@ -59,7 +59,7 @@ fault_same one_fault_alone text net other number turn instead at same one two =
 -- ---- ends
 
 -- the statuses with which a text is judged
-pub judged_cases : (due : ℕ) → IsTrue (judges_text due) → (due ≡ WORKED) ⊎ ((due ≡ FAULTY_TEXT) ⊎ ((due ≡ RESTLESS) ⊎ ((due ≡ RING) ⊎ (due ≡ JOURNAL_FAULT))))
+pub judged_cases : (due : ℕ) → IsTrue (judges_text due) → (due ≡ WORKED) ⊎ ((due ≡ FAULTY_TEXT) ⊎ ((due ≡ RESTLESS) ⊎ ((due ≡ RING) ⊎ ((due ≡ JOURNAL_FAULT) ⊎ (due ≡ NO_BOX)))))
 judged_cases due judged = grind (arith, common_steps)
 
 -- two calls that were due to deliver the same under one status
@@ -101,12 +101,13 @@ drawn_end state asked text old new done judges = by (judged_cases done.due judge
     by_refused one (inl fault) = refused one fault
     by_refused one (inr stops) = stopped stops
 
-    by : (done.due ≡ WORKED) ⊎ ((done.due ≡ FAULTY_TEXT) ⊎ ((done.due ≡ RESTLESS) ⊎ ((done.due ≡ RING) ⊎ (done.due ≡ JOURNAL_FAULT)))) → DrawnEnd (One state asked) text old new done
+    by : (done.due ≡ WORKED) ⊎ ((done.due ≡ FAULTY_TEXT) ⊎ ((done.due ≡ RESTLESS) ⊎ ((done.due ≡ RING) ⊎ ((done.due ≡ JOURNAL_FAULT) ⊎ (done.due ≡ NO_BOX))))) → DrawnEnd (One state asked) text old new done
     by (inl none) = ran none (judges.ends.worked none)
     by (inr (inl one)) = by_refused one (judges.ends.refused one)
     by (inr (inr (inl six))) = stopped (judges.ends.at_stop (inl six))
     by (inr (inr (inr (inl seven)))) = stopped (judges.ends.at_stop (inr seven))
-    by (inr (inr (inr (inr eight)))) = absurd (let is : checks (One state asked) ≡ true = (judges.ends.check_refused eight).0 in cc)
+    by (inr (inr (inr (inr (inl eight))))) = absurd (let is : checks (One state asked) ≡ true = (judges.ends.check_refused eight).0 in cc)
+    by (inr (inr (inr (inr (inr nine))))) = absurd (let is : true ≡ false = (judges.ends.no_box nine).none in cc)
 
 module _ (one_journal : DrawnJournalIsOne) (state : ℕ) (asked : Bool) (text : List ℕ) where
   both_worked : (old new from to : Option (List ℕ)) (done other : Done) → done.due ≡ WORKED → other.due ≡ WORKED → Worked (One state asked) (Some text) old new done.status done.journal.items
@@ -172,12 +173,13 @@ checked_end why text old new done judges = by (judged_cases done.due judges.judg
     by_refused one (inl fault) = no_text one fault
     by_refused one (inr stops) = absurd (checks_on stops)
 
-    by : (done.due ≡ WORKED) ⊎ ((done.due ≡ FAULTY_TEXT) ⊎ ((done.due ≡ RESTLESS) ⊎ ((done.due ≡ RING) ⊎ (done.due ≡ JOURNAL_FAULT)))) → CheckedEnd why text old new done
+    by : (done.due ≡ WORKED) ⊎ ((done.due ≡ FAULTY_TEXT) ⊎ ((done.due ≡ RESTLESS) ⊎ ((done.due ≡ RING) ⊎ ((done.due ≡ JOURNAL_FAULT) ⊎ (done.due ≡ NO_BOX))))) → CheckedEnd why text old new done
     by (inl none) = good none (judges.ends.worked none)
     by (inr (inl one)) = by_refused one (judges.ends.refused one)
     by (inr (inr (inl six))) = absurd (checks_on (judges.ends.at_stop (inl six)))
     by (inr (inr (inr (inl seven)))) = absurd (checks_on (judges.ends.at_stop (inr seven)))
-    by (inr (inr (inr (inr eight)))) = faulty eight (judges.ends.check_refused eight).1
+    by (inr (inr (inr (inr (inl eight))))) = faulty eight (judges.ends.check_refused eight).1
+    by (inr (inr (inr (inr (inr nine))))) = absurd (let is : true ≡ false = (judges.ends.no_box nine).none in cc)
 
 -- a journal isn't good and faulty
 good_faulty : (why : Bool) (text : List ℕ) (old new from to : Option (List ℕ)) (status end : ℕ) (journal more : List JournalLine) → Worked (Check why) (Some text) old new status journal → RefusesCheck (Some text) from to end more → ⊥

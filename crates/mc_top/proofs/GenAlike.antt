@@ -50,7 +50,7 @@ all_decided number size net within declares =
 worked_due : (number size : ℕ) (old new : Option (List ℕ)) (done : Done) → IsWithinLimits (Gen number size) → Judges (Gen number size) (generated number size) old new done → done.due ≡ WORKED
 worked_due number size old new done within judges =
     let cases = judged_cases done.due judges.judged in
-    let dues : (done.due ≡ 0) ⊎ (done.due ≡ 1) ⊎ (done.due ≡ 3) ⊎ (done.due ≡ 4) ⊎ (done.due ≡ 6) ⊎ (done.due ≡ 7) ⊎ (done.due ≡ 8) = grind (arith, cases) in
+    let dues : (done.due ≡ 0) ⊎ (done.due ≡ 1) ⊎ (done.due ≡ 3) ⊎ (done.due ≡ 4) ⊎ (done.due ≡ 6) ⊎ (done.due ≡ 7) ⊎ (done.due ≡ 8) ⊎ (done.due ≡ 9) = grind (arith, cases) in
     let out = works_out (Gen number size) (Some (generated number size)) old new (generated number size) done.status done.due done.journal.items dues judges.ends refl
     (generated_can_run number size within.1 within.2) (λ four. (let no : ⊥ = grind (arith, cases, four) in no)) in
     grind (arith, cases, out)
@@ -62,6 +62,6 @@ gen_prints_alike number size old new from to done other within first second =
     let one = first.ends.worked due in
     let two = second.ends.worked also in
     print_alike old new from to done other WORKED (output_of (Gen number size) one.net done.journal.items) (output_of (Gen number size) two.net other.journal.items) due also
-    (calls_print_same (generated number size) done.journal.items other.journal.items (Gen number size) (Gen number size) old new from to done.status other.status refl refl refl refl refl refl one two
+    (calls_print_same (generated number size) done.journal.items other.journal.items (Gen number size) (Gen number size) old new from to done.status other.status refl (λ names. refl) (λ names. tt) refl refl refl refl one two
     (no_programs number size one.net within one.declared) (all_decided number size one.net within one.declared))
     one.delivered two.delivered

@@ -1,10 +1,11 @@
 -- What is counted of the paths that are shown is what the path table says.
-use Rattle.std.proofs.Common.{◌≡◌, ◌+◌, ◌∷◌, [], ℕ, Bool, true, not, cond, List, All, Option, map, refl, ap, sym, ◌∙◌}
+use Rattle.std.proofs.Common.{◌≡◌, ◌+◌, ◌++◌, ◌∷◌, [], ℕ, Bool, true, not, cond, List, All, Option, map, refl, ap, sym, ◌∙◌}
 use Rattle.std.specs.List.{AllByRecursion, sum_by}
 use Rattle.std.proofs.lemmas.List.Elements.{recursion_from_All}
 use Rattle.std.proofs.lemmas.List.Sums.{sum_by-cons}
 use Rattle.mc_slot.specs.declared.State.{State}
 use Rattle.mc_slot.specs.declared.State.TheVariants.{Closed, Opening, Opened, Flowing, Closing}
+use Rattle.mc_conf.specs.Printed.{print_conf}
 use Rattle.mc_model.specs.PathTable.{PathHolds, high_hears, low_hears, path_state}
 use Rattle.mc_model.specs.Paths.{PathEnds, paths}
 use Rattle.mc_model.specs.Worlds.{WorldState, own_descriptor, own_sender, slot_of}
@@ -15,7 +16,7 @@ use Rattle.mc_top.specs.Printed.{report_text}
 use Rattle.mc_top.specs.Shown.{print_report}
 use Rattle.mc_top.specs.Summaries.{closed_paths, flowing_paths, hearing_path_ends, summary_text}
 use Rattle.mc_top.specs.declared.report.Report.{Report}
-use Rattle.mc_top.specs.declared.report.Report.TheVariants.{Paths, Summary}
+use Rattle.mc_top.specs.declared.report.Report.TheVariants.{Conference, Paths, Summary}
 use Rattle.mc_top.proofs.Viewing.{both_flow, heard_is, settle_is}
 use Rattle.mc_view.specs.declared.PathView.{PathView}
 
@@ -81,3 +82,5 @@ pub report_is : (report : Report) (names : NameLists) (number : ℕ) (world : Wo
     → print_report report names number (map (view_of world) (paths world)) ≡ report_text report names number world
 report_is Paths names number world holds = settle_is names number world holds
 report_is (Summary first size) names number world holds = summary_is number world holds
+report_is (Conference who) names number world holds =
+    ap (λ (text : List ℕ). text ++ print_conf names who (map (view_of world) (paths world))) (settle_is names number world holds)

@@ -8,7 +8,7 @@ use Rattle.mc_model.specs.Sound.{IsSound}
 use Rattle.mc_model.specs.Steps.{run}
 use Rattle.mc_model.specs.Unprogrammed.{HasNoPrograms}
 use Rattle.mc_model.specs.Worlds.{WorldState}
-use Rattle.mc_net.specs.Nets.{batch_turns}
+use Rattle.mc_net.specs.Nets.{DeclaresNet, batch_turns}
 use Rattle.mc_lines.specs.declared.tail.Tail.{Tail}
 use Rattle.mc_net.specs.declared.net.Net.{Net}
 use Rattle.mc_settings.proofs.AlikeWorlds.{alike_self}
@@ -21,13 +21,13 @@ use Rattle.mc_text.specs.NameLists.{NameLists}
 use Rattle.mc_replay.specs.Journals.{IsJournal, lines_for}
 use Rattle.mc_top.specs.Modes.{output_of, report_of, tail_of, tells_why}
 use Rattle.mc_top.specs.Printed.{at_settles, journal_text, opening_text, report_text, script_text, settle_text}
-use Rattle.mc_top.specs.TextAlone.{CallsPrintSame, SettlesText, TextAloneDecides}
+use Rattle.mc_top.specs.TextAlone.{CallsPrintSame, HasNoConference, SettlesText, TextAloneDecides}
 use Rattle.mc_top.specs.Top.{Worked}
 use Rattle.mc_top.specs.declared.report.Report.{Report}
-use Rattle.mc_top.specs.declared.report.Report.TheVariants.{Paths, Summary}
+use Rattle.mc_top.specs.declared.report.Report.TheVariants.{Conference, Paths, Summary}
 use Rattle.mc_words.specs.Commands.{prints_journal}
 use Rattle.mc_words.specs.declared.words.Mode.{Mode}
-use Rattle.mc_words.specs.declared.words.Mode.TheVariants.{Check, Gen, One, Run, Scene}
+use Rattle.mc_words.specs.declared.words.Mode.TheVariants.{Check, Conf, Gen, One, Run, Scene}
 use Rattle.mc_top.proofs.Running.{printed_after}
 use Rattle.mc_top.proofs.SeenAlike.{alike_seen, settle_same}
 use Rattle.mc_top.proofs.SeenNets.{Seen, declared_same, seen}
@@ -66,22 +66,23 @@ journals_same (batch ∷ batches) print number world other first second same sou
     ∙ sym (segment_reported print number other end others second more ended.runs are)))
 
 -- so is whatever a run reports
-reports_alike : (report : Report) (names : NameLists) → PrintsAlike (report_text report names)
-reports_alike Paths names number world other alike decided = settle_same names number world other (alike_seen world other alike) decided
-reports_alike (Summary first size) names number world other alike decided = summary_same number world other alike decided
+reports_alike : (report : Report) (names : NameLists) → HasNoConference report → PrintsAlike (report_text report names)
+reports_alike Paths names none number world other alike decided = settle_same names number world other (alike_seen world other alike) decided
+reports_alike (Summary first size) names none number world other alike decided = summary_same number world other alike decided
+reports_alike (Conference who) names none number world other alike decided = absurd none
 
 -- ---- texts
 
 pub text_alone_decides : TextAloneDecides
-text_alone_decides report tail text net other first second one two none decided =
+text_alone_decides report tail text net other first second plain one two none decided =
     let same : seen net ≡ seen other = declared_same tail text net other one.declares two.declares in
     let settles : IsJournal net.world (map batch_turns net.batches.items) second = subst (λ (n : Seen). IsJournal n.world n.batches second) (sym same) two.settles in
     ap (λ (text : List ℕ). opening_text report net.world ++ text)
-    (journals_same (map batch_turns net.batches.items) (report_text report net.names) 1 net.world net.world first second (reports_alike report net.names) one.sound one.sound none none (alike_self net.world) decided one.settles settles)
+    (journals_same (map batch_turns net.batches.items) (report_text report net.names) 1 net.world net.world first second (reports_alike report net.names plain) one.sound one.sound none none (alike_self net.world) decided one.settles settles)
     ∙ ap (λ (n : Seen). script_text report n.names n.world None second) same
 
 -- what a mode prints that doesn't print its journal
-output_is : (mode : Mode) (net : Net) (journal : List JournalLine) → prints_journal mode ≡ false → tells_why mode ≡ false → output_of mode net journal ≡ script_text (report_of mode) net.names net.world None journal
+output_is : (mode : Mode) (net : Net) (journal : List JournalLine) → prints_journal mode ≡ false → tells_why mode ≡ false → output_of mode net journal ≡ script_text (report_of mode net.names) net.names net.world None journal
 output_is (Run true) net journal none other = absurd cc
 output_is (Run false) net journal none other = refl
 output_is (One state true) net journal none other = absurd cc
@@ -90,15 +91,22 @@ output_is (Check true) net journal none other = absurd cc
 output_is (Check false) net journal none other = refl
 output_is (Gen number size) net journal none other = refl
 output_is (Scene scene) net journal none other = refl
+output_is (Conf name) net journal none other = refl
 
 -- a mode that did its work settled the text
 settles_text : (text : List ℕ) (mode : Mode) (old new : Option (List ℕ)) (status : ℕ) (journal : List JournalLine) → (worked : Worked mode (Some text) old new status journal)
     → SettlesText (tail_of mode) text worked.net journal
 settles_text text mode old new status journal worked = record { declares = worked.declared; sound = worked.settles.sound; settles = worked.settles.settled }
 
+-- two networks of one text have the same names
+names_same : (text : List ℕ) (mode instead : Mode) (net other : Net) → tail_of mode ≡ tail_of instead → DeclaresNet (tail_of mode) text net → DeclaresNet (tail_of instead) text other → net.names ≡ other.names
+names_same text mode instead net other same one two =
+    ap (λ (n : Seen). n.names) (declared_same (tail_of mode) text net other one (subst (λ (t : Tail). DeclaresNet t text other) (sym same) two))
+
 pub calls_print_same : CallsPrintSame
-calls_print_same text first second mode instead old new from to status end same reports plain also silent quiet one two none decided =
+calls_print_same text first second mode instead old new from to status end same reports paths plain also silent quiet one two none decided =
     output_is mode one.net first plain silent
-    ∙ (text_alone_decides (report_of mode) (tail_of mode) text one.net two.net first second (settles_text text mode old new status first one)
+    ∙ (text_alone_decides (report_of mode one.net.names) (tail_of mode) text one.net two.net first second (paths one.net.names) (settles_text text mode old new status first one)
     (subst (λ (t : Tail). SettlesText t text two.net second) (sym same) (settles_text text instead from to end second two)) none decided
-    ∙ (ap (λ (report : Report). script_text report two.net.names two.net.world None second) reports ∙ sym (output_is instead two.net second also quiet)))
+    ∙ (ap (λ (names : NameLists). script_text (report_of mode names) two.net.names two.net.world None second) (names_same text mode instead one.net two.net same one.declared two.declared)
+    ∙ (ap (λ (report : Report). script_text report two.net.names two.net.world None second) (reports two.net.names) ∙ sym (output_is instead two.net second also quiet))))

@@ -17,15 +17,16 @@ use Rattle.mc_replay.proofs.Good.{good_or_faulty}
 use Rattle.mc_replay.specs.Faults.{IsJournalFault}
 use Rattle.mc_top.specs.Behind.{HasGoodJournal, HasJournal, HasJournalFault, has_bad_tail, tail_lines}
 use Rattle.mc_top.specs.Journals.{ShowsCause}
-use Rattle.mc_top.specs.Top.{Ends, IsTextOf, RefusesCheck, StopsScript, ToldDeclares, ToldFault, ToldJournal}
-use Rattle.mc_top.specs.Modes.{CanCheck, CanRun, checks, tail_of}
+use Rattle.mc_top.specs.Top.{Ends, IsTextOf, RefusesBox, RefusesCheck, StopsScript, ToldDeclares, ToldFault, ToldJournal}
+use Rattle.mc_top.specs.Modes.{CanCheck, CanConfer, CanRun, checks, has_feature, tail_of}
 use Rattle.mc_top.specs.declared.stop.Stop.{Stop}
 use Rattle.mc_top.specs.Rings.{AlwaysRests}
 use Rattle.mc_top.proofs.BytesBehind.{bad_alike, lines_alike}
 use Rattle.mc_top.proofs.Causes.{never_stops}
 use Rattle.mc_top.proofs.SeenNets.{Seen, declared_same, seen}
+use Rattle.mc_words.specs.Commands.{bytes_of}
 use Rattle.mc_words.specs.declared.words.Mode.{Mode}
-use Rattle.mc_words.specs.declared.words.Mode.TheVariants.{Check, Gen, One, Run, Scene}
+use Rattle.mc_words.specs.declared.words.Mode.TheVariants.{Check, Conf, Gen, One, Run, Scene}
 
 -- ---- what is told
 
@@ -76,6 +77,7 @@ stops_told mode told old new text status due journal read stops = record {
   stop = stops.stop;
   runs = stops.runs;
   declared = told_declares (tail_of mode) told text stops.net read stops.declared;
+  box = stops.box;
   due_is = stops.due_is;
   sound = stops.sound;
   settled = stops.settled;
@@ -111,6 +113,7 @@ ends_told mode told old new text status due journal read ends = record {
       record {
         net = worked.net;
         declared = told_declares (tail_of mode) told text worked.net read worked.declared;
+        box = worked.box;
         told_journal = told_journal (tail_of mode) told text worked.net journal read worked.told_journal;
         settles = worked.settles;
         shift_limit = worked.shift_limit;
@@ -130,6 +133,15 @@ ends_told mode told old new text status due journal read ends = record {
   check_refused = λ eight.
       let refused = ends.check_refused eight in
       (refused.0, refuses_told told old new text status journal (subst (λ (t : Tail). IsTextOf t told text) (checks_read mode refused.0) read) refused.1);
+  no_box = λ nine.
+      let refused = ends.no_box nine in
+      record {
+        net = refused.net;
+        declared = told_declares (tail_of mode) told text refused.net read refused.declared;
+        none = refused.none;
+        delivered = refused.delivered;
+        no_journal = refused.no_journal;
+      };
   gave_up = ends.gave_up;
   no_journal = ends.no_journal;
 }
@@ -143,6 +155,7 @@ WorksOn (One state asked) text = CanRun text
 WorksOn (Check why) text = CanCheck text
 WorksOn (Gen number size) text = CanRun text
 WorksOn (Scene scene) text = CanRun text
+WorksOn (Conf name) text = CanConfer text (bytes_of name)
 
 -- each says something
 says_some : (mode : Mode) (text : List ℕ) → WorksOn mode text → (d : Declared) × Says (tail_of mode) text d
@@ -151,6 +164,7 @@ says_some (One state asked) text works = (works.0, works.1)
 says_some (Check why) text works = (works.declares.declared, works.declares.says)
 says_some (Gen number size) text works = (works.0, works.1)
 says_some (Scene scene) text works = (works.0, works.1)
+says_some (Conf name) text works = (works.runs.0, works.runs.1)
 
 -- so it has no fault
 fault_says : (tail : Tail) (told : Option (List ℕ)) (text : List ℕ) (d : Declared) (number line : ℕ) → ToldFault tail told number line → told ≡ Some text → Says tail text d → ⊥
@@ -179,6 +193,7 @@ stop_works (One first asked) told text net stop runs declares is works shows = c
 stop_works (Check why) told text net stop runs declares is works shows = absurd (cc)
 stop_works (Gen number size) told text net stop runs declares is works shows = can_run told text net stop declares is works shows
 stop_works (Scene scene) told text net stop runs declares is works shows = can_run told text net stop declares is works shows
+stop_works (Conf name) told text net stop runs declares is works shows = can_run told text net stop declares is works.runs shows
 
 -- nor is its journal refused
 pub good_has_none : (text : List ℕ) (net : Net) (number turn : ℕ) → HasGoodJournal text net → HasJournalFault text net number turn → ⊥
@@ -207,6 +222,24 @@ check_works : (mode : Mode) (told old new : Option (List ℕ)) (text : List ℕ)
 check_works mode told old new text status journal (is_check, refused) is works =
     check_says told text refused.net refused.number refused.turn refused.declared refused.fault is (check_can mode text is_check works)
 
+-- nor does it lack the box that the mode is about
+box_says : (name text : List ℕ) (told : Option (List ℕ)) (net : Net) → ToldDeclares Nothing told net → has_feature net.names net.world name ≡ false → told ≡ Some text → CanConfer text name → ⊥
+box_says name text None net declares none is can = cc
+box_says name text (Some all) net declares none is can =
+    let same : all ≡ text = cc in
+    let one : seen can.net ≡ seen net = declared_same Nothing text can.net net can.declares (subst (λ (t : List ℕ). DeclaresNet Nothing t net) same declares) in
+    let has : has_feature can.net.names can.net.world name ≡ true = can.has in
+    let clash : true ≡ false = sym has ∙ (ap (λ (n : Seen). has_feature n.names n.world name) one ∙ none) in
+    cc
+
+box_works : (mode : Mode) (told old new : Option (List ℕ)) (text : List ℕ) (status : ℕ) (journal : List JournalLine) → RefusesBox mode told old new status journal → told ≡ Some text → WorksOn mode text → ⊥
+box_works (Run asked) told old new text status journal refused is works = let clash : true ≡ false = refused.none in cc
+box_works (One state asked) told old new text status journal refused is works = let clash : true ≡ false = refused.none in cc
+box_works (Check why) told old new text status journal refused is works = let clash : true ≡ false = refused.none in cc
+box_works (Gen number size) told old new text status journal refused is works = let clash : true ≡ false = refused.none in cc
+box_works (Scene scene) told old new text status journal refused is works = let clash : true ≡ false = refused.none in cc
+box_works (Conf name) told old new text status journal refused is works = box_says (bytes_of name) text told refused.net refused.declared refused.none is works
+
 -- ---- counted faults
 
 le_self : (n : ℕ) → n ≤ n
@@ -226,7 +259,7 @@ not_failed before now status fault counted unrisen is =
 
 -- a text on which the work can be done, and that was read, leaves only two ends
 pub works_out : (mode : Mode) (told old new : Option (List ℕ)) (text : List ℕ) (status due : ℕ) (journal : List JournalLine)
-    → (due ≡ 0) ⊎ (due ≡ 1) ⊎ (due ≡ 3) ⊎ (due ≡ 4) ⊎ (due ≡ 6) ⊎ (due ≡ 7) ⊎ (due ≡ 8) → Ends mode told old new status due journal
+    → (due ≡ 0) ⊎ (due ≡ 1) ⊎ (due ≡ 3) ⊎ (due ≡ 4) ⊎ (due ≡ 6) ⊎ (due ≡ 7) ⊎ (due ≡ 8) ⊎ (due ≡ 9) → Ends mode told old new status due journal
     → told ≡ Some text → WorksOn mode text → (due ≡ 4 → ⊥) → (due ≡ 0) ⊎ (due ≡ 3)
 works_out mode told old new text status due journal dues ends is works not_four =
     let never : StopsScript mode told old new status due journal → ⊥ = λ stops. stop_works mode told text stops.net stops.stop stops.runs stops.declared is works stops.shows in
@@ -237,11 +270,12 @@ works_out mode told old new text status due journal dues ends is works not_four 
     let not_six : due ≡ 6 → ⊥ = λ six. never (ends.at_stop (inl six)) in
     let not_seven : due ≡ 7 → ⊥ = λ seven. never (ends.at_stop (inr seven)) in
     let not_eight : due ≡ 8 → ⊥ = λ eight. check_works mode told old new text status journal (ends.check_refused eight) is works in
-    grind (arith, not_one, not_four, not_six, not_seven, not_eight)
+    let not_nine : due ≡ 9 → ⊥ = λ nine. box_works mode told old new text status journal (ends.no_box nine) is works in
+    grind (arith, not_one, not_four, not_six, not_seven, not_eight, not_nine)
 
 -- so does the status, where no fault was counted
 pub completes : (mode : Mode) (told old new : Option (List ℕ)) (text : List ℕ) (status due : ℕ) (journal : List JournalLine)
-    → (due ≡ 0) ⊎ (due ≡ 1) ⊎ (due ≡ 3) ⊎ (due ≡ 4) ⊎ (due ≡ 6) ⊎ (due ≡ 7) ⊎ (due ≡ 8) → (status ≡ due) ⊎ (status ≡ 5) → Ends mode told old new status due journal
+    → (due ≡ 0) ⊎ (due ≡ 1) ⊎ (due ≡ 3) ⊎ (due ≡ 4) ⊎ (due ≡ 6) ⊎ (due ≡ 7) ⊎ (due ≡ 8) ⊎ (due ≡ 9) → (status ≡ due) ⊎ (status ≡ 5) → Ends mode told old new status due journal
     → told ≡ Some text → WorksOn mode text → (due ≡ 4 → ⊥) → (status ≡ 5 → ⊥) → (status ≡ 0) ⊎ (status ≡ 3)
 completes mode told old new text status due journal dues either ends is works not_four not_five =
     let out = works_out mode told old new text status due journal dues ends is works not_four in

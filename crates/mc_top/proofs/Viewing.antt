@@ -29,6 +29,7 @@ use Rattle.mc_path_laws.proofs.Returns.{walk_back}
 use Rattle.mc_text.specs.NameLists.{NameLists}
 use Rattle.mc_script.specs.Meaning.{goal_word}
 use Rattle.mc_net.specs.Nets.{NamesAll}
+use Rattle.mc_conf.specs.Printed.{AreNamedEnds, IsNamedParty}
 use Rattle.mc_table.specs.Shown.{IsNamedEnd, IsNamedView, hearing_line, hearing_lines, print_settle, view_line, view_text}
 use Rattle.mc_table.specs.Words.{IsNamedCodec, flow_word, line_of, medium_word}
 use Rattle.mc_top.specs.Printed.{hears_line, hears_lines, path_line, path_text, place_word, settle_text, state_word}
@@ -200,3 +201,27 @@ views_named names world all sound quiet =
     (λ k path within.
     let inside = are_inside world sound k path within in
     ends_named names world (slice_index_or (paths world) k path) all sound inside.0 inside.1 (quiet k path within).alike)
+
+-- ---- parties
+
+-- the box, the slot and the own codecs of an end have names
+party_named : (names : NameLists) (world : WorldState) (flowing : Bool) (s : ℕ) → NamesAll names world → IsSound world → s < slot_count world → IsNamedParty names (end_view world flowing s)
+party_named names world flowing s all sound inside = record {
+  box = subst (λ (n : ℕ). (place world s).0 < n) (sym all.boxes) (sound.numbered.placed s inside);
+  slot = subst (λ (n : ℕ). (place world s).1 < n) (sym (all.slots (place world s).0 (sound.numbered.placed s inside))) (sound.numbered.slots s inside);
+  codecs =
+      offered (box_at world (place world s).0).kind names (box_at world (place world s).0) (media_at (box_at world (place world s).0) (place world s).1) (place world s).1
+      (all.codecs (place world s).0);
+}
+
+-- so have those of all ends that are shown
+pub parties_named : (names : NameLists) (world : WorldState) → NamesAll names world → IsSound world → All (AreNamedEnds names) (map (view_of world) (paths world))
+parties_named names world all sound =
+    All-map (AreNamedEnds names) (view_of world) (paths world)
+    (λ k path within.
+    let inside = are_inside world sound k path within in
+    let there : PathEnds = slice_index_or (paths world) k path in
+    record {
+      low = party_named names world (path_flows world there) there.low all sound inside.0;
+      high = party_named names world (path_flows world there) there.high all sound inside.1;
+    })

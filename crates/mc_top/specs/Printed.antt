@@ -1,14 +1,17 @@
 -- What is printed at the settles of a journal, and for a faulty text or journal.
-use Rattle.std.specs.Prelude.{ℕ, ◌+◌, Bool, true, false, List, [], ◌∷◌, ◌++◌, codes, slice_index_or, Option, Some, None}
+use Rattle.std.specs.Prelude.{ℕ, ◌+◌, Bool, true, false, List, [], ◌∷◌, ◌++◌, codes, if◌then◌else◌, length, map, slice_index_or, Option, Some, None}
 use Rattle.std.specs.Fmt.{decimal}
-use Rattle.std.specs.List.{flat_map}
+use Rattle.std.specs.List.{flat_map, range_with_len}
+use Rattle.mc_box.specs.BoxShapes.{is_feature}
 use Rattle.mc_box.specs.declared.event.Turn.{Turn}
 use Rattle.mc_cause.specs.Causes.{why}
+use Rattle.mc_conf.specs.Printed.{print_conf}
 use Rattle.mc_slot.specs.declared.State.{State}
 use Rattle.mc_slot.specs.declared.State.TheVariants.{Flowing}
 use Rattle.mc_model.specs.PathTable.{path_state, low_hears, high_hears}
 use Rattle.mc_model.specs.Paths.{PathEnds, paths, end_goal}
-use Rattle.mc_model.specs.Worlds.{WorldState, tunnel_of, place}
+use Rattle.mc_model.specs.Worlds.{WorldState, box_at, tunnel_of, place}
+use Rattle.mc_path.specs.Views.{view_of}
 use Rattle.mc_text.specs.NameLists.{NameLists, slot_word}
 use Rattle.mc_script.specs.Meaning.{goal_word}
 use Rattle.mc_journal.specs.Printed.{print_journal}
@@ -19,7 +22,7 @@ use Rattle.mc_script.specs.declared.command.JournalLine.{JournalLine}
 use Rattle.mc_script.specs.declared.command.JournalLine.TheVariants.{Turn as Made, Settled}
 use Rattle.mc_top.specs.Summaries.{heading_text, summary_text}
 use Rattle.mc_top.specs.declared.report.Report.{Report}
-use Rattle.mc_top.specs.declared.report.Report.TheVariants.{Paths, Summary}
+use Rattle.mc_top.specs.declared.report.Report.TheVariants.{Conference, Paths, Summary}
 use Rattle.mc_top.specs.declared.stop.Stop.{Stop}
 use Rattle.mc_top.specs.declared.stop.Stop.TheVariants.{Restless, Ring, VersionEnd}
 
@@ -109,17 +112,27 @@ abbrev pub checked_text : (why : Bool) → NameLists → WorldState → List Jou
 checked_text false names world journal = journal_text names 1 world journal
 checked_text true names world journal = told_text names 1 world [] world journal
 
+-- whom a mixer at a box would let each party hear at a settle, after its paths
+abbrev pub conference_text : NameLists → (who : ℕ) → ℕ → WorldState → List ℕ
+conference_text names who number world = settle_text names number world ++ print_conf names who (map (view_of world) (paths world))
+
+-- the settles of a journal, each with its paths and a conference
+abbrev pub conferences_text : NameLists → (who : ℕ) → ℕ → WorldState → List JournalLine → List ℕ
+conferences_text names who number world journal = at_settles (conference_text names who) number world journal
+
 -- ---- what a run reports
 
 -- at a settle
 abbrev pub report_text : Report → NameLists → ℕ → WorldState → List ℕ
 report_text Paths names = settle_text names
 report_text (Summary number size) names = summary_text
+report_text (Conference who) names = conference_text names who
 
 -- in front of the first, of the first world
 abbrev pub opening_text : Report → WorldState → List ℕ
 opening_text Paths world = []
 opening_text (Summary number size) world = heading_text number size world
+opening_text (Conference who) world = []
 
 -- ---- a stop
 
@@ -164,6 +177,20 @@ run_text report asked names world stop journal = with_journal asked stop names j
 -- the first line that breaks a rule, and the least number of the rules that it breaks
 abbrev pub fault_line : ℕ → ℕ → List ℕ
 fault_line number line = line_of (codes "fault" ∷ decimal number ∷ codes "line" ∷ decimal line ∷ [])
+
+-- ---- no such box
+
+-- the name that no feature has
+abbrev pub no_box_line : List ℕ → List ℕ
+no_box_line name = line_of (codes "nobox" ∷ name ∷ [])
+
+-- a feature by its name, after a space, and no other box
+abbrev pub feature_word : NameLists → WorldState → ℕ → List ℕ
+feature_word names world who = if is_feature (box_at world who).kind then 32 ∷ box_word names who else []
+
+-- all features
+abbrev pub feature_words : NameLists → WorldState → List ℕ
+feature_words names world = flat_map (feature_word names world) (range_with_len 0 (length names.boxes))
 
 -- ---- a faulty journal
 

@@ -1,5 +1,5 @@
 -- What a person is to be told of how a call ended.
-use Rattle.std.specs.Prelude.{◌≡◌, ◌⊎◌, ℕ, ◌+◌, List, [], ◌∷◌, codes, IfSome, None, Option, Some, String, if◌then◌else◌, map, string_bytes}
+use Rattle.std.specs.Prelude.{◌≡◌, ◌⊎◌, ℕ, ◌+◌, List, Vec, [], ◌∷◌, codes, IfSome, None, Option, Some, String, if◌then◌else◌, map, string_bytes}
 use Rattle.std.specs.declared.alloc.Global.{Global}
 use Rattle.std.specs.Io.KnownBytes.{Appends}
 use Rattle.mc_explain.specs.Reasons.{line_at}
@@ -18,8 +18,8 @@ use Rattle.mc_script.specs.declared.command.JournalLine.{JournalLine}
 use Rattle.mc_table.specs.Words.{line_of}
 use Rattle.mc_top.specs.Behind.{IsLineOfFault}
 use Rattle.mc_top.specs.Modes.{tail_of, text_for}
-use Rattle.mc_top.specs.Printed.{fault_line, journal_fault_line, stop_word}
-use Rattle.mc_top.specs.declared.status.TheConstants.{WORKED, FAULTY_TEXT, VERSION_END, USAGE, NO_MEMORY, READ_FAULT, RESTLESS, RING, WRITE_FAULT, JOURNAL_FAULT}
+use Rattle.mc_top.specs.Printed.{fault_line, feature_words, journal_fault_line, no_box_line, stop_word}
+use Rattle.mc_top.specs.declared.status.TheConstants.{WORKED, FAULTY_TEXT, VERSION_END, USAGE, NO_MEMORY, READ_FAULT, RESTLESS, RING, WRITE_FAULT, JOURNAL_FAULT, NO_BOX}
 use Rattle.mc_top.specs.declared.stop.Stop.{Stop}
 use Rattle.mc_top.specs.declared.top.Done.{Done}
 use Rattle.mc_words.specs.Commands.{IsCommand}
@@ -28,10 +28,11 @@ use Rattle.mc_words.specs.declared.words.Mode.{Mode}
 
 -- ---- faults
 
--- what is told of a fault beside its number: of a text's the line, its bytes, and what else is known; of a journal's the line of the text and its bytes
+-- what is told of a fault beside its number: of a text's the line, its bytes, and what else is known; of a journal's the line of the text and its bytes; and where no feature has a name, which ones there are
 pub data Told : Type 0 where
   of_text : (number line : ℕ) (shown : List ℕ) (detail : Detail) → Told
   of_journal : (line : ℕ) (shown : List ℕ) → Told
+  of_box : (features : List ℕ) → Told
 
 -- the text has the fault of this number on this line, these bytes are the line's, as far as a line may have some, and this is what else is known of the fault
 abbrev pub IsTextFaultOf : Tail → (text : List ℕ) → (number line : ℕ) → (shown : List ℕ) → Detail → Type 0
@@ -42,15 +43,21 @@ abbrev pub IsJournalFaultOf : Tail → (text : List ℕ) → (line : ℕ) → (s
 IsJournalFaultOf Nothing text line shown = ⊥
 IsJournalFaultOf Journal text line shown = (net : Net) × DeclaresNet Journal text net × IsLineOfFault text net line × (shown ≡ line_at line text)
 
--- what is told is the fault of a text, or of its journal
+-- these are the features of a network that the text declares
+abbrev pub AreFeaturesOf : Tail → (text : List ℕ) → (features : List ℕ) → Type 0
+AreFeaturesOf tail text features = (net : Net) × DeclaresNet tail text net × (features ≡ feature_words net.names net.world)
+
+-- what is told is the fault of a text, or of its journal, or its features
 abbrev pub IsFaultOf : Tail → (text : List ℕ) → Told → Type 0
 IsFaultOf tail text (of_text number line shown detail) = IsTextFaultOf tail text number line shown detail
 IsFaultOf tail text (of_journal line shown) = IsJournalFaultOf tail text line shown
+IsFaultOf tail text (of_box features) = AreFeaturesOf tail text features
 
 -- so it is of what is told of a text, of which only the first bytes are read; a fault of the text is one of the whole, too
 abbrev pub IsFaultOfTold : Tail → (told : Option (List ℕ)) → Told → Type 0
 IsFaultOfTold tail told (of_text number line shown detail) = IfSome told (λ text. IsFault tail text number line × IsTextFaultOf tail (first_bytes tail text) number line shown detail)
 IsFaultOfTold tail told (of_journal line shown) = IfSome told (λ text. IsJournalFaultOf tail (first_bytes tail text) line shown)
+IsFaultOfTold tail told (of_box features) = IfSome told (λ text. AreFeaturesOf tail text features)
 
 -- and of the text on which the mode works that the words ask for
 abbrev pub IsFaultByWords : List (String Global) → (left : Option (List ℕ)) → Told → Type 0
@@ -72,6 +79,7 @@ Explains Tells (reason.VersionEnd place settle) status old new journal = (status
 Explains Tells (reason.Ring place settle) status old new journal = (status ≡ RING) × TellsStop (codes "ring") place.items settle old new journal
 Explains Tells (reason.Restless place settle) status old new journal = (status ≡ RESTLESS) × TellsStop (codes "restless") place.items settle old new journal
 Explains Tells (reason.FaultyJournal number turn line text) status old new journal = (status ≡ JOURNAL_FAULT) × Appends old new (journal_fault_line number turn) × Tells (of_journal line text.items)
+Explains Tells (reason.NoBox place features) status old new journal = (status ≡ NO_BOX) × Appends old new (no_box_line place.items) × Tells (of_box features.items)
 Explains Tells reason.NoMemory status old new journal = status ≡ NO_MEMORY
 Explains Tells reason.ReadFault status old new journal = status ≡ READ_FAULT
 Explains Tells reason.WriteFault status old new journal = status ≡ WRITE_FAULT
@@ -98,3 +106,9 @@ HasPlace word line = (place : List ℕ) × (line ≡ line_of (word ∷ place ∷
 abbrev pub PrintsStop : Option Stop → (output : List ℕ) → Type 0
 PrintsStop None output = Unit {0}
 PrintsStop (Some stop) output = HasPlace (stop_word stop) output
+
+-- ---- boxes
+
+-- the reason is that no feature has this name, with the words of those that there are
+abbrev pub IsNoBox : (place features : List ℕ) → Reason → Type 0
+IsNoBox place features told = (name : Vec ℕ Global) × (words : Vec ℕ Global) × (told ≡ reason.NoBox name words) × (name.items ≡ place) × (words.items ≡ features)

@@ -1,5 +1,6 @@
 -- What is shown at the marks of a journal that is checked, and printed.
-use Rattle.std.specs.Prelude.{◌≡◌, ℕ, ◌+◌, List, [], ◌∷◌, ◌++◌, map, Option}
+use Rattle.std.specs.Prelude.{◌≡◌, ℕ, ◌+◌, List, [], ◌∷◌, ◌++◌, ◌<◌, length, map, Option}
+use Rattle.mc_conf.specs.Printed.{print_conf}
 use Rattle.mc_model.specs.Paths.{paths}
 use Rattle.mc_model.specs.Worlds.{WorldState}
 use Rattle.mc_path.specs.Views.{view_of}
@@ -8,7 +9,7 @@ use Rattle.mc_table.specs.Whys.{print_whys}
 use Rattle.mc_table.specs.Summaries.{print_summary}
 use Rattle.mc_text.specs.NameLists.{NameLists}
 use Rattle.mc_top.specs.declared.report.Report.{Report}
-use Rattle.mc_top.specs.declared.report.Report.TheVariants.{Paths, Summary}
+use Rattle.mc_top.specs.declared.report.Report.TheVariants.{Conference, Paths, Summary}
 use Rattle.mc_view.specs.declared.PathView.{PathView}
 
 -- these are the views of all paths of a world
@@ -30,3 +31,9 @@ printed_text names number (views ∷ shown) (whys ∷ told) = (print_settle name
 abbrev pub print_report : Report → NameLists → ℕ → List PathView → List ℕ
 print_report Paths names number views = print_settle names number views
 print_report (Summary first size) names number views = print_summary number views
+print_report (Conference who) names number views = print_settle names number views ++ print_conf names who views
+
+-- the box of a conference has a name
+abbrev pub HasNamedBox : NameLists → Report → Type 0
+HasNamedBox names (Conference who) = who < length names.boxes
+HasNamedBox names report = Unit {0}

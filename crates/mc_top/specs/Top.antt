@@ -16,17 +16,18 @@ use Rattle.mc_replay.specs.Segments.{EachKeepsShiftLimit}
 use Rattle.mc_top.specs.Behind.{HasJournal, HasJournalFault}
 use Rattle.mc_top.specs.Drawn.{FollowsDraws, IsDrawnJournal}
 use Rattle.mc_top.specs.Journals.{IsStoppedJournal, ShowsCause}
-use Rattle.mc_top.specs.Modes.{checks, draws_from, output_of, reads, tail_of}
-use Rattle.mc_top.specs.Printed.{fault_line, journal_fault_line, stop_line}
+use Rattle.mc_top.specs.Modes.{checks, draws_from, has_box, output_of, reads, tail_of}
+use Rattle.mc_top.specs.Printed.{fault_line, journal_fault_line, no_box_line, stop_line}
 use Rattle.mc_top.specs.Statuses.{keeps_journal, stop_status}
 use Rattle.mc_scene.specs.Generated.{generated}
 use Rattle.mc_scene.specs.Scenes.{scene_text}
 use Rattle.mc_script.specs.declared.command.JournalLine.{JournalLine}
-use Rattle.mc_top.specs.declared.status.TheConstants.{WORKED, FAULTY_TEXT, USAGE, NO_MEMORY, READ_FAULT, RESTLESS, RING, WRITE_FAULT, JOURNAL_FAULT}
+use Rattle.mc_top.specs.declared.status.TheConstants.{WORKED, FAULTY_TEXT, USAGE, NO_MEMORY, READ_FAULT, RESTLESS, RING, WRITE_FAULT, JOURNAL_FAULT, NO_BOX}
 use Rattle.mc_top.specs.declared.stop.Stop.{Stop}
 use Rattle.mc_top.specs.declared.top.Done.{Done}
 use Rattle.mc_words.specs.declared.words.Mode.{Mode}
-use Rattle.mc_words.specs.declared.words.Mode.TheVariants.{Check, Gen, One, Run, Scene}
+use Rattle.mc_words.specs.declared.words.Mode.TheVariants.{Check, Conf, Gen, One, Run, Scene}
+use Rattle.mc_words.specs.Commands.{name_for}
 
 -- the one line that is printed for words that are no command
 abbrev pub usage_text : List ℕ
@@ -62,6 +63,7 @@ IsTextFor (One state journal) left text = IsTextOf Nothing left text
 IsTextFor (Check why) left text = IsTextOf Journal left text
 IsTextFor (Gen number size) left text = text ≡ generated number size
 IsTextFor (Scene scene) left text = text ≡ scene_text scene
+IsTextFor (Conf name) left text = IsTextOf Nothing left text
 
 -- The journal is one settled segment for each settle, in order, all of them one run from the network's first world: the interleaving of the boxes. At each settle the two end slots of every path are in the state that the path table gives, and where it flows each has the other's newest descriptor and the choice for its own. Which interleaving it is the draws decide, from their first state on, where there are draws: in a sound world there is no other such journal
 pub record Settles (net : Net) (draws : Option ℕ) (journal : List JournalLine) : Type 0 where
@@ -89,6 +91,7 @@ ToldJournal Journal told net journal = IfSome told (λ text. HasJournal text net
 pub record Worked (mode : Mode) (told old new : Option (List ℕ)) (status : ℕ) (journal : List JournalLine) : Type 0 where
   pub net : Net
   pub declared : ToldDeclares (tail_of mode) told net
+  pub box : IsTrue (has_box mode net.names net.world)
   pub told_journal : ToldJournal (tail_of mode) told net journal
   pub settles : Settles net (draws_from mode) journal
   pub shift_limit : IsFalse (checks mode) → EachKeepsShiftLimit journal
@@ -112,12 +115,21 @@ pub record RefusesCheck (told old new : Option (List ℕ)) (status : ℕ) (journ
   pub delivered : Delivers status JOURNAL_FAULT old new (journal_fault_line number turn)
   pub no_journal : journal ≡ []
 
+-- the network that the text declares has no feature of the name that a mode is about, and the one line that says so was delivered. Nothing was settled
+pub record RefusesBox (mode : Mode) (told old new : Option (List ℕ)) (status : ℕ) (journal : List JournalLine) : Type 0 where
+  pub net : Net
+  pub declared : ToldDeclares (tail_of mode) told net
+  pub none : IsFalse (has_box mode net.names net.world)
+  pub delivered : Delivers status NO_BOX old new (no_box_line (name_for mode))
+  pub no_journal : journal ≡ []
+
 -- The script of the network that the text declares stopped, and the one line that says where was delivered. The journal is the settled segments before, and the turns up to the stop: replayed, they lead to a world that shows the cause. Where the mode draws, the draws decide which turns these are. In no segment, nor up to the stop, does a box make more Shifts than the limit
 pub record StopsScript (mode : Mode) (told old new : Option (List ℕ)) (status due : ℕ) (journal : List JournalLine) : Type 0 where
   pub net : Net
   pub stop : Stop
   pub runs : IsFalse (checks mode)
   pub declared : ToldDeclares (tail_of mode) told net
+  pub box : IsTrue (has_box mode net.names net.world)
   pub due_is : due ≡ stop_status stop
   pub sound : IsSound net.world
   pub settled : IsStoppedJournal stop net.world (map batch_turns net.batches.items) journal
@@ -132,6 +144,7 @@ pub record Ends (mode : Mode) (told old new : Option (List ℕ)) (status due : �
   pub refused : due ≡ FAULTY_TEXT → Refused mode told old new status journal ⊎ StopsScript mode told old new status due journal
   pub at_stop : (due ≡ RESTLESS) ⊎ (due ≡ RING) → StopsScript mode told old new status due journal
   pub check_refused : due ≡ JOURNAL_FAULT → IsTrue (checks mode) × RefusesCheck told old new status journal
+  pub no_box : due ≡ NO_BOX → RefusesBox mode told old new status journal
   pub gave_up : (due ≡ NO_MEMORY) ⊎ (due ≡ READ_FAULT) → (status ≡ due) × Keeps old new
   pub no_journal : IsFalse (keeps_journal due) → journal ≡ []
 

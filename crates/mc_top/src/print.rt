@@ -4,7 +4,7 @@ ghost use Rattle.std.specs.Fmt.{decimal};
 ghost use Rattle.mc_journal.specs.Printed.{IsNamedLine};
 ghost use Rattle.mc_table.specs.Words.{line_of};
 ghost use Rattle.mc_text.specs.NameLists.{slot_names, slot_word};
-ghost use Rattle.mc_top.specs.Printed.{box_word, fault_line, journal_fault_line, journal_part, stop_word};
+ghost use Rattle.mc_top.specs.Printed.{box_word, fault_line, journal_fault_line, journal_part, no_box_line, stop_word};
 
 use crate::stop::Stop;
 use mc_journal::print_journal;
@@ -75,6 +75,15 @@ pub fn print_fault(alloc: Global, fault: TextFault) -> Result<Vec<u8>, AllocErro
     ensures { IfOk result (λ line. line.items ≡ fault_line fault.number fault.line) }
 {
     print_numbers(alloc, fault.number, b"line", fault.line)
+}
+
+/// The line that is printed where no feature has a name.
+pub fn print_no_box(alloc: Global, name: &[u8]) -> Result<Vec<u8>, AllocError>
+    ensures { IfOk result (λ line. line.items ≡ no_box_line name.now) }
+{
+    let mut out = Vec::new(alloc);
+    put_line(b"nobox", &[name], &mut out)?;
+    Ok(out)
 }
 
 /// The line that is printed for a journal's first fault.

@@ -1,16 +1,21 @@
 // What a person is to be told of a script that was run.
 
-ghost use Rattle.std.specs.Prelude.{◌≡◌, ◌≤◌, ◌∷◌, [], IfOk, List, length, ℕ};
+ghost use Rattle.std.specs.Prelude.{◌≡◌, ◌≤◌, ◌<◌, ◌∷◌, ◌++◌, [], IfOk, List, OnOk, length, ℕ};
+ghost use Rattle.mc_net.specs.Nets.{NamesAll};
+ghost use Rattle.mc_top.specs.Printed.{feature_word, feature_words};
 ghost use Rattle.mc_lines.specs.declared.tail.Tail.{Tail};
 ghost use Rattle.mc_replay.specs.Points.{is_mark, marks_in};
 ghost use Rattle.mc_table.specs.Words.{line_of};
-ghost use Rattle.mc_top.specs.Reasons.{ExplainsDue, HasPlace, IsFaultOf, PrintsStop};
+ghost use Rattle.mc_top.specs.Reasons.{ExplainsDue, HasPlace, IsFaultOf, IsNoBox, PrintsStop};
 ghost use Rattle.mc_top.specs.Statuses.{due_by};
 
 use crate::run::Run;
 use crate::stop::Stop;
+use mc_box::Kind;
 use mc_explain::Reason;
 use mc_script::JournalLine;
+use mc_text::Names;
+use mc_world::World;
 use std::alloc::{AllocError, Global};
 
 /// What is to be told of a script that stopped, or came to its end: of a stop, what was printed for it, and the settle.
@@ -35,6 +40,51 @@ pub fn reason_of(alloc: Global, run: &Run) -> Result<Reason, AllocError>
             Ok(Reason::Restless { place, settle })
         }
     }
+}
+
+/// What is to be told where no feature has a name: the name, and those of the features.
+pub fn no_box_reason(
+    alloc: Global,
+    name: &[u8],
+    names: &Names,
+    world: &World,
+) -> Result<Reason, AllocError>
+    requires { NamesAll names.now world.now }
+    ensures { IfOk result (IsNoBox name.now (feature_words names.now world.now)) }
+{
+    let place = Vec::from_slice(alloc, name)?;
+    let features = feature_words(alloc, names, world)?;
+    Ok(Reason::NoBox { place, features })
+}
+
+// The names of the features, each after a space.
+fn feature_words(alloc: Global, names: &Names, world: &World) -> Result<Vec<u8>, AllocError>
+    requires { NamesAll names.now world.now }
+    ensures { IfOk result (λ words. words.items ≡ feature_words names.now world.now) }
+{
+    let mut words = Vec::new(alloc);
+    for who in 0..names.box_count() {
+        put_feature(names, world, who as u32, &mut words)?;
+    }
+    Ok(words)
+}
+
+// Appends the name of a box after a space, if it is a feature.
+fn put_feature(
+    names: &Names,
+    world: &World,
+    who: u32,
+    words: &mut Vec<u8>,
+) -> Result<(), AllocError>
+    requires named { NamesAll names.now world.now }
+    requires who { who < length names.now.boxes }
+    ensures { OnOk result (words.new.items ≡ words.old.items ++ feature_word names.now world.now who) }
+{
+    if world.boxes()[who as usize].kind() == Kind::Feature {
+        words.push(b' ')?;
+        words.extend_from_slice(names.box_name(who))?;
+    }
+    Ok(())
 }
 
 // The second word of a line of two, of which this is the first.

@@ -1,10 +1,12 @@
 //! What a run reports at its settles.
-ghost use Rattle.std.specs.Prelude.{◌≡◌, All, IfOk, length};
-ghost use Rattle.mc_table.specs.Shown.{IsNamedView};
+ghost use Rattle.std.specs.Prelude.{◌≡◌, ◌++◌, ◌<◌, All, IfOk, length};
+ghost use Rattle.mc_conf.specs.Printed.{AreNamedEnds, print_conf};
+ghost use Rattle.mc_table.specs.Shown.{IsNamedView, print_settle};
 ghost use Rattle.mc_top.specs.Printed.{opening_text};
-ghost use Rattle.mc_top.specs.Shown.{print_report};
+ghost use Rattle.mc_top.specs.Shown.{HasNamedBox, print_report};
 ghost use Rattle.mc_top.specs.Summaries.{heading_text};
 
+use mc_conf::print_conf;
 use mc_table::{print_settle, print_summary, put_line};
 use mc_text::Names;
 use mc_view::PathView;
@@ -18,6 +20,8 @@ pub enum Report {
     Paths,
     /// Counts of them alone. In front stand the words that ask for it, and how many boxes and channels there are.
     Summary { number: u32, size: u32 },
+    /// Each path, and who hears what on it, and then whom a mixer at a box would let each party hear.
+    Conference { who: u32 },
 }
 
 /// What is reported at a settle, by its number and the paths that are shown.
@@ -28,13 +32,36 @@ pub fn print_report(
     number: u32,
     views: &[PathView],
 ) -> Result<Vec<u8>, AllocError>
-    requires { All (IsNamedView names.now) views.now }
+    requires views { All (IsNamedView names.now) views.now }
+    requires ends { All (AreNamedEnds names.now) views.now }
+    requires who { HasNamedBox names.now report }
     ensures { IfOk result (λ text. text.items ≡ print_report report names.now number views.now) }
 {
     match report {
         Report::Paths => print_settle(alloc, names, number, views),
         Report::Summary { .. } => print_summary(alloc, number, views),
+        Report::Conference { who } => print_conference(alloc, names, who, number, views),
     }
+}
+
+// The paths of a settle, and then the conference at a box.
+fn print_conference(
+    alloc: Global,
+    names: &Names,
+    who: u32,
+    number: u32,
+    views: &[PathView],
+) -> Result<Vec<u8>, AllocError>
+    requires views { All (IsNamedView names.now) views.now }
+    requires ends { All (AreNamedEnds names.now) views.now }
+    requires who { who < length names.now.boxes }
+    ensures { IfOk result (λ text. text.items
+        ≡ print_settle names.now number views.now ++ print_conf names.now who views.now) }
+{
+    let mut text = print_settle(alloc, names, number, views)?;
+    let conference = print_conf(alloc, names, who, views)?;
+    text.extend_from_slice(&conference)?;
+    Ok(text)
 }
 
 /// What stands in front of the first settle of a world.
@@ -44,6 +71,7 @@ pub fn print_opening(alloc: Global, report: Report, world: &World) -> Result<Vec
     match report {
         Report::Paths => Ok(Vec::new(alloc)),
         Report::Summary { number, size } => print_heading(alloc, number, size, world),
+        Report::Conference { .. } => Ok(Vec::new(alloc)),
     }
 }
 

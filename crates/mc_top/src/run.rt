@@ -19,7 +19,7 @@ ghost use Rattle.mc_top.specs.Journals.{IsJournalTo, ShowsCause};
 ghost use Rattle.mc_top.specs.Outcomes.{CameOf, EndsAt, EndsBy, IsNamedFault};
 ghost use Rattle.mc_top.specs.Printed.{box_word, script_text, stop_word, with_journal};
 ghost use Rattle.mc_top.specs.Scripts.{FollowSchedule, first_state};
-ghost use Rattle.mc_top.specs.Shown.{print_report};
+ghost use Rattle.mc_top.specs.Shown.{HasNamedBox, print_report};
 ghost use Rattle.mc_top.specs.declared.stop.Stop.TheVariants.{Restless};
 
 use crate::print::{print_restless, print_stop, put_journal};
@@ -102,6 +102,7 @@ impl Progress {
     ) -> Result<Outcome, AllocError>
         requires allowed { AreAllowed self.world batch.now }
         requires named { NamesAll names.now self.world }
+        requires who { HasNamedBox names.now report }
         ensures { IfOk result (λ outcome. CameOf report names.now number batch.now self outcome) }
     {
         let Progress {
@@ -176,6 +177,7 @@ fn keep_settle(
     output: &mut Vec<u8>,
 ) -> Result<(), AllocError>
     requires named { NamesAll names.now settled.now.world }
+    requires who { HasNamedBox names.now report }
     requires quiet { IsTrue (is_quiet settled.now.world) }
     ensures journal { OnOk result (journal.new.items ≡ journal.old.items ++ lines_for settled.now.turns.items) }
     ensures output { OnOk result (output.new.items ≡ output.old.items
@@ -286,7 +288,7 @@ fn log(turns: &[Turn], journal: &mut Vec<JournalLine>) -> Result<(), AllocError>
 /// that where a batch stops, and then the line of the stop is all that it prints. Where there are draws it settles by
 /// these, which go on from settle to settle, and else with the boxes' turns in any order.
 ///
-/// All that the world has is named, the world allows each command, and there are no more batches than a text may have
+/// All that the world has is named, and so is the box of a conference; the world allows each command, and there are no more batches than a text may have
 /// commands.
 pub fn run_script<R: Threads + Sync, G: Gate + Sync>(
     rt: &R,
@@ -299,6 +301,7 @@ pub fn run_script<R: Threads + Sync, G: Gate + Sync>(
     batches: &[Batch],
 ) -> Result<Run, AllocError>
     requires named { NamesAll names.now world }
+    requires who { HasNamedBox names.now report }
     requires allowed { AreAllAllowed world (map batch_turns batches.now) }
     requires few { length batches.now ≤ COMMAND_LIMIT }
     ensures ran { IfOk result (λ run. IsJournalTo run.stop world (map batch_turns batches.now) run.journal.items) }

@@ -29,3 +29,6 @@ pub const RING: u8 = 7;
 
 /// The journal that is checked has a fault.
 pub const JOURNAL_FAULT: u8 = 8;
+
+/// The text declares no feature of the name that the words have.
+pub const NO_BOX: u8 = 9;

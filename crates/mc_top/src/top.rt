@@ -23,7 +23,7 @@ ghost use Rattle.mc_top.specs.Behind.{HasJournal, HasJournalFault, IsLineOfFault
 ghost use Rattle.mc_top.specs.Refusals.{RefusesCheckBy, RefusesTail};
 ghost use Rattle.mc_top.specs.Drawn.{FollowsDraws};
 ghost use Rattle.mc_top.specs.Journals.{IsJournalTo, ShowsCause};
-ghost use Rattle.mc_top.specs.Modes.{AsksToRead, IsWithinLimits, IsWorkable, checks, draws_from, reads, report_of, tail_of, text_for};
+ghost use Rattle.mc_top.specs.Modes.{AsksToRead, IsWithinLimits, IsWorkable, checks, draws_from, has_box, reads, report_of, tail_of, text_for};
 ghost use Rattle.mc_top.specs.Printed.{checked_text, run_text};
 ghost use Rattle.mc_top.specs.Reasons.{EndsFor, Explains, IsFaultByWords, IsFaultOf, IsFaultOfTold, usage_reason};
 ghost use Rattle.mc_top.specs.Statuses.{IsDue, IsDueForMode, IsDueForText, due_by, judges_text, keeps_journal};
@@ -35,12 +35,12 @@ ghost use Rattle.mc_words.specs.declared.words.Mode.TheVariants.{Check, Scene as
 
 use crate::behind::{journal_behind, journal_line};
 use crate::checking::{TailFault, TailPlace, check_script, tell_script};
-use crate::modes::{draws_from, report_of, tail_of};
-use crate::print::{print_fault, print_journal_fault};
-use crate::reasons::reason_of;
+use crate::modes::{draws_from, has_box, report_of, tail_of};
+use crate::print::{print_fault, print_journal_fault, print_no_box};
+use crate::reasons::{no_box_reason, reason_of};
 use crate::run::{Run, run_script, with_journal};
 use crate::status::{
-    FAULTY_TEXT, JOURNAL_FAULT, NO_MEMORY, READ_FAULT, USAGE, WORKED, WRITE_FAULT,
+    FAULTY_TEXT, JOURNAL_FAULT, NO_BOX, NO_MEMORY, READ_FAULT, USAGE, WORKED, WRITE_FAULT,
 };
 use crate::stop::due_by;
 use mc_box::Shape;
@@ -83,6 +83,7 @@ fn text_of<S: Source>(alloc: Global, mode: Mode, source: &mut S) -> Result<Vec<u
         Mode::Run { .. } => read_up_to(alloc, source, TEXT_LIMIT),
         Mode::One { .. } => read_up_to(alloc, source, TEXT_LIMIT),
         Mode::Check { .. } => read_up_to(alloc, source, JOURNAL_TEXT_LIMIT),
+        Mode::Conf { .. } => read_up_to(alloc, source, TEXT_LIMIT),
         Mode::Gen { number, size } => Ok(generated(alloc, number, size)?),
         Mode::Scene { scene } => Ok(scene_text(alloc, scene)?),
     }
@@ -211,6 +212,7 @@ fn run_by_mode<R: Threads + Sync, G: Gate + Sync>(
     batches: &[Batch],
 ) -> Result<Run, AllocError>
     requires named { NamesAll names.now world }
+    requires who { IsTrue (has_box mode names.now world) }
     requires lines { (journal : List JournalLine) → IsJournalTo None world (map batch_turns batches.now) journal
         → All (IsNamedLine names.now) journal }
     requires allowed { AreAllAllowed world (map batch_turns batches.now) }
@@ -222,10 +224,10 @@ fn run_by_mode<R: Threads + Sync, G: Gate + Sync>(
     ensures holds { IfOk result (λ run. HoldsAtSettles world run.journal.items) }
     ensures shows { IfOk result (λ run. ShowsCause run.stop world (map batch_turns batches.now)) }
     ensures output { IfOk result (λ run. run.output.items
-        ≡ run_text (report_of mode) (prints_journal mode) names.now world run.stop run.journal.items) }
+        ≡ run_text (report_of mode names.now) (prints_journal mode) names.now world run.stop run.journal.items) }
 {
     let draws = draws_from(mode);
-    let report = report_of(mode);
+    let report = report_of(mode, names);
     let run = run_script(rt, alloc, gate, report, names, world, draws, batches)?;
     with_journal(alloc, mode.prints_journal(), names, run)
 }
@@ -241,6 +243,7 @@ fn run_by_net<R: Threads + Sync, G: Gate + Sync>(
 ) -> Result<Run, AllocError>
     requires declares { DeclaresNet (tail_of mode) text.now net }
     requires named { NamesAll net.names net.world }
+    requires who { IsTrue (has_box mode net.names net.world) }
     requires allowed { AreAllAllowed net.world (map batch_turns net.batches.items) }
     requires few { length net.batches.items ≤ COMMAND_LIMIT }
     ensures ran { IfOk result (λ run.
@@ -251,7 +254,7 @@ fn run_by_net<R: Threads + Sync, G: Gate + Sync>(
     ensures holds { IfOk result (λ run. HoldsAtSettles net.world run.journal.items) }
     ensures shows { IfOk result (λ run. ShowsCause run.stop net.world (map batch_turns net.batches.items)) }
     ensures output { IfOk result (λ run. run.output.items
-        ≡ run_text (report_of mode) (prints_journal mode) net.names net.world run.stop run.journal.items) }
+        ≡ run_text (report_of mode net.names) (prints_journal mode) net.names net.world run.stop run.journal.items) }
 {
     let Net {
         world,
@@ -276,6 +279,7 @@ fn run_net<R: Threads + Sync, K: Sink, G: Gate + Sync>(
     requires runs { IsFalse (checks mode) }
     requires declares { DeclaresNet (tail_of mode) text.now net }
     requires named { NamesAll net.names net.world }
+    requires who { IsTrue (has_box mode net.names net.world) }
     requires allowed { AreAllAllowed net.world (map batch_turns net.batches.items) }
     requires few { length net.batches.items ≤ COMMAND_LIMIT }
     ensures statuses { IsDueForText result.due }
@@ -293,6 +297,65 @@ fn run_net<R: Threads + Sync, K: Sink, G: Gate + Sync>(
         return give_up(alloc, NO_MEMORY, Reason::NoMemory);
     };
     deliver_run(sink, run, reason)
+}
+
+// Writes the line that says that no feature has the name of the box that a mode is about.
+fn refuse_box<K: Sink>(
+    alloc: Global,
+    mode: Mode,
+    text: &[u8],
+    names: &Names,
+    world: &World,
+    sink: &mut K,
+) -> Done
+    requires named { NamesAll names.now world.now }
+    requires none { IsFalse (has_box mode names.now world.now) }
+    ensures statuses { (result.due ≡ NO_BOX) ⊎ (result.due ≡ NO_MEMORY) }
+    ensures status { (result.status ≡ result.due) ⊎ (result.status ≡ WRITE_FAULT) }
+    ensures ends { (net : Net) → DeclaresNet (tail_of mode) text.now net → net.names ≡ names.now
+        → net.world ≡ world.now → EndsAs mode (Some text.now) (K.written sink.old) (K.written sink.new) result }
+    ensures reason { (net : Net) → DeclaresNet (tail_of mode) text.now net → net.names ≡ names.now
+        → net.world ≡ world.now → Explains (IsFaultOf (tail_of mode) text.now) result.reason result.status
+        (K.written sink.old) (K.written sink.new) result.journal.items }
+    ensures fault { K.faults sink.new ≡ faults_after (K.faults sink.old) (result.status == WRITE_FAULT) }
+{
+    let name = mode.box_name();
+    let Ok(reason) = no_box_reason(alloc, name, names, world) else {
+        return give_up(alloc, NO_MEMORY, Reason::NoMemory);
+    };
+    match print_no_box(alloc, name) {
+        Ok(line) => deliver(sink, NO_BOX, &line, Vec::new(alloc), reason),
+        Err(_) => give_up(alloc, NO_MEMORY, Reason::NoMemory),
+    }
+}
+
+// Runs the script of the network that a text declares, if it has the box that the mode is about.
+fn run_boxed<R: Threads + Sync, K: Sink, G: Gate + Sync>(
+    rt: &R,
+    alloc: Global,
+    gate: &G,
+    mode: Mode,
+    text: &[u8],
+    net: Net,
+    sink: &mut K,
+) -> Done
+    requires runs { checks mode ≡ false }
+    requires declares { DeclaresNet (tail_of mode) text.now net }
+    requires named { NamesAll net.names net.world }
+    requires allowed { AreAllAllowed net.world (map batch_turns net.batches.items) }
+    requires few { length net.batches.items ≤ COMMAND_LIMIT }
+    ensures statuses { IsDueForText result.due }
+    ensures status { (result.status ≡ result.due) ⊎ (result.status ≡ WRITE_FAULT) }
+    ensures ends { EndsAs mode (Some text.now) (K.written sink.old) (K.written sink.new) result }
+    ensures reason { Explains (IsFaultOf (tail_of mode) text.now) result.reason result.status
+        (K.written sink.old) (K.written sink.new) result.journal.items }
+    ensures fault { K.faults sink.new ≡ faults_after (K.faults sink.old) (result.status == WRITE_FAULT) }
+{
+    if has_box(mode, &net.names, &net.world) {
+        run_net(rt, alloc, gate, mode, text, net, sink)
+    } else {
+        refuse_box(alloc, mode, text, &net.names, &net.world, sink)
+    }
 }
 
 // Writes the line of a journal's first fault.
@@ -473,7 +536,7 @@ fn work_on<R: Threads + Sync, K: Sink, G: Gate + Sync>(
 {
     match mode {
         Mode::Check { why } => check_net(alloc, why, text, net, sink),
-        _ => run_net(rt, alloc, gate, mode, text, net, sink),
+        _ => run_boxed(rt, alloc, gate, mode, text, net, sink),
     }
 }
 

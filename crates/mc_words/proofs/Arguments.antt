@@ -24,6 +24,7 @@ few_words (mode.One state journal) words (word, is, spelt) = let n : length word
 few_words (mode.Check why) words is = let n : length words ≡ 1 = ap length is in omega arith
 few_words (mode.Gen number size) words (word, size_word, is, spelt, sized, some) = let n : length words ≡ 3 = ap length is in omega arith
 few_words (mode.Scene scene) words is = let n : length words ≡ 2 = ap length is in omega arith
+few_words (mode.Conf name) words (is, spelt) = let n : length words ≡ 2 = ap length is in omega arith
 
 -- so more words, or others among which there is another flag, ask for none
 pub asks_for_few : (words : List (List ℕ)) → (AreFew words → ⊥) → (m : Mode) → Asks words m → ⊥

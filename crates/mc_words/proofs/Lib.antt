@@ -1,2 +1,3 @@
+mod BoxNames
 pub mod Arguments
 pub mod OneMode

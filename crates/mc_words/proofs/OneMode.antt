@@ -1,8 +1,10 @@
 -- The words ask for one mode.
-use Rattle.std.proofs.Common.{◌≡◌, ◌<◌, ◌≤◌, ℕ, Bool, true, false, List, [], ◌∷◌, Some, codes, get_or, map, refl, ap, ap₂, sym, ◌∙◌, arith}
+use Rattle.std.proofs.Common.{◌≡◌, ◌<◌, ◌≤◌, ℕ, Bool, IsFalse, true, false, List, [], ◌∷◌, Some, codes, get_or, map, refl, ap, ap₂, sym, ◌∙◌, arith}
 use Rattle.std.specs.Prelude.{string_bytes}
-use Rattle.mc_text.specs.Spelling.{number_of}
-use Rattle.mc_words.specs.Commands.{AsksFor, Spells, SpellsWithin, WordsAskForOneMode, check_word, plain_words, prints_journal, scene_word}
+use Rattle.std.proofs.lemmas.Grind.{common_steps}
+use Rattle.mc_text.specs.Spelling.{is_name, number_of}
+use Rattle.mc_words.proofs.BoxNames.{bytes_tell_name}
+use Rattle.mc_words.specs.Commands.{AsksFor, Spells, SpellsWithin, WordsAskForOneMode, bytes_of, check_word, plain_words, prints_journal, scene_word}
 use Rattle.mc_words.specs.declared.words.Mode.{Mode}
 use Rattle.mc_words.specs.declared.words.Mode.TheVariants as mode
 use Rattle.mc_scene.specs.declared.limit.TheConstants.{NUMBER_LIMIT, SIZE_LIMIT}
@@ -25,6 +27,7 @@ mode_word (mode.One state journal) = codes "one"
 mode_word (mode.Check why) = check_word why
 mode_word (mode.Gen number size) = codes "gen"
 mode_word (mode.Scene scene) = codes "scene"
+mode_word (mode.Conf name) = codes "conf"
 
 -- and the words behind it
 begins : (m : Mode) (words : List (List ℕ)) → Spells m words → (rest : List (List ℕ)) × (words ≡ mode_word m ∷ rest)
@@ -33,6 +36,7 @@ begins (mode.One state journal) words (word, is, spelt) = (word ∷ [], is)
 begins (mode.Check why) words is = ([], is)
 begins (mode.Gen number size) words (word, size_word, is, spelt, sized, some) = (word ∷ size_word ∷ [], is)
 begins (mode.Scene scene) words is = (scene_word scene ∷ [], is)
+begins (mode.Conf name) words (is, spelt) = (bytes_of name ∷ [], is)
 
 same_word : (m other : Mode) (words : List (List ℕ)) → Spells m words → Spells other words → mode_word m ≡ mode_word other
 same_word m other words one two =
@@ -66,6 +70,10 @@ spells_one (mode.Scene scene) (mode.Scene other) words first one two same =
     let both : codes "scene" ∷ scene_word scene ∷ [] ≡ codes "scene" ∷ scene_word other ∷ [] = sym one ∙ two in
     let alike : scene_word scene ≡ scene_word other = cc (both) in
     ap mode.Scene (same_scene scene other alike)
+spells_one (mode.Conf name) (mode.Conf other) words first (one, spelt) (two, spelt_other) same =
+    let both : codes "conf" ∷ bytes_of name ∷ [] ≡ codes "conf" ∷ bytes_of other ∷ [] = sym one ∙ two in
+    let alike : bytes_of name ≡ bytes_of other = cc (both) in
+    ap mode.Conf (bytes_tell_name name other alike)
 spells_one (mode.Run asked) (mode.One more flag) words first one two same = let clash : codes "run" ≡ codes "one" = first in cc
 spells_one (mode.Run asked) (mode.Check false) words first one two same = let clash : codes "run" ≡ codes "check" = first in cc
 spells_one (mode.Run asked) (mode.Check true) words first one two same = absurd (letters_apart 114 119 (omega arith) (first_letter (codes "run") (codes "why") first))
@@ -94,6 +102,18 @@ spells_one (mode.Scene scene) (mode.One more flag) words first one two same = le
 spells_one (mode.Scene scene) (mode.Check false) words first one two same = let clash : codes "scene" ≡ codes "check" = first in cc
 spells_one (mode.Scene scene) (mode.Check true) words first one two same = absurd (letters_apart 115 119 (omega arith) (first_letter (codes "scene") (codes "why") first))
 spells_one (mode.Scene scene) (mode.Gen next more) words first one two same = let clash : codes "scene" ≡ codes "gen" = first in cc
+spells_one (mode.Run asked) (mode.Conf other) words first one two same = let clash : codes "run" ≡ codes "conf" = first in cc
+spells_one (mode.One state asked) (mode.Conf other) words first one two same = let clash : codes "one" ≡ codes "conf" = first in cc
+spells_one (mode.Check false) (mode.Conf other) words first one two same = let clash : codes "check" ≡ codes "conf" = first in cc
+spells_one (mode.Check true) (mode.Conf other) words first one two same = absurd (letters_apart 99 119 (omega arith) (sym (first_letter (codes "why") (codes "conf") first)))
+spells_one (mode.Gen number size) (mode.Conf other) words first one two same = let clash : codes "gen" ≡ codes "conf" = first in cc
+spells_one (mode.Scene scene) (mode.Conf other) words first one two same = let clash : codes "scene" ≡ codes "conf" = first in cc
+spells_one (mode.Conf name) (mode.Run asked) words first one two same = let clash : codes "conf" ≡ codes "run" = first in cc
+spells_one (mode.Conf name) (mode.One state asked) words first one two same = let clash : codes "conf" ≡ codes "one" = first in cc
+spells_one (mode.Conf name) (mode.Check false) words first one two same = let clash : codes "conf" ≡ codes "check" = first in cc
+spells_one (mode.Conf name) (mode.Check true) words first one two same = absurd (letters_apart 99 119 (omega arith) (first_letter (codes "conf") (codes "why") first))
+spells_one (mode.Conf name) (mode.Gen number size) words first one two same = let clash : codes "conf" ≡ codes "gen" = first in cc
+spells_one (mode.Conf name) (mode.Scene scene) words first one two same = let clash : codes "conf" ≡ codes "scene" = first in cc
 
 pub asks_for_one : WordsAskForOneMode
 asks_for_one words m other one two = spells_one m other (plain_words (map string_bytes words)) (same_word m other _ one.0 two.0) one.0 two.0 (one.1 ∙ sym two.1)
@@ -109,6 +129,7 @@ no_number first second third journal is none (mode.Gen number size) ((word, size
     let alike : second ≡ word = cc (both) in
     none number (ap number_of alike ∙ spelt.0, spelt.1)
 no_number first second third journal is none (mode.Scene scene) asks = let clash : first ∷ second ∷ third ∷ [] ≡ codes "scene" ∷ scene_word scene ∷ [] = asks.0 in cc
+no_number first second third journal is none (mode.Conf name) ((one, spelt), same) = let clash : first ∷ second ∷ third ∷ [] ≡ codes "conf" ∷ bytes_of name ∷ [] = one in cc
 
 -- and neither where no size is
 pub no_size : (first second third : List ℕ) (journal : Bool) → first ≡ codes "gen" → ((size : ℕ) → SpellsWithin SIZE_LIMIT third size → 1 ≤ size → ⊥) → (m : Mode) → AsksFor m journal (first ∷ second ∷ third ∷ []) → ⊥
@@ -121,6 +142,7 @@ no_size first second third journal is none (mode.Gen number size) ((word, size_w
     let alike : third ≡ size_word = cc (both) in
     none size (ap number_of alike ∙ sized.0, sized.1) some
 no_size first second third journal is none (mode.Scene scene) asks = let clash : first ∷ second ∷ third ∷ [] ≡ codes "scene" ∷ scene_word scene ∷ [] = asks.0 in cc
+no_size first second third journal is none (mode.Conf name) ((one, spelt), same) = let clash : first ∷ second ∷ third ∷ [] ≡ codes "conf" ∷ bytes_of name ∷ [] = one in cc
 
 -- where no state is spelt, nothing is run by draws that begin there
 pub no_state : (first second : List ℕ) (journal : Bool) → first ≡ codes "one" → ((state : ℕ) → SpellsWithin NUMBER_LIMIT second state → ⊥) → (m : Mode) → AsksFor m journal (first ∷ second ∷ []) → ⊥
@@ -136,6 +158,10 @@ no_state first second journal is none (mode.Scene scene) asks =
     let both : first ∷ second ∷ [] ≡ codes "scene" ∷ scene_word scene ∷ [] = asks.0 in
     let named : first ≡ codes "scene" = cc (both) in
     let clash : codes "one" ≡ codes "scene" = sym is ∙ named in
+    cc
+no_state first second journal is none (mode.Conf name) ((one, spelt), same) =
+    let named : first ≡ codes "conf" = cc in
+    let clash : codes "one" ≡ codes "conf" = sym is ∙ named in
     cc
 
 -- and where no scene is named, none is run
@@ -153,3 +179,30 @@ no_scene first second journal is none (mode.Scene scene) asks =
     let both : first ∷ second ∷ [] ≡ codes "scene" ∷ scene_word scene ∷ [] = asks.0 in
     let alike : second ≡ scene_word scene = cc (both) in
     none scene alike
+no_scene first second journal is none (mode.Conf name) ((one, spelt), same) =
+    let named : first ≡ codes "conf" = cc in
+    let clash : codes "scene" ≡ codes "conf" = sym is ∙ named in
+    cc
+
+-- and where no box is named, no conference is printed
+pub no_box : (first second : List ℕ) (journal : Bool) → first ≡ codes "conf" → IsFalse (is_name second) → (m : Mode) → AsksFor m journal (first ∷ second ∷ []) → ⊥
+no_box first second journal is none (mode.Run asked) asks = let clash : first ∷ second ∷ [] ≡ codes "run" ∷ [] = asks.0 in cc
+no_box first second journal is none (mode.One state asked) ((word, one, spelt), same) =
+    let named : first ≡ codes "one" = cc in
+    let clash : codes "conf" ≡ codes "one" = sym is ∙ named in
+    cc
+no_box first second journal is none (mode.Check false) asks = let clash : first ∷ second ∷ [] ≡ codes "check" ∷ [] = asks.0 in cc
+no_box first second journal is none (mode.Check true) asks = let clash : first ∷ second ∷ [] ≡ codes "why" ∷ [] = asks.0 in cc
+no_box first second journal is none (mode.Gen number size) ((word, size_word, one, spelt, sized, some), same) = let clash : first ∷ second ∷ [] ≡ codes "gen" ∷ word ∷ size_word ∷ [] = one in cc
+no_box first second journal is none (mode.Scene scene) asks =
+    let both : first ∷ second ∷ [] ≡ codes "scene" ∷ scene_word scene ∷ [] = asks.0 in
+    let named : first ≡ codes "scene" = cc (both) in
+    let clash : codes "conf" ≡ codes "scene" = sym is ∙ named in
+    cc
+no_box first second journal is none (mode.Conf name) ((one, spelt), same) =
+    let both : first ∷ second ∷ [] ≡ codes "conf" ∷ bytes_of name ∷ [] = one in
+    let alike : second ≡ bytes_of name = cc (both) in
+    let not_spelt : is_name second ≡ false = grind (arith, common_steps) in
+    let is_spelt : is_name (bytes_of name) ≡ true = grind (arith, common_steps) in
+    let clash : true ≡ false = sym is_spelt ∙ (ap is_name (sym alike) ∙ not_spelt) in
+    cc

@@ -1,11 +1,12 @@
 -- What the words of the command line ask for.
-use Rattle.std.specs.Prelude.{◌≡◌, ◌≤◌, ℕ, Bool, false, true, List, [], ◌∷◌, Some, codes, map, string_bytes, String}
+use Rattle.std.specs.Prelude.{◌≡◌, ◌≤◌, ℕ, Bool, false, true, List, [], ◌∷◌, IsTrue, Some, codes, map, string_bytes, String, take}
 use Rattle.std.specs.declared.alloc.Global.{Global}
 pub use Rattle.mc_arguments.specs.Arguments.{HasNoOtherFlag, begins_with_dash, has_journal_flag, is_dashes, is_journal_flag, is_other_flag, plain_words}
-use Rattle.mc_text.specs.Spelling.{number_of}
+use Rattle.mc_text.specs.Spelling.{is_name, number_of}
 use Rattle.mc_scene.specs.declared.limit.TheConstants.{NUMBER_LIMIT, SIZE_LIMIT}
 use Rattle.mc_scene.specs.declared.scenes.Scene.{Scene}
 use Rattle.mc_scene.specs.declared.scenes.Scene.TheVariants.{Pbx, Prepaid}
+use Rattle.mc_words.specs.declared.box_name.BoxName.{BoxName}
 use Rattle.mc_words.specs.declared.words.Mode.{Mode}
 use Rattle.mc_words.specs.declared.words.Mode.TheVariants as mode
 
@@ -23,6 +24,10 @@ abbrev pub check_word : (why : Bool) → List ℕ
 check_word false = codes "check"
 check_word true = codes "why"
 
+-- the bytes of the name of a box
+abbrev pub bytes_of : BoxName → List ℕ
+bytes_of name = take name.len name.at
+
 -- plain words ask for a mode
 abbrev pub Spells : Mode → List (List ℕ) → Type 0
 Spells (mode.Run journal) words = words ≡ codes "run" ∷ []
@@ -31,6 +36,7 @@ Spells (mode.Check why) words = words ≡ check_word why ∷ []
 Spells (mode.Gen number size) words = (word : List ℕ) × (size_word : List ℕ) × (words ≡ codes "gen" ∷ word ∷ size_word ∷ [])
     × SpellsWithin NUMBER_LIMIT word number × SpellsWithin SIZE_LIMIT size_word size × (1 ≤ size)
 Spells (mode.Scene scene) words = words ≡ codes "scene" ∷ scene_word scene ∷ []
+Spells (mode.Conf name) words = (words ≡ codes "conf" ∷ bytes_of name ∷ []) × IsTrue (is_name (bytes_of name))
 
 -- a mode prints the journal, too
 abbrev pub prints_journal : Mode → Bool
@@ -39,6 +45,12 @@ prints_journal (mode.One state journal) = journal
 prints_journal (mode.Check why) = false
 prints_journal (mode.Gen number size) = false
 prints_journal (mode.Scene scene) = false
+prints_journal (mode.Conf name) = false
+
+-- the name of the box that a mode is about, and no bytes where it is about none
+abbrev pub name_for : Mode → List ℕ
+name_for (mode.Conf name) = bytes_of name
+name_for mode = []
 
 -- plain words, with the flag or without it, ask for a mode
 abbrev pub AsksFor : Mode → (journal : Bool) → List (List ℕ) → Type 0

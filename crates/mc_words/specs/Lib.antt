@@ -1,2 +1,3 @@
+pub mod BoxNames
 pub mod Commands
 pub mod Help

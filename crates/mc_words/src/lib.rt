@@ -1,9 +1,11 @@
 //! What the words of the command line ask for.
 #![tactic(auto)]
 
+mod box_name;
 mod help;
 pub mod laws;
 mod words;
 
+pub use box_name::BoxName;
 pub use help::asks_for_help;
 pub use words::{Mode, read_mode};

@@ -1,14 +1,16 @@
 // What the words of the command line ask for.
 
-ghost use Rattle.std.specs.Prelude.{◌≡◌, ◌≤◌, ◌∷◌, [], ℕ, IfNone, IfOk, IfSome, option_map};
+ghost use Rattle.std.specs.Prelude.{◌≡◌, ◌≤◌, ◌∷◌, [], ℕ, IfNone, IfOk, IfSome, IsFalse, IsTrue, option_map};
 ghost use Rattle.mc_words.specs.declared.words.Mode.{Mode};
-ghost use Rattle.mc_words.specs.Commands.{AsksFor, IsCommand, SpellsWithin, prints_journal, scene_word};
+ghost use Rattle.mc_words.specs.Commands.{AsksFor, IsCommand, SpellsWithin, bytes_of, name_for, prints_journal, scene_word};
+ghost use Rattle.mc_text.specs.Spelling.{is_name};
 ghost use Rattle.mc_arguments.specs.Arguments.{words_met};
 
+use crate::box_name::BoxName;
 use mc_arguments::read_arguments;
 use mc_scene::Scene;
 use mc_scene::limit::{NUMBER_LIMIT, SIZE_LIMIT};
-use mc_text::read_number;
+use mc_text::{is_name, read_number};
 use std::alloc::{AllocError, Global};
 
 /// What the program is to do.
@@ -25,6 +27,9 @@ pub enum Mode {
     Gen { number: u32, size: u32 },
     /// Runs the text of a scene.
     Scene { scene: Scene },
+    /// Reads a text, settles its calls, and prints them, and after each settle whom a mixer at a box would let each
+    /// party hear.
+    Conf { name: BoxName },
 }
 
 impl Mode {
@@ -38,6 +43,17 @@ impl Mode {
             Mode::Check { .. } => false,
             Mode::Gen { .. } => false,
             Mode::Scene { .. } => false,
+            Mode::Conf { .. } => false,
+        }
+    }
+
+    /// The name of the box that it is about, and no bytes where it is about none.
+    pub fn box_name(&self) -> &[u8]
+        ensures { result.now ≡ name_for self.now }
+    {
+        match self {
+            Mode::Conf { name } => name.as_slice(),
+            _ => &[],
         }
     }
 }
@@ -112,6 +128,9 @@ fn mode_of_pair(first: &str, second: &str, journal: bool) -> Option<Mode>
     } else if first == "scene" && !journal {
         let scene = read_scene(second)?;
         Some(Mode::Scene { scene })
+    } else if first == "conf" && !journal {
+        let name = read_box_name(second)?;
+        Some(Mode::Conf { name })
     } else {
         None
     }
@@ -140,6 +159,19 @@ fn read_scene(word: &str) -> Option<Scene>
         Some(Scene::Pbx)
     } else if word == "prepaid" {
         Some(Scene::Prepaid)
+    } else {
+        None
+    }
+}
+
+// The name of a box that a word is.
+fn read_box_name(word: &str) -> Option<BoxName>
+    ensures some { IfSome result (λ name. (bytes_of name ≡ word.now) × IsTrue (is_name word.now)) }
+    ensures none { IfNone result (IsFalse (is_name word.now)) }
+{
+    let bytes = word.as_bytes();
+    if is_name(bytes) {
+        Some(BoxName::new(bytes))
     } else {
         None
     }

@@ -11,13 +11,13 @@ returns-clause-ends g c =
     rw c.deliver_run.ensures.journal
     (ends_ran run.stop c.args.mode c.args.text.now c.args.net (g.K.Sink.written c.args.sink.now) (g.K.Sink.written c.deliver_run.new.sink)
     c.deliver_run.result.status c.deliver_run.result.due run.journal.items run.output.items
-    c.requires.runs c.requires.declares c.keeps.ensures.sound c.in-Ok.ensures.ran c.in-Ok.ensures.drawn c.in-Ok.ensures.holds c.in-Ok.ensures.shows c.in-Ok.ensures.shift_limit
+    c.requires.runs c.requires.declares c.requires.who c.keeps.ensures.sound c.in-Ok.ensures.ran c.in-Ok.ensures.drawn c.in-Ok.ensures.holds c.in-Ok.ensures.shows c.in-Ok.ensures.shift_limit
     c.in-Ok.ensures.output c.deliver_run.ensures.due (rw c.deliver_run.ensures.due at c.deliver_run.ensures.delivers))
 
 pub reason_of-requires : goal.reason_of-requires
 reason_of-requires g c =
     let run = c.in-Ok.run' in
-    prints_stop (report_of c.args.mode) (prints_journal c.args.mode) c.args.net.names c.args.net.world run.stop run.journal.items run.output.items c.in-Ok.ensures.output
+    prints_stop (report_of c.args.mode c.args.net.names) (prints_journal c.args.mode) c.args.net.names c.args.net.world run.stop run.journal.items run.output.items c.in-Ok.ensures.output
 
 pub returns-clause-reason : goal.returns-clause-reason
 returns-clause-reason g c =
