@@ -1,6 +1,6 @@
-mod AllPairs
-mod LegLaws
-mod Members
+pub mod AllPairs
+pub mod LegLaws
+pub mod Members
 mod Named
 mod SameLegs
 mod Sorting

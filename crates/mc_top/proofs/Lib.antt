@@ -17,6 +17,7 @@ mod NamedRings
 mod NoneClose
 mod OneJournal
 mod OwnTexts
+mod Parties
 mod PbxScene
 mod PrepaidScene
 pub mod Running

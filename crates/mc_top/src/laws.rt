@@ -1,6 +1,7 @@
 //! Laws of journals, of texts and of calls, over the definitions alone.
 
 ghost use Rattle.mc_top.specs.Accepted.{PrintedJournalsAreAccepted};
+ghost use Rattle.mc_top.specs.ConferenceLaws.{ConferencesAreAllPairs};
 ghost use Rattle.mc_top.specs.Drawn.{DrawnJournalIsOne};
 ghost use Rattle.mc_top.specs.EndsAlike.{CheckEndsAlike, GenPrintsAlike, GoodIsNotRefused, OneEndsAlike};
 ghost use Rattle.mc_top.specs.JournalLaws.{PrintedJournalsAreGood, RunsAreReadBack};
@@ -100,4 +101,10 @@ pub fn generated_can_run()
 /// turns.
 pub fn scenes_print_the_same()
     ensures { ScenesPrintTheSame }
+{}
+
+/// In a sound world the pairs of a conference are all pairs of legs of which the one party hears the other, each once and
+/// no other, by the hearer and then by the heard, both in rising slot number.
+pub fn conferences_are_all_pairs()
+    ensures { ConferencesAreAllPairs }
 {}
