@@ -17,9 +17,11 @@ PATH = (rb'path (%s) (%s) (?:open|close|hold) (?:open|close|hold) (?:closed (?:a
         % (SLOT, SLOT) + HEARD % rb'\1' + HEARD % rb'\2' + rb')')
 TURN = (rb'turn (?:(?:take|retry) N N|shift N|set N N (?:open|close|hold)|link N N N|(?:hear|talk) N N (?:on|off)|tell N N)\n'
         .replace(b'N', NAME))
-SETTLES = rb'(?:settle [1-9][0-9]*\n(?:%s)*)*' % PATH
-JOURNAL = rb'(?:journal\n(?:%s|settle\n)*)?' % TURN
 COUNT = rb'(?:0|[1-9][0-9]*)'
+WHYS = rb'(?:why %s (?:[1-9][0-9]*|never)\n)*' % SLOT
+MIXES = rb'(?:conf %s legs %s\n(?:mix %s %s %s\n)*)?' % (NAME, COUNT, SLOT, SLOT, NAME)
+SETTLES = rb'(?:settle [1-9][0-9]*\n(?:%s)*%s%s)*' % (PATH, WHYS, MIXES)
+JOURNAL = rb'(?:journal\n(?:%s|settle\n)*)?' % TURN
 SUMMARY = (rb'gen C C\nboxes C channels C\n' + b''.join(
     b'settle %d flowing C closed C heard C\n' % k for k in (1, 2, 3))).replace(b'C', COUNT)
 
@@ -33,6 +35,7 @@ PRINTED = {
     6: re.compile(rb'restless %s\n' % NAME),
     7: re.compile(rb'ring %s\n' % SLOT),
     8: re.compile(rb'fault 3[1-5] turn [1-9][0-9]*\n'),
+    9: re.compile(rb'nobox %s\n' % NAME),
 }
 # what is told on standard error, line by line
 TOLD = re.compile(rb'(?:mediactl: [ -~]*\n)*')
