@@ -34,7 +34,7 @@ use Rattle.mc_box.specs.declared.event.Event.TheVariants.{Take, Set, Media, Tell
 use Rattle.mc_box.specs.declared.event.MediaChange.TheVariants.{Hear, Talk}
 use Rattle.mc_box.specs.declared.limit.TheConstants.{LAST_VERSION}
 use Rattle.mc_box.specs.declared.setup.SlotMedia.{SlotMedia}
-use Rattle.mc_cause.specs.CauseLaws.{is_close_goal, is_open}
+use Rattle.mc_cause.specs.CauseLaws.{closes_by, gives_close, is_close_goal, is_open}
 use Rattle.mc_cause.proofs.Counts.{took_once}
 use Rattle.mc_cause.proofs.Quiet.{NoClose, NoneOfBoth, NoneSent, end_none, end_sent, first_none, link_none, none_append, pair_sent, resting_none, second_none}
 use Rattle.mc_box.proofs.GoalTurns.{end_form, pair_form}
@@ -92,11 +92,6 @@ turns_none (local ∷ locals) box step opens goes =
     (turns_none locals one.0.after two.0 (subst (λ (goals : List SlotGoal). NoneToClose goals locals) (sym first.1) opens.1) two.1))
 
 -- ---- which goals change
-
--- the change gives no slot the goal close
-abbrev pub gives_close : Change → Bool
-gives_close (NewEnd local goal) = is_close_goal (End goal)
-gives_close (NewLink first second) = false
 
 -- a goal that isn't as it was isn't to close
 abbrev ChangesOpen : SlotGoal → SlotGoal → Type 0
@@ -170,12 +165,6 @@ media_none (Link partner) box local media step rests goes = (turn_none (Link par
 
 -- ---- an event that takes nothing
 
--- it closes of its own accord
-abbrev pub closes_by : Event → Bool
-closes_by (Set change) = gives_close change
-closes_by Shift = true
-closes_by event = false
-
 retry_goal : (goal : Goal) (slot : Slot) → owes goal slot ≡ true → is_close_goal (End goal) ≡ false
 retry_goal ToOpen slot owed = refl
 retry_goal ToHold slot owed = refl
@@ -242,7 +231,7 @@ taken_none ToClose slot signal took mine me pushed rests other goes =
     still_none took.after.state took.after mine me pushed
     (still_closes slot.state slot signal took mine me refl rests (under_close (is_open (Some signal)) other) (if_some (fits_medium slot signal) (slot_take_in slot.state slot signal) took goes).1)
 
-sum_none : (answer : Option Signal) (signals more : List Signal) → more ≡ answer_signals answer ++ signals → NoClose (answer_signals answer) → NoClose signals → NoClose more
+pub sum_none : (answer : Option Signal) (signals more : List Signal) → more ≡ answer_signals answer ++ signals → NoClose (answer_signals answer) → NoClose signals → NoClose more
 sum_none answer signals more is one two =
     let whole : closes more ≡ closes (answer_signals answer ++ signals) = ap closes is in
     let both : closes (answer_signals answer ++ signals) ≡ closes (answer_signals answer) + closes signals = closes-append (answer_signals answer) signals in

@@ -14,7 +14,7 @@ use Rattle.mc_cause.specs.Causes.{is_closed}
 use Rattle.mc_box.proofs.Options.{if_some, then_some}
 use Rattle.mc_tunnel.proofs.Walks.{closes-append}
 
-some_is : {A : Type 0} {x y : A} → Some x ≡ Some y → x ≡ y
+pub some_is : {A : Type 0} {x y : A} → Some x ≡ Some y → x ≡ y
 some_is is = cc
 
 -- ---- one signal is sent
@@ -109,7 +109,7 @@ pub record SentAll (a after : Slot) (sent : List Signal) : Type 0 where
   pub waiting : closes sent + waits a.state ≡ waits after.state
   pub opens : is_closed a.state ≡ false → is_closed after.state ≡ false
 
-not_longer : (signal : Signal) (list : List Signal) → list ≡ signal ∷ list → ⊥
+pub not_longer : (signal : Signal) (list : List Signal) → list ≡ signal ∷ list → ⊥
 not_longer signal list is = let long : length list ≡ length (signal ∷ list) = ap length is in omega arith
 
 pub acts_idle : (a : Slot) (to sent : List Signal) (after : Slot) (left : List Signal) → Acted a to sent after left → left ≡ to → SentAll a after sent

@@ -1,7 +1,6 @@
 pub mod Begins
 pub mod Counts
 pub mod Known
-pub mod Looking
 pub mod Never
 pub mod NewOnes
 pub mod Noted
@@ -9,6 +8,8 @@ pub mod Noting
 pub mod Others
 pub mod Quiet
 pub mod Sending
+pub mod TakeNotes
+pub mod Taking
 pub mod Telling
 pub mod Tells
 pub mod Told

@@ -1,34 +1,23 @@
 -- Noting what slots carry, one slot after another.
-use Rattle.std.proofs.Common.{◌≡◌, ◌≢◌, ◌<◌, ◌≤◌, ◌+◌, inl, inr, ℕ, Bool, true, false, Option, Some, None, IfSome, List, length, get_or, set, refl, ap, sym, ◌∙◌, subst, arith}
+use Rattle.std.proofs.Common.{◌≡◌, ◌≢◌, ◌<◌, ◌≤◌, ◌+◌, inl, inr, ℕ, Option, Some, None, IfSome, List, length, get_or, set, refl, ap, sym, ◌∙◌, subst, arith}
 use Rattle.std.proofs.Math.ListN.{length-set}
 use Rattle.std.proofs.lemmas.Bool.{cases_eq, cases_lt}
 use Rattle.std.proofs.lemmas.List.{get_or-set_same, get_or-set_other}
-use Rattle.mc_slot.specs.declared.State.{State}
-use Rattle.mc_slot.specs.declared.State.TheVariants.{Closed, Opening, Opened, Flowing, Closing}
 use Rattle.mc_model.specs.Sound.{IsSound}
 use Rattle.mc_model.specs.Worlds.{WorldState, box_at, number, place, slot_count, slot_of}
-use Rattle.mc_cause.specs.Carried.{cleared, noted}
-use Rattle.mc_cause.specs.Notes.{NotesBox, NotesSlot, NotesTake}
+use Rattle.mc_cause.specs.Carried.{noted}
+use Rattle.mc_cause.specs.Notes.{NotesBox, NotesSlot}
 use Rattle.mc_laws.proofs.Numbers.{number_is}
 
 abbrev pub Carry : Type 0
 Carry = List (Option ℕ)
-
--- noted twice is noted once
-noted_twice : (state : State) (o : Option ℕ) (origin : ℕ) → noted state (noted state o origin) origin ≡ noted state o origin
-noted_twice Closing None origin = refl
-noted_twice Closing (Some x) origin = refl
-noted_twice Closed o origin = refl
-noted_twice Opening o origin = refl
-noted_twice Opened o origin = refl
-noted_twice Flowing o origin = refl
 
 -- ---- the slots of a box
 
 -- the first slots of a box are noted, the others not yet
 pub record NotedBelow (world : WorldState) (who origin i : ℕ) (old new : Carry) : Type 0 where
   pub long : length new ≡ length old
-  pub own : (s : ℕ) → s < slot_count world → (place world s).0 ≡ who → (place world s).1 < i → NotesSlot world s false origin old new
+  pub own : (s : ℕ) → s < slot_count world → (place world s).0 ≡ who → (place world s).1 < i → NotesSlot world s origin old new
   pub rest : (s : ℕ) → s < slot_count world → (place world s).0 ≡ who → i ≤ (place world s).1 → get_or new s None ≡ get_or old s None
   pub others : (s : ℕ) → (place world s).0 ≢ who → get_or new s None ≡ get_or old s None
 
@@ -65,7 +54,7 @@ more_some world who origin i slot old now new sound long found below is =
       long = ap length is ∙ (length-set now slot (noted (slot_of world slot).state (get_or now slot None) origin) ∙ below.long);
       own = λ s inside box_is less. elim (cases_eq s slot) [
         | inl here ↦
-            subst (λ (t : ℕ). NotesSlot world t false origin old new) (sym here)
+            subst (λ (t : ℕ). NotesSlot world t origin old new) (sym here)
             (ap (λ (l : Carry). get_or l slot None) is
             ∙ (get_or-set_same now slot (noted (slot_of world slot).state (get_or now slot None) origin) None there ∙ ap (λ (o : Option ℕ). noted (slot_of world slot).state o origin) same))
         | inr apart ↦
@@ -95,61 +84,6 @@ all_below world who origin count old new sound is below = record {
       below.own s inside box_is (subst (λ (n : ℕ). (place world s).1 < n) (sym is) (subst (λ (w : ℕ). (place world s).1 < length (box_at world w).slots) box_is (sound.numbered.slots s inside)));
   others = below.others;
 }
-
--- ---- the slots of a Take
-
--- the slot that takes carries nothing any more, where it takes its closeack
-pub record Clears (slot : ℕ) (acked : Bool) (old new : Carry) : Type 0 where
-  pub long : length new ≡ length old
-  pub own : get_or new slot None ≡ cleared acked (get_or old slot None)
-  pub others : (s : ℕ) → s ≢ slot → get_or new s None ≡ get_or old s None
-
-pub clears_none : (slot : ℕ) (old : Carry) → Clears slot false old old
-clears_none slot old = record { long = refl; own = refl; others = λ s apart. refl }
-
-pub clears_one : (slot : ℕ) (old : Carry) → slot < length old → Clears slot true old (set old slot None)
-clears_one slot old inside = record { long = length-set old slot None; own = get_or-set_same old slot None None inside; others = λ s apart. get_or-set_other old slot s None None apart }
-
--- it is noted
-own_noted : (world : WorldState) (slot origin : ℕ) (acked : Bool) (old now new : Carry) → slot < length old → Clears slot acked old now → new ≡ set now slot (noted (slot_of world slot).state (get_or now slot None) origin)
-    → (length new ≡ length old) × NotesSlot world slot acked origin old new × ((s : ℕ) → s ≢ slot → get_or new s None ≡ get_or old s None)
-own_noted world slot origin acked old now new inside clears is = (
-  ap length is ∙ (length-set now slot (noted (slot_of world slot).state (get_or now slot None) origin) ∙ clears.long),
-  ap (λ (l : Carry). get_or l slot None) is
-      ∙ (get_or-set_same now slot (noted (slot_of world slot).state (get_or now slot None) origin) None (subst (λ (n : ℕ). slot < n) (sym clears.long) inside)
-      ∙ ap (λ (o : Option ℕ). noted (slot_of world slot).state o origin) clears.own),
-  λ s apart. ap (λ (l : Carry). get_or l s None) is ∙ (get_or-set_other now slot s (noted (slot_of world slot).state (get_or now slot None) origin) None apart ∙ clears.others s apart),
-)
-
-pub take_alone : (world : WorldState) (slot origin : ℕ) (beside : Option ℕ) (acked : Bool) (old now new : Carry) → slot < length old → beside ≡ None → Clears slot acked old now
-    → new ≡ set now slot (noted (slot_of world slot).state (get_or now slot None) origin) → NotesTake world slot beside acked origin old new
-take_alone world slot origin beside acked old now new inside alone clears is =
-    let all = own_noted world slot origin acked old now new inside clears is in
-    record { long = all.0; own = all.1; partner = λ s apart mate. absurd (let both : None ≡ Some s = sym alone ∙ mate in cc); others = λ s apart third. all.2 s apart }
-
-pub take_both : (world : WorldState) (slot origin p : ℕ) (beside : Option ℕ) (acked : Bool) (old now mid new : Carry) → slot < length old → p < length old → beside ≡ Some p → Clears slot acked old now
-    → mid ≡ set now slot (noted (slot_of world slot).state (get_or now slot None) origin) → new ≡ set mid p (noted (slot_of world p).state (get_or mid p None) origin) → NotesTake world slot beside acked origin old new
-take_both world slot origin p beside acked old now mid new inside there mate clears mid_is is =
-    let all = own_noted world slot origin acked old now mid inside clears mid_is in
-    let within : p < length mid = subst (λ (n : ℕ). p < n) (sym all.0) there in
-    let else_is : (s : ℕ) → s ≢ p → get_or new s None ≡ get_or mid s None =
-    λ s apart. ap (λ (l : Carry). get_or l s None) is ∙ get_or-set_other mid p s (noted (slot_of world p).state (get_or mid p None) origin) None apart in
-    let here_is : get_or new p None ≡ noted (slot_of world p).state (get_or mid p None) origin =
-    ap (λ (l : Carry). get_or l p None) is ∙ get_or-set_same mid p (noted (slot_of world p).state (get_or mid p None) origin) None within in
-    record {
-      long = ap length is ∙ (length-set mid p (noted (slot_of world p).state (get_or mid p None) origin) ∙ all.0);
-      own = elim (cases_eq slot p) [
-        | inl same ↦
-            subst (λ (t : ℕ). get_or new t None ≡ noted (slot_of world t).state (get_or mid t None) origin) (sym same) here_is
-            ∙ (ap (λ (o : Option ℕ). noted (slot_of world slot).state o origin) all.1 ∙ noted_twice (slot_of world slot).state (cleared acked (get_or old slot None)) origin)
-        | inr apart ↦ else_is slot apart ∙ all.1
-      ];
-      partner = λ s apart is_mate.
-          let same : s ≡ p = let both : Some s ≡ Some p = sym is_mate ∙ mate in cc in
-          subst (λ (t : ℕ). t ≢ slot → NotesSlot world t false origin old new) (sym same)
-          (λ other. here_is ∙ ap (λ (o : Option ℕ). noted (slot_of world p).state o origin) (all.2 p other)) apart;
-      others = λ s apart third. else_is s (λ same. third (mate ∙ ap Some (sym same))) ∙ all.2 s apart;
-    }
 
 pub inside_if : (o : Option ℕ) (n p : ℕ) → o ≡ Some p → IfSome o (λ q. q < n) → p < n
 inside_if None n p is inside = absurd (cc)

@@ -1,15 +1,12 @@
 -- A turn that takes neither a close nor a closeack, and doesn't close of its own accord, changes no cause.
-use Rattle.std.proofs.Common.{◌≡◌, ◌<◌, ◌+◌, ◌++◌, ◌⊎◌, inl, inr, if◌then◌else◌, ◌==◌, ℕ, Bool, true, false, Option, Some, None, List, [], length, refl, ap, sym, ◌∙◌, arith}
+use Rattle.std.proofs.Common.{◌≡◌, ◌+◌, ◌++◌, inl, inr, if◌then◌else◌, ◌==◌, ℕ, Bool, true, false, Option, Some, None, refl, ap, sym, ◌∙◌, arith}
 use Rattle.std.specs.Prelude.{replicate}
 use Rattle.std.proofs.lemmas.List.{append-nil}
 use Rattle.mc_signal.specs.declared.Signal.{Signal}
 use Rattle.mc_signal.specs.declared.Signal.TheVariants.{Open, Oack, Close, Closeack, Describe, Select}
 use Rattle.mc_slot.specs.Outlook.{ack_of, closes, waits}
-use Rattle.mc_box.specs.declared.event.Turn.{Turn}
-use Rattle.mc_model.specs.Sound.{IsSound}
-use Rattle.mc_model.specs.Steps.{step}
-use Rattle.mc_model.specs.Worlds.{WorldState, slot_of}
-use Rattle.mc_cause.specs.Causes.{Known, becomes_closed, cause, origin, sends, taken, takes_close, taking, where_close}
+use Rattle.mc_model.specs.Worlds.{slot_of}
+use Rattle.mc_cause.specs.Causes.{becomes_closed, cause, origin, sends, taken, takes_close, taking, where_close}
 use Rattle.mc_cause.specs.CauseLaws.{OthersKeepCauses, is_closing}
 use Rattle.mc_cause.proofs.Sending.{turn_sends}
 use Rattle.mc_cause.proofs.Tells.{closed_by}

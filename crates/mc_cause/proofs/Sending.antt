@@ -19,8 +19,8 @@ use Rattle.mc_model.specs.Sound.{IsSound}
 use Rattle.mc_model.specs.Steps.{after_making, after_pop, step, step_by, take_at}
 use Rattle.mc_model.specs.Worlds.{WorldState, box_at, for_tunnel, front, lane_to, list_to, number, place, slot_count, tunnel_of}
 use Rattle.mc_cause.specs.Causes.{sends, taken, takes_close, taking, where_close}
-use Rattle.mc_cause.specs.CauseLaws.{BeginsTakeNone, begins_by, begins_close, is_close_goal, is_open}
-use Rattle.mc_cause.proofs.Begins.{closes_by, event_none, gives_close, take_none}
+use Rattle.mc_cause.specs.CauseLaws.{BeginsTakeNone, begins_by, begins_close, closes_by, gives_close, is_close_goal, is_open}
+use Rattle.mc_cause.proofs.Begins.{event_none, take_none}
 use Rattle.mc_cause.proofs.Quiet.{NoClose}
 use Rattle.mc_box.proofs.Options.{if_some, map_some, then_some}
 use Rattle.mc_laws.proofs.LanesKept.{front_next}
@@ -60,7 +60,7 @@ close_is_taken world turn t is =
 -- ---- no close is taken
 
 -- what a turn sends
-slot_sends : (world : WorldState) (turn : Turn) (step : BoxStep) (s : ℕ) → sendings world turn.who turn.event ≡ step.sent → ((k : ℕ) → NoClose (sent_by k step.sent)) → NoClose (sends world turn s)
+pub slot_sends : (world : WorldState) (turn : Turn) (step : BoxStep) (s : ℕ) → sendings world turn.who turn.event ≡ step.sent → ((k : ℕ) → NoClose (sent_by k step.sent)) → NoClose (sends world turn s)
 slot_sends world turn step s is none = elim (cases_eq (place world s).0 turn.who) [
   | inl same ↦
       ap closes (part_own turn.who (place world s) (sendings world turn.who turn.event) same ∙ ap (λ (l : List (ℕ × Signal)). sent_by (place world s).1 l) is) ∙ none (place world s).1

@@ -1,12 +1,11 @@
 -- What is noted of a turn is what the definition says.
-use Rattle.std.proofs.Common.{◌≡◌, ◌≤◌, ◌+◌, ◌++◌, ℕ, zero, suc, Bool, true, false, Option, Some, None, List, [], ◌∷◌, length, get_or, refl, ap, sym, ◌∙◌, arith}
+use Rattle.std.proofs.Common.{◌≡◌, ◌≤◌, ◌+◌, ◌++◌, ℕ, zero, suc, Option, Some, None, List, [], ◌∷◌, length, get_or, refl, ap, sym, ◌∙◌, arith}
 use Rattle.std.specs.List.{last_or}
 use Rattle.std.specs.Prelude.{replicate}
 use Rattle.mc_slot.specs.Outlook.{waits}
 use Rattle.mc_slot.specs.declared.State.{State}
 use Rattle.mc_slot.specs.declared.State.TheVariants.{Closed, Opening, Opened, Flowing, Closing}
-use Rattle.mc_cause.specs.Carried.{carried_in, cleared, noted}
-use Rattle.mc_cause.proofs.Known.{waits_few}
+use Rattle.mc_cause.specs.Carried.{carried_in, noted}
 
 -- ---- the last of a list
 
@@ -35,7 +34,7 @@ last_at (x ∷ y ∷ xs) o (suc k) is = last_at (y ∷ xs) (Some x) k (omega ari
 
 -- ---- what one slot carries
 
-carried_none : (state : State) (o : Option ℕ) → waits state ≡ 0 → carried_in state o ≡ None
+pub carried_none : (state : State) (o : Option ℕ) → waits state ≡ 0 → carried_in state o ≡ None
 carried_none Closed o is = refl
 carried_none Opening o is = refl
 carried_none Opened o is = refl
@@ -50,38 +49,30 @@ carried_some Opened o some = absurd (omega arith)
 carried_some Flowing o some = absurd (omega arith)
 
 -- where none is sent, it is what it was
-waited_still : (acked : Bool) (state : State) (ack : ℕ) (origins : List ℕ) (origin : ℕ) (old new : Option ℕ) → waits state ≡ ack + 1 → (acked ≡ true → ack ≡ 1)
-    → (1 ≤ waits state → 1 ≤ length origins) → old ≡ carried_in state (last_or None origins) → new ≡ noted Closing (cleared acked old) origin → new ≡ last_or None origins
-waited_still true state ack origins origin old new counts is_ack some was is = absurd (let one : ack ≡ 1 = is_ack refl in let few : waits state ≤ 1 = waits_few state in omega arith)
-waited_still false state ack origins origin old new counts is_ack some was is =
-    let here : 1 ≤ waits state = omega arith in
+waited_still : (state : State) (origins : List ℕ) (number : ℕ) (old new : Option ℕ) → 1 ≤ waits state → (1 ≤ waits state → 1 ≤ length origins) → old ≡ carried_in state (last_or None origins)
+    → new ≡ noted Closing old number → new ≡ last_or None origins
+waited_still state origins number old new here some was is =
     let last = last_some origins (some here) in
     let old_is : old ≡ Some last.0 = was ∙ (carried_some state (last_or None origins) here ∙ last.1) in
-    is ∙ (ap (λ (o : Option ℕ). noted Closing o origin) old_is ∙ sym last.1)
+    is ∙ (ap (λ (o : Option ℕ). noted Closing o number) old_is ∙ sym last.1)
 
--- where one is sent, nothing was carried
-cleared_none : (acked : Bool) (state : State) (m ack : ℕ) (last old : Option ℕ) → suc m + waits state ≡ ack + 1 → (acked ≡ false → ack ≡ 0) → old ≡ carried_in state last → cleared acked old ≡ None
-cleared_none true state m ack last old counts no_ack was = refl
-cleared_none false state m ack last old counts no_ack was =
-    let none : ack ≡ 0 = no_ack refl in
-    let still : waits state ≡ 0 = omega arith in
-    was ∙ carried_none state last still
-
--- a slot of which something is noted
-pub slot_noted : (new_state state : State) (m ack origin : ℕ) (acked : Bool) (origins : List ℕ) (old new : Option ℕ) → m + waits state ≡ ack + waits new_state → (acked ≡ true → ack ≡ 1) → (acked ≡ false → ack ≡ 0)
-    → (1 ≤ waits state → 1 ≤ length origins) → old ≡ carried_in state (last_or None origins) → new ≡ noted new_state (cleared acked old) origin
-    → new ≡ carried_in new_state (last_or None (origins ++ replicate m origin))
-slot_noted Closing state zero ack origin acked origins old new counts is_ack no_ack some was is =
-    let waited : waits state ≡ ack + 1 = omega arith in
-    waited_still acked state ack origins origin old new waited is_ack some was is ∙ sym (last_append origins [] None)
-slot_noted Closing state (suc m) ack origin acked origins old new counts is_ack no_ack some was is =
+-- a slot of which something is noted: where it sends a close, that is of this number
+pub slot_noted : (new_state state : State) (m number from : ℕ) (origins : List ℕ) (old new : Option ℕ) → m + waits state ≡ waits new_state → (1 ≤ m → number ≡ from)
+    → (1 ≤ waits state → 1 ≤ length origins) → old ≡ carried_in state (last_or None origins) → new ≡ noted new_state old number
+    → new ≡ carried_in new_state (last_or None (origins ++ replicate m from))
+slot_noted Closing state zero number from origins old new counts same some was is =
+    let waited : 1 ≤ waits state = omega arith in
+    waited_still state origins number old new waited some was is ∙ sym (last_append origins [] None)
+slot_noted Closing state (suc m) number from origins old new counts same some was is =
+    let none : waits state ≡ 0 = omega arith in
+    let is_from : number ≡ from = same (omega arith) in
     is
-    ∙ (ap (λ (o : Option ℕ). noted Closing o origin) (cleared_none acked state m ack (last_or None origins) old counts no_ack was)
-    ∙ (sym (last_all m origin) ∙ sym (last_append origins (replicate (suc m) origin) None)))
-slot_noted Closed state m ack origin acked origins old new counts is_ack no_ack some was is = is
-slot_noted Opening state m ack origin acked origins old new counts is_ack no_ack some was is = is
-slot_noted Opened state m ack origin acked origins old new counts is_ack no_ack some was is = is
-slot_noted Flowing state m ack origin acked origins old new counts is_ack no_ack some was is = is
+    ∙ (ap (λ (o : Option ℕ). noted Closing o number) (was ∙ carried_none state (last_or None origins) none)
+    ∙ (ap Some is_from ∙ (sym (last_all m from) ∙ sym (last_append origins (replicate (suc m) from) None))))
+slot_noted Closed state m number from origins old new counts same some was is = is
+slot_noted Opening state m number from origins old new counts same some was is = is
+slot_noted Opened state m number from origins old new counts same some was is = is
+slot_noted Flowing state m number from origins old new counts same some was is = is
 
 carried_alike : (new_state state : State) (o : Option ℕ) → waits state ≡ waits new_state → carried_in state o ≡ carried_in new_state o
 carried_alike Closing state o same = carried_some state o (omega arith)

@@ -1,14 +1,14 @@
 -- Causes tell of one turn more.
-use Rattle.std.proofs.Common.{◌≡◌, ◌≢◌, ◌<◌, ◌≤◌, ◌+◌, ◌++◌, ◌⊎◌, inl, inr, if◌then◌else◌, nat_lt, not, ℕ, Bool, true, false, Option, Some, None, IfSome, List, [], ◌∷◌, length, get_or, length-append, refl, ap, sym, ◌∙◌, subst, arith}
+use Rattle.std.proofs.Common.{◌≡◌, ◌≢◌, ◌<◌, ◌≤◌, ◌+◌, ◌++◌, ◌⊎◌, inl, inr, if◌then◌else◌, nat_lt, not, ℕ, Bool, true, false, Option, Some, None, List, [], ◌∷◌, length, get_or, length-append, refl, ap, sym, ◌∙◌, subst, arith}
 use Rattle.std.specs.List.{last_or}
 use Rattle.std.specs.Option.{option_and_then, option_map, unwrap_or}
 use Rattle.std.specs.Prelude.{replicate, Vec}
 use Rattle.std.specs.declared.alloc.Global.{Global}
 use Rattle.std.specs.Vec.{with_items}
 use Rattle.std.proofs.lemmas.Bool.{and_parts, cases_eq}
-use Rattle.std.proofs.lemmas.List.{get_or-replicate, get_or-set_same, get_or-set_other, length-replicate, with_items_is}
+use Rattle.std.proofs.lemmas.List.{get_or-replicate, length-replicate, with_items_is}
 use Rattle.mc_signal.specs.declared.Signal.{Signal}
-use Rattle.mc_signal.specs.declared.Signal.TheVariants.{Open, Oack, Close, Closeack, Describe, Select}
+use Rattle.mc_signal.specs.declared.Signal.TheVariants.{Close, Closeack}
 use Rattle.mc_slot.specs.Outlook.{ack_of, acks, closes, waits}
 use Rattle.mc_slot.specs.declared.SlotGoal.{SlotGoal}
 use Rattle.mc_slot.specs.declared.SlotGoal.TheVariants.{End, Link}
@@ -25,15 +25,14 @@ use Rattle.mc_model.specs.Paths.{partner_by, partner_of}
 use Rattle.mc_model.specs.Sound.{IsSound}
 use Rattle.mc_model.specs.Steps.{after_making, after_pop, step, step_by, take_at}
 use Rattle.mc_model.specs.Worlds.{ChannelState, WorldState, box_at, far, front, goal_of, list_to, number, place, places_among, slot_count, slot_of}
-use Rattle.mc_cause.specs.Carried.{AreOfSlots, IsInside, Sees, TellsCauses, WhysState, carried_in, cause_by, cleared, is_ack, noted, origin_by, origin_seen}
+use Rattle.mc_cause.specs.Carried.{AreOfSlots, TellsCauses, WhysState, carried_in, noted}
 use Rattle.mc_cause.specs.CauseLaws.{NoneCloses}
 use Rattle.mc_cause.specs.Causes.{Known, becomes_closed, cause, is_closed, known_after, known_from, next_world, none_known, origin, sends, taken, takes_close, taking, where_close}
-use Rattle.mc_cause.specs.Notes.{NotesTurn, closing_cause}
-use Rattle.mc_cause.specs.declared.look.Seen.{Seen}
+use Rattle.mc_cause.specs.Notes.{NotesBox}
 use Rattle.mc_cause.proofs.Known.{AreCounted, counted_from_new, known_more, next_is, run_more, same_count, waits_few}
 use Rattle.mc_cause.proofs.Sending.{close_is_taken}
 use Rattle.mc_cause.proofs.Telling.{carried_some, last_at, slot_noted, slot_untouched}
-use Rattle.mc_cause.proofs.Told.{ack_taken, count_here, count_none, step_told}
+use Rattle.mc_cause.proofs.Told.{ack_taken, count_none, step_told}
 use Rattle.mc_box.proofs.Options.{if_some, map_some, then_some}
 use Rattle.mc_box.proofs.TakeTurns.{TookBy, take_turned}
 use Rattle.mc_laws.proofs.ActedWorlds.{far_inside}
@@ -52,7 +51,7 @@ known_turns (turn ∷ turns) world known =
     rest ∙ omega arith
 
 -- the far slot of one that takes a close carries where that came from
-close_origin : (world : WorldState) (turn : Turn) (known : Known) (origins : List (Option ℕ)) (t fallback : ℕ) → IsSound world → AreCounted world known → takes_close world turn ≡ Some t
+pub close_origin : (world : WorldState) (turn : Turn) (known : Known) (origins : List (Option ℕ)) (t fallback : ℕ) → IsSound world → AreCounted world known → takes_close world turn ≡ Some t
     → get_or origins (far t) None ≡ carried_in (slot_of world (far t)).state (last_or None (known.origins (far t))) → unwrap_or (get_or origins (far t) None) fallback ≡ origin known (Some t)
 close_origin world turn known origins t fallback sound counted is carried =
     let takes = close_is_taken world turn t is in
@@ -66,31 +65,6 @@ close_origin world turn known origins t fallback sound counted is carried =
     let waited : 1 ≤ waits (slot_of world (far t)).state = omega arith in
     let place : known.taken t + 1 ≡ length (known.origins (far t)) = omega arith in
     ap (λ (o : Option ℕ). unwrap_or o fallback) (carried ∙ (carried_some (slot_of world (far t)).state (last_or None (known.origins (far t))) waited ∙ last_at (known.origins (far t)) None (known.taken t) place))
-
--- by what a slot takes
-taken_origin : (signal : Signal) (world : WorldState) (turn : Turn) (known : Known) (origins : List (Option ℕ)) (slot number : ℕ) → IsSound world → AreCounted world known
-    → ((s : ℕ) → s < slot_count world → get_or origins s None ≡ carried_in (slot_of world s).state (last_or None (known.origins s))) → number ≡ known.turns + 1
-    → taken world turn ≡ Some signal → taking world turn ≡ Some slot → origin_by signal origins slot number ≡ origin known (takes_close world turn)
-taken_origin signal world turn known origins slot number sound counted carried count is at =
-    let closing : takes_close world turn ≡ where_close (Some signal) (Some slot) = ap (λ (o : Option Signal). where_close o (taking world turn)) is ∙ ap (λ (o : Option ℕ). where_close (Some signal) o) at in
-    by_signal signal closing ∙ ap (origin known) (sym closing)
-  where
-    by_signal : (signal : Signal) → takes_close world turn ≡ where_close (Some signal) (Some slot) → origin_by signal origins slot number ≡ origin known (where_close (Some signal) (Some slot))
-    by_signal Close closing =
-        close_origin world turn known origins slot number sound counted closing (carried (far slot) (far_inside world slot (close_is_taken world turn slot closing).inside))
-    by_signal Closeack closing = count
-    by_signal (Open medium d) closing = count
-    by_signal (Oack d) closing = count
-    by_signal (Describe d) closing = count
-    by_signal (Select s) closing = count
-
-seen_origin : (seen : Option Seen) (world : WorldState) (turn : Turn) (known : Known) (origins : List (Option ℕ)) (number : ℕ) → IsSound world → AreCounted world known
-    → ((s : ℕ) → s < slot_count world → get_or origins s None ≡ carried_in (slot_of world s).state (last_or None (known.origins s))) → number ≡ known.turns + 1
-    → Sees world turn seen → origin_seen seen origins number ≡ origin known (takes_close world turn)
-seen_origin None world turn known origins number sound counted carried count sees =
-    count ∙ ap (origin known) (sym (ap (λ (o : Option Signal). where_close o (taking world turn)) sees))
-seen_origin (Some seen) world turn known origins number sound counted carried count sees =
-    taken_origin seen.signal world turn known origins seen.slot number sound counted carried count sees.signal sees.slot
 
 -- ---- which slots send nothing in a Take
 
@@ -133,7 +107,7 @@ taking_idle : (event : Event) (world next : WorldState) (who slot s : ℕ) → I
 taking_idle (Take local) world next who slot s sound below goes at inside apart third = take_idle world next who local slot s sound below goes at inside apart third
 taking_idle event world next who slot s sound below goes at inside apart third = absurd (cc)
 
-turn_idle : (world next : WorldState) (turn : Turn) (slot s : ℕ) → IsSound world → step world turn ≡ Some next → taking world turn ≡ Some slot
+pub turn_idle : (world next : WorldState) (turn : Turn) (slot s : ℕ) → IsSound world → step world turn ≡ Some next → taking world turn ≡ Some slot
     → s < slot_count world → s ≢ slot → (partner_of world slot ≡ Some s → ⊥) → sends world turn s ≡ []
 turn_idle world next turn slot s sound goes at inside apart third =
     let one = if_some (nat_lt turn.who (length world.boxes)) (step_by world turn.who turn.event) next goes in
@@ -158,18 +132,10 @@ none_taking world next turn goes none =
 
 -- ---- what each slot carries then
 
-ack_none : (world : WorldState) (turn : Turn) (s : ℕ) → (taking world turn ≡ Some s → ⊥) → ack_taken world turn s ≡ 0
+pub ack_none : (world : WorldState) (turn : Turn) (s : ℕ) → (taking world turn ≡ Some s → ⊥) → ack_taken world turn s ≡ 0
 ack_none world turn s other = count_none ack_of (taken world turn) (taking world turn) s other
 
-acked_is : (signal : Signal) → is_ack signal ≡ true → ack_of signal ≡ 1
-acked_is Closeack is = refl
-acked_is signal is = absurd (cc)
-
-acked_not : (signal : Signal) → is_ack signal ≡ false → ack_of signal ≡ 0
-acked_not Closeack is = absurd (cc)
-acked_not signal is = refl
-
-cases_partner : (beside : Option ℕ) (s : ℕ) → (beside ≡ Some s) ⊎ (beside ≡ Some s → ⊥)
+pub cases_partner : (beside : Option ℕ) (s : ℕ) → (beside ≡ Some s) ⊎ (beside ≡ Some s → ⊥)
 cases_partner None s = inr (λ is. no_such s is)
   where
     no_such : (s : ℕ) → None ≡ Some s → ⊥
@@ -179,68 +145,51 @@ cases_partner (Some p) s = elim (cases_eq p s) [
   | inr apart ↦ inr (λ is. apart (let same : p ≡ s = cc in same))
 ]
 
-same_place : (world next : WorldState) (turn : Turn) (s : ℕ) → IsSound world → step world turn ≡ Some next → place next s ≡ place world s
+pub same_place : (world next : WorldState) (turn : Turn) (s : ℕ) → IsSound world → step world turn ≡ Some next → place next s ≡ place world s
 same_place world next turn s sound goes = ap (λ (channels : List ChannelState). get_or (places_among channels) s (0, 0)) (step_acts world next turn sound goes).channels
 
 -- what is carried of these turns
 abbrev pub AreCarried : WorldState → Known → List (Option ℕ) → Type 0
 AreCarried world known origins = (s : ℕ) → s < slot_count world → get_or origins s None ≡ carried_in (slot_of world s).state (last_or None (known.origins s))
 
-false_true : false ≡ true → ⊥
-false_true is = cc
+-- a slot that sends no close, and takes nothing, carries what it did
+pub still_carried : (world next : WorldState) (turn : Turn) (known : Known) (origins new : List (Option ℕ)) (s : ℕ) → IsSound world → step world turn ≡ Some next → AreCarried world known origins → s < slot_count world
+    → (taking world turn ≡ Some s → ⊥) → closes (sends world turn s) ≡ 0 → get_or new s None ≡ get_or origins s None
+    → get_or new s None ≡ carried_in (slot_of next s).state (last_or None ((known_after known world turn).origins s))
+still_carried world next turn known origins new s sound goes carried inside other none is =
+    slot_untouched (slot_of next s).state (slot_of world s).state (closes (sends world turn s)) (ack_taken world turn s) (origin known (takes_close world turn)) (known.origins s) (get_or origins s None) (get_or new s None)
+    none (ack_none world turn s other) (step_told world next turn s sound goes inside).waiting (carried s inside) is
 
-carried_after : (seen : Option Seen) (world next : WorldState) (turn : Turn) (known : Known) (origins new whys new_whys : List (Option ℕ)) (from : ℕ) → IsSound world → step world turn ≡ Some next → AreCounted world known
-    → AreCarried world known origins → from ≡ origin known (takes_close world turn) → Sees world turn seen → NotesTurn next turn.who seen from origins new whys new_whys
-    → AreCarried next (known_after known world turn) new
-carried_after None world next turn known origins new whys new_whys from sound goes counted carried is sees notes s below =
+-- one that takes no closeack, and of which something is noted
+pub noted_carried : (world next : WorldState) (turn : Turn) (known : Known) (origins new : List (Option ℕ)) (s number : ℕ) → IsSound world → step world turn ≡ Some next → AreCounted world known → AreCarried world known origins
+    → s < slot_count world → ack_taken world turn s ≡ 0 → (1 ≤ closes (sends world turn s) → number ≡ origin known (takes_close world turn)) → get_or new s None ≡ noted (slot_of next s).state (get_or origins s None) number
+    → get_or new s None ≡ carried_in (slot_of next s).state (last_or None ((known_after known world turn).origins s))
+noted_carried world next turn known origins new s number sound goes counted carried inside no_ack same is =
+    let counts : closes (sends world turn s) + waits (slot_of world s).state ≡ ack_taken world turn s + waits (slot_of next s).state = (step_told world next turn s sound goes inside).waiting in
+    slot_noted (slot_of next s).state (slot_of world s).state (closes (sends world turn s)) number (origin known (takes_close world turn)) (known.origins s) (get_or origins s None) (get_or new s None)
+    (omega arith) same (counted s inside).waited (carried s inside) is
+
+-- where each slot of the box is noted, in a turn that takes nothing
+carried_box : (world next : WorldState) (turn : Turn) (known : Known) (origins new : List (Option ℕ)) (number : ℕ) → IsSound world → step world turn ≡ Some next → AreCounted world known
+    → AreCarried world known origins → number ≡ origin known (takes_close world turn) → taken world turn ≡ None → NotesBox next turn.who number origins new → AreCarried next (known_after known world turn) new
+carried_box world next turn known origins new number sound goes counted carried is nothing notes s below =
     let inside : s < slot_count world = subst (λ (n : ℕ). s < n) (same_count world next turn sound goes) below in
-    let told = step_told world next turn s sound goes inside in
-    let none : taking world turn ≡ None = none_taking world next turn goes sees in
-    let no_ack : ack_taken world turn s ≡ 0 = ack_none world turn s (λ at. let both : None ≡ Some s = sym none ∙ at in cc) in
-    subst (λ (o : ℕ). get_or new s None ≡ carried_in (slot_of next s).state (last_or None (known.origins s ++ replicate (closes (sends world turn s)) o))) is
-    (elim (cases_eq (place next s).0 turn.who) [
-      | inl same ↦
-          slot_noted (slot_of next s).state (slot_of world s).state (closes (sends world turn s)) (ack_taken world turn s) from false (known.origins s) (get_or origins s None) (get_or new s None)
-          told.waiting (λ acked. absurd (false_true acked)) (λ acked. no_ack) (counted s inside).waited (carried s inside) (notes.0.own s below same)
-      | inr other ↦
-          slot_untouched (slot_of next s).state (slot_of world s).state (closes (sends world turn s)) (ack_taken world turn s) from (known.origins s) (get_or origins s None) (get_or new s None)
-          (ap closes (part_other turn.who (place world s) (sendings world turn.who turn.event) (λ same. other (ap (λ (p : ℕ × ℕ). p.0) (same_place world next turn s sound goes) ∙ same))))
-          no_ack told.waiting (carried s inside) (notes.0.others s other)
-    ])
-carried_after (Some seen) world next turn known origins new whys new_whys from sound goes counted carried is sees notes s below =
-    let inside : s < slot_count world = subst (λ (n : ℕ). s < n) (same_count world next turn sound goes) below in
-    let told = step_told world next turn s sound goes inside in
-    subst (λ (o : ℕ). get_or new s None ≡ carried_in (slot_of next s).state (last_or None (known.origins s ++ replicate (closes (sends world turn s)) o))) is
-    (elim (cases_eq s seen.slot) [
-      | inl same ↦
-          let at : taking world turn ≡ Some s = sees.slot ∙ ap Some (sym same) in
-          let ack : ack_taken world turn s ≡ ack_of seen.signal = count_here ack_of (taken world turn) (taking world turn) seen.signal s sees.signal at in
-          slot_noted (slot_of next s).state (slot_of world s).state (closes (sends world turn s)) (ack_taken world turn s) from (is_ack seen.signal) (known.origins s) (get_or origins s None) (get_or new s None)
-          told.waiting (λ acked. ack ∙ acked_is seen.signal acked) (λ acked. ack ∙ acked_not seen.signal acked) (counted s inside).waited (carried s inside)
-          (subst (λ (t : ℕ). get_or new t None ≡ noted (slot_of next t).state (cleared (is_ack seen.signal) (get_or origins t None)) from) (sym same) notes.0.own)
-      | inr apart ↦
-          let no_ack : ack_taken world turn s ≡ 0 = ack_none world turn s (λ at. apart (let both : Some s ≡ Some seen.slot = sym at ∙ sees.slot in cc)) in
-          elim (cases_partner seen.partner s) [
-            | inl mate ↦
-                slot_noted (slot_of next s).state (slot_of world s).state (closes (sends world turn s)) (ack_taken world turn s) from false (known.origins s) (get_or origins s None) (get_or new s None)
-                told.waiting (λ acked. absurd (false_true acked)) (λ acked. no_ack) (counted s inside).waited (carried s inside) (notes.0.partner s apart mate)
-            | inr third ↦
-                slot_untouched (slot_of next s).state (slot_of world s).state (closes (sends world turn s)) (ack_taken world turn s) from (known.origins s) (get_or origins s None) (get_or new s None)
-                (ap closes (turn_idle world next turn seen.slot s sound goes sees.slot inside apart (λ mate. third (sees.partner ∙ mate))))
-                no_ack told.waiting (carried s inside) (notes.0.others s apart third)
-          ]
-    ])
+    let none : taking world turn ≡ None = none_taking world next turn goes nothing in
+    let other : taking world turn ≡ Some s → ⊥ = λ at. let both : None ≡ Some s = sym none ∙ at in cc in
+    elim (cases_eq (place next s).0 turn.who) [
+      | inl same ↦ noted_carried world next turn known origins new s number sound goes counted carried inside (ack_none world turn s other) (λ some. is) (notes.own s below same)
+      | inr away ↦
+          still_carried world next turn known origins new s sound goes carried inside other
+          (ap closes (part_other turn.who (place world s) (sendings world turn.who turn.event) (λ same. away (ap (λ (p : ℕ × ℕ). p.0) (same_place world next turn s sound goes) ∙ same))))
+          (notes.others s away)
+    ]
 
 -- ---- why each slot is closed then
 
--- a choice by a test that doesn't hold, and by one that chooses the same
+-- a choice by a test that doesn't hold
 not_chosen : (test : Bool) (one two : Option ℕ) → (test ≡ true → ⊥) → two ≡ (if test then one else two)
 not_chosen true one two none = absurd (none refl)
 not_chosen false one two none = refl
-
-same_choice : (test : Bool) (one other two : Option ℕ) → (test ≡ true → one ≡ other) → (if test then one else two) ≡ (if test then other else two)
-same_choice true one other two same = same refl
-same_choice false one other two same = refl
 
 not_true : (b : Bool) → not b ≡ true → b ≡ false
 not_true true is = absurd (cc)
@@ -254,66 +203,23 @@ closed_by world next turn s sound goes inside is =
     (step_told world next turn s sound goes inside).closed (not_true (is_closed (slot_of world s).state) parts.0)
     (ap (λ (w : WorldState). is_closed (slot_of w s).state) (sym (next_is world next turn goes)) ∙ parts.1)
 
--- the cause of one that does
-cause_is : (signal : Signal) (world : WorldState) (turn : Turn) (known : Known) (s from : ℕ) (own : Option ℕ) → taken world turn ≡ Some signal → taking world turn ≡ Some s → from ≡ origin known (takes_close world turn)
-    → own ≡ carried_in (slot_of world s).state (last_or None (known.origins s)) → (taken world turn ≡ Some Close) ⊎ ((taken world turn ≡ Some Closeack) × (waits (slot_of world s).state ≡ 1)) → cause_by signal from own ≡ cause known (takes_close world turn) s
-cause_is signal world turn known s from own is at origin_is carried by =
-    let closing : takes_close world turn ≡ where_close (Some signal) (Some s) = ap (λ (o : Option Signal). where_close o (taking world turn)) is ∙ ap (λ (o : Option ℕ). where_close (Some signal) o) at in
-    by_signal signal is closing ∙ ap (λ (o : Option ℕ). cause known o s) (sym closing)
-  where
-    own_last : (signal : Signal) → taken world turn ≡ Some signal → (signal ≡ Close → ⊥) → own ≡ last_or None (known.origins s)
-    own_last signal is other = elim by [
-      | inl close ↦ absurd (other (let same : Some signal ≡ Some Close = sym is ∙ close in cc))
-      | inr waited ↦ let one : waits (slot_of world s).state ≡ 1 = waited.1 in carried ∙ carried_some (slot_of world s).state (last_or None (known.origins s)) (omega arith)
-    ]
-
-    by_signal : (signal : Signal) → taken world turn ≡ Some signal → takes_close world turn ≡ where_close (Some signal) (Some s) → cause_by signal from own ≡ cause known (where_close (Some signal) (Some s)) s
-    by_signal Close is closing = ap Some (origin_is ∙ ap (origin known) closing)
-    by_signal Closeack is closing = own_last Closeack is (λ same. cc)
-    by_signal (Open medium d) is closing = own_last (Open medium d) is (λ same. cc)
-    by_signal (Oack d) is closing = own_last (Oack d) is (λ same. cc)
-    by_signal (Describe d) is closing = own_last (Describe d) is (λ same. cc)
-    by_signal (Select d) is closing = own_last (Select d) is (λ same. cc)
-
 abbrev pub AreWhys : WorldState → Known → List (Option ℕ) → Type 0
 AreWhys world known whys = (s : ℕ) → s < slot_count world → get_or whys s None ≡ known.why s
 
 -- a slot that takes nothing doesn't become closed
-why_still : (world next : WorldState) (turn : Turn) (known : Known) (s : ℕ) (old new : Option ℕ) → IsSound world → step world turn ≡ Some next → s < slot_count world → (taking world turn ≡ Some s → ⊥)
+pub why_still : (world next : WorldState) (turn : Turn) (known : Known) (s : ℕ) (old new : Option ℕ) → IsSound world → step world turn ≡ Some next → s < slot_count world → (taking world turn ≡ Some s → ⊥)
     → old ≡ known.why s → new ≡ old → new ≡ (known_after known world turn).why s
 why_still world next turn known s old new sound goes inside other was is =
     is ∙ (was ∙ not_chosen (becomes_closed world turn s) (cause known (takes_close world turn) s) (known.why s) (λ closed. other (closed_by world next turn s sound goes inside closed).0))
 
-whys_after : (seen : Option Seen) (world next : WorldState) (turn : Turn) (known : Known) (origins new whys new_whys : List (Option ℕ)) (from : ℕ) → IsSound world → step world turn ≡ Some next
-    → AreCarried world known origins → AreWhys world known whys → length whys ≡ slot_count world → from ≡ origin known (takes_close world turn) → Sees world turn seen
-    → NotesTurn next turn.who seen from origins new whys new_whys → AreWhys next (known_after known world turn) new_whys
-whys_after None world next turn known origins new whys new_whys from sound goes carried were long is sees notes s below =
+-- nor does any in a turn that takes nothing
+whys_box : (world next : WorldState) (turn : Turn) (known : Known) (whys new : List (Option ℕ)) → IsSound world → step world turn ≡ Some next → AreWhys world known whys → taken world turn ≡ None → new ≡ whys
+    → AreWhys next (known_after known world turn) new
+whys_box world next turn known whys new sound goes were nothing same s below =
     let inside : s < slot_count world = subst (λ (n : ℕ). s < n) (same_count world next turn sound goes) below in
-    let none : taking world turn ≡ None = none_taking world next turn goes sees in
-    why_still world next turn known s (get_or whys s None) (get_or new_whys s None) sound goes inside (λ at. let both : None ≡ Some s = sym none ∙ at in cc)
-    (were s inside) (ap (λ (l : List (Option ℕ)). get_or l s None) notes.1)
-whys_after (Some seen) world next turn known origins new whys new_whys from sound goes carried were long is sees notes s below =
-    let inside : s < slot_count world = subst (λ (n : ℕ). s < n) (same_count world next turn sound goes) below in
-    let why_now : Option ℕ = closing_cause seen.closed (slot_of next seen.slot).state (cause_by seen.signal from (get_or origins seen.slot None)) (get_or whys seen.slot None) in
-    let there : seen.slot < length whys = subst (λ (n : ℕ). seen.slot < n) (sym long) sees.inside.slot in
-    elim (cases_eq s seen.slot) [
-      | inl same ↦
-          subst (λ (t : ℕ). get_or new_whys t None ≡ (known_after known world turn).why t) (sym same)
-          (ap (λ (l : List (Option ℕ)). get_or l seen.slot None) notes.1
-          ∙ (get_or-set_same whys seen.slot (closing_cause seen.closed (slot_of next seen.slot).state (cause_by seen.signal from (get_or origins seen.slot None)) (get_or whys seen.slot None)) None there
-          ∙ (ap (λ (b : Bool). closing_cause b (slot_of next seen.slot).state (cause_by seen.signal from (get_or origins seen.slot None)) (get_or whys seen.slot None)) sees.closed
-          ∙ (ap (λ (w : WorldState). closing_cause (is_closed (slot_of world seen.slot).state) (slot_of w seen.slot).state (cause_by seen.signal from (get_or origins seen.slot None)) (get_or whys seen.slot None))
-          (sym (next_is world next turn goes))
-          ∙ (same_choice (becomes_closed world turn seen.slot) (cause_by seen.signal from (get_or origins seen.slot None)) (cause known (takes_close world turn) seen.slot) (get_or whys seen.slot None)
-          (λ closed. cause_is seen.signal world turn known seen.slot from (get_or origins seen.slot None) sees.signal sees.slot is (carried seen.slot sees.inside.slot)
-          (closed_by world next turn seen.slot sound goes sees.inside.slot closed).1)
-          ∙ ap (λ (old : Option ℕ). if becomes_closed world turn seen.slot then cause known (takes_close world turn) seen.slot else old) (were seen.slot sees.inside.slot))))))
-      | inr apart ↦
-          why_still world next turn known s (get_or whys s None) (get_or new_whys s None) sound goes inside
-          (λ at. apart (let both : Some s ≡ Some seen.slot = sym at ∙ sees.slot in cc)) (were s inside)
-          (ap (λ (l : List (Option ℕ)). get_or l s None) notes.1
-          ∙ get_or-set_other whys seen.slot s (closing_cause seen.closed (slot_of next seen.slot).state (cause_by seen.signal from (get_or origins seen.slot None)) (get_or whys seen.slot None)) None apart)
-    ]
+    let none : taking world turn ≡ None = none_taking world next turn goes nothing in
+    why_still world next turn known s (get_or whys s None) (get_or new s None) sound goes inside (λ at. let both : None ≡ Some s = sym none ∙ at in cc)
+    (were s inside) (ap (λ (l : List (Option ℕ)). get_or l s None) same)
 
 -- ---- one turn more
 
@@ -345,17 +251,16 @@ tells_after first last next turns turn old new tells goes count carried are =
       whys = subst (λ (k : Known). AreWhys next k new.whys) (sym more) are;
     }
 
--- a turn that may close
-pub tells_more : (first last next : WorldState) (turns : List Turn) (turn : Turn) (old new : WhysState) (seen : Option Seen) → TellsCauses first turns last old → step last turn ≡ Some next → new.turns ≡ old.turns + 1
-    → length old.whys ≡ slot_count last → Sees last turn seen → NotesTurn next turn.who seen (origin_seen seen old.origins (old.turns + 1)) old.origins new.origins old.whys new.whys
-    → TellsCauses first (turns ++ turn ∷ []) next new
-tells_more first last next turns turn old new seen tells goes count long sees notes =
+-- a turn that takes nothing, and may close of its own accord
+pub tells_box : (first last next : WorldState) (turns : List Turn) (turn : Turn) (old new : WhysState) → TellsCauses first turns last old → step last turn ≡ Some next → new.turns ≡ old.turns + 1
+    → taken last turn ≡ None → NotesBox next turn.who (old.turns + 1) old.origins new.origins → new.whys ≡ old.whys → TellsCauses first (turns ++ turn ∷ []) next new
+tells_box first last next turns turn old new tells goes count nothing notes same =
     let known = knows_closes first last turns old tells in
-    let is : origin_seen seen old.origins (old.turns + 1) ≡ origin (known_from none_known first turns) (takes_close last turn) =
-    seen_origin seen last turn (known_from none_known first turns) old.origins (old.turns + 1) known.sound known.counted tells.origins known.number sees in
+    let is : old.turns + 1 ≡ origin (known_from none_known first turns) (takes_close last turn) =
+    known.number ∙ ap (origin (known_from none_known first turns)) (sym (ap (λ (o : Option Signal). where_close o (taking last turn)) nothing)) in
     tells_after first last next turns turn old new tells goes count
-    (carried_after seen last next turn (known_from none_known first turns) old.origins new.origins old.whys new.whys (origin_seen seen old.origins (old.turns + 1)) known.sound goes known.counted tells.origins is sees notes)
-    (whys_after seen last next turn (known_from none_known first turns) old.origins new.origins old.whys new.whys (origin_seen seen old.origins (old.turns + 1)) known.sound goes tells.origins tells.whys long is sees notes)
+    (carried_box last next turn (known_from none_known first turns) old.origins new.origins (old.turns + 1) known.sound goes known.counted tells.origins is nothing notes)
+    (whys_box last next turn (known_from none_known first turns) old.whys new.whys known.sound goes tells.whys nothing same)
 
 -- ---- at the beginning
 
@@ -387,13 +292,6 @@ all_slots world origins whys one two = record {
     the_none = None
 
 -- ---- what a step asks for
-
-pub sees_inside : (seen : Option Seen) (world next : WorldState) (turn : Turn) → IsSound world → step world turn ≡ Some next → Sees world turn seen → IfSome seen (IsInside next)
-sees_inside None world next turn sound goes sees = tt
-sees_inside (Some seen) world next turn sound goes sees = record {
-  slot = subst (λ (n : ℕ). seen.slot < n) (sym (same_count world next turn sound goes)) sees.inside.slot;
-  partner = subst (λ (n : ℕ). IfSome seen.partner (λ p. p < n)) (sym (same_count world next turn sound goes)) sees.inside.partner;
-}
 
 pub turn_here : (world next : WorldState) (turn : Turn) → IsSound world → step world turn ≡ Some next → turn.who < length next.boxes
 turn_here world next turn sound goes =

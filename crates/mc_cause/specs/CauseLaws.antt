@@ -9,7 +9,8 @@ use Rattle.mc_slot.specs.declared.SlotGoal.{SlotGoal}
 use Rattle.mc_slot.specs.declared.SlotGoal.TheVariants.{End}
 use Rattle.mc_slot.specs.declared.State.TheVariants.{Closing}
 use Rattle.mc_box.specs.Boxes.{BoxState, goal_at}
-use Rattle.mc_box.specs.declared.event.Change.TheVariants.{End as NewEnd}
+use Rattle.mc_box.specs.declared.event.Change.{Change}
+use Rattle.mc_box.specs.declared.event.Change.TheVariants.{End as NewEnd, Link as NewLink}
 use Rattle.mc_box.specs.declared.event.Event.{Event}
 use Rattle.mc_box.specs.declared.event.Event.TheVariants.{Take, Set, Shift}
 use Rattle.mc_box.specs.declared.event.Turn.{Turn}
@@ -26,6 +27,17 @@ is_close_goal goal = false
 abbrev pub is_open : Option Signal → Bool
 is_open (Some (Open medium d)) = true
 is_open signal = false
+
+-- the change gives a slot the goal close
+abbrev pub gives_close : Change → Bool
+gives_close (NewEnd local goal) = is_close_goal (End goal)
+gives_close (NewLink first second) = false
+
+-- an event that takes nothing closes of its own accord
+abbrev pub closes_by : Event → Bool
+closes_by (Set change) = gives_close change
+closes_by Shift = true
+closes_by event = false
 
 abbrev pub begins_by : WorldState → ℕ → Event → Bool
 begins_by world who (Set (NewEnd local ToClose)) = true

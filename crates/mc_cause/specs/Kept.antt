@@ -1,6 +1,4 @@
 -- What causes keep by themselves.
-use Rattle.std.specs.Prelude.{◌≡◌, length}
-use Rattle.mc_model.specs.Worlds.{slot_count}
 use Rattle.mc_cause.specs.Carried.{AreOfSlots, CausesState}
 use Rattle.mc_cause.specs.declared.causes.Causes.TheInside.{Inside}
 

@@ -58,9 +58,8 @@ impl Causes {
             → OnOk result (TellsCauses first (turns ++ turn ∷ []) self.new.world self.new.whys) }
     {
         self.world.keeps();
-        let look = self.whys.look(&self.world, turn);
         self.world.step(turn.who, turn.event)?;
-        self.whys.note(&self.world, turn, look);
+        self.whys.note(&self.world, turn);
         Ok(())
     }
 

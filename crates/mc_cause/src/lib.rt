@@ -3,10 +3,8 @@
 
 mod causes;
 pub mod laws;
-mod look;
 mod notes;
 mod whys;
 
 pub use causes::Causes;
-pub use look::{Look, Seen};
 pub use whys::Whys;

@@ -1,64 +1,152 @@
-// What is carried after a turn.
+// What is carried after a turn, by the world after it.
 
-ghost use Rattle.std.specs.Prelude.{◌≡◌, ◌<◌, length, slice_index_or, slice_set, IfSome, None};
-ghost use Rattle.mc_cause.specs.Carried.{IsInside, IsInsideLook, cause_by, is_ack, noted, origin_by, origin_seen};
-ghost use Rattle.mc_cause.specs.Notes.{Notes, NotesBox, NotesTake, NotesTurn, closing_cause};
-ghost use Rattle.mc_model.specs.Worlds.{slot_count, slot_of};
+ghost use Rattle.std.specs.Prelude.{◌≡◌, ◌<◌, length, slice_index_or, slice_set, None};
+ghost use Rattle.mc_box.specs.Boxes.{slot_at};
+ghost use Rattle.mc_box.specs.declared.event.Event.TheVariants.{Take};
+ghost use Rattle.mc_cause.specs.Carried.{noted, origin_at};
+ghost use Rattle.mc_cause.specs.CauseLaws.{closes_by, gives_close};
+ghost use Rattle.mc_cause.specs.Causes.{is_closed};
+ghost use Rattle.mc_cause.specs.Notes.{IsInside, Notes, NotesBox, NotesClosed, NotesOther, NotesTaken, with_partner, with_slot};
+ghost use Rattle.mc_model.specs.Paths.{partner_of};
+ghost use Rattle.mc_model.specs.Worlds.{box_at, slot_count};
 
-use crate::look::{Look, Seen, is_closed};
-use mc_signal::Signal;
-use mc_slot::State;
+use mc_box::{Change, Event, Turn};
+use mc_slot::{Goal, State};
 use mc_world::World;
 
-// Notes all of a turn of this number, by what was seen before it.
+// Notes all of a turn of this number.
 pub fn note(
     world: &World,
-    who: u32,
-    look: Look,
+    turn: Turn,
     number: u32,
     origins: &mut [Option<u32>],
     whys: &mut [Option<u32>],
 )
     requires origins { length origins.old ≡ slot_count world.now }
     requires whys { length whys.old ≡ slot_count world.now }
-    requires inside { IsInsideLook world.now look }
-    requires here { who < length world.now.boxes }
-    ensures { Notes world.now who look number origins.old origins.new whys.old whys.new }
+    requires here { turn.who < length world.now.boxes }
+    requires inside { IsInside world.now turn.who turn.event }
+    ensures { Notes world.now turn.who turn.event number origins.old origins.new whys.old whys.new }
 {
-    match look {
-        Look::MayClose(taken) => {
-            let origin = origin(world, origins, taken, number);
-            note_turn(world, who, taken, origin, origins, whys);
-        }
-        Look::Other => {}
+    match turn.event {
+        Event::Take(local) => note_take(world, turn.who, local, number, origins, whys),
+        event => note_other(world, turn.who, event, number, origins),
     }
 }
 
-// From which turn the closes come of a turn of this number: where it takes a close, the far slot carries it.
-fn origin(world: &World, origins: &[Option<u32>], taken: Option<Seen>, number: u32) -> u32
-    requires long { length origins.now ≡ slot_count world.now }
-    requires inside { IfSome taken (IsInside world.now) }
-    ensures { result ≡ origin_seen taken origins.now number }
+// Notes a Take. Where the slot is opened or flowing after it, nothing has closed.
+fn note_take(
+    world: &World,
+    who: u32,
+    local: u8,
+    number: u32,
+    origins: &mut [Option<u32>],
+    whys: &mut [Option<u32>],
+)
+    requires origins { length origins.old ≡ slot_count world.now }
+    requires whys { length whys.old ≡ slot_count world.now }
+    requires here { who < length world.now.boxes }
+    requires inside { local < length (box_at world.now who).slots }
+    ensures { Notes world.now who (Take local) number origins.old origins.new whys.old whys.new }
 {
-    match taken {
-        Some(seen) => origin_at(world, origins, seen.slot, seen.signal, number),
+    let home = &world.boxes()[who as usize];
+    let taker = &home.slots()[local as usize];
+    if !taker.live() {
+        match world.number(who, local) {
+            Some(slot) => note_taken(world, slot, taker.state, number, origins, whys),
+            None => {}
+        }
+    }
+}
+
+// The same of the slot that has taken.
+fn note_taken(
+    world: &World,
+    slot: u32,
+    state: State,
+    number: u32,
+    origins: &mut [Option<u32>],
+    whys: &mut [Option<u32>],
+)
+    requires origins { length origins.old ≡ slot_count world.now }
+    requires whys { length whys.old ≡ slot_count world.now }
+    requires inside { slot < slot_count world.now }
+    ensures { NotesTaken world.now slot state number origins.old origins.new whys.old whys.new }
+{
+    if is_closed(state) {
+        note_closed(world, slot, number, origins, whys);
+    } else {
+        let old = origins[slot as usize];
+        origins[slot as usize] = noted(state, old, number);
+    }
+}
+
+// Whether a slot in this state is closed.
+fn is_closed(state: State) -> bool
+    ensures { result ≡ is_closed state }
+{
+    matches!(state, State::Closed)
+}
+
+// Notes a slot that has become closed: by its closeack, where it has waited for one, and else by a close.
+fn note_closed(
+    world: &World,
+    slot: u32,
+    number: u32,
+    origins: &mut [Option<u32>],
+    whys: &mut [Option<u32>],
+)
+    requires origins { length origins.old ≡ slot_count world.now }
+    requires whys { length whys.old ≡ slot_count world.now }
+    requires inside { slot < slot_count world.now }
+    ensures { NotesClosed world.now slot (slice_index_or origins.old slot None) number
+        origins.old origins.new whys.old whys.new }
+{
+    match origins[slot as usize] {
+        Some(own) => {
+            whys[slot as usize] = Some(own);
+            origins[slot as usize] = None;
+        }
+        None => {
+            let origin = origin_at(world, origins, slot, number);
+            whys[slot as usize] = Some(origin);
+            note_partner(world, slot, origin, origins);
+        }
+    }
+}
+
+// From which turn the close comes that a slot takes: the far slot carries it.
+fn origin_at(world: &World, origins: &[Option<u32>], slot: u32, number: u32) -> u32
+    requires long { length origins.now ≡ slot_count world.now }
+    requires inside { slot < slot_count world.now }
+    ensures { result ≡ origin_at origins.now slot number }
+{
+    match origins[world.far(slot) as usize] {
+        Some(origin) => origin,
         None => number,
     }
 }
 
-// The same where a slot takes a signal.
-fn origin_at(world: &World, origins: &[Option<u32>], slot: u32, signal: Signal, number: u32) -> u32
-    requires long { length origins.now ≡ slot_count world.now }
+// Notes what the slot carries that this one is linked with.
+fn note_partner(world: &World, slot: u32, origin: u32, origins: &mut [Option<u32>])
+    requires long { length origins.old ≡ slot_count world.now }
     requires inside { slot < slot_count world.now }
-    ensures { result ≡ origin_by signal origins.now slot number }
+    ensures { origins.new ≡ with_partner world.now (partner_of world.now slot) origin origins.old }
 {
-    match signal {
-        Signal::Close => match origins[world.far(slot) as usize] {
-            Some(origin) => origin,
-            None => number,
-        },
-        _ => number,
+    match world.partner(slot) {
+        Some(partner) => note_slot(world, partner, origin, origins),
+        None => {}
     }
+}
+
+// Notes what one slot carries.
+fn note_slot(world: &World, slot: u32, origin: u32, origins: &mut [Option<u32>])
+    requires long { length origins.old ≡ slot_count world.now }
+    requires inside { slot < slot_count world.now }
+    ensures { origins.new ≡ with_slot world.now slot origin origins.old }
+{
+    let old = origins[slot as usize];
+    origins[slot as usize] = noted(world.slot(slot).state, old, origin);
 }
 
 // What a slot in this state carries: what it carried, or else this turn.
@@ -74,63 +162,35 @@ fn noted(state: State, old: Option<u32>, origin: u32) -> Option<u32>
     }
 }
 
-// Notes what one slot carries.
-fn note_slot(world: &World, slot: u32, origin: u32, origins: &mut [Option<u32>])
+// Notes another event: what the slots of its box carry, where it may close of its own accord. Most turns are Takes, and
+// are noted in fewer instructions where this is a call.
+#[inline(never)]
+fn note_other(world: &World, who: u32, event: Event, number: u32, origins: &mut [Option<u32>])
     requires long { length origins.old ≡ slot_count world.now }
-    requires inside { slot < slot_count world.now }
-    ensures { origins.new ≡ slice_set origins.old slot
-        (noted (slot_of world.now slot).state (slice_index_or origins.old slot None) origin) }
-{
-    let old = origins[slot as usize];
-    origins[slot as usize] = noted(world.slot(slot).state, old, origin);
-}
-
-// Notes a turn of a box that may close, by what it takes and from which turn its closes come.
-fn note_turn(
-    world: &World,
-    who: u32,
-    taken: Option<Seen>,
-    origin: u32,
-    origins: &mut [Option<u32>],
-    whys: &mut [Option<u32>],
-)
-    requires origins { length origins.old ≡ slot_count world.now }
-    requires whys { length whys.old ≡ slot_count world.now }
-    requires inside { IfSome taken (IsInside world.now) }
     requires here { who < length world.now.boxes }
-    ensures { NotesTurn world.now who taken origin origins.old origins.new whys.old whys.new }
+    ensures { NotesOther (closes_by event) world.now who number origins.old origins.new }
 {
-    match taken {
-        Some(seen) => {
-            let why = cause(seen.signal, origin, origins[seen.slot as usize]);
-            note_why(world, seen, why, whys);
-            note_take(world, seen, origin, origins);
-        }
-        None => note_box(world, who, origin, origins),
+    if closes_by(event) {
+        note_box(world, who, number, origins);
     }
 }
 
-// Notes what the slots carry that a Take concerns.
-fn note_take(world: &World, taken: Seen, origin: u32, origins: &mut [Option<u32>])
-    requires long { length origins.old ≡ slot_count world.now }
-    requires inside { IsInside world.now taken }
-    ensures { NotesTake world.now taken.slot taken.partner (is_ack taken.signal) origin origins.old origins.new }
+// Whether an event that takes nothing closes of its own accord.
+fn closes_by(event: Event) -> bool
+    ensures { result ≡ closes_by event }
 {
-    if is_ack(taken.signal) {
-        origins[taken.slot as usize] = None;
-    }
-    note_slot(world, taken.slot, origin, origins);
-    match taken.partner {
-        Some(partner) => note_slot(world, partner, origin, origins),
-        None => {}
+    match event {
+        Event::Set(change) => gives_close(change),
+        Event::Shift => true,
+        Event::Take(_) | Event::Media(_) | Event::Tell(_) | Event::Retry(_) => false,
     }
 }
 
-// Whether the signal is a closeack.
-fn is_ack(signal: Signal) -> bool
-    ensures { result ≡ is_ack signal }
+// Whether a slot gets the goal close.
+fn gives_close(change: Change) -> bool
+    ensures { result ≡ gives_close change }
 {
-    matches!(signal, Signal::Closeack)
+    matches!(change, Change::End(_, Goal::Close))
 }
 
 // Notes what the slots of a box carry.
@@ -146,43 +206,5 @@ fn note_box(world: &World, who: u32, origin: u32, origins: &mut [Option<u32>])
             Some(slot) => note_slot(world, slot, origin, origins),
             None => {}
         }
-    }
-}
-
-// Why the slot is closed that has taken a signal, where it has become closed by that.
-fn note_why(world: &World, taken: Seen, cause: Option<u32>, whys: &mut [Option<u32>])
-    requires long { length whys.old ≡ slot_count world.now }
-    requires inside { taken.slot < slot_count world.now }
-    ensures { whys.new ≡ slice_set whys.old taken.slot
-        (closing_cause taken.closed (slot_of world.now taken.slot).state cause
-        (slice_index_or whys.old taken.slot None)) }
-{
-    let old = whys[taken.slot as usize];
-    whys[taken.slot as usize] = closing_cause(
-        taken.closed,
-        world.slot(taken.slot).state,
-        cause,
-        old,
-    );
-}
-
-// The cause, where the slot was open and is closed now.
-fn closing_cause(closed: bool, state: State, cause: Option<u32>, old: Option<u32>) -> Option<u32>
-    ensures { result ≡ closing_cause closed state cause old }
-{
-    if !closed && is_closed(state) {
-        cause
-    } else {
-        old
-    }
-}
-
-// Why a slot becomes closed that takes this.
-fn cause(signal: Signal, origin: u32, own: Option<u32>) -> Option<u32>
-    ensures { result ≡ cause_by signal origin own }
-{
-    match signal {
-        Signal::Close => Some(origin),
-        _ => own,
     }
 }

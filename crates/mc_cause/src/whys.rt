@@ -2,19 +2,18 @@
 
 ghost use Rattle.std.specs.Prelude.{◌≡◌, ◌<◌, ◌+◌, ◌^◌, ◌++◌, [], ◌∷◌, List, length, replicate, slice_index_or, None, IfOk};
 ghost use Rattle.mc_box.specs.declared.event.Turn.{Turn};
-ghost use Rattle.mc_cause.specs.Carried.{AreOfSlots, HasHappened, HasLooked, Looks, TellsCauses};
+ghost use Rattle.mc_cause.specs.Carried.{AreOfSlots, HasHappened, IsAfterTurn, TellsCauses};
 ghost use Rattle.mc_cause.specs.CauseLaws.{NoneCloses};
 ghost use Rattle.mc_model.specs.Worlds.{WorldState};
 
-use crate::look::{Look, look_before};
 use crate::notes::note;
 use mc_box::Turn;
 use mc_world::World;
 use std::alloc::{AllocError, Global};
 use std::marker::Model;
 
-/// Why the closed slots of a world are closed, for whoever keeps the world. Before each turn they `look`, then the turn
-/// is made, and `note` has both. A number beside each close under way tells from which turn it came.
+/// Why the closed slots of a world are closed, for whoever keeps the world, and has each turn noted once it was made. A
+/// number beside each close under way tells from which turn it came.
 #[derive(Debug, Drop)]
 pub struct Whys {
     turns: u32,
@@ -53,33 +52,18 @@ impl Whys {
         })
     }
 
-    /// What a turn may do to closes, seen in the world before it. It is noted once the turn was made.
-    pub fn look(&self, world: &World, turn: Turn) -> Look
-        ensures { Looks world.now turn result }
-    {
-        look_before(world, turn)
-    }
-
-    /// Notes a turn that was made, by the world after it and by what `look` saw before it. Fewer than 4,294,967,295
-    /// turns were made before.
-    pub fn note(&mut self, world: &World, turn: Turn, look: Look)
+    /// Notes a turn that was made, by the world after it. Fewer than 4,294,967,295 turns were made before.
+    pub fn note(&mut self, world: &World, turn: Turn)
         requires few { self.old.turns + 1 < 2 ^ 32 }
-        requires looked { HasLooked world.now turn look self.old }
+        requires after { IsAfterTurn world.now turn self.old }
         ensures turns { self.new.turns ≡ self.old.turns + 1 }
         ensures slots { AreOfSlots world.now self.new }
         ensures tells { (first before : WorldState) (turns : List Turn) → TellsCauses first turns before self.old
-            → HasHappened before world.now turn look → TellsCauses first (turns ++ turn ∷ []) world.now self.new }
+            → HasHappened before world.now turn → TellsCauses first (turns ++ turn ∷ []) world.now self.new }
     {
         let number = self.turns + 1;
         self.turns = number;
-        note(
-            world,
-            turn.who,
-            look,
-            number,
-            &mut self.origins,
-            &mut self.whys,
-        );
+        note(world, turn, number, &mut self.origins, &mut self.whys);
     }
 
     /// Why a slot is closed: from which turn the close came by which it last became closed, counted from 1. None where
@@ -115,9 +99,6 @@ fn copied(alloc: Global, numbers: &[Option<u32>]) -> Result<Vec<Option<u32>>, Al
     ensures { IfOk result (λ copied. copied.items ≡ numbers.now) }
 {
     let mut copied = Vec::new(alloc);
-    copied.reserve_exact(numbers.len())?;
-    for number in numbers {
-        copied.push(*number)?;
-    }
+    copied.extend_from_slice(numbers)?;
     Ok(copied)
 }

@@ -84,9 +84,8 @@ fn make_and_note(
     ensures notes { OnOk result (NotesMade replay.old.segment.world turn replay.new whys.old whys.new) }
 {
     replay.segment.world.keeps();
-    let look = whys.look(&replay.segment.world, turn);
     replay.make(batches, turn)?;
-    whys.note(&replay.segment.world, turn, look);
+    whys.note(&replay.segment.world, turn);
     Ok(())
 }
 

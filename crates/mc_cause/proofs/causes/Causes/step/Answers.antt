@@ -7,4 +7,4 @@ use Rattle.mc_cause.proofs.causes.Causes.step.Goals as goal
 pub returns-clause-tells : goal.returns-clause-tells
 returns-clause-tells c =
     subst (λ (st : CausesState). (first : WorldState) (turns : List Turn) → TellsCauses first turns st.world st.whys → TellsCauses first (turns ++ c.args.turn ∷ []) c.step.new.self c.note.new.self) c.self.view_is
-    (λ first turns tells. c.note.ensures.tells first c.self.inside.world turns tells (record { sound = c.keeps.ensures.sound; goes = c.in_ok-step.ensures.ok; looks = c.look-look.ensures }))
+    (λ first turns tells. c.note.ensures.tells first c.self.inside.world turns tells (record { sound = c.keeps.ensures.sound; goes = c.in_ok-step.ensures.ok }))
