@@ -48,7 +48,7 @@ pub record HasHappened (before next : WorldState) (turn : Turn) : Type 0 where
   pub sound : IsSound before
   pub goes : step before turn ≡ Some next
 
--- it has led to this world, from one of whose slots these are the causes
+-- it has led to this world, from one of which these tables have a place for each slot
 abbrev pub IsAfterTurn : WorldState → Turn → WhysState → Type 0
 IsAfterTurn next turn whys = (before : WorldState) × HasHappened before next turn × AreOfSlots before whys
 

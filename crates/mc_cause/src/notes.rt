@@ -34,7 +34,7 @@ pub fn note(
     }
 }
 
-// Notes a Take. Where the slot is opened or flowing after it, nothing has closed.
+// Notes a Take. Where the slot is opened or flowing after it, nothing has closed: so it is after most.
 fn note_take(
     world: &World,
     who: u32,
@@ -59,7 +59,7 @@ fn note_take(
     }
 }
 
-// The same of the slot that has taken.
+// The same by the slot's number, and its state.
 fn note_taken(
     world: &World,
     slot: u32,
@@ -88,7 +88,8 @@ fn is_closed(state: State) -> bool
     matches!(state, State::Closed)
 }
 
-// Notes a slot that has become closed: by its closeack, where it has waited for one, and else by a close.
+// Notes a slot that has become closed: by its closeack, where it has waited for one, and else by a close, which its link
+// passes on.
 fn note_closed(
     world: &World,
     slot: u32,

@@ -7,7 +7,7 @@ ghost use Rattle.mc_script.specs.declared.command.JournalLine.TheVariants.{Turn 
 ghost use Rattle.mc_replay.specs.Follows.{Stands};
 ghost use Rattle.mc_replay.specs.Points.{Point};
 ghost use Rattle.mc_replay.specs.Replays.{Reads, StandsAt};
-ghost use Rattle.mc_replay.specs.Told.{AddsWhys, HasNoted, HasTold, KeepsPace, NotesMade, told_of};
+ghost use Rattle.mc_replay.specs.Told.{AddsWhys, HasNoted, HasTold, KeepsPace, told_of};
 
 use crate::fault::ReplayFault;
 use crate::replay::Replay;
@@ -62,30 +62,11 @@ pub fn make_noted(
         → Reads (map batch_turns batches.now) point (Made turn) replay.old result replay.new }
     ensures notes { OnOk result (HasNoted replay.old.segment.world turn replay.new whys.old whys.new) }
 {
-    match whys {
-        Some(whys) => make_and_note(batches, turn, replay, whys),
-        None => replay.make(batches, turn),
-    }
-}
-
-// Makes a turn, and notes it.
-fn make_and_note(
-    batches: &[Batch],
-    turn: Turn,
-    replay: &mut Replay,
-    whys: &mut Whys,
-) -> Result<(), ReplayFault>
-    requires stands { Stands replay.old.segment }
-    requires few { replay.old.turns + replay.old.settled + 1 < 2 ^ 32 }
-    requires retries { replay.old.segment.retries.made ≤ replay.old.turns }
-    requires pace { KeepsPace replay.old whys.old }
-    ensures reads { (point : Point) → StandsAt (map batch_turns batches.now) point replay.old
-        → Reads (map batch_turns batches.now) point (Made turn) replay.old result replay.new }
-    ensures notes { OnOk result (NotesMade replay.old.segment.world turn replay.new whys.old whys.new) }
-{
     replay.segment.world.keeps();
     replay.make(batches, turn)?;
-    whys.note(&replay.segment.world, turn);
+    if let Some(whys) = whys {
+        whys.note(&replay.segment.world, turn);
+    }
     Ok(())
 }
 
