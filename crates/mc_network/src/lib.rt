@@ -1,0 +1,15 @@
+//! A network that is cut into parts: laid out, run by phases, and put together again.
+#![tactic(auto)]
+
+mod commands;
+mod laying;
+pub mod limit;
+mod looking;
+mod network;
+mod phase;
+
+pub use commands::{add_command, begin_settle, has_commands};
+pub use laying::{cut_network, whole_world};
+pub use looking::{first_shifter, least_ring, slot_number};
+pub use network::{Crossing, CutNetwork};
+pub use phase::run_phase;
