@@ -85,7 +85,7 @@ only_command a b made turn used there next once =
 
 -- ---- where only so much changes
 
-calm_as : (a b : Part) (who : ℕ) → box_at b.engine who ≡ box_at a.engine who → shifts_of b who ≡ shifts_of a who → IsCalm a who → IsCalm b who
+pub calm_as : (a b : Part) (who : ℕ) → box_at b.engine who ≡ box_at a.engine who → shifts_of b who ≡ shifts_of a who → IsCalm a who → IsCalm b who
 calm_as a b who box shifts (inl is) = inl (ap (λ (x : BoxState). is_enabled x Shift) box ∙ is)
 calm_as a b who box shifts (inr most) = inr (subst (λ (n : ℕ). SHIFT_LIMIT ≤ n) (sym shifts) most)
 
@@ -174,11 +174,17 @@ count_none : (n m : ℕ) (entries : List Entry) → entries ≡ [] → m ≡ n +
 count_none n m [] is counted = counted ∙ add-zero n
 count_none n m (entry ∷ entries) is counted = absurd (cc)
 
+pub stays_idle : (a b : Part) (retries : ℕ → ℕ → ℕ) (runs : Runs a b retries) → runs.run.log ≡ [] → (who : ℕ) → (box_at b.engine who ≡ box_at a.engine who) × (shifts_of b who ≡ shifts_of a who)
+stays_idle a b retries runs same who =
+    let none : own_log who runs.run.log ≡ [] = no_own runs.run.log who same in (
+      sym (by_none (own_log who runs.run.log) (box_at a.engine who) (box_at b.engine who) none (runs.run.spanned.work.made who)),
+      count_none (shifts_of a who) (shifts_of b who) (own_log who runs.run.log) none (runs.run.uses who).shifts_are,
+    )
+
 pub still_calm : (a b : Part) → Runs a b no_retries → b.log.items ≡ a.log.items → AreCalm a → AreCalm b
 still_calm a b runs same calm who inside =
-    let none : own_log who runs.run.log ≡ [] = no_own runs.run.log who (no_entries runs.run.log a.log.items b.log.items runs.run.logged same) in
-    let box : box_at b.engine who ≡ box_at a.engine who = sym (by_none (own_log who runs.run.log) (box_at a.engine who) (box_at b.engine who) none (runs.run.spanned.work.made who)) in
-    calm_as a b who box (count_none (shifts_of a who) (shifts_of b who) (own_log who runs.run.log) none (runs.run.uses who).shifts_are) (calm who (subst (λ (n : ℕ). who < n) runs.run.spanned.work.box_count inside))
+    let is = stays_idle a b no_retries runs (no_entries runs.run.log a.log.items b.log.items runs.run.logged same) who in
+    calm_as a b who is.0 is.1 (calm who (subst (λ (n : ℕ). who < n) runs.run.spanned.work.box_count inside))
 
 -- ---- commands that are left
 

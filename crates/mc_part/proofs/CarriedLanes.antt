@@ -47,9 +47,10 @@ sides_stay : (a : List Port) (channel : ℕ) (port port_2 : Port) → slice_get 
 sides_stay a channel port port_2 there is =
     map-set_same (λ (p : Port). p.starts_here) a channel port_2 port (ap (λ (p : Port). p.starts_here) is ∙ ap (λ (p : Port). p.starts_here) (sym (get_or_from_slice_get a channel port port there)))
 
-rings_stay : (a : List Port) (channel : ℕ) (port port_2 : Port) → slice_get a channel ≡ Some port → in_ring port_2.from ≡ in_ring port.from → out_ring port_2.to ≡ out_ring port.to → map rings_of (set a channel port_2) ≡ map rings_of a
-rings_stay a channel port port_2 there ring ring_2 =
-    let same : rings_of port_2 ≡ rings_of port = ap (λ (r : RingName). (r, out_ring port_2.to)) ring ∙ ap (λ (r : RingName). (in_ring port.from, r)) ring_2 in
+rings_stay : (a : List Port) (channel : ℕ) (port port_2 : Port) → slice_get a channel ≡ Some port → port_2 ≡ record port { from = port_2.from; to = port_2.to } → in_ring port_2.from ≡ in_ring port.from → out_ring port_2.to ≡ out_ring port.to → map rings_of (set a channel port_2) ≡ map rings_of a
+rings_stay a channel port port_2 there is ring ring_2 =
+    let same : rings_of port_2 ≡ rings_of port = ap (λ (r : RingName). ((r, out_ring port_2.to), (port_2.holder, port_2.first))) ring
+    ∙ (ap (λ (r : RingName). ((in_ring port.from, r), (port_2.holder, port_2.first))) ring_2 ∙ ap (λ (p : Port). ((in_ring port.from, out_ring port.to), (p.holder, p.first))) is) in
     map-set_same rings_of a channel port_2 port (same ∙ ap rings_of (sym (get_or_from_slice_get a channel port port there)))
 
 pub port_only : (a : Part) (channel lane : ℕ) (port port_2 : Port) → slice_get a.ports.items channel ≡ Some port → port_2 ≡ record port { from = port_2.from; to = port_2.to } → in_ring port_2.from ≡ in_ring port.from → out_ring port_2.to ≡ out_ring port.to
@@ -57,7 +58,7 @@ pub port_only : (a : Part) (channel lane : ℕ) (port port_2 : Port) → slice_g
 port_only a channel lane port port_2 there is ring ring_2 = record {
   ports = refl;
   sides_are = sides_stay a.ports.items channel port port_2 there is;
-  rings_are = rings_stay a.ports.items channel port port_2 there ring ring_2;
+  rings_are = rings_stay a.ports.items channel port port_2 there is ring ring_2;
   port_is = is;
   in_ring_is = ring;
   out_ring_is = ring_2;
@@ -75,7 +76,7 @@ lane_too a b channel lane items port port_2 there ports is ring ring_2 engine ke
     record {
       ports = ports;
       sides_are = ap (λ (l : List Port). sides l) ports ∙ sides_stay a.ports.items channel port port_2 there is;
-      rings_are = ap (λ (l : List Port). map rings_of l) ports ∙ rings_stay a.ports.items channel port port_2 there ring ring_2;
+      rings_are = ap (λ (l : List Port). map rings_of l) ports ∙ rings_stay a.ports.items channel port port_2 there is ring ring_2;
       port_is = is;
       in_ring_is = ring;
       out_ring_is = ring_2;

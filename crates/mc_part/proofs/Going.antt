@@ -2,7 +2,7 @@
 use Rattle.std.proofs.Common.{◌≡◌, ℕ, ◌<◌, ◌≤◌, zero, suc, true, false, Bool, List, [], ◌∷◌, length, get_or, slice_get, max, Result, Ok, Err, Some, refl, sym, subst, arith}
 use Rattle.std.proofs.Math.ListN.{set}
 use Rattle.mc_part.specs.Parts.{IsWithin, LeadsAway}
-use Rattle.mc_part.specs.Running.{EndsAs, Progresses, RunsAs, owed_of}
+use Rattle.mc_part.specs.Running.{EndsAs, Progresses, RunsAs, UsesAs, owed_of}
 use Rattle.mc_part.specs.declared.part.Part.{Part}
 use Rattle.mc_part.specs.declared.stop.Ended.{Ended}
 use Rattle.mc_part.specs.declared.stop.PartStop.{PartStop}
@@ -22,18 +22,19 @@ away_as retries a b (Err (Unable who)) runs away = still_away a b (owed_of retri
 away_as retries a b (Err (Strange who local)) runs away = still_away a b (owed_of retries a) runs away
 away_as retries a b (Err (Stray port)) runs away = still_away a b (owed_of retries a) runs away
 
-pub ran : (retries : Bool) (budget : ℕ) (a : PartRun) (part : Part) (result : Result Ended PartStop) → a.active ≡ true → IsReady retries budget a → RunsAs retries a.part part result → IsWithin part
-    → length part.log.items ≤ max budget (length a.part.log.items) → EndsAs result part budget → Progresses retries budget a.part part result → HasGone retries budget a (record a { part = part; ended = Some result })
-ran retries budget a part result active ready runs within few ends progress = record {
+pub ran : (retries every : Bool) (budget : ℕ) (a : PartRun) (part : Part) (result : Result Ended PartStop) → a.active ≡ true → IsReady retries every budget a → RunsAs retries a.part part result → IsWithin part
+    → length part.log.items ≤ max budget (length a.part.log.items) → EndsAs result part budget → Progresses retries budget a.part part result → (retries ≡ false → UsesAs budget a.part part result)
+    → HasGone retries budget a (record a { part = part; ended = Some result })
+ran retries every budget a part result active ready runs within few ends progress used = record {
   away = away_as retries a.part part result runs ready.away;
   within = within;
   active = refl;
   idle = λ off. absurd (cc);
-  ended = λ on. record { result = result; is = refl; runs = runs; few = few; ends = ends; progress = progress };
+  ended = λ on. record { result = result; is = refl; runs = runs; few = few; ends = ends; progress = progress; used = used };
 }
 
-pub idle : (retries : Bool) (budget : ℕ) (a : PartRun) → a.active ≡ false → IsReady retries budget a → HasGone retries budget a a
-idle retries budget a off ready = record { away = ready.away; within = ready.within; active = refl; idle = λ is. refl; ended = λ on. absurd (cc) }
+pub idle : (retries every : Bool) (budget : ℕ) (a : PartRun) → a.active ≡ false → IsReady retries every budget a → HasGone retries budget a a
+idle retries every budget a off ready = record { away = ready.away; within = ready.within; active = refl; idle = λ is. refl; ended = λ on. absurd (cc) }
 
 -- of one part, or none
 pub one_changed : {A : Type 0} (R : A → A → Type 0) (items : List A) (old new : A) → length items ≤ 1 → slice_get items 0 ≡ Some old → R old new → EachChanged R items (set items 0 new)
@@ -51,5 +52,5 @@ one_changed {A = A} R (first ∷ []) old new few there changed = record { count 
 pub none_changed : {A : Type 0} (R : A → A → Type 0) (items : List A) → items ≡ [] → EachChanged R items items
 none_changed {A = A} R items none = subst (λ (l : List A). EachChanged R l l) (sym none) (record { count = refl; each = λ i a b p q. absurd (cc) })
 
-pub one_ready : (retries : Bool) (budget : ℕ) (runs : List PartRun) (read : PartRun) → 0 < length runs → EachOf (IsReady retries budget) runs → IsReady retries budget (get_or runs 0 read)
-one_ready retries budget runs read some each = each 0 (get_or runs 0 read) (slice_get-get_or runs 0 read some)
+pub one_ready : (retries every : Bool) (budget : ℕ) (runs : List PartRun) (read : PartRun) → 0 < length runs → EachOf (IsReady retries every budget) runs → IsReady retries every budget (get_or runs 0 read)
+one_ready retries every budget runs read some each = each 0 (get_or runs 0 read) (slice_get-get_or runs 0 read some)

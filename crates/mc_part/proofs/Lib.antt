@@ -9,6 +9,7 @@ mod Going
 mod Halving
 mod Uses
 mod Calm
+mod Commanding
 mod Retries
 mod Progress
 pub mod Networks

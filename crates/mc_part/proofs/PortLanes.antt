@@ -18,6 +18,7 @@ use Rattle.mc_weave.specs.Turns.{no_items}
 use Rattle.mc_weave.proofs.ClockJoins.{rings_are_clocked}
 use Rattle.mc_weave.proofs.Rings.{coming_is_work, going_is_work}
 use Rattle.mc_port.specs.Ends.{RingName, given, in_ring, known, out_ring, received}
+use Rattle.mc_port.specs.declared.ends.InPort.{InPort}
 use Rattle.mc_port.specs.declared.ends.OutPort.{OutPort}
 use Rattle.mc_port.specs.declared.stamped.Stamped.{Stamped}
 use Rattle.mc_world.specs.Pumping.{is_slot_at, with_last, without_first}
@@ -52,6 +53,14 @@ pub record IsAt (a b : List Port) (channel : ℕ) (port port_2 : Port) : Type 0 
   pub starts : port_2.starts_here ≡ port.starts_here
   pub in_ring : in_ring port_2.from ≡ in_ring port.from
   pub out_ring : out_ring port_2.to ≡ out_ring port.to
+  pub kept : port_2 ≡ record port { from = port_2.from; to = port_2.to }
+
+-- a port of which only one end has changed
+pub kept_from : (port port_2 : Port) → port_2 ≡ record port { from = port_2.from } → port_2.to ≡ port.to → port_2 ≡ record port { from = port_2.from; to = port_2.to }
+kept_from port port_2 kept same = kept ∙ ap (λ (end : OutPort). record port { from = port_2.from; to = end }) (sym same)
+
+pub kept_to : (port port_2 : Port) → port_2 ≡ record port { to = port_2.to } → port_2.from ≡ port.from → port_2 ≡ record port { from = port_2.from; to = port_2.to }
+kept_to port port_2 kept same = kept ∙ ap (λ (end : InPort). record port { from = end; to = port_2.to }) (sym same)
 
 same_sides : (a b : List Port) (channel : ℕ) (port port_2 : Port) → IsAt a b channel port port_2 → sides b ≡ sides a
 same_sides a b channel port port_2 at =
@@ -60,7 +69,8 @@ same_sides a b channel port port_2 at =
 
 same_rings : (a b : List Port) (channel : ℕ) (port port_2 : Port) → IsAt a b channel port port_2 → map rings_of b ≡ map rings_of a
 same_rings a b channel port port_2 at =
-    let rings : rings_of port_2 ≡ rings_of port = ap (λ (r : RingName). (r, out_ring port_2.to)) at.in_ring ∙ ap (λ (r : RingName). (in_ring port.from, r)) at.out_ring in
+    let rings : rings_of port_2 ≡ rings_of port = ap (λ (r : RingName). ((r, out_ring port_2.to), (port_2.holder, port_2.first))) at.in_ring
+    ∙ (ap (λ (r : RingName). ((in_ring port.from, r), (port_2.holder, port_2.first))) at.out_ring ∙ ap (λ (p : Port). ((in_ring port.from, out_ring port.to), (p.holder, p.first))) at.kept) in
     ap (λ (l : List Port). map rings_of l) at.new
     ∙ map-set_same rings_of a channel port_2 port (rings ∙ ap rings_of (sym (get_or_from_slice_get a channel port port at.there)))
 
@@ -264,7 +274,7 @@ engine_runs a engine within same = subst (λ (w : WorldState). Runs a (record a 
 pub seen_run : (a : Part) (channel : ℕ) (port port_2 : Port) → IsWithin a → slice_get a.ports.items channel ≡ Some port → IsSeen port port_2 → Runs a (record a { ports = with_item a.ports channel port_2 }) no_retries
 seen_run a channel port port_2 within there seen =
     let b : Part = record a { ports = with_item a.ports channel port_2 } in
-    let at : IsAt a.ports.items b.ports.items channel port port_2 = record { there = there; new = refl; starts = seen.starts; in_ring = seen.ring; out_ring = ap (λ (p : OutPort). out_ring p) seen.to } in
+    let at : IsAt a.ports.items b.ports.items channel port port_2 = record { there = there; new = refl; starts = seen.starts; in_ring = seen.ring; out_ring = ap (λ (p : OutPort). out_ring p) seen.to; kept = seen.kept } in
     record {
       gave = no_items;
       put = no_items;

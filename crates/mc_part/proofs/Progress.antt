@@ -20,8 +20,10 @@ use Rattle.mc_weave.specs.declared.log.Made.{Made}
 use Rattle.mc_port.specs.declared.stamped.Stamped.{Stamped}
 use Rattle.mc_world.specs.Waiting.{take_waits}
 use Rattle.mc_part.proofs.Ran.{runs_as, runs_none, runs_sum}
-use Rattle.mc_part.specs.Parts.{IsWithin, Runs, no_retries, state_of, stimuli_of, tables_of}
-use Rattle.mc_part.specs.Running.{EndsAs, HasTried, HasWork, MakesSome, NoneLeft, Progresses, RunsAs, owed_of}
+use Rattle.mc_part.specs.Parts.{IsWithin, Runs, no_retries, shifts_of, state_of, stimuli_of, tables_of}
+use Rattle.mc_part.proofs.Calm.{calm_as, stays_idle}
+use Rattle.mc_box.specs.declared.limit.TheConstants.{SHIFT_LIMIT}
+use Rattle.mc_part.specs.Running.{AreCalm, EndsAs, HasTried, HasWork, IsCalm, MakesSome, MayShift, NoneLeft, Progresses, RunsAs, owed_of}
 use Rattle.mc_part.specs.declared.part.Part.{Part}
 use Rattle.mc_part.specs.declared.stop.Ended.{Ended}
 use Rattle.mc_part.specs.declared.stop.Ended.TheVariants.{Late, Rest}
@@ -90,9 +92,14 @@ used_none retries (entry ∷ entries) stimuli stimuli_2 n n_2 none uses = absurd
 own_none : (log : List Own) (who : ℕ) → log ≡ [] → own_log who log ≡ []
 own_none log who none = ap (λ (l : List Own). own_log who l) none
 
+-- a box that may make a Shift isn't calm
+still_may : (a : Part) (who : ℕ) → MayShift a who → IsCalm a who → ⊥
+still_may a who may (inl none) = let no : true ≡ false = sym may.enabled ∙ none in absurd (cc)
+still_may a who may (inr most) = let fewer : shifts_of a who < SHIFT_LIMIT = may.fewer in absurd (omega (arith, most, fewer))
+
 -- with work, and nothing left of it, a turn was made
-worked : (retries : Bool) (a b : Part) → Runs a b (owed_of retries a) → NoneLeft b → HasTried a b → HasWork retries a → length a.log.items < length b.log.items
-worked retries a b runs left tried work = elim (made_or runs.run.log a.log.items b.log.items runs.run.logged) [
+worked : (retries : Bool) (a b : Part) → Runs a b (owed_of retries a) → NoneLeft b → AreCalm b → HasTried a b → HasWork retries a → length a.log.items < length b.log.items
+worked retries a b runs left calm tried work = elim (made_or runs.run.log a.log.items b.log.items runs.run.logged) [
   | inr more ↦ more
   | inl none ↦ idle_work none tried work
 ]
@@ -104,16 +111,19 @@ worked retries a b runs left tried work = elim (made_or runs.run.log a.log.items
         let was : take_waits b.engine who local ≡ true = still_waits a b (owed_of retries a) who local runs none here.0 here.1 in
         let isnt : take_waits b.engine who local ≡ false = waits who local (subst (λ (n : ℕ). who < n) (sym runs.run.spanned.work.box_count) here.0) in
         absurd (let no : true ≡ false = sym was ∙ isnt in cc)
-    idle_work none (inl waits) (inr (inr (who, (local, owed)))) =
+    idle_work none (inl waits) (inr (inr (inl (who, (local, owed))))) =
         let is : 0 ≡ owed_of retries a who local = (used_none (owed_of retries a who) (own_log who runs.run.log) (stimuli_of a who) (stimuli_of b who) _ _ (own_none runs.run.log who none) (runs.run.uses who)).1 local in
         absurd (omega (arith, is, owed))
+    idle_work none (inl waits) (inr (inr (inr (who, may)))) =
+        let is = stays_idle a b (owed_of retries a) runs none who in
+        absurd (still_may a who may (calm_as b a who (sym is.0) (sym is.1) (calm who (subst (λ (n : ℕ). who < n) (sym runs.run.spanned.work.box_count) may.here))))
 
 spent : (retries : Bool) (budget : ℕ) (a b : Part) → budget ≤ length b.log.items → MakesSome retries budget a b
 spent retries budget a b most fewer work = omega (arith, most, fewer)
 
 pub progresses : (retries : Bool) (budget : ℕ) (a b : Part) (result : Result Ended PartStop) → RunsAs retries a b result → EndsAs result b budget → OnOk result (HasTried a b) → Progresses retries budget a b result
-progresses retries budget a b (Ok Rest) runs ends tried = λ fewer work. worked retries a b runs ends.begun.left tried work
-progresses retries budget a b (Ok Late) runs ends tried = λ fewer work. worked retries a b runs ends.begun.left tried work
+progresses retries budget a b (Ok Rest) runs ends tried = λ fewer work. worked retries a b runs ends.begun.left ends.begun.calm tried work
+progresses retries budget a b (Ok Late) runs ends tried = λ fewer work. worked retries a b runs ends.begun.left ends.begun.calm tried work
 progresses retries budget a b (Err Spent) runs ends tried = spent retries budget a b ends
 progresses retries budget a b (Err (NoMemory e)) runs ends tried = tt
 progresses retries budget a b (Err (VersionEnd who local)) runs ends tried = tt

@@ -157,3 +157,6 @@ next_is_first part turn next = (
   events_for turn.who (drop (part.used + 1) part.commands.items),
   ap (λ (l : List Turn). events_for turn.who l) (first_left part.commands.items part.used turn next) ∙ own_event turn (drop (part.used + 1) part.commands.items) turn.who refl,
 )
+
+pub first_is : (a : Part) (turn : Turn) → slice_get a.commands.items a.used ≡ Some turn → stimuli_of a turn.who ≡ turn.event ∷ events_for turn.who (drop (a.used + 1) a.commands.items)
+first_is a turn next = ap (λ (l : List Turn). events_for turn.who l) (first_left a.commands.items a.used turn next) ∙ own_event turn (drop (a.used + 1) a.commands.items) turn.who refl

@@ -1,7 +1,7 @@
 -- What parts do in a phase.
-use Rattle.std.specs.Prelude.{◌≡◌, ◌≤◌, ℕ, Bool, true, false, List, length, max, slice_get, Result, Some}
+use Rattle.std.specs.Prelude.{◌≡◌, ◌<◌, ◌≤◌, ◌^◌, ℕ, Bool, true, false, IsFalse, IsTrue, List, length, max, slice_get, Result, Some}
 use Rattle.mc_part.specs.Parts.{IsWithin, LeadsAway}
-use Rattle.mc_part.specs.Running.{AreCalmFrom, EndsAs, HasRoom, Progresses, RunsAs}
+use Rattle.mc_part.specs.Running.{AreCalmFrom, EndsAs, HasRoom, Progresses, RunsAs, UsesAs}
 use Rattle.mc_part.specs.declared.stop.Ended.{Ended}
 use Rattle.mc_part.specs.declared.stop.PartStop.{PartStop}
 use Rattle.mc_part.specs.declared.part_run.PartRun.{PartRun}
@@ -16,15 +16,17 @@ pub record EachChanged {A : Type 0} (R : A → A → Type 0) (old new : List A) 
   pub each : (i : ℕ) (a b : A) → slice_get old i ≡ Some a → slice_get new i ≡ Some b → R a b
 
 -- a part may run: the channels of its ports lead away, its stamps and counts fit, no box but those that have commands
--- can shift, and retries fit into the budget
-pub record IsReady (retries : Bool) (budget : ℕ) (run : PartRun) : Type 0 where
+-- can shift, unless each is to be tried, and retries fit into the budget
+pub record IsReady (retries every : Bool) (budget : ℕ) (run : PartRun) : Type 0 where
   pub away : LeadsAway run.part
   pub within : IsWithin run.part
-  pub calm : AreCalmFrom 0 run.part
+  pub asked : IsTrue retries → IsTrue every
+  pub calm : IsFalse every → AreCalmFrom 0 run.part
+  pub few : length run.part.engine.boxes < 2 ^ 32
   pub room : HasRoom retries budget run.part
 
-abbrev pub AreReady : Bool → ℕ → List PartRun → Type 0
-AreReady retries budget runs = EachOf (IsReady retries budget) runs
+abbrev pub AreReady : Bool → Bool → ℕ → List PartRun → Type 0
+AreReady retries every budget runs = EachOf (IsReady retries every budget) runs
 
 -- what its run answered, and what that says
 pub record HasEnded (retries : Bool) (budget : ℕ) (a b : PartRun) : Type 0 where
@@ -34,6 +36,7 @@ pub record HasEnded (retries : Bool) (budget : ℕ) (a b : PartRun) : Type 0 whe
   pub few : length b.part.log.items ≤ max budget (length a.part.log.items)
   pub ends : EndsAs result b.part budget
   pub progress : Progresses retries budget a.part b.part result
+  pub used : IsFalse retries → UsesAs budget a.part b.part result
 
 -- it ran, if it had something to do; and what it keeps while it runs it keeps
 pub record HasGone (retries : Bool) (budget : ℕ) (a b : PartRun) : Type 0 where

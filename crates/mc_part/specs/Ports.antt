@@ -29,12 +29,12 @@ given_by (Some port) lane = if lane == out_lane (lane / 2) port.starts_here then
 abbrev pub given_at : List Port → ℕ → List Stamped
 given_at ports lane = given_by (slice_get ports (lane / 2)) lane
 
--- ports stay at their ends of their rings
+-- ports stay at their ends of their rings, with their place holders and slots
 abbrev pub sides : List Port → List Bool
 sides ports = map (λ port. port.starts_here) ports
 
-abbrev pub rings_of : Port → RingName × RingName
-rings_of port = (in_ring port.from, out_ring port.to)
+abbrev pub rings_of : Port → (RingName × RingName) × (ℕ × ℕ)
+rings_of port = ((in_ring port.from, out_ring port.to), (port.holder, port.first))
 
 -- the slot at which a tunnel comes in
 abbrev pub entry_slot : Port → ℕ → ℕ
@@ -52,6 +52,7 @@ pub record IsSeen (a b : Port) : Type 0 where
   pub ring : in_ring b.from ≡ in_ring a.from
   pub to : b.to ≡ a.to
   pub starts : b.starts_here ≡ a.starts_here
+  pub kept : b ≡ record a { from = b.from; to = b.to }
 
 -- the channel of each port leads to a number past the last box
 abbrev pub LeadAway : WorldState → ℕ → List Bool → Type 0

@@ -50,6 +50,12 @@ pub record ChangesOnly (a b : Part) (who : ℕ) : Type 0 where
   pub boxes : (other : ℕ) → other ≢ who → box_at b.engine other ≡ box_at a.engine other
   pub shifts : (other : ℕ) → other ≢ who → shifts_of b other ≡ shifts_of a other
 
+-- a box may make a Shift
+pub record MayShift (part : Part) (who : ℕ) : Type 0 where
+  pub here : who < length part.engine.boxes
+  pub enabled : is_enabled (box_at part.engine who) Shift ≡ true
+  pub fewer : shifts_of part who < SHIFT_LIMIT
+
 -- ---- going on
 
 -- what was made is the part's work, no retry, and within the budget
@@ -163,11 +169,12 @@ EndsAs (Err stop) part budget = StopsAs stop part budget
 
 -- ---- progress
 
--- there is a command, or a signal that waits, or a retry that is owed
+-- there is a command, or a signal that waits, or a retry that is owed, or a Shift that a box may make
 abbrev pub HasWork : Bool → Part → Type 0
 HasWork retries part = ((who : ℕ) × (stimuli_of part who ≢ []))
     ⊎ (((who : ℕ) × ((local : ℕ) × ((who < length part.engine.boxes) × (take_waits part.engine who local ≡ true))))
-    ⊎ ((who : ℕ) × ((local : ℕ) × (owed_of retries part who local ≡ 1))))
+    ⊎ (((who : ℕ) × ((local : ℕ) × (owed_of retries part who local ≡ 1)))
+    ⊎ ((who : ℕ) × MayShift part who)))
 
 -- then a turn is made
 abbrev pub MakesSome : Bool → ℕ → Part → Part → Type 0
@@ -180,12 +187,30 @@ Progresses retries budget a b (Ok ended) = MakesSome retries budget a b
 Progresses retries budget a b (Err Spent) = MakesSome retries budget a b
 Progresses retries budget a b (Err stop) = Unit {0}
 
+-- some box has fewer commands left
+pub record UsesCommand (a b : Part) : Type 0 where
+  pub who : ℕ
+  pub fewer : length (stimuli_of b who) < length (stimuli_of a who)
+
+-- a part may make a turn, and has commands
+pub record IsToCommand (budget : ℕ) (part : Part) : Type 0 where
+  pub room : length part.log.items < budget
+  pub who : ℕ
+  pub left : stimuli_of part who ≢ []
+
+-- then one is used up
+abbrev pub UsesFirst : ℕ → Part → Part → Type 0
+UsesFirst budget a b = IsToCommand budget a → UsesCommand a b
+
+-- unless something but the budget stops it
+abbrev pub UsesTo : ℕ → Part → Part → PartStop → Type 0
+UsesTo budget a b Spent = UsesFirst budget a b
+UsesTo budget a b stop = Unit {0}
+
+abbrev pub UsesAs : ℕ → Part → Part → Result Ended PartStop → Type 0
+UsesAs budget a b (Ok ended) = UsesFirst budget a b
+UsesAs budget a b (Err stop) = UsesTo budget a b stop
+
 -- a part that goes on for as long as it may has made a turn, or nothing waits
 abbrev pub HasTried : Part → Part → Type 0
 HasTried a b = NothingWaits b ⊎ (length a.log.items < length b.log.items)
-
--- a box may make a Shift
-pub record MayShift (part : Part) (who : ℕ) : Type 0 where
-  pub here : who < length part.engine.boxes
-  pub enabled : is_enabled (box_at part.engine who) Shift ≡ true
-  pub fewer : shifts_of part who < SHIFT_LIMIT

@@ -18,13 +18,13 @@ pub struct PartRun {
 }
 
 /// Runs a part, if it has something to do.
-pub(crate) fn run_one(retries: bool, budget: u32, busy: &AtomicU64, run: &mut PartRun)
+pub(crate) fn run_one(retries: bool, every: bool, budget: u32, busy: &AtomicU64, run: &mut PartRun)
     requires budget { budget ≤ STAMP_LIMIT }
-    requires ready { IsReady retries budget run.old }
+    requires ready { IsReady retries every budget run.old }
     ensures { HasGone retries budget run.old run.new }
 {
     if run.active {
-        run.ended = Some(run_part(&mut run.part, retries, budget, busy));
+        run.ended = Some(run_part(&mut run.part, retries, every, budget, busy));
     }
 }
 

@@ -6,7 +6,7 @@ ghost use Rattle.mc_box.specs.declared.event.Event.{Event};
 ghost use Rattle.mc_box.specs.declared.limit.TheConstants.{SHIFT_LIMIT};
 ghost use Rattle.mc_world.specs.Waiting.{take_waits};
 ghost use Rattle.mc_part.specs.Parts.{IsWithin, LeadsAway, Runs, no_retries};
-ghost use Rattle.mc_part.specs.Running.{AreCalm, AreCalmFrom, ChangesOnly, EndsAs, Goes, HasBegun, HasRoom, HasTried, IsCalm, MayShift, NoneLeft, NothingWaits, Progresses, RunsAs, StopsAs, StraysAs};
+ghost use Rattle.mc_part.specs.Running.{AreCalm, AreCalmFrom, ChangesOnly, EndsAs, Goes, HasBegun, HasRoom, HasTried, IsCalm, MayShift, NoneLeft, NothingWaits, Progresses, RunsAs, StopsAs, StraysAs, UsesAs, UsesFirst, UsesTo};
 ghost use Rattle.mc_part.specs.declared.limit.TheConstants.{STAMP_LIMIT};
 
 use crate::limit::LOOK_LIMIT;
@@ -30,31 +30,36 @@ const BATCH: u32 = 64;
 /// It stops where its log has as many turns as the budget, where the next command can't happen or would be a version
 /// after the last, where a signal waits that its slot must not take, where a ring gives what is for none of its slots,
 /// and where memory wants. All that was made before stands then, and a command that isn't made is among those left.
-/// Retries are all made, but where memory wants. Where there is something to do, it makes a turn or stops.
+/// Retries are all made, but where memory wants. Where there is something to do, it makes a turn or stops; and where no
+/// retries are asked for, it begins with a command, where some are left.
 ///
-/// The boxes that have no commands can't shift when it begins, unless they have made all their Shifts, and retries fit
-/// into the budget.
+/// The boxes that have no commands can't shift when it begins, unless they have made all their Shifts, or `every` is set,
+/// as it is where retries are asked for: then each box is tried. Retries fit into the budget.
 ///
 /// Parts count in `busy` how many of them may still find something. That ends them sooner, and no clause rests on it.
 pub fn run_part(
     part: &mut Part,
     retries: bool,
+    every: bool,
     budget: u32,
     busy: &AtomicU64,
 ) -> Result<Ended, PartStop>
     requires budget { budget ≤ STAMP_LIMIT }
     requires away { LeadsAway part.old }
     requires within { IsWithin part.old }
-    requires calm { AreCalmFrom 0 part.old }
+    requires asked { IsTrue retries → IsTrue every }
+    requires calm { IsFalse every → AreCalmFrom 0 part.old }
+    requires few { length part.old.engine.boxes < 2 ^ 32 }
     requires room { HasRoom retries budget part.old }
     ensures run { RunsAs retries part.old part.new result }
     ensures within { IsWithin part.new }
     ensures few { length part.new.log.items ≤ max budget (length part.old.log.items) }
     ensures ends { EndsAs result part.new budget }
     ensures progress { Progresses retries budget part.old part.new result }
+    ensures used { IsFalse retries → UsesAs budget part.old part.new result }
 {
     let mut patience = Patience::new();
-    let ended = run_on(part, retries, budget, &mut patience, busy);
+    let ended = run_on(part, retries, every, budget, &mut patience, busy);
     patience.count(busy, false);
     ended
 }
@@ -63,6 +68,7 @@ pub fn run_part(
 fn run_on(
     part: &mut Part,
     retries: bool,
+    every: bool,
     budget: u32,
     patience: &mut Patience,
     busy: &AtomicU64,
@@ -70,16 +76,20 @@ fn run_on(
     requires budget { budget ≤ STAMP_LIMIT }
     requires away { LeadsAway part.old }
     requires within { IsWithin part.old }
-    requires calm { AreCalmFrom 0 part.old }
+    requires asked { IsTrue retries → IsTrue every }
+    requires calm { IsFalse every → AreCalmFrom 0 part.old }
+    requires few { length part.old.engine.boxes < 2 ^ 32 }
     requires room { HasRoom retries budget part.old }
     ensures run { RunsAs retries part.old part.new result }
     ensures within { IsWithin part.new }
     ensures few { length part.new.log.items ≤ max budget (length part.old.log.items) }
     ensures ends { EndsAs result part.new budget }
     ensures tried { OnOk result (HasTried part.old part.new) }
+    ensures used { IsFalse retries → OnOk result (UsesFirst budget part.old part.new) }
+    ensures spent { IsFalse retries → IfErr result (UsesTo budget part.old part.new) }
 {
     retry_first(part, retries, budget)?;
-    go_on(part, retries, budget, patience, busy)
+    go_on(part, every, budget, patience, busy)
 }
 
 // The retries, where they are asked for. There is room for them.
@@ -103,7 +113,7 @@ fn retry_first(part: &mut Part, retries: bool, budget: u32) -> Result<(), PartSt
 // What comes after the retries.
 fn go_on(
     part: &mut Part,
-    retries: bool,
+    every: bool,
     budget: u32,
     patience: &mut Patience,
     busy: &AtomicU64,
@@ -111,31 +121,35 @@ fn go_on(
     requires budget { budget ≤ STAMP_LIMIT }
     requires away { LeadsAway part.old }
     requires within { IsWithin part.old }
-    requires calm { IsFalse retries → AreCalmFrom 0 part.old }
-    requires few { IsTrue retries → length part.old.engine.boxes < 2 ^ 32 }
+    requires calm { IsFalse every → AreCalmFrom 0 part.old }
+    requires few { length part.old.engine.boxes < 2 ^ 32 }
     ensures goes { Goes budget part.old part.new }
     ensures ends { EndsAs result part.new budget }
     ensures tried { OnOk result (HasTried part.old part.new) }
+    ensures used { OnOk result (UsesFirst budget part.old part.new) }
+    ensures spent { IfErr result (UsesTo budget part.old part.new) }
 {
-    begin(part, retries, budget)?;
+    begin(part, every, budget)?;
     if part.ports.is_empty() {
         return take_all(part, budget);
     }
     take_over(part, budget, patience, busy)
 }
 
-// The commands, and the Shifts of their boxes, or after retries those of all boxes.
-fn begin(part: &mut Part, retries: bool, budget: u32) -> Result<(), PartStop>
+// The commands, and the Shifts of their boxes, or where it is asked for those of all boxes.
+fn begin(part: &mut Part, every: bool, budget: u32) -> Result<(), PartStop>
     requires budget { budget ≤ STAMP_LIMIT }
     requires within { IsWithin part.old }
-    requires calm { IsFalse retries → AreCalmFrom 0 part.old }
-    requires few { IsTrue retries → length part.old.engine.boxes < 2 ^ 32 }
+    requires calm { IsFalse every → AreCalmFrom 0 part.old }
+    requires few { length part.old.engine.boxes < 2 ^ 32 }
     ensures goes { Goes budget part.old part.new }
     ensures stops { IfErr result (λ stop. StopsAs stop part.new budget) }
     ensures begun { OnOk result (HasBegun part.new) }
+    ensures used { OnOk result (UsesFirst budget part.old part.new) }
+    ensures spent { IfErr result (UsesTo budget part.old part.new) }
 {
     command_all(part, budget)?;
-    if retries {
+    if every {
         return shift_every(part, budget);
     }
     shift_commanded(part, budget)
@@ -149,6 +163,8 @@ fn command_all(part: &mut Part, budget: u32) -> Result<(), PartStop>
     ensures stops { IfErr result (λ stop. StopsAs stop part.new budget) }
     ensures left { OnOk result (NoneLeft part.new) }
     ensures calm { AreCalmFrom 0 part.old → AreCalmFrom 0 part.new }
+    ensures used { OnOk result (UsesFirst budget part.old part.new) }
+    ensures spent { IfErr result (UsesTo budget part.old part.new) }
 {
     'commands: while part.used < part.commands.len() {
         command(part, budget)?;

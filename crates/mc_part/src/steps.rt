@@ -27,6 +27,7 @@ pub fn command(part: &mut Part, budget: u32) -> Result<(), PartStop>
     ensures stops { IfErr result (λ stop. StopsAs stop part.new budget) }
     ensures only { (turn : Turn) → next_command part.old ≡ Some turn → ChangesOnly part.old part.new turn.who }
     ensures used { OnOk result (part.new.used ≡ part.old.used + 1) }
+    ensures log { OnErr result (part.new.log.items ≡ part.old.log.items) }
 {
     if part.log.len() >= budget as usize {
         return Err(PartStop::Spent);

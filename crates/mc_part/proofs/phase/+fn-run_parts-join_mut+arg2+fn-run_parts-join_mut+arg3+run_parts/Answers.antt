@@ -6,12 +6,12 @@ use Rattle.mc_part.proofs.phase.+fn-run_parts-join_mut+arg2+fn-run_parts-join_mu
 pub run_parts-requires-clause-ready : goal.run_parts-requires-clause-ready
 run_parts-requires-clause-ready g t c κs within =
     let p = c.split_at_mut-front in
-    first_of (IsReady c.args.retries c.args.budget) c.args.runs.now p.result.0.now p.result.1.now p.ensures.value c.requires.ready
+    first_of (IsReady c.args.retries c.args.every c.args.budget) c.args.runs.now p.result.0.now p.result.1.now p.ensures.value c.requires.ready
 
 pub run_parts-requires-then-not-any_active-clause-ready : goal.run_parts-requires-then-not-any_active-clause-ready
 run_parts-requires-then-not-any_active-clause-ready g t c κs within =
     let p = c.split_at_mut-front in
-    second_of (IsReady c.args.retries c.args.budget) c.args.runs.now p.result.0.now p.result.1.now p.ensures.value c.requires.ready
+    second_of (IsReady c.args.retries c.args.every c.args.budget) c.args.runs.now p.result.0.now p.result.1.now p.ensures.value c.requires.ready
 
 pub returns-then-not-any_active : goal.returns-then-not-any_active
 returns-then-not-any_active g t c =
@@ -21,8 +21,8 @@ returns-then-not-any_active g t c =
 pub join_mut-requires-after_bounds : goal.join_mut-requires-after_bounds
 join_mut-requires-after_bounds g t c κs within =
     let p = c.split_at_mut-front in
-    let first : AreReady c.args.retries c.args.budget p.result.0.now = first_of (IsReady c.args.retries c.args.budget) c.args.runs.now p.result.0.now p.result.1.now p.ensures.value c.requires.ready in
-    let second : AreReady c.args.retries c.args.budget p.result.1.now = second_of (IsReady c.args.retries c.args.budget) c.args.runs.now p.result.0.now p.result.1.now p.ensures.value c.requires.ready in
+    let first : AreReady c.args.retries c.args.every c.args.budget p.result.0.now = first_of (IsReady c.args.retries c.args.every c.args.budget) c.args.runs.now p.result.0.now p.result.1.now p.ensures.value c.requires.ready in
+    let second : AreReady c.args.retries c.args.every c.args.budget p.result.1.now = second_of (IsReady c.args.retries c.args.every c.args.budget) c.args.runs.now p.result.0.now p.result.1.now p.ensures.value c.requires.ready in
     search rules
 
 pub returns : goal.returns

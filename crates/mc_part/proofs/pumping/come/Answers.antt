@@ -9,7 +9,7 @@ use Rattle.mc_part.specs.Ports.{into_lane}
 use Rattle.mc_part.specs.declared.port.Port.{Port}
 use Rattle.mc_part.specs.declared.part.Part.{Part}
 use Rattle.mc_part.specs.declared.limit.TheConstants.{STAMP_LIMIT}
-use Rattle.mc_part.proofs.PortLanes.{meets_stray, IsAt, came, engine_runs, one_port, port_read}
+use Rattle.mc_part.proofs.PortLanes.{meets_stray, IsAt, came, engine_runs, kept_from, one_port, port_read}
 use Rattle.mc_part.proofs.Ran.{runs_none}
 use Rattle.mc_part.proofs.pumping.come.Goals as goal
 
@@ -38,6 +38,7 @@ returns-clause-run c =
       starts = c.take.ensures.starts;
       in_ring = c.take.ensures.ring;
       out_ring = ap (λ (p : OutPort). out_ring p) c.take.ensures.to;
+      kept = kept_from read c.take.new.self c.take.ensures.kept c.take.ensures.to;
     } in
     record {
       gave = at_lane (into_lane c.args.channel read.starts_here) (c.args.item ∷ []);

@@ -12,7 +12,7 @@ use Rattle.mc_part.specs.Parts.{state_of}
 use Rattle.mc_part.specs.Ports.{out_lane}
 use Rattle.mc_part.specs.declared.port.Port.{Port}
 use Rattle.mc_part.specs.declared.part.Part.{Part}
-use Rattle.mc_part.proofs.PortLanes.{IsAt, idle_run, one_port, port_read, went}
+use Rattle.mc_part.proofs.PortLanes.{IsAt, idle_run, kept_to, one_port, port_read, went}
 use Rattle.mc_part.proofs.Ran.{runs_none}
 use Rattle.mc_part.proofs.pumping.give_one.Goals as goal
 
@@ -33,6 +33,7 @@ returns-then-not-give-clause-run c =
       starts = c.give.ensures.starts;
       in_ring = ap (λ (p : InPort). in_ring p) c.give.ensures.from;
       out_ring = c.give.ensures.ring;
+      kept = kept_to read c.give.new.self c.give.ensures.kept c.give.ensures.from;
     } in
     record {
       gave = no_items;
@@ -57,6 +58,7 @@ returns-clause-run c =
       starts = c.give.ensures.starts;
       in_ring = ap (λ (p : InPort). in_ring p) c.give.ensures.from;
       out_ring = c.give.ensures.ring;
+      kept = kept_to read c.give.new.self c.give.ensures.kept c.give.ensures.from;
     } in
     record {
       gave = no_items;
