@@ -1,5 +1,5 @@
 -- A network as a settle sees it, and what a phase of it comes to.
-use Rattle.std.specs.Prelude.{◌≡◌, ◌≢◌, ◌<◌, ◌++◌, ◌==◌, ℕ, Bool, false, if◌then◌else◌, List, [], ◌∷◌, length, slice_get, IfSome, IsTrue, Option, None, Some}
+use Rattle.std.specs.Prelude.{◌≡◌, ◌≢◌, ◌<◌, ◌++◌, ◌==◌, ℕ, Bool, false, if◌then◌else◌, List, [], ◌∷◌, length, slice_get, IfSome, IsTrue, Option, None, Some, true}
 use Rattle.mc_box.specs.BoxEvents.{is_enabled, turn_of}
 use Rattle.mc_box.specs.declared.event.Event.{Event}
 use Rattle.mc_box.specs.declared.event.Event.TheVariants.{Media, Shift}

@@ -1,13 +1,18 @@
 //! A network that is cut into parts: laid out, run by phases, and put together again.
 #![tactic(auto)]
 
+mod assigning;
+mod clocks;
 mod commands;
 mod laying;
 pub mod limit;
 mod looking;
 mod network;
 mod phase;
+mod walking;
 
+pub use assigning::{Assigned, assign};
+pub use clocks::share_clocks;
 pub use commands::{add_command, begin_settle, has_commands};
 pub use laying::{cut_network, whole_world};
 pub use looking::{first_shifter, least_ring, slot_number};
