@@ -1,11 +1,11 @@
 // Which part each box goes to.
 
-ghost use Rattle.std.specs.Prelude.{◌≡◌, ◌*◌, ◌<◌, ◌≤◌, ℕ, length, All, IfOk, IsTrue};
+ghost use Rattle.std.specs.Prelude.{◌*◌, ◌<◌, ◌≤◌, All, IfOk, IsTrue};
 ghost use Rattle.mc_box.specs.declared.limit.TheConstants.{SLOT_LIMIT};
-ghost use Rattle.mc_cut.specs.Cuts.{members};
-ghost use Rattle.mc_network.specs.Assigning.{IsAssigned};
+ghost use Rattle.mc_network.specs.Assigning.{AreAssigned, HaveParts};
 ghost use Rattle.mc_network.specs.Networks.{turn_budget};
 ghost use Rattle.mc_network.specs.declared.limit.TheConstants.{NETWORK_LIMIT};
+ghost use Rattle.mc_part.specs.declared.limit.TheConstants.{STAMP_LIMIT};
 
 use crate::limit::NETWORK_LIMIT;
 use crate::walking::walks;
@@ -32,7 +32,7 @@ pub fn assign(
     most: usize,
 ) -> Result<Assigned, AllocError>
     requires { boxes ≤ NETWORK_LIMIT }
-    ensures { IfOk result (λ assigned. IsAssigned boxes assigned.parts.items assigned.count) }
+    ensures { IfOk result (AreAssigned boxes) }
 {
     let count = most.min(boxes).max(1);
     let parts = spread(alloc, channels, boxes, count)?;
@@ -96,7 +96,8 @@ fn smallest(sizes: &[usize]) -> usize {
 fn fits(alloc: Global, parts: &[u32], boxes: usize, count: usize) -> Result<bool, AllocError>
     requires boxes { boxes ≤ NETWORK_LIMIT }
     requires some { 0 < count }
-    ensures { IfOk result (λ fits. IsTrue fits → IsAssigned boxes parts.now count) }
+    requires few { count ≤ STAMP_LIMIT }
+    ensures { IfOk result (λ fits. IsTrue fits → HaveParts boxes parts.now count) }
 {
     if parts.len() != boxes || parts.iter().any(|part| *part as usize >= count) {
         return Ok(false);
