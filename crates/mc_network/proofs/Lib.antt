@@ -1,1 +1,3 @@
 pub mod NetworkBoxes
+pub mod Parting
+pub mod Tables

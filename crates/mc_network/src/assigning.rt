@@ -1,6 +1,6 @@
 // Which part each box goes to.
 
-ghost use Rattle.std.specs.Prelude.{◌*◌, ◌<◌, ◌≤◌, All, IfOk, IsTrue};
+ghost use Rattle.std.specs.Prelude.{◌≡◌, ◌*◌, ◌<◌, ◌≤◌, replicate, All, IfOk, IsTrue};
 ghost use Rattle.mc_box.specs.declared.limit.TheConstants.{SLOT_LIMIT};
 ghost use Rattle.mc_network.specs.Assigning.{AreAssigned, HaveParts};
 ghost use Rattle.mc_network.specs.Networks.{turn_budget};
@@ -39,8 +39,15 @@ pub fn assign(
     if fits(alloc, &parts, boxes, count)? {
         return Ok(Assigned { parts, count });
     }
-    let parts = vec![in alloc; 0; boxes]?;
+    let parts = zeros(alloc, boxes)?;
     Ok(Assigned { parts, count: 1 })
+}
+
+// So many zeros.
+fn zeros(alloc: Global, count: usize) -> Result<Vec<u32>, AllocError>
+    ensures { IfOk result (λ zeros. zeros.items ≡ replicate count 0) }
+{
+    vec![in alloc; 0; count]
 }
 
 // Spreads boxes over so many parts: what channels join as a whole, or cut in two where it is more than a share.
@@ -54,7 +61,7 @@ fn spread(
     requires some { 0 < count }
 {
     let share = boxes.div_ceil(count);
-    let mut parts = vec![in alloc; 0; boxes]?;
+    let mut parts = zeros(alloc, boxes)?;
     let mut sizes = vec![in alloc; 0; count]?;
     for walk in &walks(alloc, channels, boxes)? {
         if walk.len() <= share {
