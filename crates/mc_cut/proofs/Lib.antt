@@ -1,4 +1,5 @@
 pub mod Filling
+pub mod Gathering
 pub mod Layouts
 pub mod Leads
 pub mod Members

@@ -73,7 +73,7 @@ share_step (x ∷ things) (other ∷ assigned) (suc i) part d e one two =
 abbrev pub shares_so_far : {A : Type 0} → List A → List ℕ → ℕ → ℕ → List (List A)
 shares_so_far {A} things assigned count n = map (share_of (take n things) (take n assigned)) (range_with_len 0 count)
 
-share_more : {A : Type 0} (things : List A) (assigned : List ℕ) (i part d : ℕ) (e : A) → i < length things → i < length assigned
+pub share_more : {A : Type 0} (things : List A) (assigned : List ℕ) (i part d : ℕ) (e : A) → i < length things → i < length assigned
     → share_of (take (i + 1) things) (take (i + 1) assigned) part ≡ share_of (take i things) (take i assigned) part ++ (if is_part part (get_or assigned i d) then get_or things i e ∷ [] else [])
 share_more things assigned i part d e one two =
     let next : i + 1 ≡ suc i = omega arith in
@@ -137,7 +137,7 @@ next_by (x ∷ things) rest later (suc i) thing left is =
 -- ---- lists of lists, as code changes them
 
 -- what a list has that is read
-read_list : {A : Type 0} (lists : List (Vec A Global)) (part : ℕ) (list : Vec A Global) → part < length lists → list ≡ get_or lists part list → get_or (inner_lists lists) part [] ≡ list.items
+pub read_list : {A : Type 0} (lists : List (Vec A Global)) (part : ℕ) (list : Vec A Global) → part < length lists → list ≡ get_or lists part list → get_or (inner_lists lists) part [] ≡ list.items
 read_list {A} lists part list here is =
     get_or-map (λ (v : Vec A Global). v.items) lists part list [] here ∙ ap (λ (v : Vec A Global). v.items) (sym is)
 

@@ -1,5 +1,5 @@
 -- What a part of a cut is made of, as it is kept.
-use Rattle.std.specs.Prelude.{◌≡◌, if◌then◌else◌, ℕ, ◌+◌, ◌<◌, List, [], ◌∷◌, ◌++◌, length, map, slice_index_or, slice_set}
+use Rattle.std.specs.Prelude.{◌≡◌, if◌then◌else◌, ℕ, ◌+◌, ◌-◌, ◌<◌, List, [], ◌∷◌, ◌++◌, length, map, slice_index_or, slice_set, take}
 use Rattle.std.specs.List.{range_with_len}
 use Rattle.std.specs.declared.alloc.Global.{Global}
 use Rattle.std.specs.declared.vec.Vec.{Vec}
@@ -38,6 +38,23 @@ share_of {A} (thing ∷ things) (other ∷ assigned) part = if is_part part othe
 -- what each of so many parts has of them
 abbrev pub shares_of : {A : Type 0} → List A → List ℕ → ℕ → List (List A)
 shares_of {A} things assigned count = map (share_of things assigned) (range_with_len 0 count)
+
+-- these lists are the shares of such things
+pub record AreShared {A : Type 0} (things : List A) (assigned : List ℕ) (lists : List (List A)) : Type 0 where
+  pub each : length things ≡ length assigned
+  pub shares : lists ≡ shares_of things assigned (length lists)
+
+-- or of some
+pub record HasShares {A : Type 0} (assigned : List ℕ) (lists : List (List A)) : Type 0 where
+  pub things : List A
+  pub shared : AreShared things assigned lists
+
+-- the last thing of one of some lists is taken
+pub record IsTaken {A : Type 0} (before after : List (List A)) (part : ℕ) (thing : A) : Type 0 where
+  pub value : (d : A) → thing ≡ slice_index_or (slice_index_or before part [])
+      (length (slice_index_or before part []) - 1) d
+  pub after_is : after ≡ slice_set before part (take (length (slice_index_or before part []) - 1)
+      (slice_index_or before part []))
 
 -- one of some lists is longer
 abbrev pub with_given : {A : Type 0} → List (List A) → ℕ → A → List (List A)

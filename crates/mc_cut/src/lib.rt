@@ -8,4 +8,4 @@ mod sharing;
 
 pub use channels::channels_in;
 pub use homes::{Homes, homes_of};
-pub use sharing::share;
+pub use sharing::{gather, share};
