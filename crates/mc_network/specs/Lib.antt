@@ -1,3 +1,5 @@
 pub mod Assigning
 pub mod Networks
+pub mod Phasing
 pub mod States
+pub mod Swapping

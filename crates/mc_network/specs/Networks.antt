@@ -1,12 +1,14 @@
 -- A network that is cut into parts: the world that its parts stand for, and what it keeps between phases.
-use Rattle.std.specs.Prelude.{◌≡◌, ◌<◌, ◌≤◌, ◌+◌, ◌*◌, ◌/◌, ℕ, All, Bool, false, not, IsTrue, List, [], filter, length, map, replicate, slice_get, slice_index_or, Some}
-use Rattle.std.specs.List.{range_with_len}
+use Rattle.std.specs.Prelude.{◌≡◌, ◌<◌, ◌≤◌, ◌+◌, ◌*◌, ◌/◌, ℕ, All, Bool, false, not, IsTrue, List, [], drop, filter, length, map, replicate, slice_get, slice_index_or, Some}
+use Rattle.std.specs.List.{AllByRecursion, range_with_len}
 use Rattle.mc_box.specs.Boxes.{BoxState, no_box}
 use Rattle.mc_box.specs.declared.event.Event.{Event}
+use Rattle.mc_box.specs.declared.event.Turn.{Turn}
 use Rattle.mc_box.specs.declared.limit.TheConstants.{SLOT_LIMIT}
 use Rattle.mc_cut.specs.Cuts.{channels_in, home_at, is_part, layout_of, members, part_numbers, part_of, place_in}
 use Rattle.mc_cut.specs.Cutting.{AreNumbersIn}
 use Rattle.mc_merge.specs.Lanes.{absent_channel}
+use Rattle.mc_model.specs.Shapes.{is_allowed}
 use Rattle.mc_model.specs.Sound.{IsSound}
 use Rattle.mc_model.specs.Worlds.{ChannelState, WorldState, channel_number_limit}
 use Rattle.mc_network.specs.States.{NetworkState, no_shifts, no_stimuli}
@@ -131,6 +133,9 @@ pub record IsIdle (budget : ℕ) (run : PartRun) : Type 0 where
   pub stamp : run.part.stamp ≡ 0
   pub heard : run.part.heard ≡ 0
   pub room : SLOT_LIMIT * length run.part.engine.boxes ≤ budget
+  -- each command that is left has a box that is there, whose shape allows it
+  pub allowed : AllByRecursion (λ (turn : Turn). IsTrue (is_allowed run.part.engine turn))
+      (drop run.part.used run.part.commands.items)
 
 -- parts that are joined have one clock
 abbrev pub ShareClock : List ℕ → Crossing → Type 0

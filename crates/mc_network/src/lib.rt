@@ -2,11 +2,14 @@
 #![tactic(auto)]
 
 mod assigning;
+mod carrying_over;
+mod choosing;
 mod clocks;
 mod commands;
 mod laying;
 pub mod limit;
 mod looking;
+mod merging;
 mod network;
 mod phase;
 mod walking;

@@ -1,13 +1,27 @@
 // A phase of a network: its parts run side by side, and what crosses is carried over.
 
-ghost use Rattle.std.specs.Prelude.{IfOk, OnOk};
-ghost use Rattle.mc_network.specs.Networks.{IsCutNetwork, network_state};
+ghost use Rattle.std.specs.Prelude.{◌≡◌, ◌<◌, ◌≤◌, false, true, length, IfOk, IsTrue, OnOk};
+ghost use Rattle.mc_network.specs.Networks.{IsCutNetwork, network_state, turn_budget};
+ghost use Rattle.mc_network.specs.Phasing.{EndAs, EndsCalm, HasMemory, StopIs};
 ghost use Rattle.mc_network.specs.States.{PlaysOn};
+ghost use Rattle.mc_part.specs.Phases.{EachOf};
+ghost use Rattle.mc_part.specs.declared.part_run.PartRun.{PartRun};
+ghost use Rattle.mc_weave.specs.Weaving.{numbers_of};
+ghost use Rattle.mc_weave.specs.Wholes.{numbers_in};
 
+use crate::carrying_over::carry_over;
+use crate::choosing::choose;
+use crate::merging::merge_logs;
 use crate::network::CutNetwork;
 use mc_box::Turn;
+use mc_part::limit::STAMP_LIMIT;
+use mc_part::{PartLog, PartRun, PartStop, run_parts};
 use std::alloc::AllocError;
+use std::sync::atomic::AtomicU64;
 use std::thread::Threads;
+
+// A part of a short phase makes so many turns at most, beside its commands.
+const SHORT_BUDGET: u32 = 4_096;
 
 /// Runs the parts that have something to do, and those that theirs can reach, side by side on threads: the retries that
 /// are owed first, where they are asked for, then the commands that are left, and then what comes of them. Where `short`
@@ -27,5 +41,128 @@ pub fn run_phase<R: Threads + Sync>(
     ensures played { IfOk result (PlaysOn retries (network_state network.old) (network_state network.new)
         turns.old.items turns.new.items) }
 {
-    Err(AllocError)
+    let every = is_every(retries, network.calm);
+    let budget = budget_of(retries, short, &network.runs);
+    let busy = AtomicU64::new(choose(every, &network.logs, &mut network.runs));
+    let size = network.runs.len();
+    run_parts(rt, retries, every, budget, size, &busy, &mut network.runs);
+    check_memory(&network.runs)?;
+    carry_over(&network.crossings, &mut network.runs)?;
+    merge_logs(&mut network.runs, &mut network.logs, turns)?;
+    network.calm = are_calm(network.calm, &network.runs);
+    first_end(&network.logs, &network.runs)
+}
+
+// Whether the Shifts of each box are tried.
+fn is_every(retries: bool, calm: bool) -> bool
+    ensures asked { IsTrue retries → IsTrue result }
+    ensures calm { result ≡ false → calm ≡ true }
+    ensures unasked { result ≡ false → retries ≡ false }
+{
+    retries || !calm
+}
+
+// How many turns each part may make.
+fn budget_of(retries: bool, short: bool, runs: &[PartRun]) -> u32
+    requires { 0 < length runs.now }
+    ensures few { result ≤ turn_budget (length runs.now) }
+    ensures some { 0 < turn_budget (length runs.now) → 0 < result }
+    ensures full { IsTrue retries → result ≡ turn_budget (length runs.now) }
+{
+    let full = (STAMP_LIMIT as usize / runs.len()) as u32;
+    if retries || !short {
+        return full;
+    }
+    full.min(most_commands(runs).saturating_add(SHORT_BUDGET))
+}
+
+// The most commands that a part has.
+fn most_commands(runs: &[PartRun]) -> u32 {
+    let mut most = 0;
+    for run in runs {
+        most = most.max(run.part.commands.len());
+    }
+    most.min(STAMP_LIMIT as usize) as u32
+}
+
+// Whether there was memory in each part.
+fn check_memory(runs: &[PartRun]) -> Result<(), AllocError>
+    ensures { OnOk result (EachOf (λ (run : PartRun). HasMemory run.ended) runs.now) }
+{
+    for run in runs {
+        if !has_memory(run) {
+            return Err(AllocError);
+        }
+    }
+    Ok(())
+}
+
+// The same of one part.
+fn has_memory(run: &PartRun) -> bool
+    ensures { IsTrue result → HasMemory run.now.ended }
+{
+    match run.ended {
+        None => true,
+        Some(Ok(_)) => true,
+        Some(Err(PartStop::NoMemory(_))) => false,
+        Some(Err(_)) => true,
+    }
+}
+
+// Whether no box can make a Shift after a run, where none could before it, or each part ended by itself.
+fn are_calm(calm: bool, runs: &[PartRun]) -> bool
+    ensures { IsTrue result → EachOf (λ (run : PartRun). EndsCalm calm run.ended) runs.now }
+{
+    for run in runs {
+        if !ends_calm(calm, run) {
+            return false;
+        }
+    }
+    true
+}
+
+// The same of one part.
+fn ends_calm(calm: bool, run: &PartRun) -> bool
+    ensures { IsTrue result → EndsCalm calm run.now.ended }
+{
+    match run.ended {
+        None => calm,
+        Some(Ok(_)) => true,
+        Some(Err(_)) => false,
+    }
+}
+
+// The first part that stopped at a last version, by the network's numbers.
+fn first_end(logs: &[PartLog], runs: &[PartRun]) -> Result<Option<(u32, u8)>, AllocError>
+    ensures { IfOk result (EndAs (numbers_of logs.now) runs.now) }
+{
+    for part in 0..runs.len() {
+        if let Some((who, local)) = stop_of(&runs[part])? {
+            return Ok(Some((number_in(logs, part, who), local)));
+        }
+    }
+    Ok(None)
+}
+
+// Where a part stopped at a last version.
+fn stop_of(run: &PartRun) -> Result<Option<(u32, u8)>, AllocError>
+    ensures { IfOk result (StopIs run.now.ended) }
+{
+    match run.ended {
+        None => Ok(None),
+        Some(Ok(_)) => Ok(None),
+        Some(Err(PartStop::Spent)) => Ok(None),
+        Some(Err(PartStop::VersionEnd(who, local))) => Ok(Some((who, local))),
+        Some(Err(_)) => Err(AllocError),
+    }
+}
+
+// The network's number of a part's box.
+fn number_in(logs: &[PartLog], part: usize, who: u32) -> u32
+    ensures { result ≡ numbers_in (numbers_of logs.now) part who }
+{
+    match logs.get(part) {
+        Some(log) => log.numbers.get(who as usize).copied().unwrap_or(0),
+        None => 0,
+    }
 }

@@ -2,14 +2,14 @@ pub mod Draining
 pub mod Spanning
 pub mod Turned
 pub mod Ran
-mod CarriedLanes
-mod PortLanes
-mod TunnelsOut
-mod Going
-mod Halving
-mod Uses
-mod Calm
-mod Commanding
-mod Retries
-mod Progress
+pub mod CarriedLanes
+pub mod PortLanes
+pub mod TunnelsOut
+pub mod Going
+pub mod Halving
+pub mod Uses
+pub mod Calm
+pub mod Commanding
+pub mod Retries
+pub mod Progress
 pub mod Networks

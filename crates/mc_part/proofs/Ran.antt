@@ -69,6 +69,23 @@ still_run a b within still = record {
 pub idle : (a : Part) → IsIdle a a
 idle a = record { used = refl; commands = refl; shifts = refl }
 
+-- no work of a part at all, whatever else it keeps
+pub runs_nothing : (a : Part) → ((who : ℕ) → shifts_of a who ≤ SHIFT_LIMIT) → Runs a a no_retries
+runs_nothing a few = record {
+  gave = no_items;
+  put = no_items;
+  run = record {
+    log = [];
+    spanned = nothing_is_span (tables_of a) (state_of a) (ports_of a);
+    channels = refl;
+    logged = sym (append-nil a.log.items);
+    uses = uses_begin (uses_of a no_retries) few (λ at local. refl);
+    commands = refl;
+    sides = refl;
+    rings = refl;
+  };
+}
+
 pub runs_none : (a : Part) → IsWithin a → Runs a a no_retries
 runs_none a within = record {
   gave = no_items;
