@@ -1,0 +1,4 @@
+pub mod Answers
+pub mod Playing
+pub mod Settling
+pub mod Stops

@@ -1,0 +1,11 @@
+//! Settling by phases of a network in parts.
+#![tactic(auto)]
+
+mod answers;
+mod commands;
+mod finishing;
+mod playing;
+mod resting;
+mod settling;
+
+pub use settling::settle;

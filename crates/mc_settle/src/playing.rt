@@ -1,0 +1,76 @@
+// Phases after the commands.
+
+ghost use Rattle.std.specs.Prelude.{◌≡◌, false, IfOk, OnOk};
+ghost use Rattle.mc_box.specs.BoxEvents.{is_shift};
+ghost use Rattle.mc_model.specs.Paths.{has_ring};
+ghost use Rattle.mc_network.specs.Networks.{IsCutNetwork, network_state};
+ghost use Rattle.mc_network.specs.States.{NoneLeft};
+ghost use Rattle.mc_settle.specs.Playing.{GoesOn, Retries, some_shift};
+
+use mc_box::{Event, Turn};
+use mc_network::{CutNetwork, run_phase};
+use std::alloc::AllocError;
+use std::thread::Threads;
+
+/// Phases to the first in which a Shift comes, or until nothing is left to do. Whether a Shift came. There is no ring,
+/// so Takes alone come to an end.
+pub fn go_on<R: Threads + Sync>(
+    rt: &R,
+    short: bool,
+    network: &mut CutNetwork,
+    turns: &mut Vec<Turn>,
+) -> Result<bool, AllocError>
+    requires cut { IsCutNetwork network.old }
+    requires used_up { NoneLeft (network_state network.old) }
+    requires free { has_ring (network_state network.old).world ≡ false }
+    ensures cut { OnOk result (IsCutNetwork network.new) }
+    ensures went { IfOk result (GoesOn (network_state network.old) (network_state network.new)
+        turns.old.items turns.new.items) }
+{
+    'phases: loop {
+        let before = turns.len();
+        if run_phase(rt, false, short, network, turns)?.is_some() {
+            unreachable!()
+        }
+        if turns.len() == before {
+            return Ok(false);
+        }
+        if has_shift(&turns[before..]) {
+            return Ok(true);
+        }
+    }
+}
+
+/// A phase in which each retry that is owed comes first. Whether a Shift came in it.
+pub fn retry<R: Threads + Sync>(
+    rt: &R,
+    short: bool,
+    network: &mut CutNetwork,
+    turns: &mut Vec<Turn>,
+) -> Result<bool, AllocError>
+    requires cut { IsCutNetwork network.old }
+    requires used_up { NoneLeft (network_state network.old) }
+    ensures cut { OnOk result (IsCutNetwork network.new) }
+    ensures retried { IfOk result (Retries (network_state network.old) (network_state network.new)
+        turns.old.items turns.new.items) }
+{
+    let before = turns.len();
+    if run_phase(rt, true, short, network, turns)?.is_some() {
+        unreachable!()
+    }
+    Ok(has_shift(&turns[before..]))
+}
+
+// Whether a Shift is among these turns.
+fn has_shift(turns: &[Turn]) -> bool
+    ensures { result ≡ some_shift turns.now }
+{
+    turns.iter().any(|turn| is_shift(turn.event))
+}
+
+// Whether an event is a Shift.
+fn is_shift(event: Event) -> bool
+    ensures { result ≡ is_shift event }
+{
+    matches!(event, Event::Shift)
+}

@@ -1,0 +1,62 @@
+// Coming to rest after the commands.
+
+ghost use Rattle.std.specs.Prelude.{◌≡◌, false, IfOk, OnOk};
+ghost use Rattle.mc_model.specs.Paths.{has_ring};
+ghost use Rattle.mc_model.specs.Rings.{IsLeastOnRing};
+ghost use Rattle.mc_network.specs.Networks.{IsCutNetwork, network_state};
+ghost use Rattle.mc_network.specs.States.{NoneLeft};
+ghost use Rattle.mc_settle.specs.Playing.{Rests};
+
+use crate::playing::go_on;
+use mc_box::Turn;
+use mc_network::{CutNetwork, least_ring};
+use std::alloc::{AllocError, Global};
+use std::thread::Threads;
+
+/// How boxes come to rest: at a ring, of which this is the least slot, or at none, and whether a Shift came on the way.
+#[derive(Clone, Copy)]
+pub struct Rest {
+    pub ring: Option<u32>,
+    pub shifted: bool,
+}
+
+/// Phases after the commands, to a ring, or until nothing is left to do. There may be a ring before them only where
+/// slots were linked.
+pub fn come_to_rest<R: Threads + Sync>(
+    rt: &R,
+    alloc: Global,
+    short: bool,
+    linked: bool,
+    network: &mut CutNetwork,
+    turns: &mut Vec<Turn>,
+) -> Result<Rest, AllocError>
+    requires cut { IsCutNetwork network.old }
+    requires used_up { NoneLeft (network_state network.old) }
+    requires free { linked ≡ false → has_ring (network_state network.old).world ≡ false }
+    ensures cut { OnOk result (IsCutNetwork network.new) }
+    ensures came { IfOk result (λ rest. Rests (network_state network.old) (network_state network.new)
+        turns.old.items turns.new.items rest.ring rest.shifted) }
+{
+    let mut linked = linked;
+    let mut shifted = false;
+    'stretches: loop {
+        let ring = test_ring(alloc, linked, network)?;
+        if ring.is_some() || !go_on(rt, short, network, turns)? {
+            return Ok(Rest { ring, shifted });
+        }
+        linked = true;
+        shifted = true;
+    }
+}
+
+// The least slot on a ring. There is none where no slots were linked.
+fn test_ring(alloc: Global, linked: bool, network: &CutNetwork) -> Result<Option<u32>, AllocError>
+    requires cut { IsCutNetwork network.now }
+    requires free { linked ≡ false → has_ring (network_state network.now).world ≡ false }
+    ensures { IfOk result (IsLeastOnRing (network_state network.now).world) }
+{
+    if !linked {
+        return Ok(None);
+    }
+    least_ring(alloc, network)
+}

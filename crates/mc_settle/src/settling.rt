@@ -1,0 +1,121 @@
+// A settle of a batch.
+
+ghost use Rattle.std.specs.Prelude.{◌≡◌, ◌||◌, [], is_some, IfErr, IfOk, OnOk, Some};
+ghost use Rattle.std.specs.List.{list_any};
+ghost use Rattle.mc_box.specs.LinkFree.{is_linking};
+ghost use Rattle.mc_model.specs.Settles.{IsSettled};
+ghost use Rattle.mc_model.specs.Shapes.{AreAllowed};
+ghost use Rattle.mc_model.specs.Worlds.{number};
+ghost use Rattle.mc_network.specs.Networks.{IsCutNetwork, network_state};
+ghost use Rattle.mc_network.specs.States.{IsAtLast};
+ghost use Rattle.mc_seq.specs.ShiftLimit.{KeepsShiftLimit};
+ghost use Rattle.mc_settle.specs.Settling.{EndsSettle, sets_link, some_program};
+ghost use Rattle.mc_settle.specs.Stops.{Stops};
+
+use crate::answers::answer;
+use crate::commands::{begin, use_up};
+use crate::finishing::finish;
+use mc_box::{Change, Event, MediaBox, Turn};
+use mc_network::{CutNetwork, slot_number};
+use mc_part::PartRun;
+use mc_seq::{Ending, SettleFault};
+use std::alloc::{AllocError, Global};
+use std::thread::Threads;
+
+/// Settles a batch by phases of a network in parts, with the boxes' turns in any order. Which interleaving of the boxes
+/// its turns are no clause tells: any settled segment may be the answer, and any turns that stop with their cause, in
+/// which no box makes more than `mc_box::limit::SHIFT_LIMIT` Shifts.
+///
+/// The network's world allows each command. It always ends: at rest, at a ring of links that the batch or a Shift left,
+/// at a box that has made all its Shifts and has one more enabled, or at a Hear of a descriptor that has the last
+/// version; or for want of memory. The network is gone where it doesn't rest.
+pub fn settle<R: Threads + Sync>(
+    rt: &R,
+    alloc: Global,
+    network: CutNetwork,
+    batch: &[Turn],
+) -> Result<(CutNetwork, Vec<Turn>), SettleFault>
+    requires cut { IsCutNetwork network }
+    requires allowed { AreAllowed (network_state network).world batch.now }
+    ensures cut { IfOk result (λ done. IsCutNetwork done.0) }
+    ensures settled { IfOk result (λ done.
+        IsSettled (network_state network).world batch.now done.1.items (network_state done.0).world) }
+    ensures shift_limit { IfOk result (λ done. KeepsShiftLimit done.1.items) }
+    ensures stops { IfErr result (Stops (network_state network).world batch.now) }
+{
+    let mut network = network;
+    let mut turns = Vec::new(alloc);
+    let ending = run_batch(rt, alloc, batch, &mut network, &mut turns)?;
+    answer(network, turns, ending)
+}
+
+// The phases of a batch, and how they ended.
+fn run_batch<R: Threads + Sync>(
+    rt: &R,
+    alloc: Global,
+    batch: &[Turn],
+    network: &mut CutNetwork,
+    turns: &mut Vec<Turn>,
+) -> Result<Ending, AllocError>
+    requires cut { IsCutNetwork network.old }
+    requires allowed { AreAllowed (network_state network.old).world batch.now }
+    requires none_yet { turns.old.items ≡ [] }
+    ensures cut { OnOk result (IsCutNetwork network.new) }
+    ensures ended { IfOk result (EndsSettle (network_state network.old).world batch.now turns.new.items
+        (network_state network.new).world) }
+{
+    let programs = some_program(&network.runs);
+    let short = may_link(programs, batch);
+    begin(network, batch)?;
+    match use_up(rt, short, network, turns)? {
+        Some((who, local)) => Ok(Ending::LastVersion(number(network, who, local))),
+        None => finish(rt, alloc, programs, network, turns),
+    }
+}
+
+// The number of a slot that is at its last version.
+fn number(network: &CutNetwork, who: u32, local: u8) -> u32
+    requires cut { IsCutNetwork network.now }
+    requires last { IsAtLast (network_state network.now) (who, local) }
+    ensures { number (network_state network.now).world who local ≡ Some result }
+{
+    match slot_number(network, who, local) {
+        Some(slot) => slot,
+        None => unreachable!(),
+    }
+}
+
+// Whether a box of some part has a program.
+fn some_program(runs: &[PartRun]) -> bool
+    ensures { result ≡ some_program runs.now }
+{
+    runs.iter().any(|run| has_program(run.part.engine.boxes()))
+}
+
+// Whether one of these boxes has a program.
+fn has_program(boxes: &[MediaBox]) -> bool
+    ensures { result ≡ list_any (λ one. is_some one.program) boxes.now }
+{
+    boxes.iter().any(|one| one.has_program())
+}
+
+// Whether a ring may come about while commands of a batch are left, round which no phase should go for long.
+fn may_link(programs: bool, batch: &[Turn]) -> bool
+    ensures { result ≡ (programs || sets_link batch.now) }
+{
+    programs || sets_link(batch)
+}
+
+// Whether a command of a batch links slots.
+fn sets_link(batch: &[Turn]) -> bool
+    ensures { result ≡ sets_link batch.now }
+{
+    batch.iter().any(|turn| is_linking(turn.event))
+}
+
+// Whether an event may link slots.
+fn is_linking(event: Event) -> bool
+    ensures { result ≡ is_linking event }
+{
+    matches!(event, Event::Set(Change::Link(..)) | Event::Shift)
+}
