@@ -1,4 +1,5 @@
 pub mod Assigning
+pub mod Laying
 pub mod Networks
 pub mod Phasing
 pub mod States

@@ -2,9 +2,8 @@
 
 ghost use Rattle.std.specs.Prelude.{◌≡◌, ◌<◌, ◌≤◌, ◌^◌, length, slice_index_or, All, IfOk, IsTrue};
 ghost use Rattle.mc_network.specs.Networks.{ShareClock};
-ghost use Rattle.mc_network.specs.declared.limit.TheConstants.{NETWORK_LIMIT};
+ghost use Rattle.mc_part.specs.declared.limit.TheConstants.{STAMP_LIMIT};
 
-use crate::limit::NETWORK_LIMIT;
 use crate::network::Crossing;
 use mc_part::limit::STAMP_LIMIT;
 use std::alloc::{AllocError, Global};
@@ -22,7 +21,7 @@ pub fn share_clocks(
     parts: usize,
     crossings: &[Crossing],
 ) -> Result<Vec<u64>, AllocError>
-    requires { parts ≤ NETWORK_LIMIT }
+    requires { parts ≤ STAMP_LIMIT }
     ensures count { IfOk result (λ clocks. length clocks.items ≡ parts) }
     ensures early { IfOk result (λ clocks. All (λ clock. clock < 2 ^ 63) clocks.items) }
     ensures share { IfOk result (λ clocks. All (ShareClock clocks.items) crossings.now) }
@@ -41,7 +40,7 @@ pub fn share_clocks(
 
 // A clock for each part.
 fn apart(alloc: Global, parts: usize) -> Result<Vec<u64>, AllocError>
-    requires { parts ≤ NETWORK_LIMIT }
+    requires { parts ≤ STAMP_LIMIT }
     ensures count { IfOk result (λ clocks. length clocks.items ≡ parts) }
     ensures early { IfOk result (λ clocks. All (λ clock. clock < 2 ^ 63) clocks.items) }
 {

@@ -6,13 +6,18 @@ mod carrying_over;
 mod choosing;
 mod clocks;
 mod commands;
+mod dividing;
+mod engines;
+mod filling;
 mod laying;
 pub mod limit;
+mod logs;
 mod looking;
 mod merging;
 mod network;
 mod phase;
 mod walking;
+mod wiring;
 
 pub use assigning::{Assigned, assign};
 pub use clocks::share_clocks;
