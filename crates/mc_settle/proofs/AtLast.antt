@@ -63,11 +63,7 @@ ends_at_last world batch turns start now at slot has p last there =
       limit_played world batch turns start now has p,
     )
 
--- which of two ways the commands ended
+-- where a box stopped it is that box
 pub at_last : (P : Type 0) (Q : ℕ × ℕ → Type 0) (found : Option (ℕ × ℕ)) (at : ℕ × ℕ) → MatchOption found P Q
     → found ≡ Some at → Q at
 at_last P Q found at m is = subst (λ (o : Option (ℕ × ℕ)). MatchOption o P Q) is m
-
-pub none_at_last : (P : Type 0) (Q : ℕ × ℕ → Type 0) (found : Option (ℕ × ℕ)) → MatchOption found P Q
-    → found ≡ None → P
-none_at_last P Q found m is = subst (λ (o : Option (ℕ × ℕ)). MatchOption o P Q) is m
