@@ -9,6 +9,7 @@ pub mod FirstSlots
 pub mod LaneFills
 mod Lists
 pub mod LogsLaid
+pub mod LanesWhole
 pub mod NetworkBoxes
 pub mod PartChannels
 pub mod Parting
@@ -16,6 +17,7 @@ mod PartsBy
 pub mod PartsLaid
 mod Phased
 mod Swapped
+pub mod PlacesCounted
 pub mod Tables
 pub mod Together
 mod Ways

@@ -1,6 +1,9 @@
 -- A table that grows by an entry.
-use Rattle.std.proofs.Common.{◌≡◌, ◌<◌, ◌+◌, ◌++◌, ℕ, List, [], ◌∷◌, Option, None, inl, inr, length, get_or, length-append, ap, sym, ◌∙◌, arith}
+use Rattle.std.proofs.Common.{◌≡◌, ◌<◌, ◌+◌, ◌++◌, ℕ, List, [], ◌∷◌, Option, None, Some, inl, inr, length, get_or, take, length-append, ap, sym, ◌∙◌, arith}
+use Rattle.std.specs.List.{slice_get}
 use Rattle.std.proofs.lemmas.Bool.{cases_eq}
+use Rattle.std.proofs.lemmas.List.{take_more}
+use Rattle.std.proofs.lemmas.Option.{get_or_from_slice_get, slice_get_within}
 use Rattle.std.proofs.Math.ListN.{get_or-append}
 use Rattle.std.proofs.Math.Seq.{get_or-append_seam}
 
@@ -14,3 +17,13 @@ entry_more entries entry n s of long below before last = elim (cases_eq s n) [
   | inr other ↦ get_or-append entries (entry ∷ []) None s (omega (arith, below, other, long))
       ∙ before (omega (arith, below, other))
 ]
+
+-- the first so many of a list, and the next one
+pub next_taken : {A : Type 0} (list before after : List A) (n : ℕ) (item : A) → before ≡ take n list
+    → after ≡ before ++ item ∷ [] → slice_get list n ≡ Some item → after ≡ take (n + 1) list
+next_taken {A} list before after n item so_far pushed there =
+    let within : n < length list = slice_get_within list n item there in
+    let read : get_or list n item ≡ item = get_or_from_slice_get list n item item there in
+    pushed
+    ∙ (ap (λ (l : List A). l ++ item ∷ []) so_far
+    ∙ sym (take_more list n item within ∙ ap (λ (x : A). take n list ++ x ∷ []) read))

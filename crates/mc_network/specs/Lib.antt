@@ -4,3 +4,4 @@ pub mod Networks
 pub mod Phasing
 pub mod States
 pub mod Swapping
+pub mod Whole

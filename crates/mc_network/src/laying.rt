@@ -18,11 +18,3 @@ pub fn cut_network(alloc: Global, world: World, most: usize) -> Result<CutNetwor
 {
     Err(AllocError)
 }
-
-/// The world that the parts of a network stand for. It fails only for want of memory; the network is gone then.
-pub fn whole_world(alloc: Global, network: CutNetwork) -> Result<World, AllocError>
-    requires { IsCutNetwork network }
-    ensures { IfOk result (λ world. world ≡ (network_state network).world) }
-{
-    Err(AllocError)
-}
