@@ -22,3 +22,4 @@ pub mod Tables
 pub mod Together
 mod Ways
 pub mod Wires
+pub mod WholeWorlds
