@@ -127,6 +127,6 @@ pub have_run : (retries every : Bool) (budget : ℕ) (none : Part) (old chosen g
 have_run retries every budget none old chosen gone asked few within chose went memory =
     by_parts (λ (a b : Part). Runs a b (owed_of retries a)) none old gone (went.count ∙ chose.count)
     (λ i a c p q.
-        let b = run_there chosen i (subst (λ (n : ℕ). i < n) (sym chose.count) (slice_get_within old i a p)) in
-        ran_one retries every budget a b.0 c asked (within i a p) (chose.each i a b.0 p b.1) (went.each i b.0 c b.1 q) (memory i c q) b.0.active refl)
+    let b = run_there chosen i (subst (λ (n : ℕ). i < n) (sym chose.count) (slice_get_within old i a p)) in
+    ran_one retries every budget a b.0 c asked (within i a p) (chose.each i a b.0 p b.1) (went.each i b.0 c b.1 q) (memory i c q) b.0.active refl)
     (empty_runs retries none few)

@@ -204,15 +204,16 @@ times_div k b n same few = let div : n * (STAMP_LIMIT / n) ≤ STAMP_LIMIT = div
   where
     div_times : (m d : ℕ) → d * (m / d) ≤ m
     div_times m d = grind (arith, common_steps)
+
     times_le : (d x y : ℕ) → x ≤ y → d * x ≤ d * y
     times_le d x y le = grind (arith, common_steps)
 
 pub logs_few : (n : CutNetwork) (retries every : Bool) (budget : ℕ) (chosen gone : List PartRun) → Went n retries every budget chosen gone → entry_count (logs_in gone) ≤ STAMP_LIMIT
 logs_few n retries every budget chosen gone w =
     let all : entry_count (logs_in gone) ≤ length (logs_in gone) * budget = sum_by-le (λ (log : List Made). length log) budget (logs_in gone) (λ k d inside.
-        let run = log_in gone k d inside in
-        let old = run_there n.runs.items k (subst (λ (m : ℕ). k < m) (w.went.count ∙ w.chose.count) (slice_get_within gone k run.0 run.1.0)) in
-        subst (λ (l : List Made). length l ≤ budget) (sym run.1.1) (log_few n retries every budget chosen gone w k old.0 old.1 run.0 run.1.0)) in
+    let run = log_in gone k d inside in
+    let old = run_there n.runs.items k (subst (λ (m : ℕ). k < m) (w.went.count ∙ w.chose.count) (slice_get_within gone k run.0 run.1.0)) in
+    subst (λ (l : List Made). length l ≤ budget) (sym run.1.1) (log_few n retries every budget chosen gone w k old.0 old.1 run.0 run.1.0)) in
     let count : length (logs_in gone) ≡ length n.runs.items = length-map gone (λ (run : PartRun). run.part.log.items) ∙ (w.went.count ∙ w.chose.count) in
     let most = times_div (length (logs_in gone)) budget (length n.runs.items) count w.few in
     omega (arith, all, most)

@@ -90,22 +90,22 @@ pub logs_swapped : (f : PartRun → PartLog → PartRun) (old new : List PartRun
 logs_swapped f old new logs logs_2 pairs each =
     maps_same (λ (log : PartLog). log.made.items) (λ (run : PartRun). run.part.log.items) logs_2 old (pairs.count_logs ∙ each)
     (λ i m a r p.
-        let l = at_place logs i (subst (λ (n : ℕ). i < n) (sym each) (slice_get_within old i a p)) in
-        ap (λ (log : PartLog). log.made.items) (log_is f old new logs logs_2 i a l.0 m pairs p l.1 r))
+    let l = at_place logs i (subst (λ (n : ℕ). i < n) (sym each) (slice_get_within old i a p)) in
+    ap (λ (log : PartLog). log.made.items) (log_is f old new logs logs_2 i a l.0 m pairs p l.1 r))
 
 pub clocks_swapped : (f : PartRun → PartLog → PartRun) (old new : List PartRun) (logs logs_2 : List PartLog) → HavePairs f swapped_log old new logs logs_2 → length logs ≡ length old → clocks_of logs_2 ≡ clocks_of logs
 clocks_swapped f old new logs logs_2 pairs each =
     maps_same (λ (log : PartLog). log.clock) (λ (log : PartLog). log.clock) logs_2 logs pairs.count_logs
     (λ i m l r q.
-        let a = at_place old i (subst (λ (n : ℕ). i < n) each (slice_get_within logs i l q)) in
-        ap (λ (log : PartLog). log.clock) (log_is f old new logs logs_2 i a.0 l m pairs a.1 q r))
+    let a = at_place old i (subst (λ (n : ℕ). i < n) each (slice_get_within logs i l q)) in
+    ap (λ (log : PartLog). log.clock) (log_is f old new logs logs_2 i a.0 l m pairs a.1 q r))
 
 pub numbers_swapped : (f : PartRun → PartLog → PartRun) (old new : List PartRun) (logs logs_2 : List PartLog) → HavePairs f swapped_log old new logs logs_2 → length logs ≡ length old → numbers_of logs_2 ≡ numbers_of logs
 numbers_swapped f old new logs logs_2 pairs each =
     maps_same (λ (log : PartLog). log.numbers.items) (λ (log : PartLog). log.numbers.items) logs_2 logs pairs.count_logs
     (λ i m l r q.
-        let a = at_place old i (subst (λ (n : ℕ). i < n) each (slice_get_within logs i l q)) in
-        ap (λ (log : PartLog). log.numbers.items) (log_is f old new logs logs_2 i a.0 l m pairs a.1 q r))
+    let a = at_place old i (subst (λ (n : ℕ). i < n) each (slice_get_within logs i l q)) in
+    ap (λ (log : PartLog). log.numbers.items) (log_is f old new logs logs_2 i a.0 l m pairs a.1 q r))
 
 -- ---- the log at a place
 

@@ -17,8 +17,8 @@ mod merging;
 mod network;
 mod phase;
 mod walking;
-mod wiring;
 mod whole;
+mod wiring;
 
 pub use assigning::{Assigned, assign};
 pub use clocks::share_clocks;
