@@ -22,11 +22,6 @@ each_next P runs k x there holds so_far i run below at = elim (same_or_not i k) 
 pub each_all : (P : PartRun → Type 0) (runs : List PartRun) (k : ℕ) → length runs ≤ k → ((i : ℕ) (run : PartRun) → i < k → slice_get runs i ≡ Some run → P run) → EachOf P runs
 each_all P runs k past so_far i run at = so_far i run (let below = slice_get_within runs i run at in omega (arith, below, past)) at
 
--- ---- one that ended by itself
-
-pub ok_calm : (calm : Bool) (o : Option (Result Ended PartStop)) (r : Result Ended PartStop) (e : Ended) → o ≡ Some r → r ≡ Ok e → EndsCalm calm o
-ok_calm calm o r e is is_2 = subst (λ (x : Option (Result Ended PartStop)). EndsCalm calm x) (sym (is ∙ ap (λ (y : Result Ended PartStop). Some y) is_2)) tt
-
 -- ---- the first so many are chosen
 
 pub record ChosenSoFar (every : Bool) (k : ℕ) (old now : List PartRun) : Type 0 where

@@ -1,25 +1,37 @@
 mod CarriedLanes
 mod CarriedOver
 mod Carryable
+mod Changed
 pub mod ChannelNumbers
+mod Closed
+mod CommandsLeft
 mod Crossings
 mod Drained
 mod Ends
+mod Finished
 pub mod FirstSlots
 pub mod LaneFills
+pub mod LanesWhole
 mod Lists
 pub mod LogsLaid
-pub mod LanesWhole
 pub mod NetworkBoxes
 pub mod PartChannels
 pub mod Parting
 mod PartsBy
 pub mod PartsLaid
+mod PhaseAnswers
+mod PhaseEnd
+mod PhaseTurns
 mod Phased
-mod Swapped
 pub mod PlacesCounted
+mod Played
+mod Progressed
+mod Recommanded
+mod Shapes
+mod Swapped
 pub mod Tables
 pub mod Together
 mod Ways
-pub mod Wires
 pub mod WholeWorlds
+pub mod Wires
+mod Working

@@ -107,7 +107,7 @@ pub empty_runs : (retries : Bool) (none : Part) → ((who : ℕ) → shifts_of n
 empty_runs retries none few = runs_as (empty_part none) (empty_part none) no_retries (owed_of retries (empty_part none)) (none_owed retries none) (runs_nothing (empty_part none) few)
 
 -- retries aren't asked for where not each box is tried
-unasked : (retries every : Bool) → (IsTrue retries → IsTrue every) → every ≡ false → retries ≡ false
+pub unasked : (retries every : Bool) → (IsTrue retries → IsTrue every) → every ≡ false → retries ≡ false
 unasked true every asked off = absurd (true≢false (sym (asked refl) ∙ off))
 unasked false every asked off = refl
 

@@ -68,7 +68,7 @@ all_pairs f g k old now logs logs_2 past so_far = record {
 -- ---- lists by their elements
 
 -- what is read of two lists side by side
-maps_same : {A B C : Type 0} (f : A → C) (g : B → C) (xs : List A) (ys : List B) → length xs ≡ length ys → ((i : ℕ) (x : A) (y : B) → slice_get xs i ≡ Some x → slice_get ys i ≡ Some y → f x ≡ g y) → map f xs ≡ map g ys
+pub maps_same : {A B C : Type 0} (f : A → C) (g : B → C) (xs : List A) (ys : List B) → length xs ≡ length ys → ((i : ℕ) (x : A) (y : B) → slice_get xs i ≡ Some x → slice_get ys i ≡ Some y → f x ≡ g y) → map f xs ≡ map g ys
 maps_same f g [] [] count same = refl
 maps_same f g [] (y ∷ ys) count same = absurd (omega (arith, count))
 maps_same f g (x ∷ xs) [] count same = absurd (omega (arith, count))
@@ -119,7 +119,7 @@ made_past [] i past = refl
 made_past (x ∷ xs) zero past = absurd (omega (arith, past))
 made_past (x ∷ xs) (suc i) past = made_past xs i (omega (arith, past))
 
-numbers_count : (logs logs_2 : List PartLog) → numbers_of logs_2 ≡ numbers_of logs → length logs_2 ≡ length logs
+pub numbers_count : (logs logs_2 : List PartLog) → numbers_of logs_2 ≡ numbers_of logs → length logs_2 ≡ length logs
 numbers_count logs logs_2 same = sym (length-map logs_2 (λ (log : PartLog). log.numbers.items)) ∙ (ap length same ∙ length-map logs (λ (log : PartLog). log.numbers.items))
 
 -- what the calls come to

@@ -12,7 +12,7 @@ use Rattle.mc_weave.specs.Phases.{IsApart, IsLayout, Layout, SendsAt, TakesAt, b
 use Rattle.mc_cut.specs.Cuts.{is_part, layout_of, part_of, place_in, rank}
 use Rattle.mc_cut.proofs.Slots.{end_on}
 use Rattle.mc_part.specs.Carrying.{lane_at, waiting_at}
-use Rattle.mc_part.specs.Networks.{LeadsAcross, given_on, received_on, states_of, tables_at}
+use Rattle.mc_part.specs.Networks.{HaveRun, LeadsAcross, given_on, received_on, states_of, tables_at}
 use Rattle.mc_part.specs.Parts.{LeadsAway, state_of, tables_of}
 use Rattle.mc_part.specs.Ports.{given_by, into_lane, out_lane, received_by, rings_of, sides}
 use Rattle.mc_part.specs.declared.part.Part.{Part}
@@ -256,8 +256,8 @@ across_by false world assigned none runs lane inner all across =
     subst (λ (n : ℕ). (layout_of world assigned).senders n ≡ (layout_of world assigned).takers n) (sym (lane_whole lane)) (ends.0 ∙ sym ends.1) in
     absurd (inner_not_apart world assigned none runs lane all across.0 same across.1)
 
-pub across_is : (world : WorldState) (assigned : List ℕ) (none : Part) (runs : List PartRun) (lane : ℕ) → AreLaid world assigned none runs → LeadsAcross world (layout_of world assigned) (parts_by none runs) lane → IsAcross world assigned lane
-across_is world assigned none runs lane all across = across_by (is_apart assigned world.channels (lane / 2)) world assigned none runs lane refl all across
+pub across_of : (world : WorldState) (assigned : List ℕ) (none : Part) (runs : List PartRun) (lane : ℕ) → AreLaid world assigned none runs → LeadsAcross world (layout_of world assigned) (parts_by none runs) lane → IsAcross world assigned lane
+across_of world assigned none runs lane all across = across_by (is_apart assigned world.channels (lane / 2)) world assigned none runs lane refl all across
 
 -- ---- what later parts have of it
 
@@ -275,3 +275,18 @@ way_after layout parts parts_2 lane from to sender taker way rings starts =
       senders = way.senders ∙ ap (λ (b : Bool). (from, out_lane sender b)) (sym one.starts);
       takers = way.takers ∙ ap (λ (b : Bool). (to, into_lane taker b)) (sym two.starts);
     }
+
+-- a lane that leads across after the parts ran did so before
+pub across_before : (base : WorldState) (layout : Layout) (retries : Bool) (old new : ℕ → Part) → HaveRun retries old new → (lane : ℕ) → LeadsAcross base layout new lane → LeadsAcross base layout old lane
+across_before base layout retries old new runs lane leads = (
+  leads.0,
+  record {
+    away = subst (λ (n : ℕ). n ≤ leads_to (tables_of (old (layout.senders lane).0)) (layout.senders lane).1) (runs (layout.senders lane).0).run.spanned.work.box_count
+        (subst (λ (w : WorldState). length (new (layout.senders lane).0).engine.boxes ≤ leads_to w (layout.senders lane).1) (tables_stay (layout.senders lane).0) leads.1.away);
+    off = subst (λ (n : ℕ). n ≤ leads_from (tables_of (old (layout.takers lane).0)) (layout.takers lane).1) (runs (layout.takers lane).0).run.spanned.work.box_count
+        (subst (λ (w : WorldState). length (new (layout.takers lane).0).engine.boxes ≤ leads_from w (layout.takers lane).1) (tables_stay (layout.takers lane).0) leads.1.off);
+  },
+)
+  where
+    tables_stay : (part : ℕ) → tables_of (new part) ≡ tables_of (old part)
+    tables_stay part = ap (λ (channels : List ChannelState). record { boxes = []; channels = channels; lanes = [] }) (runs part).run.channels

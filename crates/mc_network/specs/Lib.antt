@@ -1,4 +1,5 @@
 pub mod Assigning
+pub mod Commanding
 pub mod Laying
 pub mod Networks
 pub mod Phasing

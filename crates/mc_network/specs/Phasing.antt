@@ -1,11 +1,13 @@
 -- A phase, step by step: which parts run, what is carried over, and what becomes of their logs.
-use Rattle.std.specs.Prelude.{◌≡◌, ◌≢◌, ◌⊎◌, ◌<◌, ◌/◌, ◌++◌, ℕ, Bool, false, true, List, [], length, map, slice_get, slice_index_or, Option, Some, None, Result, Ok, Err}
+use Rattle.std.specs.Prelude.{◌≡◌, ◌≢◌, ◌⊎◌, ◌<◌, ◌≤◌, ◌/◌, ◌++◌, ℕ, Bool, false, true, IsTrue, List, [], length, map, slice_get, slice_index_or, Option, Some, None, Result, Ok, Err}
 use Rattle.mc_box.specs.declared.event.Turn.{Turn}
 use Rattle.mc_merge.specs.LaneLogs.{without_stamps}
+use Rattle.mc_network.specs.Networks.{IsCutNetwork, turn_budget}
 use Rattle.mc_network.specs.declared.network.Crossing.{Crossing}
+use Rattle.mc_network.specs.declared.network.CutNetwork.{CutNetwork}
 use Rattle.mc_part.specs.Carrying.{CanCarry, lane_at, waiting_at}
 use Rattle.mc_part.specs.Parts.{state_of}
-use Rattle.mc_part.specs.Phases.{EachChanged, EachOf}
+use Rattle.mc_part.specs.Phases.{EachChanged, EachOf, HaveGone}
 use Rattle.mc_part.specs.Ports.{rings_of, sides}
 use Rattle.mc_part.specs.Running.{NoneLeft, NothingWaits}
 use Rattle.mc_part.specs.declared.part.Part.{Part}
@@ -207,3 +209,32 @@ abbrev pub EndsCalm : Bool → Option (Result Ended PartStop) → Type 0
 EndsCalm calm None = calm ≡ true
 EndsCalm calm (Some (Ok ended)) = Unit {0}
 EndsCalm calm (Some (Err stop)) = ⊥
+
+-- ---- all of it
+
+-- the parts, logs and channels that cross of a network that is cut as it should be
+pub record AreOf (calm : Bool) (crossings : List Crossing) (runs : List PartRun) (logs : List PartLog) : Type 0 where
+  pub network : CutNetwork
+  pub cut : IsCutNetwork network
+  pub calm_is : network.calm ≡ calm
+  pub crossings_are : network.crossings.items ≡ crossings
+  pub runs_are : network.runs.items ≡ runs
+  pub logs_are : network.logs.items ≡ logs
+
+-- what a phase did with them: these parts were chosen, ran, and were carried over
+pub record HasPlayed (retries calm : Bool) (crossings : List Crossing) (old new : List PartRun)
+    (logs logs_2 : List PartLog) (before after : List Turn) : Type 0 where
+  pub every : Bool
+  pub budget : ℕ
+  pub chosen : List PartRun
+  pub gone : List PartRun
+  pub carried : List PartRun
+  pub asked : IsTrue retries → IsTrue every
+  pub was_calm : every ≡ false → calm ≡ true
+  pub few : budget ≤ turn_budget (length old)
+  pub some : 0 < turn_budget (length old) → 0 < budget
+  pub chose : AreChosen every old chosen
+  pub went : HaveGone retries budget chosen gone
+  pub memory : EachOf (λ (run : PartRun). HasMemory run.ended) gone
+  pub over : CarriesOver crossings gone carried
+  pub merged : HaveMerged carried new logs logs_2 before after

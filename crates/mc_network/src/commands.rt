@@ -1,12 +1,17 @@
 // The commands of a settle.
 
-ghost use Rattle.std.specs.Prelude.{◌≡◌, IsFalse, IsTrue, OnErr, OnOk, ℕ, ◌≢◌};
+ghost use Rattle.std.specs.Prelude.{◌≡◌, ◌<◌, ℕ, length, slice_index_or, IsFalse, IsTrue, OnErr, OnOk, true};
+ghost use Rattle.mc_box.specs.declared.limit.TheConstants.{SHIFT_LIMIT};
 ghost use Rattle.mc_model.specs.Shapes.{is_allowed};
+ghost use Rattle.mc_network.specs.Commanding.{HasBegunSettle, HasSpare, IsLeftIn, IsNoneLeft};
 ghost use Rattle.mc_network.specs.Networks.{IsCutNetwork, network_state};
 ghost use Rattle.mc_network.specs.States.{HasCommands, NoneLeft, new_state, with_command};
+ghost use Rattle.mc_part.specs.Phases.{EachChanged, EachOf};
 
 use crate::network::CutNetwork;
 use mc_box::Turn;
+use mc_box::limit::SHIFT_LIMIT;
+use mc_part::PartRun;
 use std::alloc::AllocError;
 
 /// A settle begins: no command is left to a box, and none has made a Shift.
@@ -14,7 +19,51 @@ pub fn begin_settle(network: &mut CutNetwork)
     requires { IsCutNetwork network.old }
     ensures cut { IsCutNetwork network.new }
     ensures state { network_state network.new ≡ new_state (network_state network.old).world }
-{}
+{
+    network.calm = stays_calm(network.calm, &network.runs);
+    begin_parts(&mut network.runs);
+}
+
+// Whether no box can make a Shift once it has all its Shifts again.
+fn stays_calm(calm: bool, runs: &[PartRun]) -> bool
+    ensures calm { IsTrue result → IsTrue calm }
+    ensures spare { IsTrue result → EachOf HasSpare runs.now }
+{
+    for run in runs {
+        if !has_spare(&run.part.shifts) {
+            return false;
+        }
+    }
+    calm
+}
+
+// Whether none of these counts is at the limit.
+fn has_spare(counts: &[u32]) -> bool
+    ensures { IsTrue result → (who : ℕ) → slice_index_or counts.now who 0 < SHIFT_LIMIT }
+{
+    for place in 0..counts.len() {
+        if counts[place] >= u32::from(SHIFT_LIMIT) {
+            return false;
+        }
+    }
+    true
+}
+
+// No command is left in any part.
+fn begin_parts(runs: &mut [PartRun])
+    ensures { EachChanged HasBegunSettle runs.old runs.new }
+{
+    for place in 0..runs.len() {
+        begin_part(&mut runs[place]);
+    }
+}
+
+// The same of one part.
+fn begin_part(run: &mut PartRun)
+    ensures { HasBegunSettle run.old run.new }
+{
+    run.part.begin_settle();
+}
 
 /// Gives a box a command more, which its shape allows, after those that it has. It fails only for want of memory, and
 /// the network is as it was then.
@@ -34,5 +83,26 @@ pub fn has_commands(network: &CutNetwork) -> bool
     ensures some { IsTrue result → HasCommands (network_state network.now) }
     ensures none { IsFalse result → NoneLeft (network_state network.now) }
 {
+    any_left(&network.runs)
+}
+
+// Whether one is left in some part.
+fn any_left(runs: &[PartRun]) -> bool
+    ensures some { IsTrue result → IsLeftIn runs.now }
+    ensures none { IsFalse result → EachOf IsNoneLeft runs.now }
+{
+    for place in 0..runs.len() {
+        if has_left(&runs[place]) {
+            return true;
+        }
+    }
     false
+}
+
+// Whether one is left in this part.
+fn has_left(run: &PartRun) -> bool
+    ensures some { IsTrue result → run.now.part.used < length run.now.part.commands.items }
+    ensures none { IsFalse result → IsNoneLeft run.now }
+{
+    run.part.used < run.part.commands.len()
 }

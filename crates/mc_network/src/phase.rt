@@ -2,7 +2,7 @@
 
 ghost use Rattle.std.specs.Prelude.{◌≡◌, ◌<◌, ◌≤◌, false, true, length, IfOk, IsTrue, OnOk};
 ghost use Rattle.mc_network.specs.Networks.{IsCutNetwork, network_state, turn_budget};
-ghost use Rattle.mc_network.specs.Phasing.{EndAs, EndsCalm, HasMemory, StopIs};
+ghost use Rattle.mc_network.specs.Phasing.{AreOf, EndAs, EndsCalm, HasMemory, HasPlayed, StopIs};
 ghost use Rattle.mc_network.specs.States.{PlaysOn};
 ghost use Rattle.mc_part.specs.Phases.{EachOf};
 ghost use Rattle.mc_part.specs.declared.part_run.PartRun.{PartRun};
@@ -12,10 +12,10 @@ ghost use Rattle.mc_weave.specs.Wholes.{numbers_in};
 use crate::carrying_over::carry_over;
 use crate::choosing::choose;
 use crate::merging::merge_logs;
-use crate::network::CutNetwork;
+use crate::network::{Crossing, CutNetwork};
 use mc_box::Turn;
 use mc_part::limit::STAMP_LIMIT;
-use mc_part::{PartLog, PartRun, PartStop, run_parts};
+use mc_part::{Ended, PartLog, PartRun, PartStop, run_parts};
 use std::alloc::AllocError;
 use std::sync::atomic::AtomicU64;
 use std::thread::Threads;
@@ -41,16 +41,43 @@ pub fn run_phase<R: Threads + Sync>(
     ensures played { IfOk result (PlaysOn retries (network_state network.old) (network_state network.new)
         turns.old.items turns.new.items) }
 {
-    let every = is_every(retries, network.calm);
-    let budget = budget_of(retries, short, &network.runs);
-    let busy = AtomicU64::new(choose(every, &network.logs, &mut network.runs));
-    let size = network.runs.len();
-    run_parts(rt, retries, every, budget, size, &busy, &mut network.runs);
-    check_memory(&network.runs)?;
-    carry_over(&network.crossings, &mut network.runs)?;
-    merge_logs(&mut network.runs, &mut network.logs, turns)?;
+    play_parts(
+        rt,
+        retries,
+        short,
+        network.calm,
+        &network.crossings,
+        &mut network.logs,
+        &mut network.runs,
+        turns,
+    )?;
     network.calm = are_calm(network.calm, &network.runs);
     first_end(&network.logs, &network.runs)
+}
+
+// The same of the parts alone.
+fn play_parts<R: Threads + Sync>(
+    rt: &R,
+    retries: bool,
+    short: bool,
+    calm: bool,
+    crossings: &[Crossing],
+    logs: &mut [PartLog],
+    runs: &mut [PartRun],
+    turns: &mut Vec<Turn>,
+) -> Result<(), AllocError>
+    requires { AreOf calm crossings.now runs.old logs.old }
+    ensures { OnOk result (HasPlayed retries calm crossings.now runs.old runs.new logs.old logs.new
+        turns.old.items turns.new.items) }
+{
+    let every = is_every(retries, calm);
+    let budget = budget_of(retries, short, runs);
+    let busy = AtomicU64::new(choose(every, logs, runs));
+    let size = runs.len();
+    run_parts(rt, retries, every, budget, size, &busy, runs);
+    check_memory(runs)?;
+    carry_over(crossings, runs)?;
+    merge_logs(runs, logs, turns)
 }
 
 // Whether the Shifts of each box are tried.
@@ -127,7 +154,8 @@ fn ends_calm(calm: bool, run: &PartRun) -> bool
 {
     match run.ended {
         None => calm,
-        Some(Ok(_)) => true,
+        Some(Ok(Ended::Rest)) => true,
+        Some(Ok(Ended::Late)) => true,
         Some(Err(_)) => false,
     }
 }

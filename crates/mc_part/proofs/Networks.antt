@@ -117,7 +117,7 @@ none_owed true box local is =
 none_owed false box local is = refl
 
 -- a box owes in the network what it owes in its part
-owed_same : (base : WorldState) (layout : Layout) (old : ℕ → Part) (who local : ℕ) → AreParts base layout old
+pub owed_same : (base : WorldState) (layout : Layout) (old : ℕ → Part) (who local : ℕ) → AreParts base layout old
     → world_owes (world_by base layout old) who local ≡ world_owes (old (layout.homes who).0).engine (layout.homes who).1 local
 owed_same base layout old who local parts = elim (cases_lt who (length base.boxes)) [
   | inl inside ↦ elim (cases_lt (layout.homes who).1 (length (old (layout.homes who).0).engine.boxes)) [

@@ -93,7 +93,7 @@ own_none : (log : List Own) (who : ℕ) → log ≡ [] → own_log who log ≡ [
 own_none log who none = ap (λ (l : List Own). own_log who l) none
 
 -- a box that may make a Shift isn't calm
-still_may : (a : Part) (who : ℕ) → MayShift a who → IsCalm a who → ⊥
+pub still_may : (a : Part) (who : ℕ) → MayShift a who → IsCalm a who → ⊥
 still_may a who may (inl none) = let no : true ≡ false = sym may.enabled ∙ none in absurd (cc)
 still_may a who may (inr most) = let fewer : shifts_of a who < SHIFT_LIMIT = may.fewer in absurd (omega (arith, most, fewer))
 

@@ -2,11 +2,7 @@ use Rattle.std.proofs.Common.{◌≡◌, Option, Result, subst, sym}
 use Rattle.mc_part.specs.declared.stop.Ended.{Ended}
 use Rattle.mc_part.specs.declared.stop.PartStop.{PartStop}
 use Rattle.mc_network.specs.Phasing.{EndsCalm}
-use Rattle.mc_network.proofs.Ends.{ok_calm}
 use Rattle.mc_network.proofs.phase.ends_calm.Goals as goal
 
 pub returns-in-None : goal.returns-in-None
 returns-in-None c calm = subst (λ (o : Option (Result Ended PartStop)). EndsCalm c.args.calm o) (sym c.in-None.is) calm
-
-pub returns-in-Some-Ok : goal.returns-in-Some-Ok
-returns-in-Some-Ok c on = ok_calm c.args.calm c.args.run.now.ended c.in-Some-Ok.field-0 c.in-Some-Ok.field-0-0 c.in-Some-Ok.is c.in-Some-Ok.field-0-is

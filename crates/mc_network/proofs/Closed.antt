@@ -1,0 +1,168 @@
+-- After a phase the network is cut as before, and the next one may begin.
+use Rattle.std.proofs.Common.{◌≡◌, ◌≢◌, ◌⊎◌, inl, inr, ◌<◌, ◌≤◌, ◌+◌, ◌*◌, ◌^◌, Bool, true, false, ℕ, All, IsTrue, Some, None, Option, List, [], ◌∷◌, ◌++◌, drop, length, map, get_or, slice_get, Result, Ok, Err, refl, ap, sym, ◌∙◌, subst, arith, true≢false, Vec, Global}
+use Rattle.std.specs.List.{AllByRecursion, range_with_len}
+use Rattle.std.proofs.lemmas.Bool.{cases_lt}
+use Rattle.std.proofs.lemmas.List.{length-map}
+use Rattle.std.proofs.lemmas.List.Elements.{recursion_from_All}
+use Rattle.std.proofs.lemmas.Option.{slice_get-get_or, slice_get_within}
+use Rattle.mc_box.specs.Boxes.{BoxState, no_box}
+use Rattle.mc_box.specs.declared.event.Turn.{Turn}
+use Rattle.mc_box.specs.declared.limit.TheConstants.{SHIFT_LIMIT, SLOT_LIMIT}
+use Rattle.mc_model.specs.Sound.{IsSound}
+use Rattle.mc_model.specs.Worlds.{ChannelState, WorldState}
+use Rattle.mc_port.specs.Ends.{given, received}
+use Rattle.mc_weave.specs.Account.{PartState}
+use Rattle.mc_weave.specs.Logs.{Own}
+use Rattle.mc_weave.specs.Phases.{AreEmptied, IsLayout, Layout, stands_for}
+use Rattle.mc_weave.specs.Together.{Homes, Ran}
+use Rattle.mc_weave.specs.Turns.{no_items}
+use Rattle.mc_weave.specs.Weaving.{AreClimbing, IsKnown, clock_at, clocks_of, log_at, numbers_at, numbers_of}
+use Rattle.mc_weave.specs.Wholes.{AreHomes, made_of, numbers_in}
+use Rattle.mc_weave.specs.declared.log.Made.{Made}
+use Rattle.mc_weave.specs.declared.log.PartLog.{PartLog}
+use Rattle.mc_weave.proofs.Fitting.{kept_logs_fit}
+use Rattle.mc_weave.proofs.Logs.{all_at}
+use Rattle.mc_cut.specs.Cuts.{home_at, layout_of, members, part_numbers, part_of}
+use Rattle.mc_cut.proofs.Filling.{none_past_parts}
+use Rattle.mc_cut.proofs.Members.{cuts_are_homes}
+use Rattle.mc_part.specs.Carrying.{AllComeIn, AllGoOut, tunnel_count}
+use Rattle.mc_part.specs.Networks.{AreCarried, AreParts, HaveHomes, HaveRun, LeadsAcross, given_on, received_on, states_of, tables_at, world_by}
+use Rattle.mc_part.specs.Parts.{IsWithin, LeadsAway, Runs, state_of, tables_of}
+use Rattle.mc_part.specs.Phases.{EachChanged, EachOf}
+use Rattle.mc_part.specs.Ports.{LeadAway, rings_of, sides}
+use Rattle.mc_part.specs.Running.{owed_of}
+use Rattle.mc_part.specs.declared.part.Part.{Part}
+use Rattle.mc_part.specs.declared.part_run.PartRun.{PartRun}
+use Rattle.mc_part.specs.declared.port.Port.{Port}
+use Rattle.mc_part.proofs.Networks.{parts_go_on, parts_keep_sound}
+use Rattle.mc_network.specs.Networks.{AreJoined, IsCutNetwork, IsIdle, IsJoined, base_of, channels_of, crossings_of, network_layout, states_among, no_tables, tables_among, turn_budget, world_in}
+use Rattle.mc_network.specs.Phasing.{CarriesOver, HasCrossed, HaveMerged, IsClosed, IsLaneCarried, logs_in}
+use Rattle.mc_network.specs.declared.network.Crossing.{Crossing}
+use Rattle.mc_network.specs.declared.network.CutNetwork.{CutNetwork}
+use Rattle.mc_network.proofs.Carryable.{comes_as, goes_as}
+use Rattle.mc_network.proofs.CarriedLanes.{same_tables}
+use Rattle.mc_network.proofs.Crossings.{IsRoute}
+use Rattle.mc_network.proofs.Drained.{AreDrained, HaveWays, IsLike, are_carried, drained_closed, ways_after}
+use Rattle.mc_network.proofs.Lists.{one_of, there_at}
+use Rattle.mc_network.proofs.PartsBy.{by_part, by_parts, empty_part, part_is, part_past, parts_by, run_there, states_are, tables_are}
+use Rattle.mc_network.proofs.Phased.{HasNone, RanAt, Went, emptied_of, joined_of, laid_of, none_of, ran_at, same_logs, ways_of, went_run}
+use Rattle.mc_network.proofs.Ways.{AreLaid, IsAcross, IsWay, across_before, across_of, given_is, port_after, received_is}
+
+-- all of a phase
+pub record Phased (n : CutNetwork) (retries every : Bool) (budget : ℕ) (chosen gone carried closed : List PartRun) (logs_2 : List PartLog) (before after : List Turn) : Type 0 where
+  pub went : Went n retries every budget chosen gone
+  pub over : CarriesOver n.crossings.items gone carried
+  pub merged : HaveMerged carried closed n.logs.items logs_2 before after
+
+-- ---- the parts before it
+
+-- a ring that crosses is even
+lane_even : (n : CutNetwork) (none : Part) (cut : IsCutNetwork n) (from to sender taker lane : ℕ) (one two : PartRun) → IsWay (network_layout n) (parts_by none n.runs.items) lane from to sender taker → slice_get n.runs.items from ≡ Some one → slice_get n.runs.items to ≡ Some two → AreJoined one.part two.part sender taker
+    → received_on (network_layout n) (parts_by none n.runs.items) lane ≡ given_on (network_layout n) (parts_by none n.runs.items) lane
+lane_even n none cut from to sender taker lane one two way there there_2 joined =
+    let parts : ℕ → Part = parts_by none n.runs.items in
+    let out : way.out ≡ joined.out = one_of (slice_get one.part.ports.items sender) way.out joined.out (ap (λ (p : Part). slice_get p.ports.items sender) (sym (part_is none n.runs.items from one there)) ∙ way.sends) joined.sends in
+    let into : way.into ≡ joined.into = one_of (slice_get two.part.ports.items taker) way.into joined.into (ap (λ (p : Part). slice_get p.ports.items taker) (sym (part_is none n.runs.items to two there_2)) ∙ way.takes) joined.takes in
+    received_is (network_layout n) parts lane from to sender taker way
+    ∙ (ap (λ (p : Port). received p.from) into ∙ (joined.even ∙ (ap (λ (p : Port). given p.to) (sym out) ∙ sym (given_is (network_layout n) parts lane from to sender taker way))))
+
+pub parts_of : (n : CutNetwork) (none : Part) → IsCutNetwork n → AreParts (base_of n) (network_layout n) (parts_by none n.runs.items)
+parts_of n none cut =
+    let all : AreLaid (base_of n) n.assigned.items none n.runs.items = laid_of n none cut in
+    let ways : HaveWays (base_of n) n.assigned.items (parts_by none n.runs.items) = ways_of n none cut in
+    record {
+      laid = all.laid;
+      empty = emptied_of n none cut;
+      even = λ lane leads.
+          let across : IsAcross (base_of n) n.assigned.items lane = across_of (base_of n) n.assigned.items none n.runs.items lane all leads in
+          let x : Crossing = across.crossing in
+          let joined : IsJoined n.runs.items x = joined_of n cut across.i x (ap (λ (l : List Crossing). slice_get l across.i) cut.crossings ∙ across.there) in
+          elim across.is [
+            | inl is ↦
+                subst (λ (k : ℕ). received_on (network_layout n) (parts_by none n.runs.items) k ≡ given_on (network_layout n) (parts_by none n.runs.items) k) (sym is)
+                (lane_even n none cut x.from x.to x.from_port x.to_port (2 * across.route.c + 1) joined.from joined.to (ways.there across.i x across.there across.route) joined.from_there joined.to_there joined.there)
+            | inr is ↦
+                subst (λ (k : ℕ). received_on (network_layout n) (parts_by none n.runs.items) k ≡ given_on (network_layout n) (parts_by none n.runs.items) k) (sym is)
+                (lane_even n none cut x.to x.from x.to_port x.from_port (2 * across.route.c + 0) joined.to joined.from (ways.back across.i x across.there across.route) joined.to_there joined.from_there joined.back)
+          ];
+    }
+
+-- ---- what was carried over
+
+pub drained : (n : CutNetwork) (retries every : Bool) (budget : ℕ) (chosen gone carried closed : List PartRun) (logs_2 : List PartLog) (before after : List Turn) → Phased n retries every budget chosen gone carried closed logs_2 before after → AreDrained (crossings_of n.assigned.items (channels_of n)) gone closed
+drained n retries every budget chosen gone carried closed logs_2 before after p = subst (λ (l : List Crossing). AreDrained l gone closed) p.went.cut.crossings (drained_closed n.crossings.items gone carried closed p.over p.merged.closed)
+
+-- of each part from before the phase to after it
+pub record ClosedAt (gone closed : List PartRun) (n : CutNetwork) (retries every : Bool) (budget : ℕ) (chosen : List PartRun) (i : ℕ) (a : PartRun) : Type 0 where
+  pub ran : RanAt n retries every budget chosen gone i a
+  pub d : PartRun
+  pub d_there : slice_get closed i ≡ Some d
+  pub like : IsLike ran.c.part d.part
+
+pub closed_at : (n : CutNetwork) (retries every : Bool) (budget : ℕ) (chosen gone carried closed : List PartRun) (logs_2 : List PartLog) (before after : List Turn) → Phased n retries every budget chosen gone carried closed logs_2 before after → (i : ℕ) (a : PartRun) → slice_get n.runs.items i ≡ Some a → ClosedAt gone closed n retries every budget chosen i a
+closed_at n retries every budget chosen gone carried closed logs_2 before after p i x there =
+    let ran : RanAt n retries every budget chosen gone i x = ran_at n retries every budget chosen gone p.went i x there in
+    let all = drained n retries every budget chosen gone carried closed logs_2 before after p in
+    let d = run_there closed i (subst (λ (k : ℕ). i < k) (sym all.count) (slice_get_within gone i ran.c ran.c_there)) in
+    record { ran = ran; d = d.0; d_there = d.1; like = all.like i ran.c d.0 ran.c_there d.1 }
+
+pub closed_count : (n : CutNetwork) (retries every : Bool) (budget : ℕ) (chosen gone carried closed : List PartRun) (logs_2 : List PartLog) (before after : List Turn) → Phased n retries every budget chosen gone carried closed logs_2 before after → length closed ≡ length n.runs.items
+closed_count n retries every budget chosen gone carried closed logs_2 before after p = (drained n retries every budget chosen gone carried closed logs_2 before after p).count ∙ (p.went.went.count ∙ p.went.chose.count)
+
+-- and from any part after it back
+pub opened_at : (n : CutNetwork) (retries every : Bool) (budget : ℕ) (chosen gone carried closed : List PartRun) (logs_2 : List PartLog) (before after : List Turn) → Phased n retries every budget chosen gone carried closed logs_2 before after → (i : ℕ) (d : PartRun) → slice_get closed i ≡ Some d → (a : PartRun) × (slice_get n.runs.items i ≡ Some a)
+opened_at n retries every budget chosen gone carried closed logs_2 before after p i d there = run_there n.runs.items i (subst (λ (k : ℕ). i < k) (closed_count n retries every budget chosen gone carried closed logs_2 before after p) (slice_get_within closed i d there))
+
+pub carried_over : (n : CutNetwork) (retries every : Bool) (budget : ℕ) (chosen gone carried closed : List PartRun) (logs_2 : List PartLog) (before after : List Turn) (none : HasNone n) → Phased n retries every budget chosen gone carried closed logs_2 before after → AreCarried (base_of n) (network_layout n) (parts_by none.none gone) (parts_by none.none closed)
+carried_over n retries every budget chosen gone carried closed logs_2 before after none p =
+    let runs : HaveRun retries (parts_by none.none n.runs.items) (parts_by none.none gone) = went_run n retries every budget chosen gone none p.went in
+    let all : AreLaid (base_of n) n.assigned.items none.none n.runs.items = laid_of n none.none p.went.cut in
+    let ways : HaveWays (base_of n) n.assigned.items (parts_by none.none gone) =
+    ways_after (base_of n) n.assigned.items (parts_by none.none n.runs.items) (parts_by none.none gone) (ways_of n none.none p.went.cut) (λ part. (runs part).run.rings) (λ part. (runs part).run.sides) in
+    let like : (part : ℕ) → IsLike (parts_by none.none gone part) (parts_by none.none closed part) = λ part. like_all none.none gone closed (drained n retries every budget chosen gone carried closed logs_2 before after p) part in
+    let ways_2 : HaveWays (base_of n) n.assigned.items (parts_by none.none closed) =
+    ways_after (base_of n) n.assigned.items (parts_by none.none gone) (parts_by none.none closed) ways (λ part. (like part).rings_are) (λ part. (like part).sides_are) in
+    are_carried (base_of n) n.assigned.items none.none gone closed all.laid.each_lane (drained n retries every budget chosen gone carried closed logs_2 before after p) ways ways_2
+    (λ lane leads. across_of (base_of n) n.assigned.items none.none n.runs.items lane all (across_before (base_of n) (network_layout n) retries (parts_by none.none n.runs.items) (parts_by none.none gone) runs lane leads))
+  where
+    like_all : (none : Part) (old new : List PartRun) → AreDrained (crossings_of n.assigned.items (channels_of n)) old new → (part : ℕ) → IsLike (parts_by none old part) (parts_by none new part)
+    like_all none old new all part = by_parts IsLike none old new all.count all.like (record { boxes = refl; channels = refl; lane_count = refl; sides_are = refl; rings_are = refl }) part
+
+-- ---- the parts after it
+
+pub goes_on : (n : CutNetwork) (retries every : Bool) (budget : ℕ) (chosen gone carried closed : List PartRun) (logs_2 : List PartLog) (before after : List Turn) (none : HasNone n) → Phased n retries every budget chosen gone carried closed logs_2 before after → AreParts (base_of n) (network_layout n) (parts_by none.none closed)
+goes_on n retries every budget chosen gone carried closed logs_2 before after none p =
+    parts_go_on retries (base_of n) (network_layout n) (parts_by none.none n.runs.items) (parts_by none.none gone) (parts_by none.none closed) (parts_of n none.none p.went.cut) (went_run n retries every budget chosen gone none p.went) (carried_over n retries every budget chosen gone carried closed logs_2 before after none p)
+
+-- each box of the network has a number in a part
+pub count_in : (n : CutNetwork) (none : Part) → IsCutNetwork n → (part : ℕ) → length (parts_by none n.runs.items part).engine.boxes ≡ length (members n.assigned.items part)
+count_in n none cut part = elim (cases_lt part (length n.runs.items)) [
+  | inl inside ↦ ap (λ (states : ℕ → PartState). length (states part).boxes) (sym (states_are none n.runs.items)) ∙ cut.boxes part inside
+  | inr outside ↦
+      ap (λ (p : Part). length p.engine.boxes) (part_past none n.runs.items part outside)
+      ∙ ap (λ (l : List ℕ). length l) (sym (none_past_parts n.assigned.items (channels_of n) (length n.runs.items) part (recursion_from_All (λ (q : ℕ). q < length n.runs.items) n.assigned.items cut.assigned) cut.some outside).0)
+]
+
+-- a part that hasn't run
+abbrev still : PartState → Ran
+still state = record { tables = no_tables; old = state; new = state; log = []; gave = no_items; put = no_items }
+
+box_total : (n : CutNetwork) → length (base_of n).boxes ≡ length n.assigned.items
+box_total n = length-map n.assigned.items (λ (part : ℕ). no_box)
+
+pub homes_in : (n : CutNetwork) (none : Part) → IsCutNetwork n → HaveHomes (network_layout n) (numbers_of n.logs.items) (parts_by none n.runs.items) (length (base_of n).boxes)
+homes_in n none cut =
+    let homes : AreHomes (home_at n.assigned.items) (λ part. still (state_of (parts_by none n.runs.items part))) (numbers_in (part_numbers n.assigned.items (length n.runs.items))) (length n.assigned.items) =
+    cuts_are_homes n.assigned.items (length n.runs.items) (λ part. still (state_of (parts_by none n.runs.items part))) (recursion_from_All (λ (q : ℕ). q < length n.runs.items) n.assigned.items cut.assigned) (count_in n none cut) (λ part. tt) in
+    subst (λ (numbers : List (List ℕ)). HaveHomes (network_layout n) numbers (parts_by none n.runs.items) (length (base_of n).boxes)) (sym cut.logs)
+    (subst (λ (k : ℕ). HaveHomes (network_layout n) (part_numbers n.assigned.items (length n.runs.items)) (parts_by none n.runs.items) k) (sym (box_total n)) (record {
+      back = homes.back;
+      there = homes.there;
+      inside = homes.inside;
+    }))
+
+pub keeps_sound : (n : CutNetwork) (retries every : Bool) (budget : ℕ) (chosen gone carried closed : List PartRun) (logs_2 : List PartLog) (before after : List Turn) (none : HasNone n) → Phased n retries every budget chosen gone carried closed logs_2 before after → IsSound (world_by (base_of n) (network_layout n) (parts_by none.none closed))
+keeps_sound n retries every budget chosen gone carried closed logs_2 before after none p =
+    parts_keep_sound retries (base_of n) (network_layout n) (parts_by none.none n.runs.items) (parts_by none.none gone) (parts_by none.none closed) (numbers_of n.logs.items) (parts_of n none.none p.went.cut) (went_run n retries every budget chosen gone none p.went)
+    (carried_over n retries every budget chosen gone carried closed logs_2 before after none p) (homes_in n none.none p.went.cut)
+    (subst (λ (states : ℕ → PartState). IsSound (stands_for (base_of n) (network_layout n) states)) (states_are none.none n.runs.items) p.went.cut.sound)

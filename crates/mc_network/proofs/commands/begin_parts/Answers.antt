@@ -1,0 +1,12 @@
+use Rattle.std.proofs.Common.{◌≡◌, Some, arith}
+use Rattle.mc_network.specs.Commanding.{HasBegunSettle}
+use Rattle.mc_network.proofs.Changed.{all_changed, next_changed}
+use Rattle.mc_network.proofs.Lists.{there_at}
+use Rattle.mc_network.proofs.commands.begin_parts.Goals as goal
+
+pub loop-place-preserved : goal.loop-place-preserved
+loop-place-preserved c =
+    next_changed HasBegunSettle c.loop-place.place c.args.runs.now c.loop-place.runs _ c.begin_part.new.run (there_at c.loop-place.runs c.loop-place.place c.index-runs-place.result (omega arith)) c.begin_part.ensures c.loop-place.invariant
+
+pub returns : goal.returns
+returns c = all_changed HasBegunSettle c.loop-place.place c.args.runs.now c.loop-place.runs (omega arith) c.loop-place.invariant

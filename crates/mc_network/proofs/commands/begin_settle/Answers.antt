@@ -1,0 +1,15 @@
+use Rattle.std.specs.Vec.{with_items}
+use Rattle.mc_network.proofs.CommandsLeft.{begun_cut, begun_state, begun_vec, spare_as}
+use Rattle.mc_network.proofs.commands.begin_settle.Goals as goal
+
+pub returns-clause-cut : goal.returns-clause-cut
+returns-clause-cut c =
+    begun_cut c.args.network.now (with_items c.args.network.now.runs c.begin_parts.new.runs) c.stays_calm-network.result c.requires (begun_vec c.args.network.now c.deref_mut.result.now c.begin_parts.new.runs c.deref_mut.ensures.value c.begin_parts.ensures)
+    c.stays_calm-network.ensures.calm (spare_as c.stays_calm-network.result c.deref.result.now c.args.network.now.runs.items c.deref.ensures.value c.stays_calm-network.ensures.spare)
+
+pub returns-clause-state : goal.returns-clause-state
+returns-clause-state c =
+    let begun = (begun_vec c.args.network.now c.deref_mut.result.now c.begin_parts.new.runs c.deref_mut.ensures.value c.begin_parts.ensures) in
+    begun_state c.args.network.now (with_items c.args.network.now.runs c.begin_parts.new.runs) c.stays_calm-network.result c.requires begun
+    (begun_cut c.args.network.now (with_items c.args.network.now.runs c.begin_parts.new.runs) c.stays_calm-network.result c.requires begun
+    c.stays_calm-network.ensures.calm (spare_as c.stays_calm-network.result c.deref.result.now c.args.network.now.runs.items c.deref.ensures.value c.stays_calm-network.ensures.spare))

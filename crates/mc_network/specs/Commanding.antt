@@ -1,0 +1,42 @@
+-- The commands of a settle, in the parts of a network.
+use Rattle.std.specs.Prelude.{◌≡◌, ◌<◌, ◌≤◌, ℕ, List, length, slice_get, Some}
+use Rattle.mc_box.specs.declared.limit.TheConstants.{SHIFT_LIMIT}
+use Rattle.mc_part.specs.Parts.{IsWithin, shifts_of}
+use Rattle.mc_part.specs.Running.{NoneLeft}
+use Rattle.mc_part.specs.declared.part.Part.{Part}
+use Rattle.mc_part.specs.declared.part_run.PartRun.{PartRun}
+
+-- a part is the same but for its commands, and its counts of Shifts
+pub record IsRecommanded (a b : Part) : Type 0 where
+  pub engine : b.engine ≡ a.engine
+  pub ports : b.ports ≡ a.ports
+  pub log : b.log ≡ a.log
+  pub stamp : b.stamp ≡ a.stamp
+  pub heard : b.heard ≡ a.heard
+
+pub record AreRecommanded (old new : List PartRun) : Type 0 where
+  pub count : length new ≡ length old
+  pub each : (i : ℕ) (a b : PartRun) → slice_get old i ≡ Some a → slice_get new i ≡ Some b
+      → IsRecommanded a.part b.part
+
+-- a part has no commands left, and no box of it has made a Shift
+pub record HasBegunSettle (a b : PartRun) : Type 0 where
+  pub same : IsRecommanded a.part b.part
+  pub left : NoneLeft b.part
+  pub shifts : (who : ℕ) → shifts_of b.part who ≡ 0
+  pub within : IsWithin a.part → IsWithin b.part
+
+-- no box of a part has made all its Shifts
+abbrev pub HasSpare : PartRun → Type 0
+HasSpare run = (who : ℕ) → shifts_of run.part who < SHIFT_LIMIT
+
+-- some part has a command that isn't made
+pub record IsLeftIn (runs : List PartRun) : Type 0 where
+  pub part : ℕ
+  pub run : PartRun
+  pub there : slice_get runs part ≡ Some run
+  pub some : run.part.used < length run.part.commands.items
+
+-- or this one has none
+abbrev pub IsNoneLeft : PartRun → Type 0
+IsNoneLeft run = length run.part.commands.items ≤ run.part.used
