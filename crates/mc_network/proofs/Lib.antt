@@ -6,10 +6,13 @@ pub mod ChannelNumbers
 mod Closed
 mod CommandsLeft
 mod Crossings
+pub mod CutNetworks
 mod Drained
 mod Ends
 mod Finished
 pub mod FirstSlots
+pub mod Joining
+pub mod LaidOut
 pub mod LaneFills
 pub mod LanesWhole
 mod Lists
@@ -25,6 +28,7 @@ mod PhaseTurns
 mod Phased
 pub mod PlacesCounted
 mod Played
+pub mod PortSlots
 mod Progressed
 mod Recommanded
 mod Shapes

@@ -4,8 +4,8 @@ ghost use Rattle.std.specs.Prelude.{◌≡◌, ◌<◌, ◌≤◌, ◌*◌, ◌-
 ghost use Rattle.mc_cut.specs.Cuts.{starts_in};
 ghost use Rattle.mc_cut.specs.Cutting.{AreNumbersIn, HasBoxes, inner_lists, share_of};
 ghost use Rattle.mc_model.specs.Worlds.{AreChannels, channel_number_limit, first_world};
-ghost use Rattle.mc_network.specs.Laying.{AllFit, AreLaid, AreNumbered, AreWhole, FitTogether, IsDivision, IsFresh, IsLaid};
-ghost use Rattle.mc_network.specs.Laying.{first_slots, ports_in};
+ghost use Rattle.mc_network.specs.Laying.{AllFit, AreLaid, AreNumbered, AreWhole, FitTogether, IsDivision, IsFresh};
+ghost use Rattle.mc_network.specs.Laying.{IsLaid, first_slots, ports_in};
 ghost use Rattle.mc_network.specs.declared.limit.TheConstants.{NETWORK_LIMIT};
 ghost use Rattle.mc_part.specs.Ports.{sides};
 ghost use Rattle.mc_world.specs.Cuts.{IsCut};
@@ -23,8 +23,8 @@ use mc_world::{CutFault, Engine, engine_of};
 use std::alloc::{AllocError, Global};
 use std::mem;
 
-/// Lays out the parts: each with its share of the boxes, its channels, what is under way to its boxes, and its ports. It
-/// fails only for want of memory.
+/// Lays out the parts: each with its share of the boxes, its channels, what is under way to its boxes, and its ports.
+/// It fails only for want of memory.
 pub(crate) fn lay_parts(
     alloc: Global,
     division: &Division,

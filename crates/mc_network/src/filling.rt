@@ -1,12 +1,13 @@
 // What is under way goes into the lanes of the parts that take it.
 
-ghost use Rattle.std.specs.Prelude.{◌≡◌, ◌<◌, ◌≤◌, ◌+◌, ◌*◌, ◌-◌, ◌^◌, ◌++◌, ◌∷◌, if◌then◌else◌, [], length, replicate, slice_index_or, slice_set, All, IfOk, IsTrue, OnOk};
+ghost use Rattle.std.specs.Prelude.{◌≡◌, ◌<◌, ◌≤◌, ◌+◌, ◌*◌, ◌-◌, ◌^◌, ◌++◌, ◌∷◌, if◌then◌else◌, [], length, replicate};
+ghost use Rattle.std.specs.Prelude.{slice_index_or, slice_set, All, IfOk, IsTrue, OnOk};
 ghost use Rattle.mc_cut.specs.Cuts.{channels_in, is_part, part_of};
 ghost use Rattle.mc_cut.specs.Cutting.{HasBoxes};
 ghost use Rattle.mc_merge.specs.Lanes.{absent_channel};
 ghost use Rattle.mc_model.specs.Worlds.{AreChannels, channel_number_limit};
-ghost use Rattle.mc_network.specs.Laying.{AllFit, AreFilled, LeadsTo};
-ghost use Rattle.mc_network.specs.Laying.{channel_numbers, first_slots, is_kind, kind_of, lane_here, numbers_of_kind, slot_after};
+ghost use Rattle.mc_network.specs.Laying.{AllFit, AreFilled, LeadsTo, channel_numbers, first_slots, is_kind, kind_of};
+ghost use Rattle.mc_network.specs.Laying.{lane_here, numbers_of_kind, slot_after};
 ghost use Rattle.mc_world.specs.Lanes.{signals_of};
 ghost use Rattle.mc_world.specs.Pumping.{is_slot_at, with_last};
 

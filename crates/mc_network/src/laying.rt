@@ -1,20 +1,58 @@
 // A network is cut into parts, and put together again.
 
-ghost use Rattle.std.specs.Prelude.{◌≡◌, ◌≤◌, length, IfOk};
+ghost use Rattle.std.specs.Prelude.{◌≡◌, ◌≤◌, ◌<◌, ℕ, false, length, slice_index_or, IfOk, IsTrue};
+ghost use Rattle.mc_box.specs.BoxEvents.{is_enabled};
+ghost use Rattle.mc_box.specs.Boxes.{no_box};
+ghost use Rattle.mc_box.specs.declared.event.Event.{Event};
 ghost use Rattle.mc_network.specs.Networks.{IsCutNetwork, network_state};
 ghost use Rattle.mc_network.specs.States.{new_state};
 ghost use Rattle.mc_network.specs.declared.limit.TheConstants.{NETWORK_LIMIT};
 
+use crate::dividing::divide;
+use crate::engines::lay_parts;
+use crate::logs::lay_logs;
 use crate::network::CutNetwork;
+use crate::wiring::{Wiring, wire};
+use mc_box::{Event, MediaBox};
 use mc_world::World;
 use std::alloc::{AllocError, Global};
+use std::mem;
 
-/// Cuts a network into at most so many parts, or into one where that is 0. It fails only for want of memory; the world is
-/// gone then.
+/// Cuts a network into at most so many parts, or into one where that is 0. It fails only for want of memory; the world
+/// is gone then.
 pub fn cut_network(alloc: Global, world: World, most: usize) -> Result<CutNetwork, AllocError>
     requires few { length world.boxes ≤ NETWORK_LIMIT }
     ensures cut { IfOk result IsCutNetwork }
     ensures state { IfOk result (λ network. network_state network ≡ new_state world) }
 {
-    Err(AllocError)
+    let calm = none_shifts(world.boxes());
+    let mut frame = world.into_parts();
+    let boxes = mem::replace(&mut frame.boxes, Vec::new(alloc));
+    let lanes = mem::replace(&mut frame.lanes, Vec::new(alloc));
+    let division = divide(alloc, &frame.channels, boxes.len(), most)?;
+    let Wiring { ports, crossings } = wire(alloc, &division, &frame.channels)?;
+    let runs = lay_parts(alloc, &division, &frame.channels, &lanes, boxes, ports)?;
+    let logs = lay_logs(alloc, &division, &crossings)?;
+    Ok(CutNetwork {
+        frame,
+        assigned: division.assigned,
+        numbers: division.numbers,
+        runs,
+        logs,
+        crossings,
+        calm,
+    })
+}
+
+// Whether no box has an enabled transition.
+fn none_shifts(boxes: &[MediaBox]) -> bool
+    ensures { IsTrue result → (who : ℕ) → who < length boxes.now
+        → is_enabled (slice_index_or boxes.now who no_box) Event.Shift ≡ false }
+{
+    for home in boxes {
+        if home.enabled(&Event::Shift) {
+            return false;
+        }
+    }
+    true
 }
