@@ -181,6 +181,7 @@ fn stop_of(run: &PartRun) -> Result<Option<(u32, u8)>, AllocError>
         Some(Ok(_)) => Ok(None),
         Some(Err(PartStop::Spent)) => Ok(None),
         Some(Err(PartStop::VersionEnd(who, local))) => Ok(Some((who, local))),
+        // None of the other stops comes in a sound network, which is still to be shown.
         Some(Err(_)) => Err(AllocError),
     }
 }
