@@ -7,6 +7,7 @@ ghost use Rattle.mc_part.specs.Running.{AreCalmFrom, NoneLeft};
 
 use crate::port::Port;
 use mc_box::{Event, Turn};
+use mc_io::Gate;
 use mc_lane::Lane;
 use mc_weave::Made;
 use mc_world::{Engine, StepFault};
@@ -54,8 +55,8 @@ impl Part {
     }
 
     /// One event of one box, with the next stamp, where it is enabled. Otherwise nothing changes but the room of the
-    /// log.
-    pub fn turn(&mut self, who: u32, event: Event) -> Result<(), StepFault>
+    /// log. The gate is told first, before memory is asked for.
+    pub fn turn<G: Gate>(&mut self, gate: &G, who: u32, event: Event) -> Result<(), StepFault>
         requires stamp_fits { self.old.stamp < 2 ^ 31 }
         requires heard_fits { self.old.heard < 2 ^ 31 }
         ensures made { OnOk result (TurnsOnce self.old self.new who event) }
@@ -63,6 +64,7 @@ impl Part {
         ensures same { OnErr result (self.new ≡ record self.old { log = self.new.log }) }
         ensures log { OnErr result (self.new.log.items ≡ self.old.log.items) }
     {
+        self.tell(gate, who);
         self.engine.keeps();
         self.log.reserve(1)?;
         self.engine.step(who, event)?;
@@ -70,6 +72,14 @@ impl Part {
         self.stamp = stamp;
         self.log.push(Made { stamp, who, event });
         Ok(())
+    }
+
+    // Tells the gate which box is about to turn, by its number in the network, and which turn of the part this is.
+    fn tell<G: Gate>(&self, gate: &G, who: u32) {
+        if let Some(home) = self.engine.boxes().get(who as usize) {
+            let turn = self.log.len().saturating_add(1);
+            gate.reached(home.number(), u32::try_from(turn).unwrap_or(u32::MAX));
+        }
     }
 }
 

@@ -7,6 +7,7 @@ ghost use Rattle.mc_part.specs.Phases.{HasGone, IsReady};
 use crate::part::Part;
 use crate::running::run_part;
 use crate::stop::{Ended, PartStop};
+use mc_io::Gate;
 use std::sync::atomic::AtomicU64;
 
 /// A part, whether it has something to do or may get it, and how its run ended.
@@ -18,13 +19,20 @@ pub struct PartRun {
 }
 
 /// Runs a part, if it has something to do.
-pub(crate) fn run_one(retries: bool, every: bool, budget: u32, busy: &AtomicU64, run: &mut PartRun)
+pub(crate) fn run_one<G: Gate>(
+    gate: &G,
+    retries: bool,
+    every: bool,
+    budget: u32,
+    busy: &AtomicU64,
+    run: &mut PartRun,
+)
     requires budget { budget ≤ STAMP_LIMIT }
     requires ready { IsReady retries every budget run.old }
     ensures { HasGone retries budget run.old run.new }
 {
     if run.active {
-        run.ended = Some(run_part(&mut run.part, retries, every, budget, busy));
+        run.ended = Some(run_part(&mut run.part, gate, retries, every, budget, busy));
     }
 }
 

@@ -10,11 +10,12 @@ ghost use Rattle.mc_part.specs.declared.limit.TheConstants.{STAMP_LIMIT};
 use crate::part::Part;
 use crate::steps::act;
 use mc_box::Event;
+use mc_io::Gate;
 use std::alloc::AllocError;
 
 /// Makes each retry that is owed, by box and slot in rising order. It fails only for want of memory; some of them may
 /// be made then.
-pub fn retry_all(part: &mut Part) -> Result<(), AllocError>
+pub fn retry_all<G: Gate>(part: &mut Part, gate: &G) -> Result<(), AllocError>
     requires within { IsWithin part.old }
     requires room { length part.old.log.items + SLOT_LIMIT * length part.old.engine.boxes ≤ STAMP_LIMIT }
     ensures run { OnOk result (Runs part.old part.new (owed_of true part.old)) }
@@ -24,13 +25,13 @@ pub fn retry_all(part: &mut Part) -> Result<(), AllocError>
 {
     let boxes = part.engine.boxes().len();
     for who in 0..boxes {
-        retry_box(part, who as u32)?;
+        retry_box(part, gate, who as u32)?;
     }
     Ok(())
 }
 
 // The same for one box.
-fn retry_box(part: &mut Part, who: u32) -> Result<(), AllocError>
+fn retry_box<G: Gate>(part: &mut Part, gate: &G, who: u32) -> Result<(), AllocError>
     requires within { IsWithin part.old }
     requires room { length part.old.log.items + SLOT_LIMIT ≤ STAMP_LIMIT }
     requires here { who < length part.old.engine.boxes }
@@ -44,13 +45,13 @@ fn retry_box(part: &mut Part, who: u32) -> Result<(), AllocError>
     home.keeps();
     let slots = home.slots().len();
     for local in 0..slots {
-        retry_slot(part, who, local as u8)?;
+        retry_slot(part, gate, who, local as u8)?;
     }
     Ok(())
 }
 
 // The retry of one slot, if it is owed.
-fn retry_slot(part: &mut Part, who: u32, local: u8) -> Result<(), AllocError>
+fn retry_slot<G: Gate>(part: &mut Part, gate: &G, who: u32, local: u8) -> Result<(), AllocError>
     requires within { IsWithin part.old }
     requires room { length part.old.log.items < STAMP_LIMIT }
     requires here { who < length part.old.engine.boxes }
@@ -65,5 +66,5 @@ fn retry_slot(part: &mut Part, who: u32, local: u8) -> Result<(), AllocError>
     if !part.engine.boxes()[who as usize].enabled(&event) {
         return Ok(());
     }
-    act(part, who, event)
+    act(part, gate, who, event)
 }

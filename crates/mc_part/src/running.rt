@@ -18,6 +18,7 @@ use crate::steps::{command, shift, take};
 use crate::stop::{Ended, PartStop};
 use mc_box::limit::SHIFT_LIMIT;
 use mc_box::{Event, MediaBox};
+use mc_io::Gate;
 use std::sync::atomic::AtomicU64;
 
 // At most so many slots take in a batch.
@@ -36,9 +37,13 @@ const BATCH: u32 = 64;
 /// The boxes that have no commands can't shift when it begins, unless they have made all their Shifts, or `every` is set,
 /// as it is where retries are asked for: then each box is tried. Retries fit into the budget.
 ///
+/// The gate is told of each turn before memory for it is asked for, so of turns too that are refused then: of the box,
+/// by its number in the network, and of how many turns the log has with this one. No clause speaks of it.
+///
 /// Parts count in `busy` how many of them may still find something. That ends them sooner, and no clause rests on it.
-pub fn run_part(
+pub fn run_part<G: Gate>(
     part: &mut Part,
+    gate: &G,
     retries: bool,
     every: bool,
     budget: u32,
@@ -59,14 +64,15 @@ pub fn run_part(
     ensures used { IsFalse retries → UsesAs budget part.old part.new result }
 {
     let mut patience = Patience::new();
-    let ended = run_on(part, retries, every, budget, &mut patience, busy);
+    let ended = run_on(part, gate, retries, every, budget, &mut patience, busy);
     patience.count(busy, false);
     ended
 }
 
 // The same while it is counted as busy.
-fn run_on(
+fn run_on<G: Gate>(
     part: &mut Part,
+    gate: &G,
     retries: bool,
     every: bool,
     budget: u32,
@@ -88,12 +94,17 @@ fn run_on(
     ensures used { IsFalse retries → OnOk result (UsesFirst budget part.old part.new) }
     ensures spent { IsFalse retries → IfErr result (UsesTo budget part.old part.new) }
 {
-    retry_first(part, retries, budget)?;
-    go_on(part, every, budget, patience, busy)
+    retry_first(part, gate, retries, budget)?;
+    go_on(part, gate, every, budget, patience, busy)
 }
 
 // The retries, where they are asked for. There is room for them.
-fn retry_first(part: &mut Part, retries: bool, budget: u32) -> Result<(), PartStop>
+fn retry_first<G: Gate>(
+    part: &mut Part,
+    gate: &G,
+    retries: bool,
+    budget: u32,
+) -> Result<(), PartStop>
     requires budget { budget ≤ STAMP_LIMIT }
     requires within { IsWithin part.old }
     requires room { HasRoom retries budget part.old }
@@ -106,13 +117,14 @@ fn retry_first(part: &mut Part, retries: bool, budget: u32) -> Result<(), PartSt
     if !retries {
         return Ok(());
     }
-    retry_all(part)?;
+    retry_all(part, gate)?;
     Ok(())
 }
 
 // What comes after the retries.
-fn go_on(
+fn go_on<G: Gate>(
     part: &mut Part,
+    gate: &G,
     every: bool,
     budget: u32,
     patience: &mut Patience,
@@ -129,15 +141,15 @@ fn go_on(
     ensures used { OnOk result (UsesFirst budget part.old part.new) }
     ensures spent { IfErr result (UsesTo budget part.old part.new) }
 {
-    begin(part, every, budget)?;
+    begin(part, gate, every, budget)?;
     if part.ports.is_empty() {
-        return take_all(part, budget);
+        return take_all(part, gate, budget);
     }
-    take_over(part, budget, patience, busy)
+    take_over(part, gate, budget, patience, busy)
 }
 
 // The commands, and the Shifts of their boxes, or where it is asked for those of all boxes.
-fn begin(part: &mut Part, every: bool, budget: u32) -> Result<(), PartStop>
+fn begin<G: Gate>(part: &mut Part, gate: &G, every: bool, budget: u32) -> Result<(), PartStop>
     requires budget { budget ≤ STAMP_LIMIT }
     requires within { IsWithin part.old }
     requires calm { IsFalse every → AreCalmFrom 0 part.old }
@@ -148,15 +160,15 @@ fn begin(part: &mut Part, every: bool, budget: u32) -> Result<(), PartStop>
     ensures used { OnOk result (UsesFirst budget part.old part.new) }
     ensures spent { IfErr result (UsesTo budget part.old part.new) }
 {
-    command_all(part, budget)?;
+    command_all(part, gate, budget)?;
     if every {
-        return shift_every(part, budget);
+        return shift_every(part, gate, budget);
     }
-    shift_commanded(part, budget)
+    shift_commanded(part, gate, budget)
 }
 
 // Makes the commands that are left.
-fn command_all(part: &mut Part, budget: u32) -> Result<(), PartStop>
+fn command_all<G: Gate>(part: &mut Part, gate: &G, budget: u32) -> Result<(), PartStop>
     requires budget { budget ≤ STAMP_LIMIT }
     requires within { IsWithin part.old }
     ensures goes { Goes budget part.old part.new }
@@ -167,13 +179,13 @@ fn command_all(part: &mut Part, budget: u32) -> Result<(), PartStop>
     ensures spent { IfErr result (UsesTo budget part.old part.new) }
 {
     'commands: while part.used < part.commands.len() {
-        command(part, budget)?;
+        command(part, gate, budget)?;
     }
     Ok(())
 }
 
 // The boxes that have commands do what they can by themselves.
-fn shift_commanded(part: &mut Part, budget: u32) -> Result<(), PartStop>
+fn shift_commanded<G: Gate>(part: &mut Part, gate: &G, budget: u32) -> Result<(), PartStop>
     requires budget { budget ≤ STAMP_LIMIT }
     requires within { IsWithin part.old }
     requires calm { AreCalmFrom 0 part.old }
@@ -183,13 +195,13 @@ fn shift_commanded(part: &mut Part, budget: u32) -> Result<(), PartStop>
 {
     for at in 0..part.commands.len() {
         let who = part.commands[at].who;
-        shift_on(part, who, budget)?;
+        shift_on(part, gate, who, budget)?;
     }
     Ok(())
 }
 
 // All boxes do what they can by themselves.
-fn shift_every(part: &mut Part, budget: u32) -> Result<(), PartStop>
+fn shift_every<G: Gate>(part: &mut Part, gate: &G, budget: u32) -> Result<(), PartStop>
     requires budget { budget ≤ STAMP_LIMIT }
     requires few { length part.old.engine.boxes < 2 ^ 32 }
     requires within { IsWithin part.old }
@@ -198,14 +210,15 @@ fn shift_every(part: &mut Part, budget: u32) -> Result<(), PartStop>
     ensures calm { OnOk result (AreCalm part.new) }
 {
     for who in 0..part.engine.boxes().len() {
-        shift_on(part, who as u32, budget)?;
+        shift_on(part, gate, who as u32, budget)?;
     }
     Ok(())
 }
 
 // Goes on with what waits and with what rings give, until so many looks in turn have found nothing.
-fn take_over(
+fn take_over<G: Gate>(
     part: &mut Part,
+    gate: &G,
     budget: u32,
     patience: &mut Patience,
     busy: &AtomicU64,
@@ -223,7 +236,7 @@ fn take_over(
     for _look in 0..LOOK_LIMIT {
         let before = part.log.len();
         let crossed = pump(part)?;
-        let rests = take_some(part, &mut last, budget)?;
+        let rests = take_some(part, gate, &mut last, budget)?;
         let found = either(crossed, part.log.len() > before);
         if is_over(rests, found, patience, busy) {
             return Ok(Ended::Rest);
@@ -263,7 +276,7 @@ fn pump(part: &mut Part) -> Result<bool, PartStop>
 }
 
 // Where no channel crosses: takes what waits, and each box that took does what it can by itself then.
-fn take_all(part: &mut Part, budget: u32) -> Result<Ended, PartStop>
+fn take_all<G: Gate>(part: &mut Part, gate: &G, budget: u32) -> Result<Ended, PartStop>
     requires budget { budget ≤ STAMP_LIMIT }
     requires within { IsWithin part.old }
     requires begun { HasBegun part.old }
@@ -273,7 +286,7 @@ fn take_all(part: &mut Part, budget: u32) -> Result<Ended, PartStop>
 {
     let mut last = 0;
     for _done in 0..budget {
-        if take_some(part, &mut last, budget)? {
+        if take_some(part, gate, &mut last, budget)? {
             return Ok(Ended::Rest);
         }
     }
@@ -281,7 +294,12 @@ fn take_all(part: &mut Part, budget: u32) -> Result<Ended, PartStop>
 }
 
 // Takes what waits, for one batch; whether nothing waits then. It begins at the box that took last.
-fn take_some(part: &mut Part, last: &mut u32, budget: u32) -> Result<bool, PartStop>
+fn take_some<G: Gate>(
+    part: &mut Part,
+    gate: &G,
+    last: &mut u32,
+    budget: u32,
+) -> Result<bool, PartStop>
     requires budget { budget ≤ STAMP_LIMIT }
     requires within { IsWithin part.old }
     requires calm { AreCalm part.old }
@@ -295,14 +313,20 @@ fn take_some(part: &mut Part, last: &mut u32, budget: u32) -> Result<bool, PartS
         let Some((who, local)) = part.engine.next_take(*last) else {
             return Ok(true);
         };
-        take_at(part, who, local, budget)?;
+        take_at(part, gate, who, local, budget)?;
         *last = who;
     }
     Ok(false)
 }
 
 // A box takes what waits at a slot of it, and does what it can by itself then.
-fn take_at(part: &mut Part, who: u32, local: u8, budget: u32) -> Result<(), PartStop>
+fn take_at<G: Gate>(
+    part: &mut Part,
+    gate: &G,
+    who: u32,
+    local: u8,
+    budget: u32,
+) -> Result<(), PartStop>
     requires budget { budget ≤ STAMP_LIMIT }
     requires within { IsWithin part.old }
     requires here { who < length part.old.engine.boxes }
@@ -313,12 +337,12 @@ fn take_at(part: &mut Part, who: u32, local: u8, budget: u32) -> Result<(), Part
     ensures calm { OnOk result (AreCalm part.new) }
     ensures made { OnOk result (length part.old.log.items < length part.new.log.items) }
 {
-    take(part, who, local, budget)?;
-    shift_on(part, who, budget)
+    take(part, gate, who, local, budget)?;
+    shift_on(part, gate, who, budget)
 }
 
 // A box makes Shifts while it can.
-fn shift_on(part: &mut Part, who: u32, budget: u32) -> Result<(), PartStop>
+fn shift_on<G: Gate>(part: &mut Part, gate: &G, who: u32, budget: u32) -> Result<(), PartStop>
     requires budget { budget ≤ STAMP_LIMIT }
     requires within { IsWithin part.old }
     ensures goes { Goes budget part.old part.new }
@@ -331,7 +355,7 @@ fn shift_on(part: &mut Part, who: u32, budget: u32) -> Result<(), PartStop>
         if !can_shift(part, who) {
             return Ok(());
         }
-        shift(part, who, budget)?;
+        shift(part, gate, who, budget)?;
     }
     Ok(())
 }

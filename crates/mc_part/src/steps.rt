@@ -15,11 +15,12 @@ ghost use Rattle.mc_part.specs.declared.limit.TheConstants.{STAMP_LIMIT};
 use crate::part::Part;
 use crate::stop::PartStop;
 use mc_box::{Event, MediaChange, Turn};
+use mc_io::Gate;
 use mc_world::StepFault;
 use std::alloc::AllocError;
 
 /// The next command.
-pub fn command(part: &mut Part, budget: u32) -> Result<(), PartStop>
+pub fn command<G: Gate>(part: &mut Part, gate: &G, budget: u32) -> Result<(), PartStop>
     requires budget { budget ≤ STAMP_LIMIT }
     requires within { IsWithin part.old }
     requires some { part.old.used < length part.old.commands.items }
@@ -33,7 +34,7 @@ pub fn command(part: &mut Part, budget: u32) -> Result<(), PartStop>
         return Err(PartStop::Spent);
     }
     let Turn { who, event } = part.commands[part.used];
-    match part.turn(who, event) {
+    match part.turn(gate, who, event) {
         Ok(()) => {
             part.used += 1;
             Ok(())
@@ -68,7 +69,13 @@ fn version_end(part: &Part, who: u32, event: Event) -> PartStop
 }
 
 /// A box takes what waits at a slot of it.
-pub fn take(part: &mut Part, who: u32, local: u8, budget: u32) -> Result<(), PartStop>
+pub fn take<G: Gate>(
+    part: &mut Part,
+    gate: &G,
+    who: u32,
+    local: u8,
+    budget: u32,
+) -> Result<(), PartStop>
     requires budget { budget ≤ STAMP_LIMIT }
     requires within { IsWithin part.old }
     requires here { who < length part.old.engine.boxes }
@@ -81,7 +88,7 @@ pub fn take(part: &mut Part, who: u32, local: u8, budget: u32) -> Result<(), Par
     if part.log.len() >= budget as usize {
         return Err(PartStop::Spent);
     }
-    match part.turn(who, Event::Take(local)) {
+    match part.turn(gate, who, Event::Take(local)) {
         Ok(()) => Ok(()),
         Err(fault) => Err(refused_take(part, who, local, fault)),
     }
@@ -102,7 +109,7 @@ fn refused_take(part: &Part, who: u32, local: u8, fault: StepFault) -> PartStop
 }
 
 /// A box makes a Shift, which counts.
-pub fn shift(part: &mut Part, who: u32, budget: u32) -> Result<(), PartStop>
+pub fn shift<G: Gate>(part: &mut Part, gate: &G, who: u32, budget: u32) -> Result<(), PartStop>
     requires budget { budget ≤ STAMP_LIMIT }
     requires within { IsWithin part.old }
     requires here { who < length part.old.engine.boxes }
@@ -116,13 +123,13 @@ pub fn shift(part: &mut Part, who: u32, budget: u32) -> Result<(), PartStop>
     if part.log.len() >= budget as usize {
         return Err(PartStop::Spent);
     }
-    act(part, who, Event::Shift)?;
+    act(part, gate, who, Event::Shift)?;
     part.shifts[who as usize] += 1;
     Ok(())
 }
 
 /// An enabled event that takes no signal and ends no version. It fails only for want of memory.
-pub fn act(part: &mut Part, who: u32, event: Event) -> Result<(), AllocError>
+pub fn act<G: Gate>(part: &mut Part, gate: &G, who: u32, event: Event) -> Result<(), AllocError>
     requires within { IsWithin part.old }
     requires few { length part.old.log.items < STAMP_LIMIT }
     requires here { who < length part.old.engine.boxes }
@@ -134,7 +141,7 @@ pub fn act(part: &mut Part, who: u32, event: Event) -> Result<(), AllocError>
     ensures log { OnErr result (part.new.log.items ≡ part.old.log.items) }
 {
     part.engine.boxes()[who as usize].keeps();
-    match part.turn(who, event) {
+    match part.turn(gate, who, event) {
         Ok(()) => Ok(()),
         Err(StepFault::NoMemory(e)) => Err(e),
         Err(StepFault::NotEnabled) => unreachable!(),

@@ -4,14 +4,14 @@ use Rattle.mc_part.proofs.Retries.{boxes_more, none_below, some_on}
 use Rattle.mc_part.proofs.retrying.retry_all.Goals as goal
 
 pub loop-who-init : goal.loop-who-init
-loop-who-init c = record { retried = none_below c.args.part.now c.requires.within; boxes = λ at low. refl; within = c.requires.within; few = omega arith }
+loop-who-init g c = record { retried = none_below c.args.part.now c.requires.within; boxes = λ at low. refl; within = c.requires.within; few = omega arith }
 
 pub returns-in_err-retry_box-clause-some : goal.returns-in_err-retry_box-clause-some
-returns-in_err-retry_box-clause-some c =
+returns-in_err-retry_box-clause-some g c =
     some_on c.args.part.now c.loop-who.part c.retry_box.new.part (owed_in (below_box c.loop-who.who) c.args.part.now) c.loop-who.invariant.retried c.retry_box.ensures.some
 
 pub loop-who-preserved : goal.loop-who-preserved
-loop-who-preserved c =
+loop-who-preserved g c =
     let a = c.args.part.now in
     let b = c.loop-who.part in
     let d = c.retry_box.new.part in

@@ -7,7 +7,7 @@ use Rattle.mc_part.proofs.retrying.retry_all.Given as goal
 
 -- the first boxes have made the retries that they owed, and the others are as they were
 abbrev pub invariant-loop-who : goal.invariant-loop-who
-invariant-loop-who l = record {
+invariant-loop-who g l = record {
   retried : HasRetried (below_box l.who) l.fn.part l.part;
   boxes : (at : ℕ) → l.who ≤ at → box_at l.part.engine at ≡ box_at l.fn.part.engine at;
   within : IsWithin l.part;

@@ -9,7 +9,7 @@ use Rattle.mc_part.proofs.Turned.{read_box}
 use Rattle.mc_part.proofs.retrying.retry_box.Goals as goal
 
 pub loop-local-init : goal.loop-local-init
-loop-local-init c = record {
+loop-local-init g c = record {
   retried = no_slots_below c.args.part.now c.args.who c.requires.within;
   only = only_none c.args.part.now c.args.who;
   others = λ other low. refl;
@@ -18,11 +18,11 @@ loop-local-init c = record {
 }
 
 pub returns-in_err-retry_slot-clause-some : goal.returns-in_err-retry_slot-clause-some
-returns-in_err-retry_slot-clause-some c =
+returns-in_err-retry_slot-clause-some g c =
     some_on c.args.part.now c.loop-local.part c.retry_slot.new.part (owed_in (below_slot c.args.who c.loop-local.local) c.args.part.now) c.loop-local.invariant.retried c.retry_slot.ensures.some
 
 pub loop-local-preserved : goal.loop-local-preserved
-loop-local-preserved c =
+loop-local-preserved g c =
     let a = c.args.part.now in
     let b = c.loop-local.part in
     let d = c.retry_slot.new.part in
@@ -36,7 +36,7 @@ loop-local-preserved c =
     }
 
 pub returns-clause-retried : goal.returns-clause-retried
-returns-clause-retried c =
+returns-clause-retried g c =
     let a = c.args.part.now in
     let box : c.index-boxes-who.result ≡ box_at a.engine c.args.who = read_box a.engine c.boxes.result.now c.args.who c.index-boxes-who.result c.boxes.ensures c.requires.here c.index-boxes-who.is in
     let slots : length c.slots-slots.result.now ≡ length c.index-boxes-who.result.slots = ap (λ (l : List Slot). length l) c.slots-slots.ensures.slots in

@@ -6,7 +6,7 @@ use Rattle.mc_part.proofs.retrying.retry_box.Given as goal
 
 -- the first slots have made the retries that they owed, and the others owe what they owed
 abbrev pub invariant-loop-local : goal.invariant-loop-local
-invariant-loop-local l = record {
+invariant-loop-local g l = record {
   retried : HasRetried (below_slot l.fn.who l.local) l.fn.part l.part;
   only : ChangesOnly l.fn.part l.part l.fn.who;
   others : (other : ℕ) → l.local ≤ other → owes l.part l.fn.who other ≡ owes l.fn.part l.fn.who other;

@@ -9,18 +9,18 @@ use Rattle.mc_part.proofs.Turned.{read_box}
 use Rattle.mc_part.proofs.retrying.retry_slot.Goals as goal
 
 pub returns-then-not-enabled-clause-retried : goal.returns-then-not-enabled-clause-retried
-returns-then-not-enabled-clause-retried c =
+returns-then-not-enabled-clause-retried g c =
     let a = c.args.part.now in
     let box : c.index-boxes-who.result ≡ box_at a.engine c.args.who = read_box a.engine c.boxes.result.now c.args.who c.index-boxes-who.result c.boxes.ensures c.requires.here c.index-boxes-who.is in
     let none : owes a c.args.who c.args.local ≡ false = ap (λ (x : BoxState). is_enabled x (Retry c.args.local)) (sym box) ∙ (sym c.enabled.ensures ∙ c.if-not-enabled.true) in
     none_retried a c.args.who c.args.local c.requires.within c.requires.here none
 
 pub returns-then-not-enabled-clause-some : goal.returns-then-not-enabled-clause-some
-returns-then-not-enabled-clause-some c =
-    some_of c.args.part.now c.args.part.now (owed_in (slot_only c.args.who c.args.local) c.args.part.now) (returns-then-not-enabled-clause-retried c)
+returns-then-not-enabled-clause-some g c =
+    some_of c.args.part.now c.args.part.now (owed_in (slot_only c.args.who c.args.local) c.args.part.now) (returns-then-not-enabled-clause-retried g c)
 
 pub returns-clause-some : goal.returns-clause-some
-returns-clause-some c =
+returns-clause-some g c =
     let a = c.args.part.now in
     let box : c.index-boxes-who.result ≡ box_at a.engine c.args.who = read_box a.engine c.boxes.result.now c.args.who c.index-boxes-who.result c.boxes.ensures c.requires.here c.index-boxes-who.is in
     let is : owes a c.args.who c.args.local ≡ true = ap (λ (x : BoxState). is_enabled x (Retry c.args.local)) (sym box) ∙ (sym c.enabled.ensures ∙ c.if-not-enabled.false) in

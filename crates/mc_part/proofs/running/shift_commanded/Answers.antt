@@ -6,13 +6,13 @@ use Rattle.mc_part.proofs.Calm.{boxes_on, calm_all, calm_next, goes_none, goes_o
 use Rattle.mc_part.proofs.running.shift_commanded.Goals as goal
 
 pub loop-at-init : goal.loop-at-init
-loop-at-init c = record { goes = goes_none c.args.budget c.args.part.now c.requires.within; calm = c.requires.calm }
+loop-at-init g c = record { goes = goes_none c.args.budget c.args.part.now c.requires.within; calm = c.requires.calm }
 
 pub returns-in_err-shift_on-clause-goes : goal.returns-in_err-shift_on-clause-goes
-returns-in_err-shift_on-clause-goes c = goes_on c.args.budget c.args.part.now c.loop-at.part c.shift_on.new.part c.loop-at.invariant.goes c.shift_on.ensures.goes
+returns-in_err-shift_on-clause-goes g c = goes_on c.args.budget c.args.part.now c.loop-at.part c.shift_on.new.part c.loop-at.invariant.goes c.shift_on.ensures.goes
 
 pub loop-at-preserved : goal.loop-at-preserved
-loop-at-preserved c =
+loop-at-preserved g c =
     let a : Part = c.loop-at.part in
     let b : Part = c.shift_on.new.part in
     let turn : Turn = c.index.result.now in
@@ -25,7 +25,7 @@ loop-at-preserved c =
     }
 
 pub returns-clause-calm : goal.returns-clause-calm
-returns-clause-calm c =
+returns-clause-calm g c =
     let a : Part = c.loop-at.part in
     let long : length a.commands.items ≡ length c.args.part.now.commands.items = ap (λ (v : Vec Turn Global). length v.items) c.loop-at.invariant.goes.runs.run.commands in
     let past : length a.commands.items ≤ c.loop-at.at = omega (arith, c.loop-at-test.false, c.len-at-end.ensures, long) in

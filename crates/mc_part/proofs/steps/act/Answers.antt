@@ -9,7 +9,7 @@ use Rattle.mc_part.proofs.Turned.{can_act, read_box}
 use Rattle.mc_part.proofs.steps.act.Goals as goal
 
 pub unreachable-requires : goal.unreachable-requires
-unreachable-requires c =
+unreachable-requires g c =
     let a = c.args.part.now in
     let box : c.index-boxes-who.result ≡ box_at a.engine c.args.who = read_box a.engine c.boxes.result.now c.args.who c.index-boxes-who.result c.boxes.ensures c.requires.here c.index-boxes-who.is in
     can_act a.engine c.args.who c.args.event c.requires.here (subst (λ (x : BoxState). IsSoundBox x) box c.keeps.ensures) c.requires.other c.requires.enabled c.requires.goes_on

@@ -11,15 +11,15 @@ use Rattle.mc_part.proofs.Ran.{command_run, failed, none_within, once_longer, on
 use Rattle.mc_part.proofs.steps.command.Goals as goal
 
 pub returns-then-len-budget-clause-goes : goal.returns-then-len-budget-clause-goes
-returns-then-len-budget-clause-goes c = goes_none c.args.budget c.args.part.now c.requires.within
+returns-then-len-budget-clause-goes g c = goes_none c.args.budget c.args.part.now c.requires.within
 
 pub refused_command-requires-clause-next : goal.refused_command-requires-clause-next
-refused_command-requires-clause-next c =
+refused_command-requires-clause-next g c =
     let a : Part = c.args.part.now in
     ap (λ (p : Part). next_command p) c.in-Err.ensures.same ∙ slice_get_read a.commands.items (length a.commands.items) a.used c.index.result.now refl c.requires.some c.index.ensures
 
 pub returns-in-Ok-clause-goes : goal.returns-in-Ok-clause-goes
-returns-in-Ok-clause-goes c =
+returns-in-Ok-clause-goes g c =
     let a : Part = c.args.part.now in
     let b : Part = c.turn.new.self in
     let turn : Turn = c.index.result.now in
@@ -35,13 +35,13 @@ returns-in-Ok-clause-goes c =
     (once_longer a b turn.who turn.event once)
 
 pub returns-in-Ok-clause-only : goal.returns-in-Ok-clause-only
-returns-in-Ok-clause-only c turn next =
+returns-in-Ok-clause-only g c turn next =
     let a : Part = c.args.part.now in
     let there : slice_get a.commands.items a.used ≡ Some c.index.result.now = slice_get_read a.commands.items (length a.commands.items) a.used c.index.result.now refl c.requires.some c.index.ensures in
     only_command a c.turn.new.self c.index.result.now turn (c.turn.new.self.used + 1) there next c.in-Ok.ensures.made
 
 pub returns-in-Err-clause-goes : goal.returns-in-Err-clause-goes
-returns-in-Err-clause-goes c =
+returns-in-Err-clause-goes g c =
     let a = c.args.part.now in
     let b = c.turn.new.self in
     goes_still c.args.budget a b (failed a b c.requires.within c.in-Err.ensures.same c.in-Err.ensures.log) (none_within a b c.requires.within c.in-Err.ensures.same c.in-Err.ensures.log) c.in-Err.ensures.log

@@ -9,16 +9,16 @@ use Rattle.mc_part.proofs.Ran.{failed, none_within, once_longer, once_within, sh
 use Rattle.mc_part.proofs.steps.shift.Goals as goal
 
 pub returns-then-len-budget-clause-goes : goal.returns-then-len-budget-clause-goes
-returns-then-len-budget-clause-goes c = goes_none c.args.budget c.args.part.now c.requires.within
+returns-then-len-budget-clause-goes g c = goes_none c.args.budget c.args.part.now c.requires.within
 
 pub returns-in_err-act-clause-goes : goal.returns-in_err-act-clause-goes
-returns-in_err-act-clause-goes c =
+returns-in_err-act-clause-goes g c =
     let a = c.args.part.now in
     let b = c.act.new.part in
     goes_still c.args.budget a b (failed a b c.requires.within c.in_err-act.ensures.same c.in_err-act.ensures.log) (none_within a b c.requires.within c.in_err-act.ensures.same c.in_err-act.ensures.log) c.in_err-act.ensures.log
 
 pub returns-clause-goes : goal.returns-clause-goes
-returns-clause-goes c =
+returns-clause-goes g c =
     let a : Part = c.args.part.now in
     let b : Part = c.act.new.part in
     let who : ℕ = c.args.who in

@@ -6,10 +6,10 @@ use Rattle.mc_part.specs.Parts.{no_retries}
 use Rattle.mc_part.proofs.steps.take.Goals as goal
 
 pub returns-then-len-budget-clause-goes : goal.returns-then-len-budget-clause-goes
-returns-then-len-budget-clause-goes c = goes_none c.args.budget c.args.part.now c.requires.within
+returns-then-len-budget-clause-goes g c = goes_none c.args.budget c.args.part.now c.requires.within
 
 pub returns-in-Ok-clause-goes : goal.returns-in-Ok-clause-goes
-returns-in-Ok-clause-goes c =
+returns-in-Ok-clause-goes g c =
     let a = c.args.part.now in
     let b = c.turn.new.self in
     let once = c.in-Ok.ensures.made in
@@ -19,7 +19,7 @@ returns-in-Ok-clause-goes c =
     (once_longer a b c.args.who (Take c.args.local) once)
 
 pub returns-in-Err-clause-goes : goal.returns-in-Err-clause-goes
-returns-in-Err-clause-goes c =
+returns-in-Err-clause-goes g c =
     let a = c.args.part.now in
     let b = c.turn.new.self in
     goes_still c.args.budget a b (failed a b c.requires.within c.in-Err.ensures.same c.in-Err.ensures.log) (none_within a b c.requires.within c.in-Err.ensures.same c.in-Err.ensures.log) c.in-Err.ensures.log
