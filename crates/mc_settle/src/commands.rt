@@ -7,6 +7,7 @@ ghost use Rattle.mc_settle.specs.Playing.{UsesUp};
 ghost use Rattle.mc_settle.specs.Settling.{HasBatch};
 
 use mc_box::Turn;
+use mc_io::Gate;
 use mc_network::{CutNetwork, add_command, begin_settle, has_commands, run_phase};
 use std::alloc::AllocError;
 use std::thread::Threads;
@@ -26,8 +27,9 @@ pub fn begin(network: &mut CutNetwork, batch: &[Turn]) -> Result<(), AllocError>
 }
 
 /// Phases until all commands are used up, or a box stops at a last version: that box and the slot.
-pub fn use_up<R: Threads + Sync>(
+pub fn use_up<R: Threads + Sync, G: Gate + Sync>(
     rt: &R,
+    gate: &G,
     short: bool,
     network: &mut CutNetwork,
     turns: &mut Vec<Turn>,
@@ -38,7 +40,7 @@ pub fn use_up<R: Threads + Sync>(
         turns.old.items turns.new.items) }
 {
     'phases: while has_commands(network) {
-        let last = run_phase(rt, false, short, network, turns)?;
+        let last = run_phase(rt, gate, false, short, network, turns)?;
         if last.is_some() {
             return Ok(last);
         }

@@ -11,6 +11,7 @@ ghost use Rattle.mc_settle.specs.Settling.{EndsSettle, HasBatch};
 use crate::playing::retry;
 use crate::resting::come_to_rest;
 use mc_box::Turn;
+use mc_io::Gate;
 use mc_network::{CutNetwork, first_shifter};
 use mc_seq::Ending;
 use std::alloc::{AllocError, Global};
@@ -18,9 +19,10 @@ use std::thread::Threads;
 
 /// The end of a settle whose commands are used up: it comes to rest again and again, with a phase of retries between,
 /// once and whenever a Shift came since.
-pub fn finish<R: Threads + Sync>(
+pub fn finish<R: Threads + Sync, G: Gate + Sync>(
     rt: &R,
     alloc: Global,
+    gate: &G,
     short: bool,
     network: &mut CutNetwork,
     turns: &mut Vec<Turn>,
@@ -36,7 +38,7 @@ pub fn finish<R: Threads + Sync>(
     let mut linked = true;
     let mut due = true;
     'rests: loop {
-        let rest = come_to_rest(rt, alloc, short, linked, network, turns)?;
+        let rest = come_to_rest(rt, alloc, gate, short, linked, network, turns)?;
         if let Some(at) = rest.ring {
             return Ok(Ending::Ring(at));
         }
@@ -46,7 +48,7 @@ pub fn finish<R: Threads + Sync>(
         if !is_due(due, rest.shifted) {
             return Ok(Ending::Rest);
         }
-        due = retry(rt, short, network, turns)?;
+        due = retry(rt, gate, short, network, turns)?;
         linked = due;
     }
 }

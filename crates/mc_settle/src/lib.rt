@@ -7,5 +7,7 @@ mod finishing;
 mod playing;
 mod resting;
 mod settling;
+mod worlds;
 
 pub use settling::settle;
+pub use worlds::settle_world;

@@ -8,14 +8,16 @@ ghost use Rattle.mc_network.specs.States.{NoneLeft};
 ghost use Rattle.mc_settle.specs.Playing.{GoesOn, Retries, some_shift};
 
 use mc_box::{Event, Turn};
+use mc_io::Gate;
 use mc_network::{CutNetwork, run_phase};
 use std::alloc::AllocError;
 use std::thread::Threads;
 
 /// Phases to the first in which a Shift comes, or until nothing is left to do. Whether a Shift came. There is no ring,
 /// so Takes alone come to an end.
-pub fn go_on<R: Threads + Sync>(
+pub fn go_on<R: Threads + Sync, G: Gate + Sync>(
     rt: &R,
+    gate: &G,
     short: bool,
     network: &mut CutNetwork,
     turns: &mut Vec<Turn>,
@@ -29,7 +31,7 @@ pub fn go_on<R: Threads + Sync>(
 {
     'phases: loop {
         let before = turns.len();
-        if run_phase(rt, false, short, network, turns)?.is_some() {
+        if run_phase(rt, gate, false, short, network, turns)?.is_some() {
             unreachable!()
         }
         if turns.len() == before {
@@ -42,8 +44,9 @@ pub fn go_on<R: Threads + Sync>(
 }
 
 /// A phase in which each retry that is owed comes first. Whether a Shift came in it.
-pub fn retry<R: Threads + Sync>(
+pub fn retry<R: Threads + Sync, G: Gate + Sync>(
     rt: &R,
+    gate: &G,
     short: bool,
     network: &mut CutNetwork,
     turns: &mut Vec<Turn>,
@@ -55,7 +58,7 @@ pub fn retry<R: Threads + Sync>(
         turns.old.items turns.new.items) }
 {
     let before = turns.len();
-    if run_phase(rt, true, short, network, turns)?.is_some() {
+    if run_phase(rt, gate, true, short, network, turns)?.is_some() {
         unreachable!()
     }
     Ok(has_shift(&turns[before..]))

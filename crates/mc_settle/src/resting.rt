@@ -9,6 +9,7 @@ ghost use Rattle.mc_settle.specs.Playing.{Rests};
 
 use crate::playing::go_on;
 use mc_box::Turn;
+use mc_io::Gate;
 use mc_network::{CutNetwork, least_ring};
 use std::alloc::{AllocError, Global};
 use std::thread::Threads;
@@ -22,9 +23,10 @@ pub struct Rest {
 
 /// Phases after the commands, to a ring, or until nothing is left to do. There may be a ring before them only where
 /// slots were linked.
-pub fn come_to_rest<R: Threads + Sync>(
+pub fn come_to_rest<R: Threads + Sync, G: Gate + Sync>(
     rt: &R,
     alloc: Global,
+    gate: &G,
     short: bool,
     linked: bool,
     network: &mut CutNetwork,
@@ -41,7 +43,7 @@ pub fn come_to_rest<R: Threads + Sync>(
     let mut shifted = false;
     'stretches: loop {
         let ring = test_ring(alloc, linked, network)?;
-        if ring.is_some() || !go_on(rt, short, network, turns)? {
+        if ring.is_some() || !go_on(rt, gate, short, network, turns)? {
             return Ok(Rest { ring, shifted });
         }
         linked = true;

@@ -16,6 +16,7 @@ use crate::answers::answer;
 use crate::commands::{begin, use_up};
 use crate::finishing::finish;
 use mc_box::{Change, Event, MediaBox, Turn};
+use mc_io::Gate;
 use mc_network::{CutNetwork, slot_number};
 use mc_part::PartRun;
 use mc_seq::{Ending, SettleFault};
@@ -29,9 +30,10 @@ use std::thread::Threads;
 /// The network's world allows each command. It always ends: at rest, at a ring of links that the batch or a Shift left,
 /// at a box that has made all its Shifts and has one more enabled, or at a Hear of a descriptor that has the last
 /// version; or for want of memory. The network is gone where it doesn't rest.
-pub fn settle<R: Threads + Sync>(
+pub fn settle<R: Threads + Sync, G: Gate + Sync>(
     rt: &R,
     alloc: Global,
+    gate: &G,
     network: CutNetwork,
     batch: &[Turn],
 ) -> Result<(CutNetwork, Vec<Turn>), SettleFault>
@@ -45,14 +47,15 @@ pub fn settle<R: Threads + Sync>(
 {
     let mut network = network;
     let mut turns = Vec::new(alloc);
-    let ending = run_batch(rt, alloc, batch, &mut network, &mut turns)?;
+    let ending = run_batch(rt, alloc, gate, batch, &mut network, &mut turns)?;
     answer(network, turns, ending)
 }
 
 // The phases of a batch, and how they ended.
-fn run_batch<R: Threads + Sync>(
+fn run_batch<R: Threads + Sync, G: Gate + Sync>(
     rt: &R,
     alloc: Global,
+    gate: &G,
     batch: &[Turn],
     network: &mut CutNetwork,
     turns: &mut Vec<Turn>,
@@ -67,9 +70,9 @@ fn run_batch<R: Threads + Sync>(
     let programs = some_program(&network.runs);
     let short = may_link(programs, batch);
     begin(network, batch)?;
-    match use_up(rt, short, network, turns)? {
+    match use_up(rt, gate, short, network, turns)? {
         Some((who, local)) => Ok(Ending::LastVersion(number(network, who, local))),
-        None => finish(rt, alloc, programs, network, turns),
+        None => finish(rt, alloc, gate, programs, network, turns),
     }
 }
 
