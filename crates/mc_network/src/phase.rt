@@ -14,6 +14,7 @@ use crate::choosing::choose;
 use crate::merging::merge_logs;
 use crate::network::{Crossing, CutNetwork};
 use mc_box::Turn;
+use mc_io::Gate;
 use mc_part::limit::STAMP_LIMIT;
 use mc_part::{Ended, PartLog, PartRun, PartStop, run_parts};
 use std::alloc::AllocError;
@@ -29,8 +30,9 @@ const SHORT_BUDGET: u32 = 4_096;
 /// version, where one stopped there.
 ///
 /// The turns are added to those before. It fails only for want of memory; the network is in pieces then.
-pub fn run_phase<R: Threads + Sync>(
+pub fn run_phase<R: Threads + Sync, G: Gate + Sync>(
     rt: &R,
+    gate: &G,
     retries: bool,
     short: bool,
     network: &mut CutNetwork,
@@ -43,6 +45,7 @@ pub fn run_phase<R: Threads + Sync>(
 {
     play_parts(
         rt,
+        gate,
         retries,
         short,
         network.calm,
@@ -56,8 +59,9 @@ pub fn run_phase<R: Threads + Sync>(
 }
 
 // The same of the parts alone.
-fn play_parts<R: Threads + Sync>(
+fn play_parts<R: Threads + Sync, G: Gate + Sync>(
     rt: &R,
+    gate: &G,
     retries: bool,
     short: bool,
     calm: bool,
@@ -74,7 +78,7 @@ fn play_parts<R: Threads + Sync>(
     let budget = budget_of(retries, short, runs);
     let busy = AtomicU64::new(choose(every, logs, runs));
     let size = runs.len();
-    run_parts(rt, retries, every, budget, size, &busy, runs);
+    run_parts(rt, gate, retries, every, budget, size, &busy, runs);
     check_memory(runs)?;
     carry_over(crossings, runs)?;
     merge_logs(runs, logs, turns)

@@ -9,6 +9,8 @@ mod fault;
 #[cfg(test)]
 mod networks;
 #[cfg(test)]
+mod parts;
+#[cfg(test)]
 mod plans;
 #[cfg(test)]
 mod programs;

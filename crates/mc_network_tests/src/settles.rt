@@ -24,7 +24,7 @@ use std::thread::Threads;
 
 // How a settle ended.
 #[derive(Clone, Copy, PartialEq, Eq, Debug)]
-enum Ending {
+pub enum Ending {
     Rest,
     Ring(u32),
     VersionEnd(u32),
@@ -35,13 +35,13 @@ enum Ending {
 
 // What a settle came to.
 #[derive(Debug, Drop)]
-struct Outcome {
-    ending: Ending,
-    turns: Vec<Turn>,
-    draws: u32,
+pub struct Outcome {
+    pub ending: Ending,
+    pub turns: Vec<Turn>,
+    pub draws: u32,
 }
 
-fn outcome_of(alloc: Global, settled: Result<Settled, SettleFault>, draws: u32) -> Outcome {
+pub fn outcome_of(alloc: Global, settled: Result<Settled, SettleFault>, draws: u32) -> Outcome {
     match settled {
         Ok(done) => Outcome {
             ending: Ending::Rest,
@@ -67,7 +67,7 @@ fn outcome_of(alloc: Global, settled: Result<Settled, SettleFault>, draws: u32) 
     }
 }
 
-fn ended(alloc: Global, ending: Ending, draws: u32) -> Outcome {
+pub fn ended(alloc: Global, ending: Ending, draws: u32) -> Outcome {
     Outcome {
         ending,
         turns: Vec::new(alloc),
@@ -111,12 +111,12 @@ fn comes_to(rt: &impl Abort, done: &Outcome, ending: Ending, turns: &[Turn], dra
 
 // ---- what was settled by hand
 
-const OPEN: Turn = Turn {
+pub const OPEN: Turn = Turn {
     who: 0,
     event: Event::Set(Change::End(0, Goal::Open)),
 };
 
-const HOLD: Turn = Turn {
+pub const HOLD: Turn = Turn {
     who: 1,
     event: Event::Set(Change::End(0, Goal::Hold)),
 };
@@ -136,12 +136,12 @@ const AGAIN: Turn = Turn {
     event: Event::Retry(0),
 };
 
-const LINK: Turn = Turn {
+pub const LINK: Turn = Turn {
     who: 0,
     event: Event::Set(Change::Link(0, 1)),
 };
 
-const BACK: Turn = Turn {
+pub const BACK: Turn = Turn {
     who: 1,
     event: Event::Set(Change::Link(0, 1)),
 };
@@ -174,7 +174,7 @@ fn settles_by<R: Abort + AllocGlobal>(
 }
 
 // Batches of two devices, the turns that they come to rest by, and the number of draws.
-const CALLS: [(&[Turn], &[Turn], u32); 2] = [
+pub const CALLS: [(&[Turn], &[Turn], u32); 2] = [
     // a call
     (&[OPEN, HOLD], &[OPEN, HOLD, TWO, ONE, TWO, ONE], 6),
     // a refused call
@@ -215,7 +215,7 @@ fn lay_feature(plan: &mut Plan) -> Result<(), TestFault> {
 }
 
 // A feature beside a device, with this program of two states that lead to each other.
-fn two_states(alloc: Global, program: Program) -> Result<World, TestFault> {
+pub fn two_states(alloc: Global, program: Program) -> Result<World, TestFault> {
     let mut plan = Plan::new(alloc);
     lay_feature(&mut plan)?;
     let mut layout = plan.layout()?;
@@ -224,7 +224,7 @@ fn two_states(alloc: Global, program: Program) -> Result<World, TestFault> {
 }
 
 // What the program waits for, how its settle ends, by which turns, and the number of draws.
-const PROGRAMS: [(State, Ending, &[Turn], u32); 2] = [
+pub const PROGRAMS: [(State, Ending, &[Turn], u32); 2] = [
     // it makes all its shifts
     (
         State::Closed,
@@ -385,13 +385,13 @@ fn drawn_orders(alloc: Global, world: &World, draws: &mut Draws) -> Result<Vec<T
 
 // A world that is drawn from a seed, a batch that it allows, and the state of the draws then.
 #[derive(Drop)]
-struct Case {
-    world: World,
-    batch: Vec<Turn>,
-    state: u32,
+pub struct Case {
+    pub world: World,
+    pub batch: Vec<Turn>,
+    pub state: u32,
 }
 
-fn drawn_case(alloc: Global, seed: u32) -> Result<Case, TestFault> {
+pub fn drawn_case(alloc: Global, seed: u32) -> Result<Case, TestFault> {
     let mut draws = Draws { state: seed };
     let world = drawn_world(alloc, &mut draws)?;
     let batch = drawn_batch(alloc, &world, &mut draws)?;
@@ -404,7 +404,7 @@ fn drawn_case(alloc: Global, seed: u32) -> Result<Case, TestFault> {
 }
 
 // The same with programs.
-fn programmed_case(alloc: Global, seed: u32) -> Result<Case, TestFault> {
+pub fn programmed_case(alloc: Global, seed: u32) -> Result<Case, TestFault> {
     let mut draws = Draws { state: seed };
     let world = programmed_world(alloc, &mut draws)?;
     let batch = drawn_orders(alloc, &world, &mut draws)?;
