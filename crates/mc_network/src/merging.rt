@@ -10,7 +10,7 @@ use mc_part::{PartLog, PartRun, merge};
 use std::alloc::AllocError;
 use std::mem::swap;
 
-/// Merges the logs of all parts behind the turns before, and empties them; stamps begin again from 0. It fails only for
+/// Merges the logs of all parts after the turns before, and empties them; stamps begin again from 0. It fails only for
 /// want of memory.
 pub fn merge_logs(
     runs: &mut [PartRun],
