@@ -36,6 +36,7 @@ mod Swapped
 pub mod Tables
 pub mod Together
 mod Ways
+pub mod SoundWorlds
 pub mod WholeWorlds
 pub mod Wires
 mod Working

@@ -11,7 +11,7 @@ use Rattle.mc_network.proofs.CutNetworks.{IsLaidOut, is_cut_network, is_laid_out
 use Rattle.mc_network.proofs.Joining.{all_sides}
 use Rattle.mc_network.proofs.LaidOut.{world_of}
 use Rattle.mc_network.proofs.Together.{channels_join}
-use Rattle.mc_network.proofs.WholeWorlds.{are_whole}
+use Rattle.mc_network.proofs.SoundWorlds.{are_whole}
 use Rattle.mc_network.specs.Laying.{AreWhole, ports_in}
 use Rattle.mc_network.specs.Networks.{channels_of}
 use Rattle.mc_network.specs.States.{new_state}
