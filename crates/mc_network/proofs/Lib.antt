@@ -37,7 +37,6 @@ pub mod SoundWorlds
 pub mod Tables
 pub mod Together
 mod Ways
-pub mod SoundWorlds
 pub mod WholeWorlds
 pub mod Wires
 mod Working
