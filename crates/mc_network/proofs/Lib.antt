@@ -33,6 +33,7 @@ mod Progressed
 mod Recommanded
 mod Shapes
 mod Swapped
+mod CommandAdded
 pub mod SoundWorlds
 pub mod Tables
 pub mod Together

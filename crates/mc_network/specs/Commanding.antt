@@ -1,5 +1,7 @@
 -- The commands of a settle, in the parts of a network.
-use Rattle.std.specs.Prelude.{◌≡◌, ◌<◌, ◌≤◌, ℕ, List, length, slice_get, Some}
+use Rattle.std.specs.Prelude.{◌≡◌, ◌<◌, ◌≤◌, ◌++◌, ℕ, List, drop, length, slice_get, slice_set, Some}
+use Rattle.mc_box.specs.declared.event.Turn.{Turn}
+use Rattle.mc_cut.specs.Cuts.{home_at}
 use Rattle.mc_box.specs.declared.limit.TheConstants.{SHIFT_LIMIT}
 use Rattle.mc_part.specs.Parts.{IsWithin, shifts_of}
 use Rattle.mc_part.specs.Running.{NoneLeft}
@@ -40,3 +42,22 @@ pub record IsLeftIn (runs : List PartRun) : Type 0 where
 -- or this one has none
 abbrev pub IsNoneLeft : PartRun → Type 0
 IsNoneLeft run = length run.part.commands.items ≤ run.part.used
+
+-- a part has these commands more, after those that it has left, and is the same else
+pub record HasAdded (a b : Part) (more : List Turn) : Type 0 where
+  pub kept : b ≡ record a { commands = b.commands; used = b.used }
+  pub left : drop b.used b.commands.items ≡ drop a.used a.commands.items ++ more
+  pub within : IsWithin a → IsWithin b
+
+-- so has one of some
+pub record AddsAt (old new : List PartRun) (part : ℕ) (more : List Turn) : Type 0 where
+  pub a : PartRun
+  pub b : PartRun
+  pub there : slice_get old part ≡ Some a
+  pub run : b ≡ record a { part = b.part }
+  pub added : HasAdded a.part b.part more
+  pub after_is : new ≡ slice_set old part b
+
+-- a command for a box, by its number in its part
+abbrev pub command_at : List ℕ → Turn → Turn
+command_at assigned turn = record { who = (home_at assigned turn.who).1; event = turn.event }

@@ -1,9 +1,10 @@
 // The commands of a settle.
 
-ghost use Rattle.std.specs.Prelude.{◌≡◌, ◌<◌, ℕ, length, slice_index_or, IsFalse, IsTrue, OnErr, OnOk, true};
+ghost use Rattle.std.specs.Prelude.{◌≡◌, ◌<◌, ◌≤◌, ◌∷◌, ℕ, [], length, slice_index_or, IsFalse, IsTrue, OnErr, OnOk, true};
+ghost use Rattle.mc_box.specs.BoxEvents.{is_command};
 ghost use Rattle.mc_box.specs.declared.limit.TheConstants.{SHIFT_LIMIT};
 ghost use Rattle.mc_model.specs.Shapes.{is_allowed};
-ghost use Rattle.mc_network.specs.Commanding.{HasBegunSettle, HasSpare, IsLeftIn, IsNoneLeft};
+ghost use Rattle.mc_network.specs.Commanding.{AddsAt, HasAdded, HasBegunSettle, HasSpare, IsLeftIn, IsNoneLeft};
 ghost use Rattle.mc_network.specs.Networks.{IsCutNetwork, network_state};
 ghost use Rattle.mc_network.specs.States.{HasCommands, NoneLeft, new_state, with_command};
 ghost use Rattle.mc_part.specs.Phases.{EachChanged, EachOf};
@@ -11,7 +12,7 @@ ghost use Rattle.mc_part.specs.Phases.{EachChanged, EachOf};
 use crate::network::CutNetwork;
 use mc_box::Turn;
 use mc_box::limit::SHIFT_LIMIT;
-use mc_part::PartRun;
+use mc_part::{Part, PartRun};
 use std::alloc::AllocError;
 
 /// A settle begins: no command is left to a box, and none has made a Shift.
@@ -74,7 +75,42 @@ pub fn add_command(network: &mut CutNetwork, turn: Turn) -> Result<(), AllocErro
     ensures added { OnOk result (network_state network.new ≡ with_command (network_state network.old) turn) }
     ensures kept { OnErr result (network_state network.new ≡ network_state network.old) }
 {
-    Err(AllocError)
+    let part = network.assigned[turn.who as usize];
+    let who = network.numbers[turn.who as usize];
+    let event = turn.event;
+    add_at(&mut network.runs, part, Turn { who, event })
+}
+
+// A part gets a command more.
+fn add_at(runs: &mut Vec<PartRun>, part: u32, turn: Turn) -> Result<(), AllocError>
+    requires there { part < length runs.old.items }
+    requires command { IsTrue (is_command turn.event) }
+    ensures added { OnOk result (AddsAt runs.old.items runs.new.items part (turn ∷ [])) }
+    ensures kept { OnErr result (AddsAt runs.old.items runs.new.items part []) }
+{
+    add_to(&mut runs[part as usize].part, turn)
+}
+
+// The same of this part.
+fn add_to(part: &mut Part, turn: Turn) -> Result<(), AllocError>
+    requires { IsTrue (is_command turn.event) }
+    ensures added { OnOk result (HasAdded part.old part.new (turn ∷ [])) }
+    ensures kept { OnErr result (HasAdded part.old part.new []) }
+{
+    drop_made(part);
+    part.commands.push(turn)?;
+    Ok(())
+}
+
+// Where all commands are made they are dropped.
+fn drop_made(part: &mut Part)
+    ensures same { HasAdded part.old part.new [] }
+    ensures used { part.new.used ≤ length part.new.commands.items }
+{
+    if part.used >= part.commands.len() {
+        part.commands.clear();
+        part.used = 0;
+    }
 }
 
 /// Whether a command is left to some box.
