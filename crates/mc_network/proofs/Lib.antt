@@ -15,6 +15,7 @@ pub mod Joining
 pub mod LaidOut
 pub mod LaneFills
 pub mod LanesWhole
+mod Lawful
 mod Lists
 pub mod LogsLaid
 pub mod NetworkBoxes

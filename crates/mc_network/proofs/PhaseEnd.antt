@@ -20,7 +20,7 @@ use Rattle.mc_network.proofs.Progressed.{at_last, moved_by, used_one}
 use Rattle.mc_network.proofs.Swapped.{numbers_count}
 use Rattle.mc_network.proofs.Working.{works_of}
 
-abbrev phased : (n : CutNetwork) (retries : Bool) (new : List PartRun) (logs_2 : List PartLog) (before after : List Turn) → IsCutNetwork n → (played : HasPlayed retries n.calm n.crossings.items n.runs.items new n.logs.items logs_2 before after)
+abbrev pub phased : (n : CutNetwork) (retries : Bool) (new : List PartRun) (logs_2 : List PartLog) (before after : List Turn) → IsCutNetwork n → (played : HasPlayed retries n.calm n.crossings.items n.runs.items new n.logs.items logs_2 before after)
     → Phased n retries played.every played.budget played.chosen played.gone played.carried new logs_2 before after
 phased n retries new logs_2 before after cut played = record {
   went = record { cut = cut; asked = played.asked; few = played.few; chose = played.chose; went = played.went; memory = played.memory };

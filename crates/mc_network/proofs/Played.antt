@@ -147,7 +147,7 @@ all_as P Q [] f all = tt
 all_as P Q (turn ∷ turns) f all = (f turn all.0, all_as P Q turns f all.1)
 
 -- a box of a part is one of the network's
-sound_at : (n : CutNetwork) (none : HasNone n) → IsCutNetwork n → (i : ℕ) (x : PartRun) → slice_get n.runs.items i ≡ Some x → (at : ℕ) → at < length x.part.engine.boxes → IsSoundBox (box_at x.part.engine at)
+pub sound_at : (n : CutNetwork) (none : HasNone n) → IsCutNetwork n → (i : ℕ) (x : PartRun) → slice_get n.runs.items i ≡ Some x → (at : ℕ) → at < length x.part.engine.boxes → IsSoundBox (box_at x.part.engine at)
 sound_at n none cut i x there at inside =
     let homes = homes_in n none.none cut in
     let is : parts_by none.none n.runs.items i ≡ x.part = part_is none.none n.runs.items i x there in

@@ -2,7 +2,7 @@
 
 ghost use Rattle.std.specs.Prelude.{◌≡◌, ◌<◌, ◌≤◌, false, true, length, IfOk, IsTrue, OnOk};
 ghost use Rattle.mc_network.specs.Networks.{IsCutNetwork, network_state, turn_budget};
-ghost use Rattle.mc_network.specs.Phasing.{AreOf, EndAs, EndsCalm, HasMemory, HasPlayed, StopIs};
+ghost use Rattle.mc_network.specs.Phasing.{AreOf, EndAs, EndsCalm, EndsLawfully, HasMemory, HasPlayed, StopIs};
 ghost use Rattle.mc_network.specs.States.{PlaysOn};
 ghost use Rattle.mc_part.specs.Phases.{EachOf};
 ghost use Rattle.mc_part.specs.declared.part_run.PartRun.{PartRun};
@@ -166,6 +166,7 @@ fn ends_calm(calm: bool, run: &PartRun) -> bool
 
 // The first part that stopped at a last version, by the network's numbers.
 fn first_end(logs: &[PartLog], runs: &[PartRun]) -> Result<Option<(u32, u8)>, AllocError>
+    requires { EachOf (λ (run : PartRun). EndsLawfully run.ended) runs.now }
     ensures { IfOk result (EndAs (numbers_of logs.now) runs.now) }
 {
     for part in 0..runs.len() {
@@ -178,6 +179,7 @@ fn first_end(logs: &[PartLog], runs: &[PartRun]) -> Result<Option<(u32, u8)>, Al
 
 // Where a part stopped at a last version.
 fn stop_of(run: &PartRun) -> Result<Option<(u32, u8)>, AllocError>
+    requires { EndsLawfully run.now.ended }
     ensures { IfOk result (StopIs run.now.ended) }
 {
     match run.ended {
@@ -185,6 +187,7 @@ fn stop_of(run: &PartRun) -> Result<Option<(u32, u8)>, AllocError>
         Some(Ok(_)) => Ok(None),
         Some(Err(PartStop::Spent)) => Ok(None),
         Some(Err(PartStop::VersionEnd(who, local))) => Ok(Some((who, local))),
+        Some(Err(PartStop::Unable(_))) => unreachable!(),
         // None of the other stops comes in a sound network, which is still to be shown.
         Some(Err(_)) => Err(AllocError),
     }

@@ -23,7 +23,7 @@ use Rattle.mc_part.proofs.Draining.{rings_are_drained}
 
 -- ---- what each part did
 
-abbrev ran_of : (retries : Bool) (old new : ℕ → Part) → HaveRun retries old new → ℕ → Ran
+abbrev pub ran_of : (retries : Bool) (old new : ℕ → Part) → HaveRun retries old new → ℕ → Ran
 ran_of retries old new runs part = record {
   tables = tables_of (old part);
   old = state_of (old part);
@@ -66,7 +66,7 @@ drained_lane base layout retries old new drained runs parts carried lane inside 
       empty = is.empty;
     })
 
-phase_of : (base : WorldState) (layout : Layout) (retries : Bool) (old new drained : ℕ → Part) (runs : HaveRun retries old new) → AreParts base layout old → AreCarried base layout new drained
+pub phase_of : (base : WorldState) (layout : Layout) (retries : Bool) (old new drained : ℕ → Part) (runs : HaveRun retries old new) → AreParts base layout old → AreCarried base layout new drained
     → IsPhase base layout (ran_of retries old new runs) (states_of drained)
 phase_of base layout retries old new drained runs parts carried = record {
   laid = parts.laid;
@@ -83,7 +83,7 @@ phase_of base layout retries old new drained runs parts carried = record {
 kept_log : (log made : List Made) (before after : List Made) → before ≡ [] → after ≡ before ++ log → made ≡ after → log ≡ made
 kept_log log made before after none longer is = sym (is ∙ (longer ∙ ap (λ (l : List Made). l ++ log) none))
 
-homes_of : (base : WorldState) (layout : Layout) (retries : Bool) (old new : ℕ → Part) (runs : HaveRun retries old new) (numbers : List (List ℕ)) → HaveHomes layout numbers old (length base.boxes)
+pub homes_of : (base : WorldState) (layout : Layout) (retries : Bool) (old new : ℕ → Part) (runs : HaveRun retries old new) (numbers : List (List ℕ)) → HaveHomes layout numbers old (length base.boxes)
     → AreHomes layout.homes (ran_of retries old new runs) (numbers_in numbers) (length base.boxes)
 homes_of base layout retries old new runs numbers homes = record {
   back = homes.back;

@@ -1,5 +1,6 @@
 use Rattle.std.proofs.Common.{refl, sym}
 use Rattle.std.specs.Vec.{with_items}
+use Rattle.mc_network.proofs.Lawful.{lawful_after, lawful_as_read}
 use Rattle.mc_network.proofs.PhaseEnd.{calm_as_read, cut_by, done_by, ends_as_read, played_by, vec_played}
 use Rattle.mc_network.proofs.phase.run_phase.Goals as goal
 
@@ -28,3 +29,10 @@ returns-clause-played g c =
     c.deref.ensures.value c.deref_mut-2.ensures.value c.deref_mut.ensures.value c.in_ok-play_parts.ensures)
     (calm_as_read c.are_calm-network.result c.args.network.now.calm c.deref-2.result.now _ c.deref-2.ensures.value c.are_calm-network.ensures)
     (ends_as_read c.first_end.result c.deref-3.result.now _ c.deref-4.result.now _ c.deref-3.ensures.value c.deref-4.ensures.value c.first_end.ensures)
+
+pub first_end-requires : goal.first_end-requires
+first_end-requires g c =
+    lawful_as_read c.deref-4.result.now _ c.deref-4.ensures.value
+    (lawful_after c.args.network.now c.args.retries (with_items c.args.network.now.runs c.play_parts.new.runs) (with_items c.args.network.now.logs c.play_parts.new.logs) c.args.turns.now.items c.play_parts.new.turns.items c.requires
+    (vec_played c.args.network.now c.args.retries c.deref.result.now c.deref_mut-2.result.now c.play_parts.new.runs c.deref_mut.result.now c.play_parts.new.logs c.args.turns.now.items c.play_parts.new.turns.items
+    c.deref.ensures.value c.deref_mut-2.ensures.value c.deref_mut.ensures.value c.in_ok-play_parts.ensures))
