@@ -33,6 +33,7 @@ pub mod PortSlots
 mod Progressed
 mod Recommanded
 mod Shapes
+mod Strange
 mod Swapped
 mod CommandAdded
 pub mod SoundWorlds

@@ -53,13 +53,13 @@ some_signal ([] ∷ lanes) is = later_signal [] lanes (some_signal lanes is)
 some_signal ((tagged ∷ rest) ∷ lanes) is = record { lane = 0; inside = omega arith; first = tagged; rest = rest; is = refl }
 
 -- the slot whose tunnel of a lane this is
-record HasSlotAt (tables : WorldState) (who local lane tunnel : ℕ) : Type 0 where
-  slot : ℕ
-  number : number tables who local ≡ Some slot
-  leads : lane_of tables slot ≡ lane
-  within : (tunnel_of tables slot).within ≡ tunnel
+pub record HasSlotAt (tables : WorldState) (who local lane tunnel : ℕ) : Type 0 where
+  pub slot : ℕ
+  pub number : number tables who local ≡ Some slot
+  pub leads : lane_of tables slot ≡ lane
+  pub within : (tunnel_of tables slot).within ≡ tunnel
 
-slot_by : (tables : WorldState) (who local lane tunnel : ℕ) (o : Option ℕ) → number tables who local ≡ o → tunnel_if_at lane (option_map (λ s. lane_place tables s) o) ≡ Some tunnel → HasSlotAt tables who local lane tunnel
+pub slot_by : (tables : WorldState) (who local lane tunnel : ℕ) (o : Option ℕ) → number tables who local ≡ o → tunnel_if_at lane (option_map (λ s. lane_place tables s) o) ≡ Some tunnel → HasSlotAt tables who local lane tunnel
 slot_by tables who local lane tunnel None is there = absurd (cc)
 slot_by tables who local lane tunnel (Some s) is there = by_test (lane_of tables s == lane) refl there
   where
@@ -67,11 +67,11 @@ slot_by tables who local lane tunnel (Some s) is there = by_test (lane_of tables
     by_test true same found = record { slot = s; number = is; leads = eqb-true (lane_of tables s) lane same; within = let t : (tunnel_of tables s).within ≡ tunnel = cc in t }
     by_test false same found = absurd (cc)
 
-if_same : {A : Type 0} (test : Bool) (x y : A) → test ≡ true → (if test then x else y) ≡ x
+pub if_same : {A : Type 0} (test : Bool) (x y : A) → test ≡ true → (if test then x else y) ≡ x
 if_same true x y is = refl
 if_same false x y is = absurd (true≢false (sym is))
 
-into_found : (world : WorldState) (who local s lane : ℕ) → number world who local ≡ Some s → lane_of world s ≡ lane → into_box world who lane local ≡ Some (tunnel_of world s).within
+pub into_found : (world : WorldState) (who local s lane : ℕ) → number world who local ≡ Some s → lane_of world s ≡ lane → into_box world who lane local ≡ Some (tunnel_of world s).within
 into_found world who local s lane found leads =
     ap (λ (o : Option ℕ). tunnel_if_at lane (option_map (λ s. lane_place world s) o)) found ∙ if_same (lane_of world s == lane) (Some (tunnel_of world s).within) None (eq-eqb (lane_of world s) lane leads)
 

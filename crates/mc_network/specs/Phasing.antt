@@ -15,7 +15,7 @@ use Rattle.mc_part.specs.declared.part_run.PartRun.{PartRun}
 use Rattle.mc_part.specs.declared.port.Port.{Port}
 use Rattle.mc_part.specs.declared.stop.Ended.{Ended}
 use Rattle.mc_part.specs.declared.stop.PartStop.{PartStop}
-use Rattle.mc_part.specs.declared.stop.PartStop.TheVariants.{NoMemory, Spent, Unable, VersionEnd}
+use Rattle.mc_part.specs.declared.stop.PartStop.TheVariants.{NoMemory, Spent, Strange, Unable, VersionEnd}
 use Rattle.mc_port.specs.Ends.{given, received}
 use Rattle.mc_port.specs.declared.stamped.Stamped.{Stamped}
 use Rattle.mc_weave.specs.Account.{part_lane}
@@ -185,9 +185,11 @@ HasMemory (Some (Ok ended)) = Unit {0}
 HasMemory (Some (Err (NoMemory e))) = ⊥
 HasMemory (Some (Err stop)) = Unit {0}
 
--- it didn't stop at what can't come in a sound network: a command that can't happen
+-- it didn't stop at what can't come in a sound network: a command that can't happen, or a signal that its slot must
+-- not take
 abbrev pub EndsLawfully : Option (Result Ended PartStop) → Type 0
 EndsLawfully (Some (Err (Unable who))) = ⊥
+EndsLawfully (Some (Err (Strange who local))) = ⊥
 EndsLawfully ended = Unit {0}
 
 -- its run stopped at a last version
