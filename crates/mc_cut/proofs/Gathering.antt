@@ -1,12 +1,11 @@
 -- Things that were shared out, taken back one after another, the last one first.
-use Rattle.std.proofs.Common.{◌≡◌, ◌<◌, ◌≤◌, ◌+◌, ◌-◌, inl, inr, if◌then◌else◌, Bool, true, false, ℕ, suc, List, [], ◌∷◌, ◌++◌, length, map, get_or, set, take, take_all, drop, refl, ap, ap₂, sym, ◌∙◌, subst, arith, eq-eqb, ne_eqb, length-append, length-set, append-nil, get_or-set_same, get_or-set_other}
+use Rattle.std.proofs.Common.{◌≡◌, ◌<◌, ◌≤◌, ◌+◌, ◌-◌, inl, inr, if◌then◌else◌, Bool, true, false, ℕ, suc, List, [], ◌∷◌, ◌++◌, length, get_or, set, take, take_all, drop, ap, ap₂, sym, ◌∙◌, subst, arith, eq-eqb, ne_eqb, length-append, length-set, append-nil, get_or-set_same, get_or-set_other}
 use Rattle.std.proofs.lemmas.Bool.{cases_eq}
 use Rattle.std.proofs.lemmas.List.{length-map, map-set, take-append-le}
 use Rattle.std.specs.declared.alloc.Global.{Global}
 use Rattle.std.specs.declared.vec.Vec.{Vec}
 use Rattle.std.proofs.lemmas.List.FromFn.{fill_by_all, get_or-map-range_with_len, length-map-range_with_len}
 use Rattle.std.proofs.Math.Seq.{drop-cons, drop-length, get_or-append_seam}
-use Rattle.std.specs.List.{range_with_len}
 use Rattle.mc_cut.specs.Cuts.{is_part}
 use Rattle.mc_cut.specs.Cutting.{AreShared, IsTaken, inner_lists, share_of, shares_of}
 use Rattle.mc_cut.proofs.Shares.{read_list, share_more, shares_so_far}

@@ -1,17 +1,15 @@
 -- Both lanes of a channel that crosses are carried over.
-use Rattle.std.proofs.Common.{◌≡◌, ◌≢◌, ◌<◌, ◌/◌, ◌++◌, Bool, true, false, ℕ, Some, List, [], length, map, slice_get, refl, ap, ap₂, sym, ◌∙◌, subst, arith}
-use Rattle.std.proofs.Math.ListN.{set}
+use Rattle.std.proofs.Common.{◌≡◌, ◌≢◌, ◌/◌, ◌++◌, Bool, true, false, ℕ, List, [], slice_get, refl, ap, ap₂, sym, ◌∙◌, subst, arith}
 use Rattle.mc_signal.specs.declared.Tagged.{Tagged}
 use Rattle.mc_merge.specs.LaneLogs.{without_stamps}
 use Rattle.mc_model.specs.Worlds.{ChannelState, WorldState}
-use Rattle.mc_port.specs.Ends.{IsPair, given, in_ring, left_in, out_ring, received}
+use Rattle.mc_port.specs.Ends.{given, in_ring, left_in, out_ring, received}
 use Rattle.mc_port.specs.declared.ends.InPort.{InPort}
 use Rattle.mc_port.specs.declared.ends.OutPort.{OutPort}
-use Rattle.mc_port.specs.declared.stamped.Stamped.{Stamped}
 use Rattle.mc_weave.specs.Account.{part_lane}
 use Rattle.mc_part.specs.Carrying.{AllComeIn, AllGoOut, AreFor, CanCarry, CarriesAll, GoesOver, IsSameBut, lane_at, tunnel_count, waiting_at}
 use Rattle.mc_part.specs.Parts.{state_of, tables_of}
-use Rattle.mc_part.specs.Ports.{into_lane, out_lane, rings_of, sides}
+use Rattle.mc_part.specs.Ports.{into_lane, out_lane}
 use Rattle.mc_part.specs.declared.part.Part.{Part}
 use Rattle.mc_part.specs.declared.port.Port.{Port}
 use Rattle.mc_part.proofs.CarriedLanes.{one_there}

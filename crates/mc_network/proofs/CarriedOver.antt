@@ -1,14 +1,14 @@
 -- All channels that cross are carried over, one after another.
-use Rattle.std.proofs.Common.{◌≡◌, ◌≢◌, ◌⊎◌, inl, inr, ◌<◌, ◌≤◌, ◌+◌, ◌++◌, Bool, ℕ, Some, Option, List, length, slice_get, slice_set, Result, Ok, Err, OnOk, refl, ap, sym, ◌∙◌, subst, arith}
+use Rattle.std.proofs.Common.{◌≡◌, ◌≢◌, inl, inr, ◌<◌, ◌≤◌, ◌+◌, ◌++◌, ℕ, Some, List, length, slice_get, slice_set, Result, Ok, Err, OnOk, refl, ap, sym, ◌∙◌, subst, arith}
 use Rattle.std.proofs.lemmas.Option.{slice_get_within}
 use Rattle.mc_part.specs.Carrying.{CanCarry, CarriesAll}
-use Rattle.mc_part.specs.Phases.{EachChanged, EachOf}
+use Rattle.mc_part.specs.Phases.{EachChanged}
 use Rattle.mc_part.specs.declared.part.Part.{Part}
 use Rattle.mc_part.specs.declared.part_run.PartRun.{PartRun}
-use Rattle.mc_network.specs.Phasing.{AreApart, CarriesAt, CarriesBoth, CarriesOver, HasCrossed, IsAsBefore, IsCarryable, IsEnd, IsNoEnd, IsSameAt, IsSameRun, StaysAt}
+use Rattle.mc_network.specs.Phasing.{AreApart, CarriesAt, CarriesBoth, CarriesOver, HasCrossed, IsCarryable, IsEnd, IsSameAt, IsSameRun, StaysAt}
 use Rattle.mc_network.specs.declared.network.Crossing.{Crossing}
 use Rattle.mc_network.proofs.CarriedLanes.{HasBoth, as_before, as_before_on, both_carried, can_still, carried_later, carried_sooner, same_at, same_at_on}
-use Rattle.mc_network.proofs.Lists.{get_other, on_ok, one_of, same_or_not, set_apart, set_both, set_here, set_length, there_at}
+use Rattle.mc_network.proofs.Lists.{get_other, one_of, same_or_not, set_apart, set_both, set_here, set_length, there_at}
 
 -- ---- runs
 

@@ -1,24 +1,21 @@
 -- After the parts ran, what is left between two of them can be carried over.
-use Rattle.std.proofs.Common.{◌≡◌, ◌≢◌, inl, inr, ◌<◌, ◌≤◌, ◌+◌, ◌-◌, ◌*◌, ◌/◌, ◌^◌, ◌++◌, Bool, true, false, ℕ, zero, suc, IsTrue, Some, None, Option, List, [], ◌∷◌, drop, length, map, min, slice_get, refl, ap, sym, ◌∙◌, subst, arith}
-use Rattle.std.specs.List.{AllByRecursion}
-use Rattle.std.specs.Option.{option_map}
+use Rattle.std.proofs.Common.{◌≡◌, ◌≢◌, inl, inr, ◌<◌, ◌≤◌, ◌+◌, ◌-◌, ◌*◌, ◌/◌, ◌^◌, ◌++◌, Bool, ℕ, zero, suc, IsTrue, Some, Option, List, [], ◌∷◌, drop, length, min, slice_get, refl, ap, sym, ◌∙◌, subst, arith}
 use Rattle.std.proofs.Math.Seq.{drop-append-add}
 use Rattle.std.proofs.lemmas.List.{length-append}
-use Rattle.std.proofs.lemmas.Option.{slice_get-map}
 use Rattle.mc_signal.specs.declared.Tagged.{Tagged}
 use Rattle.mc_merge.specs.LaneLogs.{without_stamps}
-use Rattle.mc_merge.specs.Lanes.{leads_from, leads_to}
-use Rattle.mc_model.specs.Worlds.{ChannelState, WorldState, channel_number_limit}
-use Rattle.mc_port.specs.Ends.{given, left_in, received, without_stamp}
+use Rattle.mc_merge.specs.Lanes.{leads_to}
+use Rattle.mc_model.specs.Worlds.{WorldState}
+use Rattle.mc_port.specs.Ends.{given, received}
 use Rattle.mc_port.specs.declared.stamped.Stamped.{Stamped}
 use Rattle.mc_world.specs.Pumping.{is_slot_at}
 use Rattle.mc_weave.specs.Account.{ComesFromHere, part_lane}
-use Rattle.mc_weave.specs.Phases.{AreEmptied, IsApart, Layout, SendsAt}
+use Rattle.mc_weave.specs.Phases.{AreEmptied, Layout, SendsAt}
 use Rattle.mc_cut.specs.Cuts.{layout_of}
-use Rattle.mc_part.specs.Carrying.{AllComeIn, AllGoOut, AreFor, CanCarry, FitsChannel, HoldsAt, tunnel_count, waiting_at}
+use Rattle.mc_part.specs.Carrying.{AllComeIn, AllGoOut, AreFor, CanCarry, FitsChannel, HoldsAt, tunnel_count}
 use Rattle.mc_part.specs.Networks.{states_of, tables_at}
 use Rattle.mc_part.specs.Parts.{Runs, state_of, tables_of}
-use Rattle.mc_part.specs.Ports.{entry_slot, given_at, given_by, into_lane, out_lane, received_at, received_by, rings_of, sides}
+use Rattle.mc_part.specs.Ports.{entry_slot, given_at, given_by, into_lane, out_lane, received_at, received_by}
 use Rattle.mc_part.specs.declared.part.Part.{Part}
 use Rattle.mc_part.specs.declared.part_run.PartRun.{PartRun}
 use Rattle.mc_part.specs.declared.port.Port.{Port}
@@ -27,7 +24,7 @@ use Rattle.mc_network.specs.Networks.{AreJoined, IsJoined}
 use Rattle.mc_network.specs.Phasing.{IsCarryable}
 use Rattle.mc_network.specs.declared.network.Crossing.{Crossing}
 use Rattle.mc_network.proofs.CarriedLanes.{into_half, out_half, same_tables}
-use Rattle.mc_network.proofs.Crossings.{IsRoute, some_of}
+use Rattle.mc_network.proofs.Crossings.{IsRoute}
 use Rattle.mc_network.proofs.Lists.{one_of}
 use Rattle.mc_network.proofs.Ways.{AreLaid, IsWay, IsPortAfter, lane_inside, own_given, own_received, port_after, way_back, way_there}
 use Rattle.mc_network.proofs.PartsBy.{part_is, parts_by}

@@ -1,5 +1,5 @@
 -- The numbers of channels of a kind, and where a channel's stands among those of a part.
-use Rattle.std.proofs.Common.{◌≡◌, ◌<◌, ◌≤◌, ◌+◌, ◌&&◌, inl, inr, not, if◌then◌else◌, Bool, true, false, cond, filter, ℕ, zero, suc, Some, List, [], ◌∷◌, ◌++◌, length, length-append, get_or, take, take_all, map-id, refl, ap, ap₂, sym, ◌∙◌, subst, arith, true≢false}
+use Rattle.std.proofs.Common.{◌≡◌, ◌<◌, ◌≤◌, ◌+◌, ◌&&◌, inl, inr, not, if◌then◌else◌, Bool, true, false, filter, ℕ, zero, suc, Some, List, [], ◌∷◌, ◌++◌, length, length-append, get_or, take, take_all, map-id, refl, ap, ap₂, sym, ◌∙◌, subst, arith, true≢false}
 use Rattle.std.proofs.lemmas.Bool.{cases_lt}
 use Rattle.std.proofs.lemmas.List.{append_assoc}
 use Rattle.std.proofs.lemmas.List.Filters.{length-filter_more}

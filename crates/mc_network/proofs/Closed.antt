@@ -1,52 +1,38 @@
 -- After a phase the network is cut as before, and the next one may begin.
-use Rattle.std.proofs.Common.{◌≡◌, ◌≢◌, ◌⊎◌, inl, inr, ◌<◌, ◌≤◌, ◌+◌, ◌*◌, ◌^◌, Bool, true, false, ℕ, All, IsTrue, Some, None, Option, List, [], ◌∷◌, ◌++◌, drop, length, map, get_or, slice_get, Result, Ok, Err, refl, ap, sym, ◌∙◌, subst, arith, true≢false, Vec, Global}
-use Rattle.std.specs.List.{AllByRecursion, range_with_len}
+use Rattle.std.proofs.Common.{◌≡◌, inl, inr, ◌<◌, ◌+◌, ◌*◌, Bool, ℕ, Some, List, [], length, slice_get, refl, ap, sym, ◌∙◌, subst}
 use Rattle.std.proofs.lemmas.Bool.{cases_lt}
 use Rattle.std.proofs.lemmas.List.{length-map}
 use Rattle.std.proofs.lemmas.List.Elements.{recursion_from_All}
-use Rattle.std.proofs.lemmas.Option.{slice_get-get_or, slice_get_within}
-use Rattle.mc_box.specs.Boxes.{BoxState, no_box}
+use Rattle.std.proofs.lemmas.Option.{slice_get_within}
+use Rattle.mc_box.specs.Boxes.{no_box}
 use Rattle.mc_box.specs.declared.event.Turn.{Turn}
-use Rattle.mc_box.specs.declared.limit.TheConstants.{SHIFT_LIMIT, SLOT_LIMIT}
 use Rattle.mc_model.specs.Sound.{IsSound}
-use Rattle.mc_model.specs.Worlds.{ChannelState, WorldState}
 use Rattle.mc_port.specs.Ends.{given, received}
 use Rattle.mc_weave.specs.Account.{PartState}
-use Rattle.mc_weave.specs.Logs.{Own}
-use Rattle.mc_weave.specs.Phases.{AreEmptied, IsLayout, Layout, stands_for}
-use Rattle.mc_weave.specs.Together.{Homes, Ran}
+use Rattle.mc_weave.specs.Phases.{stands_for}
+use Rattle.mc_weave.specs.Together.{Ran}
 use Rattle.mc_weave.specs.Turns.{no_items}
-use Rattle.mc_weave.specs.Weaving.{AreClimbing, IsKnown, clock_at, clocks_of, log_at, numbers_at, numbers_of}
-use Rattle.mc_weave.specs.Wholes.{AreHomes, made_of, numbers_in}
-use Rattle.mc_weave.specs.declared.log.Made.{Made}
+use Rattle.mc_weave.specs.Weaving.{numbers_of}
+use Rattle.mc_weave.specs.Wholes.{AreHomes, numbers_in}
 use Rattle.mc_weave.specs.declared.log.PartLog.{PartLog}
-use Rattle.mc_weave.proofs.Fitting.{kept_logs_fit}
-use Rattle.mc_weave.proofs.Logs.{all_at}
-use Rattle.mc_cut.specs.Cuts.{home_at, layout_of, members, part_numbers, part_of}
+use Rattle.mc_cut.specs.Cuts.{home_at, members, part_numbers}
 use Rattle.mc_cut.proofs.Filling.{none_past_parts}
 use Rattle.mc_cut.proofs.Members.{cuts_are_homes}
-use Rattle.mc_part.specs.Carrying.{AllComeIn, AllGoOut, tunnel_count}
-use Rattle.mc_part.specs.Networks.{AreCarried, AreParts, HaveHomes, HaveRun, LeadsAcross, given_on, received_on, states_of, tables_at, world_by}
-use Rattle.mc_part.specs.Parts.{IsWithin, LeadsAway, Runs, state_of, tables_of}
-use Rattle.mc_part.specs.Phases.{EachChanged, EachOf}
-use Rattle.mc_part.specs.Ports.{LeadAway, rings_of, sides}
-use Rattle.mc_part.specs.Running.{owed_of}
+use Rattle.mc_part.specs.Networks.{AreCarried, AreParts, HaveHomes, HaveRun, given_on, received_on, world_by}
+use Rattle.mc_part.specs.Parts.{state_of}
 use Rattle.mc_part.specs.declared.part.Part.{Part}
 use Rattle.mc_part.specs.declared.part_run.PartRun.{PartRun}
 use Rattle.mc_part.specs.declared.port.Port.{Port}
 use Rattle.mc_part.proofs.Networks.{parts_go_on, parts_keep_sound}
-use Rattle.mc_network.specs.Networks.{AreJoined, IsCutNetwork, IsIdle, IsJoined, base_of, channels_of, crossings_of, network_layout, states_among, no_tables, tables_among, turn_budget, world_in}
-use Rattle.mc_network.specs.Phasing.{CarriesOver, HasCrossed, HaveMerged, IsClosed, IsLaneCarried, logs_in}
+use Rattle.mc_network.specs.Networks.{AreJoined, IsCutNetwork, IsJoined, base_of, channels_of, crossings_of, network_layout, no_tables}
+use Rattle.mc_network.specs.Phasing.{CarriesOver, HaveMerged}
 use Rattle.mc_network.specs.declared.network.Crossing.{Crossing}
 use Rattle.mc_network.specs.declared.network.CutNetwork.{CutNetwork}
-use Rattle.mc_network.proofs.Carryable.{comes_as, goes_as}
-use Rattle.mc_network.proofs.CarriedLanes.{same_tables}
-use Rattle.mc_network.proofs.Crossings.{IsRoute}
 use Rattle.mc_network.proofs.Drained.{AreDrained, HaveWays, IsLike, are_carried, drained_closed, ways_after}
-use Rattle.mc_network.proofs.Lists.{one_of, there_at}
-use Rattle.mc_network.proofs.PartsBy.{by_part, by_parts, empty_part, part_is, part_past, parts_by, run_there, states_are, tables_are}
-use Rattle.mc_network.proofs.Phased.{HasNone, RanAt, Went, emptied_of, joined_of, laid_of, none_of, ran_at, same_logs, ways_of, went_run}
-use Rattle.mc_network.proofs.Ways.{AreLaid, IsAcross, IsWay, across_before, across_of, given_is, port_after, received_is}
+use Rattle.mc_network.proofs.Lists.{one_of}
+use Rattle.mc_network.proofs.PartsBy.{by_parts, part_is, part_past, parts_by, run_there, states_are}
+use Rattle.mc_network.proofs.Phased.{HasNone, RanAt, Went, emptied_of, joined_of, laid_of, ran_at, ways_of, went_run}
+use Rattle.mc_network.proofs.Ways.{AreLaid, IsAcross, IsWay, across_before, across_of, given_is, received_is}
 
 -- all of a phase
 pub record Phased (n : CutNetwork) (retries every : Bool) (budget : ℕ) (chosen gone carried closed : List PartRun) (logs_2 : List PartLog) (before after : List Turn) : Type 0 where

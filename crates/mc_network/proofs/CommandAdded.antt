@@ -1,5 +1,5 @@
 -- A box of a network in parts gets a command more.
-use Rattle.std.proofs.Common.{◌≡◌, ◌≢◌, ◌<◌, ◌≤◌, ◌++◌, ◌&&◌, ◌==◌, inl, inr, ◌⊎◌, if◌then◌else◌, Bool, true, false, ℕ, All, IsTrue, Some, Result, Ok, Err, OnOk, OnErr, List, [], ◌∷◌, drop, length, get_or, slice_get, nat_lt, append-nil, refl, ap, ap₂, sym, ◌∙◌, subst, arith, eq-eqb, ne_eqb, true≢false, Vec, Global}
+use Rattle.std.proofs.Common.{◌≡◌, ◌≢◌, ◌<◌, ◌≤◌, ◌++◌, ◌&&◌, ◌==◌, inl, inr, ◌⊎◌, if◌then◌else◌, Bool, true, false, ℕ, IsTrue, Some, Result, Ok, Err, OnOk, OnErr, List, [], ◌∷◌, drop, length, get_or, slice_get, nat_lt, append-nil, refl, ap, ap₂, sym, ◌∙◌, subst, arith, eq-eqb, ne_eqb, true≢false, Vec, Global}
 use Rattle.std.specs.List.{AllByRecursion, slice_set}
 use Rattle.std.specs.declared.alloc.AllocError.{AllocError}
 use Rattle.std.proofs.Math.Path.{fun_ext}
@@ -20,18 +20,17 @@ use Rattle.mc_model.specs.Shapes.{is_allowed}
 use Rattle.mc_model.specs.Worlds.{WorldState, box_at}
 use Rattle.mc_part.specs.Parts.{IsWithin, events_for, shifts_of, state_of, stimuli_of}
 use Rattle.mc_weave.specs.Account.{PartState}
-use Rattle.mc_part.specs.Phases.{EachOf}
-use Rattle.mc_part.specs.Running.{AreCalm, IsCalm}
+use Rattle.mc_part.specs.Running.{AreCalm}
 use Rattle.mc_part.specs.declared.part.Part.{Part}
 use Rattle.mc_part.specs.declared.part_run.PartRun.{PartRun}
 use Rattle.mc_network.specs.Commanding.{AddsAt, AreRecommanded, HasAdded, IsRecommanded, command_at}
-use Rattle.mc_network.specs.Networks.{IsCutNetwork, IsIdle, base_of, network_state, states_among, turn_budget, world_in}
+use Rattle.mc_network.specs.Networks.{IsCutNetwork, IsIdle, network_state, states_among, turn_budget, world_in}
 use Rattle.mc_network.specs.States.{NetworkState, with_command}
 use Rattle.mc_network.specs.declared.network.CutNetwork.{CutNetwork}
 use Rattle.mc_network.proofs.Lists.{get_other, on_ok, one_of, same_or_not, set_here, set_length}
 use Rattle.mc_network.proofs.NetworkBoxes.{base_count, box_count, state_there}
-use Rattle.mc_network.proofs.Progressed.{IsHome, box_is, home_of, shifts_at, stimuli_at}
-use Rattle.mc_network.proofs.Recommanded.{AreFit, cut_same, world_same}
+use Rattle.mc_network.proofs.Progressed.{box_is, home_of, shifts_at, stimuli_at}
+use Rattle.mc_network.proofs.Recommanded.{cut_same, world_same}
 
 -- ---- lists
 

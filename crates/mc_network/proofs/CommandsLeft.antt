@@ -1,12 +1,11 @@
 -- A settle begins, and commands are left or not.
-use Rattle.std.proofs.Common.{◌≡◌, ◌≢◌, inl, inr, ◌<◌, ◌≤◌, ◌+◌, Bool, true, ℕ, IsTrue, Some, List, [], ◌∷◌, drop, length, get_or, slice_get, refl, ap, sym, ◌∙◌, subst, arith, Vec, Global}
+use Rattle.std.proofs.Common.{◌≡◌, ◌≢◌, inl, inr, ◌<◌, Bool, ℕ, IsTrue, Some, List, [], ◌∷◌, drop, length, get_or, slice_get, ap, sym, ◌∙◌, subst, arith, Vec, Global}
 use Rattle.std.specs.List.{AllByRecursion}
 use Rattle.std.specs.Vec.{with_items}
 use Rattle.std.proofs.Math.Path.{fun_ext}
 use Rattle.std.proofs.lemmas.List.{with_items_is}
 use Rattle.std.proofs.lemmas.Option.{slice_get-get_or, slice_get_within}
 use Rattle.mc_box.specs.BoxEvents.{is_enabled}
-use Rattle.mc_box.specs.Boxes.{BoxState}
 use Rattle.mc_box.specs.declared.event.Event.{Event}
 use Rattle.mc_box.specs.declared.event.Event.TheVariants.{Shift}
 use Rattle.mc_box.specs.declared.event.Turn.{Turn}
@@ -14,21 +13,20 @@ use Rattle.mc_box.specs.declared.limit.TheConstants.{SHIFT_LIMIT}
 use Rattle.mc_model.specs.Shapes.{is_allowed}
 use Rattle.mc_model.specs.Worlds.{WorldState, box_at}
 use Rattle.mc_cut.specs.Cuts.{home_at}
-use Rattle.mc_part.specs.Parts.{events_for, shifts_of, stimuli_of}
+use Rattle.mc_part.specs.Parts.{shifts_of, stimuli_of}
 use Rattle.mc_part.specs.Phases.{EachChanged, EachOf}
-use Rattle.mc_part.specs.Running.{AreCalm, IsCalm}
-use Rattle.mc_part.specs.declared.part.Part.{Part}
+use Rattle.mc_part.specs.Running.{AreCalm}
 use Rattle.mc_part.specs.declared.part_run.PartRun.{PartRun}
 use Rattle.mc_part.proofs.Calm.{all_used}
 use Rattle.mc_part.proofs.Uses.{first_is}
-use Rattle.mc_network.specs.Commanding.{AreRecommanded, HasBegunSettle, HasSpare, IsLeftIn, IsNoneLeft, IsRecommanded}
+use Rattle.mc_network.specs.Commanding.{AreRecommanded, HasBegunSettle, HasSpare, IsLeftIn, IsNoneLeft}
 use Rattle.mc_network.specs.Networks.{IsCutNetwork, network_state, world_in}
-use Rattle.mc_network.specs.States.{HasCommands, NetworkState, NoneLeft, new_state, no_shifts, no_stimuli}
+use Rattle.mc_network.specs.States.{HasCommands, NoneLeft, new_state, no_shifts, no_stimuli}
 use Rattle.mc_network.specs.declared.network.CutNetwork.{CutNetwork}
 use Rattle.mc_network.proofs.PartsBy.{run_there}
 use Rattle.mc_network.proofs.Played.{to_turns}
-use Rattle.mc_network.proofs.Progressed.{IsHome, command_here, home_of, number_of, shifts_at, stimuli_at}
-use Rattle.mc_network.proofs.Recommanded.{AreFit, cut_same, world_same}
+use Rattle.mc_network.proofs.Progressed.{command_here, home_of, number_of, shifts_at, stimuli_at}
+use Rattle.mc_network.proofs.Recommanded.{cut_same, world_same}
 
 -- ---- a settle begins
 

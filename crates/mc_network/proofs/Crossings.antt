@@ -1,10 +1,10 @@
 -- The channels that cross, and the lanes of the network that are theirs.
-use Rattle.std.proofs.Common.{◌≡◌, ◌≢◌, ◌⊎◌, inl, inr, ◌<◌, ◌+◌, ◌*◌, ◌-◌, ◌/◌, ◌%◌, not, Bool, true, false, filter, ℕ, Some, None, Option, List, length, map, get_or, slice_get, refl, ap, ap₂, sym, ◌∙◌, subst, arith, true≢false, eq-eqb, ne_eqb}
+use Rattle.std.proofs.Common.{◌≡◌, ◌≢◌, inl, inr, ◌<◌, ◌+◌, ◌*◌, ◌-◌, ◌/◌, ◌%◌, not, true, false, filter, ℕ, Some, None, Option, List, length, get_or, slice_get, refl, ap, ap₂, sym, ◌∙◌, subst, arith, true≢false, eq-eqb}
 use Rattle.std.specs.List.{range_with_len}
 use Rattle.std.specs.Option.{option_map}
 use Rattle.std.proofs.lemmas.List.FromFn.{get_or-range_with_len, length-range_with_len}
-use Rattle.std.proofs.lemmas.Option.{get_or_from_slice_get, none-some, same_Some, slice_get-get_or, slice_get-map, slice_get_within}
-use Rattle.mc_merge.specs.Lanes.{absent_channel, leads_from, leads_to}
+use Rattle.std.proofs.lemmas.Option.{none-some, same_Some, slice_get-get_or, slice_get-map, slice_get_within}
+use Rattle.mc_merge.specs.Lanes.{absent_channel}
 use Rattle.mc_model.specs.Worlds.{ChannelState, WorldState}
 use Rattle.mc_cut.specs.Cuts.{is_part, layout_of, part_of, place_in, rank}
 use Rattle.mc_cut.proofs.Layouts.{from_there, to_there}

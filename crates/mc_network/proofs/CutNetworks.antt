@@ -1,16 +1,16 @@
 -- A network that was cut into parts.
-use Rattle.std.proofs.Common.{◌≡◌, ◌<◌, ◌≤◌, ◌+◌, ◌*◌, inl, inr, All, Bool, true, false, IsTrue, ℕ, zero, suc, Some, List, [], ◌∷◌, drop, length, get_or, map, replicate, refl, ap, ap₂, sym, ◌∙◌, subst, arith}
+use Rattle.std.proofs.Common.{◌≡◌, ◌<◌, ◌≤◌, ◌*◌, inl, inr, All, Bool, true, false, IsTrue, ℕ, zero, suc, Some, List, [], ◌∷◌, drop, length, get_or, map, replicate, refl, ap, ap₂, sym, ◌∙◌, subst, arith}
 use Rattle.std.proofs.Math.Path.{fun_ext}
 use Rattle.std.proofs.lemmas.Bool.{cases_lt}
 use Rattle.std.proofs.lemmas.List.{ext_get_or, get_or-map, length-map, length-replicate}
-use Rattle.std.proofs.lemmas.Option.{get_or_from_slice_get, slice_get-get_or, slice_get_within}
+use Rattle.std.proofs.lemmas.Option.{get_or_from_slice_get, slice_get_within}
 use Rattle.std.specs.List.{AllByRecursion, slice_get}
 use Rattle.mc_box.specs.BoxEvents.{is_command, is_enabled}
 use Rattle.mc_box.specs.Boxes.{BoxState, no_box}
 use Rattle.mc_box.specs.declared.event.Event.{Event}
 use Rattle.mc_box.specs.declared.event.Event.TheVariants.{Shift}
 use Rattle.mc_box.specs.declared.event.Turn.{Turn}
-use Rattle.mc_box.specs.declared.limit.TheConstants.{SHIFT_LIMIT, SLOT_LIMIT}
+use Rattle.mc_box.specs.declared.limit.TheConstants.{SLOT_LIMIT}
 use Rattle.mc_cut.specs.Cuts.{boxes_in, channels_in, first_part, home_at, members, part_numbers, starts_in, tables_in}
 use Rattle.mc_cut.specs.Cutting.{AreNumbersIn, count_of, share_of}
 use Rattle.mc_cut.proofs.Leads.{cuts_lead_away}
@@ -18,7 +18,7 @@ use Rattle.mc_cut.proofs.Members.{IsMember, first_parts_are_cut, member_here}
 use Rattle.mc_model.specs.Shapes.{is_allowed}
 use Rattle.mc_model.specs.Sound.{IsSound}
 use Rattle.mc_model.specs.Worlds.{ChannelState, WorldState, box_at, first_world}
-use Rattle.mc_network.specs.Laying.{AreLaid, AreWhole, AreWired, IsDivision, IsFresh, IsLaid, numbered_port, ports_in}
+use Rattle.mc_network.specs.Laying.{AreLaid, AreWhole, AreWired, IsDivision, IsLaid, numbered_port, ports_in}
 use Rattle.mc_network.specs.Networks.{IsCutNetwork, IsIdle, ShareClock, channels_of, network_state, shifts_among, stimuli_among, turn_budget}
 use Rattle.mc_network.specs.States.{NetworkState, new_state, no_shifts, no_stimuli}
 use Rattle.mc_network.specs.declared.limit.TheConstants.{NETWORK_LIMIT}
@@ -29,11 +29,9 @@ use Rattle.mc_network.proofs.LaidOut.{HaveLaid, IsRunAt, are_layout, boxes_at, c
 use Rattle.mc_network.proofs.PartsLaid.{ports_few}
 use Rattle.mc_network.proofs.PortSlots.{tables_by}
 use Rattle.mc_network.proofs.Together.{share_is}
-use Rattle.mc_part.specs.Parts.{IsWithin, LeadsAway, events_for, shifts_of, state_of, stimuli_of}
-use Rattle.mc_part.specs.Phases.{EachOf}
+use Rattle.mc_part.specs.Parts.{LeadsAway, events_for, shifts_of, stimuli_of}
 use Rattle.mc_part.specs.Ports.{LeadAway, sides}
 use Rattle.mc_part.specs.Running.{AreCalm}
-use Rattle.mc_part.specs.declared.part.Part.{Part}
 use Rattle.mc_part.specs.declared.part_run.PartRun.{PartRun}
 use Rattle.mc_part.specs.declared.port.Port.{Port}
 use Rattle.mc_signal.specs.declared.Tagged.{Tagged}

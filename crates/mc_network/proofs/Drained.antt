@@ -1,8 +1,7 @@
 -- What is carried over between two phases is what the laws of phases ask for.
-use Rattle.std.proofs.Common.{◌≡◌, ◌≢◌, ◌⊎◌, inl, inr, ◌<◌, ◌≤◌, ◌+◌, ◌*◌, ◌/◌, ◌%◌, ◌++◌, Bool, true, false, ℕ, Some, None, Option, List, [], length, map, get_or, slice_get, refl, ap, ap₂, sym, ◌∙◌, subst, arith}
+use Rattle.std.proofs.Common.{◌≡◌, inl, inr, ◌<◌, ◌≤◌, ◌+◌, ◌*◌, ◌/◌, ◌%◌, ◌++◌, Bool, true, false, ℕ, Some, List, length, map, get_or, slice_get, refl, ap, ap₂, sym, ◌∙◌, subst, arith}
 use Rattle.std.proofs.lemmas.Bool.{cases_lt}
 use Rattle.std.proofs.lemmas.Option.{slice_get_within}
-use Rattle.mc_box.specs.Boxes.{BoxState}
 use Rattle.mc_signal.specs.declared.Tagged.{Tagged}
 use Rattle.mc_merge.specs.LaneLogs.{without_stamps}
 use Rattle.mc_merge.specs.Lanes.{absent_channel}
@@ -13,12 +12,11 @@ use Rattle.mc_weave.specs.Account.{part_lane}
 use Rattle.mc_weave.specs.Phases.{Layout, before_ring, lane_in}
 use Rattle.mc_cut.specs.Cuts.{layout_of, part_of, place_in}
 use Rattle.mc_cut.proofs.Placed.{touch_on}
-use Rattle.mc_cut.proofs.Slots.{end_on}
 use Rattle.mc_part.specs.Carrying.{lane_at, waiting_at}
-use Rattle.mc_part.specs.Networks.{AreCarried, IsCarried, LeadsAcross, given_on, received_on, states_of}
+use Rattle.mc_part.specs.Networks.{AreCarried, IsCarried, LeadsAcross, states_of}
 use Rattle.mc_part.specs.Parts.{state_of}
 use Rattle.mc_part.specs.Phases.{EachChanged}
-use Rattle.mc_part.specs.Ports.{into_lane, out_lane, rings_of, sides}
+use Rattle.mc_part.specs.Ports.{rings_of, sides}
 use Rattle.mc_part.specs.declared.part.Part.{Part}
 use Rattle.mc_part.specs.declared.part_run.PartRun.{PartRun}
 use Rattle.mc_part.specs.declared.port.Port.{Port}

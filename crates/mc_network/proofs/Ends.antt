@@ -1,11 +1,9 @@
 -- How the runs of parts ended, one part after another.
-use Rattle.std.proofs.Common.{◌≡◌, ◌≢◌, inl, inr, ◌<◌, ◌≤◌, ◌+◌, Bool, true, false, ℕ, Some, None, Option, List, length, slice_get, slice_set, Result, Ok, Err, refl, ap, sym, ◌∙◌, subst, arith}
+use Rattle.std.proofs.Common.{◌≡◌, inl, inr, ◌<◌, ◌≤◌, ◌+◌, Bool, ℕ, Some, List, length, slice_get, slice_set, refl, ap, sym, ◌∙◌, subst, arith}
 use Rattle.std.proofs.lemmas.Option.{slice_get_within}
 use Rattle.mc_part.specs.Phases.{EachChanged, EachOf}
 use Rattle.mc_part.specs.declared.part_run.PartRun.{PartRun}
-use Rattle.mc_part.specs.declared.stop.Ended.{Ended}
-use Rattle.mc_part.specs.declared.stop.PartStop.{PartStop}
-use Rattle.mc_network.specs.Phasing.{AreChosen, EndsCalm, HasMemory, HasNothing, IsChosen, WakesUp}
+use Rattle.mc_network.specs.Phasing.{AreChosen, HasNothing, IsChosen, WakesUp}
 use Rattle.mc_part.specs.declared.part.Part.{Part}
 use Rattle.mc_network.proofs.PartsBy.{run_there}
 use Rattle.mc_network.proofs.Lists.{get_other, one_of, same_or_not, set_here, set_length}

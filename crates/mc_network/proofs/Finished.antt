@@ -1,42 +1,41 @@
 -- The network after a phase.
-use Rattle.std.proofs.Common.{◌≡◌, ◌≢◌, ◌⊎◌, inl, inr, ◌<◌, ◌≤◌, ◌+◌, ◌*◌, ◌^◌, Bool, true, false, ℕ, All, IsTrue, Some, None, Option, List, [], ◌∷◌, ◌++◌, drop, length, map, get_or, slice_get, Result, Ok, Err, refl, ap, sym, ◌∙◌, subst, arith, true≢false, Vec, Global}
-use Rattle.std.specs.List.{AllByRecursion, range_with_len}
+use Rattle.std.proofs.Common.{◌≡◌, ◌<◌, ◌≤◌, ◌+◌, ◌*◌, Bool, ℕ, All, IsTrue, Some, List, drop, length, map, get_or, slice_get, ap, sym, ◌∙◌, subst, arith, Vec, Global}
+use Rattle.std.specs.List.{AllByRecursion}
 use Rattle.std.proofs.lemmas.List.{length-map}
-use Rattle.std.proofs.lemmas.Option.{slice_get-get_or, slice_get_within}
+use Rattle.std.proofs.lemmas.Option.{slice_get_within}
 use Rattle.mc_box.specs.Boxes.{BoxState}
 use Rattle.mc_box.specs.declared.event.Turn.{Turn}
 use Rattle.mc_box.specs.declared.limit.TheConstants.{SHIFT_LIMIT, SLOT_LIMIT}
 use Rattle.mc_box.specs.BoxEvents.{is_command}
 use Rattle.mc_model.specs.Shapes.{is_allowed}
 use Rattle.mc_model.specs.Sound.{IsSound}
-use Rattle.mc_model.specs.Worlds.{ChannelState, WorldState, channel_number_limit}
+use Rattle.mc_model.specs.Worlds.{WorldState, channel_number_limit}
 use Rattle.mc_port.specs.Ends.{given, received}
 use Rattle.mc_weave.specs.Account.{PartState}
-use Rattle.mc_weave.specs.Phases.{AreEmptied, IsLayout, Layout, stands_for}
-use Rattle.mc_weave.specs.Weaving.{clocks_of, numbers_of}
+use Rattle.mc_weave.specs.Phases.{AreEmptied, IsLayout, stands_for}
 use Rattle.mc_weave.specs.declared.log.PartLog.{PartLog}
-use Rattle.mc_cut.specs.Cuts.{channels_in, members, part_numbers}
+use Rattle.mc_cut.specs.Cuts.{part_numbers}
 use Rattle.mc_part.specs.Carrying.{AllComeIn, AllGoOut, tunnel_count}
-use Rattle.mc_part.specs.Networks.{AreParts, HaveRun, states_of, tables_at, world_by}
-use Rattle.mc_part.specs.Parts.{IsWithin, LeadsAway, Runs, state_of, tables_of}
-use Rattle.mc_part.specs.Phases.{EachChanged, EachOf}
+use Rattle.mc_part.specs.Networks.{AreParts, tables_at}
+use Rattle.mc_part.specs.Parts.{IsWithin, tables_of}
+use Rattle.mc_part.specs.Phases.{EachOf}
 use Rattle.mc_part.specs.Ports.{LeadAway, rings_of, sides}
-use Rattle.mc_part.specs.Running.{AreCalm, owed_of}
+use Rattle.mc_part.specs.Running.{AreCalm}
 use Rattle.mc_part.specs.declared.limit.TheConstants.{STAMP_LIMIT}
 use Rattle.mc_part.specs.declared.part.Part.{Part}
 use Rattle.mc_part.specs.declared.part_run.PartRun.{PartRun}
 use Rattle.mc_part.specs.declared.port.Port.{Port}
-use Rattle.mc_network.specs.Networks.{AreJoined, IsCutNetwork, IsIdle, IsJoined, ShareClock, base_of, channels_of, crossings_of, network_layout, states_among, tables_among, turn_budget, world_in}
-use Rattle.mc_network.specs.Phasing.{EndsCalm, HasCrossed, IsClosed, IsLaneCarried}
+use Rattle.mc_network.specs.Networks.{AreJoined, IsCutNetwork, IsIdle, IsJoined, ShareClock, base_of, network_layout, states_among, turn_budget}
+use Rattle.mc_network.specs.Phasing.{HasCrossed, IsClosed}
 use Rattle.mc_network.specs.declared.network.Crossing.{Crossing}
 use Rattle.mc_network.specs.declared.network.CutNetwork.{CutNetwork}
 use Rattle.mc_network.proofs.Carryable.{comes_as, goes_as}
 use Rattle.mc_network.proofs.CarriedLanes.{same_tables}
 use Rattle.mc_network.proofs.Closed.{ClosedAt, Phased, carried_over, closed_at, closed_count, drained, goes_on, keeps_sound, opened_at}
-use Rattle.mc_network.proofs.Drained.{AreDrained, IsLike}
+use Rattle.mc_network.proofs.Drained.{IsLike}
 use Rattle.mc_network.proofs.Lists.{one_of, there_at}
-use Rattle.mc_network.proofs.PartsBy.{by_parts, part_is, parts_by, run_there, states_are, tables_are}
-use Rattle.mc_network.proofs.Phased.{HasNone, Went, joined_of, none_of, went_run}
+use Rattle.mc_network.proofs.PartsBy.{parts_by, run_there, states_are, tables_are}
+use Rattle.mc_network.proofs.Phased.{HasNone, joined_of, none_of, went_run}
 use Rattle.mc_network.proofs.Ways.{IsPortAfter, port_after}
 
 -- ---- ports

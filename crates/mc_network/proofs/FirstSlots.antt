@@ -1,13 +1,13 @@
 -- The numbers of slots, from that of the first slot of their channel.
-use Rattle.std.proofs.Common.{◌≡◌, ◌<◌, ◌≤◌, ◌+◌, ◌-◌, ◌*◌, ◌/◌, ◌%◌, ◌^◌, ◌==◌, ◌&&◌, All, Bool, true, ℕ, zero, suc, Some, List, [], ◌∷◌, ◌++◌, length, length-append, length-take-le, get_or, map, min, take, nat_lt, lt-ltb, eq-eqb, append-nil, refl, ap, ap₂, sym, ◌∙◌, subst, arith}
+use Rattle.std.proofs.Common.{◌≡◌, ◌<◌, ◌≤◌, ◌+◌, ◌-◌, ◌*◌, ◌/◌, ◌%◌, ◌^◌, ◌==◌, ◌&&◌, All, Bool, true, ℕ, zero, suc, Some, List, [], ◌∷◌, ◌++◌, length, length-append, length-take-le, get_or, map, min, take, nat_lt, lt-ltb, eq-eqb, refl, ap, ap₂, sym, ◌∙◌, subst, arith}
 use Rattle.std.proofs.lemmas.List.{get_or-append-add, get_or_append_left, take_more}
 use Rattle.std.proofs.lemmas.List.FromFn.{map-range_with_len_more}
 use Rattle.std.proofs.lemmas.Option.{none-some, same_Some}
-use Rattle.std.specs.List.{flat_map, range_with_len, slice_get}
+use Rattle.std.specs.List.{range_with_len, slice_get}
 use Rattle.mc_laws.proofs.TunnelPlaces.{two_each, within_slots}
-use Rattle.mc_model.specs.Worlds.{AreChannels, ChannelState, HasTunnels, TunnelPlace, WorldState, no_tunnel, places_among, places_of, places_within, tunnels_from, tunnels_within}
+use Rattle.mc_model.specs.Worlds.{AreChannels, ChannelState, HasTunnels, TunnelPlace, WorldState, no_tunnel, places_among, places_within, tunnels_from, tunnels_within}
 use Rattle.mc_model.specs.declared.channel.Tunnel.{Tunnel}
-use Rattle.mc_network.specs.Laying.{LeadsTo, first_slot, slot_after}
+use Rattle.mc_network.specs.Laying.{LeadsTo, first_slot}
 use Rattle.mc_world.specs.Pumping.{is_slot_at}
 
 next : (k : ℕ) → suc k ≡ k + 1

@@ -1,11 +1,11 @@
 -- The ports of a channel that crosses, in the parts at its ends.
-use Rattle.std.proofs.Common.{◌≡◌, ◌≢◌, ◌<◌, ◌≤◌, ◌+◌, ◌*◌, ◌^◌, ◌==◌, inl, inr, not, if◌then◌else◌, All, Bool, true, false, filter, ℕ, Some, List, [], length, get_or, map, take, take_all, refl, ap, ap₂, sym, ◌∙◌, subst, arith, true≢false, eq-eqb, eqb-true}
+use Rattle.std.proofs.Common.{◌≡◌, ◌<◌, ◌≤◌, ◌+◌, ◌^◌, ◌==◌, inl, not, if◌then◌else◌, All, Bool, true, false, filter, ℕ, Some, List, length, get_or, map, take_all, refl, ap, ap₂, sym, ◌∙◌, subst, arith, true≢false, eq-eqb, eqb-true}
 use Rattle.std.proofs.lemmas.List.{get_or-map, length-map}
 use Rattle.std.proofs.lemmas.List.FromFn.{get_or-map-range_with_len, get_or-range_with_len, length-range_with_len}
 use Rattle.std.proofs.lemmas.Option.{get_or_from_slice_get, slice_get-get_or, slice_get_within}
 use Rattle.std.specs.List.{range_with_len, slice_get}
 use Rattle.mc_box.specs.Boxes.{BoxState}
-use Rattle.mc_cut.specs.Cuts.{boxes_in, channels_in, is_crossing, is_part, members, part_of, place_in, rank, starts_in}
+use Rattle.mc_cut.specs.Cuts.{boxes_in, channels_in, is_crossing, is_part, members, part_of, place_in, starts_in}
 use Rattle.mc_cut.specs.Cutting.{HasBoxes}
 use Rattle.mc_cut.proofs.Leads.{are_channels}
 use Rattle.mc_cut.proofs.Numbers.{AreWhole as AreAllSlots, are_whole}
@@ -13,11 +13,10 @@ use Rattle.mc_cut.proofs.Placed.{place_of_crossing, placed_at, tunnel_count as t
 use Rattle.mc_cut.proofs.Ranks.{Found, rank_back, rank_found}
 use Rattle.mc_merge.specs.Lanes.{absent_channel}
 use Rattle.mc_model.specs.Worlds.{AreChannels, ChannelState, WorldState, box_at, channel_number_limit, first_world}
-use Rattle.mc_network.specs.Laying.{AreRinged, AreWhole, AreWired, IsLaid, IsRinged, first_slot, first_slots, numbered_port, ports_in}
+use Rattle.mc_network.specs.Laying.{AreWired, IsRinged, first_slot, first_slots, numbered_port, ports_in}
 use Rattle.mc_network.specs.Networks.{AreJoined, IsJoined, crossing_at, is_apart}
 use Rattle.mc_network.specs.declared.network.Crossing.{Crossing}
 use Rattle.mc_network.proofs.LaidOut.{HaveLaid, IsRunAt, run_at}
-use Rattle.mc_network.proofs.PartsLaid.{ports_below}
 use Rattle.mc_network.proofs.PortSlots.{IsPortOf, all_come_in, all_go_out, tables_by}
 use Rattle.mc_network.proofs.Together.{channels_join}
 use Rattle.mc_part.specs.Carrying.{AllComeIn, AllGoOut, tunnel_count}

@@ -1,30 +1,30 @@
 -- Parts that are laid out, beside the world that they are laid out of.
-use Rattle.std.proofs.Common.{◌≡◌, ◌≢◌, ◌<◌, ◌≤◌, ◌+◌, ◌-◌, ◌*◌, ◌/◌, ◌%◌, ◌==◌, inl, inr, if◌then◌else◌, All, Bool, true, false, ℕ, zero, suc, Some, List, [], ◌∷◌, length, get_or, map, replicate, refl, ap, ap₂, sym, ◌∙◌, subst, arith, true≢false, eq-eqb, eqb-true, ne_eqb}
-use Rattle.std.proofs.lemmas.Bool.{cases_eq, cases_lt}
-use Rattle.std.proofs.lemmas.List.{length-map, length-replicate}
+use Rattle.std.proofs.Common.{◌≡◌, ◌≢◌, ◌<◌, ◌≤◌, ◌+◌, ◌-◌, ◌*◌, ◌/◌, ◌%◌, ◌==◌, inl, inr, if◌then◌else◌, All, Bool, true, false, ℕ, zero, suc, Some, List, [], ◌∷◌, length, get_or, map, replicate, refl, ap, ap₂, sym, ◌∙◌, subst, arith, true≢false, eq-eqb, ne_eqb}
+use Rattle.std.proofs.lemmas.Bool.{cases_lt}
+use Rattle.std.proofs.lemmas.List.{length-replicate}
 use Rattle.std.proofs.lemmas.List.FromFn.{fill_by_all}
 use Rattle.std.proofs.lemmas.Option.{get_or_from_slice_get, none-some, slice_get-get_or, slice_get_within}
 use Rattle.std.specs.List.{AllByRecursion, list_all, range_with_len, slice_get}
 use Rattle.mc_box.specs.Boxes.{BoxState, no_box}
 use Rattle.mc_cut.specs.CutLaws.{StandFor}
-use Rattle.mc_cut.specs.Cuts.{IsCut, boxes_in, channels_in, first_part, home_at, is_part, layout_of, members, part_of, place_in, tables_in}
+use Rattle.mc_cut.specs.Cuts.{boxes_in, channels_in, first_part, home_at, is_part, layout_of, part_of, place_in}
 use Rattle.mc_cut.specs.Cutting.{HasBoxes, share_of}
 use Rattle.mc_cut.proofs.Filling.{none_past_parts}
 use Rattle.mc_cut.proofs.Layouts.{cuts_are_layouts}
 use Rattle.mc_cut.proofs.Placed.{Touches, touch_on}
 use Rattle.mc_merge.specs.Lanes.{absent_channel, leads_from, leads_to}
-use Rattle.mc_model.specs.Settles.{is_empty, is_quiet}
+use Rattle.mc_model.specs.Settles.{is_empty}
 use Rattle.mc_model.specs.Worlds.{ChannelState, WorldState, box_at, first_world}
 use Rattle.mc_network.specs.Laying.{AreLaid, AreWhole, IsLaid, channel_numbers, end_of, lane_here, ports_in}
 use Rattle.mc_network.specs.Networks.{no_part, no_tables, states_among, tables_among}
-use Rattle.mc_network.proofs.ChannelNumbers.{number_there, numbers_count}
+use Rattle.mc_network.proofs.ChannelNumbers.{number_there}
 use Rattle.mc_network.proofs.Together.{channels_join, share_is}
 use Rattle.mc_part.specs.Parts.{state_of, tables_of}
 use Rattle.mc_part.specs.declared.part_run.PartRun.{PartRun}
 use Rattle.mc_part.specs.declared.port.Port.{Port}
 use Rattle.mc_signal.specs.declared.Tagged.{Tagged}
 use Rattle.mc_weave.specs.Account.{PartState}
-use Rattle.mc_weave.specs.Phases.{AreEmptied, IsApart, IsLayout, Layout, box_in, lane_in, stands_for}
+use Rattle.mc_weave.specs.Phases.{AreEmptied, IsLayout, Layout, box_in, lane_in, stands_for}
 
 -- what is known of parts that were laid out
 pub record HaveLaid (boxes : List BoxState) (channels : List ChannelState) (lanes : List (List Tagged)) (assigned : List ℕ) (lists : List (List Port)) (runs : List PartRun) : Type 0 where

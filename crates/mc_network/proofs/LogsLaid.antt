@@ -1,5 +1,5 @@
 -- Logs, as they begin.
-use Rattle.std.proofs.Common.{◌≡◌, ◌<◌, ◌≤◌, ◌+◌, ℕ, zero, suc, List, [], ◌∷◌, ◌++◌, drop, length, length-append, length-drop, get_or, map, take, take_all, refl, ap, ap₂, sym, ◌∙◌, subst, arith}
+use Rattle.std.proofs.Common.{◌≡◌, ◌<◌, ◌≤◌, ◌+◌, ℕ, zero, suc, List, [], ◌∷◌, ◌++◌, drop, length, length-append, length-drop, get_or, map, take, take_all, refl, ap, ap₂, sym, ◌∙◌, arith}
 use Rattle.std.proofs.lemmas.List.{map-append, take_more}
 use Rattle.mc_weave.specs.Weaving.{log_at, logs_of}
 use Rattle.mc_weave.specs.declared.log.Made.{Made}

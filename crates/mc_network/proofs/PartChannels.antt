@@ -1,10 +1,10 @@
 -- The channels of a part beside those of the network, and the slots that their lanes lead to.
-use Rattle.std.proofs.Common.{◌≡◌, ◌<◌, ◌≤◌, ◌+◌, ◌-◌, ◌*◌, ◌^◌, ℕ, Some, List, length, get_or, map, replicate, [], refl, ap, sym, ◌∙◌, subst, arith}
+use Rattle.std.proofs.Common.{◌≡◌, ◌<◌, ◌≤◌, ◌+◌, ◌-◌, ◌*◌, ◌^◌, ℕ, Some, List, length, get_or, replicate, [], ap, sym, ◌∙◌, subst, arith}
 use Rattle.std.proofs.lemmas.List.{length-replicate}
 use Rattle.std.proofs.lemmas.List.FromFn.{get_or-map-range_with_len, length-map-range_with_len}
 use Rattle.std.proofs.lemmas.Option.{get_or_from_slice_get, slice_get-get_or, slice_get_within}
-use Rattle.std.specs.List.{range_with_len, slice_get}
-use Rattle.mc_cut.specs.Cuts.{channel_in, channels_in, is_part, members, part_of, place_in}
+use Rattle.std.specs.List.{slice_get}
+use Rattle.mc_cut.specs.Cuts.{channels_in, is_part, part_of, place_in}
 use Rattle.mc_cut.proofs.Leads.{are_channels}
 use Rattle.mc_cut.proofs.Placed.{IsPlaced, Touches, placed_back, tunnel_count}
 use Rattle.mc_merge.specs.Lanes.{absent_channel}

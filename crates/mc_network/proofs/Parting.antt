@@ -1,5 +1,5 @@
 -- Which parts boxes may be in.
-use Rattle.std.proofs.Common.{◌≡◌, ◌<◌, ◌≤◌, ◌+◌, ◌*◌, ◌/◌, ℕ, All, List, length, get_or, replicate, take, take_all, refl, sym, subst, arith}
+use Rattle.std.proofs.Common.{◌≡◌, ◌<◌, ◌≤◌, ◌+◌, ◌*◌, ℕ, All, List, length, replicate, take, take_all, subst, arith}
 use Rattle.std.proofs.lemmas.List.Elements.{All-replicate}
 use Rattle.std.proofs.lemmas.List.{length-replicate}
 use Rattle.mc_cut.proofs.Filling.{count_few}

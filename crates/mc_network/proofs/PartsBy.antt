@@ -1,13 +1,11 @@
 -- The parts of a network by their numbers.
-use Rattle.std.proofs.Common.{◌≡◌, ◌⊎◌, inl, inr, ◌<◌, ◌≤◌, ◌&&◌, if◌then◌else◌, Bool, true, false, ℕ, zero, suc, nat_lt, Some, None, Option, List, [], ◌∷◌, length, map, get_or, slice_get, Result, Ok, Err, refl, ap, sym, ◌∙◌, subst, arith, IsTrue, true≢false}
+use Rattle.std.proofs.Common.{◌≡◌, inl, inr, ◌<◌, ◌≤◌, ◌&&◌, if◌then◌else◌, Bool, true, false, ℕ, zero, suc, nat_lt, Some, Option, List, [], ◌∷◌, length, map, get_or, slice_get, Result, Ok, Err, refl, ap, sym, ◌∙◌, subst, arith, IsTrue, true≢false}
 use Rattle.std.proofs.Math.Path.{fun_ext}
 use Rattle.std.proofs.lemmas.Bool.{cases_lt, ltb-true}
 use Rattle.std.proofs.lemmas.Option.{slice_get_within}
 use Rattle.mc_box.specs.Boxes.{box_owes, is_slot}
 use Rattle.mc_box.specs.declared.limit.TheConstants.{SHIFT_LIMIT}
-use Rattle.mc_model.specs.Settles.{world_owes}
-use Rattle.mc_model.specs.Worlds.{WorldState, box_at}
-use Rattle.mc_weave.specs.Account.{PartState}
+use Rattle.mc_model.specs.Worlds.{box_at}
 use Rattle.mc_part.specs.Networks.{HaveRun, states_of, tables_at}
 use Rattle.mc_part.specs.Parts.{IsWithin, Runs, no_retries, shifts_of, state_of, tables_of}
 use Rattle.mc_part.specs.Phases.{EachOf, HasEnded, HasGone, HaveGone}
@@ -19,9 +17,8 @@ use Rattle.mc_part.specs.declared.stop.PartStop.{PartStop}
 use Rattle.mc_part.specs.declared.stop.PartStop.TheVariants.{NoMemory, Spent, VersionEnd, Unable, Strange, Stray}
 use Rattle.mc_part.proofs.Progress.{runs_unasked}
 use Rattle.mc_part.proofs.Ran.{runs_as, runs_nothing}
-use Rattle.mc_network.specs.Networks.{no_part, no_tables, states_among, tables_among}
+use Rattle.mc_network.specs.Networks.{no_tables, states_among, tables_among}
 use Rattle.mc_network.specs.Phasing.{AreChosen, HasMemory, HasNothing, IsChosen}
-use Rattle.mc_network.proofs.Lists.{one_of, there_at}
 
 -- past the last part
 abbrev pub empty_part : Part → Part

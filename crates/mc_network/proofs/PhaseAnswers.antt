@@ -1,6 +1,5 @@
 -- What the calls of a phase ask for.
-use Rattle.std.proofs.Common.{◌≡◌, inl, inr, ◌<◌, ◌≤◌, ◌+◌, ◌^◌, ◌++◌, Bool, true, false, ℕ, zero, suc, IsTrue, Some, None, Option, List, [], ◌∷◌, length, map, get_or, slice_get, refl, ap, sym, ◌∙◌, subst, arith}
-use Rattle.std.specs.List.{range_with_len}
+use Rattle.std.proofs.Common.{◌≡◌, inl, inr, ◌<◌, ◌≤◌, ◌^◌, ◌++◌, Bool, ℕ, IsTrue, List, [], length, map, refl, ap, sym, ◌∙◌, subst, arith}
 use Rattle.std.proofs.lemmas.Bool.{cases_lt}
 use Rattle.std.proofs.lemmas.List.{length-map}
 use Rattle.std.proofs.lemmas.List.FromFn.{get_or-map-range_with_len, length-map-range_with_len}
@@ -11,7 +10,7 @@ use Rattle.mc_weave.specs.Wholes.{made_of}
 use Rattle.mc_weave.specs.declared.log.Made.{Made}
 use Rattle.mc_weave.specs.declared.log.PartLog.{PartLog}
 use Rattle.mc_weave.proofs.Fitting.{kept_logs_fit}
-use Rattle.mc_cut.specs.Cuts.{members, part_numbers}
+use Rattle.mc_cut.specs.Cuts.{members}
 use Rattle.mc_part.specs.Networks.{HaveRun}
 use Rattle.mc_part.specs.Parts.{state_of, tables_of}
 use Rattle.mc_part.specs.Phases.{EachOf, HaveGone}

@@ -1,5 +1,5 @@
 -- What a phase comes to.
-use Rattle.std.proofs.Common.{◌≡◌, ◌≢◌, ◌<◌, Bool, true, false, ℕ, IsTrue, IfOk, IfSome, OnOk, Some, None, Option, List, [], ◌++◌, map, length, Result, Ok, Err, refl, ap, sym, ◌∙◌, subst, Vec, Global}
+use Rattle.std.proofs.Common.{◌≡◌, Bool, ℕ, IsTrue, IfOk, IfSome, OnOk, Some, None, Option, List, map, length, Result, Ok, Err, ap, sym, ◌∙◌, subst, Vec, Global}
 use Rattle.std.specs.Vec.{with_items}
 use Rattle.std.proofs.lemmas.List.{with_items_is}
 use Rattle.mc_box.specs.declared.event.Turn.{Turn}
@@ -7,9 +7,9 @@ use Rattle.mc_weave.specs.Weaving.{numbers_of, turn_in}
 use Rattle.mc_weave.specs.declared.log.PartLog.{PartLog}
 use Rattle.mc_part.specs.Phases.{EachOf}
 use Rattle.mc_part.specs.declared.part_run.PartRun.{PartRun}
-use Rattle.mc_network.specs.Networks.{IsCutNetwork, network_state, turn_budget}
+use Rattle.mc_network.specs.Networks.{IsCutNetwork, network_state}
 use Rattle.mc_network.specs.Phasing.{EndAs, EndsCalm, EndsWell, HasPlayed}
-use Rattle.mc_network.specs.States.{IsAtLast, IsPhaseTo, PlaysOn}
+use Rattle.mc_network.specs.States.{IsAtLast, PlaysOn}
 use Rattle.mc_network.specs.declared.network.Crossing.{Crossing}
 use Rattle.mc_network.specs.declared.network.CutNetwork.{CutNetwork}
 use Rattle.mc_network.proofs.Closed.{Phased}

@@ -1,5 +1,5 @@
 -- A phase as a settle sees it.
-use Rattle.std.proofs.Common.{◌≡◌, ◌≢◌, inl, inr, ◌<◌, ◌≤◌, Bool, true, false, ℕ, zero, suc, Some, None, Option, List, [], ◌∷◌, ◌++◌, length, map, get_or, slice_get, refl, ap, sym, ◌∙◌, subst, arith, Vec, Global}
+use Rattle.std.proofs.Common.{◌≡◌, inl, inr, ◌<◌, Bool, ℕ, zero, suc, List, [], ◌∷◌, length, map, get_or, refl, ap, sym, ◌∙◌, subst, arith, Vec, Global}
 use Rattle.std.proofs.Math.Path.{fun_ext}
 use Rattle.std.proofs.lemmas.Bool.{cases_lt}
 use Rattle.std.proofs.lemmas.List.{get_or_past}
@@ -10,16 +10,16 @@ use Rattle.mc_weave.specs.Account.{PartState}
 use Rattle.mc_weave.specs.Phases.{PlaysPhase, stands_for}
 use Rattle.mc_weave.specs.Weaving.{numbers_of, turn_in}
 use Rattle.mc_weave.specs.declared.log.PartLog.{PartLog}
-use Rattle.mc_cut.specs.Cuts.{home_at, part_of}
+use Rattle.mc_cut.specs.Cuts.{home_at}
 use Rattle.mc_part.specs.Networks.{shifts_in, stimuli_in, world_by}
 use Rattle.mc_part.specs.Parts.{shifts_of, stimuli_of}
 use Rattle.mc_part.specs.declared.part.Part.{Part}
 use Rattle.mc_part.specs.declared.part_run.PartRun.{PartRun}
-use Rattle.mc_network.specs.Networks.{IsCutNetwork, base_of, network_layout, network_state, shifts_among, states_among, stimuli_among, world_in}
+use Rattle.mc_network.specs.Networks.{IsCutNetwork, base_of, network_layout, network_state}
 use Rattle.mc_network.specs.States.{no_shifts, no_stimuli}
 use Rattle.mc_network.specs.declared.network.CutNetwork.{CutNetwork}
-use Rattle.mc_network.proofs.Closed.{Phased, closed_count, drained}
-use Rattle.mc_network.proofs.PartsBy.{by_parts, empty_part, part_is, parts_by, run_there, states_are}
+use Rattle.mc_network.proofs.Closed.{Phased, drained}
+use Rattle.mc_network.proofs.PartsBy.{by_parts, parts_by, states_are}
 use Rattle.mc_network.proofs.Phased.{HasNone, none_of}
 use Rattle.mc_network.proofs.Played.{keeps_counts, plays, same_shifts, same_stimuli}
 

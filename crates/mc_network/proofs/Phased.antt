@@ -1,43 +1,30 @@
 -- A phase of a network: its parts ran, what crosses was carried over, and the logs are one list.
-use Rattle.std.proofs.Common.{◌≡◌, ◌≢◌, inl, inr, ◌<◌, ◌≤◌, ◌+◌, ◌*◌, ◌/◌, ◌^◌, ◌++◌, max, Bool, true, false, ℕ, zero, suc, All, IsTrue, Some, None, Option, List, [], ◌∷◌, length, map, get_or, slice_get, Result, Ok, Err, refl, ap, sym, ◌∙◌, subst, arith, true≢false}
-use Rattle.std.specs.List.{AllByRecursion, range_with_len}
-use Rattle.std.proofs.Math.Path.{fun_ext}
-use Rattle.std.proofs.lemmas.Bool.{cases_lt}
+use Rattle.std.proofs.Common.{◌≡◌, inl, ◌<◌, ◌≤◌, ◌*◌, ◌/◌, ◌^◌, max, Bool, true, false, ℕ, zero, suc, IsTrue, Some, List, [], ◌∷◌, length, get_or, slice_get, refl, ap, sym, ◌∙◌, subst, arith}
 use Rattle.std.proofs.lemmas.Grind.{common_steps}
 use Rattle.std.proofs.lemmas.List.{length-map}
-use Rattle.std.proofs.lemmas.List.FromFn.{get_or-map-range_with_len, length-map-range_with_len}
 use Rattle.std.proofs.lemmas.List.Sums.{sum_by-le}
 use Rattle.std.proofs.lemmas.Option.{get_or_from_slice_get, slice_get_within}
 use Rattle.mc_box.specs.declared.limit.TheConstants.{SHIFT_LIMIT, SLOT_LIMIT}
-use Rattle.mc_box.specs.Boxes.{BoxState}
 use Rattle.mc_model.specs.Worlds.{WorldState}
 use Rattle.mc_weave.specs.Account.{PartState}
-use Rattle.mc_weave.specs.Logs.{Own}
-use Rattle.mc_weave.specs.Phases.{AreEmptied, IsLayout, Layout}
-use Rattle.mc_weave.specs.Together.{Ran}
-use Rattle.mc_weave.specs.Turns.{no_items}
-use Rattle.mc_weave.specs.Weaving.{AreClimbing, IsKnown, entry_count, log_at, numbers_at, numbers_of}
-use Rattle.mc_weave.specs.Wholes.{made_of}
+use Rattle.mc_weave.specs.Phases.{AreEmptied, IsLayout}
+use Rattle.mc_weave.specs.Weaving.{entry_count}
 use Rattle.mc_weave.specs.declared.log.Made.{Made}
-use Rattle.mc_weave.specs.declared.log.PartLog.{PartLog}
-use Rattle.mc_weave.proofs.Fitting.{kept_logs_fit}
-use Rattle.mc_cut.specs.Cuts.{layout_of, members, part_numbers}
-use Rattle.mc_cut.proofs.Filling.{none_past_parts}
 use Rattle.mc_part.specs.Networks.{HaveRun, states_of, tables_at}
-use Rattle.mc_part.specs.Parts.{IsWithin, Runs, shifts_of, state_of, tables_of}
+use Rattle.mc_part.specs.Parts.{Runs, shifts_of}
 use Rattle.mc_part.specs.Phases.{EachChanged, EachOf, HasEnded, HasGone, HaveGone, IsReady}
-use Rattle.mc_part.specs.Running.{AreCalm, AreCalmFrom, HasRoom, owed_of}
+use Rattle.mc_part.specs.Running.{HasRoom, owed_of}
 use Rattle.mc_part.specs.declared.limit.TheConstants.{STAMP_LIMIT}
 use Rattle.mc_part.specs.declared.part.Part.{Part}
 use Rattle.mc_part.specs.declared.part_run.PartRun.{PartRun}
-use Rattle.mc_network.specs.Networks.{IsCutNetwork, IsIdle, IsJoined, base_of, channels_of, crossings_of, network_layout, states_among, tables_among, turn_budget}
-use Rattle.mc_network.specs.Phasing.{AreApart, AreChosen, CarriesOver, HasMemory, IsCarryable, IsChosen, IsSameRun, logs_in}
+use Rattle.mc_network.specs.Networks.{IsCutNetwork, IsIdle, IsJoined, base_of, channels_of, crossings_of, network_layout, tables_among, turn_budget}
+use Rattle.mc_network.specs.Phasing.{AreApart, AreChosen, HasMemory, IsCarryable, IsChosen, IsSameRun, logs_in}
 use Rattle.mc_network.specs.declared.network.Crossing.{Crossing}
 use Rattle.mc_network.specs.declared.network.CutNetwork.{CutNetwork}
 use Rattle.mc_network.proofs.Carryable.{carryable}
 use Rattle.mc_network.proofs.Crossings.{IsRoute, are_apart, route_of}
-use Rattle.mc_network.proofs.Lists.{one_of, there_at}
-use Rattle.mc_network.proofs.PartsBy.{by_part, empty_part, have_run, part_is, part_past, parts_by, ran_one, run_there, states_are, tables_are}
+use Rattle.mc_network.proofs.Lists.{one_of}
+use Rattle.mc_network.proofs.PartsBy.{have_run, parts_by, ran_one, run_there, states_are, tables_are}
 use Rattle.mc_network.proofs.Drained.{HaveWays}
 use Rattle.mc_network.proofs.Ways.{AreLaid, way_back, way_there}
 

@@ -1,5 +1,5 @@
 -- Channels by part, counted as they come.
-use Rattle.std.proofs.Common.{◌≡◌, ◌<◌, ◌≤◌, ◌+◌, ◌*◌, ◌^◌, ◌⊎◌, ◌&&◌, ◌==◌, not, inl, inr, if◌then◌else◌, All, Bool, true, false, ℕ, zero, suc, List, [], ◌∷◌, ◌++◌, filter, length, get_or, set, take, take_all, replicate, refl, ap, ap₂, sym, ◌∙◌, subst, arith, eq-eqb, eqb-true, ne_eqb, true≢false, length-set, get_or-set_same, get_or-set_other}
+use Rattle.std.proofs.Common.{◌≡◌, ◌<◌, ◌≤◌, ◌+◌, ◌^◌, ◌⊎◌, ◌&&◌, ◌==◌, not, inl, inr, if◌then◌else◌, All, Bool, true, false, ℕ, zero, suc, List, [], ◌∷◌, filter, length, get_or, set, take, take_all, replicate, refl, ap, ap₂, sym, ◌∙◌, subst, arith, eq-eqb, ne_eqb, true≢false, length-set, get_or-set_same, get_or-set_other}
 use Rattle.std.proofs.lemmas.Bool.{cases_eq}
 use Rattle.std.proofs.lemmas.List.{get_or-replicate, length-replicate}
 use Rattle.mc_cut.specs.Cuts.{is_crossing, is_inner, is_part, part_of, place_in, rank}

@@ -1,33 +1,28 @@
 -- What a phase has played, and what its parts keep for the next one.
-use Rattle.std.proofs.Common.{◌≡◌, ◌≢◌, ◌⊎◌, inl, inr, ◌==◌, ◌&&◌, ◌<◌, ◌≤◌, ◌+◌, if◌then◌else◌, Bool, true, false, ℕ, zero, suc, nat_lt, IsTrue, Some, None, Option, List, [], ◌∷◌, ◌++◌, drop, filter, length, map, get_or, slice_get, Result, Ok, Err, refl, ap, ap₂, sym, ◌∙◌, subst, arith, true≢false, Vec, Global, eq-eqb}
+use Rattle.std.proofs.Common.{◌≡◌, inl, inr, ◌==◌, ◌&&◌, ◌<◌, if◌then◌else◌, Bool, true, false, ℕ, nat_lt, IsTrue, Some, None, Option, List, [], ◌∷◌, ◌++◌, drop, length, map, get_or, slice_get, Result, Ok, Err, refl, ap, sym, ◌∙◌, subst, arith, true≢false, Vec, Global, eq-eqb}
 use Rattle.std.specs.List.{AllByRecursion}
-use Rattle.std.proofs.Math.Path.{fun_ext}
-use Rattle.std.proofs.lemmas.Bool.{cases_lt, eqb-true, ltb-true}
-use Rattle.std.proofs.lemmas.List.{get_or_past}
+use Rattle.std.proofs.lemmas.Bool.{eqb-true, ltb-true}
 use Rattle.std.proofs.lemmas.List.FromFn.{get_or-map-range_with_len, length-map-range_with_len}
 use Rattle.std.proofs.lemmas.Option.{get_or_from_slice_get, slice_get_within}
-use Rattle.mc_box.specs.BoxEvents.{is_enabled}
 use Rattle.mc_box.specs.BoxShapes.{box_shape, is_enabled_by}
 use Rattle.mc_box.specs.BoxSound.{IsSoundBox}
 use Rattle.mc_box.specs.Boxes.{BoxState, no_box}
 use Rattle.mc_box.specs.declared.event.Event.{Event}
-use Rattle.mc_box.specs.declared.event.Event.TheVariants.{Shift}
 use Rattle.mc_box.specs.declared.event.Turn.{Turn}
-use Rattle.mc_box.specs.declared.limit.TheConstants.{SHIFT_LIMIT}
 use Rattle.mc_model.specs.Shapes.{is_allowed}
-use Rattle.mc_model.specs.Worlds.{WorldState, box_at}
+use Rattle.mc_model.specs.Worlds.{box_at}
 use Rattle.mc_weave.specs.Account.{PartState, part_box}
 use Rattle.mc_weave.specs.Logs.{own_log}
-use Rattle.mc_weave.specs.Phases.{Layout, PlaysPhase, box_in, stands_for}
+use Rattle.mc_weave.specs.Phases.{PlaysPhase, box_in}
 use Rattle.mc_weave.specs.Weaving.{clock_at, clocks_of, log_at, numbers_of, turn_in}
 use Rattle.mc_weave.specs.Wholes.{numbers_in}
 use Rattle.mc_weave.specs.declared.log.Made.{Made}
 use Rattle.mc_weave.specs.declared.log.PartLog.{PartLog}
-use Rattle.mc_cut.specs.Cuts.{home_at, part_of}
-use Rattle.mc_part.specs.Networks.{AreLogs, HaveRun, LeadsAcross, shifts_in, states_of, stimuli_in, tables_at, world_by}
-use Rattle.mc_part.specs.Parts.{IsWithin, Runs, events_for, shifts_of, state_of, stimuli_of, tables_of}
-use Rattle.mc_part.specs.Phases.{EachChanged, EachOf, HasEnded, HasGone}
-use Rattle.mc_part.specs.Running.{AreCalm, EndsAs, HasBegun, IsCalm, owed_of}
+use Rattle.mc_cut.specs.Cuts.{home_at}
+use Rattle.mc_part.specs.Networks.{AreLogs, shifts_in, stimuli_in, world_by}
+use Rattle.mc_part.specs.Parts.{Runs, events_for, shifts_of, state_of, stimuli_of}
+use Rattle.mc_part.specs.Phases.{EachOf, HasEnded, HasGone}
+use Rattle.mc_part.specs.Running.{AreCalm, EndsAs, owed_of}
 use Rattle.mc_part.specs.declared.part.Part.{Part}
 use Rattle.mc_part.specs.declared.part_run.PartRun.{PartRun}
 use Rattle.mc_part.specs.declared.stop.Ended.{Ended}
@@ -35,15 +30,15 @@ use Rattle.mc_part.specs.declared.stop.Ended.TheVariants.{Late, Rest}
 use Rattle.mc_part.specs.declared.stop.PartStop.{PartStop}
 use Rattle.mc_part.proofs.Calm.{calm_as}
 use Rattle.mc_part.proofs.Networks.{parts_play}
-use Rattle.mc_network.specs.Networks.{IsCutNetwork, IsIdle, ShareClock, base_of, crossings_of, network_layout, network_state, shifts_among, states_among, stimuli_among, world_in}
+use Rattle.mc_network.specs.Networks.{IsCutNetwork, ShareClock, base_of, network_layout, states_among, world_in}
 use Rattle.mc_network.specs.Phasing.{EndsCalm, IsChosen, IsClosed, logs_in}
 use Rattle.mc_network.specs.declared.network.Crossing.{Crossing}
 use Rattle.mc_network.specs.declared.network.CutNetwork.{CutNetwork}
-use Rattle.mc_network.proofs.Closed.{ClosedAt, Phased, carried_over, closed_at, closed_count, homes_in, opened_at, parts_of}
+use Rattle.mc_network.proofs.Closed.{ClosedAt, Phased, carried_over, closed_at, homes_in, opened_at, parts_of}
 use Rattle.mc_network.proofs.Drained.{IsLike}
-use Rattle.mc_network.proofs.Lists.{one_of, there_at}
-use Rattle.mc_network.proofs.PartsBy.{by_map, by_part, by_parts, empty_part, part_in, part_is, parts_by, run_there, states_are}
-use Rattle.mc_network.proofs.Phased.{HasNone, RanAt, Went, laid_of, none_of, ran_at, same_logs, went_run}
+use Rattle.mc_network.proofs.Lists.{one_of}
+use Rattle.mc_network.proofs.PartsBy.{by_map, by_part, empty_part, part_in, part_is, parts_by, run_there, states_are}
+use Rattle.mc_network.proofs.Phased.{HasNone, laid_of, none_of, same_logs, went_run}
 use Rattle.mc_network.proofs.Shapes.{made_same}
 use Rattle.mc_network.proofs.Ways.{IsAcross, across_of}
 

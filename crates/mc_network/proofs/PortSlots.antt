@@ -1,5 +1,5 @@
 -- The slots at which tunnels come in by a port, and of its place holder those at which they go out.
-use Rattle.std.proofs.Common.{◌≡◌, ◌<◌, ◌≤◌, ◌+◌, ◌*◌, ◌/◌, ◌%◌, inl, inr, not, if◌then◌else◌, Bool, true, false, ℕ, zero, suc, Some, List, [], length, get_or, position, refl, ap, ap₂, sym, ◌∙◌, subst, arith, true≢false, eqb-true}
+use Rattle.std.proofs.Common.{◌≡◌, ◌<◌, ◌+◌, ◌*◌, ◌/◌, ◌%◌, inl, inr, not, if◌then◌else◌, Bool, true, false, ℕ, zero, suc, Some, List, [], length, get_or, refl, ap, ap₂, sym, ◌∙◌, subst, arith, true≢false, eqb-true}
 use Rattle.std.proofs.lemmas.Option.{get_or_from_slice_get, slice_get-get_or}
 use Rattle.std.specs.List.{slice_get}
 use Rattle.mc_cut.specs.Cuts.{channel_in, channels_in, home_at, is_crossing, is_part, members, part_of, place_in}
@@ -10,7 +10,7 @@ use Rattle.mc_cut.proofs.Placed.{placed_at, place_apart, tunnel_count}
 use Rattle.mc_cut.proofs.Same.{chosen, either, here_number, other_one}
 use Rattle.mc_cut.proofs.Slots.{end_on, slot_on}
 use Rattle.mc_merge.specs.Lanes.{absent_channel}
-use Rattle.mc_model.specs.Worlds.{AreChannels, ChannelState, WorldState, is_place, no_tunnel, place, places_among, slot_count, tunnels_from}
+use Rattle.mc_model.specs.Worlds.{AreChannels, ChannelState, WorldState, no_tunnel, places_among, tunnels_from}
 use Rattle.mc_model.specs.declared.channel.Tunnel.{Tunnel}
 use Rattle.mc_network.specs.Laying.{first_slot}
 use Rattle.mc_network.proofs.FirstSlots.{IsSlotOf, leads_there, leads_to_slots, slot_there}

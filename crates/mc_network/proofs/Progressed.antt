@@ -1,9 +1,9 @@
 -- Where something was to do a turn was made, and a command used up.
-use Rattle.std.proofs.Common.{◌≡◌, ◌≢◌, ◌⊎◌, inl, inr, ◌&&◌, ◌<◌, ◌≤◌, ◌+◌, ◌*◌, if◌then◌else◌, Bool, true, false, ℕ, zero, suc, nat_lt, IsTrue, IfSome, Some, None, Option, List, [], ◌∷◌, ◌++◌, drop, length, map, get_or, slice_get, Result, Ok, Err, refl, ap, sym, ◌∙◌, subst, arith, true≢false, Vec, Global}
+use Rattle.std.proofs.Common.{◌≡◌, ◌≢◌, inl, inr, ◌&&◌, ◌<◌, ◌≤◌, ◌*◌, if◌then◌else◌, Bool, true, false, ℕ, nat_lt, IsTrue, Some, None, Option, List, [], ◌∷◌, drop, length, map, get_or, slice_get, Result, Ok, Err, refl, ap, sym, ◌∙◌, subst, arith, true≢false, Vec, Global}
 use Rattle.std.specs.List.{AllByRecursion}
 use Rattle.std.specs.Option.{option_map}
 use Rattle.std.proofs.lemmas.Bool.{and_parts, cases_lt, lt-ltb, ltb-true}
-use Rattle.std.proofs.lemmas.List.{get_or_past, length-map}
+use Rattle.std.proofs.lemmas.List.{get_or_past}
 use Rattle.std.proofs.lemmas.List.FromFn.{get_or-map-range_with_len, length-map-range_with_len}
 use Rattle.std.proofs.lemmas.Option.{slice_get_within}
 use Rattle.mc_box.specs.BoxEvents.{BoxStep, box_event, is_enabled, is_version_end, turn_of}
@@ -13,26 +13,23 @@ use Rattle.mc_box.specs.declared.event.Event.{Event}
 use Rattle.mc_box.specs.declared.event.Event.TheVariants.{Media, Shift}
 use Rattle.mc_box.specs.declared.event.MediaChange.TheVariants.{Hear}
 use Rattle.mc_box.specs.declared.event.Turn.{Turn}
-use Rattle.mc_box.specs.declared.limit.TheConstants.{SHIFT_LIMIT, SLOT_LIMIT}
-use Rattle.mc_model.specs.Settles.{is_quiet, world_owes}
+use Rattle.mc_box.specs.declared.limit.TheConstants.{SLOT_LIMIT}
 use Rattle.mc_model.specs.Shapes.{is_allowed}
-use Rattle.mc_model.specs.Steps.{after_making, ends_version, ends_version_at, step}
+use Rattle.mc_model.specs.Steps.{after_making, ends_version_at}
 use Rattle.mc_model.specs.Worlds.{WorldState, box_at}
 use Rattle.mc_weave.specs.Account.{PartState, part_box}
-use Rattle.mc_weave.specs.Phases.{box_in, stands_for}
+use Rattle.mc_weave.specs.Phases.{box_in}
 use Rattle.mc_weave.specs.Weaving.{log_at, numbers_of, of_part, turn_in}
 use Rattle.mc_weave.specs.Wholes.{numbers_in}
 use Rattle.mc_weave.specs.declared.log.Made.{Made}
 use Rattle.mc_weave.specs.declared.log.PartLog.{PartLog}
 use Rattle.mc_world.specs.StepAnswers.{LacksVersion}
-use Rattle.mc_world.specs.Waiting.{take_waits}
 use Rattle.mc_cut.specs.Cuts.{home_at}
-use Rattle.mc_part.specs.Networks.{HaveHomes, states_of}
-use Rattle.mc_part.specs.Parts.{events_for, shifts_of, state_of, stimuli_of}
+use Rattle.mc_part.specs.Networks.{HaveHomes}
+use Rattle.mc_part.specs.Parts.{shifts_of, state_of, stimuli_of}
 use Rattle.mc_part.specs.Phases.{EachOf, HasEnded, HasGone}
-use Rattle.mc_part.specs.Running.{AreCalm, EndsAs, IsCalm, IsToCommand, MakesSome, MayShift, MeetsVersionEnd, Progresses, UsesAs, UsesCommand, UsesFirst, UsesTo, next_command, owed_of}
+use Rattle.mc_part.specs.Running.{AreCalm, EndsAs, IsToCommand, MakesSome, MeetsVersionEnd, Progresses, UsesAs, UsesCommand, UsesFirst, owed_of}
 use Rattle.mc_part.specs.Running.{HasWork as HasPartWork}
-use Rattle.mc_part.specs.declared.limit.TheConstants.{STAMP_LIMIT}
 use Rattle.mc_part.specs.declared.part.Part.{Part}
 use Rattle.mc_part.specs.declared.part_run.PartRun.{PartRun}
 use Rattle.mc_part.specs.declared.stop.Ended.{Ended}
@@ -40,15 +37,15 @@ use Rattle.mc_part.specs.declared.stop.PartStop.{PartStop}
 use Rattle.mc_part.specs.declared.stop.PartStop.TheVariants.{NoMemory, Spent, VersionEnd, Unable, Strange, Stray}
 use Rattle.mc_part.proofs.Progress.{still_may}
 use Rattle.mc_part.proofs.Uses.{next_is_first}
-use Rattle.mc_network.specs.Networks.{IsCutNetwork, IsIdle, base_of, network_layout, network_state, states_among, turn_budget, world_in}
-use Rattle.mc_network.specs.Phasing.{EndAs, EndsWell, HasNothing, IsChosen, StopsAtLast, logs_in}
-use Rattle.mc_network.specs.States.{HasCommands, HasWork, IsAtLast, UsesOne}
+use Rattle.mc_network.specs.Networks.{IsCutNetwork, base_of, network_layout, network_state, states_among, turn_budget, world_in}
+use Rattle.mc_network.specs.Phasing.{EndsWell, HasNothing, IsChosen, StopsAtLast, logs_in}
+use Rattle.mc_network.specs.States.{HasCommands, IsAtLast, UsesOne}
 use Rattle.mc_network.specs.declared.network.CutNetwork.{CutNetwork}
 use Rattle.mc_network.proofs.Closed.{ClosedAt, Phased, closed_at, homes_in, opened_at}
 use Rattle.mc_network.proofs.Drained.{IsLike}
 use Rattle.mc_network.proofs.Lists.{one_of}
 use Rattle.mc_network.proofs.PartsBy.{by_map, empty_part, part_in, part_is, parts_by, run_there, states_are, unasked}
-use Rattle.mc_network.proofs.Phased.{HasNone, RanAt, Went, none_of, ran_at, same_logs}
+use Rattle.mc_network.proofs.Phased.{RanAt, none_of, ran_at, same_logs}
 use Rattle.mc_network.proofs.PhaseTurns.{home_inside, shifts_are, stimuli_are}
 use Rattle.mc_network.proofs.Played.{by_boxes, keeps_counts, same_stimuli}
 

@@ -1,5 +1,5 @@
 -- A network whose parts have other commands, or counts of Shifts, and are the same else.
-use Rattle.std.proofs.Common.{◌≡◌, ◌≢◌, ◌<◌, ◌≤◌, ◌*◌, Bool, ℕ, All, IsTrue, Some, List, [], drop, length, map, get_or, slice_get, refl, ap, sym, ◌∙◌, subst, Vec, Global}
+use Rattle.std.proofs.Common.{◌≡◌, ◌<◌, ◌≤◌, ◌*◌, Bool, ℕ, All, IsTrue, Some, List, [], drop, length, map, get_or, slice_get, ap, sym, ◌∙◌, subst, Vec, Global}
 use Rattle.std.specs.List.{AllByRecursion}
 use Rattle.std.proofs.lemmas.Option.{slice_get_within}
 use Rattle.mc_box.specs.declared.event.Turn.{Turn}
@@ -7,13 +7,12 @@ use Rattle.mc_box.specs.declared.limit.TheConstants.{SLOT_LIMIT}
 use Rattle.mc_model.specs.Shapes.{is_allowed}
 use Rattle.mc_model.specs.Sound.{IsSound}
 use Rattle.mc_model.specs.Worlds.{WorldState}
-use Rattle.mc_port.specs.Ends.{given, received}
 use Rattle.mc_weave.specs.Account.{PartState}
 use Rattle.mc_weave.specs.Phases.{AreEmptied, IsLayout, stands_for}
 use Rattle.mc_weave.specs.declared.log.Made.{Made}
 use Rattle.mc_cut.specs.Cuts.{part_numbers}
 use Rattle.mc_lane.specs.Queue.{Queue}
-use Rattle.mc_part.specs.Parts.{IsWithin, LeadsAway, state_of, tables_of}
+use Rattle.mc_part.specs.Parts.{IsWithin, state_of, tables_of}
 use Rattle.mc_part.specs.Phases.{EachOf}
 use Rattle.mc_part.specs.Ports.{LeadAway, rings_of, sides}
 use Rattle.mc_part.specs.Running.{AreCalm}
@@ -22,10 +21,8 @@ use Rattle.mc_part.specs.declared.part_run.PartRun.{PartRun}
 use Rattle.mc_part.specs.declared.port.Port.{Port}
 use Rattle.mc_network.specs.Networks.{AreJoined, IsCutNetwork, IsIdle, IsJoined, base_of, network_layout, no_part, no_tables, states_among, tables_among, turn_budget, world_in}
 use Rattle.mc_network.specs.Commanding.{AreRecommanded, IsRecommanded}
-use Rattle.mc_network.specs.declared.network.Crossing.{Crossing}
 use Rattle.mc_network.specs.declared.network.CutNetwork.{CutNetwork}
 use Rattle.mc_network.proofs.Finished.{KeepsPorts, joined_after}
-use Rattle.mc_network.proofs.Lists.{there_at}
 use Rattle.mc_network.proofs.PartsBy.{run_there}
 use Rattle.mc_network.proofs.Swapped.{maps_same}
 

@@ -1,29 +1,23 @@
 -- What an event leaves of a box: its shape.
-use Rattle.std.proofs.Common.{◌≡◌, ◌≢◌, ◌==◌, ℕ, ◌<◌, Bool, true, if◌then◌else◌, is_some, Option, Some, None, List, [], ◌∷◌, length, map, refl, ap, sym, ◌∙◌, subst, arith}
-use Rattle.std.specs.List.{AllByRecursion}
-use Rattle.std.proofs.Math.ListN.{length-set}
-use Rattle.std.proofs.lemmas.Bool.{and_parts}
+use Rattle.std.proofs.Common.{◌≡◌, ◌==◌, ℕ, ◌<◌, Bool, if◌then◌else◌, is_some, Option, Some, None, List, [], ◌∷◌, length, map, refl, ap, sym, ◌∙◌, subst, arith}
 use Rattle.std.proofs.lemmas.Grind.{common_steps}
-use Rattle.std.proofs.lemmas.List.{ext_get_or, get_or-set_other, length-map}
+use Rattle.std.proofs.lemmas.List.{ext_get_or, length-map}
 use Rattle.mc_signal.specs.declared.Medium.{Medium}
 use Rattle.mc_signal.specs.declared.Medium.TheVariants.{Audio}
 use Rattle.mc_signal.specs.declared.Signal.{Signal}
-use Rattle.mc_slot.specs.declared.Cause.TheVariants.{Push}
 use Rattle.mc_slot.specs.declared.Slot.{Slot}
-use Rattle.mc_slot.specs.declared.SlotGoal.{SlotGoal}
-use Rattle.mc_slot.specs.declared.SlotGoal.TheVariants.{End, Link}
 use Rattle.mc_tunnel.proofs.Steps.{took_medium}
 use Rattle.mc_box.specs.Acting.{Acted, BoxActs, sends, takes}
-use Rattle.mc_box.specs.BoxEvents.{BoxStep, box_event, goal_step_by, is_enabled}
+use Rattle.mc_box.specs.BoxEvents.{BoxStep, box_event}
 use Rattle.mc_box.specs.BoxShapes.{box_shape}
 use Rattle.mc_box.specs.BoxSound.{IsSoundBox}
-use Rattle.mc_box.specs.Boxes.{BoxState, box_owes, goal_at, is_slot, no_slot, slot_at, slot_owes, with_slot}
+use Rattle.mc_box.specs.Boxes.{BoxState}
 use Rattle.mc_box.specs.declared.event.Event.{Event}
 use Rattle.mc_box.specs.declared.event.Event.TheVariants.{Take, Set, Media, Tell, Retry, Shift}
 use Rattle.mc_box.specs.declared.event.Kind.{Kind}
 use Rattle.mc_box.proofs.EventActs.{event_acts, take_acts}
-use Rattle.mc_box.proofs.Events.{event_goes, event_keeps_sound}
-use Rattle.mc_box.proofs.GoalTurns.{all_medium, end_form}
+use Rattle.mc_box.proofs.Events.{event_keeps_sound}
+use Rattle.mc_box.proofs.GoalTurns.{all_medium}
 use Rattle.mc_box.proofs.ShapeEnables.{medium_of}
 use Rattle.mc_log.specs.Entries.{AreMade, Entry, signal_in}
 

@@ -1,14 +1,13 @@
 -- The boxes, channels and lanes of a sound world.
-use Rattle.std.proofs.Common.{◌≡◌, ◌<◌, ◌≤◌, ◌+◌, ◌*◌, ◌/◌, ◌%◌, ℕ, Some, List, [], ◌∷◌, length, get_or, replicate, refl, ap, sym, ◌∙◌, subst, arith}
+use Rattle.std.proofs.Common.{◌≡◌, ◌<◌, ◌+◌, ◌*◌, ◌/◌, ◌%◌, ℕ, List, [], ◌∷◌, length, get_or, ap, sym, ◌∙◌, subst, arith}
 use Rattle.std.proofs.lemmas.List.{length-replicate}
 use Rattle.std.proofs.lemmas.Option.{get_or_from_slice_get, slice_get_within}
-use Rattle.std.specs.List.{AllByRecursion, slice_get}
 use Rattle.mc_box.specs.Boxes.{BoxState}
 use Rattle.mc_cut.proofs.Slots.{Standing, standing}
 use Rattle.mc_merge.specs.Lanes.{absent_channel}
 use Rattle.mc_model.specs.Served.{AllServed, IsFor}
 use Rattle.mc_model.specs.Sound.{IsNumbered, IsSound}
-use Rattle.mc_model.specs.Worlds.{AreChannels, ChannelState, WorldState, first_world, no_tunnel, tunnels_from}
+use Rattle.mc_model.specs.Worlds.{AreChannels, ChannelState, first_world, no_tunnel, tunnels_from}
 use Rattle.mc_network.specs.Laying.{AreWhole}
 use Rattle.mc_network.proofs.LaidOut.{world_of}
 use Rattle.mc_part.specs.Carrying.{AreFor}

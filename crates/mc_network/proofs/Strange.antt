@@ -1,5 +1,5 @@
 -- No part's run stops at a signal that its slot must not take.
-use Rattle.std.proofs.Common.{◌≡◌, ◌≢◌, ◌==◌, ◌<◌, ◌+◌, ◌*◌, if◌then◌else◌, Bool, true, false, ℕ, nat_lt, Some, None, Option, IsSome, List, [], ◌∷◌, get_or, length, slice_get, refl, ap, sym, ◌∙◌, subst, arith, true≢false, Vec, Global}
+use Rattle.std.proofs.Common.{◌≡◌, ◌==◌, ◌<◌, ◌+◌, ◌*◌, if◌then◌else◌, Bool, true, false, ℕ, nat_lt, Some, None, Option, IsSome, List, [], ◌∷◌, get_or, length, slice_get, refl, ap, sym, ◌∙◌, subst, arith, true≢false, Vec, Global}
 use Rattle.std.specs.Option.{is_some, option_and_then, option_map}
 use Rattle.std.proofs.lemmas.Bool.{eqb-true, lt-ltb}
 use Rattle.std.proofs.lemmas.List.{length-replicate}

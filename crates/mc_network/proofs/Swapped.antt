@@ -1,18 +1,16 @@
 -- Logs are given away, merged and taken back.
-use Rattle.std.proofs.Common.{◌≡◌, inl, inr, ◌<◌, ◌≤◌, ◌+◌, ◌++◌, ◌^◌, ℕ, zero, suc, Some, None, Option, List, [], ◌∷◌, length, map, get_or, slice_get, slice_set, refl, ap, ap₂, sym, ◌∙◌, subst, arith}
-use Rattle.std.specs.Option.{option_map}
+use Rattle.std.proofs.Common.{◌≡◌, inl, inr, ◌<◌, ◌≤◌, ◌+◌, ◌++◌, ℕ, zero, suc, Some, List, [], ◌∷◌, length, map, slice_get, slice_set, refl, ap, ap₂, sym, ◌∙◌, subst, arith}
 use Rattle.std.proofs.lemmas.Bool.{cases_lt}
 use Rattle.std.proofs.lemmas.List.{length-map}
-use Rattle.std.proofs.lemmas.Option.{slice_get-map, slice_get_past, slice_get_within}
+use Rattle.std.proofs.lemmas.Option.{slice_get_within}
 use Rattle.mc_box.specs.declared.event.Turn.{Turn}
-use Rattle.mc_weave.specs.Weaving.{AddsMerged, AreClimbing, AreKnown, AreWoven, IsKnown, clock_at, clocks_of, entry_count, log_at, logs_of, numbers_at, numbers_of, turn_in}
+use Rattle.mc_weave.specs.Weaving.{AddsMerged, AreKnown, AreWoven, IsKnown, clock_at, clocks_of, log_at, logs_of, numbers_at, numbers_of, turn_in}
 use Rattle.mc_weave.specs.declared.log.Made.{Made}
 use Rattle.mc_weave.specs.declared.log.PartLog.{PartLog}
-use Rattle.mc_part.specs.Phases.{EachChanged}
 use Rattle.mc_part.specs.declared.part_run.PartRun.{PartRun}
 use Rattle.mc_network.specs.Phasing.{HaveMerged, IsClosed, logs_in}
 use Rattle.mc_network.specs.Swapping.{HavePairs, closed_run, swapped_log, swapped_run}
-use Rattle.mc_network.proofs.Lists.{get_other, one_of, same_or_not, set_here, set_length, there_at}
+use Rattle.mc_network.proofs.Lists.{get_other, one_of, same_or_not, set_here, set_length}
 
 -- ---- the loop
 

@@ -1,11 +1,9 @@
 -- What a part is laid out of fits together.
-use Rattle.std.proofs.Common.{◌≡◌, ◌<◌, ◌≤◌, ◌+◌, ◌*◌, All, filter, ℕ, Some, List, [], length, get_or, map, take, take_all, position, refl, ap, ap₂, sym, ◌∙◌, subst, arith}
+use Rattle.std.proofs.Common.{◌≡◌, ◌<◌, ◌≤◌, ◌+◌, All, filter, ℕ, Some, List, [], length, get_or, take_all, position, ap, ap₂, sym, ◌∙◌, subst, arith}
 use Rattle.std.proofs.lemmas.List.{length-map}
 use Rattle.std.proofs.lemmas.List.FromFn.{get_or-map-range_with_len}
 use Rattle.std.proofs.lemmas.Option.{same_Some}
-use Rattle.std.specs.List.{range_with_len}
-use Rattle.mc_box.specs.Boxes.{BoxState, no_box}
-use Rattle.mc_box.specs.declared.limit.TheConstants.{SLOT_LIMIT}
+use Rattle.mc_box.specs.Boxes.{BoxState}
 use Rattle.mc_cut.specs.CutLaws.{HaveNumbers, homes_in, slots_at}
 use Rattle.mc_cut.specs.Cuts.{boxes_in, channels_in, first_part, is_crossing, members, starts_in, tables_in}
 use Rattle.mc_cut.specs.Cutting.{HasBoxes, count_of, share_of, shares_of}

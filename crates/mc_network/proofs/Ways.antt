@@ -1,15 +1,14 @@
 -- The lanes of the network that cross, by the ports of the parts at their ends.
-use Rattle.std.proofs.Common.{◌≡◌, ◌≢◌, ◌⊎◌, inl, inr, ◌==◌, ◌<◌, ◌≤◌, ◌+◌, ◌*◌, ◌-◌, ◌/◌, ◌%◌, not, if◌then◌else◌, Bool, true, false, ℕ, zero, suc, Some, None, Option, List, [], length, map, get_or, slice_get, refl, ap, sym, ◌∙◌, subst, arith, true≢false, eq-eqb}
+use Rattle.std.proofs.Common.{◌≡◌, ◌⊎◌, inl, inr, ◌==◌, ◌<◌, ◌≤◌, ◌+◌, ◌*◌, ◌-◌, ◌/◌, ◌%◌, not, if◌then◌else◌, Bool, true, false, ℕ, zero, suc, Some, Option, List, [], length, map, get_or, slice_get, refl, ap, sym, ◌∙◌, subst, arith, true≢false, eq-eqb}
 use Rattle.std.specs.Option.{option_map}
 use Rattle.std.proofs.lemmas.Bool.{eqb-true}
 use Rattle.std.proofs.lemmas.Option.{get_or_from_slice_get, slice_get-map, slice_get_within}
 use Rattle.mc_merge.specs.Lanes.{absent_channel, leads_from, leads_to}
 use Rattle.mc_model.specs.Worlds.{ChannelState, WorldState}
 use Rattle.mc_port.specs.Ends.{given, received}
-use Rattle.mc_port.specs.declared.stamped.Stamped.{Stamped}
 use Rattle.mc_weave.specs.Account.{PartState, part_lane}
 use Rattle.mc_weave.specs.Phases.{IsApart, IsLayout, Layout, SendsAt, TakesAt, before_ring, lane_in}
-use Rattle.mc_cut.specs.Cuts.{is_part, layout_of, part_of, place_in, rank}
+use Rattle.mc_cut.specs.Cuts.{is_part, layout_of, part_of, place_in}
 use Rattle.mc_cut.proofs.Slots.{end_on}
 use Rattle.mc_part.specs.Carrying.{lane_at, waiting_at}
 use Rattle.mc_part.specs.Networks.{HaveRun, LeadsAcross, given_on, received_on, states_of, tables_at}

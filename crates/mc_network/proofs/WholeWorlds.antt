@@ -1,6 +1,5 @@
 -- The world that the parts of a network stand for, as it is put together.
-use Rattle.std.proofs.Common.{◌≡◌, ◌<◌, ◌≤◌, ◌+◌, ◌-◌, ◌*◌, ◌/◌, ◌%◌, ◌++◌, All, ℕ, zero, suc, List, [], ◌∷◌, inl, inr, length, map, get_or, refl, ap, ap₂, sym, ◌∙◌, subst, arith, length-append}
-use Rattle.std.specs.List.{range_with_len}
+use Rattle.std.proofs.Common.{◌≡◌, ◌<◌, ◌+◌, ◌-◌, ◌*◌, ◌/◌, ◌%◌, All, ℕ, zero, suc, List, [], ◌∷◌, inl, inr, length, map, get_or, refl, ap, ap₂, sym, ◌∙◌, subst, arith, length-append}
 use Rattle.std.specs.declared.alloc.Global.{Global}
 use Rattle.std.specs.declared.vec.Vec.{Vec}
 use Rattle.std.proofs.Math.ListN.{get_or-append}
@@ -8,24 +7,24 @@ use Rattle.std.proofs.lemmas.Bool.{cases_lt}
 use Rattle.std.proofs.lemmas.List.{get_or-append_right, length-map, length-replicate}
 use Rattle.std.proofs.lemmas.List.FromFn.{fill_by_all}
 use Rattle.mc_box.specs.Boxes.{BoxState, no_box}
-use Rattle.mc_cut.specs.Cuts.{boxes_in, home_at, members, part_of, place_in}
-use Rattle.mc_cut.specs.Cutting.{AreShared, HasBoxes, HasShares, shares_of}
+use Rattle.mc_cut.specs.Cuts.{boxes_in, members, part_of, place_in}
+use Rattle.mc_cut.specs.Cutting.{AreShared, HasBoxes, HasShares}
 use Rattle.mc_cut.proofs.Layouts.{to_there}
 use Rattle.mc_cut.proofs.Leads.{channels_have_boxes}
 use Rattle.mc_cut.proofs.Members.{IsMember, member_here}
 use Rattle.mc_cut.proofs.Shares.{shares_are_boxes}
 use Rattle.mc_lane.specs.Queue.{Queue}
-use Rattle.mc_merge.specs.Lanes.{absent_channel, leads_to}
+use Rattle.mc_merge.specs.Lanes.{leads_to}
 use Rattle.mc_model.specs.Worlds.{ChannelState, WorldState, box_at}
 use Rattle.mc_network.specs.Networks.{IsCutNetwork, base_of, channels_of, network_layout, no_part, states_among, world_in}
 use Rattle.mc_network.specs.Whole.{boxes_among, end_part, lane_by, lanes_among, lanes_by, lanes_of, lanes_upto}
 use Rattle.mc_network.specs.declared.network.CutNetwork.{CutNetwork}
-use Rattle.mc_network.proofs.NetworkBoxes.{base_count, box_count, box_there}
+use Rattle.mc_network.proofs.NetworkBoxes.{box_count, box_there}
 use Rattle.mc_part.specs.Parts.{state_of}
 use Rattle.mc_part.specs.declared.part_run.PartRun.{PartRun}
 use Rattle.mc_signal.specs.declared.Tagged.{Tagged}
 use Rattle.mc_weave.specs.Account.{PartState, part_box, part_lane}
-use Rattle.mc_weave.specs.Phases.{box_in, lane_in}
+use Rattle.mc_weave.specs.Phases.{lane_in}
 
 -- ---- lists
 

@@ -1,19 +1,17 @@
 -- The ports of one channel more.
-use Rattle.std.proofs.Common.{◌≡◌, ◌≢◌, ◌<◌, ◌≤◌, ◌+◌, ◌&&◌, ◌==◌, inl, inr, not, if◌then◌else◌, All, Bool, true, false, cond, filter, ℕ, zero, suc, Some, List, [], ◌∷◌, ◌++◌, append-nil, length, length-append, length-set, length-take-le, get_or, get_or-set_same, get_or-set_other, map, set, take, replicate, refl, ap, ap₂, sym, ◌∙◌, subst, arith, true≢false, eq-eqb, eqb-true, ne_eqb}
+use Rattle.std.proofs.Common.{◌≡◌, ◌≢◌, ◌<◌, ◌≤◌, ◌+◌, ◌==◌, inl, inr, not, if◌then◌else◌, All, Bool, true, false, cond, filter, ℕ, zero, suc, Some, List, [], ◌∷◌, ◌++◌, append-nil, length, length-set, length-take-le, get_or, get_or-set_same, get_or-set_other, map, take, replicate, refl, ap, ap₂, sym, ◌∙◌, subst, arith, true≢false, eq-eqb, eqb-true, ne_eqb}
 use Rattle.std.proofs.lemmas.Bool.{cases_eq, cases_lt}
 use Rattle.std.proofs.lemmas.List.{get_or_default, length-map, map-append, length-replicate}
 use Rattle.std.proofs.lemmas.List.Elements.{All-append, filter_more}
 use Rattle.std.proofs.lemmas.List.FromFn.{filter_of_map_range_with_len_more}
 use Rattle.std.proofs.lemmas.Option.{get_or_from_slice_get, slice_get-get_or}
 use Rattle.std.specs.List.{range_with_len, slice_get}
-use Rattle.std.specs.declared.alloc.Global.{Global}
-use Rattle.std.specs.declared.vec.Vec.{Vec}
 use Rattle.mc_cut.specs.Cuts.{is_crossing, is_part, part_of, place_in, rank, starts_in}
 use Rattle.mc_cut.specs.Cutting.{HasBoxes, inner_lists}
 use Rattle.mc_cut.proofs.Placed.{front_at, place_of_crossing}
 use Rattle.mc_merge.specs.Lanes.{absent_channel}
 use Rattle.mc_model.specs.Worlds.{ChannelState}
-use Rattle.mc_network.specs.Laying.{AddsBy, AddsCrossing, AddsNone, AreRinged, AreWired, IsRinged, ports_in, with_port}
+use Rattle.mc_network.specs.Laying.{AddsBy, AddsCrossing, AddsNone, AreWired, IsRinged, ports_in, with_port}
 use Rattle.mc_network.specs.Networks.{crossing_at, is_apart}
 use Rattle.mc_network.specs.declared.network.Crossing.{Crossing}
 use Rattle.mc_network.specs.declared.wiring.Wiring.{Wiring}

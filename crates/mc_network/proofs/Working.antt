@@ -1,5 +1,5 @@
 -- In which part of a network something is to do.
-use Rattle.std.proofs.Common.{◌≡◌, ◌≢◌, inl, inr, ◌==◌, ◌&&◌, ◌<◌, ◌≤◌, ◌+◌, ◌*◌, if◌then◌else◌, Bool, true, false, ℕ, zero, suc, nat_lt, IsTrue, Some, None, Option, List, [], ◌∷◌, length, get_or, slice_get, refl, ap, sym, ◌∙◌, subst, arith, true≢false, eq-eqb}
+use Rattle.std.proofs.Common.{◌≡◌, ◌≢◌, inl, inr, ◌==◌, ◌&&◌, ◌<◌, if◌then◌else◌, Bool, true, false, ℕ, suc, nat_lt, Some, None, Option, List, [], ◌∷◌, length, get_or, refl, ap, sym, ◌∙◌, subst, arith, true≢false, eq-eqb}
 use Rattle.std.specs.List.{list_all}
 use Rattle.std.specs.Option.{is_some, option_and_then, option_map}
 use Rattle.std.proofs.lemmas.Bool.{eqb-true, ltb-true}
@@ -20,8 +20,7 @@ use Rattle.mc_weave.specs.Phases.{TakesAt, lane_in}
 use Rattle.mc_world.specs.Waiting.{take_waits}
 use Rattle.mc_cut.specs.Cuts.{home_at}
 use Rattle.mc_part.specs.Networks.{states_of, tables_at, world_by}
-use Rattle.mc_part.specs.Parts.{shifts_of, state_of, stimuli_of, tables_of}
-use Rattle.mc_part.specs.Running.{owed_of}
+use Rattle.mc_part.specs.Parts.{state_of, stimuli_of, tables_of}
 use Rattle.mc_part.specs.declared.part.Part.{Part}
 use Rattle.mc_part.specs.declared.part_run.PartRun.{PartRun}
 use Rattle.mc_part.proofs.Networks.{owed_same}
@@ -33,7 +32,7 @@ use Rattle.mc_network.proofs.Closed.{parts_of}
 use Rattle.mc_network.proofs.PartsBy.{part_is, parts_by, run_there, states_are}
 use Rattle.mc_network.proofs.Phased.{laid_of, none_of}
 use Rattle.mc_network.proofs.PhaseTurns.{home_inside, world_is}
-use Rattle.mc_network.proofs.Progressed.{IsHome, Works, box_is, command_here, enabled_here, home_of, shifts_at, stimuli_at, world_boxes}
+use Rattle.mc_network.proofs.Progressed.{Works, box_is, command_here, enabled_here, home_of, shifts_at, stimuli_at, world_boxes}
 
 -- ---- a signal that is under way
 

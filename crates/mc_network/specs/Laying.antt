@@ -1,5 +1,5 @@
 -- How a world is laid out in parts.
-use Rattle.std.specs.Prelude.{◌≡◌, ◌<◌, ◌≤◌, ◌+◌, ◌-◌, ◌*◌, ◌^◌, ◌==◌, if◌then◌else◌, ℕ, All, Bool, false, true, filter, List, [], ◌∷◌, ◌++◌, IsTrue, length, map, min, slice_get, slice_index_or, slice_set, Some, take}
+use Rattle.std.specs.Prelude.{◌≡◌, ◌<◌, ◌≤◌, ◌+◌, ◌-◌, ◌*◌, ◌^◌, ◌==◌, if◌then◌else◌, ℕ, All, Bool, false, true, filter, List, [], ◌∷◌, ◌++◌, IsTrue, length, map, min, slice_get, slice_index_or, Some, take}
 use Rattle.std.specs.List.{range_with_len}
 use Rattle.mc_box.specs.Boxes.{BoxState, no_box}
 use Rattle.mc_box.specs.declared.limit.TheConstants.{SLOT_LIMIT}

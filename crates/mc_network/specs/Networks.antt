@@ -1,7 +1,7 @@
 -- A network that is cut into parts: the world that its parts stand for, and what it keeps between phases.
-use Rattle.std.specs.Prelude.{◌≡◌, ◌<◌, ◌≤◌, ◌+◌, ◌*◌, ◌/◌, ℕ, All, Bool, false, not, IsTrue, List, [], drop, filter, length, map, replicate, slice_get, slice_index_or, Some}
+use Rattle.std.specs.Prelude.{◌≡◌, ◌<◌, ◌≤◌, ◌*◌, ◌/◌, ℕ, All, Bool, not, IsTrue, List, [], drop, filter, length, map, replicate, slice_get, slice_index_or, Some}
 use Rattle.std.specs.List.{AllByRecursion, range_with_len}
-use Rattle.mc_box.specs.Boxes.{BoxState, no_box}
+use Rattle.mc_box.specs.Boxes.{no_box}
 use Rattle.mc_box.specs.declared.event.Event.{Event}
 use Rattle.mc_box.specs.declared.event.Turn.{Turn}
 use Rattle.mc_box.specs.declared.limit.TheConstants.{SLOT_LIMIT}

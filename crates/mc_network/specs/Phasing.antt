@@ -1,5 +1,5 @@
 -- A phase, step by step: which parts run, what is carried over, and what becomes of their logs.
-use Rattle.std.specs.Prelude.{◌≡◌, ◌≢◌, ◌⊎◌, ◌<◌, ◌≤◌, ◌/◌, ◌++◌, ℕ, Bool, false, true, IsTrue, List, [], length, map, slice_get, slice_index_or, Option, Some, None, Result, Ok, Err}
+use Rattle.std.specs.Prelude.{◌≡◌, ◌≢◌, ◌⊎◌, ◌<◌, ◌≤◌, ◌/◌, ◌++◌, ℕ, Bool, false, true, IsTrue, List, [], length, map, slice_get, Option, Some, None, Result, Ok, Err}
 use Rattle.mc_box.specs.declared.event.Turn.{Turn}
 use Rattle.mc_merge.specs.LaneLogs.{without_stamps}
 use Rattle.mc_network.specs.Networks.{IsCutNetwork, turn_budget}

@@ -1,6 +1,5 @@
 -- How the lanes and boxes of a network are found in its parts.
 use Rattle.std.specs.Prelude.{◌≡◌, ◌<◌, ◌+◌, ◌*◌, ◌==◌, ◌++◌, ◌∷◌, if◌then◌else◌, ℕ, zero, suc, Bool, List, [], filter, length, map, slice_index_or}
-use Rattle.std.specs.List.{range_with_len}
 use Rattle.std.specs.declared.alloc.Global.{Global}
 use Rattle.std.specs.declared.vec.Vec.{Vec}
 use Rattle.mc_box.specs.Boxes.{BoxState}

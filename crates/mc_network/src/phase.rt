@@ -25,9 +25,9 @@ use std::thread::Threads;
 const SHORT_BUDGET: u32 = 4_096;
 
 /// Runs the parts that have something to do, and those that theirs can reach, side by side on threads: the retries that
-/// are owed first, where they are asked for, then the commands that are left, and then what comes of them. Where `short`
-/// is set, each part makes few turns beside. Answers the box and the slot whose next command is a Hear at the last
-/// version, where one stopped there.
+/// are owed first, where they are asked for, then the commands that are left, and then what comes of them. Where
+/// `short` is set, each part makes few turns beside. Answers the box and the slot whose next command is a Hear at the
+/// last version, where one stopped there.
 ///
 /// The turns are added to those before. It fails only for want of memory; the network is in pieces then.
 pub fn run_phase<R: Threads + Sync, G: Gate + Sync>(

@@ -1,5 +1,5 @@
 -- A part that has commands begins with one.
-use Rattle.std.proofs.Common.{◌≡◌, ◌≢◌, ◌⊎◌, inl, inr, false, IsTrue, IsFalse, ◌<◌, ◌≤◌, ◌+◌, ℕ, suc, List, [], ◌∷◌, ◌++◌, drop, length, map, get_or, slice_get, Option, Some, IfErr, OnOk, Result, Ok, Err, refl, ap, sym, ◌∙◌, subst, arith, Vec, Global}
+use Rattle.std.proofs.Common.{◌≡◌, ◌⊎◌, inl, inr, ◌<◌, ◌≤◌, ◌+◌, ℕ, suc, List, ◌∷◌, ◌++◌, drop, length, get_or, slice_get, Some, IfErr, OnOk, Result, Ok, Err, ap, sym, ◌∙◌, subst, arith, Vec, Global}
 use Rattle.std.proofs.lemmas.List.{length-append}
 use Rattle.std.proofs.lemmas.Option.{slice_get-get_or}
 use Rattle.mc_box.specs.declared.event.Event.{Event}
@@ -7,7 +7,7 @@ use Rattle.mc_box.specs.declared.event.Event.TheVariants.{Shift}
 use Rattle.mc_box.specs.declared.event.Turn.{Turn}
 use Rattle.mc_weave.specs.declared.log.Made.{Made}
 use Rattle.mc_part.specs.Parts.{Runs, events_for, no_retries, stimuli_of}
-use Rattle.mc_part.specs.Running.{IsToCommand, NoneLeft, StopsAs, StraysAs, UsesAs, UsesCommand, UsesFirst, UsesTo}
+use Rattle.mc_part.specs.Running.{StopsAs, StraysAs, UsesAs, UsesCommand, UsesFirst, UsesTo}
 use Rattle.mc_part.specs.declared.part.Part.{Part}
 use Rattle.mc_part.specs.declared.stop.Ended.{Ended}
 use Rattle.mc_part.specs.declared.stop.PartStop.{PartStop}

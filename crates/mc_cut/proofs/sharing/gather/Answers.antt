@@ -1,4 +1,4 @@
-use Rattle.std.proofs.Common.{◌≡◌, ◌<◌, ◌-◌, ◌∙◌, rules, ℕ, length, get_or, refl, ap, sym, subst, arith}
+use Rattle.std.proofs.Common.{◌-◌, ◌∙◌, length, refl, arith}
 use Rattle.mc_cut.specs.Cutting.{inner_lists}
 use Rattle.mc_cut.proofs.Gathering.{all_gathered, list_count, lists_kept, more_gathered, none_gathered, one_left}
 use Rattle.mc_cut.proofs.sharing.gather.Goals as goal

@@ -1,4 +1,4 @@
-use Rattle.std.proofs.Common.{◌≡◌, ◌<◌, ◌≤◌, length, slice_get, Some, sym, subst, arith, ap, ◌∙◌}
+use Rattle.std.proofs.Common.{arith}
 use Rattle.std.proofs.lemmas.Option.{slice_get_within}
 use Rattle.mc_network.proofs.CarriedOver.{answer_back, answer_forward, can_of, can_of_back}
 use Rattle.mc_network.proofs.Lists.{of_back, of_front}

@@ -1,5 +1,4 @@
-use Rattle.std.proofs.Common.{◌≡◌, ◌≤◌, Some, length, slice_get, slice_index_or, arith}
-use Rattle.mc_network.specs.declared.network.Crossing.{Crossing}
+use Rattle.std.proofs.Common.{arith}
 use Rattle.mc_network.proofs.CarriedOver.{all_carried, next_carried, none_carried, still_carryable}
 use Rattle.mc_network.proofs.Lists.{there_at}
 use Rattle.mc_network.proofs.carrying_over.carry_over.Goals as goal

@@ -1,4 +1,4 @@
-use Rattle.std.proofs.Common.{◌≡◌, ◌<◌, rules, ℕ, length, sym, subst, arith}
+use Rattle.std.proofs.Common.{◌≡◌, rules, length, arith}
 use Rattle.std.specs.Vec.{vec_len}
 use Rattle.mc_network.proofs.CommandAdded.{added_after, allowed_inside, cut_after, is_command_of, kept_after, place_read}
 use Rattle.mc_network.proofs.commands.add_command.Goals as goal

@@ -1,4 +1,4 @@
-use Rattle.std.proofs.Common.{◌≡◌, Some, arith}
+use Rattle.std.proofs.Common.{arith}
 use Rattle.mc_network.specs.Commanding.{HasBegunSettle}
 use Rattle.mc_network.proofs.Changed.{all_changed, next_changed}
 use Rattle.mc_network.proofs.Lists.{there_at}

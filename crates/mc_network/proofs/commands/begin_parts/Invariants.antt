@@ -1,4 +1,3 @@
-use Rattle.mc_part.specs.declared.part_run.PartRun.{PartRun}
 use Rattle.mc_network.specs.Commanding.{HasBegunSettle}
 use Rattle.mc_network.proofs.Changed.{ChangedSoFar}
 use Rattle.mc_network.proofs.commands.begin_parts.Given as goal

@@ -1,4 +1,4 @@
-use Rattle.std.proofs.Common.{◌≡◌, ◌≤◌, ◌+◌, ◌*◌, length, get_or, ap, sym, ◌∙◌, arith, rules}
+use Rattle.std.proofs.Common.{◌≡◌, ◌≤◌, ◌*◌, length, get_or, ap, sym, arith, rules}
 use Rattle.mc_model.specs.Worlds.{ChannelState}
 use Rattle.mc_network.proofs.FirstSlots.{first_few, first_more, firsts_added}
 use Rattle.mc_network.specs.Laying.{first_slot}

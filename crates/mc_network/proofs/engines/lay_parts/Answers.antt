@@ -1,10 +1,7 @@
-use Rattle.std.proofs.Common.{◌≡◌, List, length, get_or, [], sym, ap, ◌∙◌}
+use Rattle.std.proofs.Common.{length, get_or, [], sym, ap, ◌∙◌}
 use Rattle.std.proofs.lemmas.List.{length-map}
 use Rattle.std.proofs.lemmas.List.FromFn.{length-map-range_with_len}
 use Rattle.std.proofs.lemmas.Result.{IfOk-weaker}
-use Rattle.std.specs.declared.alloc.Global.{Global}
-use Rattle.std.specs.declared.vec.Vec.{Vec}
-use Rattle.mc_box.specs.Boxes.{BoxState}
 use Rattle.mc_cut.specs.Cutting.{inner_lists, share_of}
 use Rattle.mc_network.proofs.PartsLaid.{laid_of}
 use Rattle.mc_network.proofs.Together.{channels_join, fit_together, share_at}

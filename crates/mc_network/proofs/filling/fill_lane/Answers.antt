@@ -1,5 +1,5 @@
 use Rattle.std.proofs.Common.{arith}
-use Rattle.mc_network.proofs.LaneFills.{none_put, one_put}
+use Rattle.mc_network.proofs.LaneFills.{one_put}
 use Rattle.mc_network.proofs.filling.fill_lane.Goals as goal
 
 pub loop-place-preserved : goal.loop-place-preserved

@@ -1,4 +1,4 @@
-use Rattle.std.proofs.Common.{◌≡◌, ◌<◌, ◌≤◌, ◌*◌, All, IsTrue, ℕ, List, [], false, length, get_or, map, ap, ap₂, sym, ◌∙◌, subst, arith, rules}
+use Rattle.std.proofs.Common.{◌≡◌, ◌<◌, ◌≤◌, ◌*◌, All, IsTrue, ℕ, List, false, length, get_or, ap, ap₂, sym, ◌∙◌, subst, rules}
 use Rattle.std.proofs.lemmas.List.{length-map}
 use Rattle.mc_box.specs.BoxEvents.{is_enabled}
 use Rattle.mc_box.specs.Boxes.{BoxState, no_box}
@@ -12,12 +12,10 @@ use Rattle.mc_network.proofs.Joining.{all_sides}
 use Rattle.mc_network.proofs.LaidOut.{world_of}
 use Rattle.mc_network.proofs.Together.{channels_join}
 use Rattle.mc_network.proofs.SoundWorlds.{are_whole}
-use Rattle.mc_network.specs.Laying.{AreWhole, ports_in}
-use Rattle.mc_network.specs.Networks.{channels_of}
+use Rattle.mc_network.specs.Laying.{AreWhole}
 use Rattle.mc_network.specs.States.{new_state}
 use Rattle.mc_network.specs.declared.limit.TheConstants.{NETWORK_LIMIT}
 use Rattle.mc_network.specs.declared.network.CutNetwork.{CutNetwork}
-use Rattle.mc_part.specs.Ports.{sides}
 use Rattle.mc_cut.specs.Cuts.{starts_in}
 use Rattle.mc_part.specs.declared.port.Port.{Port}
 use Rattle.mc_signal.specs.declared.Tagged.{Tagged}

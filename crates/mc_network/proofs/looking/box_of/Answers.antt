@@ -1,4 +1,4 @@
-use Rattle.std.proofs.Common.{◌≡◌, ◌<◌, ◌∙◌, ℕ, List, length, get_or, ap, sym, arith}
+use Rattle.std.proofs.Common.{◌∙◌, List, length, get_or, ap, sym, arith}
 use Rattle.std.proofs.lemmas.List.{get_or_default}
 use Rattle.mc_box.specs.Boxes.{BoxState, no_box}
 use Rattle.mc_network.proofs.NetworkBoxes.{IsBoxRead, box_read}

@@ -1,4 +1,4 @@
-use Rattle.std.proofs.Common.{◌≡◌, ◌<◌, ◌∙◌, ℕ, true, false, length, ap, sym, rules, arith, below_more}
+use Rattle.std.proofs.Common.{◌≡◌, ◌∙◌, length, ap, sym, rules, arith, below_more}
 use Rattle.std.specs.Vec.{vec_len}
 use Rattle.mc_box.specs.BoxEvents.{is_enabled}
 use Rattle.mc_box.specs.Boxes.{BoxState}

@@ -1,4 +1,4 @@
-use Rattle.std.proofs.Common.{◌≡◌, ◌∙◌, ℕ, length, sym, ap}
+use Rattle.std.proofs.Common.{◌∙◌, ℕ, length, sym, ap}
 use Rattle.mc_model.specs.Paths.{partner_by}
 use Rattle.mc_model.specs.Worlds.{number}
 use Rattle.mc_network.specs.Networks.{channels_of, world_in}

@@ -1,4 +1,4 @@
-use Rattle.std.proofs.Common.{◌≡◌, Option, Result, subst, sym}
+use Rattle.std.proofs.Common.{Option, Result, subst, sym}
 use Rattle.mc_part.specs.declared.stop.Ended.{Ended}
 use Rattle.mc_part.specs.declared.stop.PartStop.{PartStop}
 use Rattle.mc_network.specs.Phasing.{EndsCalm}

@@ -1,5 +1,4 @@
-use Rattle.std.proofs.Common.{◌≡◌, ◌<◌, ◌≤◌, ◌^◌, ◌∙◌, ℕ, List, [], length, subst, sym, ap, refl, arith}
-use Rattle.mc_part.specs.Phases.{EachOf, IsReady}
+use Rattle.std.proofs.Common.{◌≡◌, ◌∙◌, ℕ, List, [], length, subst, sym, ap, refl}
 use Rattle.mc_part.specs.declared.part_run.PartRun.{PartRun}
 use Rattle.mc_weave.specs.Weaving.{log_at, logs_of}
 use Rattle.mc_weave.specs.declared.log.PartLog.{PartLog}

@@ -1,4 +1,4 @@
-use Rattle.std.proofs.Common.{◌≡◌, ◌++◌, ◌∷◌, ◌∙◌, ℕ, List, [], ap, sym}
+use Rattle.std.proofs.Common.{◌++◌, ◌∷◌, ◌∙◌, List, [], ap, sym}
 use Rattle.mc_signal.specs.declared.Tagged.{Tagged}
 use Rattle.mc_network.proofs.Tables.{next_taken}
 use Rattle.mc_network.proofs.whole.copy_of.Goals as goal

@@ -1,7 +1,7 @@
-use Rattle.std.proofs.Common.{◌≡◌, ◌<◌, ◌∙◌, ℕ, List, length, get_or, length-set, ap, sym, inl, inr, arith}
-use Rattle.mc_cut.specs.Cuts.{is_crossing, is_inner, rank}
-use Rattle.mc_network.specs.Whole.{end_part, inner_base, no_base}
-use Rattle.mc_network.proofs.PlacesCounted.{AreNext, counts_fit, crossing_counted, end_inside, apart_counted, filter_few, other_fits, other_read}
+use Rattle.std.proofs.Common.{length, arith}
+use Rattle.mc_cut.specs.Cuts.{is_crossing, is_inner}
+use Rattle.mc_network.specs.Whole.{inner_base, no_base}
+use Rattle.mc_network.proofs.PlacesCounted.{AreNext, counts_fit, crossing_counted, end_inside, apart_counted, filter_few, other_fits}
 use Rattle.mc_network.proofs.whole.next_places.Goals as goal
 
 pub count_one-place-requires-clause-few : goal.count_one-place-requires-clause-few

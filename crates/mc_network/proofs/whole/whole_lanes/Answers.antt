@@ -1,7 +1,5 @@
-use Rattle.std.proofs.Common.{◌≡◌, ◌∙◌, ◌+◌, ◌*◌, ℕ, List, [], length, get_or, ap, ap₂, sym, arith}
-use Rattle.mc_cut.specs.Cuts.{place_in}
-use Rattle.mc_network.specs.Whole.{end_part, lanes_of}
-use Rattle.mc_signal.specs.declared.Tagged.{Tagged}
+use Rattle.std.proofs.Common.{◌≡◌, ◌∙◌, ◌+◌, ◌*◌, ℕ, [], get_or, ap, ap₂, sym, arith}
+use Rattle.mc_network.specs.Whole.{lanes_of}
 use Rattle.mc_network.proofs.LanesWhole.{lanes_more}
 use Rattle.mc_network.proofs.whole.whole_lanes.Goals as goal
 

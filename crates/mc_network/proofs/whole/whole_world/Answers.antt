@@ -1,4 +1,4 @@
-use Rattle.std.proofs.Common.{◌≡◌, ◌<◌, ◌*◌, ◌∙◌, All, IfOk, ℕ, List, length, ap, sym, subst, arith}
+use Rattle.std.proofs.Common.{◌≡◌, ◌<◌, ◌∙◌, All, IfOk, ℕ, List, length, ap, sym, subst}
 use Rattle.std.specs.declared.alloc.Global.{Global}
 use Rattle.std.specs.declared.vec.Vec.{Vec}
 use Rattle.std.proofs.lemmas.List.{length-map}
@@ -8,7 +8,7 @@ use Rattle.mc_lane.specs.Queue.{Queue}
 use Rattle.mc_model.specs.Sound.{IsSound}
 use Rattle.mc_model.specs.Worlds.{ChannelState, WorldState}
 use Rattle.mc_network.specs.Networks.{channels_of, world_in}
-use Rattle.mc_network.specs.Whole.{lanes_among, lanes_by, lanes_of}
+use Rattle.mc_network.specs.Whole.{lanes_of}
 use Rattle.mc_signal.specs.declared.Tagged.{Tagged}
 use Rattle.mc_world.specs.Lanes.{signals_of}
 use Rattle.mc_world.specs.Parts.{FitsFrame}
