@@ -12,7 +12,7 @@ use mc_box::{Change, Event, Turn};
 use mc_io::{Gate, OpenGate};
 use mc_network::limit::NETWORK_LIMIT;
 use mc_seq::fits;
-use mc_settle::settle_world;
+use mc_rounds::settle_world;
 use mc_slot::{Goal, State};
 use mc_world::World;
 use std::alloc::AllocError;

@@ -8,8 +8,8 @@ use crate::networks::{add, device, feature, join, row, two_features};
 use crate::programs::{drawn_program, flipping};
 use mc_box::limit::{LAST_VERSION, SHIFT_LIMIT};
 use mc_box::{Change, Event, MediaChange, Turn};
-use mc_crew::limit::CREW_LIMIT;
 use mc_io::OpenGate;
+use mc_network::limit::NETWORK_LIMIT;
 use mc_plan::{BoxPlan, Plan};
 use mc_rounds::settle_rounds;
 use mc_rule::Program;
@@ -95,7 +95,7 @@ fn by_lists(alloc: Global, world: World, batch: &[Turn], state: u32) -> Outcome 
 
 fn in_rounds<R: Threads + Sync + AllocGlobal>(rt: &R, world: World, batch: &[Turn]) -> Outcome {
     let alloc = rt.alloc();
-    if !fits(&world, batch) || world.boxes().len() > CREW_LIMIT {
+    if !fits(&world, batch) || world.boxes().len() > NETWORK_LIMIT {
         return ended(alloc, Ending::Refused, 0);
     }
     let settled = settle_rounds(rt, alloc, &OpenGate, world, batch);

@@ -1,6 +1,7 @@
 -- The logs of a round, box by box, and the turns in them.
-use Rattle.std.proofs.Common.{◌≡◌, ◌≢◌, ℕ, zero, suc, ◌<◌, ◌≤◌, ◌+◌, ◌++◌, ◌==◌, Bool, true, false, if◌then◌else◌, List, [], ◌∷◌, get_or, length, map, slice_index_or, Option, Result, Ok, Err, is_ok, refl, sym, ◌∙◌, ap, subst, arith, ne_eqb}
+use Rattle.std.proofs.Common.{◌≡◌, ◌≢◌, ℕ, zero, suc, ◌<◌, ◌≤◌, ◌+◌, ◌++◌, ◌==◌, Bool, true, false, if◌then◌else◌, List, [], ◌∷◌, get_or, length, map, slice_index_or, Option, Some, Result, Ok, Err, is_ok, refl, sym, ◌∙◌, ap, subst, arith, ne_eqb}
 use Rattle.std.proofs.lemmas.Bool.{true_from_ne_false}
+use Rattle.std.proofs.lemmas.List.{length-map}
 use Rattle.std.specs.List.{AllByRecursion}
 use Rattle.std.specs.List.Sorted.{IsBinarySearchResult}
 use Rattle.std.specs.Ordering.{nat_cmp}
@@ -10,10 +11,12 @@ use Rattle.mc_crew.specs.Crews.{IsCrew, TeamState, crew_state}
 use Rattle.mc_crew.specs.OwnRounds.{AreOwnRounds, AreShown}
 use Rattle.mc_crew.specs.Rounds.{AddsRound, AreMergedTurns, logs_from, round_logs, round_stops}
 use Rattle.mc_crew.specs.declared.crew.Crew.{Crew}
+use Rattle.mc_laws.proofs.ShapesKept.{run_keeps_shape}
+use Rattle.mc_model.specs.Steps.{run}
+use Rattle.mc_model.specs.Worlds.{ChannelState}
 use Rattle.mc_order.proofs.Orders.{Names, all_named}
 use Rattle.mc_order.specs.Keys.{IsOrdered, stamps_at}
 use Rattle.mc_order.specs.declared.Key.{Key}
-use Rattle.mc_rounds.proofs.Rests.{fits_still}
 use Rattle.mc_rounds.specs.Frames.{FitsCrew}
 use Rattle.mc_rounds.specs.Teams.{AreTurnsOf, logged_turn}
 use Rattle.mc_seats.specs.Numbers.{Rises, is_listed}
@@ -22,6 +25,7 @@ use Rattle.mc_team.proofs.Rising.{listed_at, search_rising}
 use Rattle.mc_team.specs.Logs.{log_at, log_stamps, no_logged, round_stamps, stamps_from, turn_of_key}
 use Rattle.mc_worker.specs.declared.logged.Logged.{Logged}
 use Rattle.mc_worker.specs.declared.stop.Stop.{Stop}
+use Rattle.mc_world.specs.Parts.{FitsFrame}
 use Rattle.mc_world.specs.declared.network.parts.Parts.{Parts}
 
 -- ---- a search among boxes
@@ -138,9 +142,15 @@ shown_copied retries view old new before after f g found s t seats logs stops sa
     subst (λ (team : TeamState). AreShown retries team new logs stops) is
     (copied (AreShown retries view new) f g found s t seats logs stops same_f same_s same_g same_t logs_are stops_are (own_rounds_show retries view new added.made (round_logs found seats) (round_stops found seats) added.round own))
 
--- ---- the tables fit behind a round
+-- ---- the tables fit after a round
+
+-- a run leaves the tables of a crew's network as they should be
+fits_still : (parts : Parts) (a b : Crew) (made : List Turn) → IsCrew a → run (crew_state a).world made ≡ Some (crew_state b).world → FitsCrew parts a → FitsCrew parts b
+fits_still parts a b made is runs fits =
+    let shape = run_keeps_shape (crew_state a).world (crew_state b).world made is.stand.sound runs in
+    let boxes = shape.boxes in
+    let count : length b.seats.items ≡ length a.seats.items = omega (arith, boxes, length-map a.seats.items (λ (seat : Seat). seat.worker.part), length-map b.seats.items (λ (seat : Seat). seat.worker.part)) in
+    subst (λ (n : ℕ). FitsFrame parts b.channels.items n) (sym count) (subst (λ (c : List ChannelState). FitsFrame parts c (length a.seats.items)) (sym shape.channels) fits)
 
 pub fits_round : (retries : Bool) (frame : Parts) (a b : Crew) (before after : List Turn) (stops : List (Option Stop)) → IsCrew a → AddsRound retries (crew_state a) (crew_state b) before after stops → FitsCrew frame a → FitsCrew frame b
-fits_round retries frame a b before after stops is added fits =
-    let round = added.round in
-    fits_still frame a b added.made is (record { runs = round.runs; commands = round.commands; shifts = round.shifts; few_shifts = round.few_shifts }) fits
+fits_round retries frame a b before after stops is added fits = fits_still frame a b added.made is added.round.runs fits

@@ -1,5 +1,4 @@
-pub mod Alone
-pub mod Behind
+pub mod Answers
 pub mod Frames
 pub mod Playing
 pub mod Settling

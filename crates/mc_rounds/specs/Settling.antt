@@ -1,25 +1,36 @@
--- How a settle in rounds ends.
-use Rattle.std.specs.Prelude.{◌≡◌, ◌*◌, ◌+◌, ℕ, Bool, if◌then◌else◌, List, map}
+-- How a settle by phases ends.
+use Rattle.std.specs.Prelude.{◌≡◌, ◌*◌, ◌+◌, ℕ, Bool, if◌then◌else◌, is_some, List, map}
+use Rattle.std.specs.List.{list_any}
 use Rattle.mc_box.specs.BoxEvents.{turn_of}
+use Rattle.mc_box.specs.LinkFree.{is_linking}
 use Rattle.mc_box.specs.declared.event.Turn.{Turn}
-use Rattle.mc_crew.specs.Crews.{TeamState, shifts_at, stimuli_at}
 use Rattle.mc_model.specs.Rings.{IsFirstOnRing}
 use Rattle.mc_model.specs.Settles.{IsSettled, IsStopped, MeetsLast, commands_of}
 use Rattle.mc_model.specs.Sound.{IsSound}
 use Rattle.mc_model.specs.Worlds.{WorldState}
-use Rattle.mc_rounds.specs.Playing.{spare_shifts}
+use Rattle.mc_network.specs.States.{NetworkState}
+use Rattle.mc_part.specs.declared.part_run.PartRun.{PartRun}
 use Rattle.mc_seq.specs.Restless.{IsRestless}
 use Rattle.mc_seq.specs.ShiftLimit.{KeepsShiftLimit}
 use Rattle.mc_seq.specs.declared.stopping.Ending.{Ending}
 use Rattle.mc_seq.specs.declared.stopping.Ending.TheVariants.{LastVersion, Rest, Restless, Ring}
 use Rattle.mc_settings.specs.Batches.{UseUp}
+use Rattle.mc_rounds.specs.Playing.{spare_shifts}
 
--- a team has a sound world, the commands of a batch, and has made no Shift
-pub record HasBatch (world : WorldState) (batch : List Turn) (team : TeamState) : Type 0 where
+-- a network has a sound world, the commands of a batch, and has made no Shift
+pub record HasBatch (world : WorldState) (batch : List Turn) (state : NetworkState) : Type 0 where
   pub sound : IsSound world
-  pub same : team.world ≡ world
-  pub commands : (who : ℕ) → map (turn_of who) (stimuli_at team who) ≡ commands_of who batch
-  pub no_shifts : (who : ℕ) → shifts_at team who ≡ 0
+  pub same : state.world ≡ world
+  pub commands : (who : ℕ) → map (turn_of who) (state.stimuli who) ≡ commands_of who batch
+  pub no_shifts : (who : ℕ) → state.shifts who ≡ 0
+
+-- a box of some part has a program
+abbrev pub some_program : List PartRun → Bool
+some_program runs = list_any (λ run. list_any (λ one. is_some one.program) run.part.engine.boxes) runs
+
+-- a command links slots
+abbrev pub sets_link : List Turn → Bool
+sets_link batch = list_any (λ turn. is_linking turn.event) batch
 
 -- the turns settle a batch, and no box makes more Shifts among them than the limit
 pub record SettlesInLimit (world : WorldState) (batch turns : List Turn) (last : WorldState) : Type 0 where
@@ -29,10 +40,13 @@ pub record SettlesInLimit (world : WorldState) (batch turns : List Turn) (last :
 -- how the turns so far ended, at this world
 abbrev pub EndsSettle : WorldState → (batch turns : List Turn) → (last : WorldState) → Ending → Type 0
 EndsSettle world batch turns last Rest = SettlesInLimit world batch turns last
-EndsSettle world batch turns last (Ring at) = IsStopped world batch turns last × UseUp batch turns × IsFirstOnRing last at × KeepsShiftLimit turns
-EndsSettle world batch turns last (Restless at) = IsStopped world batch turns last × UseUp batch turns × IsRestless turns last at × KeepsShiftLimit turns
-EndsSettle world batch turns last (LastVersion at) = IsStopped world batch turns last × MeetsLast batch turns last at × KeepsShiftLimit turns
+EndsSettle world batch turns last (Ring at) = IsStopped world batch turns last × UseUp batch turns
+    × IsFirstOnRing last at × KeepsShiftLimit turns
+EndsSettle world batch turns last (Restless at) = IsStopped world batch turns last × UseUp batch turns
+    × IsRestless turns last at × KeepsShiftLimit turns
+EndsSettle world batch turns last (LastVersion at) = IsStopped world batch turns last × MeetsLast batch turns last at
+    × KeepsShiftLimit turns
 
--- what may still come: two for each Shift, and one where a round of retries is due
-abbrev pub rests_left : TeamState → Bool → ℕ
-rests_left team due = 2 * spare_shifts team + (if due then 1 else 0)
+-- what may still come: two for each Shift, and one where a phase of retries is due
+abbrev pub rests_left : NetworkState → Bool → ℕ
+rests_left state due = 2 * spare_shifts state + (if due then 1 else 0)

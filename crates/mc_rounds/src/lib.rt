@@ -1,15 +1,16 @@
-//! Settling in which the boxes' turns may come in any order.
+//! Settling in which the boxes' turns may come in any order, by phases of a network in parts; and teams of boxes, round
+//! by round.
 #![tactic(auto)]
 
-mod alone;
-mod behind;
+mod answers;
+mod commands;
+mod finishing;
 mod playing;
 mod resting;
 mod settler;
 mod settling;
-mod standing_in;
 mod team;
 
-pub use alone::settle_alone;
-pub use settler::{Settler, settle_rounds};
+pub use settler::{Settler, settle_rounds, settle_world};
+pub use settling::settle;
 pub use team::{RoundLog, Team};

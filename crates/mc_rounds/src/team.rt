@@ -1,17 +1,19 @@
 // A team of boxes on threads, round by round.
 
 ghost use Rattle.std.specs.Prelude.{◌≡◌, ◌≤◌, [], length, if◌then◌else◌, IfOk, IsTrue, None, OnErr, OnOk};
-ghost use Rattle.mc_crew.specs.Crews.{new_team, with_command};
+ghost use Rattle.mc_crew.specs.Crews.{IsCrew, crew_state, new_team, with_command};
 ghost use Rattle.mc_crew.specs.OwnRounds.{AreOwnRounds, AreShown};
 ghost use Rattle.mc_crew.specs.Rounds.{IsTeamRound, round_logs, round_stops, stop_of};
 ghost use Rattle.mc_crew.specs.declared.limit.TheConstants.{CREW_LIMIT};
 ghost use Rattle.mc_model.specs.Shapes.{is_allowed};
+ghost use Rattle.mc_model.specs.Sound.{IsSound};
+ghost use Rattle.mc_rounds.specs.Frames.{FitsCrew};
 ghost use Rattle.mc_rounds.specs.Teams.{AreLogged, log_lists};
 ghost use Rattle.mc_seats.specs.Numbers.{Rises, is_listed};
+ghost use Rattle.mc_world.specs.Parts.{HasFrame, parts_state};
 
-use crate::settling::{dismiss, man_all};
 use mc_box::Turn;
-use mc_crew::{Crew, add, make_round};
+use mc_crew::{Crew, add, disband, make_round, man};
 use mc_io::Gate;
 use mc_lane::Lane;
 use mc_seats::Seat;
@@ -19,6 +21,7 @@ use mc_worker::{Logged, RoundEnd, Stop};
 use mc_world::{Parts, World};
 use std::alloc::{AllocError, Global};
 use std::marker::Model;
+use std::mem;
 use std::thread::Threads;
 
 /// A team of boxes that run on threads where that pays: their world, the commands that are left to each, and how many
@@ -118,6 +121,35 @@ impl Team {
         let Team { frame, crew } = self;
         dismiss(alloc, frame, crew)
     }
+}
+
+// A crew of the boxes, channels and lanes of these parts, which keep the tables.
+fn man_all(alloc: Global, frame: &mut Parts) -> Result<Crew, AllocError>
+    requires frame { HasFrame frame.old (length frame.old.boxes.items) }
+    requires sound { IsSound (parts_state frame.old) }
+    requires few { length frame.old.boxes.items ≤ CREW_LIMIT }
+    ensures crew { IfOk result IsCrew }
+    ensures new { IfOk result (λ crew. crew_state crew ≡ new_team (parts_state frame.old)) }
+    ensures frame { IfOk result (FitsCrew frame.new) }
+{
+    let boxes = mem::replace(&mut frame.boxes, Vec::new(alloc));
+    let channels = mem::replace(&mut frame.channels, Vec::new(alloc));
+    let lanes = mem::replace(&mut frame.lanes, Vec::new(alloc));
+    man(alloc, boxes, channels, lanes)
+}
+
+// The world of a crew.
+fn dismiss(alloc: Global, frame: Parts, crew: Crew) -> Result<World, AllocError>
+    requires crew { IsCrew crew }
+    requires frame { FitsCrew frame crew }
+    ensures { IfOk result (λ world. world ≡ (crew_state crew).world) }
+{
+    let parts = disband(alloc, crew)?;
+    let mut frame = frame;
+    frame.boxes = parts.boxes;
+    frame.channels = parts.channels;
+    frame.lanes = parts.lanes;
+    World::from_parts(alloc, frame)
 }
 
 // Of each box the log of its round, and an empty one where it made none.

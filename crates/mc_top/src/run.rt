@@ -141,7 +141,7 @@ impl Progress {
     }
 }
 
-// Settles a batch: by draws, where there are some, and else in rounds.
+// Settles a batch: by draws, where there are some, and else by parts of the network.
 fn settle_batch<R: Threads + Sync, G: Gate + Sync>(
     rt: &R,
     alloc: Global,
@@ -316,7 +316,7 @@ pub fn run_script<R: Threads + Sync, G: Gate + Sync>(
     world.keeps();
     let opening = print_opening(alloc, report, &world)?;
     let mut progress = Progress::new(alloc, world, draws, opening);
-    let mut settler = Settler::new();
+    let mut settler = Settler::new(rt);
     for index in 0..batches.len() {
         let batch = &batches[index];
         let number = (index + 1) as u32;

@@ -1,8 +1,9 @@
-use Rattle.std.proofs.Common.{length, sym, ◌∙◌}
-use Rattle.mc_rounds.proofs.LastHears.{last_has_number}
+use Rattle.std.proofs.Common.{sym, ◌∙◌}
+use Rattle.mc_network.specs.Networks.{network_state}
+use Rattle.mc_rounds.proofs.AtLast.{has_number}
 use Rattle.mc_rounds.proofs.settling.number.Goals as goal
 
 pub unreachable-requires : goal.unreachable-requires
 unreachable-requires c =
-    last_has_number c.args.crew.now c.args.who c.args.local c.requires.crew c.requires.last
-    (sym (c.number.ensures c.args.crew.now.channels.items (length c.args.crew.now.seats.items) c.requires.frame) ∙ c.in-None.is)
+    has_number (network_state c.args.network.now) c.args.who c.args.local c.requires.cut.sound c.requires.last
+    (sym c.slot_number.ensures ∙ c.in-None.is)

@@ -1,4 +1,0 @@
-pub mod Answers
-pub mod Playing
-pub mod Settling
-pub mod Stops
