@@ -12,28 +12,33 @@ ghost use Rattle.mc_model.specs.Settles.{is_quiet};
 ghost use Rattle.mc_model.specs.Worlds.{slot_count};
 
 pub mod laws;
+mod network;
 mod walk;
 
+pub use network::Network;
+
+use crate::network::{goal_in, slot_in};
 use crate::walk::{Walked, walk_from};
 use mc_box::Kind;
 use mc_signal::Selector;
 use mc_slot::{Goal, SlotGoal, State};
 use mc_view::{EndView, PathView};
-use mc_world::World;
 use std::alloc::{AllocError, Global};
 
-/// Each path of the world once, in the order of the lower ends: both ends, whether it flows, its medium, and how
+/// Each path of a network once, in the order of the lower ends: both ends, whether it flows, its medium, and how
 /// many tunnels it goes over. No end hears anything on a path that doesn't flow. Where nothing is under way, each path
 /// is closed at all its slots, or flows at all of them with ends that hear each other.
-pub fn paths(alloc: Global, world: &World) -> Result<Vec<PathView>, AllocError>
-    ensures views { IfOk result (λ views. views.items ≡ map (view_of world.now) (paths world.now)) }
-    ensures quiet { IsTrue (is_quiet world.now) → All (IsQuietPath world.now) (paths world.now) }
+pub fn paths<N: Network>(alloc: Global, network: &N) -> Result<Vec<PathView>, AllocError>
+    ensures views { IfOk result (λ views. views.items
+        ≡ map (view_of (N.world network.now)) (paths (N.world network.now))) }
+    ensures quiet { IsTrue (is_quiet (N.world network.now))
+        → All (IsQuietPath (N.world network.now)) (paths (N.world network.now)) }
 {
-    world.keeps();
+    network.keeps();
     let mut views = Vec::new(alloc);
-    let mut reached = vec![in alloc; false; world.slot_count()]?;
-    for slot in 0..world.slot_count() {
-        if let Some(view) = next_path(world, &mut reached, slot as u32) {
+    let mut reached = vec![in alloc; false; network.slot_count()]?;
+    for slot in 0..network.slot_count() {
+        if let Some(view) = next_path(network, &mut reached, slot as u32) {
             views.push(view)?;
         }
     }
@@ -42,31 +47,31 @@ pub fn paths(alloc: Global, world: &World) -> Result<Vec<PathView>, AllocError>
 
 // The path of which a slot is the lower end. Its other end is reached then, and so nobody walks from there: that walk
 // leads back to a lower slot.
-fn next_path(world: &World, reached: &mut [bool], low: u32) -> Option<PathView>
-    requires inside { low < slot_count world.now }
-    requires reached { AreReached world.now reached.old }
-    ensures path { result ≡ option_map (view_of world.now) (path_from world.now low) }
-    ensures reached { AreReached world.now reached.new }
+fn next_path<N: Network>(network: &N, reached: &mut [bool], low: u32) -> Option<PathView>
+    requires inside { low < slot_count (N.world network.now) }
+    requires reached { AreReached (N.world network.now) reached.old }
+    ensures path { result ≡ option_map (view_of (N.world network.now)) (path_from (N.world network.now) low) }
+    ensures reached { AreReached (N.world network.now) reached.new }
 {
-    world.keeps();
+    network.keeps();
     if reached[low as usize] {
         return None;
     }
-    let path = path_from(world, low)?;
+    let path = path_from(network, low)?;
     reached[path.high.slot as usize] = true;
     Some(path)
 }
 
 // The path of which a slot is the lower end.
-fn path_from(world: &World, low: u32) -> Option<PathView>
-    requires { low < slot_count world.now }
-    ensures { result ≡ option_map (view_of world.now) (path_from world.now low) }
+fn path_from<N: Network>(network: &N, low: u32) -> Option<PathView>
+    requires { low < slot_count (N.world network.now) }
+    ensures { result ≡ option_map (view_of (N.world network.now)) (path_from (N.world network.now) low) }
 {
-    match world.goal(low) {
+    match goal_in(network, low) {
         SlotGoal::End(_) => {
-            let walk = walk_from(world, low)?;
+            let walk = walk_from(network, low)?;
             if low < walk.end {
-                Some(path_view(world, low, walk))
+                Some(path_view(network, low, walk))
             } else {
                 None
             }
@@ -76,30 +81,30 @@ fn path_from(world: &World, low: u32) -> Option<PathView>
 }
 
 // The path from a slot, its lower end, by the walk from there.
-fn path_view(world: &World, low: u32, walk: Walked) -> PathView
-    requires low { low < slot_count world.now }
-    requires high { walk.end < slot_count world.now }
-    requires walk { walk_from world.now low ≡ Some walk }
-    ensures { result ≡ view_of world.now (record { low = low; high = walk.end }) }
+fn path_view<N: Network>(network: &N, low: u32, walk: Walked) -> PathView
+    requires low { low < slot_count (N.world network.now) }
+    requires high { walk.end < slot_count (N.world network.now) }
+    requires walk { walk_from (N.world network.now) low ≡ Some walk }
+    ensures { result ≡ view_of (N.world network.now) (record { low = low; high = walk.end }) }
 {
-    world.keeps();
-    let flowing = path_flows(world, low, walk.end);
+    network.keeps();
+    let flowing = path_flows(network, low, walk.end);
     PathView {
-        low: end_view(world, flowing, low),
-        high: end_view(world, flowing, walk.end),
+        low: end_view(network, flowing, low),
+        high: end_view(network, flowing, walk.end),
         flowing,
-        medium: world.slot(low).medium,
+        medium: slot_in(network, low).medium,
         tunnels: walk.tunnels,
     }
 }
 
 // Whether a path flows: both its ends' slots do.
-fn path_flows(world: &World, low: u32, high: u32) -> bool
-    requires low { low < slot_count world.now }
-    requires high { high < slot_count world.now }
-    ensures { result ≡ path_flows world.now (record { low = low; high = high }) }
+fn path_flows<N: Network>(network: &N, low: u32, high: u32) -> bool
+    requires low { low < slot_count (N.world network.now) }
+    requires high { high < slot_count (N.world network.now) }
+    ensures { result ≡ path_flows (N.world network.now) (record { low = low; high = high }) }
 {
-    is_flowing(world.slot(low).state) && is_flowing(world.slot(high).state)
+    is_flowing(slot_in(network, low).state) && is_flowing(slot_in(network, high).state)
 }
 
 // Whether media flow.
@@ -121,20 +126,20 @@ fn shown_codec(flowing: bool, selector: Option<Selector>) -> Option<u8>
 }
 
 // An end of a path that flows, or of one that doesn't.
-fn end_view(world: &World, flowing: bool, slot: u32) -> EndView
-    requires { slot < slot_count world.now }
-    ensures { result ≡ end_view world.now flowing slot }
+fn end_view<N: Network>(network: &N, flowing: bool, slot: u32) -> EndView
+    requires { slot < slot_count (N.world network.now) }
+    ensures { result ≡ end_view (N.world network.now) flowing slot }
 {
-    world.keeps();
-    let (who, local) = world.place(slot);
-    let home = &world.boxes()[who as usize];
+    network.keeps();
+    let (who, local) = network.place(slot);
+    let home = network.home(who);
     EndView {
         slot,
         who,
         local,
-        goal: end_goal(world.goal(slot)),
+        goal: end_goal(goal_in(network, slot)),
         own: home.own(local),
-        hears: shown_codec(flowing, world.slot(slot).sel_in),
+        hears: shown_codec(flowing, slot_in(network, slot).sel_in),
         sends: home.sender(local).codecs,
         device: home.kind() == Kind::Device,
     }

@@ -3,4 +3,4 @@ use Rattle.mc_path.proofs.walk.walk_from.Given as goal
 
 -- what is still to walk
 abbrev pub invariant-loop-done : goal.invariant-loop-done
-invariant-loop-done l = StillWalks l.world l.fn.from l.done l.at
+invariant-loop-done g l = StillWalks (g.N.Network.world l.network) l.fn.from l.done l.at
