@@ -24,7 +24,7 @@ pub use assigning::{Assigned, assign};
 pub use clocks::share_clocks;
 pub use commands::{add_command, begin_settle, has_commands};
 pub use laying::cut_network;
-pub use looking::{first_shifter, least_ring, slot_number};
+pub use looking::{box_of, first_shifter, least_ring, slot_number};
 pub use network::{Crossing, CutNetwork};
 pub use phase::run_phase;
 pub use whole::whole_world;

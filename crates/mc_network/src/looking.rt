@@ -35,8 +35,8 @@ pub fn first_shifter(network: &CutNetwork) -> Option<u32>
     None
 }
 
-// A box of the network.
-fn box_of(network: &CutNetwork, who: u32) -> &MediaBox
+/// A box of the network, by its number there.
+pub fn box_of(network: &CutNetwork, who: u32) -> &MediaBox
     requires cut { IsCutNetwork network.now }
     requires here { who < length network.now.assigned.items }
     ensures { result.now ≡ box_at (network_state network.now).world who }
