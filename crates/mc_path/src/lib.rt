@@ -15,14 +15,13 @@ pub mod laws;
 mod network;
 mod walk;
 
-pub use network::Network;
-
 use crate::network::{goal_in, slot_in};
 use crate::walk::{Walked, walk_from};
 use mc_box::Kind;
 use mc_signal::Selector;
 use mc_slot::{Goal, SlotGoal, State};
 use mc_view::{EndView, PathView};
+pub use network::Network;
 use std::alloc::{AllocError, Global};
 
 /// Each path of a network once, in the order of the lower ends: both ends, whether it flows, its medium, and how
