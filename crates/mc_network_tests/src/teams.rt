@@ -4,7 +4,7 @@ use crate::equal::is_equal;
 use crate::fault::TestFault;
 use crate::networks::{add, device, join};
 use mc_box::{Change, Event, Turn};
-use mc_crew::limit::CREW_LIMIT;
+use mc_team::limit::TEAM_LIMIT;
 use mc_io::OpenGate;
 use mc_plan::Plan;
 use mc_rounds::{RoundLog, Team};
@@ -68,7 +68,7 @@ fn one_close_waits(rt: &impl Abort, world: &World) {
 fn a_team_of_two_phones_makes_two_rounds(rt: HostRuntime) -> Result<(), TestFault> {
     let world = two_phones(rt.alloc())?;
     assert!(rt; fits(&world, &[OPENS]));
-    assert!(rt; world.boxes().len() <= CREW_LIMIT);
+    assert!(rt; world.boxes().len() <= TEAM_LIMIT);
     let mut team = Team::new(rt.alloc(), world)?;
     team.add(OPENS)?;
     let (team, log) = makes(&rt, team, &[OPENS])?;

@@ -3,7 +3,6 @@ pub mod TurnKinds
 pub mod Takes
 pub mod Rested
 pub mod Retried
-pub mod TeamLogs
 mod Inside
 mod Used
 mod AtLast

@@ -9,8 +9,7 @@ mod playing;
 mod resting;
 mod settler;
 mod settling;
-mod team;
 
 pub use settler::{Settler, settle_rounds, settle_world};
 pub use settling::settle;
-pub use team::{RoundLog, Team};
+pub use mc_team::{RoundLog, Team};

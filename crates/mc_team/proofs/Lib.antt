@@ -1,6 +1,47 @@
-pub mod Lists
-pub mod Pairs
-pub mod OnLanes
-pub mod Rising
-pub mod Reached
-pub mod Gathered
+mod AccountsClaimed
+mod Added
+mod AllStand
+mod BoxRounds
+mod ByPlace
+mod CarriedLanes
+mod KeptOrder
+mod Choices
+mod ClaimedWorkers
+mod Claiming
+mod Covers
+mod EndsFew
+mod EndsJoined
+mod Gathered
+mod Lists
+mod Looks
+mod MemberLists
+mod NewBoxes
+mod NewMembers
+mod NewWorlds
+mod OnLanes
+mod OneCommand
+mod OneJoined
+mod OwnRounds
+mod Pairs
+mod Pushed
+mod RingsJoined
+mod RoundLogs
+mod RoundMade
+mod RoundMembers
+mod RoundRuns
+mod RoundStamps
+mod RoundStops
+mod RoundStrange
+mod RoundTurns
+mod SameTeams
+mod ShownRounds
+mod SlotPlaces
+mod SlotTunnels
+mod SlotsLonger
+mod Standing
+mod Stands
+mod TakenInboxes
+mod TakenLanes
+mod TunnelsPlaced
+mod Whole
+mod TeamLogs

@@ -138,3 +138,14 @@ pub mapped_more : {X Y : Type 0} (f : X → Y) (xs : List X) (i : ℕ) (d : X) (
     → now ++ y ∷ [] ≡ before ++ map f (take (i + 1) xs)
 mapped_more f xs i d before now y inside is own =
     rw (is, own) (append_assoc before (map f (take i xs)) (f (slice_index_or xs i d) ∷ []) ∙ ap (λ ys. before ++ ys) (sym (map_more f xs i d inside)))
+
+-- what stands in front of a list, and behind it
+pub get_before : {X : Type 0} (xs ys : List X) (i : ℕ) → i < length xs → slice_get (xs ++ ys) i ≡ slice_get xs i
+get_before [] ys i within = absurd (omega arith)
+get_before (x ∷ xs) ys zero within = refl
+get_before (x ∷ xs) ys (suc i) within = get_before xs ys i (omega arith)
+
+pub get_behind : {X : Type 0} (xs ys : List X) (i j : ℕ) → i ≡ length xs + j → slice_get (xs ++ ys) i ≡ slice_get ys j
+get_behind [] ys i j at = let same : i ≡ j = omega arith in ap (slice_get ys) same
+get_behind (x ∷ xs) ys zero j at = absurd (omega arith)
+get_behind (x ∷ xs) ys (suc i) j at = get_behind xs ys i j (omega arith)

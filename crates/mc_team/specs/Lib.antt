@@ -1,3 +1,12 @@
-pub mod Crews
+pub mod Layouts
+pub mod Ends
 pub mod Carries
+pub mod Runs
+pub mod Carried
+pub mod Workers
 pub mod Logs
+pub mod Made
+pub mod Teams
+pub mod Rounds
+pub mod OwnRounds
+pub mod Frames

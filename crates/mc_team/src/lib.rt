@@ -1,11 +1,21 @@
-//! What a team of boxes does between their rounds: what is under way goes into the far inboxes, the boxes that may have
-//! work are listed, and the logs of all become one list of turns.
+//! A team: the boxes of a network, each with a worker of its own and rings between them, that make their turns round by
+//! round.
 #![tactic(auto)]
 
+mod adding;
+mod boxes;
 mod carrying;
-mod listing;
+mod ending;
+mod joining;
+mod layout;
+pub mod limit;
+mod making;
+mod member;
 mod merging;
+mod placing;
+mod round;
+mod running;
+mod team;
 
-pub use carrying::carry_all;
-pub use listing::{list_all, list_box};
-pub use merging::merge;
+pub use round::RoundLog;
+pub use team::Team;

@@ -5,4 +5,4 @@ use Rattle.mc_team.proofs.merging.add_keys.Given as goal
 
 -- what is there, and the entries that are left, make the whole
 abbrev pub invariant-loop-index : goal.invariant-loop-index
-invariant-loop-index l = l.keys.items ++ keys_of l.who l.index (drop l.index (log_stamps l.log.items)) ≡ l.initial.keys.items ++ keys_of l.who 0 (log_stamps l.log.items)
+invariant-loop-index l = l.keys.items ++ keys_of l.who l.index (drop l.index (log_stamps l.log)) ≡ l.initial.keys.items ++ keys_of l.who 0 (log_stamps l.log)

@@ -1,2 +1,0 @@
-pub mod AccountsClaimed
-pub mod Carrying

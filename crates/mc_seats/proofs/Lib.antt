@@ -1,4 +1,0 @@
-pub mod Lists
-pub mod Changes
-pub mod Halves
-pub mod Looks
