@@ -2,20 +2,22 @@
 
 use crate::equal::is_equal;
 use crate::fault::TestFault;
-use crate::networks::{link_through, row, two_features};
+use crate::networks::{add, device, feature, link_through, row, two_features};
 use crate::programs::flipping;
 use crate::settles::{
     BACK, CALLS, Case, Ending, LINK, OPEN, Outcome, PROGRAMS, drawn_case, ended, outcome_of,
     programmed_case, two_states,
 };
-use mc_box::{Change, Event, Turn};
+use mc_box::{Change, Event, MediaChange, Turn};
 use mc_io::{Gate, OpenGate};
 use mc_network::limit::NETWORK_LIMIT;
-use mc_seq::fits;
+use mc_plan::Plan;
 use mc_rounds::settle_world;
+use mc_seq::fits;
+use mc_signal::Medium;
 use mc_slot::{Goal, State};
 use mc_world::World;
-use std::alloc::AllocError;
+use std::alloc::{AllocError, Global};
 use std::hint::spin_loop;
 use std::process::Abort;
 use std::sync::atomic::{AtomicBool, AtomicU64, Ordering};
@@ -91,6 +93,117 @@ fn drawn_networks_are_settled_in_parts(rt: HostRuntime) -> Result<(), TestFault>
     Ok(())
 }
 
+// ---- many signals at once
+
+// Phones mute and unmute so many times in one batch: more signals at once than a ring buffer holds.
+const TIMES: u32 = 40;
+
+// Each time the other phone is told, and answers, so there are three turns.
+#[test]
+fn a_full_ring_buffer_loses_nothing(rt: HostRuntime) -> Result<(), TestFault> {
+    let alloc = rt.alloc();
+    let mut batch = Vec::new(alloc);
+    for time in 0..TIMES {
+        batch.push(Turn {
+            who: 0,
+            event: Event::Media(MediaChange::Hear(0, time % 2 == 1)),
+        })?;
+    }
+    let world = settled_call(&rt)?;
+    let done = in_parts(&rt, &OpenGate, world, 2, &batch);
+    is_equal(&rt, &done.ending, &Ending::Rest);
+    is_equal(&rt, &done.turns.len(), &(3 * TIMES as usize));
+    Ok(())
+}
+
+// A call between two phones that flows.
+fn settled_call<R: Threads + Sync + AllocGlobal>(rt: &R) -> Result<World, TestFault> {
+    let world = row(rt.alloc(), 1)?;
+    let (batch, _turns, _draws) = CALLS[0];
+    if !fits(&world, batch) || world.boxes().len() > NETWORK_LIMIT {
+        return Err(TestFault::NoMemory(AllocError));
+    }
+    match settle_world(rt, rt.alloc(), &OpenGate, world, 2, batch) {
+        Ok(done) => Ok(done.world),
+        Err(_) => Err(TestFault::NoMemory(AllocError)),
+    }
+}
+
+// Between two boxes of a wide row there are two channels of eight tunnels each.
+const WIDTH: u8 = 16;
+
+// A row of so many boxes, phones at its ends and features between them.
+fn wide_row(alloc: Global, boxes: u32) -> Result<World, TestFault> {
+    let mut plan = Plan::new(alloc);
+    for who in 0..boxes {
+        let at_end = who == 0 || who.saturating_add(1) == boxes;
+        add(&mut plan, if at_end { device() } else { feature() })?;
+    }
+    for who in 1..boxes {
+        plan.join(who.saturating_sub(1), who, &[Medium::Audio; 8])?;
+        plan.join(who.saturating_sub(1), who, &[Medium::Audio; 8])?;
+    }
+    Ok(plan.world()?)
+}
+
+// The first phone of a wide row opens a slot, the last one holds its own, and a feature links two.
+fn called(who: u32, boxes: u32, local: u8) -> Turn {
+    let change = if who == 0 {
+        Change::End(local, Goal::Open)
+    } else if who.saturating_add(1) == boxes {
+        Change::End(local, Goal::Hold)
+    } else {
+        Change::Link(local, local.saturating_add(WIDTH))
+    };
+    Turn {
+        who,
+        event: Event::Set(change),
+    }
+}
+
+// The same of all slots of all boxes.
+fn call_on_all(alloc: Global, boxes: u32) -> Result<Vec<Turn>, TestFault> {
+    let mut batch = Vec::new(alloc);
+    for who in 0..boxes {
+        for local in 0..WIDTH {
+            batch.push(called(who, boxes, local))?;
+        }
+    }
+    Ok(batch)
+}
+
+// All slots of a box flow.
+fn all_flow(world: &World, who: u32) -> bool {
+    match world.boxes().get(who as usize) {
+        Some(home) => home.slots().iter().all(|slot| slot.state == State::Flowing),
+        None => false,
+    }
+}
+
+const BOXES: u32 = 160;
+
+// Links may make a ring, so a part makes 4,096 turns at most beside its commands in a phase. This call takes more, and
+// flows at both of its ends. The gate was told of each turn.
+#[test]
+fn a_settle_goes_on_where_turns_are_used_up(rt: HostRuntime) -> Result<(), TestFault> {
+    let alloc = rt.alloc();
+    let gate = CountingGate::new();
+    let world = wide_row(alloc, BOXES)?;
+    let batch = call_on_all(alloc, BOXES)?;
+    if !fits(&world, &batch) || world.boxes().len() > NETWORK_LIMIT {
+        return Err(TestFault::NoMemory(AllocError));
+    }
+    match settle_world(&rt, alloc, &gate, world, 2, &batch) {
+        Ok(done) => {
+            assert!(rt; all_flow(&done.world, 0) && all_flow(&done.world, BOXES - 1));
+            assert!(rt; done.turns.len() > batch.len() + 2 * 4_096);
+            is_equal(&rt, &gate.count(), &(done.turns.len() as u64));
+            Ok(())
+        }
+        Err(_) => Err(TestFault::NoMemory(AllocError)),
+    }
+}
+
 // ---- a long call
 
 // Counts the turns of which it's told, those of each half of the boxes apart.
@@ -98,6 +211,21 @@ fn drawn_networks_are_settled_in_parts(rt: HostRuntime) -> Result<(), TestFault>
 struct CountingGate {
     low: AtomicU64,
     high: AtomicU64,
+}
+
+impl CountingGate {
+    fn new() -> CountingGate {
+        CountingGate {
+            low: AtomicU64::new(0),
+            high: AtomicU64::new(0),
+        }
+    }
+
+    fn count(&self) -> u64 {
+        self.low
+            .load(Ordering::SeqCst)
+            .wrapping_add(self.high.load(Ordering::SeqCst))
+    }
 }
 
 impl Gate for CountingGate {
@@ -134,10 +262,7 @@ fn is_connected<R: Threads + Sync + Abort + AllocGlobal>(
     parts: usize,
 ) -> Result<(), TestFault> {
     let world = long_call(rt)?;
-    let gate = CountingGate {
-        low: AtomicU64::new(0),
-        high: AtomicU64::new(0),
-    };
+    let gate = CountingGate::new();
     let batch = [OPEN, ACCEPTS];
     if !fits(&world, &batch) || world.boxes().len() > NETWORK_LIMIT {
         return Err(TestFault::NoMemory(AllocError));
@@ -145,11 +270,7 @@ fn is_connected<R: Threads + Sync + Abort + AllocGlobal>(
     match settle_world(rt, rt.alloc(), &gate, world, parts, &batch) {
         Ok(done) => {
             assert!(rt; flows(&done.world, 0) && flows(&done.world, 255));
-            let count = gate
-                .low
-                .load(Ordering::SeqCst)
-                .wrapping_add(gate.high.load(Ordering::SeqCst));
-            is_equal(rt, &count, &(done.turns.len() as u64));
+            is_equal(rt, &gate.count(), &(done.turns.len() as u64));
             Ok(())
         }
         Err(_) => Err(TestFault::NoMemory(AllocError)),
@@ -179,21 +300,29 @@ fn is_awaited(flag: &AtomicBool) -> bool {
     false
 }
 
-// Holds each of two boxes before its turns until the other one has come to its own, and says whether both were seen.
+// Holds two boxes before their turns until the other one has come to its own, and says whether one wasn't seen.
 #[derive(Drop)]
 struct WaitingGate {
+    one: u32,
+    other: u32,
     first: AtomicBool,
     second: AtomicBool,
     missed: AtomicBool,
 }
 
-impl Gate for WaitingGate {
-    fn reached(&self, who: u32, _turn: u32) {
-        let (own, other) = if who == 0 {
-            (&self.first, &self.second)
-        } else {
-            (&self.second, &self.first)
-        };
+impl WaitingGate {
+    fn new(one: u32, other: u32) -> WaitingGate {
+        WaitingGate {
+            one,
+            other,
+            first: AtomicBool::new(false),
+            second: AtomicBool::new(false),
+            missed: AtomicBool::new(false),
+        }
+    }
+
+    // A box has come, and waits for the other one.
+    fn meet(&self, own: &AtomicBool, other: &AtomicBool) {
         own.store(true, Ordering::SeqCst);
         if !is_awaited(other) {
             self.missed.store(true, Ordering::SeqCst);
@@ -201,17 +330,56 @@ impl Gate for WaitingGate {
     }
 }
 
+impl Gate for WaitingGate {
+    fn reached(&self, who: u32, _turn: u32) {
+        if who == self.one {
+            self.meet(&self.first, &self.second);
+        } else if who == self.other {
+            self.meet(&self.second, &self.first);
+        }
+    }
+}
+
 // Each of two phones to which a batch speaks waits for the other one, so their parts run at once.
 #[test]
 fn two_parts_run_at_once(rt: HostRuntime) -> Result<(), TestFault> {
-    let gate = WaitingGate {
-        first: AtomicBool::new(false),
-        second: AtomicBool::new(false),
-        missed: AtomicBool::new(false),
-    };
+    let gate = WaitingGate::new(0, 1);
     let (batch, _turns, _draws) = CALLS[0];
     let done = in_parts(&rt, &gate, row(rt.alloc(), 1)?, 2, batch);
     is_equal(&rt, &done.ending, &Ending::Rest);
     assert!(rt; !gate.missed.load(Ordering::SeqCst));
+    Ok(())
+}
+
+// Three calls, each between two phones.
+fn three_calls(alloc: Global) -> Result<World, TestFault> {
+    let mut plan = Plan::new(alloc);
+    for _phone in 0..6 {
+        add(&mut plan, device())?;
+    }
+    for call in 0..3u32 {
+        plan.join(2 * call, 2 * call + 1, &[Medium::Audio])?;
+    }
+    Ok(plan.world()?)
+}
+
+// The first phone of a call opens.
+const fn opens(who: u32) -> Turn {
+    Turn {
+        who,
+        event: Event::Set(Change::End(0, Goal::Open)),
+    }
+}
+
+// A batch speaks to three phones, each of a call of its own, and any two of them wait for each other.
+#[test]
+fn any_two_of_three_parts_run_at_once(rt: HostRuntime) -> Result<(), TestFault> {
+    for (one, other) in [(0, 2), (0, 4), (2, 4)] {
+        let gate = WaitingGate::new(one, other);
+        let world = three_calls(rt.alloc())?;
+        let done = in_parts(&rt, &gate, world, 3, &[opens(0), opens(2), opens(4)]);
+        is_equal(&rt, &done.ending, &Ending::Rest);
+        assert!(rt; !gate.missed.load(Ordering::SeqCst));
+    }
     Ok(())
 }

@@ -1,15 +1,16 @@
-//! Settling in which the boxes' turns may come in any order, by phases of a network in parts; and teams of boxes, round
-//! by round.
+//! Settling in which the boxes' turns may come in any order, by phases of a network in parts.
 #![tactic(auto)]
 
 mod answers;
 mod commands;
 mod finishing;
+mod in_parts;
 mod playing;
 mod resting;
-mod settler;
 mod settling;
+mod worlds;
 
-pub use settler::{Settler, settle_rounds, settle_world};
-pub use settling::settle;
+pub use in_parts::{InParts, part_count};
 pub use mc_team::{RoundLog, Team};
+pub use settling::settle;
+pub use worlds::{settle_rounds, settle_world};

@@ -7,6 +7,17 @@ use Rattle.mc_script.specs.declared.command.JournalLine.{JournalLine}
 use Rattle.mc_seq.specs.Draws.{IsScheduled}
 use Rattle.mc_seq.specs.ShiftLimit.{KeepsShiftLimit}
 use Rattle.mc_replay.specs.Journals.{lines_for}
+use Rattle.mc_top.specs.declared.script_network.ScriptNetwork.{ScriptNetwork}
+use Rattle.mc_top.specs.declared.script_network.ScriptNetwork.TheVariants.{Drawn, Free}
+
+-- the world of its network, and where the draws of that are, if it has some
+abbrev pub network_world : ScriptNetwork → WorldState
+network_world (Drawn world draws) = world
+network_world (Free parts) = parts
+
+abbrev pub network_draws : ScriptNetwork → Option ℕ
+network_draws (Drawn world draws) = Some draws.state
+network_draws (Free parts) = None
 
 -- where its world stands, and its draws, if it has some, and what was kept and printed so far
 pub record ScriptState : Type 0 where

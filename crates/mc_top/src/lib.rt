@@ -10,6 +10,7 @@ mod print;
 mod reasons;
 mod report;
 mod run;
+mod script_network;
 pub mod status;
 mod stop;
 mod top;

@@ -2,38 +2,35 @@
 ghost use Rattle.std.specs.Prelude.{◌≡◌, ◌++◌, ◌∷◌, ◌<◌, ◌≤◌, [], All, IsTrue, codes, length, map, None, Some, IfErr, IfOk, OnOk};
 ghost use Rattle.mc_journal.specs.Printed.{IsNamedLine};
 ghost use Rattle.mc_model.specs.Paths.{paths};
-ghost use Rattle.mc_model.specs.Settles.{IsSettled, is_quiet};
+ghost use Rattle.mc_model.specs.Settles.{is_quiet};
 ghost use Rattle.mc_model.specs.Shapes.{AreAllAllowed, AreAllowed};
 ghost use Rattle.mc_net.specs.Nets.{NamesAll, batch_turns};
 ghost use Rattle.mc_lines.specs.declared.limit.TheConstants.{COMMAND_LIMIT};
 ghost use Rattle.mc_script.specs.declared.command.JournalLine.TheVariants.{Turn as Made};
 ghost use Rattle.mc_path.specs.Views.{view_of};
-ghost use Rattle.mc_rounds.specs.Stops.{Stops};
 ghost use Rattle.mc_table.specs.Words.{line_of};
 ghost use Rattle.mc_text.specs.NameLists.{slot_names, slot_word};
-ghost use Rattle.mc_top.specs.Drawn.{FollowsDraws, StopsDrawn, draws_state};
+ghost use Rattle.mc_top.specs.Drawn.{FollowsDraws, draws_state};
 ghost use Rattle.mc_replay.specs.Journals.{HoldsAtSettles, lines_for};
 ghost use Rattle.mc_replay.specs.Segments.{EachKeepsShiftLimit};
-ghost use Rattle.mc_seq.specs.ShiftLimit.{KeepsShiftLimit};
 ghost use Rattle.mc_top.specs.Journals.{IsJournalTo, ShowsCause};
 ghost use Rattle.mc_top.specs.Outcomes.{CameOf, EndsAt, EndsBy, IsNamedFault};
 ghost use Rattle.mc_top.specs.Printed.{box_word, script_text, stop_word, with_journal};
-ghost use Rattle.mc_top.specs.Scripts.{FollowSchedule, first_state};
+ghost use Rattle.mc_top.specs.Scripts.{first_state, network_draws, network_world};
 ghost use Rattle.mc_top.specs.Shown.{HasNamedBox, print_report};
 ghost use Rattle.mc_top.specs.declared.stop.Stop.TheVariants.{Restless};
 
 use crate::print::{print_restless, print_stop, put_journal};
 use crate::report::{Report, print_opening, print_report};
+use crate::script_network::ScriptNetwork;
 use crate::stop::Stop;
 use mc_box::Turn;
 use mc_io::Gate;
-use mc_path::paths;
-use mc_rounds::Settler;
 use mc_script::{Batch, JournalLine};
-use mc_seq::{SettleFault, Stopped, StoppedBox, settle_one};
+use mc_seq::{SettleFault, Stopped, StoppedBox};
 use mc_text::limit::BOX_LIMIT;
 use mc_text::{Draws, Names};
-use mc_world::{Settled, World};
+use mc_world::World;
 use std::alloc::{AllocError, Global};
 use std::marker::Model;
 use std::thread::Threads;
@@ -46,11 +43,10 @@ pub struct Run {
     pub stop: Option<Stop>,
 }
 
-// A script while it runs: its world, where its draws are, if it has some, and what was kept and printed so far.
+// A script while it runs: its network, with its draws, if it has some, and what was kept and printed so far.
 #[derive(Drop)]
 struct Progress {
-    world: World,
-    draws: Option<Draws>,
+    network: ScriptNetwork,
     journal: Vec<JournalLine>,
     output: Vec<u8>,
 }
@@ -63,26 +59,24 @@ enum Outcome {
 }
 
 impl Model for Progress {
-    ghost use Rattle.mc_top.specs.Drawn.{draws_state};
-    ghost use Rattle.mc_top.specs.Scripts.{ScriptState};
+    ghost use Rattle.mc_top.specs.Scripts.{ScriptState, network_draws, network_world};
 
     ghost Value = { ScriptState };
 
     ghost view = { λ p. record {
-      world = p.world;
-      draws = draws_state p.draws;
+      world = network_world p.network;
+      draws = network_draws p.network;
       journal = p.journal.items;
       output = p.output.items;
     } };
 }
 
 impl Progress {
-    fn new(alloc: Global, world: World, draws: Option<Draws>, opening: Vec<u8>) -> Progress
-        ensures { result ≡ first_state world (draws_state draws) opening.items }
+    fn new(alloc: Global, network: ScriptNetwork, opening: Vec<u8>) -> Progress
+        ensures { result ≡ first_state (network_world network) (network_draws network) opening.items }
     {
         Progress {
-            world,
-            draws,
+            network,
             journal: Vec::new(alloc),
             output: opening,
         }
@@ -94,7 +88,6 @@ impl Progress {
         rt: &R,
         alloc: Global,
         gate: &G,
-        settler: &mut Settler,
         report: Report,
         names: &Names,
         number: u32,
@@ -106,29 +99,17 @@ impl Progress {
         ensures { IfOk result (λ outcome. CameOf report names.now number batch.now self outcome) }
     {
         let Progress {
-            world,
-            mut draws,
+            network,
             mut journal,
             mut output,
         } = self;
-        world.keeps();
-        let boxes = names.box_count();
-        prove!(boxes <= BOX_LIMIT);
-        match settle_batch(rt, alloc, gate, settler, world, batch, &mut draws) {
-            Ok(settled) => {
-                keep_settle(
-                    alloc,
-                    report,
-                    names,
-                    number,
-                    &settled,
-                    &mut journal,
-                    &mut output,
-                )?;
-                let world = settled.world;
+        network.keeps();
+        match network.settle(rt, alloc, gate, batch) {
+            Ok((network, turns)) => {
+                log(&turns, &mut journal)?;
+                print_settle(alloc, report, names, number, &network, &mut output)?;
                 Ok(Outcome::Settled(Progress {
-                    world,
-                    draws,
+                    network,
                     journal,
                     output,
                 }))
@@ -141,51 +122,23 @@ impl Progress {
     }
 }
 
-// Settles a batch: by draws, where there are some, and else by parts of the network.
-fn settle_batch<R: Threads + Sync, G: Gate + Sync>(
-    rt: &R,
-    alloc: Global,
-    gate: &G,
-    settler: &mut Settler,
-    world: World,
-    batch: &[Turn],
-    draws: &mut Option<Draws>,
-) -> Result<Settled, SettleFault>
-    requires allowed { AreAllowed world batch.now }
-    requires few { length world.boxes ≤ BOX_LIMIT }
-    ensures settled { IfOk result (λ done. IsSettled world batch.now done.turns.items done.world) }
-    ensures shift_limit { IfOk result (λ done. KeepsShiftLimit done.turns.items) }
-    ensures scheduled { IfOk result (λ done.
-        FollowSchedule (draws_state draws.old) (draws_state draws.new) world batch.now done.turns.items done.world) }
-    ensures stops { IfErr result (Stops world batch.now) }
-    ensures drawn { IfErr result (StopsDrawn (draws_state draws.old) world batch.now) }
-{
-    match draws {
-        Some(draws) => settle_one(alloc, world, batch, draws),
-        None => settler.settle(rt, alloc, gate, world, batch),
-    }
-}
-
-// Keeps the turns of a settle and its mark, and prints what is to be reported of it.
-fn keep_settle(
+// Prints what is to be reported of a settle.
+fn print_settle(
     alloc: Global,
     report: Report,
     names: &Names,
     number: u32,
-    settled: &Settled,
-    journal: &mut Vec<JournalLine>,
+    network: &ScriptNetwork,
     output: &mut Vec<u8>,
 ) -> Result<(), AllocError>
-    requires named { NamesAll names.now settled.now.world }
+    requires named { NamesAll names.now (network_world network.now) }
     requires who { HasNamedBox names.now report }
-    requires quiet { IsTrue (is_quiet settled.now.world) }
-    ensures journal { OnOk result (journal.new.items ≡ journal.old.items ++ lines_for settled.now.turns.items) }
-    ensures output { OnOk result (output.new.items ≡ output.old.items
-        ++ print_report report names.now number (map (view_of settled.now.world) (paths settled.now.world))) }
+    requires quiet { IsTrue (is_quiet (network_world network.now)) }
+    ensures { OnOk result (output.new.items ≡ output.old.items ++ print_report report names.now number
+        (map (view_of (network_world network.now)) (paths (network_world network.now)))) }
 {
-    settled.world.keeps();
-    log(&settled.turns, journal)?;
-    let views = paths(alloc, &settled.world)?;
+    network.keeps();
+    let views = network.views(alloc)?;
     let text = print_report(alloc, report, names, number, &views)?;
     output.extend_from_slice(&text)
 }
@@ -314,22 +267,15 @@ pub fn run_script<R: Threads + Sync, G: Gate + Sync>(
         ≡ script_text report names.now world run.stop run.journal.items) }
 {
     world.keeps();
+    let boxes = names.box_count();
+    prove!(boxes <= BOX_LIMIT);
     let opening = print_opening(alloc, report, &world)?;
-    let mut progress = Progress::new(alloc, world, draws, opening);
-    let mut settler = Settler::new(rt);
+    let network = ScriptNetwork::new(rt, alloc, world, draws)?;
+    let mut progress = Progress::new(alloc, network, opening);
     for index in 0..batches.len() {
         let batch = &batches[index];
         let number = (index + 1) as u32;
-        match progress.settle(
-            rt,
-            alloc,
-            gate,
-            &mut settler,
-            report,
-            names,
-            number,
-            &batch.turns,
-        )? {
+        match progress.settle(rt, alloc, gate, report, names, number, &batch.turns)? {
             Outcome::Settled(next) => progress = next,
             Outcome::Stopped(run) => return Ok(run),
         }

@@ -5,10 +5,11 @@ use super::networks::{FOUR_TUNNELS, TABLE};
 use super::programs::{SWAP, SWAPPED};
 use super::{CALLED, FLOWING, Piece, answered, call, is_equal, text_of};
 use mc_io::{Gate, OpenGate};
+use mc_script::JournalLine;
 use std::alloc::{AllocError, Global};
 use std::hint::spin_loop;
 use std::process::Abort;
-use std::sync::atomic::{AtomicBool, Ordering};
+use std::sync::atomic::{AtomicBool, AtomicU64, Ordering};
 use std::thread::Threads;
 
 // A call with the word `run` on a text under this gate ends well, and prints this.
@@ -181,5 +182,35 @@ fn many_calls_print_what_draws_print(rt: HostRuntime) -> Result<(), AllocError> 
         &on_threads.written.as_slice(),
         &by_draws.written.as_slice(),
     );
+    Ok(())
+}
+
+// Counts the turns of which it's told.
+#[derive(Drop)]
+struct CountingGate {
+    turns: AtomicU64,
+}
+
+impl Gate for CountingGate {
+    fn reached(&self, _who: u32, _turn: u32) {
+        let _ = self.turns.fetch_add(1, Ordering::SeqCst);
+    }
+}
+
+#[test]
+fn the_gate_is_told_of_each_turn(rt: HostRuntime) -> Result<(), AllocError> {
+    let gate = CountingGate {
+        turns: AtomicU64::new(0),
+    };
+    let text = text_of(rt.alloc(), &CALLS)?;
+    let call = call(&rt, rt.alloc(), &gate, &["run"], text.as_bytes(), 0, 0)?;
+    is_equal(&rt, &call.done.status, &0);
+    let turns = call
+        .done
+        .journal
+        .iter()
+        .filter(|line| matches!(line, JournalLine::Turn(_)))
+        .count();
+    is_equal(&rt, &gate.turns.load(Ordering::SeqCst), &(turns as u64));
     Ok(())
 }

@@ -1,5 +1,6 @@
 use Rattle.std.proofs.Common.{◌∙◌, true, sym, arith}
 use Rattle.mc_network.specs.Networks.{network_state}
+use Rattle.mc_rounds.proofs.NoneOwed.{none_owed}
 use Rattle.mc_rounds.proofs.Takes.{never_last, shift_told}
 use Rattle.mc_rounds.proofs.Retried.{retries_of}
 use Rattle.mc_rounds.proofs.playing.retry.Goals as goal
@@ -18,3 +19,8 @@ returns-clause-retried g c =
     played
     (shift_told c.args.turns.now.items c.run_phase.new.turns.items played.made c.deref.result.now c.len-before.result
     c.has_shift.result played.added (omega arith) c.deref.ensures.value (sym c.has_shift.ensures))
+
+pub returns-then-not-owes_retry-clause-retried : goal.returns-then-not-owes_retry-clause-retried
+returns-then-not-owes_retry-clause-retried g c =
+    none_owed c.args.network.now c.args.turns.now.items c.requires.cut c.requires.used_up
+    (c.owes_retry.ensures c.if-not-owes_retry.true)
