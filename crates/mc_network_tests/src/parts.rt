@@ -98,10 +98,8 @@ fn drawn_networks_are_settled_in_parts(rt: HostRuntime) -> Result<(), TestFault>
 // Phones mute and unmute so many times in one batch: more signals at once than a ring buffer holds.
 const TIMES: u32 = 40;
 
-// Each time the other phone is told, and answers, so there are three turns.
-#[test]
-fn a_full_ring_buffer_loses_nothing(rt: HostRuntime) -> Result<(), TestFault> {
-    let alloc = rt.alloc();
+// The commands for that.
+fn mutes(alloc: Global) -> Result<Vec<Turn>, AllocError> {
     let mut batch = Vec::new(alloc);
     for time in 0..TIMES {
         batch.push(Turn {
@@ -109,8 +107,14 @@ fn a_full_ring_buffer_loses_nothing(rt: HostRuntime) -> Result<(), TestFault> {
             event: Event::Media(MediaChange::Hear(0, time % 2 == 1)),
         })?;
     }
-    let world = settled_call(&rt)?;
-    let done = in_parts(&rt, &OpenGate, world, 2, &batch);
+    Ok(batch)
+}
+
+// Each time the other phone is told, and answers, so there are three turns.
+#[test]
+fn a_full_ring_buffer_loses_nothing(rt: HostRuntime) -> Result<(), TestFault> {
+    let batch = mutes(rt.alloc())?;
+    let done = in_parts(&rt, &OpenGate, settled_call(&rt)?, 2, &batch);
     is_equal(&rt, &done.ending, &Ending::Rest);
     is_equal(&rt, &done.turns.len(), &(3 * TIMES as usize));
     Ok(())
@@ -162,7 +166,7 @@ fn called(who: u32, boxes: u32, local: u8) -> Turn {
 }
 
 // The same of all slots of all boxes.
-fn call_on_all(alloc: Global, boxes: u32) -> Result<Vec<Turn>, TestFault> {
+fn call_on_all(alloc: Global, boxes: u32) -> Result<Vec<Turn>, AllocError> {
     let mut batch = Vec::new(alloc);
     for who in 0..boxes {
         for local in 0..WIDTH {
