@@ -77,7 +77,7 @@ tail_of (Gen number size) = Nothing
 tail_of (Scene scene) = Nothing
 tail_of (Conf name) = Nothing
 
--- the state at which the draws of a mode begin, if it draws. The turns of other modes are made in rounds, in any order
+-- the state at which the draws of a mode begin, if it draws. The turns of other modes are made by parts, in any order
 abbrev pub draws_from : Mode → Option ℕ
 draws_from (Run journal) = None
 draws_from (One state journal) = Some state

@@ -25,7 +25,7 @@ pub fn tail_of(mode: Mode) -> Tail
     }
 }
 
-/// The draws by which a mode settles. None where it settles in rounds, or settles nothing.
+/// The draws by which a mode settles. None where it settles in parts, or settles nothing.
 pub fn draws_from(mode: Mode) -> Option<Draws>
     ensures { draws_state result ≡ draws_from mode }
 {
