@@ -1,6 +1,6 @@
 // The network of a script while it runs.
 
-ghost use Rattle.std.specs.Prelude.{◌≡◌, ◌≤◌, length, map, All, IfErr, IfOk, IsTrue};
+ghost use Rattle.std.specs.Prelude.{◌≡◌, ◌≤◌, ℕ, length, map, All, IfErr, IfOk, IsTrue};
 ghost use Rattle.mc_model.specs.Paths.{paths};
 ghost use Rattle.mc_model.specs.Settles.{IsSettled, is_quiet};
 ghost use Rattle.mc_model.specs.Shapes.{AreAllowed};
@@ -9,6 +9,7 @@ ghost use Rattle.mc_network.specs.declared.limit.TheConstants.{NETWORK_LIMIT};
 ghost use Rattle.mc_path.specs.Views.{view_of};
 ghost use Rattle.mc_path_laws.specs.PathLaws.{IsQuietPath};
 ghost use Rattle.mc_rounds.specs.Stops.{Stops};
+ghost use Rattle.mc_seq.specs.Draws.{IsScheduled, StopsByDraws};
 ghost use Rattle.mc_seq.specs.ShiftLimit.{KeepsShiftLimit};
 ghost use Rattle.mc_top.specs.Drawn.{StopsDrawn, draws_state};
 ghost use Rattle.mc_top.specs.Scripts.{FollowSchedule, network_draws, network_world};
@@ -84,7 +85,7 @@ impl ScriptNetwork {
     {
         match self {
             ScriptNetwork::Drawn(world, mut draws) => {
-                let Settled { world, turns } = settle_one(alloc, world, batch, &mut draws)?;
+                let Settled { world, turns } = settle_drawn(alloc, world, batch, &mut draws)?;
                 Ok((ScriptNetwork::Drawn(world, draws), turns))
             }
             ScriptNetwork::Free(parts) => {
@@ -106,4 +107,23 @@ impl ScriptNetwork {
             ScriptNetwork::Free(parts) => paths(alloc, parts),
         }
     }
+}
+
+// Settles a batch by draws, which go on from there.
+fn settle_drawn(
+    alloc: Global,
+    world: World,
+    batch: &[Turn],
+    draws: &mut Draws,
+) -> Result<Settled, SettleFault>
+    requires allowed { AreAllowed world batch.now }
+    ensures settled { IfOk result (λ done. IsSettled world batch.now done.turns.items done.world) }
+    ensures shift_limit { IfOk result (λ done. KeepsShiftLimit done.turns.items) }
+    ensures scheduled { IfOk result (λ done.
+        IsScheduled world batch.now draws.old.state done.turns.items done.world draws.new.state) }
+    ensures stops { IfErr result (Stops world batch.now) }
+    ensures drawn { IfErr result (λ fault.
+        (end : ℕ) × StopsByDraws world batch.now draws.old.state end fault) }
+{
+    settle_one(alloc, world, batch, draws)
 }

@@ -4,9 +4,9 @@ use Rattle.mc_top.proofs.run.print_settle.Goals as goal
 
 pub print_report-requires-clause-views : goal.print_report-requires-clause-views
 print_report-requires-clause-views c =
-    rw (c.deref-2.ensures.value, c.in_ok-views.ensures.views)
+    rw (c.deref.ensures.value, c.in_ok-views.ensures.views)
     (views_named c.args.names.now (network_world c.args.network.now) c.requires.named c.keeps.ensures.sound (c.in_ok-views.ensures.quiet c.requires.quiet))
 
 pub print_report-requires-clause-ends : goal.print_report-requires-clause-ends
 print_report-requires-clause-ends c =
-    rw (c.deref-2.ensures.value, c.in_ok-views.ensures.views) (parties_named c.args.names.now (network_world c.args.network.now) c.requires.named c.keeps.ensures.sound)
+    rw (c.deref.ensures.value, c.in_ok-views.ensures.views) (parties_named c.args.names.now (network_world c.args.network.now) c.requires.named c.keeps.ensures.sound)

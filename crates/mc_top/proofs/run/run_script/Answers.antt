@@ -30,7 +30,7 @@ loop-index-preserved g c =
     goes_next (report_text c.args.report c.args.names.now) (opening_text c.args.report c.args.world) c.args.world (draws_state c.args.draws) c.args.batches.now c.loop-index.index c.index-batches-index.result c.loop-index.progress c.in-Settled.next (omega (arith, c.loop-index-test.true)) settled c.loop-index.invariant
 
 -- what the script came to where a batch stopped
-stops : (g : _) (c : goal.Joined-progress-2 g) → EndsAtStop c.args.report c.args.names.now c.args.world (draws_state c.args.draws) (map batch_turns c.args.batches.now) c.in-Stopped.run'
+stops : (g : _) (c : goal.In-Stopped g) → EndsAtStop c.args.report c.args.names.now c.args.world (draws_state c.args.draws) (map batch_turns c.args.batches.now) c.in-Stopped.run'
 stops g c =
     let batch : List Turn = batch_turns (slice_index_or c.args.batches.now c.loop-index.index c.index-batches-index.result) in
     let came : CameOf c.args.report c.args.names.now (c.loop-index.index + 1) batch c.loop-index.progress c.in_ok-next.field-0 =

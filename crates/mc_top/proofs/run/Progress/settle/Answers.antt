@@ -1,5 +1,7 @@
 use Rattle.std.proofs.Common.{List, ap, subst, ℕ, ◌++◌, ◌∙◌}
+use Rattle.mc_box.specs.declared.event.Turn.{Turn}
 use Rattle.mc_path_laws.proofs.SettledHold.{settled_paths_hold}
+use Rattle.mc_replay.specs.Journals.{lines_for}
 use Rattle.mc_top.specs.Outcomes.{Stopping}
 use Rattle.mc_top.specs.Printed.{report_text}
 use Rattle.mc_top.specs.Scripts.{ScriptState, Settling, network_draws, network_world}
@@ -33,7 +35,8 @@ returns-in_ok-print_settle-in-Ok g c =
       settled = settled;
       shift_limit = c.in-Ok.ensures.shift_limit;
       scheduled = c.in-Ok.ensures.scheduled;
-      journal = c.in_ok-log-in-Ok.ensures;
+      journal = c.in_ok-log-in-Ok.ensures
+          ∙ ap (λ (turns : List Turn). c.self.inside.journal.items ++ lines_for turns) c.deref.ensures.value;
       output = c.in_ok-print_settle-in-Ok.ensures
           ∙ ap (λ (text : List ℕ). c.self.inside.output.items ++ text) (report_is c.args.report c.args.names.now c.args.number last holds);
     })
