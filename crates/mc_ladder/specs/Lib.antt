@@ -1,0 +1,17 @@
+pub mod Arrows
+pub mod Columns
+pub mod Frames
+pub mod Glyphs
+pub mod Heads
+pub mod Ladders
+pub mod Lanes
+pub mod Margins
+pub mod Marks
+pub mod Placing
+pub mod Routes
+pub mod Rows
+pub mod Senders
+pub mod Settling
+pub mod Signals
+pub mod Takings
+pub mod Words

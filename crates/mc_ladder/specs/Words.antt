@@ -1,0 +1,6 @@
+-- Words behind spaces.
+use Rattle.std.specs.Prelude.{ℕ, List, ◌∷◌}
+
+-- a word behind a space
+abbrev pub spaced : List ℕ → List ℕ
+spaced word = 32 ∷ word
