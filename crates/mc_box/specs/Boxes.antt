@@ -2,7 +2,7 @@
 use Rattle.std.specs.Prelude.{◌≡◌, ◌<◌, ◌≤◌, ◌^◌, ℕ, Bool, true, false, List, [], map, length, nat_lt, slice_index_or, slice_set, Option, Some, None, IfSome}
 use Rattle.mc_rule.specs.Programs.{IsProgram, ProgStateState, no_state}
 use Rattle.mc_signal.specs.Empty.{no_codecs}
-use Rattle.mc_signal.specs.Own.{address_of, device_descriptor, device_sender, feature_descriptor, feature_sender}
+use Rattle.mc_signal.specs.Own.{address_of, port_of, device_descriptor, device_sender, feature_descriptor, feature_sender}
 use Rattle.mc_signal.specs.declared.codec_list.CodecList.{CodecList}
 use Rattle.mc_signal.specs.declared.Descriptor.{Descriptor}
 use Rattle.mc_signal.specs.declared.Medium.TheVariants.{Audio}
@@ -16,6 +16,7 @@ use Rattle.mc_slot.specs.declared.SlotGoal.TheVariants.{End, Link}
 use Rattle.mc_box.specs.declared.event.Kind.{Kind}
 use Rattle.mc_box.specs.declared.event.Kind.TheVariants.{Device, Feature}
 use Rattle.mc_box.specs.declared.limit.TheConstants.{SLOT_LIMIT}
+use Rattle.mc_box.specs.declared.setup.MediaAddress.{MediaAddress}
 use Rattle.mc_box.specs.declared.setup.Setup.{Setup}
 use Rattle.mc_box.specs.declared.setup.SlotMedia.{SlotMedia}
 use Rattle.mc_box.specs.declared.setup.SlotSetup.{SlotSetup}
@@ -46,7 +47,7 @@ abbrev pub no_slot : Slot
 no_slot = closed_slot Audio false
 
 abbrev pub no_media : SlotMedia
-no_media = record { origin = 0; version = 0; hears = false; talks = false }
+no_media = record { origin = 0; version = 0; hears = false; talks = false; address = None }
 
 abbrev pub slot_at : BoxState → ℕ → Slot
 slot_at box local = slice_index_or box.slots local no_slot
@@ -66,8 +67,13 @@ with_goals box goals = record box { goals = goals }
 abbrev pub with_media : BoxState → ℕ → SlotMedia → BoxState
 with_media box local media = record box { media = slice_set box.media local media }
 
+-- the media address of a device's slot: the one it was given, or else one made of the number of the box and the local number
+abbrev pub media_address : Option MediaAddress → ℕ → ℕ → MediaAddress
+media_address (Some given) number local = given
+media_address None number local = record { addr = address_of number; port = port_of local }
+
 abbrev pub own_of : Kind → BoxState → SlotMedia → ℕ → Descriptor
-own_of Device box media local = device_descriptor media.origin media.version box.number local media.hears box.receives
+own_of Device box media local = device_descriptor media.origin media.version (media_address media.address box.number local).addr (media_address media.address box.number local).port media.hears box.receives
 own_of Feature box media local = feature_descriptor media.origin
 
 -- the newest descriptor of a slot
@@ -75,7 +81,7 @@ abbrev pub own : BoxState → ℕ → Descriptor
 own box local = own_of box.kind box (media_at box local) local
 
 abbrev pub sender_of : Kind → BoxState → SlotMedia → ℕ → Sender
-sender_of Device box media local = device_sender box.number local media.talks box.sends
+sender_of Device box media local = device_sender (media_address media.address box.number local).addr (media_address media.address box.number local).port media.talks box.sends
 sender_of Feature box media local = feature_sender
 
 -- what a slot can send
@@ -117,7 +123,7 @@ first_slot setup = closed_slot setup.medium setup.initiator
 
 -- hearing and talking are on at the beginning
 abbrev pub first_media : ℕ → SlotSetup → SlotMedia
-first_media version setup = record { origin = setup.origin; version = version; hears = true; talks = true }
+first_media version setup = record { origin = setup.origin; version = version; hears = true; talks = true; address = setup.address }
 
 abbrev pub first_goal : SlotSetup → SlotGoal
 first_goal setup = End ToClose

@@ -99,6 +99,7 @@ impl BoxParts {
             version: media.version + 1,
             hears: on,
             talks: media.talks,
+            address: media.address,
         };
         self.change_media(local, newer, out);
         Ok(())
@@ -118,6 +119,7 @@ impl BoxParts {
             version: media.version,
             hears: media.hears,
             talks: on,
+            address: media.address,
         };
         self.change_media(local, talking, out);
     }

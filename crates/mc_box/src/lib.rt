@@ -14,4 +14,4 @@ mod turns;
 
 pub use event::{BoxShape, Change, Event, Kind, MediaChange, Shape, Turn};
 pub use media_box::{MediaBox, VersionEnd};
-pub use setup::{Setup, SlotMedia, SlotSetup};
+pub use setup::{MediaAddress, Setup, SlotMedia, SlotSetup};

@@ -2,12 +2,12 @@
 
 ghost use Rattle.std.specs.Prelude.{◌≡◌, ◌^◌, ◌<◌, ◌≤◌, if◌then◌else◌, length, map, IfOk};
 ghost use Rattle.mc_signal.specs.Empty.{no_codecs};
-ghost use Rattle.mc_signal.specs.Own.{port_of};
+ghost use Rattle.mc_signal.specs.Own.{address_of};
 ghost use Rattle.mc_box.specs.BoxSound.{box_state, IsWired};
-ghost use Rattle.mc_box.specs.Boxes.{first_slot, first_goal, first_media, own, sender, set_up};
+ghost use Rattle.mc_box.specs.Boxes.{first_slot, first_goal, first_media, media_address, own, sender, set_up};
 
 use crate::event::Kind;
-use crate::setup::{Setup, SlotMedia, SlotSetup};
+use crate::setup::{MediaAddress, Setup, SlotMedia, SlotSetup};
 use mc_rule::Program;
 use mc_signal::{CodecList, Descriptor, Sender};
 use mc_slot::{Goal, Slot, SlotGoal};
@@ -63,12 +63,13 @@ impl BoxParts {
         ensures { result ≡ own (box_state self.now) local }
     {
         let media = &self.media[local as usize];
+        let address = media_address(media.address, self.number, local);
         match self.kind {
             Kind::Device => Descriptor {
                 origin: media.origin,
                 version: media.version,
-                addr: self.number + 1,
-                port: port_of(local),
+                addr: address.addr,
+                port: address.port,
                 codecs: only_if(media.hears, self.codecs),
             },
             Kind::Feature => Descriptor {
@@ -88,10 +89,11 @@ impl BoxParts {
         ensures { result ≡ sender (box_state self.now) local }
     {
         let media = &self.media[local as usize];
+        let address = media_address(media.address, self.number, local);
         match self.kind {
             Kind::Device => Sender {
-                addr: self.number + 1,
-                port: port_of(local),
+                addr: address.addr,
+                port: address.port,
                 codecs: only_if(media.talks, self.sends),
             },
             Kind::Feature => Sender {
@@ -103,11 +105,18 @@ impl BoxParts {
     }
 }
 
-// The port of a device's slot.
-fn port_of(local: u8) -> u16
-    ensures { result ≡ port_of local }
+// The media address of a device's slot: the one that it was given, or else one of its numbers.
+fn media_address(given: Option<MediaAddress>, number: u32, local: u8) -> MediaAddress
+    requires { address_of number < 2 ^ 32 }
+    ensures { result ≡ media_address given number local }
 {
-    5000 + local as u16
+    match given {
+        Some(address) => address,
+        None => MediaAddress {
+            addr: number + 1,
+            port: 5000 + local as u16,
+        },
+    }
 }
 
 // The codecs, where a media flag is on.
@@ -149,6 +158,7 @@ fn first_media_of(
             version,
             hears: true,
             talks: true,
+            address: setup.address,
         })
         .collect(alloc)
 }

@@ -52,7 +52,7 @@ abbrev pub is_plain_slot : PlainSlot → Bool
 is_plain_slot plain = nat_lt plain.medium 2 && nat_lt plain.initiator 2
 
 abbrev pub setup_of : PlainSlot → SlotSetup
-setup_of plain = record { origin = plain.origin; medium = medium_of plain.medium; initiator = plain.initiator == 1 }
+setup_of plain = record { origin = plain.origin; medium = medium_of plain.medium; initiator = plain.initiator == 1; address = None }
 
 -- the numbers say a box that can be made, without its program
 abbrev pub is_setup : PlainSetup → List PlainSlot → Bool

@@ -120,6 +120,7 @@ impl PlainSlot {
             origin: self.origin,
             medium: medium_of(self.medium),
             initiator: self.initiator == 1,
+            address: None,
         }
     }
 }

@@ -27,6 +27,7 @@ fn slot(origin: u32, medium: Medium) -> SlotSetup {
         origin,
         medium,
         initiator: false,
+        address: None,
     }
 }
 

@@ -1,5 +1,5 @@
 -- Worked causes, computed by the definitions alone.
-use Rattle.std.specs.Prelude.{◌≡◌, ◌++◌, false, true, List, [], ◌∷◌, Some, None, IsSome}
+use Rattle.std.specs.Prelude.{◌≡◌, ◌++◌, ℕ, Bool, false, true, List, [], ◌∷◌, Some, None, IsSome}
 use Rattle.mc_signal.specs.Empty.{no_codecs}
 use Rattle.mc_signal.specs.declared.Medium.TheVariants.{Audio}
 use Rattle.mc_slot.specs.declared.Goal.TheVariants.{Open as ToOpen, Close as ToClose, Hold as ToHold}
@@ -9,6 +9,7 @@ use Rattle.mc_box.specs.declared.event.Event.{Event}
 use Rattle.mc_box.specs.declared.event.Event.TheVariants.{Take, Set, Retry}
 use Rattle.mc_box.specs.declared.event.Kind.TheVariants.{Device, Feature}
 use Rattle.mc_box.specs.declared.event.Turn.{Turn}
+use Rattle.mc_box.specs.declared.setup.SlotSetup.{SlotSetup}
 use Rattle.mc_laws.specs.Exchanges.{alice, bob, holds_held, one_codec, opens_and_closes, opens_closed, opens_held, sets, takes, two_phones}
 use Rattle.mc_model.specs.Steps.{run}
 use Rattle.mc_model.specs.Worlds.{WorldState, first_world}
@@ -18,12 +19,16 @@ use Rattle.mc_cause.specs.Causes.{why}
 abbrev pub closes_cross : List Turn
 closes_cross = opens_held ++ alice (sets ToClose) ∷ bob (sets ToClose) ∷ alice takes ∷ bob takes ∷ alice takes ∷ bob takes ∷ []
 
+-- a slot for speech, by its number among all slots, and whether it is on the side of its channel's initiator
+abbrev pub speech_slot : ℕ → Bool → SlotSetup
+speech_slot origin initiator = record { origin = origin; medium = Audio; initiator = initiator; address = None }
+
 -- two phones, and a box between them that links its two slots. alice's slot is 0, the box has 1 and 2, and bob's is 3
 abbrev pub phones_and_box : WorldState
 phones_and_box = first_world
-    (first_box Device 0 one_codec one_codec 1 (record { origin = 0; medium = Audio; initiator = true } ∷ []) None
-    ∷ first_box Feature 1 no_codecs no_codecs 1 (record { origin = 1; medium = Audio; initiator = false } ∷ record { origin = 2; medium = Audio; initiator = true } ∷ []) None
-    ∷ first_box Device 2 one_codec one_codec 1 (record { origin = 3; medium = Audio; initiator = false } ∷ []) None
+    (first_box Device 0 one_codec one_codec 1 (speech_slot 0 true ∷ []) None
+    ∷ first_box Feature 1 no_codecs no_codecs 1 (speech_slot 1 false ∷ speech_slot 2 true ∷ []) None
+    ∷ first_box Device 2 one_codec one_codec 1 (speech_slot 3 false ∷ []) None
     ∷ [])
     (record { from = 0; to = 1; tunnels = record { medium = Audio; from = 0; to = 0 } ∷ [] }
     ∷ record { from = 1; to = 2; tunnels = record { medium = Audio; from = 1; to = 0 } ∷ [] }

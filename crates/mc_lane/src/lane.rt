@@ -80,6 +80,8 @@ impl<T: Copy> Lane<T> {
     pub fn pop(&mut self) -> Option<T>
         ensures item { TakesFirst result self.old.items self.new.items }
         ensures room { self.old.spare ≤ self.new.spare }
+        // The room that it took is room again.
+        ensures size { length self.new.items + self.new.spare ≡ length self.old.items + self.old.spare }
     {
         self.queue.pop_front()
     }

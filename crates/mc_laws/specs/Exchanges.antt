@@ -65,8 +65,8 @@ one_codec = record { len = 1; at = one_entries; places = one_places; short = one
 
 abbrev pub two_phones : WorldState
 two_phones = first_world
-    (first_box Device 0 both_codecs both_codecs 1 (record { origin = 0; medium = Audio; initiator = true } ∷ []) None
-    ∷ first_box Device 1 one_codec one_codec 1 (record { origin = 1; medium = Audio; initiator = false } ∷ []) None
+    (first_box Device 0 both_codecs both_codecs 1 (record { origin = 0; medium = Audio; initiator = true; address = None } ∷ []) None
+    ∷ first_box Device 1 one_codec one_codec 1 (record { origin = 1; medium = Audio; initiator = false; address = None } ∷ []) None
     ∷ [])
     (record { from = 0; to = 1; tunnels = record { medium = Audio; from = 0; to = 0 } ∷ [] } ∷ [])
 

@@ -1,5 +1,5 @@
 -- The shapes that lines leave are those of the boxes of the first world.
-use Rattle.std.proofs.Common.{◌≡◌, ◌≢◌, ◌||◌, ℕ, zero, suc, ◌+◌, ◌*◌, ◌<◌, ◌==◌, Bool, true, false, if◌then◌else◌, List, [], ◌∷◌, ◌++◌, length, map, slice_index_or, refl, sym, ap, ◌∙◌, subst, arith, append_assoc, length-append, zero-add}
+use Rattle.std.proofs.Common.{None, ◌≡◌, ◌≢◌, ◌||◌, ℕ, zero, suc, ◌+◌, ◌*◌, ◌<◌, ◌==◌, Bool, true, false, if◌then◌else◌, List, [], ◌∷◌, ◌++◌, length, map, slice_index_or, refl, sym, ap, ◌∙◌, subst, arith, append_assoc, length-append, zero-add}
 use Rattle.std.proofs.lemmas.Grind.{common_steps}
 use Rattle.std.proofs.lemmas.List.{append-nil, get_or-set_other, get_or-set_same, length-set, map-append}
 use Rattle.mc_signal.specs.declared.Medium.{Medium}
@@ -116,7 +116,7 @@ media_grow : (channels : List ChannelState) (from to near far : ℕ) (medium : M
     → map (λ (setup : SlotSetup). setup.medium) (setups_from who count (channels ++ one_tunnel from to near far medium ∷ []))
     ≡ map (λ (setup : SlotSetup). setup.medium) (setups_from who count channels) ++ medium_if (from == who) medium ++ medium_if (to == who) medium
 media_grow [] from to near far medium who count =
-    at_tunnel (from == who) (to == who) (record { origin = 2 * count; medium = medium; initiator = true }) (record { origin = 2 * count + 1; medium = medium; initiator = false })
+    at_tunnel (from == who) (to == who) (record { origin = 2 * count; medium = medium; initiator = true; address = None }) (record { origin = 2 * count + 1; medium = medium; initiator = false; address = None })
 media_grow (ends ∷ channels) from to near far medium who count =
     let medium_in = λ (setup : SlotSetup). setup.medium in
     let here = setups_at who count ends in

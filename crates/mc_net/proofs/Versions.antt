@@ -1,5 +1,5 @@
 -- In the first world of a text each slot has the version that the line of its box says.
-use Rattle.std.proofs.Common.{◌≡◌, ℕ, zero, suc, ◌+◌, ◌<◌, List, [], ◌∷◌, true, length, map, slice_index_or, ap, sym, subst, arith}
+use Rattle.std.proofs.Common.{None, ◌≡◌, ℕ, zero, suc, ◌+◌, ◌<◌, List, [], ◌∷◌, true, length, map, slice_index_or, ap, sym, subst, arith}
 use Rattle.std.proofs.lemmas.List.{get_or-map, length-map}
 use Rattle.mc_signal.specs.declared.Medium.TheVariants.{Audio}
 use Rattle.mc_box.specs.Boxes.{BoxState, first_media, first_slot, media_at, no_box, no_media}
@@ -20,7 +20,7 @@ use Rattle.mc_net.specs.Versions.{FirstVersions}
 
 -- what stands where no setup is
 no_setup : SlotSetup
-no_setup = record { origin = 0; medium = Audio; initiator = true }
+no_setup = record { origin = 0; medium = Audio; initiator = true; address = None }
 
 -- each slot of these boxes has the first version of its box's plan
 version_from : (channels : List ChannelState) (plans : List BoxPlan) (first who local : ℕ) → who < length plans → local < length (slice_index_or (boxes_from channels first plans) who no_box).slots

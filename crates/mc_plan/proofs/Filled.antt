@@ -1,5 +1,5 @@
 -- Slots are put into the lists of their boxes, tunnel by tunnel.
-use Rattle.std.proofs.Common.{◌≡◌, ◌+◌, ◌*◌, ◌<◌, ◌≤◌, ◌==◌, ℕ, zero, suc, Bool, true, false, All, List, [], ◌∷◌, ◌++◌, length, length-append, drop, replicate, slice_set, refl, ap, sym, ◌∙◌, subst, arith, append_assoc, flat_map, Vec}
+use Rattle.std.proofs.Common.{None, ◌≡◌, ◌+◌, ◌*◌, ◌<◌, ◌≤◌, ◌==◌, ℕ, zero, suc, Bool, true, false, All, List, [], ◌∷◌, ◌++◌, length, length-append, drop, replicate, slice_set, refl, ap, sym, ◌∙◌, subst, arith, append_assoc, flat_map, Vec}
 use Rattle.std.specs.declared.alloc.Global.{Global}
 use Rattle.std.proofs.Math.ListN.{get_or}
 use Rattle.std.proofs.lemmas.Grind.{common_steps}
@@ -83,12 +83,12 @@ slot_added lists who setup was new inside is more =
 -- the slots of one tunnel, and then those of the others
 pub tunnel_added : (ends : ChannelState) (count : ℕ) (tunnel : Tunnel) (tunnels : List Tunnel) (lists : List (List SlotSetup))
     → with_more (λ who. setups_within who (count + 1) ends tunnels) 0
-    (with_more (λ who. setup_if (ends.to == who) (record { origin = 2 * count + 1; medium = tunnel.medium; initiator = false })) 0
-    (with_more (λ who. setup_if (ends.from == who) (record { origin = 2 * count; medium = tunnel.medium; initiator = true })) 0 lists))
+    (with_more (λ who. setup_if (ends.to == who) (record { origin = 2 * count + 1; medium = tunnel.medium; initiator = false; address = None })) 0
+    (with_more (λ who. setup_if (ends.from == who) (record { origin = 2 * count; medium = tunnel.medium; initiator = true; address = None })) 0 lists))
     ≡ with_more (λ who. setups_within who count ends (tunnel ∷ tunnels)) 0 lists
 tunnel_added ends count tunnel tunnels lists =
-    let near : ℕ → List SlotSetup = λ who. setup_if (ends.from == who) (record { origin = 2 * count; medium = tunnel.medium; initiator = true }) in
-    let far : ℕ → List SlotSetup = λ who. setup_if (ends.to == who) (record { origin = 2 * count + 1; medium = tunnel.medium; initiator = false }) in
+    let near : ℕ → List SlotSetup = λ who. setup_if (ends.from == who) (record { origin = 2 * count; medium = tunnel.medium; initiator = true; address = None }) in
+    let far : ℕ → List SlotSetup = λ who. setup_if (ends.to == who) (record { origin = 2 * count + 1; medium = tunnel.medium; initiator = false; address = None }) in
     let rest : ℕ → List SlotSetup = λ who. setups_within who (count + 1) ends tunnels in
     more_twice far rest 0 (with_more near 0 lists)
     ∙ (more_twice near (λ who. far who ++ rest who) 0 lists
@@ -101,8 +101,8 @@ tunnel_added ends count tunnel tunnels lists =
 
 -- a tunnel of a channel gives its slots, where those of the tunnels from it on give all
 pub tunnel_step : (ends : ChannelState) (count i : ℕ) (tunnel : Tunnel) (lists mid next all : List (List SlotSetup)) → i < length ends.tunnels → tunnel ≡ get_or ends.tunnels i tunnel
-    → mid ≡ with_more (λ who. setup_if (ends.from == who) (record { origin = 2 * (count + i); medium = tunnel.medium; initiator = true })) 0 lists
-    → next ≡ with_more (λ who. setup_if (ends.to == who) (record { origin = 2 * (count + i) + 1; medium = tunnel.medium; initiator = false })) 0 mid
+    → mid ≡ with_more (λ who. setup_if (ends.from == who) (record { origin = 2 * (count + i); medium = tunnel.medium; initiator = true; address = None })) 0 lists
+    → next ≡ with_more (λ who. setup_if (ends.to == who) (record { origin = 2 * (count + i) + 1; medium = tunnel.medium; initiator = false; address = None })) 0 mid
     → with_more (λ who. setups_within who (count + i) ends (drop i ends.tunnels)) 0 lists ≡ all → with_more (λ who. setups_within who (count + (i + 1)) ends (drop (i + 1) ends.tunnels)) 0 next ≡ all
 tunnel_step ends count i tunnel lists mid next all inside is near far whole =
     let behind : List Tunnel = drop (i + 1) ends.tunnels in
@@ -110,7 +110,7 @@ tunnel_step ends count i tunnel lists mid next all inside is near far whole =
     let front : drop i ends.tunnels ≡ tunnel ∷ drop (i + 1) ends.tunnels = drop_more ends.tunnels i tunnel inside ∙ ap (λ (t : Tunnel). t ∷ drop (i + 1) ends.tunnels) (sym is) in
     ap (λ (n : ℕ). with_more (λ who. setups_within who n ends behind) 0 next) later
     ∙ (ap (λ (l : List (List SlotSetup)). with_more (λ who. setups_within who (count + i + 1) ends behind) 0 l)
-    (far ∙ ap (λ (l : List (List SlotSetup)). with_more (λ who. setup_if (ends.to == who) (record { origin = 2 * (count + i) + 1; medium = tunnel.medium; initiator = false })) 0 l) near)
+    (far ∙ ap (λ (l : List (List SlotSetup)). with_more (λ who. setup_if (ends.to == who) (record { origin = 2 * (count + i) + 1; medium = tunnel.medium; initiator = false; address = None })) 0 l) near)
     ∙ (tunnel_added ends (count + i) tunnel behind lists
     ∙ (ap (λ (l : List Tunnel). with_more (λ who. setups_within who (count + i) ends l) 0 lists) (sym front) ∙ whole)))
 

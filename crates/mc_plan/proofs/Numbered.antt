@@ -67,7 +67,7 @@ new_from channels who planned few below =
 
 -- what stands where no setup is
 no_setup : SlotSetup
-no_setup = record { origin = 0; medium = Audio; initiator = true }
+no_setup = record { origin = 0; medium = Audio; initiator = true; address = None }
 
 -- a slot of a box is as its setup says
 record IsSetUp (box : BoxState) (local : ℕ) (setup : SlotSetup) : Type 0 where

@@ -1,5 +1,5 @@
 -- The slots of a box, picked from those of all tunnels.
-use Rattle.std.proofs.Common.{◌≡◌, ◌+◌, ◌*◌, ◌/◌, ◌%◌, ◌<◌, ◌==◌, ℕ, zero, suc, Bool, true, false, cond, List, [], ◌∷◌, ◌++◌, count_by, length, take, refl, ap, sym, ◌∙◌, subst, arith, append_assoc, flat_map, zero-add}
+use Rattle.std.proofs.Common.{None, ◌≡◌, ◌+◌, ◌*◌, ◌/◌, ◌%◌, ◌<◌, ◌==◌, ℕ, zero, suc, Bool, true, false, cond, List, [], ◌∷◌, ◌++◌, count_by, length, take, refl, ap, sym, ◌∙◌, subst, arith, append_assoc, flat_map, zero-add}
 use Rattle.std.proofs.Math.ListN.{get_or}
 use Rattle.mc_box.specs.declared.setup.SlotSetup.{SlotSetup}
 use Rattle.mc_plan.specs.Setups.{setups_from, setups_of, setups_within}
@@ -59,7 +59,7 @@ pick_append {X} {Y} p (x ∷ xs) later (y ∷ ys) others same =
 abbrev pub all_slots : ℕ → List TunnelPlace → List SlotSetup
 all_slots count [] = []
 all_slots count (tunnel ∷ tunnels) =
-    record { origin = 2 * count; medium = tunnel.medium; initiator = true } ∷ record { origin = 2 * count + 1; medium = tunnel.medium; initiator = false } ∷ all_slots (count + 1) tunnels
+    record { origin = 2 * count; medium = tunnel.medium; initiator = true; address = None } ∷ record { origin = 2 * count + 1; medium = tunnel.medium; initiator = false; address = None } ∷ all_slots (count + 1) tunnels
 
 -- two for each tunnel
 pub length_all : (count : ℕ) (tunnels : List TunnelPlace) → length (all_slots count tunnels) ≡ 2 * length tunnels
@@ -71,7 +71,7 @@ all_append : (count : ℕ) (first later : List TunnelPlace) → all_slots count 
 all_append count [] later = ap (λ (n : ℕ). all_slots n later) (omega arith)
 all_append count (tunnel ∷ first) later =
     let next : count + 1 + length first ≡ count + suc (length first) = omega arith in
-    ap (λ (l : List SlotSetup). record { origin = 2 * count; medium = tunnel.medium; initiator = true } ∷ record { origin = 2 * count + 1; medium = tunnel.medium; initiator = false } ∷ l)
+    ap (λ (l : List SlotSetup). record { origin = 2 * count; medium = tunnel.medium; initiator = true; address = None } ∷ record { origin = 2 * count + 1; medium = tunnel.medium; initiator = false; address = None } ∷ l)
     (all_append (count + 1) first later ∙ ap (λ (n : ℕ). all_slots (count + 1) first ++ all_slots n later) next)
 
 -- the slot of a number: its origin, its medium and its side
@@ -107,8 +107,8 @@ within_picked : (who channel within count : ℕ) (ends : ChannelState) (tunnels 
     → setups_within who count ends tunnels ≡ pick (is_of who) (flat_map (places_of ends) tunnels) (all_slots count (tunnels_within channel within tunnels))
 within_picked who channel within count ends [] = refl
 within_picked who channel within count ends (tunnel ∷ tunnels) =
-    let near : List SlotSetup = cond (ends.from == who) (record { origin = 2 * count; medium = tunnel.medium; initiator = true } ∷ []) [] in
-    let far : List SlotSetup = cond (ends.to == who) (record { origin = 2 * count + 1; medium = tunnel.medium; initiator = false } ∷ []) [] in
+    let near : List SlotSetup = cond (ends.from == who) (record { origin = 2 * count; medium = tunnel.medium; initiator = true; address = None } ∷ []) [] in
+    let far : List SlotSetup = cond (ends.to == who) (record { origin = 2 * count + 1; medium = tunnel.medium; initiator = false; address = None } ∷ []) [] in
     ap (λ (l : List SlotSetup). near ++ far ++ l) (within_picked who channel (within + 1) (count + 1) ends tunnels)
     ∙ append_assoc near far (pick (is_of who) (flat_map (places_of ends) tunnels) (all_slots (count + 1) (tunnels_within channel (within + 1) tunnels)))
 

@@ -182,8 +182,8 @@ setups_behind : (who count : ℕ) (ends : ChannelState) (tunnel : Tunnel) (tunne
     → setups_within who count (with_one_more tunnel ends) (tunnels ++ tunnel ∷ []) ≡ setups_within who count ends tunnels ++ setups_within who (count + length tunnels) ends (tunnel ∷ [])
 setups_behind who count ends tunnel [] = let same : count + 0 ≡ count = omega arith in rw same refl
 setups_behind who count ends tunnel (other ∷ tunnels) =
-    let near = setup_if (ends.from == who) (record { origin = 2 * count; medium = other.medium; initiator = true }) in
-    let far = setup_if (ends.to == who) (record { origin = 2 * count + 1; medium = other.medium; initiator = false }) in
+    let near = setup_if (ends.from == who) (record { origin = 2 * count; medium = other.medium; initiator = true; address = None }) in
+    let far = setup_if (ends.to == who) (record { origin = 2 * count + 1; medium = other.medium; initiator = false; address = None }) in
     let next : count + 1 + length tunnels ≡ count + suc (length tunnels) = omega arith in
     ap (λ (l : List SlotSetup). near ++ far ++ l) (setups_behind who (count + 1) ends tunnel tunnels)
     ∙ sym (append_assoc (near ++ far) (setups_within who (count + 1) ends tunnels) (setups_within who (count + 1 + length tunnels) ends (tunnel ∷ [])))

@@ -1,5 +1,5 @@
 -- The slots that channels give a box.
-use Rattle.std.specs.Prelude.{ℕ, ◌+◌, ◌*◌, ◌==◌, Bool, true, false, if◌then◌else◌, List, [], ◌∷◌, ◌++◌, length, map, Vec}
+use Rattle.std.specs.Prelude.{None, ℕ, ◌+◌, ◌*◌, ◌==◌, Bool, true, false, if◌then◌else◌, List, [], ◌∷◌, ◌++◌, length, map, Vec}
 use Rattle.std.specs.declared.alloc.Global.{Global}
 use Rattle.mc_model.specs.Worlds.{ChannelState}
 use Rattle.mc_box.specs.declared.setup.SlotSetup.{SlotSetup}
@@ -13,8 +13,8 @@ setup_if here setup = if here then setup ∷ [] else []
 abbrev pub setups_within : ℕ → ℕ → ChannelState → List Tunnel → List SlotSetup
 setups_within who count ends [] = []
 setups_within who count ends (tunnel ∷ tunnels) =
-    setup_if (ends.from == who) (record { origin = 2 * count; medium = tunnel.medium; initiator = true })
-    ++ setup_if (ends.to == who) (record { origin = 2 * count + 1; medium = tunnel.medium; initiator = false })
+    setup_if (ends.from == who) (record { origin = 2 * count; medium = tunnel.medium; initiator = true; address = None })
+    ++ setup_if (ends.to == who) (record { origin = 2 * count + 1; medium = tunnel.medium; initiator = false; address = None })
     ++ setups_within who (count + 1) ends tunnels
 
 -- the slots of a box at a channel, whose tunnels are counted from a number on

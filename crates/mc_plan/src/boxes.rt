@@ -122,11 +122,13 @@ fn add_channel(
             origin,
             medium,
             initiator: true,
+            address: None,
         };
         let far = SlotSetup {
             origin: origin + 1,
             medium,
             initiator: false,
+            address: None,
         };
         add_slot(channel.from, near, lists)?;
         add_slot(channel.to, far, lists)?;

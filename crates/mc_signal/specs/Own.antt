@@ -5,27 +5,27 @@ use Rattle.mc_signal.specs.declared.Descriptor.{Descriptor}
 use Rattle.mc_signal.specs.declared.Sender.{Sender}
 use Rattle.mc_signal.specs.Empty.{no_codecs}
 
--- the address of a device, by its box number
+-- the address of a device that was given none, by its box number
 abbrev pub address_of : ℕ → ℕ
 address_of who = who + 1
 
--- the port of a device's slot, by its local number
+-- the port of a device's slot that was given none, by its local number
 abbrev pub port_of : ℕ → ℕ
 port_of local = 5000 + local
 
 -- the newest descriptor of a device's slot: it offers the list that the device receives, and nothing where hearing is off
-abbrev pub device_descriptor : (origin version who local : ℕ) → Bool → CodecList → Descriptor
-device_descriptor origin version who local hears receives = record {
+abbrev pub device_descriptor : (origin version addr port : ℕ) → Bool → CodecList → Descriptor
+device_descriptor origin version addr port hears receives = record {
   origin = origin;
   version = version;
-  addr = address_of who;
-  port = port_of local;
+  addr = addr;
+  port = port;
   codecs = if hears then receives else no_codecs;
 }
 
 -- the sender of a device's slot: it sends the device's list, and nothing where talking is off
-abbrev pub device_sender : (who local : ℕ) → Bool → CodecList → Sender
-device_sender who local talks sends = record { addr = address_of who; port = port_of local; codecs = if talks then sends else no_codecs }
+abbrev pub device_sender : (addr port : ℕ) → Bool → CodecList → Sender
+device_sender addr port talks sends = record { addr = addr; port = port; codecs = if talks then sends else no_codecs }
 
 -- a feature's slot asks for no media
 abbrev pub feature_descriptor : (origin : ℕ) → Descriptor

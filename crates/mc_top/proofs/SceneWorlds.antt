@@ -61,7 +61,7 @@ flowing_slot = with_state (closed_slot Audio true) Flowing
 
 -- what the descriptors of a slot are made of at the beginning
 abbrev pub media_from : ℕ → SlotMedia
-media_from origin = record { origin = origin; version = 1; hears = true; talks = true }
+media_from origin = record { origin = origin; version = 1; hears = true; talks = true; address = None }
 
 -- what stays of a device: its slot's number, and the list that it receives and sends
 pub record Phone : Type 0 where

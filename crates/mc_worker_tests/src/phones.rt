@@ -29,6 +29,7 @@ pub fn phone(alloc: Global, number: u32, first_version: u32) -> Result<MediaBox,
         origin: number,
         medium: Medium::Audio,
         initiator: number == 0,
+        address: None,
     })?;
     let setup = Setup {
         kind: Kind::Device,

@@ -21,6 +21,7 @@ fn phone(alloc: Global, number: u32) -> Result<MediaBox, AllocError>
         origin: number,
         medium: Medium::Audio,
         initiator: number == 0,
+        address: None,
     })?;
     let setup = Setup {
         kind: Kind::Device,
