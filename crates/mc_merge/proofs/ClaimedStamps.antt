@@ -13,8 +13,8 @@ use Rattle.mc_box.specs.declared.event.Event.TheVariants.{Take}
 use Rattle.mc_box.proofs.Options.{map_some}
 use Rattle.mc_laws.proofs.LanesKept.{lane_in}
 use Rattle.mc_laws.proofs.Numbers.{number_is}
-use Rattle.mc_log.specs.Entries.{AreMade, AreStamped, Claimed, Entry, claim_of, entries_of, signal_in, stamps_of}
-use Rattle.mc_log.specs.Tunnels.{Tunnels, event_sends, log_sends, log_takes, sent_if}
+use Rattle.mc_port.specs.Entries.{AreMade, AreStamped, Claimed, Entry, claim_of, entries_of, signal_in, stamps_of}
+use Rattle.mc_port.specs.Tunnels.{Tunnels, event_sends, log_sends, log_takes, sent_if}
 use Rattle.mc_merge.specs.Claims.{ClaimedSendsFit, ClaimedStampsFit, IsClaimed, all_stamps, entry_count}
 use Rattle.mc_merge.specs.LaneLogs.{claimed_of, claims_from, log_of, logs_of, sent_to}
 use Rattle.mc_merge.specs.Lanes.{FitsTunnel, into_box, leads_from, leads_to, out_of_box}

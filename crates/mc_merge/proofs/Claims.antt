@@ -10,14 +10,14 @@ use Rattle.mc_box.specs.declared.event.Turn.{Turn}
 use Rattle.mc_box.specs.BoxEvents.{turn_of}
 use Rattle.mc_order.specs.Keys.{Rise}
 use Rattle.mc_model.specs.Worlds.{WorldState, box_at}
-use Rattle.mc_log.specs.Tunnels.{Tunnels, event_takes, log_takes}
+use Rattle.mc_port.specs.Tunnels.{Tunnels, event_takes, log_takes}
 use Rattle.mc_merge.specs.Claims.{AreClaims, ClaimedAreLogged, ClaimsKeep, IsClaimed, OwnEvents, RingKeeps}
 use Rattle.mc_merge.specs.LaneLogs.{claimed_of, claims_from, log_of, logs_of, sent_to, taken_from, takings, without_stamps}
 use Rattle.mc_merge.specs.Lanes.{FitsTunnel, into_box, leads_to}
 use Rattle.mc_merge.specs.Merging.{LaneKeeps}
 use Rattle.mc_merge.proofs.Accounts.{without_stamps_sent}
 use Rattle.mc_merge.proofs.OwnTurns.{own_turns}
-use Rattle.mc_log.specs.Entries.{AreMade, AreStamped, Claimed, Entry, claim_of, entries_of, events_that, stamps_of}
+use Rattle.mc_port.specs.Entries.{AreMade, AreStamped, Claimed, Entry, claim_of, entries_of, events_that, stamps_of}
 use Rattle.mc_port.specs.Ends.{without_stamp, with_stamp}
 use Rattle.mc_port.specs.declared.stamped.Stamped.{Stamped}
 

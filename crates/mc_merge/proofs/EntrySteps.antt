@@ -16,8 +16,8 @@ use Rattle.mc_laws.specs.Sendings.{sent_on, signal_on}
 use Rattle.mc_laws.proofs.ActedWorlds.{far_inside}
 use Rattle.mc_laws.proofs.LanesKept.{lane_in}
 use Rattle.mc_laws.proofs.Numbers.{number_is}
-use Rattle.mc_log.specs.Entries.{signal_in}
-use Rattle.mc_log.specs.Tunnels.{event_takes, taken_if, tunnel_if_at}
+use Rattle.mc_port.specs.Entries.{signal_in}
+use Rattle.mc_port.specs.Tunnels.{event_takes, taken_if, tunnel_if_at}
 use Rattle.mc_merge.specs.Lanes.{FitsTunnel, into_box, lane_place}
 use Rattle.mc_model.specs.Steps.{after_making, after_pop, after_push, after_sends, step}
 use Rattle.mc_model.specs.Worlds.{WorldState, box_at, far, front, front_for, lane_of, number, tunnel_of}

@@ -11,7 +11,7 @@ use Rattle.mc_laws.specs.Sendings.{sent_on, signal_on}
 use Rattle.mc_laws.proofs.LanesKept.{far_tunnel}
 use Rattle.mc_laws.proofs.Numbers.{far_side, half_in, number_is}
 use Rattle.mc_laws.proofs.TunnelPlaces.{two_each}
-use Rattle.mc_log.specs.Tunnels.{taken_if, tunnel_if_at}
+use Rattle.mc_port.specs.Tunnels.{taken_if, tunnel_if_at}
 use Rattle.mc_merge.specs.Lanes.{absent_channel, lane_place, leads_from, leads_to}
 use Rattle.mc_merge.proofs.EntrySteps.{tagged_away, taken_by_test, takes_from}
 use Rattle.mc_model.specs.Worlds.{ChannelState, TunnelPlace, WorldState, all_tunnels, far, lane_of, no_tunnel, number, place, places, places_among, places_of, places_within, slot_count, tunnel_of, tunnels_from, tunnels_within}

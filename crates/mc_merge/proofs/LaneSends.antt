@@ -4,7 +4,7 @@ use Rattle.std.specs.Option.{option_map}
 use Rattle.std.proofs.lemmas.List.{map-append}
 use Rattle.mc_signal.specs.declared.Signal.{Signal}
 use Rattle.mc_laws.specs.Sendings.{sent_on, signal_on}
-use Rattle.mc_log.specs.Tunnels.{event_sends, sent_if, tunnel_if_at}
+use Rattle.mc_port.specs.Tunnels.{event_sends, sent_if, tunnel_if_at}
 use Rattle.mc_merge.specs.Lanes.{lane_place, out_of_box}
 use Rattle.mc_model.specs.Worlds.{WorldState, far, lane_of, number, tunnel_of}
 use Rattle.mc_port.specs.Ends.{with_stamp}

@@ -15,7 +15,7 @@ use Rattle.mc_laws.specs.Sendings.{sent_on}
 use Rattle.mc_merge.specs.Lanes.{FitsTunnel}
 use Rattle.mc_merge.proofs.Accounts.{Follows, Splits, moves, splits}
 use Rattle.mc_merge.proofs.EntrySteps.{event_steps, takes_from}
-use Rattle.mc_log.specs.Entries.{Entry, AreMade}
+use Rattle.mc_port.specs.Entries.{Entry, AreMade}
 use Rattle.mc_port.specs.Ends.{with_stamp}
 use Rattle.mc_port.specs.declared.stamped.Stamped.{Stamped}
 

@@ -15,7 +15,7 @@ use Rattle.mc_laws.specs.Sendings.{sent_on}
 use Rattle.mc_laws.proofs.StepKeeps.{run_keeps_sound}
 use Rattle.mc_model.specs.Steps.{run}
 use Rattle.mc_model.specs.Worlds.{WorldState, box_at}
-use Rattle.mc_log.specs.Tunnels.{event_sends, log_sends}
+use Rattle.mc_port.specs.Tunnels.{event_sends, log_sends}
 use Rattle.mc_merge.specs.LaneLogs.{log_of, sent_to, taken_from, takings}
 use Rattle.mc_merge.specs.Lanes.{FitsTunnel, into_box, leads_from, leads_to, out_of_box}
 use Rattle.mc_merge.specs.Merging.{IsLogged, MergeKeepsSound, MergeLaw, entry_at, merged, turn_at}
@@ -24,7 +24,7 @@ use Rattle.mc_merge.proofs.EntrySteps.{takes_from}
 use Rattle.mc_merge.proofs.LaneEnds.{sends_nothing, takes_nothing}
 use Rattle.mc_merge.proofs.LaneSends.{sends_are}
 use Rattle.mc_merge.proofs.MergedRuns.{Leads, NeverFalls, Placed, all_sent, all_taken, merged_runs, own, own_else, own_here, placed_turn}
-use Rattle.mc_log.specs.Entries.{Entry, AreMade, no_entry, stamps_of}
+use Rattle.mc_port.specs.Entries.{Entry, AreMade, no_entry, stamps_of}
 use Rattle.mc_port.specs.Ends.{with_stamp}
 use Rattle.mc_port.specs.declared.stamped.Stamped.{Stamped}
 

@@ -6,7 +6,7 @@ use Rattle.std.proofs.lemmas.Grind.{common_steps}
 use Rattle.mc_box.specs.BoxEvents.{turn_of}
 use Rattle.mc_box.specs.declared.event.Event.{Event}
 use Rattle.mc_box.specs.declared.event.Turn.{Turn}
-use Rattle.mc_log.specs.Entries.{Entry, stamps_of}
+use Rattle.mc_port.specs.Entries.{Entry, stamps_of}
 use Rattle.mc_merge.specs.Merging.{OwnTurns}
 use Rattle.mc_merge.proofs.MergedRuns.{Placed, own, own_else, own_here, placed_turn}
 use Rattle.mc_merge.proofs.Merging.{all_rise, own_is, placed_at, turns_same}

@@ -13,7 +13,7 @@ use Rattle.mc_merge.specs.LaneLogs.{claimed_of, claims_from, log_of, logs_of, se
 use Rattle.mc_merge.specs.Lanes.{FitsTunnel}
 use Rattle.mc_merge.specs.Merging.{LaneKeeps}
 use Rattle.mc_merge.specs.WorkedMerge.{WorkedMerge, claimed_logs, four_keys, key_of, last_world, left_over, two_logs}
-use Rattle.mc_log.specs.Entries.{AreMade, AreStamped, Claimed, Entry, entries_of, stamps_of}
+use Rattle.mc_port.specs.Entries.{AreMade, AreStamped, Claimed, Entry, entries_of, stamps_of}
 use Rattle.mc_port.specs.Ends.{with_stamp}
 use Rattle.mc_port.specs.declared.stamped.Stamped.{Stamped}
 

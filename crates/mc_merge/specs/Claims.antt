@@ -5,8 +5,8 @@ use Rattle.mc_signal.specs.declared.Tagged.{Tagged}
 use Rattle.mc_box.specs.BoxEvents.{turn_of}
 use Rattle.mc_box.specs.Boxes.{BoxState, no_box}
 use Rattle.mc_box.specs.declared.event.Event.{Event}
-use Rattle.mc_log.specs.Entries.{AreMade, AreStamped, Claimed, entries_of, events_that, stamps_of}
-use Rattle.mc_log.specs.Tunnels.{Tunnels, log_sends}
+use Rattle.mc_port.specs.Entries.{AreMade, AreStamped, Claimed, entries_of, events_that, stamps_of}
+use Rattle.mc_port.specs.Tunnels.{Tunnels, log_sends}
 use Rattle.mc_merge.specs.LaneLogs.{claimed_of, claims_from, logs_of, sent_to, without_stamps}
 use Rattle.mc_merge.specs.Lanes.{FitsTunnel}
 use Rattle.mc_merge.specs.Merging.{IsLogged, LaneKeeps, merged}

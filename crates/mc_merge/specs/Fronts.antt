@@ -3,7 +3,7 @@ use Rattle.std.specs.Prelude.{◌≡◌, ℕ, List, ◌∷◌, [], slice_index_o
 use Rattle.mc_signal.specs.declared.Tagged.{Tagged}
 use Rattle.mc_slot.specs.Moves.{slot_take}
 use Rattle.mc_box.specs.Boxes.{BoxState}
-use Rattle.mc_log.specs.Entries.{Entry}
+use Rattle.mc_port.specs.Entries.{Entry}
 use Rattle.mc_merge.specs.Lanes.{leads_to}
 use Rattle.mc_merge.specs.Merging.{IsLogged}
 use Rattle.mc_model.specs.Served.{IsFor}

@@ -1,8 +1,8 @@
 -- What the boxes at a lane's ends take from it and send into it, by their logs.
 use Rattle.std.specs.Prelude.{ℕ, List, [], flat_map, map, slice_index_or}
 use Rattle.mc_signal.specs.declared.Tagged.{Tagged}
-use Rattle.mc_log.specs.Entries.{Claimed, Entry, entries_of}
-use Rattle.mc_log.specs.Tunnels.{Tunnels, event_takes, log_sends, log_takes}
+use Rattle.mc_port.specs.Entries.{Claimed, Entry, entries_of}
+use Rattle.mc_port.specs.Tunnels.{Tunnels, event_takes, log_sends, log_takes}
 use Rattle.mc_merge.specs.Lanes.{into_box, leads_from, leads_to, out_of_box}
 use Rattle.mc_model.specs.Worlds.{WorldState}
 use Rattle.mc_port.specs.Ends.{with_stamp, without_stamp}

@@ -4,7 +4,7 @@ use Rattle.std.specs.Option.{option_map}
 use Rattle.mc_signal.specs.declared.Tagged.{Tagged}
 use Rattle.mc_box.specs.declared.event.Event.{Event}
 use Rattle.mc_box.specs.declared.event.Event.TheVariants.{Take}
-use Rattle.mc_log.specs.Tunnels.{Tunnels, tunnel_if_at}
+use Rattle.mc_port.specs.Tunnels.{Tunnels, tunnel_if_at}
 use Rattle.mc_model.specs.Sound.{IsNumbered}
 use Rattle.mc_model.specs.Worlds.{AreChannels, ChannelState, WorldState, far, lane_of, number, tunnel_of}
 

@@ -6,7 +6,7 @@ use Rattle.mc_box.specs.BoxEvents.{turn_of}
 use Rattle.mc_box.specs.Boxes.{BoxState, no_box}
 use Rattle.mc_box.specs.declared.event.Event.{Event}
 use Rattle.mc_box.specs.declared.event.Turn.{Turn}
-use Rattle.mc_log.specs.Entries.{AreMade, Entry, no_entry, stamps_of}
+use Rattle.mc_port.specs.Entries.{AreMade, Entry, no_entry, stamps_of}
 use Rattle.mc_merge.specs.LaneLogs.{log_of, sent_to, taken_from, without_stamps}
 use Rattle.mc_merge.specs.Lanes.{FitsTunnel}
 use Rattle.mc_model.specs.Settles.{of_kind}

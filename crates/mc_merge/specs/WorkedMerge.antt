@@ -8,7 +8,7 @@ use Rattle.mc_box.specs.Boxes.{BoxState}
 use Rattle.mc_box.specs.declared.event.Event.{Event}
 use Rattle.mc_box.specs.declared.event.Turn.{Turn}
 use Rattle.mc_laws.specs.Exchanges.{alice, bob, sets, takes, two_phones}
-use Rattle.mc_log.specs.Entries.{Claimed, Entry, signal_in}
+use Rattle.mc_port.specs.Entries.{Claimed, Entry, signal_in}
 use Rattle.mc_merge.specs.Claims.{IsClaimed}
 use Rattle.mc_merge.specs.LaneLogs.{sent_to}
 use Rattle.mc_merge.specs.Merging.{IsLogged, merged}

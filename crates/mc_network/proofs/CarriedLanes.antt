@@ -6,7 +6,7 @@ use Rattle.mc_model.specs.Worlds.{ChannelState, WorldState}
 use Rattle.mc_port.specs.Ends.{given, in_ring, left_in, out_ring, received}
 use Rattle.mc_port.specs.declared.ends.InPort.{InPort}
 use Rattle.mc_port.specs.declared.ends.OutPort.{OutPort}
-use Rattle.mc_weave.specs.Account.{part_lane}
+use Rattle.mc_merge.specs.Account.{part_lane}
 use Rattle.mc_part.specs.Carrying.{AllComeIn, AllGoOut, AreFor, CanCarry, CarriesAll, GoesOver, IsSameBut, lane_at, tunnel_count, waiting_at}
 use Rattle.mc_part.specs.Parts.{state_of, tables_of}
 use Rattle.mc_part.specs.Ports.{into_lane, out_lane}

@@ -9,9 +9,9 @@ use Rattle.mc_model.specs.Worlds.{WorldState}
 use Rattle.mc_port.specs.Ends.{given, received}
 use Rattle.mc_port.specs.declared.stamped.Stamped.{Stamped}
 use Rattle.mc_world.specs.Pumping.{is_slot_at}
-use Rattle.mc_weave.specs.Account.{ComesFromHere, part_lane}
-use Rattle.mc_weave.specs.Phases.{AreEmptied, Layout, SendsAt}
-use Rattle.mc_cut.specs.Cuts.{layout_of}
+use Rattle.mc_merge.specs.Account.{ComesFromHere, part_lane}
+use Rattle.mc_merge.specs.Phases.{AreEmptied, Layout, SendsAt}
+use Rattle.mc_part.specs.Cuts.{layout_of}
 use Rattle.mc_part.specs.Carrying.{AllComeIn, AllGoOut, AreFor, CanCarry, FitsChannel, HoldsAt, tunnel_count}
 use Rattle.mc_part.specs.Networks.{states_of, tables_at}
 use Rattle.mc_part.specs.Parts.{Runs, state_of, tables_of}

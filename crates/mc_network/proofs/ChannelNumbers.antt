@@ -6,9 +6,9 @@ use Rattle.std.proofs.lemmas.List.Filters.{length-filter_more}
 use Rattle.std.proofs.lemmas.List.FromFn.{filter_of_map_range_with_len_more}
 use Rattle.std.proofs.lemmas.Option.{get_or_from_slice_get, slice_get-get_or, slice_get_within}
 use Rattle.std.specs.List.{range_with_len, slice_get}
-use Rattle.mc_cut.specs.Cuts.{channels_in, is_crossing, is_inner, is_part, members, part_of, place_in, rank, touching}
-use Rattle.mc_cut.proofs.Placed.{Touches, channel_count, front_at, place_of_crossing}
-use Rattle.mc_cut.proofs.Same.{other_one}
+use Rattle.mc_part.specs.Cuts.{channels_in, is_crossing, is_inner, is_part, members, part_of, place_in, rank, touching}
+use Rattle.mc_part.proofs.Placed.{Touches, channel_count, front_at, place_of_crossing}
+use Rattle.mc_part.proofs.Same.{other_one}
 use Rattle.mc_merge.specs.Lanes.{absent_channel}
 use Rattle.mc_model.specs.Worlds.{ChannelState}
 use Rattle.mc_network.specs.Laying.{channel_numbers, is_kind, kind_of, numbers_of_kind}

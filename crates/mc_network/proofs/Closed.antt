@@ -8,16 +8,16 @@ use Rattle.mc_box.specs.Boxes.{no_box}
 use Rattle.mc_box.specs.declared.event.Turn.{Turn}
 use Rattle.mc_model.specs.Sound.{IsSound}
 use Rattle.mc_port.specs.Ends.{given, received}
-use Rattle.mc_weave.specs.Account.{PartState}
-use Rattle.mc_weave.specs.Phases.{stands_for}
-use Rattle.mc_weave.specs.Together.{Ran}
-use Rattle.mc_weave.specs.Turns.{no_items}
-use Rattle.mc_weave.specs.Weaving.{numbers_of}
-use Rattle.mc_weave.specs.Wholes.{AreHomes, numbers_in}
-use Rattle.mc_weave.specs.declared.log.PartLog.{PartLog}
-use Rattle.mc_cut.specs.Cuts.{home_at, members, part_numbers}
-use Rattle.mc_cut.proofs.Filling.{none_past_parts}
-use Rattle.mc_cut.proofs.Members.{cuts_are_homes}
+use Rattle.mc_merge.specs.Account.{PartState}
+use Rattle.mc_merge.specs.Phases.{stands_for}
+use Rattle.mc_merge.specs.Together.{Ran}
+use Rattle.mc_merge.specs.Turns.{no_items}
+use Rattle.mc_merge.specs.Weaving.{numbers_of}
+use Rattle.mc_merge.specs.Wholes.{AreHomes, numbers_in}
+use Rattle.mc_merge.specs.declared.log.PartLog.{PartLog}
+use Rattle.mc_part.specs.Cuts.{home_at, members, part_numbers}
+use Rattle.mc_part.proofs.Filling.{none_past_parts}
+use Rattle.mc_part.proofs.Members.{cuts_are_homes}
 use Rattle.mc_part.specs.Networks.{AreCarried, AreParts, HaveHomes, HaveRun, given_on, received_on, world_by}
 use Rattle.mc_part.specs.Parts.{state_of}
 use Rattle.mc_part.specs.declared.part.Part.{Part}

@@ -14,12 +14,12 @@ use Rattle.mc_box.specs.declared.event.Event.TheVariants.{Shift}
 use Rattle.mc_box.specs.declared.event.Turn.{Turn}
 use Rattle.mc_box.specs.declared.limit.TheConstants.{SHIFT_LIMIT}
 use Rattle.mc_box.proofs.ShapeEnables.{shape_enables}
-use Rattle.mc_cut.specs.Cuts.{home_at, members, part_of}
-use Rattle.mc_cut.proofs.Members.{home_apart, home_inside, home_outside}
+use Rattle.mc_part.specs.Cuts.{home_at, members, part_of}
+use Rattle.mc_part.proofs.Members.{home_apart, home_inside, home_outside}
 use Rattle.mc_model.specs.Shapes.{is_allowed}
 use Rattle.mc_model.specs.Worlds.{WorldState, box_at}
 use Rattle.mc_part.specs.Parts.{IsWithin, events_for, shifts_of, state_of, stimuli_of}
-use Rattle.mc_weave.specs.Account.{PartState}
+use Rattle.mc_merge.specs.Account.{PartState}
 use Rattle.mc_part.specs.Running.{AreCalm}
 use Rattle.mc_part.specs.declared.part.Part.{Part}
 use Rattle.mc_part.specs.declared.part_run.PartRun.{PartRun}

@@ -12,7 +12,7 @@ use Rattle.mc_box.specs.declared.event.Turn.{Turn}
 use Rattle.mc_box.specs.declared.limit.TheConstants.{SHIFT_LIMIT}
 use Rattle.mc_model.specs.Shapes.{is_allowed}
 use Rattle.mc_model.specs.Worlds.{WorldState, box_at}
-use Rattle.mc_cut.specs.Cuts.{home_at}
+use Rattle.mc_part.specs.Cuts.{home_at}
 use Rattle.mc_part.specs.Parts.{shifts_of, stimuli_of}
 use Rattle.mc_part.specs.Phases.{EachChanged, EachOf}
 use Rattle.mc_part.specs.Running.{AreCalm}

@@ -6,11 +6,11 @@ use Rattle.std.proofs.lemmas.List.FromFn.{get_or-range_with_len, length-range_wi
 use Rattle.std.proofs.lemmas.Option.{none-some, same_Some, slice_get-get_or, slice_get-map, slice_get_within}
 use Rattle.mc_merge.specs.Lanes.{absent_channel}
 use Rattle.mc_model.specs.Worlds.{ChannelState, WorldState}
-use Rattle.mc_cut.specs.Cuts.{is_part, layout_of, part_of, place_in, rank}
-use Rattle.mc_cut.proofs.Layouts.{from_there, to_there}
-use Rattle.mc_cut.proofs.Placed.{Touches, place_apart, touch_on}
-use Rattle.mc_cut.proofs.Ranks.{Found, rank_back, rank_found}
-use Rattle.mc_cut.proofs.Slots.{end_on}
+use Rattle.mc_part.specs.Cuts.{is_part, layout_of, part_of, place_in, rank}
+use Rattle.mc_part.proofs.Layouts.{from_there, to_there}
+use Rattle.mc_part.proofs.Placed.{Touches, place_apart, touch_on}
+use Rattle.mc_part.proofs.Ranks.{Found, rank_back, rank_found}
+use Rattle.mc_part.proofs.Slots.{end_on}
 use Rattle.mc_network.specs.Networks.{crossing_at, crossings_of, is_apart}
 use Rattle.mc_network.specs.Phasing.{AreApart, IsEnd, IsNoEnd}
 use Rattle.mc_network.specs.declared.network.Crossing.{Crossing}

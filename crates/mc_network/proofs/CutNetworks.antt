@@ -11,10 +11,10 @@ use Rattle.mc_box.specs.declared.event.Event.{Event}
 use Rattle.mc_box.specs.declared.event.Event.TheVariants.{Shift}
 use Rattle.mc_box.specs.declared.event.Turn.{Turn}
 use Rattle.mc_box.specs.declared.limit.TheConstants.{SLOT_LIMIT}
-use Rattle.mc_cut.specs.Cuts.{boxes_in, channels_in, first_part, home_at, members, part_numbers, starts_in, tables_in}
-use Rattle.mc_cut.specs.Cutting.{AreNumbersIn, count_of, share_of}
-use Rattle.mc_cut.proofs.Leads.{cuts_lead_away}
-use Rattle.mc_cut.proofs.Members.{IsMember, first_parts_are_cut, member_here}
+use Rattle.mc_part.specs.Cuts.{boxes_in, channels_in, first_part, home_at, members, part_numbers, starts_in, tables_in}
+use Rattle.mc_part.specs.Cutting.{AreNumbersIn, count_of, share_of}
+use Rattle.mc_part.proofs.Leads.{cuts_lead_away}
+use Rattle.mc_part.proofs.Members.{IsMember, first_parts_are_cut, member_here}
 use Rattle.mc_model.specs.Shapes.{is_allowed}
 use Rattle.mc_model.specs.Sound.{IsSound}
 use Rattle.mc_model.specs.Worlds.{ChannelState, WorldState, box_at, first_world}
@@ -35,7 +35,7 @@ use Rattle.mc_part.specs.Running.{AreCalm}
 use Rattle.mc_part.specs.declared.part_run.PartRun.{PartRun}
 use Rattle.mc_part.specs.declared.port.Port.{Port}
 use Rattle.mc_signal.specs.declared.Tagged.{Tagged}
-use Rattle.mc_weave.specs.Weaving.{clocks_of, log_at, logs_of, numbers_of}
+use Rattle.mc_merge.specs.Weaving.{clocks_of, log_at, logs_of, numbers_of}
 use Rattle.mc_world.specs.Parts.{FitsFrame}
 
 -- a lane with nothing under way

@@ -8,10 +8,10 @@ use Rattle.mc_merge.specs.Lanes.{absent_channel}
 use Rattle.mc_model.specs.Worlds.{ChannelState, WorldState}
 use Rattle.mc_port.specs.Ends.{given, received}
 use Rattle.mc_port.specs.declared.stamped.Stamped.{Stamped}
-use Rattle.mc_weave.specs.Account.{part_lane}
-use Rattle.mc_weave.specs.Phases.{Layout, before_ring, lane_in}
-use Rattle.mc_cut.specs.Cuts.{layout_of, part_of, place_in}
-use Rattle.mc_cut.proofs.Placed.{touch_on}
+use Rattle.mc_merge.specs.Account.{part_lane}
+use Rattle.mc_merge.specs.Phases.{Layout, before_ring, lane_in}
+use Rattle.mc_part.specs.Cuts.{layout_of, part_of, place_in}
+use Rattle.mc_part.proofs.Placed.{touch_on}
 use Rattle.mc_part.specs.Carrying.{lane_at, waiting_at}
 use Rattle.mc_part.specs.Networks.{AreCarried, IsCarried, LeadsAcross, states_of}
 use Rattle.mc_part.specs.Parts.{state_of}

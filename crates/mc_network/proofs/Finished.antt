@@ -11,10 +11,10 @@ use Rattle.mc_model.specs.Shapes.{is_allowed}
 use Rattle.mc_model.specs.Sound.{IsSound}
 use Rattle.mc_model.specs.Worlds.{WorldState, channel_number_limit}
 use Rattle.mc_port.specs.Ends.{given, received}
-use Rattle.mc_weave.specs.Account.{PartState}
-use Rattle.mc_weave.specs.Phases.{AreEmptied, IsLayout, stands_for}
-use Rattle.mc_weave.specs.declared.log.PartLog.{PartLog}
-use Rattle.mc_cut.specs.Cuts.{part_numbers}
+use Rattle.mc_merge.specs.Account.{PartState}
+use Rattle.mc_merge.specs.Phases.{AreEmptied, IsLayout, stands_for}
+use Rattle.mc_merge.specs.declared.log.PartLog.{PartLog}
+use Rattle.mc_part.specs.Cuts.{part_numbers}
 use Rattle.mc_part.specs.Carrying.{AllComeIn, AllGoOut, tunnel_count}
 use Rattle.mc_part.specs.Networks.{AreParts, tables_at}
 use Rattle.mc_part.specs.Parts.{IsWithin, tables_of}

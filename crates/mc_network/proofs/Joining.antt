@@ -5,12 +5,12 @@ use Rattle.std.proofs.lemmas.List.FromFn.{get_or-map-range_with_len, get_or-rang
 use Rattle.std.proofs.lemmas.Option.{get_or_from_slice_get, slice_get-get_or, slice_get_within}
 use Rattle.std.specs.List.{range_with_len, slice_get}
 use Rattle.mc_box.specs.Boxes.{BoxState}
-use Rattle.mc_cut.specs.Cuts.{boxes_in, channels_in, is_crossing, is_part, members, part_of, place_in, starts_in}
-use Rattle.mc_cut.specs.Cutting.{HasBoxes}
-use Rattle.mc_cut.proofs.Leads.{are_channels}
-use Rattle.mc_cut.proofs.Numbers.{AreWhole as AreAllSlots, are_whole}
-use Rattle.mc_cut.proofs.Placed.{place_of_crossing, placed_at, tunnel_count as tunnels_there}
-use Rattle.mc_cut.proofs.Ranks.{Found, rank_back, rank_found}
+use Rattle.mc_part.specs.Cuts.{boxes_in, channels_in, is_crossing, is_part, members, part_of, place_in, starts_in}
+use Rattle.mc_part.specs.Cutting.{HasBoxes}
+use Rattle.mc_part.proofs.Leads.{are_channels}
+use Rattle.mc_part.proofs.Numbers.{AreWhole as AreAllSlots, are_whole}
+use Rattle.mc_part.proofs.Placed.{place_of_crossing, placed_at, tunnel_count as tunnels_there}
+use Rattle.mc_part.proofs.Ranks.{Found, rank_back, rank_found}
 use Rattle.mc_merge.specs.Lanes.{absent_channel}
 use Rattle.mc_model.specs.Worlds.{AreChannels, ChannelState, WorldState, box_at, channel_number_limit, first_world}
 use Rattle.mc_network.specs.Laying.{AreWired, IsRinged, first_slot, first_slots, numbered_port, ports_in}

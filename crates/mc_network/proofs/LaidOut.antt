@@ -6,12 +6,12 @@ use Rattle.std.proofs.lemmas.List.FromFn.{fill_by_all}
 use Rattle.std.proofs.lemmas.Option.{get_or_from_slice_get, none-some, slice_get-get_or, slice_get_within}
 use Rattle.std.specs.List.{AllByRecursion, list_all, range_with_len, slice_get}
 use Rattle.mc_box.specs.Boxes.{BoxState, no_box}
-use Rattle.mc_cut.specs.CutLaws.{StandFor}
-use Rattle.mc_cut.specs.Cuts.{boxes_in, channels_in, first_part, home_at, is_part, layout_of, part_of, place_in}
-use Rattle.mc_cut.specs.Cutting.{HasBoxes, share_of}
-use Rattle.mc_cut.proofs.Filling.{none_past_parts}
-use Rattle.mc_cut.proofs.Layouts.{cuts_are_layouts}
-use Rattle.mc_cut.proofs.Placed.{Touches, touch_on}
+use Rattle.mc_part.specs.CutLaws.{StandFor}
+use Rattle.mc_part.specs.Cuts.{boxes_in, channels_in, first_part, home_at, is_part, layout_of, part_of, place_in}
+use Rattle.mc_part.specs.Cutting.{HasBoxes, share_of}
+use Rattle.mc_part.proofs.Filling.{none_past_parts}
+use Rattle.mc_part.proofs.Layouts.{cuts_are_layouts}
+use Rattle.mc_part.proofs.Placed.{Touches, touch_on}
 use Rattle.mc_merge.specs.Lanes.{absent_channel, leads_from, leads_to}
 use Rattle.mc_model.specs.Settles.{is_empty}
 use Rattle.mc_model.specs.Worlds.{ChannelState, WorldState, box_at, first_world}
@@ -23,8 +23,8 @@ use Rattle.mc_part.specs.Parts.{state_of, tables_of}
 use Rattle.mc_part.specs.declared.part_run.PartRun.{PartRun}
 use Rattle.mc_part.specs.declared.port.Port.{Port}
 use Rattle.mc_signal.specs.declared.Tagged.{Tagged}
-use Rattle.mc_weave.specs.Account.{PartState}
-use Rattle.mc_weave.specs.Phases.{AreEmptied, IsLayout, Layout, box_in, lane_in, stands_for}
+use Rattle.mc_merge.specs.Account.{PartState}
+use Rattle.mc_merge.specs.Phases.{AreEmptied, IsLayout, Layout, box_in, lane_in, stands_for}
 
 -- what is known of parts that were laid out
 pub record HaveLaid (boxes : List BoxState) (channels : List ChannelState) (lanes : List (List Tagged)) (assigned : List ℕ) (lists : List (List Port)) (runs : List PartRun) : Type 0 where

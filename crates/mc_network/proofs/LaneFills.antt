@@ -10,7 +10,7 @@ use Rattle.mc_model.specs.Worlds.{ChannelState, WorldState}
 use Rattle.mc_network.specs.Laying.{AllFit, AreFilled, LeadsTo, lane_here, slot_after}
 use Rattle.mc_part.specs.Carrying.{AreFor}
 use Rattle.mc_signal.specs.declared.Tagged.{Tagged}
-use Rattle.mc_weave.proofs.Logs.{all_at}
+use Rattle.mc_merge.proofs.Logs.{all_at}
 use Rattle.mc_world.specs.Lanes.{signals_of}
 use Rattle.mc_world.specs.Pumping.{is_slot_at, with_last}
 

@@ -13,7 +13,7 @@ use Rattle.mc_box.specs.declared.event.Turn.{Turn}
 use Rattle.mc_model.specs.Shapes.{is_allowed}
 use Rattle.mc_model.specs.Worlds.{WorldState, box_at}
 use Rattle.mc_laws.proofs.CommandsGo.{Allowed, allowed_parts, both_is}
-use Rattle.mc_weave.specs.declared.log.PartLog.{PartLog}
+use Rattle.mc_merge.specs.declared.log.PartLog.{PartLog}
 use Rattle.mc_world.specs.StepAnswers.{CannotHappen}
 use Rattle.mc_part.specs.Phases.{EachOf, HasEnded, HasGone}
 use Rattle.mc_part.specs.Running.{EndsAs, MeetsUnable, StopsAs}

@@ -1,9 +1,9 @@
 -- Logs, as they begin.
 use Rattle.std.proofs.Common.{◌≡◌, ◌<◌, ◌≤◌, ◌+◌, ℕ, zero, suc, List, [], ◌∷◌, ◌++◌, drop, length, length-append, length-drop, get_or, map, take, take_all, refl, ap, ap₂, sym, ◌∙◌, arith}
 use Rattle.std.proofs.lemmas.List.{map-append, take_more}
-use Rattle.mc_weave.specs.Weaving.{log_at, logs_of}
-use Rattle.mc_weave.specs.declared.log.Made.{Made}
-use Rattle.mc_weave.specs.declared.log.PartLog.{PartLog}
+use Rattle.mc_merge.specs.Weaving.{log_at, logs_of}
+use Rattle.mc_merge.specs.declared.log.Made.{Made}
+use Rattle.mc_merge.specs.declared.log.PartLog.{PartLog}
 
 -- what is read of each log is a table's first entries
 pub table_more : {A : Type 0} (f : PartLog → A) (logs after : List PartLog) (log : PartLog) (table : List A) (d : A) → length logs < length table → f log ≡ get_or table (length logs) d

@@ -6,8 +6,8 @@ use Rattle.std.proofs.lemmas.List.FromFn.{get_or-map-range_with_len, length-map-
 use Rattle.mc_box.specs.BoxEvents.{is_enabled}
 use Rattle.mc_box.specs.Boxes.{BoxState, goal_at, no_box}
 use Rattle.mc_box.specs.declared.event.Event.TheVariants.{Shift}
-use Rattle.mc_cut.specs.Cuts.{home_at, members, part_of}
-use Rattle.mc_cut.proofs.Members.{home_inside}
+use Rattle.mc_part.specs.Cuts.{home_at, members, part_of}
+use Rattle.mc_part.proofs.Members.{home_inside}
 use Rattle.mc_model.specs.Settles.{can_shift}
 use Rattle.mc_model.specs.Worlds.{WorldState, box_at, goal_of, place, slot_count}
 use Rattle.mc_network.specs.Networks.{IsCutNetwork, base_of, network_layout, no_part, states_among, world_in}
@@ -15,8 +15,8 @@ use Rattle.mc_network.specs.declared.network.CutNetwork.{CutNetwork}
 use Rattle.mc_part.specs.Parts.{state_of}
 use Rattle.mc_part.specs.declared.part_run.PartRun.{PartRun}
 use Rattle.mc_slot.specs.declared.SlotGoal.{SlotGoal}
-use Rattle.mc_weave.specs.Account.{PartState, part_box}
-use Rattle.mc_weave.specs.Phases.{box_in}
+use Rattle.mc_merge.specs.Account.{PartState, part_box}
+use Rattle.mc_merge.specs.Phases.{box_in}
 
 -- there are as many boxes as are assigned
 pub base_count : (network : CutNetwork) → length (base_of network).boxes ≡ length network.assigned.items

@@ -4,9 +4,9 @@ use Rattle.std.proofs.lemmas.List.{length-replicate}
 use Rattle.std.proofs.lemmas.List.FromFn.{get_or-map-range_with_len, length-map-range_with_len}
 use Rattle.std.proofs.lemmas.Option.{get_or_from_slice_get, slice_get-get_or, slice_get_within}
 use Rattle.std.specs.List.{slice_get}
-use Rattle.mc_cut.specs.Cuts.{channels_in, is_part, part_of, place_in}
-use Rattle.mc_cut.proofs.Leads.{are_channels}
-use Rattle.mc_cut.proofs.Placed.{IsPlaced, Touches, placed_back, tunnel_count}
+use Rattle.mc_part.specs.Cuts.{channels_in, is_part, part_of, place_in}
+use Rattle.mc_part.proofs.Leads.{are_channels}
+use Rattle.mc_part.proofs.Placed.{IsPlaced, Touches, placed_back, tunnel_count}
 use Rattle.mc_merge.specs.Lanes.{absent_channel}
 use Rattle.mc_model.specs.Worlds.{AreChannels, ChannelState, WorldState, channel_number_limit}
 use Rattle.mc_signal.specs.declared.Tagged.{Tagged}

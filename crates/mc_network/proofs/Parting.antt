@@ -2,11 +2,11 @@
 use Rattle.std.proofs.Common.{◌≡◌, ◌<◌, ◌≤◌, ◌+◌, ◌*◌, ℕ, All, List, length, replicate, take, take_all, subst, arith}
 use Rattle.std.proofs.lemmas.List.Elements.{All-replicate}
 use Rattle.std.proofs.lemmas.List.{length-replicate}
-use Rattle.mc_cut.proofs.Filling.{count_few}
+use Rattle.mc_part.proofs.Filling.{count_few}
 use Rattle.mc_network.specs.declared.limit.TheConstants.{NETWORK_LIMIT}
 use Rattle.std.proofs.lemmas.List.FromFn.{get_or-map-range_with_len, length-map-range_with_len}
 use Rattle.mc_box.specs.declared.limit.TheConstants.{SLOT_LIMIT}
-use Rattle.mc_cut.specs.Cutting.{count_of, counts_of}
+use Rattle.mc_part.specs.Cutting.{count_of, counts_of}
 use Rattle.mc_network.specs.Assigning.{HaveParts}
 use Rattle.mc_network.specs.Networks.{turn_budget}
 use Rattle.mc_part.specs.declared.limit.TheConstants.{STAMP_LIMIT}

@@ -8,10 +8,10 @@ use Rattle.std.specs.declared.alloc.AllocError.{AllocError}
 use Rattle.std.specs.declared.alloc.Global.{Global}
 use Rattle.std.specs.declared.vec.Vec.{Vec}
 use Rattle.mc_box.specs.Boxes.{BoxState}
-use Rattle.mc_cut.specs.Cuts.{channels_in, is_crossing, is_inner, is_part, members, part_of, starts_in, touching}
-use Rattle.mc_cut.specs.Cutting.{inner_lists}
-use Rattle.mc_cut.proofs.Leads.{touching_few}
-use Rattle.mc_cut.proofs.Placed.{channel_count}
+use Rattle.mc_part.specs.Cuts.{channels_in, is_crossing, is_inner, is_part, members, part_of, starts_in, touching}
+use Rattle.mc_part.specs.Cutting.{inner_lists}
+use Rattle.mc_part.proofs.Leads.{touching_few}
+use Rattle.mc_part.proofs.Placed.{channel_count}
 use Rattle.mc_model.specs.Worlds.{AreChannels, ChannelState, WorldState, first_world}
 use Rattle.mc_network.specs.Laying.{AreFilled, AreLaid, AreNumbered, IsFresh, IsLaid, channel_numbers, first_slot, first_slots, ports_in}
 use Rattle.mc_network.proofs.FirstSlots.{first_few}

@@ -3,14 +3,14 @@ use Rattle.std.proofs.Common.{◌≡◌, inl, inr, ◌<◌, ◌≤◌, ◌^◌, 
 use Rattle.std.proofs.lemmas.Bool.{cases_lt}
 use Rattle.std.proofs.lemmas.List.{length-map}
 use Rattle.std.proofs.lemmas.List.FromFn.{get_or-map-range_with_len, length-map-range_with_len}
-use Rattle.mc_weave.specs.Logs.{Own}
-use Rattle.mc_weave.specs.Together.{Ran}
-use Rattle.mc_weave.specs.Weaving.{AreClimbing, IsKnown, entry_count, log_at, numbers_at, numbers_of}
-use Rattle.mc_weave.specs.Wholes.{made_of}
-use Rattle.mc_weave.specs.declared.log.Made.{Made}
-use Rattle.mc_weave.specs.declared.log.PartLog.{PartLog}
-use Rattle.mc_weave.proofs.Fitting.{kept_logs_fit}
-use Rattle.mc_cut.specs.Cuts.{members}
+use Rattle.mc_merge.specs.Logs.{Own}
+use Rattle.mc_merge.specs.Together.{Ran}
+use Rattle.mc_merge.specs.Weaving.{AreClimbing, IsKnown, entry_count, log_at, numbers_at, numbers_of}
+use Rattle.mc_merge.specs.Wholes.{made_of}
+use Rattle.mc_merge.specs.declared.log.Made.{Made}
+use Rattle.mc_merge.specs.declared.log.PartLog.{PartLog}
+use Rattle.mc_merge.proofs.Fitting.{kept_logs_fit}
+use Rattle.mc_part.specs.Cuts.{members}
 use Rattle.mc_part.specs.Networks.{HaveRun}
 use Rattle.mc_part.specs.Parts.{state_of, tables_of}
 use Rattle.mc_part.specs.Phases.{EachOf, HaveGone}

@@ -3,8 +3,8 @@ use Rattle.std.proofs.Common.{◌≡◌, Bool, ℕ, IsTrue, IfOk, IfSome, OnOk, 
 use Rattle.std.specs.Vec.{with_items}
 use Rattle.std.proofs.lemmas.List.{with_items_is}
 use Rattle.mc_box.specs.declared.event.Turn.{Turn}
-use Rattle.mc_weave.specs.Weaving.{numbers_of, turn_in}
-use Rattle.mc_weave.specs.declared.log.PartLog.{PartLog}
+use Rattle.mc_merge.specs.Weaving.{numbers_of, turn_in}
+use Rattle.mc_merge.specs.declared.log.PartLog.{PartLog}
 use Rattle.mc_part.specs.Phases.{EachOf}
 use Rattle.mc_part.specs.declared.part_run.PartRun.{PartRun}
 use Rattle.mc_network.specs.Networks.{IsCutNetwork, network_state}

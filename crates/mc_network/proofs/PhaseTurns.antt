@@ -6,11 +6,11 @@ use Rattle.std.proofs.lemmas.List.{get_or_past}
 use Rattle.mc_box.specs.declared.event.Event.{Event}
 use Rattle.mc_box.specs.declared.event.Turn.{Turn}
 use Rattle.mc_model.specs.Worlds.{WorldState}
-use Rattle.mc_weave.specs.Account.{PartState}
-use Rattle.mc_weave.specs.Phases.{PlaysPhase, stands_for}
-use Rattle.mc_weave.specs.Weaving.{numbers_of, turn_in}
-use Rattle.mc_weave.specs.declared.log.PartLog.{PartLog}
-use Rattle.mc_cut.specs.Cuts.{home_at}
+use Rattle.mc_merge.specs.Account.{PartState}
+use Rattle.mc_merge.specs.Phases.{PlaysPhase, stands_for}
+use Rattle.mc_merge.specs.Weaving.{numbers_of, turn_in}
+use Rattle.mc_merge.specs.declared.log.PartLog.{PartLog}
+use Rattle.mc_part.specs.Cuts.{home_at}
 use Rattle.mc_part.specs.Networks.{shifts_in, stimuli_in, world_by}
 use Rattle.mc_part.specs.Parts.{shifts_of, stimuli_of}
 use Rattle.mc_part.specs.declared.part.Part.{Part}

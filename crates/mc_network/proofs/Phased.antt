@@ -6,10 +6,10 @@ use Rattle.std.proofs.lemmas.List.Sums.{sum_by-le}
 use Rattle.std.proofs.lemmas.Option.{get_or_from_slice_get, slice_get_within}
 use Rattle.mc_box.specs.declared.limit.TheConstants.{SHIFT_LIMIT, SLOT_LIMIT}
 use Rattle.mc_model.specs.Worlds.{WorldState}
-use Rattle.mc_weave.specs.Account.{PartState}
-use Rattle.mc_weave.specs.Phases.{AreEmptied, IsLayout}
-use Rattle.mc_weave.specs.Weaving.{entry_count}
-use Rattle.mc_weave.specs.declared.log.Made.{Made}
+use Rattle.mc_merge.specs.Account.{PartState}
+use Rattle.mc_merge.specs.Phases.{AreEmptied, IsLayout}
+use Rattle.mc_merge.specs.Weaving.{entry_count}
+use Rattle.mc_merge.specs.declared.log.Made.{Made}
 use Rattle.mc_part.specs.Networks.{HaveRun, states_of, tables_at}
 use Rattle.mc_part.specs.Parts.{Runs, shifts_of}
 use Rattle.mc_part.specs.Phases.{EachChanged, EachOf, HasEnded, HasGone, HaveGone, IsReady}

@@ -2,9 +2,9 @@
 use Rattle.std.proofs.Common.{◌≡◌, ◌<◌, ◌≤◌, ◌+◌, ◌^◌, ◌⊎◌, ◌&&◌, ◌==◌, not, inl, inr, if◌then◌else◌, All, Bool, true, false, ℕ, zero, suc, List, [], ◌∷◌, filter, length, get_or, set, take, take_all, replicate, refl, ap, ap₂, sym, ◌∙◌, subst, arith, eq-eqb, ne_eqb, true≢false, length-set, get_or-set_same, get_or-set_other}
 use Rattle.std.proofs.lemmas.Bool.{cases_eq}
 use Rattle.std.proofs.lemmas.List.{get_or-replicate, length-replicate}
-use Rattle.mc_cut.specs.Cuts.{is_crossing, is_inner, is_part, part_of, place_in, rank}
+use Rattle.mc_part.specs.Cuts.{is_crossing, is_inner, is_part, part_of, place_in, rank}
 use Rattle.mc_merge.specs.Lanes.{absent_channel}
-use Rattle.mc_cut.specs.Cutting.{HasBoxes}
+use Rattle.mc_part.specs.Cutting.{HasBoxes}
 use Rattle.mc_model.specs.Worlds.{ChannelState, channel_number_limit}
 use Rattle.mc_network.specs.Whole.{AreCounted, AreRanks, end_part, inner_base, no_base}
 

@@ -11,14 +11,14 @@ use Rattle.mc_box.specs.declared.event.Event.{Event}
 use Rattle.mc_box.specs.declared.event.Turn.{Turn}
 use Rattle.mc_model.specs.Shapes.{is_allowed}
 use Rattle.mc_model.specs.Worlds.{box_at}
-use Rattle.mc_weave.specs.Account.{PartState, part_box}
-use Rattle.mc_weave.specs.Logs.{own_log}
-use Rattle.mc_weave.specs.Phases.{PlaysPhase, box_in}
-use Rattle.mc_weave.specs.Weaving.{clock_at, clocks_of, log_at, numbers_of, turn_in}
-use Rattle.mc_weave.specs.Wholes.{numbers_in}
-use Rattle.mc_weave.specs.declared.log.Made.{Made}
-use Rattle.mc_weave.specs.declared.log.PartLog.{PartLog}
-use Rattle.mc_cut.specs.Cuts.{home_at}
+use Rattle.mc_merge.specs.Account.{PartState, part_box}
+use Rattle.mc_merge.specs.Logs.{own_log}
+use Rattle.mc_merge.specs.Phases.{PlaysPhase, box_in}
+use Rattle.mc_merge.specs.Weaving.{clock_at, clocks_of, log_at, numbers_of, turn_in}
+use Rattle.mc_merge.specs.Wholes.{numbers_in}
+use Rattle.mc_merge.specs.declared.log.Made.{Made}
+use Rattle.mc_merge.specs.declared.log.PartLog.{PartLog}
+use Rattle.mc_part.specs.Cuts.{home_at}
 use Rattle.mc_part.specs.Networks.{AreLogs, shifts_in, stimuli_in, world_by}
 use Rattle.mc_part.specs.Parts.{Runs, events_for, shifts_of, state_of, stimuli_of}
 use Rattle.mc_part.specs.Phases.{EachOf, HasEnded, HasGone}

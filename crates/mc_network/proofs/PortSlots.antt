@@ -2,13 +2,13 @@
 use Rattle.std.proofs.Common.{◌≡◌, ◌<◌, ◌+◌, ◌*◌, ◌/◌, ◌%◌, inl, inr, not, if◌then◌else◌, Bool, true, false, ℕ, zero, suc, Some, List, [], length, get_or, refl, ap, ap₂, sym, ◌∙◌, subst, arith, true≢false, eqb-true}
 use Rattle.std.proofs.lemmas.Option.{get_or_from_slice_get, slice_get-get_or}
 use Rattle.std.specs.List.{slice_get}
-use Rattle.mc_cut.specs.Cuts.{channel_in, channels_in, home_at, is_crossing, is_part, members, part_of, place_in}
-use Rattle.mc_cut.proofs.Leads.{are_channels, far_is_away, far_side_of}
-use Rattle.mc_cut.proofs.Members.{home_inside}
-use Rattle.mc_cut.proofs.Numbers.{AreWhole, HasSlot, IsHere, box_on, end_inside, is_here, local_on, one_slot, side_low, slot_placed}
-use Rattle.mc_cut.proofs.Placed.{placed_at, place_apart, tunnel_count}
-use Rattle.mc_cut.proofs.Same.{chosen, either, here_number, other_one}
-use Rattle.mc_cut.proofs.Slots.{end_on, slot_on}
+use Rattle.mc_part.specs.Cuts.{channel_in, channels_in, home_at, is_crossing, is_part, members, part_of, place_in}
+use Rattle.mc_part.proofs.Leads.{are_channels, far_is_away, far_side_of}
+use Rattle.mc_part.proofs.Members.{home_inside}
+use Rattle.mc_part.proofs.Numbers.{AreWhole, HasSlot, IsHere, box_on, end_inside, is_here, local_on, one_slot, side_low, slot_placed}
+use Rattle.mc_part.proofs.Placed.{placed_at, place_apart, tunnel_count}
+use Rattle.mc_part.proofs.Same.{chosen, either, here_number, other_one}
+use Rattle.mc_part.proofs.Slots.{end_on, slot_on}
 use Rattle.mc_merge.specs.Lanes.{absent_channel}
 use Rattle.mc_model.specs.Worlds.{AreChannels, ChannelState, WorldState, no_tunnel, places_among, tunnels_from}
 use Rattle.mc_model.specs.declared.channel.Tunnel.{Tunnel}

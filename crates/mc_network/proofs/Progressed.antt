@@ -17,14 +17,14 @@ use Rattle.mc_box.specs.declared.limit.TheConstants.{SLOT_LIMIT}
 use Rattle.mc_model.specs.Shapes.{is_allowed}
 use Rattle.mc_model.specs.Steps.{after_making, ends_version_at}
 use Rattle.mc_model.specs.Worlds.{WorldState, box_at}
-use Rattle.mc_weave.specs.Account.{PartState, part_box}
-use Rattle.mc_weave.specs.Phases.{box_in}
-use Rattle.mc_weave.specs.Weaving.{log_at, numbers_of, of_part, turn_in}
-use Rattle.mc_weave.specs.Wholes.{numbers_in}
-use Rattle.mc_weave.specs.declared.log.Made.{Made}
-use Rattle.mc_weave.specs.declared.log.PartLog.{PartLog}
+use Rattle.mc_merge.specs.Account.{PartState, part_box}
+use Rattle.mc_merge.specs.Phases.{box_in}
+use Rattle.mc_merge.specs.Weaving.{log_at, numbers_of, of_part, turn_in}
+use Rattle.mc_merge.specs.Wholes.{numbers_in}
+use Rattle.mc_merge.specs.declared.log.Made.{Made}
+use Rattle.mc_merge.specs.declared.log.PartLog.{PartLog}
 use Rattle.mc_world.specs.StepAnswers.{LacksVersion}
-use Rattle.mc_cut.specs.Cuts.{home_at}
+use Rattle.mc_part.specs.Cuts.{home_at}
 use Rattle.mc_part.specs.Networks.{HaveHomes}
 use Rattle.mc_part.specs.Parts.{shifts_of, state_of, stimuli_of}
 use Rattle.mc_part.specs.Phases.{EachOf, HasEnded, HasGone}

@@ -7,10 +7,10 @@ use Rattle.mc_box.specs.declared.limit.TheConstants.{SLOT_LIMIT}
 use Rattle.mc_model.specs.Shapes.{is_allowed}
 use Rattle.mc_model.specs.Sound.{IsSound}
 use Rattle.mc_model.specs.Worlds.{WorldState}
-use Rattle.mc_weave.specs.Account.{PartState}
-use Rattle.mc_weave.specs.Phases.{AreEmptied, IsLayout, stands_for}
-use Rattle.mc_weave.specs.declared.log.Made.{Made}
-use Rattle.mc_cut.specs.Cuts.{part_numbers}
+use Rattle.mc_merge.specs.Account.{PartState}
+use Rattle.mc_merge.specs.Phases.{AreEmptied, IsLayout, stands_for}
+use Rattle.mc_merge.specs.declared.log.Made.{Made}
+use Rattle.mc_part.specs.Cuts.{part_numbers}
 use Rattle.mc_lane.specs.Queue.{Queue}
 use Rattle.mc_part.specs.Parts.{IsWithin, state_of, tables_of}
 use Rattle.mc_part.specs.Phases.{EachOf}

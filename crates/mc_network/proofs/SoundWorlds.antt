@@ -3,7 +3,7 @@ use Rattle.std.proofs.Common.{◌≡◌, ◌<◌, ◌+◌, ◌*◌, ◌/◌, ◌
 use Rattle.std.proofs.lemmas.List.{length-replicate}
 use Rattle.std.proofs.lemmas.Option.{get_or_from_slice_get, slice_get_within}
 use Rattle.mc_box.specs.Boxes.{BoxState}
-use Rattle.mc_cut.proofs.Slots.{Standing, standing}
+use Rattle.mc_part.proofs.Slots.{Standing, standing}
 use Rattle.mc_merge.specs.Lanes.{absent_channel}
 use Rattle.mc_model.specs.Served.{AllServed, IsFor}
 use Rattle.mc_model.specs.Sound.{IsNumbered, IsSound}

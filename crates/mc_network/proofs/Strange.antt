@@ -21,15 +21,15 @@ use Rattle.mc_merge.proofs.LaneEnds.{taker_is}
 use Rattle.mc_model.specs.Sound.{IsSound}
 use Rattle.mc_model.specs.Steps.{step}
 use Rattle.mc_model.specs.Worlds.{ChannelState, WorldState, box_at, front, front_for, lane_of, number, place, slot_of, tunnel_of}
-use Rattle.mc_weave.specs.Account.{part_lane}
-use Rattle.mc_weave.specs.Phases.{TakesAt, lane_in}
-use Rattle.mc_weave.specs.Weaving.{numbers_of}
-use Rattle.mc_weave.specs.Wholes.{numbers_in}
-use Rattle.mc_weave.specs.declared.log.PartLog.{PartLog}
-use Rattle.mc_weave.proofs.Phases.{none_strange}
+use Rattle.mc_merge.specs.Account.{part_lane}
+use Rattle.mc_merge.specs.Phases.{TakesAt, lane_in}
+use Rattle.mc_merge.specs.Weaving.{numbers_of}
+use Rattle.mc_merge.specs.Wholes.{numbers_in}
+use Rattle.mc_merge.specs.declared.log.PartLog.{PartLog}
+use Rattle.mc_merge.proofs.Phases.{none_strange}
 use Rattle.mc_world.specs.Waiting.{take_waits}
 use Rattle.mc_world.proofs.LaneBoxes.{lane_run}
-use Rattle.mc_cut.specs.Cuts.{home_at}
+use Rattle.mc_part.specs.Cuts.{home_at}
 use Rattle.mc_part.specs.Networks.{HaveHomes, HaveRun, states_of, tables_at, world_by}
 use Rattle.mc_part.specs.Parts.{state_of, tables_of}
 use Rattle.mc_part.specs.Running.{MeetsStrange}

@@ -4,9 +4,9 @@ use Rattle.std.proofs.lemmas.Bool.{cases_lt}
 use Rattle.std.proofs.lemmas.List.{length-map}
 use Rattle.std.proofs.lemmas.Option.{slice_get_within}
 use Rattle.mc_box.specs.declared.event.Turn.{Turn}
-use Rattle.mc_weave.specs.Weaving.{AddsMerged, AreKnown, AreWoven, IsKnown, clock_at, clocks_of, log_at, logs_of, numbers_at, numbers_of, turn_in}
-use Rattle.mc_weave.specs.declared.log.Made.{Made}
-use Rattle.mc_weave.specs.declared.log.PartLog.{PartLog}
+use Rattle.mc_merge.specs.Weaving.{AddsMerged, AreKnown, AreWoven, IsKnown, clock_at, clocks_of, log_at, logs_of, numbers_at, numbers_of, turn_in}
+use Rattle.mc_merge.specs.declared.log.Made.{Made}
+use Rattle.mc_merge.specs.declared.log.PartLog.{PartLog}
 use Rattle.mc_part.specs.declared.part_run.PartRun.{PartRun}
 use Rattle.mc_network.specs.Phasing.{HaveMerged, IsClosed, logs_in}
 use Rattle.mc_network.specs.Swapping.{HavePairs, closed_run, swapped_log, swapped_run}

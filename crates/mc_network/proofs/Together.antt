@@ -4,14 +4,14 @@ use Rattle.std.proofs.lemmas.List.{length-map}
 use Rattle.std.proofs.lemmas.List.FromFn.{get_or-map-range_with_len}
 use Rattle.std.proofs.lemmas.Option.{same_Some}
 use Rattle.mc_box.specs.Boxes.{BoxState}
-use Rattle.mc_cut.specs.CutLaws.{HaveNumbers, homes_in, slots_at}
-use Rattle.mc_cut.specs.Cuts.{boxes_in, channels_in, first_part, is_crossing, members, starts_in, tables_in}
-use Rattle.mc_cut.specs.Cutting.{HasBoxes, count_of, share_of, shares_of}
-use Rattle.mc_cut.proofs.Filling.{count_few}
-use Rattle.mc_cut.proofs.Leads.{channels_have_boxes}
-use Rattle.mc_cut.proofs.Members.{first_parts_are_cut}
-use Rattle.mc_cut.proofs.PartNumbers.{cuts_have_numbers}
-use Rattle.mc_cut.proofs.Shares.{shares_are_boxes}
+use Rattle.mc_part.specs.CutLaws.{HaveNumbers, homes_in, slots_at}
+use Rattle.mc_part.specs.Cuts.{boxes_in, channels_in, first_part, is_crossing, members, starts_in, tables_in}
+use Rattle.mc_part.specs.Cutting.{HasBoxes, count_of, share_of, shares_of}
+use Rattle.mc_part.proofs.Filling.{count_few}
+use Rattle.mc_part.proofs.Leads.{channels_have_boxes}
+use Rattle.mc_part.proofs.Members.{first_parts_are_cut}
+use Rattle.mc_part.proofs.PartNumbers.{cuts_have_numbers}
+use Rattle.mc_part.proofs.Shares.{shares_are_boxes}
 use Rattle.mc_model.specs.Worlds.{ChannelState, WorldState, box_at, first_world, is_place, places_among}
 use Rattle.mc_network.specs.Laying.{AreWhole, FitTogether}
 use Rattle.mc_network.specs.declared.limit.TheConstants.{NETWORK_LIMIT}

@@ -6,10 +6,10 @@ use Rattle.std.proofs.lemmas.Option.{get_or_from_slice_get, slice_get-map, slice
 use Rattle.mc_merge.specs.Lanes.{absent_channel, leads_from, leads_to}
 use Rattle.mc_model.specs.Worlds.{ChannelState, WorldState}
 use Rattle.mc_port.specs.Ends.{given, received}
-use Rattle.mc_weave.specs.Account.{PartState, part_lane}
-use Rattle.mc_weave.specs.Phases.{IsApart, IsLayout, Layout, SendsAt, TakesAt, before_ring, lane_in}
-use Rattle.mc_cut.specs.Cuts.{is_part, layout_of, part_of, place_in}
-use Rattle.mc_cut.proofs.Slots.{end_on}
+use Rattle.mc_merge.specs.Account.{PartState, part_lane}
+use Rattle.mc_merge.specs.Phases.{IsApart, IsLayout, Layout, SendsAt, TakesAt, before_ring, lane_in}
+use Rattle.mc_part.specs.Cuts.{is_part, layout_of, part_of, place_in}
+use Rattle.mc_part.proofs.Slots.{end_on}
 use Rattle.mc_part.specs.Carrying.{lane_at, waiting_at}
 use Rattle.mc_part.specs.Networks.{HaveRun, LeadsAcross, given_on, received_on, states_of, tables_at}
 use Rattle.mc_part.specs.Parts.{LeadsAway, state_of, tables_of}

@@ -7,12 +7,12 @@ use Rattle.std.proofs.lemmas.Bool.{cases_lt}
 use Rattle.std.proofs.lemmas.List.{get_or-append_right, length-map, length-replicate}
 use Rattle.std.proofs.lemmas.List.FromFn.{fill_by_all}
 use Rattle.mc_box.specs.Boxes.{BoxState, no_box}
-use Rattle.mc_cut.specs.Cuts.{boxes_in, members, part_of, place_in}
-use Rattle.mc_cut.specs.Cutting.{AreShared, HasBoxes, HasShares}
-use Rattle.mc_cut.proofs.Layouts.{to_there}
-use Rattle.mc_cut.proofs.Leads.{channels_have_boxes}
-use Rattle.mc_cut.proofs.Members.{IsMember, member_here}
-use Rattle.mc_cut.proofs.Shares.{shares_are_boxes}
+use Rattle.mc_part.specs.Cuts.{boxes_in, members, part_of, place_in}
+use Rattle.mc_part.specs.Cutting.{AreShared, HasBoxes, HasShares}
+use Rattle.mc_part.proofs.Layouts.{to_there}
+use Rattle.mc_part.proofs.Leads.{channels_have_boxes}
+use Rattle.mc_part.proofs.Members.{IsMember, member_here}
+use Rattle.mc_part.proofs.Shares.{shares_are_boxes}
 use Rattle.mc_lane.specs.Queue.{Queue}
 use Rattle.mc_merge.specs.Lanes.{leads_to}
 use Rattle.mc_model.specs.Worlds.{ChannelState, WorldState, box_at}
@@ -23,8 +23,8 @@ use Rattle.mc_network.proofs.NetworkBoxes.{box_count, box_there}
 use Rattle.mc_part.specs.Parts.{state_of}
 use Rattle.mc_part.specs.declared.part_run.PartRun.{PartRun}
 use Rattle.mc_signal.specs.declared.Tagged.{Tagged}
-use Rattle.mc_weave.specs.Account.{PartState, part_box, part_lane}
-use Rattle.mc_weave.specs.Phases.{lane_in}
+use Rattle.mc_merge.specs.Account.{PartState, part_box, part_lane}
+use Rattle.mc_merge.specs.Phases.{lane_in}
 
 -- ---- lists
 

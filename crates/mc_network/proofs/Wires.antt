@@ -6,9 +6,9 @@ use Rattle.std.proofs.lemmas.List.Elements.{All-append, filter_more}
 use Rattle.std.proofs.lemmas.List.FromFn.{filter_of_map_range_with_len_more}
 use Rattle.std.proofs.lemmas.Option.{get_or_from_slice_get, slice_get-get_or}
 use Rattle.std.specs.List.{range_with_len, slice_get}
-use Rattle.mc_cut.specs.Cuts.{is_crossing, is_part, part_of, place_in, rank, starts_in}
-use Rattle.mc_cut.specs.Cutting.{HasBoxes, inner_lists}
-use Rattle.mc_cut.proofs.Placed.{front_at, place_of_crossing}
+use Rattle.mc_part.specs.Cuts.{is_crossing, is_part, part_of, place_in, rank, starts_in}
+use Rattle.mc_part.specs.Cutting.{HasBoxes, inner_lists}
+use Rattle.mc_part.proofs.Placed.{front_at, place_of_crossing}
 use Rattle.mc_merge.specs.Lanes.{absent_channel}
 use Rattle.mc_model.specs.Worlds.{ChannelState}
 use Rattle.mc_network.specs.Laying.{AddsBy, AddsCrossing, AddsNone, AreWired, IsRinged, ports_in, with_port}

@@ -9,16 +9,16 @@ use Rattle.mc_box.specs.BoxEvents.{is_enabled}
 use Rattle.mc_box.specs.Boxes.{BoxState, box_owes, is_slot}
 use Rattle.mc_box.specs.declared.event.Event.TheVariants.{Shift}
 use Rattle.mc_box.specs.declared.limit.TheConstants.{SHIFT_LIMIT}
-use Rattle.mc_log.specs.Tunnels.{tunnel_if_at}
+use Rattle.mc_port.specs.Tunnels.{tunnel_if_at}
 use Rattle.mc_merge.specs.Lanes.{into_box, lane_place, leads_to}
 use Rattle.mc_merge.proofs.LaneEnds.{taker_is}
 use Rattle.mc_model.specs.Served.{AllServed}
 use Rattle.mc_model.specs.Settles.{is_empty, is_quiet, world_owes}
 use Rattle.mc_model.specs.Worlds.{WorldState, box_at, front, front_for, lane_of, number, place, tunnel_of}
-use Rattle.mc_weave.specs.Account.{PartState, part_lane}
-use Rattle.mc_weave.specs.Phases.{TakesAt, lane_in}
+use Rattle.mc_merge.specs.Account.{PartState, part_lane}
+use Rattle.mc_merge.specs.Phases.{TakesAt, lane_in}
 use Rattle.mc_world.specs.Waiting.{take_waits}
-use Rattle.mc_cut.specs.Cuts.{home_at}
+use Rattle.mc_part.specs.Cuts.{home_at}
 use Rattle.mc_part.specs.Networks.{states_of, tables_at, world_by}
 use Rattle.mc_part.specs.Parts.{state_of, stimuli_of, tables_of}
 use Rattle.mc_part.specs.declared.part.Part.{Part}

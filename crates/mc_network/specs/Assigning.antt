@@ -1,7 +1,7 @@
 -- Which part each box goes to.
 use Rattle.std.specs.Prelude.{◌≡◌, ◌<◌, ◌≤◌, ◌*◌, ℕ, All, List, length}
 use Rattle.mc_box.specs.declared.limit.TheConstants.{SLOT_LIMIT}
-use Rattle.mc_cut.specs.Cutting.{count_of}
+use Rattle.mc_part.specs.Cutting.{count_of}
 use Rattle.mc_network.specs.Networks.{turn_budget}
 use Rattle.mc_network.specs.declared.assigning.Assigned.{Assigned}
 use Rattle.mc_part.specs.declared.limit.TheConstants.{STAMP_LIMIT}

@@ -1,7 +1,7 @@
 -- The commands of a settle, in the parts of a network.
 use Rattle.std.specs.Prelude.{◌≡◌, ◌<◌, ◌≤◌, ◌++◌, ℕ, List, drop, length, slice_get, slice_set, Some}
 use Rattle.mc_box.specs.declared.event.Turn.{Turn}
-use Rattle.mc_cut.specs.Cuts.{home_at}
+use Rattle.mc_part.specs.Cuts.{home_at}
 use Rattle.mc_box.specs.declared.limit.TheConstants.{SHIFT_LIMIT}
 use Rattle.mc_part.specs.Parts.{IsWithin, shifts_of}
 use Rattle.mc_part.specs.Running.{NoneLeft}

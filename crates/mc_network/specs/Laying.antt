@@ -3,8 +3,8 @@ use Rattle.std.specs.Prelude.{◌≡◌, ◌<◌, ◌≤◌, ◌+◌, ◌-◌, �
 use Rattle.std.specs.List.{range_with_len}
 use Rattle.mc_box.specs.Boxes.{BoxState, no_box}
 use Rattle.mc_box.specs.declared.limit.TheConstants.{SLOT_LIMIT}
-use Rattle.mc_cut.specs.Cuts.{channels_in, is_crossing, is_inner, is_part, members, part_of, starts_in}
-use Rattle.mc_cut.specs.Cutting.{AreNumbersIn, count_of, inner_lists, with_given}
+use Rattle.mc_part.specs.Cuts.{channels_in, is_crossing, is_inner, is_part, members, part_of, starts_in}
+use Rattle.mc_part.specs.Cutting.{AreNumbersIn, count_of, inner_lists, with_given}
 use Rattle.mc_merge.specs.Lanes.{absent_channel}
 use Rattle.mc_model.specs.Sound.{IsNumbered}
 use Rattle.mc_model.specs.Worlds.{AreChannels, ChannelState, WorldState, first_world, places_among}

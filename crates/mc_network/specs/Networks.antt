@@ -5,8 +5,8 @@ use Rattle.mc_box.specs.Boxes.{no_box}
 use Rattle.mc_box.specs.declared.event.Event.{Event}
 use Rattle.mc_box.specs.declared.event.Turn.{Turn}
 use Rattle.mc_box.specs.declared.limit.TheConstants.{SLOT_LIMIT}
-use Rattle.mc_cut.specs.Cuts.{channels_in, home_at, is_part, layout_of, members, part_numbers, part_of, place_in}
-use Rattle.mc_cut.specs.Cutting.{AreNumbersIn}
+use Rattle.mc_part.specs.Cuts.{channels_in, home_at, is_part, layout_of, members, part_numbers, part_of, place_in}
+use Rattle.mc_part.specs.Cutting.{AreNumbersIn}
 use Rattle.mc_merge.specs.Lanes.{absent_channel}
 use Rattle.mc_model.specs.Shapes.{is_allowed}
 use Rattle.mc_model.specs.Sound.{IsSound}
@@ -24,9 +24,9 @@ use Rattle.mc_part.specs.declared.part.Part.{Part}
 use Rattle.mc_part.specs.declared.part_run.PartRun.{PartRun}
 use Rattle.mc_part.specs.declared.port.Port.{Port}
 use Rattle.mc_port.specs.Ends.{IsPair, given, received}
-use Rattle.mc_weave.specs.Account.{PartState}
-use Rattle.mc_weave.specs.Phases.{AreEmptied, IsLayout, Layout, stands_for}
-use Rattle.mc_weave.specs.Weaving.{clocks_of, log_at, logs_of, numbers_of}
+use Rattle.mc_merge.specs.Account.{PartState}
+use Rattle.mc_merge.specs.Phases.{AreEmptied, IsLayout, Layout, stands_for}
+use Rattle.mc_merge.specs.Weaving.{clocks_of, log_at, logs_of, numbers_of}
 use Rattle.mc_world.specs.Parts.{FitsFrame}
 
 -- ---- what a network stands for

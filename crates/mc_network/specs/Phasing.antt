@@ -18,11 +18,11 @@ use Rattle.mc_part.specs.declared.stop.PartStop.{PartStop}
 use Rattle.mc_part.specs.declared.stop.PartStop.TheVariants.{NoMemory, Spent, Strange, Unable, VersionEnd}
 use Rattle.mc_port.specs.Ends.{given, received}
 use Rattle.mc_port.specs.declared.stamped.Stamped.{Stamped}
-use Rattle.mc_weave.specs.Account.{part_lane}
-use Rattle.mc_weave.specs.Weaving.{AreWoven, clock_at, clocks_of, log_at, logs_of, numbers_of, turn_in}
-use Rattle.mc_weave.specs.Wholes.{numbers_in}
-use Rattle.mc_weave.specs.declared.log.Made.{Made}
-use Rattle.mc_weave.specs.declared.log.PartLog.{PartLog}
+use Rattle.mc_merge.specs.Account.{part_lane}
+use Rattle.mc_merge.specs.Weaving.{AreWoven, clock_at, clocks_of, log_at, logs_of, numbers_of, turn_in}
+use Rattle.mc_merge.specs.Wholes.{numbers_in}
+use Rattle.mc_merge.specs.declared.log.Made.{Made}
+use Rattle.mc_merge.specs.declared.log.PartLog.{PartLog}
 
 -- ---- which parts run
 

@@ -8,7 +8,7 @@ use Rattle.mc_box.specs.declared.event.Turn.{Turn}
 use Rattle.mc_box.specs.declared.limit.TheConstants.{SHIFT_LIMIT}
 use Rattle.mc_model.specs.Settles.{can_shift, is_quiet, world_owes}
 use Rattle.mc_model.specs.Worlds.{WorldState, box_at}
-use Rattle.mc_weave.specs.Phases.{PlaysPhase}
+use Rattle.mc_merge.specs.Phases.{PlaysPhase}
 use Rattle.mc_world.specs.StepAnswers.{LacksVersion}
 
 -- its world, the commands that are left to each box, and how many Shifts each has made in the settle

@@ -1,7 +1,7 @@
 -- Logs of parts that change places with others.
 use Rattle.std.specs.Prelude.{◌≡◌, ℕ, List, length, slice_get, Some}
 use Rattle.mc_part.specs.declared.part_run.PartRun.{PartRun}
-use Rattle.mc_weave.specs.declared.log.PartLog.{PartLog}
+use Rattle.mc_merge.specs.declared.log.PartLog.{PartLog}
 
 -- a part has another log, and its own is elsewhere
 abbrev pub swapped_run : PartRun → PartLog → PartRun

@@ -3,7 +3,7 @@ use Rattle.std.specs.Prelude.{◌≡◌, ◌<◌, ◌+◌, ◌*◌, ◌==◌, �
 use Rattle.std.specs.declared.alloc.Global.{Global}
 use Rattle.std.specs.declared.vec.Vec.{Vec}
 use Rattle.mc_box.specs.Boxes.{BoxState}
-use Rattle.mc_cut.specs.Cuts.{is_crossing, is_inner, part_of, place_in, rank}
+use Rattle.mc_part.specs.Cuts.{is_crossing, is_inner, part_of, place_in, rank}
 use Rattle.mc_lane.specs.Queue.{Queue}
 use Rattle.mc_merge.specs.Lanes.{absent_channel}
 use Rattle.mc_model.specs.Worlds.{ChannelState}

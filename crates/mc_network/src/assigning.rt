@@ -10,8 +10,8 @@ ghost use Rattle.mc_part.specs.declared.limit.TheConstants.{STAMP_LIMIT};
 use crate::limit::NETWORK_LIMIT;
 use crate::walking::walks;
 use mc_box::limit::SLOT_LIMIT;
-use mc_cut::homes_of;
 use mc_model::Channel;
+use mc_part::homes_of;
 use mc_part::limit::STAMP_LIMIT;
 use std::alloc::{AllocError, Global};
 

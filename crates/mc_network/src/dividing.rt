@@ -6,8 +6,8 @@ ghost use Rattle.mc_network.specs.Laying.{IsDivision};
 ghost use Rattle.mc_network.specs.declared.limit.TheConstants.{NETWORK_LIMIT};
 
 use crate::assigning::{Assigned, assign};
-use mc_cut::homes_of;
 use mc_model::Channel;
+use mc_part::homes_of;
 use std::alloc::{AllocError, Global};
 
 /// The part of each box, its number there, and how many parts there are.

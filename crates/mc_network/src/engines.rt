@@ -1,8 +1,8 @@
 // The parts of a network, as they are laid out.
 
 ghost use Rattle.std.specs.Prelude.{◌≡◌, ◌<◌, ◌≤◌, ◌*◌, ◌-◌, ◌^◌, ℕ, [], length, slice_index_or, slice_set, All, IfOk};
-ghost use Rattle.mc_cut.specs.Cuts.{starts_in};
-ghost use Rattle.mc_cut.specs.Cutting.{AreNumbersIn, HasBoxes, inner_lists, share_of};
+ghost use Rattle.mc_part.specs.Cuts.{starts_in};
+ghost use Rattle.mc_part.specs.Cutting.{AreNumbersIn, HasBoxes, inner_lists, share_of};
 ghost use Rattle.mc_model.specs.Worlds.{AreChannels, channel_number_limit, first_world};
 ghost use Rattle.mc_network.specs.Laying.{AllFit, AreLaid, AreNumbered, AreWhole, FitTogether, IsDivision, IsFresh};
 ghost use Rattle.mc_network.specs.Laying.{IsLaid, first_slots, ports_in};
@@ -14,10 +14,9 @@ ghost use Rattle.mc_world.specs.Lanes.{signals_of};
 use crate::dividing::Division;
 use crate::filling::fill;
 use mc_box::MediaBox;
-use mc_cut::{channels_in, share};
 use mc_lane::Lane;
 use mc_model::Channel;
-use mc_part::{Part, PartRun, Port};
+use mc_part::{Part, PartRun, Port, channels_in, share};
 use mc_signal::Tagged;
 use mc_world::{CutFault, Engine, engine_of};
 use std::alloc::{AllocError, Global};

@@ -2,8 +2,8 @@
 
 ghost use Rattle.std.specs.Prelude.{◌≡◌, ◌<◌, ◌≤◌, ◌+◌, ◌*◌, ◌-◌, ◌^◌, ◌++◌, ◌∷◌, if◌then◌else◌, [], length, replicate};
 ghost use Rattle.std.specs.Prelude.{slice_index_or, slice_set, All, IfOk, IsTrue, OnOk};
-ghost use Rattle.mc_cut.specs.Cuts.{channels_in, is_part, part_of};
-ghost use Rattle.mc_cut.specs.Cutting.{HasBoxes};
+ghost use Rattle.mc_part.specs.Cuts.{channels_in, is_part, part_of};
+ghost use Rattle.mc_part.specs.Cutting.{HasBoxes};
 ghost use Rattle.mc_merge.specs.Lanes.{absent_channel};
 ghost use Rattle.mc_model.specs.Worlds.{AreChannels, channel_number_limit};
 ghost use Rattle.mc_network.specs.Laying.{AllFit, AreFilled, LeadsTo, channel_numbers, first_slots, is_kind, kind_of};

@@ -1,19 +1,18 @@
 // The logs of the parts, as they begin.
 
 ghost use Rattle.std.specs.Prelude.{◌≡◌, ◌<◌, ◌≤◌, ◌^◌, ℕ, [], length, All, IfOk};
-ghost use Rattle.mc_cut.specs.Cuts.{part_numbers};
-ghost use Rattle.mc_cut.specs.Cutting.{inner_lists};
+ghost use Rattle.mc_part.specs.Cuts.{part_numbers};
+ghost use Rattle.mc_part.specs.Cutting.{inner_lists};
 ghost use Rattle.mc_network.specs.Laying.{IsDivision};
 ghost use Rattle.mc_network.specs.Networks.{ShareClock};
 ghost use Rattle.mc_network.specs.declared.limit.TheConstants.{NETWORK_LIMIT};
-ghost use Rattle.mc_weave.specs.Weaving.{clocks_of, log_at, logs_of, numbers_of};
+ghost use Rattle.mc_merge.specs.Weaving.{clocks_of, log_at, logs_of, numbers_of};
 
 use crate::clocks::share_clocks;
 use crate::dividing::{Division, count_up};
 use crate::network::Crossing;
-use mc_cut::share;
 use mc_lane::Lane;
-use mc_part::PartLog;
+use mc_part::{PartLog, share};
 use std::alloc::{AllocError, Global};
 
 /// An empty log for each part, with the numbers of its boxes and its clock. It fails only for want of memory.

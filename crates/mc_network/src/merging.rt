@@ -3,7 +3,7 @@
 ghost use Rattle.std.specs.Prelude.{◌≡◌, ◌<◌, ◌^◌, ℕ, [], length, OnOk};
 ghost use Rattle.mc_network.specs.Phasing.{HaveMerged, logs_in};
 ghost use Rattle.mc_network.specs.Swapping.{HavePairs, closed_run, swapped_log, swapped_run};
-ghost use Rattle.mc_weave.specs.Weaving.{AreClimbing, IsKnown, entry_count, log_at, logs_of, numbers_at, numbers_of};
+ghost use Rattle.mc_merge.specs.Weaving.{AreClimbing, IsKnown, entry_count, log_at, logs_of, numbers_at, numbers_of};
 
 use mc_box::Turn;
 use mc_part::{PartLog, PartRun, merge};

@@ -6,8 +6,8 @@ ghost use Rattle.mc_network.specs.Phasing.{AreOf, EndAs, EndsCalm, EndsLawfully,
 ghost use Rattle.mc_network.specs.States.{PlaysOn};
 ghost use Rattle.mc_part.specs.Phases.{EachOf};
 ghost use Rattle.mc_part.specs.declared.part_run.PartRun.{PartRun};
-ghost use Rattle.mc_weave.specs.Weaving.{numbers_of};
-ghost use Rattle.mc_weave.specs.Wholes.{numbers_in};
+ghost use Rattle.mc_merge.specs.Weaving.{numbers_of};
+ghost use Rattle.mc_merge.specs.Wholes.{numbers_in};
 
 use crate::carrying_over::carry_over;
 use crate::choosing::choose;

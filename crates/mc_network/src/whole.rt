@@ -2,8 +2,8 @@
 
 ghost use Rattle.std.specs.Prelude.{◌≡◌, ◌<◌, ◌≤◌, ◌+◌, ◌*◌, ◌^◌, ℕ, [], length, replicate, slice_index_or, slice_set, All, IfOk};
 ghost use Rattle.mc_box.specs.Boxes.{BoxState};
-ghost use Rattle.mc_cut.specs.Cuts.{is_crossing, part_of, place_in};
-ghost use Rattle.mc_cut.specs.Cutting.{HasBoxes, inner_lists};
+ghost use Rattle.mc_part.specs.Cuts.{is_crossing, part_of, place_in};
+ghost use Rattle.mc_part.specs.Cutting.{HasBoxes, inner_lists};
 ghost use Rattle.mc_model.specs.Worlds.{channel_number_limit};
 ghost use Rattle.mc_network.specs.Networks.{IsCutNetwork, network_state};
 ghost use Rattle.mc_network.specs.Whole.{AreCounted, AreRanks, boxes_among, end_part, lanes_among, lanes_by, lanes_of, no_base};
@@ -11,10 +11,9 @@ ghost use Rattle.mc_world.specs.Lanes.{signals_of};
 
 use crate::network::CutNetwork;
 use mc_box::MediaBox;
-use mc_cut::gather;
 use mc_lane::Lane;
 use mc_model::Channel;
-use mc_part::PartRun;
+use mc_part::{PartRun, gather};
 use mc_signal::Tagged;
 use mc_world::{Pieces, World};
 use std::alloc::{AllocError, Global};

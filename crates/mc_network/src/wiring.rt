@@ -1,7 +1,7 @@
 // The rings of channels that cross.
 
 ghost use Rattle.std.specs.Prelude.{◌≡◌, ◌<◌, ◌≤◌, ◌==◌, ℕ, [], length, replicate, All, IfOk, OnOk};
-ghost use Rattle.mc_cut.specs.Cutting.{HasBoxes, inner_lists};
+ghost use Rattle.mc_part.specs.Cutting.{HasBoxes, inner_lists};
 ghost use Rattle.mc_model.specs.Worlds.{channel_number_limit};
 ghost use Rattle.mc_network.specs.Laying.{AddsBy, AddsCrossing, AreWired, IsDivision, ports_in, with_port};
 

@@ -10,11 +10,11 @@ use Rattle.mc_box.specs.declared.event.Event.{Event}
 use Rattle.mc_box.specs.declared.event.Event.TheVariants.{Shift}
 use Rattle.mc_box.specs.declared.event.Turn.{Turn}
 use Rattle.mc_box.specs.declared.limit.TheConstants.{SHIFT_LIMIT}
-use Rattle.mc_log.specs.Entries.{AreMade, Entry}
+use Rattle.mc_port.specs.Entries.{AreMade, Entry}
 use Rattle.mc_model.specs.Worlds.{box_at}
-use Rattle.mc_weave.specs.Logs.{Own, own_log}
-use Rattle.mc_weave.specs.Wholes.{made_of}
-use Rattle.mc_weave.specs.declared.log.Made.{Made}
+use Rattle.mc_merge.specs.Logs.{Own, own_log}
+use Rattle.mc_merge.specs.Wholes.{made_of}
+use Rattle.mc_merge.specs.declared.log.Made.{Made}
 use Rattle.mc_part.specs.Parts.{IsWithin, Runs, TurnsOnce, no_retries, shifts_of, stimuli_of, events_for}
 use Rattle.mc_part.specs.Running.{AreCalm, AreCalmFrom, ChangesOnly, Goes, HasBegun, HasTried, IsCalm, NothingWaits, IsCommanded, NoneLeft, next_command}
 use Rattle.mc_part.specs.declared.part.Part.{Part}

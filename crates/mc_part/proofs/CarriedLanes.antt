@@ -14,7 +14,7 @@ use Rattle.mc_port.specs.Ends.{RingName, given, in_ring, left_in, out_ring, rece
 use Rattle.mc_port.specs.declared.ends.InPort.{InPort}
 use Rattle.mc_port.specs.declared.ends.OutPort.{OutPort}
 use Rattle.mc_port.specs.declared.stamped.Stamped.{Stamped}
-use Rattle.mc_weave.specs.Account.{part_lane}
+use Rattle.mc_merge.specs.Account.{part_lane}
 use Rattle.mc_world.specs.Pumping.{IsOutgoing, is_slot_at, with_last, without_first}
 use Rattle.mc_world.specs.Waiting.{take_waits}
 use Rattle.mc_world.specs.declared.network.engine.Outgoing.{Outgoing}

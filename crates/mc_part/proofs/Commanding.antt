@@ -5,7 +5,7 @@ use Rattle.std.proofs.lemmas.Option.{slice_get-get_or}
 use Rattle.mc_box.specs.declared.event.Event.{Event}
 use Rattle.mc_box.specs.declared.event.Event.TheVariants.{Shift}
 use Rattle.mc_box.specs.declared.event.Turn.{Turn}
-use Rattle.mc_weave.specs.declared.log.Made.{Made}
+use Rattle.mc_merge.specs.declared.log.Made.{Made}
 use Rattle.mc_part.specs.Parts.{Runs, events_for, no_retries, stimuli_of}
 use Rattle.mc_part.specs.Running.{StopsAs, StraysAs, UsesAs, UsesCommand, UsesFirst, UsesTo}
 use Rattle.mc_part.specs.declared.part.Part.{Part}

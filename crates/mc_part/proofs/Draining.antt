@@ -5,7 +5,7 @@ use Rattle.std.proofs.Math.Nat.{max-eq_left, max-eq_right}
 use Rattle.std.proofs.lemmas.Bool.{cases_lt}
 use Rattle.std.proofs.lemmas.List.{append_cancel_left, map-append}
 use Rattle.std.proofs.lemmas.List.Elements.{Contains-append_left, Contains-push}
-use Rattle.mc_weave.specs.Clocks.{item_stamps}
+use Rattle.mc_merge.specs.Clocks.{item_stamps}
 use Rattle.mc_part.specs.Drains.{DrainsMeet, RingsAreDrained}
 use Rattle.mc_port.specs.declared.stamped.Stamped.{Stamped}
 

@@ -9,13 +9,13 @@ use Rattle.mc_model.specs.Settles.{world_owes}
 use Rattle.mc_model.specs.Worlds.{WorldState, box_at}
 use Rattle.mc_merge.specs.Lanes.{leads_from, leads_to}
 use Rattle.mc_model.specs.Worlds.{ChannelState}
-use Rattle.mc_weave.specs.Weaving.{log_at}
-use Rattle.mc_weave.specs.Logs.{own_log}
-use Rattle.mc_weave.specs.Phases.{AreEmptied, IsApart, IsDrained, IsLayout, IsMerge, IsPhase, IsUse, Layout, box_in}
-use Rattle.mc_weave.specs.Together.{Ran}
-use Rattle.mc_weave.specs.Wholes.{AreHomes, made_of, numbers_in}
-use Rattle.mc_weave.specs.declared.log.Made.{Made}
-use Rattle.mc_weave.proofs.Phases.{phase_goes_on, phase_keeps_sound, phase_plays}
+use Rattle.mc_merge.specs.Weaving.{log_at}
+use Rattle.mc_merge.specs.Logs.{own_log}
+use Rattle.mc_merge.specs.Phases.{AreEmptied, IsApart, IsDrained, IsLayout, IsMerge, IsPhase, IsUse, Layout, box_in}
+use Rattle.mc_merge.specs.Together.{Ran}
+use Rattle.mc_merge.specs.Wholes.{AreHomes, made_of, numbers_in}
+use Rattle.mc_merge.specs.declared.log.Made.{Made}
+use Rattle.mc_merge.proofs.Phases.{phase_goes_on, phase_keeps_sound, phase_plays}
 use Rattle.mc_part.specs.Networks.{AreCarried, AreLogs, AreParts, HaveHomes, HaveRun, LeadsAcross, PartsGoOn, PartsKeepSound, PartsPlay, given_on, received_on, shifts_in, states_of, stimuli_in, tables_at, world_by}
 use Rattle.mc_part.specs.Parts.{state_of, tables_of}
 use Rattle.mc_part.specs.declared.part.Part.{Part}

@@ -12,11 +12,11 @@ use Rattle.std.specs.Vec.{with_item}
 use Rattle.mc_signal.specs.declared.Tagged.{Tagged}
 use Rattle.mc_merge.specs.Lanes.{leads_from, leads_to}
 use Rattle.mc_model.specs.Worlds.{WorldState}
-use Rattle.mc_weave.specs.Account.{part_lane}
-use Rattle.mc_weave.specs.Steps.{ComesIn, GoesOut, at_lane}
-use Rattle.mc_weave.specs.Turns.{no_items}
-use Rattle.mc_weave.proofs.ClockJoins.{rings_are_clocked}
-use Rattle.mc_weave.proofs.Rings.{coming_is_work, going_is_work}
+use Rattle.mc_merge.specs.Account.{part_lane}
+use Rattle.mc_merge.specs.Steps.{ComesIn, GoesOut, at_lane}
+use Rattle.mc_merge.specs.Turns.{no_items}
+use Rattle.mc_merge.proofs.ClockJoins.{rings_are_clocked}
+use Rattle.mc_merge.proofs.Rings.{coming_is_work, going_is_work}
 use Rattle.mc_port.specs.Ends.{RingName, given, in_ring, known, out_ring, received}
 use Rattle.mc_port.specs.declared.ends.InPort.{InPort}
 use Rattle.mc_port.specs.declared.ends.OutPort.{OutPort}

@@ -6,17 +6,17 @@ use Rattle.std.proofs.lemmas.Bool.{cases_lt}
 use Rattle.std.proofs.lemmas.List.{length-append, length-map}
 use Rattle.mc_signal.specs.declared.Tagged.{Tagged}
 use Rattle.mc_box.specs.declared.event.Event.{Event}
-use Rattle.mc_log.specs.Entries.{Entry}
+use Rattle.mc_port.specs.Entries.{Entry}
 use Rattle.mc_merge.specs.LaneLogs.{without_stamps}
 use Rattle.mc_merge.specs.Lanes.{leads_from, leads_to}
 use Rattle.mc_merge.proofs.LaneEnds.{taker_is}
 use Rattle.mc_model.specs.Worlds.{ChannelState, WorldState, front, front_for, lane_of, number, tunnel_of}
-use Rattle.mc_weave.specs.Account.{IsPartWork, part_lane}
-use Rattle.mc_weave.specs.Logs.{Own, own_log}
-use Rattle.mc_weave.specs.Passing.{LanePasses}
-use Rattle.mc_weave.specs.Phases.{IsUse}
-use Rattle.mc_weave.specs.Wholes.{made_of}
-use Rattle.mc_weave.specs.declared.log.Made.{Made}
+use Rattle.mc_merge.specs.Account.{IsPartWork, part_lane}
+use Rattle.mc_merge.specs.Logs.{Own, own_log}
+use Rattle.mc_merge.specs.Passing.{LanePasses}
+use Rattle.mc_merge.specs.Phases.{IsUse}
+use Rattle.mc_merge.specs.Wholes.{made_of}
+use Rattle.mc_merge.specs.declared.log.Made.{Made}
 use Rattle.mc_port.specs.declared.stamped.Stamped.{Stamped}
 use Rattle.mc_world.specs.Waiting.{take_waits}
 use Rattle.mc_part.proofs.Ran.{runs_as, runs_none, runs_sum}

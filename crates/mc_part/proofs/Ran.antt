@@ -9,13 +9,13 @@ use Rattle.mc_box.specs.declared.event.Event.TheVariants.{Take, Retry, Shift}
 use Rattle.mc_box.specs.declared.event.Turn.{Turn}
 use Rattle.mc_box.specs.declared.limit.TheConstants.{SHIFT_LIMIT}
 use Rattle.mc_model.specs.Worlds.{ChannelState, WorldState, channel_number_limit}
-use Rattle.mc_weave.specs.Account.{IsPartWork, PartState}
-use Rattle.mc_weave.specs.Clocks.{IsClocked}
-use Rattle.mc_weave.specs.Turns.{no_items}
-use Rattle.mc_weave.specs.Uses.{AreOwnUses}
-use Rattle.mc_weave.specs.Wholes.{made_of}
-use Rattle.mc_weave.specs.declared.log.Made.{Made}
-use Rattle.mc_weave.proofs.Usage.{own_uses_as, own_uses_join, uses_begin}
+use Rattle.mc_merge.specs.Account.{IsPartWork, PartState}
+use Rattle.mc_merge.specs.Clocks.{IsClocked}
+use Rattle.mc_merge.specs.Turns.{no_items}
+use Rattle.mc_merge.specs.Uses.{AreOwnUses}
+use Rattle.mc_merge.specs.Wholes.{made_of}
+use Rattle.mc_merge.specs.declared.log.Made.{Made}
+use Rattle.mc_merge.proofs.Usage.{own_uses_as, own_uses_join, uses_begin}
 use Rattle.mc_port.specs.declared.stamped.Stamped.{Stamped}
 use Rattle.mc_part.specs.Parts.{HasRun, IsWithin, LeadsAway, Runs, TurnsOnce, no_retries, ports_of, shifts_of, state_of, tables_of, uses_of}
 use Rattle.mc_part.specs.Ports.{LeadAway, given_at, received_at, rings_of, sides}

@@ -14,11 +14,11 @@ use Rattle.mc_box.specs.declared.event.Event.{Event}
 use Rattle.mc_box.specs.declared.event.Event.TheVariants.{Retry}
 use Rattle.mc_box.proofs.Events.{event_goes}
 use Rattle.mc_box.proofs.GoalTurns.{end_form}
-use Rattle.mc_log.specs.Entries.{AreMade, Entry, signal_in}
+use Rattle.mc_port.specs.Entries.{AreMade, Entry, signal_in}
 use Rattle.mc_model.specs.Settles.{world_owes}
 use Rattle.mc_model.specs.Worlds.{box_at}
 use Rattle.mc_world.specs.Waiting.{bit}
-use Rattle.mc_weave.specs.Logs.{own_log}
+use Rattle.mc_merge.specs.Logs.{own_log}
 use Rattle.mc_part.specs.Parts.{IsWithin, Runs, TurnsOnce, no_retries}
 use Rattle.mc_part.specs.Retries.{HasRetried, below_box, below_slot, box_only, owed_in, owes, slot_only}
 use Rattle.mc_part.specs.Running.{RunsSome, owed_of}

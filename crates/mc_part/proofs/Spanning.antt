@@ -6,16 +6,16 @@ use Rattle.std.proofs.lemmas.Grind.{common_steps}
 use Rattle.std.proofs.lemmas.List.{append-nil}
 use Rattle.mc_signal.specs.declared.Tagged.{Tagged}
 use Rattle.mc_model.specs.Worlds.{WorldState}
-use Rattle.mc_weave.specs.Account.{IsPartWork, PartState}
-use Rattle.mc_weave.specs.Logs.{Own}
-use Rattle.mc_weave.specs.Passing.{LanePasses}
-use Rattle.mc_weave.specs.Steps.{at_lane}
-use Rattle.mc_weave.specs.Turns.{no_items}
-use Rattle.mc_weave.proofs.ClockJoins.{clocks_join}
-use Rattle.mc_weave.proofs.Clocks.{none_there}
-use Rattle.mc_weave.proofs.Joins.{parts_join}
-use Rattle.mc_weave.proofs.Logs.{all_append}
-use Rattle.mc_weave.proofs.Rings.{here}
+use Rattle.mc_merge.specs.Account.{IsPartWork, PartState}
+use Rattle.mc_merge.specs.Logs.{Own}
+use Rattle.mc_merge.specs.Passing.{LanePasses}
+use Rattle.mc_merge.specs.Steps.{at_lane}
+use Rattle.mc_merge.specs.Turns.{no_items}
+use Rattle.mc_merge.proofs.ClockJoins.{clocks_join}
+use Rattle.mc_merge.proofs.Clocks.{none_there}
+use Rattle.mc_merge.proofs.Joins.{parts_join}
+use Rattle.mc_merge.proofs.Logs.{all_append}
+use Rattle.mc_merge.proofs.Rings.{here}
 use Rattle.mc_part.specs.Spans.{NothingIsSpan, SpansJoin}
 use Rattle.mc_port.specs.declared.stamped.Stamped.{Stamped}
 

@@ -8,17 +8,17 @@ use Rattle.std.proofs.lemmas.List.Quantifiers.{position-Some}
 use Rattle.std.proofs.lemmas.Option.{slice_get-get_or}
 use Rattle.mc_signal.specs.declared.Signal.{Signal}
 use Rattle.mc_signal.specs.declared.Tagged.{Tagged}
-use Rattle.mc_log.specs.Entries.{Entry}
-use Rattle.mc_log.specs.Tunnels.{Tunnels, event_sends, log_sends, sent_if, tunnel_if_at}
+use Rattle.mc_port.specs.Entries.{Entry}
+use Rattle.mc_port.specs.Tunnels.{Tunnels, event_sends, log_sends, sent_if, tunnel_if_at}
 use Rattle.mc_merge.specs.LaneLogs.{without_stamps}
 use Rattle.mc_merge.specs.Lanes.{absent_channel, lane_place, leads_from, out_of_box}
 use Rattle.mc_model.specs.Worlds.{ChannelState, TunnelPlace, WorldState, all_tunnels, far, is_place, lane_of, no_tunnel, number, places, slot_count, tunnel_of, tunnels_from, tunnels_within}
 use Rattle.mc_model.specs.declared.channel.Tunnel.{Tunnel}
 use Rattle.mc_laws.proofs.Numbers.{far_half, half_in}
 use Rattle.mc_laws.proofs.TunnelPlaces.{two_each}
-use Rattle.mc_weave.proofs.Logs.{all_append, all_at, all_map}
-use Rattle.mc_weave.specs.Account.{part_lane}
-use Rattle.mc_weave.specs.Logs.{own_log, sent_by}
+use Rattle.mc_merge.proofs.Logs.{all_append, all_at, all_map}
+use Rattle.mc_merge.specs.Account.{part_lane}
+use Rattle.mc_merge.specs.Logs.{own_log, sent_by}
 use Rattle.mc_port.specs.Ends.{without_stamp}
 use Rattle.mc_port.specs.declared.stamped.Stamped.{Stamped}
 use Rattle.mc_part.specs.Carrying.{AreFor, LeftFitsChannel, WorkFitsChannels, tunnel_count}

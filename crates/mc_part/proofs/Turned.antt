@@ -12,13 +12,13 @@ use Rattle.mc_box.specs.declared.event.Event.{Event}
 use Rattle.mc_box.specs.declared.event.Turn.{Turn}
 use Rattle.mc_model.specs.Steps.{after_making, step, step_by}
 use Rattle.mc_model.specs.Worlds.{ChannelState, WorldState, box_at}
-use Rattle.mc_weave.specs.Logs.{Own}
-use Rattle.mc_weave.specs.Steps.{IsStep, part_world}
-use Rattle.mc_weave.proofs.ClockJoins.{turns_are_clocked}
-use Rattle.mc_weave.proofs.Steps.{step_channels, steps_are_turns}
-use Rattle.mc_weave.proofs.Turns.{turns_are_work}
-use Rattle.mc_weave.specs.Wholes.{made_of}
-use Rattle.mc_weave.specs.declared.log.Made.{Made}
+use Rattle.mc_merge.specs.Logs.{Own}
+use Rattle.mc_merge.specs.Steps.{IsStep, part_world}
+use Rattle.mc_merge.proofs.ClockJoins.{turns_are_clocked}
+use Rattle.mc_merge.proofs.Steps.{step_channels, steps_are_turns}
+use Rattle.mc_merge.proofs.Turns.{turns_are_work}
+use Rattle.mc_merge.specs.Wholes.{made_of}
+use Rattle.mc_merge.specs.declared.log.Made.{Made}
 use Rattle.mc_world.specs.StepAnswers.{CannotHappen, LacksVersion}
 use Rattle.mc_world.specs.declared.network.step.StepFault.{StepFault}
 use Rattle.mc_world.specs.declared.network.step.StepFault.TheVariants.{NotEnabled, NoMemory, VersionEnd}

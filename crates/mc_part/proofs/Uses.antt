@@ -10,9 +10,9 @@ use Rattle.mc_box.specs.declared.event.Event.{Event}
 use Rattle.mc_box.specs.declared.event.Event.TheVariants.{Take, Set, Media, Tell, Retry, Shift}
 use Rattle.mc_box.specs.declared.event.Turn.{Turn}
 use Rattle.mc_box.specs.declared.limit.TheConstants.{SHIFT_LIMIT}
-use Rattle.mc_weave.specs.Logs.{Own}
-use Rattle.mc_weave.specs.Uses.{AreOwnUses, Uses, UsesMore, UsesOne, retry_count}
-use Rattle.mc_weave.proofs.Usage.{uses_begin, uses_go_on}
+use Rattle.mc_merge.specs.Logs.{Own}
+use Rattle.mc_merge.specs.Uses.{AreOwnUses, Uses, UsesMore, UsesOne, retry_count}
+use Rattle.mc_merge.proofs.Usage.{uses_begin, uses_go_on}
 use Rattle.mc_part.specs.Parts.{IsWithin, events_for, no_retries, shifts_of, stimuli_of, uses_of}
 use Rattle.mc_part.specs.Running.{NextIsFirst}
 use Rattle.mc_part.specs.declared.part.Part.{Part}

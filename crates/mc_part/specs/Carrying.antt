@@ -7,8 +7,8 @@ use Rattle.mc_merge.specs.Lanes.{absent_channel, leads_to}
 use Rattle.mc_model.specs.Worlds.{WorldState, channel_number_limit, lane_of, number, place, slot_count}
 use Rattle.mc_port.specs.Ends.{IsPair, given, in_ring, left_in, out_ring, received}
 use Rattle.mc_port.specs.declared.stamped.Stamped.{Stamped}
-use Rattle.mc_weave.specs.Account.{ComesFromHere, IsPartWork, PartState, part_lane}
-use Rattle.mc_weave.specs.Logs.{Own}
+use Rattle.mc_merge.specs.Account.{ComesFromHere, IsPartWork, PartState, part_lane}
+use Rattle.mc_merge.specs.Logs.{Own}
 use Rattle.mc_world.specs.Pumping.{is_slot_at}
 use Rattle.mc_part.specs.Parts.{state_of, tables_of}
 use Rattle.mc_part.specs.Ports.{entry_slot, into_lane, out_lane, rings_of, sides}

@@ -1,9 +1,9 @@
 -- A ring that is drained between two phases.
 use Rattle.std.specs.Prelude.{◌≡◌, ℕ, List, [], ◌++◌}
 use Rattle.mc_merge.specs.LaneLogs.{without_stamps}
-use Rattle.mc_weave.specs.Phases.{IsDrained, Layout, before_ring, lane_in}
-use Rattle.mc_weave.specs.Account.{PartState}
-use Rattle.mc_weave.specs.Together.{Ran}
+use Rattle.mc_merge.specs.Phases.{IsDrained, Layout, before_ring, lane_in}
+use Rattle.mc_merge.specs.Account.{PartState}
+use Rattle.mc_merge.specs.Together.{Ran}
 use Rattle.mc_port.specs.declared.stamped.Stamped.{Stamped}
 
 -- before the phase all that was given to the ring had been received; then both ports went on, and what was left, and

@@ -1,9 +1,12 @@
 pub mod Carrying
+pub mod CutLaws
+pub mod Cuts
+pub mod Cutting
 pub mod Drains
+pub mod Networks
 pub mod Parts
 pub mod Phases
 pub mod Ports
 pub mod Retries
 pub mod Running
 pub mod Spans
-pub mod Networks

@@ -5,11 +5,11 @@ use Rattle.mc_merge.specs.LaneLogs.{without_stamps}
 use Rattle.mc_model.specs.Sound.{IsSound}
 use Rattle.mc_model.specs.Worlds.{WorldState}
 use Rattle.mc_port.specs.declared.stamped.Stamped.{Stamped}
-use Rattle.mc_weave.specs.Account.{PartState}
-use Rattle.mc_weave.specs.Phases.{AreEmptied, IsApart, IsLayout, Layout, PlaysPhase, before_ring, lane_in, stands_for}
-use Rattle.mc_weave.specs.Weaving.{AreWoven, log_at, turn_in}
-use Rattle.mc_weave.specs.Wholes.{numbers_in}
-use Rattle.mc_weave.specs.declared.log.Made.{Made}
+use Rattle.mc_merge.specs.Account.{PartState}
+use Rattle.mc_merge.specs.Phases.{AreEmptied, IsApart, IsLayout, Layout, PlaysPhase, before_ring, lane_in, stands_for}
+use Rattle.mc_merge.specs.Weaving.{AreWoven, log_at, turn_in}
+use Rattle.mc_merge.specs.Wholes.{numbers_in}
+use Rattle.mc_merge.specs.declared.log.Made.{Made}
 use Rattle.mc_part.specs.Parts.{Runs, shifts_of, state_of, stimuli_of, tables_of}
 use Rattle.mc_part.specs.Ports.{given_at, received_at}
 use Rattle.mc_part.specs.Running.{owed_of}

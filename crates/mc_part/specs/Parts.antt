@@ -6,13 +6,13 @@ use Rattle.mc_box.specs.declared.event.Event.{Event}
 use Rattle.mc_box.specs.declared.event.Turn.{Turn}
 use Rattle.mc_box.specs.declared.limit.TheConstants.{SHIFT_LIMIT}
 use Rattle.mc_model.specs.Worlds.{WorldState, channel_number_limit}
-use Rattle.mc_weave.specs.Account.{IsPartWork, PartState}
-use Rattle.mc_weave.specs.Clocks.{IsClocked}
-use Rattle.mc_weave.specs.Logs.{Own}
-use Rattle.mc_weave.specs.Turns.{no_items}
-use Rattle.mc_weave.specs.Uses.{AreOwnUses, Uses}
+use Rattle.mc_merge.specs.Account.{IsPartWork, PartState}
+use Rattle.mc_merge.specs.Clocks.{IsClocked}
+use Rattle.mc_merge.specs.Logs.{Own}
+use Rattle.mc_merge.specs.Turns.{no_items}
+use Rattle.mc_merge.specs.Uses.{AreOwnUses, Uses}
 use Rattle.mc_port.specs.declared.stamped.Stamped.{Stamped}
-use Rattle.mc_weave.specs.Wholes.{made_of}
+use Rattle.mc_merge.specs.Wholes.{made_of}
 use Rattle.mc_world.specs.StepAnswers.{CannotHappen, LacksVersion}
 use Rattle.mc_world.specs.declared.network.step.StepFault.{StepFault}
 use Rattle.mc_world.specs.declared.network.step.StepFault.TheVariants.{NotEnabled, NoMemory, VersionEnd}

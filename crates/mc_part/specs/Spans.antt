@@ -2,10 +2,10 @@
 use Rattle.std.specs.Prelude.{◌≡◌, ℕ, ◌<◌, List, [], ◌++◌, length}
 use Rattle.std.specs.List.{AllByRecursion}
 use Rattle.mc_model.specs.Worlds.{WorldState}
-use Rattle.mc_weave.specs.Account.{IsPartWork, PartState}
-use Rattle.mc_weave.specs.Clocks.{IsClocked}
-use Rattle.mc_weave.specs.Logs.{Own}
-use Rattle.mc_weave.specs.Turns.{no_items}
+use Rattle.mc_merge.specs.Account.{IsPartWork, PartState}
+use Rattle.mc_merge.specs.Clocks.{IsClocked}
+use Rattle.mc_merge.specs.Logs.{Own}
+use Rattle.mc_merge.specs.Turns.{no_items}
 use Rattle.mc_port.specs.declared.stamped.Stamped.{Stamped}
 
 -- what was received and given by the port of each lane that crosses, since the port was made

@@ -1,7 +1,10 @@
-//! Parts of a network as they run, each by itself and side by side on threads.
+//! Parts of a network: what each is made of, wherever the network is cut, and how they run, each by itself and side by
+//! side on threads.
 #![tactic(auto)]
 
 mod carrying;
+mod channels;
+mod homes;
 pub mod laws;
 pub mod limit;
 mod part;
@@ -12,14 +15,18 @@ mod port;
 mod pumping;
 mod retrying;
 mod running;
+mod sharing;
 mod steps;
 mod stop;
 
 pub use carrying::carry;
-pub use mc_weave::{Made, PartLog, merge};
+pub use channels::channels_in;
+pub use homes::{Homes, homes_of};
+pub use mc_merge::{Made, PartLog, merge};
 pub use part::Part;
 pub use part_run::PartRun;
 pub use phase::run_parts;
 pub use port::Port;
 pub use running::run_part;
+pub use sharing::{gather, share};
 pub use stop::{Ended, PartStop};

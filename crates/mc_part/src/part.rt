@@ -9,7 +9,7 @@ use crate::port::Port;
 use mc_box::{Event, Turn};
 use mc_io::Gate;
 use mc_lane::Lane;
-use mc_weave::Made;
+use mc_merge::Made;
 use mc_world::{Engine, StepFault};
 use std::alloc::AllocError;
 

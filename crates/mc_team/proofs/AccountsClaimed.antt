@@ -9,8 +9,8 @@ use Rattle.mc_box.specs.declared.event.Event.{Event}
 use Rattle.mc_box.specs.declared.event.Event.TheVariants.{Take, Set, Media, Tell, Retry, Shift}
 use Rattle.mc_team.specs.Workers.{AccountsAreClaimed, AreWorkersOf, StandsFor, parts_of}
 use Rattle.mc_team.proofs.KeptOrder.{carried}
-use Rattle.mc_log.specs.Entries.{AreMade, AreStamped, Claimed, Entry, entries_of}
-use Rattle.mc_log.specs.Tunnels.{FitsPlace, log_sends}
+use Rattle.mc_port.specs.Entries.{AreMade, AreStamped, Claimed, Entry, entries_of}
+use Rattle.mc_port.specs.Tunnels.{FitsPlace, log_sends}
 use Rattle.mc_merge.specs.LaneLogs.{claimed_of, claims_from, logs_of, sent_to}
 use Rattle.mc_merge.specs.Lanes.{FitsTunnel, leads_from, leads_to, out_of_box, tunnel_at}
 use Rattle.mc_merge.proofs.Claims.{logs_at}

@@ -2,7 +2,7 @@
 use Rattle.std.proofs.Common.{◌≡◌, ℕ, ◌<◌, Bool, List, [], Some, length, map, get_or, slice_get, ap, sym, ◌∙◌, subst, arith}
 use Rattle.std.proofs.lemmas.Option.{slice_get_within}
 use Rattle.mc_box.specs.Boxes.{no_box}
-use Rattle.mc_log.specs.Entries.{Claimed}
+use Rattle.mc_port.specs.Entries.{Claimed}
 use Rattle.mc_merge.specs.LaneLogs.{claimed_of}
 use Rattle.mc_team.proofs.ByPlace.{map_at}
 use Rattle.mc_team.proofs.Choices.{Chosen, chosen}

@@ -14,8 +14,8 @@ use Rattle.mc_team.proofs.BoxRounds.{MadeRound}
 use Rattle.mc_team.specs.Teams.{StandForWorld, world_of}
 use Rattle.mc_team.specs.Layouts.{ends_of_lane, no_lane_ends, of_box}
 use Rattle.mc_team.specs.declared.layout.LaneEnds.{LaneEnds}
-use Rattle.mc_log.specs.Entries.{Claimed}
-use Rattle.mc_log.specs.Tunnels.{tunnels_at}
+use Rattle.mc_port.specs.Entries.{Claimed}
+use Rattle.mc_port.specs.Tunnels.{tunnels_at}
 use Rattle.mc_merge.proofs.LaneBoxes.{lanes_have_boxes}
 use Rattle.mc_merge.specs.LaneLogs.{claimed_of}
 use Rattle.mc_merge.specs.Lanes.{into_box, leads_from, leads_to, out_of_box, tunnel_at}

@@ -3,7 +3,7 @@ use Rattle.std.proofs.Common.{◌≡◌, ℕ, ◌<◌, Bool, List, [], Some, len
 use Rattle.std.proofs.lemmas.List.{length-map}
 use Rattle.std.proofs.lemmas.Option.{get_or_from_slice_get, slice_get_within}
 use Rattle.mc_box.specs.Boxes.{BoxState}
-use Rattle.mc_log.specs.Entries.{Claimed}
+use Rattle.mc_port.specs.Entries.{Claimed}
 use Rattle.mc_merge.specs.Claims.{IsClaimed}
 use Rattle.mc_merge.specs.LaneLogs.{claimed_of, without_stamps}
 use Rattle.mc_model.specs.Worlds.{ChannelState}

@@ -5,8 +5,8 @@ use Rattle.mc_signal.specs.declared.Tagged.{Tagged}
 use Rattle.mc_box.specs.declared.event.Event.{Event}
 use Rattle.mc_box.specs.declared.event.Event.TheVariants.{Take, Set, Media, Tell, Retry, Shift}
 use Rattle.mc_team.specs.Carried.{EndsKeep, IsCarried}
-use Rattle.mc_log.specs.Entries.{Claimed, Entry, entries_of}
-use Rattle.mc_log.specs.Tunnels.{Tunnels, event_sends, event_takes, log_sends, log_takes, sent_if, taken_if, tunnels_at}
+use Rattle.mc_port.specs.Entries.{Claimed, Entry, entries_of}
+use Rattle.mc_port.specs.Tunnels.{Tunnels, event_sends, event_takes, log_sends, log_takes, sent_if, taken_if, tunnels_at}
 use Rattle.mc_merge.proofs.Claims.{ring_keeps}
 use Rattle.mc_merge.specs.Lanes.{into_box, leads_from, leads_to, out_of_box}
 use Rattle.mc_model.specs.Worlds.{WorldState}

@@ -13,7 +13,7 @@ use Rattle.mc_team.specs.OwnRounds.{AreOwnRounds, DidBox, HasLaneEnd}
 use Rattle.mc_team.specs.Rounds.{round_logs, round_stops, stop_of}
 use Rattle.mc_team.specs.Layouts.{at_end, ends_of_lane, of_box}
 use Rattle.mc_team.specs.declared.layout.LaneEnds.{LaneEnds}
-use Rattle.mc_log.specs.Tunnels.{tunnels_at}
+use Rattle.mc_port.specs.Tunnels.{tunnels_at}
 use Rattle.mc_merge.specs.LaneLogs.{claimed_of}
 use Rattle.mc_merge.specs.Lanes.{into_box, leads_to}
 use Rattle.mc_model.specs.Worlds.{ChannelState}

@@ -3,7 +3,7 @@ use Rattle.std.proofs.Common.{◌≡◌, ℕ, zero, suc, List, [], ◌∷◌, ma
 use Rattle.mc_box.specs.BoxEvents.{turn_of}
 use Rattle.mc_box.specs.declared.event.Event.{Event}
 use Rattle.mc_box.specs.declared.event.Turn.{Turn}
-use Rattle.mc_log.specs.Entries.{Claimed, Entry, entries_of, no_entry, stamps_of}
+use Rattle.mc_port.specs.Entries.{Claimed, Entry, entries_of, no_entry, stamps_of}
 use Rattle.mc_merge.proofs.Claims.{logs_at}
 use Rattle.mc_merge.specs.LaneLogs.{claimed_of, logs_of}
 use Rattle.mc_merge.specs.Merging.{merged, turn_at}

@@ -7,7 +7,7 @@ use Rattle.mc_box.specs.BoxEvents.{is_enabled}
 use Rattle.mc_box.specs.Boxes.{BoxState, box_owes, is_slot, no_box}
 use Rattle.mc_box.specs.declared.event.Event.TheVariants.{Retry, Shift}
 use Rattle.mc_box.specs.declared.limit.TheConstants.{SHIFT_LIMIT}
-use Rattle.mc_log.specs.Entries.{Claimed}
+use Rattle.mc_port.specs.Entries.{Claimed}
 use Rattle.mc_merge.specs.LaneLogs.{claimed_of}
 use Rattle.mc_merge.specs.Lanes.{leads_to}
 use Rattle.mc_model.specs.Settles.{world_owes}

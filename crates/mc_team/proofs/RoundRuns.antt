@@ -12,7 +12,7 @@ use Rattle.mc_team.proofs.Stands.{MadeNone, MadeOne, waiting_on}
 use Rattle.mc_team.proofs.RoundLogs.{written_stamps, written_turns}
 use Rattle.mc_team.proofs.RoundStops.{ends_box, moved, stopped, turns_made}
 use Rattle.mc_team.proofs.Lists.{at_some}
-use Rattle.mc_log.specs.Entries.{Claimed}
+use Rattle.mc_port.specs.Entries.{Claimed}
 use Rattle.mc_worker.specs.declared.logged.Logged.{Logged}
 use Rattle.mc_team.proofs.RoundStrange.{strange_never}
 use Rattle.mc_team.proofs.RoundTurns.{AreOwn, BoxAccount, commands_used, idle_account, retries_counted, round_account, shifts_made}
@@ -20,7 +20,7 @@ use Rattle.mc_team.specs.Teams.{HasTeamWork, team_of, shifts_at, stimuli_at, wor
 use Rattle.mc_team.specs.Rounds.{EndsBox, IsTeamRound, round_logs, round_stops, stop_of}
 use Rattle.mc_team.specs.Runs.{NoneRefused}
 use Rattle.mc_team.specs.declared.layout.LaneEnds.{LaneEnds}
-use Rattle.mc_log.specs.Entries.{stamps_of}
+use Rattle.mc_port.specs.Entries.{stamps_of}
 use Rattle.mc_merge.proofs.Claims.{claimed_are_logged, own_events, past_claimed}
 use Rattle.mc_merge.proofs.Merging.{merge_law}
 use Rattle.mc_merge.specs.LaneLogs.{claimed_of, logs_of, without_stamps}

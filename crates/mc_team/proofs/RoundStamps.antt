@@ -8,8 +8,8 @@ use Rattle.mc_team.proofs.Stands.{IsKept, MadeNone, MadeOne}
 use Rattle.mc_team.specs.Teams.{world_of}
 use Rattle.mc_team.specs.declared.limit.TheConstants.{TEAM_LIMIT}
 use Rattle.mc_team.specs.declared.layout.LaneEnds.{LaneEnds}
-use Rattle.mc_log.specs.Entries.{Claimed, entries_of}
-use Rattle.mc_log.specs.Tunnels.{log_sends, tunnels_at}
+use Rattle.mc_port.specs.Entries.{Claimed, entries_of}
+use Rattle.mc_port.specs.Tunnels.{log_sends, tunnels_at}
 use Rattle.mc_merge.proofs.ClaimedStamps.{claimed_sends_fit}
 use Rattle.mc_merge.specs.Claims.{entry_count}
 use Rattle.mc_merge.specs.LaneLogs.{claimed_of}

@@ -11,7 +11,7 @@ use Rattle.mc_box.specs.declared.event.Turn.{Turn}
 use Rattle.mc_team.proofs.RoundTurns.{AreOwn, BoxAccount, own_count}
 use Rattle.mc_team.specs.Teams.{HasTeamWork, TeamState, stimuli_at}
 use Rattle.mc_team.specs.Rounds.{EndsBox, HasMoved}
-use Rattle.mc_log.specs.Entries.{Claimed, event_of, events_that}
+use Rattle.mc_port.specs.Entries.{Claimed, event_of, events_that}
 use Rattle.mc_model.specs.Worlds.{box_at}
 use Rattle.mc_team.specs.Runs.{IsRan}
 use Rattle.mc_team.specs.declared.member.Member.{Member}

@@ -13,7 +13,7 @@ use Rattle.mc_box.specs.declared.event.Event.TheVariants.{Media, Retry, Set, Shi
 use Rattle.mc_box.specs.declared.event.Turn.{Turn}
 use Rattle.mc_box.specs.declared.limit.TheConstants.{SHIFT_LIMIT}
 use Rattle.mc_team.specs.Teams.{TeamState, shifts_at, stimuli_at}
-use Rattle.mc_log.specs.Entries.{Claimed, event_of, events_that}
+use Rattle.mc_port.specs.Entries.{Claimed, event_of, events_that}
 use Rattle.mc_model.specs.Settles.{commands_of, is_retry_at, is_retry_of, is_shift_of, of_kind, world_owes}
 use Rattle.mc_worker.specs.Account.{owed_below, owed_retry_of, retries_below}
 use Rattle.mc_worker.specs.Rounds.{IsRound}

@@ -11,8 +11,8 @@ use Rattle.mc_team.proofs.RoundTurns.{all_below}
 use Rattle.mc_team.specs.Teams.{TeamState, shifts_at, stimuli_at}
 use Rattle.mc_team.specs.OwnRounds.{AreOwnRounds, AreShown, BeginsByRetries, DidBox, HasBox, HasLaneEnd, IsOwnRound, MayNotShift, ShowsBox, ShowsEnd, ShowsRound, TakesAll}
 use Rattle.mc_team.specs.Rounds.{EndsBox, IsTeamRound}
-use Rattle.mc_log.specs.Entries.{AreMade, AreStamped, Claimed, Entry, entries_of, events_that, stamps_of}
-use Rattle.mc_log.specs.Tunnels.{log_takes, tunnels_at}
+use Rattle.mc_port.specs.Entries.{AreMade, AreStamped, Claimed, Entry, entries_of, events_that, stamps_of}
+use Rattle.mc_port.specs.Tunnels.{log_takes, tunnels_at}
 use Rattle.mc_merge.proofs.Claims.{claimed_are_logged, logs_at}
 use Rattle.mc_merge.specs.LaneLogs.{claimed_of}
 use Rattle.mc_merge.specs.Lanes.{into_box, leads_to}

@@ -8,7 +8,7 @@ use Rattle.mc_laws.proofs.LanesKept.{far_tunnel}
 use Rattle.mc_laws.proofs.Numbers.{far_back, number_is, some_same}
 use Rattle.mc_team.specs.Layouts.{AreEnds, IsPlacedAt, at_end, ends_of_lane, of_box}
 use Rattle.mc_team.specs.declared.layout.LaneEnds.{LaneEnds}
-use Rattle.mc_log.specs.Tunnels.{tunnel_if_at, tunnels_at}
+use Rattle.mc_port.specs.Tunnels.{tunnel_if_at, tunnels_at}
 use Rattle.mc_merge.specs.Lanes.{into_box, lane_place, out_of_box, tunnel_at}
 use Rattle.mc_model.specs.Sound.{IsNumbered}
 use Rattle.mc_model.specs.Worlds.{TunnelPlace, WorldState, box_at, far, lane_of, number, place, slot_count, tunnel_of}

@@ -5,7 +5,7 @@ use Rattle.mc_box.specs.BoxEvents.{is_enabled}
 use Rattle.mc_box.specs.Boxes.{BoxState}
 use Rattle.mc_box.specs.declared.event.Event.TheVariants.{Retry, Shift}
 use Rattle.mc_box.specs.declared.limit.TheConstants.{SHIFT_LIMIT}
-use Rattle.mc_log.specs.Entries.{Claimed}
+use Rattle.mc_port.specs.Entries.{Claimed}
 use Rattle.mc_signal.specs.declared.Tagged.{Tagged}
 use Rattle.mc_team.specs.Runs.{HasRun, IsLookedAt, IsRan, cleared}
 use Rattle.mc_team.specs.declared.member.Member.{Member}

@@ -1,6 +1,6 @@
 -- How the channel ends of two workers carry a lane of a world.
 use Rattle.std.specs.Prelude.{◌≡◌, ℕ, List, [], ◌++◌, map, slice_index_or}
-use Rattle.mc_log.specs.Tunnels.{tunnels_at}
+use Rattle.mc_port.specs.Tunnels.{tunnels_at}
 use Rattle.mc_merge.specs.Lanes.{into_box, leads_from, leads_to, out_of_box}
 use Rattle.mc_model.specs.Worlds.{WorldState}
 use Rattle.mc_port.specs.declared.stamped.Stamped.{Stamped}

@@ -5,8 +5,8 @@ use Rattle.mc_box.specs.Boxes.{BoxState}
 use Rattle.mc_box.specs.declared.event.Event.TheVariants.{Shift}
 use Rattle.mc_box.specs.declared.limit.TheConstants.{SHIFT_LIMIT}
 use Rattle.mc_team.specs.Teams.{HasTeamWork, TeamState, shifts_at, stimuli_at}
-use Rattle.mc_log.specs.Entries.{AreMade, AreStamped, Claimed, entries_of, event_of, events_that, stamps_of}
-use Rattle.mc_log.specs.Tunnels.{log_takes, tunnels_at}
+use Rattle.mc_port.specs.Entries.{AreMade, AreStamped, Claimed, entries_of, event_of, events_that, stamps_of}
+use Rattle.mc_port.specs.Tunnels.{log_takes, tunnels_at}
 use Rattle.mc_merge.specs.Claims.{IsClaimed}
 use Rattle.mc_merge.specs.LaneLogs.{claimed_of, without_stamps}
 use Rattle.mc_merge.specs.Lanes.{into_box, leads_to}

@@ -3,7 +3,7 @@ use Rattle.std.specs.Prelude.{◌≡◌, ℕ, ◌*◌, ◌<◌, List, [], length
 use Rattle.std.specs.Option.{option_map}
 use Rattle.mc_box.specs.Boxes.{BoxState}
 use Rattle.mc_team.specs.Carried.{IsCarried}
-use Rattle.mc_log.specs.Entries.{Claimed}
+use Rattle.mc_port.specs.Entries.{Claimed}
 use Rattle.mc_merge.specs.Claims.{IsClaimed}
 use Rattle.mc_merge.specs.LaneLogs.{claimed_of}
 use Rattle.mc_merge.specs.Lanes.{HasBothBoxes, leads_from, leads_to, tunnel_at}

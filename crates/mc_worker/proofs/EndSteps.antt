@@ -4,7 +4,7 @@ use Rattle.std.proofs.lemmas.Grind.{common_steps}
 use Rattle.std.proofs.lemmas.List.{append-nil, map-set}
 use Rattle.std.specs.Option.{option_to_list}
 use mathlib.Core.List.{IsPrefix}
-use Rattle.mc_log.specs.Tunnels.{Tunnels, event_sends, sent_if, tunnel_if_at}
+use Rattle.mc_port.specs.Tunnels.{Tunnels, event_sends, sent_if, tunnel_if_at}
 use Rattle.mc_signal.specs.declared.Signal.{Signal}
 use Rattle.mc_signal.specs.declared.Tagged.{Tagged}
 use Rattle.mc_port.specs.Ends.{KnowsNothing, back_count, free_places, given, known, look_count, one_more_back, received}

@@ -6,7 +6,7 @@ use Rattle.std.proofs.lemmas.Option.{slice_get-get_or}
 use Rattle.mc_signal.specs.declared.Signal.{Signal}
 use Rattle.mc_box.proofs.Events.{event_keeps_sound}
 use Rattle.mc_box.proofs.FromSlots.{event_sends_from_slots}
-use Rattle.mc_log.specs.Entries.{Entry, signal_in}
+use Rattle.mc_port.specs.Entries.{Entry, signal_in}
 use Rattle.mc_worker.specs.Account.{HasEnd, SendingsHaveEnds}
 use Rattle.mc_worker.specs.Places.{AreAtEnds}
 use Rattle.mc_worker.proofs.Shapes.{event_same, same_slots}

@@ -8,8 +8,8 @@ use Rattle.mc_box.specs.BoxEvents.{is_command, is_retry, is_shift, is_take}
 use Rattle.mc_box.specs.Boxes.{BoxState}
 use Rattle.mc_box.specs.declared.event.Event.{Event}
 use Rattle.mc_lane.specs.Queue.{Queue}
-use Rattle.mc_log.specs.Entries.{Claimed, AreMade, AreStamped, count_sent, entries_of, event_of, events_that, last_stamp}
-use Rattle.mc_log.specs.Tunnels.{FitsPlace, Tunnels, event_sends, event_takes, log_sends, log_takes, tunnels_at}
+use Rattle.mc_port.specs.Entries.{Claimed, AreMade, AreStamped, count_sent, entries_of, event_of, events_that, last_stamp}
+use Rattle.mc_port.specs.Tunnels.{FitsPlace, Tunnels, event_sends, event_takes, log_sends, log_takes, tunnels_at}
 use Rattle.mc_port.specs.Ends.{with_stamp}
 use Rattle.mc_port.specs.declared.stamped.Stamped.{Stamped}
 use Rattle.mc_signal.specs.declared.Tagged.{Tagged}

@@ -5,7 +5,7 @@ use Rattle.std.proofs.lemmas.List.{append-nil}
 use Rattle.mc_box.specs.BoxEvents.{box_event, is_command, is_shift}
 use Rattle.mc_box.specs.declared.event.Event.{Event}
 use Rattle.mc_box.specs.declared.event.Event.TheVariants.{Take}
-use Rattle.mc_log.specs.Tunnels.{event_sends, taken_if, tunnel_if_at, tunnels_at}
+use Rattle.mc_port.specs.Tunnels.{event_sends, taken_if, tunnel_if_at, tunnels_at}
 use Rattle.mc_port.specs.Ends.{in_ring, out_ring, with_stamp, without_stamp}
 use Rattle.mc_port.specs.declared.stamped.Stamped.{Stamped}
 use Rattle.mc_signal.specs.declared.Signal.{Signal}

@@ -25,7 +25,7 @@ use Rattle.mc_box.proofs.EventActs.{event_acts, take_acts}
 use Rattle.mc_box.proofs.Events.{event_goes, event_keeps_sound}
 use Rattle.mc_box.proofs.GoalTurns.{all_medium, end_form}
 use Rattle.mc_box.proofs.ShapeEnables.{medium_of}
-use Rattle.mc_log.specs.Entries.{AreMade, Entry, signal_in}
+use Rattle.mc_port.specs.Entries.{AreMade, Entry, signal_in}
 use Rattle.mc_worker.specs.Ready.{IsAllowed}
 
 acted_medium : (a after : Slot) (to signals left : List Signal) → Acted a to signals after left → after.medium ≡ a.medium

@@ -10,7 +10,7 @@ use Rattle.mc_box.specs.declared.event.Event.{Event}
 use Rattle.mc_box.specs.declared.event.Event.TheVariants.{Take, Set, Media, Tell, Retry, Shift}
 use Rattle.mc_box.specs.declared.limit.TheConstants.{SHIFT_LIMIT}
 use Rattle.mc_box.proofs.ShapeEnables.{shape_enables}
-use Rattle.mc_log.specs.Entries.{AreStamped, Claimed, event_of, events_that, last_stamp}
+use Rattle.mc_port.specs.Entries.{AreStamped, Claimed, event_of, events_that, last_stamp}
 use Rattle.mc_port.specs.declared.stamped.Stamped.{Stamped}
 use Rattle.mc_slot.specs.Moves.{slot_take}
 use Rattle.mc_worker.specs.Account.{ClaimsWithin, IsWork, in_at, retries_below}

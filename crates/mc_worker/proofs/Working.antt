@@ -8,7 +8,7 @@ use Rattle.mc_box.specs.declared.event.Event.{Event}
 use Rattle.mc_box.specs.declared.event.Event.TheVariants.{Retry, Shift}
 use Rattle.mc_box.specs.declared.limit.TheConstants.{SHIFT_LIMIT}
 use Rattle.mc_box.proofs.Changes.{slot_inside}
-use Rattle.mc_log.specs.Entries.{Claimed, event_of}
+use Rattle.mc_port.specs.Entries.{Claimed, event_of}
 use Rattle.mc_port.specs.Ends.{in_ring}
 use Rattle.mc_port.specs.declared.stamped.Stamped.{Stamped}
 use Rattle.mc_signal.specs.declared.Tagged.{Tagged}

@@ -8,8 +8,8 @@ use Rattle.mc_box.specs.declared.event.Event.{Event}
 use Rattle.mc_box.specs.declared.event.Event.TheVariants.{Retry}
 use Rattle.mc_box.specs.declared.limit.TheConstants.{SHIFT_LIMIT}
 use Rattle.mc_lane.specs.Queue.{Queue}
-use Rattle.mc_log.specs.Entries.{AreMade, AreStamped, Claimed, Entry, claim_of, entries_of, event_of, events_that, last_stamp}
-use Rattle.mc_log.specs.Tunnels.{FitsPlace, log_sends, log_takes, tunnels_at}
+use Rattle.mc_port.specs.Entries.{AreMade, AreStamped, Claimed, Entry, claim_of, entries_of, event_of, events_that, last_stamp}
+use Rattle.mc_port.specs.Tunnels.{FitsPlace, log_sends, log_takes, tunnels_at}
 use Rattle.mc_port.specs.Ends.{in_ring, out_ring}
 use Rattle.mc_signal.specs.declared.Signal.{Signal}
 use Rattle.mc_worker.specs.Ends.{InAccount, InEnd, OutAccount, OutEnd, in_end, out_end}

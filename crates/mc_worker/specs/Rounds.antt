@@ -6,7 +6,7 @@ use Rattle.mc_box.specs.declared.event.Event.{Event}
 use Rattle.mc_box.specs.declared.event.Event.TheVariants.{Media, Retry, Shift}
 use Rattle.mc_box.specs.declared.event.MediaChange.TheVariants.{Hear}
 use Rattle.mc_box.specs.declared.limit.TheConstants.{SHIFT_LIMIT}
-use Rattle.mc_log.specs.Entries.{Claimed, count_sent, events_that}
+use Rattle.mc_port.specs.Entries.{Claimed, count_sent, events_that}
 use Rattle.mc_port.specs.declared.stamped.Stamped.{Stamped}
 use Rattle.mc_slot.specs.Moves.{slot_take}
 use Rattle.mc_worker.specs.Account.{IsAccount, in_at}

@@ -5,7 +5,7 @@ use Rattle.mc_box.specs.Boxes.{BoxState}
 use Rattle.mc_box.specs.declared.event.Event.{Event}
 use Rattle.mc_box.specs.declared.event.Event.TheVariants.{Take}
 use Rattle.mc_box.specs.declared.limit.TheConstants.{SHIFT_LIMIT, SLOT_LIMIT}
-use Rattle.mc_log.specs.Entries.{Claimed, count_sent, event_of, events_that}
+use Rattle.mc_port.specs.Entries.{Claimed, count_sent, event_of, events_that}
 use Rattle.mc_port.specs.Ends.{without_stamp}
 use Rattle.mc_port.specs.declared.stamped.Stamped.{Stamped}
 use Rattle.mc_signal.specs.declared.Signal.{Signal}

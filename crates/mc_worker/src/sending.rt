@@ -1,7 +1,7 @@
 // How a worker sends.
 
 ghost use Rattle.std.specs.Prelude.{◌≡◌, ◌+◌, ◌<◌, ◌≤◌, ◌++◌, [], ℕ, length, map, Some, slice_get};
-ghost use Rattle.mc_log.specs.Tunnels.{event_sends, sent_if, tunnels_at};
+ghost use Rattle.mc_port.specs.Tunnels.{event_sends, sent_if, tunnels_at};
 ghost use Rattle.mc_port.specs.Ends.{out_ring};
 ghost use Rattle.mc_worker.specs.Ends.{OutAccount, if_at, out_end};
 ghost use Rattle.mc_worker.specs.Places.{AreAtEnds};

@@ -1,8 +1,8 @@
 use Rattle.std.proofs.Common.{◌≡◌, ◌<◌, ◌-◌, ◌^◌, All, IfOk, ℕ, List, length, subst, sym, ap, ◌∙◌, arith, rules}
 use Rattle.std.proofs.lemmas.List.{with_items_is}
 use Rattle.std.proofs.lemmas.List.FromFn.{length-map-range_with_len}
-use Rattle.mc_cut.proofs.Leads.{are_channels}
-use Rattle.mc_cut.specs.Cuts.{channels_in}
+use Rattle.mc_part.proofs.Leads.{are_channels}
+use Rattle.mc_part.specs.Cuts.{channels_in}
 use Rattle.mc_model.specs.Worlds.{AreChannels}
 use Rattle.mc_network.specs.Laying.{AreFilled, AreNumbered, channel_numbers, first_slot, first_slots}
 use Rattle.mc_network.proofs.PartsLaid.{firsts_fit, laid_part, ports_below, ports_few}

@@ -2,7 +2,7 @@ use Rattle.std.proofs.Common.{length, get_or, [], sym, ap, ◌∙◌}
 use Rattle.std.proofs.lemmas.List.{length-map}
 use Rattle.std.proofs.lemmas.List.FromFn.{length-map-range_with_len}
 use Rattle.std.proofs.lemmas.Result.{IfOk-weaker}
-use Rattle.mc_cut.specs.Cutting.{inner_lists, share_of}
+use Rattle.mc_part.specs.Cutting.{inner_lists, share_of}
 use Rattle.mc_network.proofs.PartsLaid.{laid_of}
 use Rattle.mc_network.proofs.Together.{channels_join, fit_together, share_at}
 use Rattle.mc_network.specs.Laying.{ports_in}

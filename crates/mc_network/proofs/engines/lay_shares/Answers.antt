@@ -3,8 +3,8 @@ use Rattle.std.proofs.lemmas.List.{length-map}
 use Rattle.std.specs.declared.alloc.Global.{Global}
 use Rattle.std.specs.declared.vec.Vec.{Vec}
 use Rattle.mc_box.specs.Boxes.{BoxState}
-use Rattle.mc_cut.proofs.Shares.{next_thing}
-use Rattle.mc_cut.specs.Cutting.{inner_lists}
+use Rattle.mc_part.proofs.Shares.{next_thing}
+use Rattle.mc_part.specs.Cutting.{inner_lists}
 use Rattle.mc_network.specs.Laying.{AreLaid, FitTogether, ports_in}
 use Rattle.mc_network.proofs.PartsLaid.{all_laid, laid_more, list_read, none_laid, ports_after}
 use Rattle.mc_part.specs.declared.port.Port.{Port}

@@ -1,5 +1,5 @@
 use Rattle.std.proofs.Common.{◌≡◌, ◌≤◌, ℕ, [], drop, get_or, length}
-use Rattle.mc_cut.specs.Cutting.{inner_lists}
+use Rattle.mc_part.specs.Cutting.{inner_lists}
 use Rattle.mc_network.specs.Laying.{AreLaid, ports_in}
 use Rattle.mc_world.specs.Lanes.{signals_of}
 use Rattle.mc_network.proofs.engines.lay_shares.Given as goal

@@ -2,7 +2,7 @@ use Rattle.std.proofs.Common.{List, set, ap, ◌∙◌, rules}
 use Rattle.std.proofs.lemmas.List.{map-set}
 use Rattle.std.specs.declared.alloc.Global.{Global}
 use Rattle.std.specs.declared.vec.Vec.{Vec}
-use Rattle.mc_cut.specs.Cutting.{inner_lists}
+use Rattle.mc_part.specs.Cutting.{inner_lists}
 use Rattle.mc_part.specs.declared.port.Port.{Port}
 use Rattle.mc_network.proofs.engines.take_ports.Goals as goal
 

@@ -3,7 +3,7 @@ use Rattle.std.proofs.lemmas.List.{length-map}
 use Rattle.mc_box.specs.BoxEvents.{is_enabled}
 use Rattle.mc_box.specs.Boxes.{BoxState, no_box}
 use Rattle.mc_box.specs.declared.event.Event.TheVariants.{Shift}
-use Rattle.mc_cut.specs.Cutting.{HasBoxes, inner_lists}
+use Rattle.mc_part.specs.Cutting.{HasBoxes, inner_lists}
 use Rattle.mc_lane.specs.Queue.{Queue}
 use Rattle.mc_model.specs.Sound.{IsSound}
 use Rattle.mc_model.specs.Worlds.{ChannelState, WorldState}
@@ -16,7 +16,7 @@ use Rattle.mc_network.specs.Laying.{AreWhole}
 use Rattle.mc_network.specs.States.{new_state}
 use Rattle.mc_network.specs.declared.limit.TheConstants.{NETWORK_LIMIT}
 use Rattle.mc_network.specs.declared.network.CutNetwork.{CutNetwork}
-use Rattle.mc_cut.specs.Cuts.{starts_in}
+use Rattle.mc_part.specs.Cuts.{starts_in}
 use Rattle.mc_part.specs.declared.port.Port.{Port}
 use Rattle.mc_signal.specs.declared.Tagged.{Tagged}
 use Rattle.mc_world.specs.Lanes.{signals_of}

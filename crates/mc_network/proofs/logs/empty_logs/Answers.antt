@@ -2,11 +2,11 @@ use Rattle.std.proofs.Common.{◌≡◌, ◌+◌, ℕ, List, [], drop, get_or, l
 use Rattle.std.proofs.lemmas.List.{length-map}
 use Rattle.std.specs.declared.alloc.Global.{Global}
 use Rattle.std.specs.declared.vec.Vec.{Vec}
-use Rattle.mc_cut.proofs.Shares.{next_thing}
-use Rattle.mc_cut.specs.Cutting.{inner_lists}
+use Rattle.mc_part.proofs.Shares.{next_thing}
+use Rattle.mc_part.specs.Cutting.{inner_lists}
 use Rattle.mc_network.proofs.LogsLaid.{all_there, none_more, table_more, whole_table}
 use Rattle.mc_network.proofs.PartsLaid.{list_read}
-use Rattle.mc_weave.specs.declared.log.PartLog.{PartLog}
+use Rattle.mc_merge.specs.declared.log.PartLog.{PartLog}
 use Rattle.mc_network.proofs.logs.empty_logs.Goals as goal
 
 pub loop-numbers-init : goal.loop-numbers-init

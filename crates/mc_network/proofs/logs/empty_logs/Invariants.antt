@@ -1,6 +1,6 @@
 use Rattle.std.proofs.Common.{◌≡◌, ◌≤◌, ℕ, [], drop, length, take}
-use Rattle.mc_cut.specs.Cutting.{inner_lists}
-use Rattle.mc_weave.specs.Weaving.{clocks_of, log_at, logs_of, numbers_of}
+use Rattle.mc_part.specs.Cutting.{inner_lists}
+use Rattle.mc_merge.specs.Weaving.{clocks_of, log_at, logs_of, numbers_of}
 use Rattle.mc_network.proofs.logs.empty_logs.Given as goal
 
 -- the first parts have theirs

@@ -6,9 +6,9 @@ use Rattle.std.specs.List.{range_with_len}
 use Rattle.std.specs.declared.alloc.Global.{Global}
 use Rattle.std.specs.declared.vec.Vec.{Vec}
 use Rattle.mc_box.specs.Boxes.{no_box}
-use Rattle.mc_cut.proofs.Shares.{shares_are_boxes}
-use Rattle.mc_cut.specs.Cuts.{part_numbers}
-use Rattle.mc_cut.specs.Cutting.{share_of, shares_of}
+use Rattle.mc_part.proofs.Shares.{shares_are_boxes}
+use Rattle.mc_part.specs.Cuts.{part_numbers}
+use Rattle.mc_part.specs.Cutting.{share_of, shares_of}
 use Rattle.mc_model.specs.Worlds.{WorldState}
 use Rattle.mc_network.proofs.logs.lay_logs.Goals as goal
 

@@ -1,6 +1,6 @@
 use Rattle.std.proofs.Common.{◌<◌, ◌^◌, List, subst, sym}
-use Rattle.mc_weave.specs.Weaving.{AreClimbing, entry_count}
-use Rattle.mc_weave.specs.declared.log.Made.{Made}
+use Rattle.mc_merge.specs.Weaving.{AreClimbing, entry_count}
+use Rattle.mc_merge.specs.declared.log.Made.{Made}
 use Rattle.mc_network.specs.Swapping.{swapped_run}
 use Rattle.mc_network.proofs.Swapped.{have_merged, known_swapped, logs_swapped}
 use Rattle.mc_network.proofs.merging.merge_logs.Goals as goal

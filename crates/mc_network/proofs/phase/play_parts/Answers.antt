@@ -1,7 +1,7 @@
 use Rattle.std.proofs.Common.{◌≡◌, ◌∙◌, ℕ, List, [], length, subst, sym, ap, refl}
 use Rattle.mc_part.specs.declared.part_run.PartRun.{PartRun}
-use Rattle.mc_weave.specs.Weaving.{log_at, logs_of}
-use Rattle.mc_weave.specs.declared.log.PartLog.{PartLog}
+use Rattle.mc_merge.specs.Weaving.{log_at, logs_of}
+use Rattle.mc_merge.specs.declared.log.PartLog.{PartLog}
 use Rattle.mc_network.specs.Networks.{turn_budget}
 use Rattle.mc_network.specs.Phasing.{AreApart, AreChosen}
 use Rattle.mc_network.specs.declared.network.Crossing.{Crossing}

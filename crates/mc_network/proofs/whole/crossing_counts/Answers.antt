@@ -1,7 +1,7 @@
 use Rattle.std.proofs.Common.{◌≡◌, ◌+◌, ◌∙◌, ℕ, List, length, length-set, ap, sym, subst, arith}
 use Rattle.std.specs.declared.alloc.Global.{Global}
 use Rattle.std.specs.declared.vec.Vec.{Vec}
-use Rattle.mc_cut.specs.Cuts.{is_crossing}
+use Rattle.mc_part.specs.Cuts.{is_crossing}
 use Rattle.mc_network.specs.Whole.{AreRanks, no_base}
 use Rattle.mc_network.proofs.PlacesCounted.{AreNext, counts_fit, crossing_counted, end_inside, other_fits, within_counted}
 use Rattle.mc_network.proofs.whole.crossing_counts.Goals as goal

@@ -1,5 +1,5 @@
 use Rattle.std.proofs.Common.{◌≡◌, length}
-use Rattle.mc_cut.specs.Cuts.{is_crossing}
+use Rattle.mc_part.specs.Cuts.{is_crossing}
 use Rattle.mc_network.specs.Whole.{AreRanks, no_base}
 use Rattle.mc_network.proofs.whole.crossing_counts.Given as goal
 

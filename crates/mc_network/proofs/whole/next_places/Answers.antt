@@ -1,5 +1,5 @@
 use Rattle.std.proofs.Common.{length, arith}
-use Rattle.mc_cut.specs.Cuts.{is_crossing, is_inner}
+use Rattle.mc_part.specs.Cuts.{is_crossing, is_inner}
 use Rattle.mc_network.specs.Whole.{inner_base, no_base}
 use Rattle.mc_network.proofs.PlacesCounted.{AreNext, counts_fit, crossing_counted, end_inside, apart_counted, filter_few, other_fits}
 use Rattle.mc_network.proofs.whole.next_places.Goals as goal

@@ -1,5 +1,5 @@
 use Rattle.std.proofs.Common.{◌≡◌}
-use Rattle.mc_cut.specs.Cutting.{inner_lists}
+use Rattle.mc_part.specs.Cutting.{inner_lists}
 use Rattle.mc_network.specs.Whole.{boxes_among, lanes_among, lanes_of}
 use Rattle.mc_network.proofs.whole.take_apart.Given as goal
 

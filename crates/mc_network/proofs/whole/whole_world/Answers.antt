@@ -3,7 +3,7 @@ use Rattle.std.specs.declared.alloc.Global.{Global}
 use Rattle.std.specs.declared.vec.Vec.{Vec}
 use Rattle.std.proofs.lemmas.List.{length-map}
 use Rattle.mc_box.specs.Boxes.{BoxState}
-use Rattle.mc_cut.specs.Cutting.{HasBoxes, HasShares, inner_lists}
+use Rattle.mc_part.specs.Cutting.{HasBoxes, HasShares, inner_lists}
 use Rattle.mc_lane.specs.Queue.{Queue}
 use Rattle.mc_model.specs.Sound.{IsSound}
 use Rattle.mc_model.specs.Worlds.{ChannelState, WorldState}

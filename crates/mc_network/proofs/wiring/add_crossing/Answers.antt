@@ -1,5 +1,5 @@
 use Rattle.std.proofs.Common.{◌++◌, ◌∷◌, [], ℕ, List, true, false, length, refl, ap, ap₂, sym, ◌∙◌}
-use Rattle.mc_cut.specs.Cutting.{inner_lists}
+use Rattle.mc_part.specs.Cutting.{inner_lists}
 use Rattle.mc_network.specs.Laying.{ports_in, with_port}
 use Rattle.mc_network.specs.declared.network.Crossing.{Crossing}
 use Rattle.mc_part.specs.declared.port.Port.{Port}

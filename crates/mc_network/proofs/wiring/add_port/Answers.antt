@@ -1,4 +1,4 @@
-use Rattle.mc_cut.proofs.Shares.{list_longer}
+use Rattle.mc_part.proofs.Shares.{list_longer}
 use Rattle.mc_network.proofs.wiring.add_port.Goals as goal
 
 pub returns-clause-added : goal.returns-clause-added

@@ -1,4 +1,4 @@
-use Rattle.mc_cut.proofs.Shares.{empty_lists_more}
+use Rattle.mc_part.proofs.Shares.{empty_lists_more}
 use Rattle.mc_network.proofs.wiring.no_ports.Goals as goal
 
 pub loop-done-preserved : goal.loop-done-preserved

@@ -1,5 +1,5 @@
 use Rattle.std.proofs.Common.{get_or, ap, ◌∙◌}
-use Rattle.mc_cut.specs.Cutting.{inner_lists}
+use Rattle.mc_part.specs.Cutting.{inner_lists}
 use Rattle.mc_model.specs.Worlds.{ChannelState, channel_number_limit}
 use Rattle.mc_network.proofs.Wires.{none_wired, ports_few, wired_next}
 use Rattle.mc_network.proofs.wiring.wire.Goals as goal

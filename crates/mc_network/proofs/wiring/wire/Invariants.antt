@@ -1,4 +1,4 @@
-use Rattle.mc_cut.specs.Cutting.{inner_lists}
+use Rattle.mc_part.specs.Cutting.{inner_lists}
 use Rattle.mc_network.specs.Laying.{AreWired}
 use Rattle.mc_network.proofs.wiring.wire.Given as goal
 

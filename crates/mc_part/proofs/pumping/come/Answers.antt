@@ -1,7 +1,7 @@
 use Rattle.std.proofs.Common.{inl, Err, arith, ◌≡◌, ◌<◌, ◌∷◌, ◌∙◌, [], slice_get, Some, length, refl, ap, sym, subst, ℕ}
 use Rattle.std.specs.Vec.{with_item}
-use Rattle.mc_weave.specs.Steps.{at_lane}
-use Rattle.mc_weave.specs.Turns.{no_items}
+use Rattle.mc_merge.specs.Steps.{at_lane}
+use Rattle.mc_merge.specs.Turns.{no_items}
 use Rattle.mc_port.specs.Ends.{given, known, out_ring}
 use Rattle.mc_port.specs.declared.ends.OutPort.{OutPort}
 use Rattle.mc_world.specs.Pumping.{with_last}

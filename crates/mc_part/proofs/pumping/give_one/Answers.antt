@@ -1,9 +1,9 @@
 use Rattle.std.proofs.Common.{◌≡◌, ◌<◌, ◌∷◌, ◌∙◌, [], drop, slice_get, Some, length, refl, ap, subst, ℕ, rules, arith}
 use Rattle.std.specs.Vec.{with_item}
 use Rattle.std.proofs.lemmas.Grind.{common_steps}
-use Rattle.mc_weave.specs.Account.{part_lane}
-use Rattle.mc_weave.specs.Steps.{at_lane}
-use Rattle.mc_weave.specs.Turns.{no_items}
+use Rattle.mc_merge.specs.Account.{part_lane}
+use Rattle.mc_merge.specs.Steps.{at_lane}
+use Rattle.mc_merge.specs.Turns.{no_items}
 use Rattle.mc_port.specs.Ends.{in_ring, received}
 use Rattle.mc_port.specs.declared.ends.InPort.{InPort}
 use Rattle.mc_port.specs.declared.stamped.Stamped.{Stamped}

@@ -2,7 +2,7 @@ use Rattle.std.proofs.Common.{◌≡◌, ◌<◌, ◌+◌, ◌∙◌, IsTrue, So
 use Rattle.std.proofs.lemmas.Option.{slice_get_read}
 use Rattle.mc_box.specs.BoxEvents.{is_command}
 use Rattle.mc_box.specs.declared.event.Turn.{Turn}
-use Rattle.mc_weave.proofs.Logs.{all_at}
+use Rattle.mc_merge.proofs.Logs.{all_at}
 use Rattle.mc_part.specs.Parts.{Runs, no_retries}
 use Rattle.mc_part.specs.Running.{next_command}
 use Rattle.mc_part.specs.declared.part.Part.{Part}

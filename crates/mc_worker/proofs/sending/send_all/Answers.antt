@@ -1,5 +1,5 @@
 use Rattle.std.proofs.Common.{◌∙◌, arith}
-use Rattle.mc_log.specs.Tunnels.{tunnels_at}
+use Rattle.mc_port.specs.Tunnels.{tunnels_at}
 use Rattle.mc_worker.proofs.EndSteps.{sends_more}
 use Rattle.mc_worker.proofs.Joins.{out_joined}
 use Rattle.mc_worker.proofs.sending.send_all.Goals as goal

@@ -1,5 +1,5 @@
 use Rattle.std.proofs.Common.{◌≡◌, ◌≤◌, ◌+◌, ℕ, length, map, take}
-use Rattle.mc_log.specs.Tunnels.{event_sends, tunnels_at}
+use Rattle.mc_port.specs.Tunnels.{event_sends, tunnels_at}
 use Rattle.mc_port.specs.Ends.{out_ring}
 use Rattle.mc_worker.specs.Ends.{OutAccount, out_end}
 use Rattle.mc_worker.proofs.sending.send_all.Given as goal

@@ -1,5 +1,5 @@
 use Rattle.std.proofs.Common.{ap, sym, refl, subst, arith}
-use Rattle.mc_log.specs.Entries.{entries_of}
+use Rattle.mc_port.specs.Entries.{entries_of}
 use Rattle.mc_worker.specs.Account.{in_at}
 use Rattle.mc_worker.specs.Rounds.{AllIdle, HasStopped}
 use Rattle.mc_worker.specs.declared.stop.RoundEnd.{RoundEnd}

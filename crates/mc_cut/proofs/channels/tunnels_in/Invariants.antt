@@ -1,7 +1,0 @@
-use Rattle.std.proofs.Common.{◌≡◌, take}
-use Rattle.mc_cut.specs.Cuts.{tunnels_in}
-use Rattle.mc_cut.proofs.channels.tunnels_in.Given as goal
-
--- the tunnels so far
-abbrev pub invariant-loop-within : goal.invariant-loop-within
-invariant-loop-within l = l.made.items ≡ tunnels_in l.from_here l.to_here 0 (take l.within l.tunnels)

@@ -1,5 +1,0 @@
-use Rattle.mc_cut.proofs.Leads.{channels_have_boxes}
-use Rattle.mc_cut.proofs.laws.channels_have_boxes.Goals as goal
-
-pub returns : goal.returns
-returns c = channels_have_boxes

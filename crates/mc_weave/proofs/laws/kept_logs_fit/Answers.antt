@@ -1,5 +1,0 @@
-use Rattle.mc_weave.proofs.Fitting.{kept_logs_fit}
-use Rattle.mc_weave.proofs.laws.kept_logs_fit.Goals as goal
-
-pub returns : goal.returns
-returns c = kept_logs_fit

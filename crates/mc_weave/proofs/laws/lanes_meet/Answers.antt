@@ -1,5 +1,0 @@
-use Rattle.mc_weave.proofs.Passing.{lanes_meet}
-use Rattle.mc_weave.proofs.laws.lanes_meet.Goals as goal
-
-pub returns : goal.returns
-returns c = lanes_meet

@@ -1,5 +1,0 @@
-use Rattle.mc_weave.proofs.Wholes.{merged_is_run}
-use Rattle.mc_weave.proofs.laws.merged_is_run.Goals as goal
-
-pub returns : goal.returns
-returns c = merged_is_run

@@ -1,5 +1,0 @@
-use Rattle.mc_weave.proofs.Passing.{passes_join}
-use Rattle.mc_weave.proofs.laws.passes_join.Goals as goal
-
-pub returns : goal.returns
-returns c = passes_join

@@ -1,5 +1,0 @@
-use Rattle.mc_weave.proofs.Fitting.{phase_is_clocked}
-use Rattle.mc_weave.proofs.laws.phase_is_clocked.Goals as goal
-
-pub returns : goal.returns
-returns c = phase_is_clocked

@@ -1,5 +1,0 @@
-use Rattle.mc_weave.proofs.Phases.{phase_keeps_sound}
-use Rattle.mc_weave.proofs.laws.phase_keeps_sound.Goals as goal
-
-pub returns : goal.returns
-returns c = phase_keeps_sound

@@ -1,5 +1,0 @@
-use Rattle.mc_weave.proofs.ClockJoins.{rings_are_clocked}
-use Rattle.mc_weave.proofs.laws.rings_are_clocked.Goals as goal
-
-pub returns : goal.returns
-returns c = rings_are_clocked

@@ -1,5 +1,0 @@
-use Rattle.mc_weave.proofs.ClockJoins.{turns_are_clocked}
-use Rattle.mc_weave.proofs.laws.turns_are_clocked.Goals as goal
-
-pub returns : goal.returns
-returns c = turns_are_clocked

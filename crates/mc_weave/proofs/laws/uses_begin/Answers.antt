@@ -1,5 +1,0 @@
-use Rattle.mc_weave.proofs.Usage.{uses_begin}
-use Rattle.mc_weave.proofs.laws.uses_begin.Goals as goal
-
-pub returns : goal.returns
-returns c = uses_begin

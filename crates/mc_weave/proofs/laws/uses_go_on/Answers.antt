@@ -1,5 +1,0 @@
-use Rattle.mc_weave.proofs.Usage.{uses_go_on}
-use Rattle.mc_weave.proofs.laws.uses_go_on.Goals as goal
-
-pub returns : goal.returns
-returns c = uses_go_on

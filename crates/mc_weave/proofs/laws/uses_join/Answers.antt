@@ -1,5 +1,0 @@
-use Rattle.mc_weave.proofs.Usage.{uses_join}
-use Rattle.mc_weave.proofs.laws.uses_join.Goals as goal
-
-pub returns : goal.returns
-returns c = uses_join

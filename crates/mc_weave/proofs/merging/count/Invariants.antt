@@ -1,6 +1,0 @@
-use Rattle.std.proofs.Common.{◌≡◌, take}
-use Rattle.mc_weave.specs.Weaving.{entry_count, logs_of}
-use Rattle.mc_weave.proofs.merging.count.Given as goal
-
-abbrev pub invariant-loop-log : goal.invariant-loop-log
-invariant-loop-log l = l.all ≡ entry_count (take l.log-index (logs_of l.logs))
