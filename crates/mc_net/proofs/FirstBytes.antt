@@ -12,7 +12,7 @@ use Rattle.mc_lines.specs.declared.tail.Tail.{Tail}
 use Rattle.mc_lines.specs.declared.tail.Tail.TheVariants.{Nothing}
 use Rattle.mc_net.specs.Nets.{DeclaresNet}
 use Rattle.mc_net.specs.declared.net.Net.{Net}
-use Rattle.mc_net.specs.TextLaws.{FaultsOfTheFirstBytes, NetsOfTheFirstBytes, SaysTheWhole, first_bytes}
+use Rattle.mc_net.specs.TextLaws.{BlocksOfTheFirstBytes, FaultsOfTheFirstBytes, NetsOfTheFirstBytes, SaysTheWhole, first_bytes}
 use Rattle.mc_net.specs.Texts.{IsFault, at_line, at_end, Says, bytes_before, declared_by, fault_at, text_end, text_lines, up_to}
 use Rattle.mc_net.proofs.Faults.{not_both, same_value}
 use Rattle.mc_net.proofs.Reading.{has_tail}
@@ -360,6 +360,25 @@ nets_of_the_first_bytes tail text net declares = by (cases_lt (text_limit tail +
     by : (text_limit tail + 1 < length text) ⊎ (length text ≤ text_limit tail + 1) → DeclaresNet tail text net
     by (inl large) = cut large (cut_there tail text large)
     by (inr few) = subst (λ (bytes : List ℕ). DeclaresNet tail bytes net) (take_all (text_limit tail + 1) text few) declares
+
+-- what the first bytes say, the whole text says
+pub says_of_the_first_bytes : (tail : Tail) (text : List ℕ) (d : Declared) → Says tail (first_bytes tail text) d → Says tail text d
+says_of_the_first_bytes tail text d says = by (cases_lt (text_limit tail + 1) (length text))
+  where
+    cut : text_limit tail + 1 < length text → AreSameBelow (text_limit tail) (text_lines tail (first_bytes tail text)) (text_lines tail text) ⊎ IsPassed (text_limit tail) (text_lines tail (first_bytes tail text)) (text_lines tail text) → Says tail text d
+    cut large (inl at) = long_says tail (first_bytes tail text) text (first_are_large tail text large) (all_are_large tail text large) at.same d says
+    cut large (inr at) = absurd (says_nothing tail (first_bytes tail text) text (first_are_large tail text large) (all_are_large tail text large) at d says)
+
+    by : (text_limit tail + 1 < length text) ⊎ (length text ≤ text_limit tail + 1) → Says tail text d
+    by (inl large) = cut large (cut_there tail text large)
+    by (inr few) = subst (λ (bytes : List ℕ). Says tail bytes d) (take_all (text_limit tail + 1) text few) says
+
+pub blocks_of_the_first_bytes : BlocksOfTheFirstBytes
+blocks_of_the_first_bytes tail text given declares = record {
+  declared = declares.declared;
+  says = says_of_the_first_bytes tail text declares.declared declares.says;
+  blocks = declares.blocks;
+}
 
 -- where nothing may stand behind the commands, no line is left out
 pub all_lines : (xs : List (List ℕ)) → up_to (ends_commands Nothing) xs ≡ xs

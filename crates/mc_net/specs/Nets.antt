@@ -78,6 +78,12 @@ pub record DeclaresNet (tail : Tail) (text : List ℕ) (net : Net) : Type 0 wher
   pub batches : map batch_turns net.batches.items ≡ batches_of declared.commands
   pub rest : net.rest ≡ text_end tail text
 
+-- the text is in the grammar, and these are the blocks of programs that it declares
+pub record DeclaresBlocks (tail : Tail) (text : List ℕ) (given : List BlockState) : Type 0 where
+  pub declared : Declared
+  pub says : Says tail text declared
+  pub blocks : given ≡ declared.blocks
+
 -- ---- what every such network has
 
 -- all of a world has names: its boxes, their slots, and the codecs that they receive

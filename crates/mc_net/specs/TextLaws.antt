@@ -8,7 +8,8 @@ use Rattle.mc_model.specs.Unprogrammed.{HasNoPrograms}
 use Rattle.mc_model.specs.Worlds.{WorldState}
 use Rattle.mc_lines.specs.declared.tail.Tail.{Tail}
 use Rattle.mc_lines.specs.declared.tail.Tail.TheVariants.{Nothing}
-use Rattle.mc_net.specs.Nets.{DeclaresNet, IsFirstWorld, IsUnprogrammed, IsWellNamed, batch_turns}
+use Rattle.mc_program.specs.Programs.{BlockState}
+use Rattle.mc_net.specs.Nets.{DeclaresBlocks, DeclaresNet, IsFirstWorld, IsUnprogrammed, IsWellNamed, batch_turns}
 use Rattle.mc_net.specs.Texts.{IsFault, Says, declared_by, fault_at, text_end, text_lines}
 use Rattle.mc_net.specs.declared.net.Net.{Net}
 
@@ -43,6 +44,11 @@ FaultsOfTheFirstBytes = (tail : Tail) (text : List ℕ) (number line : ℕ) → 
 -- the network that the first bytes declare is that of the whole text
 abbrev pub NetsOfTheFirstBytes : Type 0
 NetsOfTheFirstBytes = (tail : Tail) (text : List ℕ) (net : Net) → DeclaresNet tail (first_bytes tail text) net → DeclaresNet tail text net
+
+-- and so are the blocks of its programs
+abbrev pub BlocksOfTheFirstBytes : Type 0
+BlocksOfTheFirstBytes = (tail : Tail) (text : List ℕ) (given : List BlockState)
+    → DeclaresBlocks tail (first_bytes tail text) given → DeclaresBlocks tail text given
 
 -- first bytes that say something are the whole text, where nothing stands behind the commands
 abbrev pub SaysTheWhole : Type 0

@@ -3,7 +3,7 @@
 ghost use Rattle.mc_net.specs.Followed.{JournalsMayFollow};
 ghost use Rattle.mc_net.specs.TextLaws.{DeclaresOrFaults, OneFault, OneOrTheOther, UnprogrammedTexts};
 ghost use Rattle.mc_net.specs.TextLaws.{EachLineDeclares, SoundLinesMean};
-ghost use Rattle.mc_net.specs.TextLaws.{FaultsOfTheFirstBytes, NetsOfTheFirstBytes, SaysTheWhole};
+ghost use Rattle.mc_net.specs.TextLaws.{BlocksOfTheFirstBytes, FaultsOfTheFirstBytes, NetsOfTheFirstBytes, SaysTheWhole};
 ghost use Rattle.mc_net.specs.TextLaws.{LinesBehind, NetsAreNamed, UnendedTexts};
 ghost use Rattle.mc_net.specs.TextLaws.{OneDeclared, OneFirstWorld, OneNet};
 ghost use Rattle.mc_net.specs.Versions.{FirstVersions};
@@ -31,10 +31,12 @@ pub fn sound_lines_mean()
 {}
 
 /// Of a text that is too long, the bytes up to the one with which it passes the limit have the fault of the whole, or
-/// declare its network. Where they declare one and no journal may stand behind the commands, there are no others.
+/// declare its network and the blocks of its programs. Where they declare one and no journal may stand behind the
+/// commands, there are no others.
 pub fn faults_of_the_first_bytes()
     ensures faults { FaultsOfTheFirstBytes }
     ensures nets { NetsOfTheFirstBytes }
+    ensures blocks { BlocksOfTheFirstBytes }
     ensures whole { SaysTheWhole }
 {}
 

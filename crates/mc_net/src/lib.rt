@@ -11,4 +11,4 @@ pub use detail::fault_detail;
 pub use fault::{NetFault, TextFault};
 pub use mc_lines::limit::{JOURNAL_TEXT_LIMIT, TEXT_LIMIT};
 pub use mc_lines::{Detail, Limit, Tail, Why};
-pub use net::{Net, read_net};
+pub use net::{Net, read_blocks, read_net};

@@ -3,7 +3,7 @@
 ghost use Rattle.std.specs.Prelude.{◌≡◌, ◌≤◌, IfErr, IfOk, None, OnOk, length, map};
 ghost use Rattle.mc_model.specs.Shapes.{AreAllAllowed};
 ghost use Rattle.mc_plan.specs.Plans.{world_of};
-ghost use Rattle.mc_net.specs.Nets.{DeclaresNet, IsMadeOf, MayHavePrograms, NamesAll, batches_of, batch_turns, with_programs};
+ghost use Rattle.mc_net.specs.Nets.{DeclaresBlocks, DeclaresNet, IsMadeOf, MayHavePrograms, NamesAll, batches_of, batch_turns, with_programs};
 ghost use Rattle.mc_plan.specs.Layouts.{program_fault, with_program};
 ghost use Rattle.mc_program.specs.Finished.{program_of};
 ghost use Rattle.mc_rule.specs.Programs.{IsProgram};
@@ -45,6 +45,28 @@ pub fn read_net(alloc: Global, text: &[u8], tail: Tail) -> Result<Net, NetFault>
     let (reader, rest) = read_text(alloc, text, tail)?;
     let parts = reader.into_parts();
     Ok(make_net(alloc, parts, rest)?)
+}
+
+/// Reads a text, and answers the blocks of lines with the programs that it declares: one for each box with a program.
+/// Where a journal may stand behind the commands, nothing is read behind the line `journal` that ends them.
+pub fn read_blocks(alloc: Global, text: &[u8], tail: Tail) -> Result<Vec<Block>, NetFault>
+    ensures declares { IfOk result (λ blocks. DeclaresBlocks tail text.now blocks.items) }
+    ensures refused { IfErr result (RefusesText tail text.now) }
+{
+    let (reader, _) = read_text(alloc, text, tail)?;
+    let Parts {
+        names,
+        shape,
+        plan,
+        blocks,
+        commands,
+    } = reader.into_parts();
+    // each is dropped by name, since what drops at a return is proved part by part
+    drop(names);
+    drop(shape);
+    drop(plan);
+    drop(commands);
+    Ok(blocks)
 }
 
 // The network of what a text declares.
