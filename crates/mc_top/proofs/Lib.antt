@@ -1,11 +1,11 @@
 mod Accepted
-mod BytesBehind
+pub mod BytesBehind
 mod Causes
 mod Channels
 mod DrawsStop
-mod Ending
+pub mod Ending
 mod EndsAlike
-mod Explaining
+pub mod Explaining
 mod FirstWorlds
 mod GenAlike
 mod GoodJournals
@@ -14,9 +14,9 @@ mod LeftRings
 mod MadeTexts
 mod NamedJournals
 mod NamedRings
-mod NoneClose
+pub mod NoneClose
 mod OneJournal
-mod OwnTexts
+pub mod OwnTexts
 mod Parties
 mod PbxScene
 mod PrepaidScene
@@ -33,7 +33,7 @@ mod Stopping
 mod SummedAlike
 mod Summing
 mod TextAlone
-mod Told
+pub mod Told
 mod ToldSettles
 mod ToldWords
 mod UsedUp

@@ -69,8 +69,8 @@ pub struct Done {
     pub reason: Reason,
 }
 
-// The text that a mode works on, or its first bytes up to one more than the limit.
-fn text_of<S: Source>(alloc: Global, mode: Mode, source: &mut S) -> Result<Vec<u8>, ReadFault>
+/// The text that a mode works on: what the source has left, up to one byte more than the limit, or the mode's own.
+pub fn text_of<S: Source>(alloc: Global, mode: Mode, source: &mut S) -> Result<Vec<u8>, ReadFault>
     requires { IsWithinLimits mode }
     ensures text { IfOk result (λ text. IsTextFor mode (S.left source.old) text.items) }
     ensures whole { IfOk result (λ text. ReadsFor mode (S.left source.old) (S.left source.new) text.items) }
@@ -89,8 +89,8 @@ fn text_of<S: Source>(alloc: Global, mode: Mode, source: &mut S) -> Result<Vec<u
     }
 }
 
-// Writes what is due.
-fn deliver<K: Sink>(
+/// Writes what is due. A call that can't write it whole ends with `WRITE_FAULT` in place of the due status.
+pub fn deliver<K: Sink>(
     sink: &mut K,
     due: u8,
     output: &[u8],
@@ -135,8 +135,8 @@ fn deliver_run<K: Sink>(sink: &mut K, run: Run, reason: Reason) -> Done
     deliver(sink, due, &output, journal, reason)
 }
 
-// A call that ended before there was anything to write.
-fn give_up(alloc: Global, status: u8, reason: Reason) -> Done
+/// A call that ended before there was anything to write.
+pub fn give_up(alloc: Global, status: u8, reason: Reason) -> Done
     ensures status { result.status ≡ status }
     ensures due { result.due ≡ status }
     ensures journal { result.journal.items ≡ [] }
@@ -175,8 +175,9 @@ fn refuse<K: Sink>(
     }
 }
 
-// The same, with the line of the text and what else is known of its fault kept for what is told.
-fn refuse_text<K: Sink>(
+/// Writes the line of a text's first fault, as each mode does that reads the text. The line of the text and what else is
+/// known of its fault are kept for what is told.
+pub fn refuse_text<K: Sink>(
     alloc: Global,
     mode: Mode,
     text: &[u8],
@@ -383,8 +384,8 @@ fn refuse_journal<K: Sink>(
     }
 }
 
-// The same, with the line of the text kept for what is told.
-fn refuse_tail<K: Sink>(alloc: Global, text: &[u8], place: TailPlace, sink: &mut K) -> Done
+/// Writes the line of a journal's first fault, as `check` does. The line of the text is kept for what is told.
+pub fn refuse_tail<K: Sink>(alloc: Global, text: &[u8], place: TailPlace, sink: &mut K) -> Done
     ensures statuses { (result.due ≡ JOURNAL_FAULT) ⊎ (result.due ≡ NO_MEMORY) }
     ensures status { (result.status ≡ result.due) ⊎ (result.status ≡ WRITE_FAULT) }
     ensures ends { (why : Bool) (net : Net) → DeclaresNet Journal text.now net
@@ -464,8 +465,9 @@ fn check_lines(
     }
 }
 
-// The same by the network that the text declares.
-fn check_by_net(
+/// Checks the journal after a text by the network that the text declares. Answers what is printed for it, with why paths
+/// closed or without it, and its lines.
+pub fn check_by_net(
     alloc: Global,
     why: bool,
     text: &[u8],
@@ -594,8 +596,8 @@ fn run_mode<R: Threads + Sync, S: Source, K: Sink, G: Gate + Sync>(
     }
 }
 
-// Writes the line for words that are no command. Those that ask for help are told the commands without a complaint.
-fn refuse_words<K: Sink>(alloc: Global, words: &[String], sink: &mut K) -> Done
+/// Writes the line for words that are no command. Those that ask for help are told the commands without a complaint.
+pub fn refuse_words<K: Sink>(alloc: Global, words: &[String], sink: &mut K) -> Done
     ensures output { PrintsUsage (K.written sink.old) (K.written sink.new) result }
     ensures due { result.due ≡ USAGE }
     ensures status { (result.status ≡ USAGE) ⊎ (result.status ≡ WRITE_FAULT) }
