@@ -137,6 +137,7 @@ pub fn look_beside(from: &mut OutPort, to: &mut InPort) -> usize
     ensures given { given from.new ≡ given from.old }
     ensures received { received to.new ≡ received to.old }
     ensures left { received to.old ++ left_in from.old to.old ≡ given from.old }
+    ensures knew { IsPrefix (known to.old) (left_in from.old to.old) }
     ensures known { known to.new ≡ left_in from.old to.old }
     ensures count { result ≡ length (left_in from.old to.old) }
     ensures looks { look_count to.new ≡ look_count to.old }
