@@ -1,8 +1,8 @@
 /* Calls a few boxes at random, with random bytes in every field, and with a malloc and a realloc that fail at random:
  * argv[1] calls, drawn by the seed argv[2]. It stops with a line and the status 1 where a call answers a code that isn't
  * its own, writes past what it says that it wrote, changes anything beside a code other than MEDIA_OK, or sends what no
- * box can send. At the end it prints how often each code came, by call; every code that a call can answer has to come.
- * It is linked with --wrap=malloc and --wrap=realloc. */
+ * box can send, as a media address that isn't its slot's. At the end it prints how often each code came, by call; every
+ * code that a call can answer has to come. It is linked with --wrap=malloc and --wrap=realloc. */
 #include <stdio.h>
 #include <stdlib.h>
 #include <string.h>
@@ -61,9 +61,11 @@ struct seen {
 
 static media_box boxes[BOXES];
 static struct seen seen[BOXES];
+static media_slot given[BOXES][MEDIA_SLOT_LIMIT]; /* the slots of which each box was made */
 static media_signal pool[POOL]; /* signals that were sent, to be taken */
 static unsigned long counts[CALLS][10];
 static unsigned long flows, links, later_states; /* slots seen sending, slots seen linked, programs past a first state */
+static unsigned long addresses;                  /* signals sent with an address that was given */
 static unsigned long call;
 
 static void fail(const char *what) {
@@ -114,11 +116,23 @@ static void check_list(const media_codecs *list) {
         if (list->at[i] != 0) fail("an unused place of a list isn't 0");
 }
 
+/* The media address of a device's slot: the one that it was given, or else one of its numbers. */
+static void check_address(int i, const media_sent *sent) {
+    const media_slot *slot = &given[i][sent->slot];
+    uint32_t addr = slot->has_address ? slot->addr : seen[i].box.number + 1;
+    uint16_t port = slot->has_address ? slot->port : (uint16_t)(5000 + sent->slot);
+    uint8_t kind = sent->signal.kind;
+    if (seen[i].box.kind != MEDIA_DEVICE || kind == MEDIA_CLOSE || kind == MEDIA_CLOSEACK) return;
+    if (sent->signal.addr != addr || sent->signal.port != port) fail("a device sends an address that isn't its own");
+    addresses += slot->has_address;
+}
+
 static void check_sent(int i, const media_sent *sent, size_t count, size_t most) {
     if (count > most) fail("too much is sent");
     for (size_t k = 0; k < count; k++) {
         if (sent[k].slot >= seen[i].box.slots || sent[k].signal.kind > MEDIA_SELECT) fail("what no slot sends is sent");
         check_list(&sent[k].signal.codecs);
+        check_address(i, &sent[k]);
         pool[below(POOL)] = sent[k].signal;
     }
 }
@@ -164,6 +178,7 @@ static void draw_setup(media_setup *setup, media_slot *slots, size_t count) {
     for (size_t k = 0; k < count; k++) {
         slots[k].medium = (uint8_t)(below(8) == 0);
         slots[k].initiator = (uint8_t)below(2);
+        slots[k].has_address = (uint8_t)below(2);
     }
 }
 
@@ -196,10 +211,16 @@ static uint32_t make(int i, int which) {
     media_setup setup;
     size_t count = below(32) == 0 ? below(MEDIA_SLOT_LIMIT + 3) : 1 + below(4);
     size_t state_count = below(64) == 0 ? below(MEDIA_STATE_LIMIT + 3) : below(4);
+    uint32_t code;
     draw_setup(&setup, slots, count);
-    if (which == MAKE) return media_box_make(&boxes[i], &setup, slots, count);
-    draw_program(&setup, count, states, state_count);
-    return media_box_make_programmed(&boxes[i], &setup, slots, count, states, state_count);
+    if (which == MAKE) {
+        code = media_box_make(&boxes[i], &setup, slots, count);
+    } else {
+        draw_program(&setup, count, states, state_count);
+        code = media_box_make_programmed(&boxes[i], &setup, slots, count, states, state_count);
+    }
+    if (code == MEDIA_OK) memcpy(given[i], slots, count * sizeof *slots);
+    return code;
 }
 
 static uint32_t see(int i, int which) {
@@ -272,7 +293,8 @@ int main(int argc, char **argv) {
                 printf("%s %u: %lu\n", names[which], code, counts[which][code]);
                 if (counts[which][code] == 0) fail("a code never came");
             }
-    printf("flowing %lu, linked %lu, later states %lu\n", flows, links, later_states);
+    printf("flowing %lu, linked %lu, later states %lu, given addresses %lu\n", flows, links, later_states, addresses);
     if (flows == 0 || links == 0 || later_states == 0) fail("no slot flowed, or none was linked, or no program went on");
+    if (addresses == 0) fail("no given address was sent");
     return 0;
 }

@@ -90,18 +90,21 @@ static void settle(void) {
     }
 }
 
+static void show_flow(const char *what, const char *way, media_flow flow) {
+    if (!flow.flows) return;
+    printf(" %s codec %u %s %u.%u.%u.%u:%u", what, (unsigned)flow.codec, way, (unsigned)(flow.addr >> 24),
+           (unsigned)(flow.addr >> 16 & 0xff), (unsigned)(flow.addr >> 8 & 0xff), (unsigned)(flow.addr & 0xff),
+           (unsigned)flow.port);
+}
+
 static void show(const char *when) {
     printf("%s\n", when);
     for (int i = 0; i < ENDS; i++) {
         media_slot_view view;
         want(media_box_see_slot(&boxes[ends[i].box], ends[i].slot, &view), "slot");
         printf("%s.%u %s", names[ends[i].box], (unsigned)ends[i].slot, states[view.state]);
-        if (view.sends.flows)
-            printf(" sends codec %u to %u:%u", (unsigned)view.sends.codec, (unsigned)view.sends.addr,
-                   (unsigned)view.sends.port);
-        if (view.hears.flows)
-            printf(" hears codec %u from %u:%u", (unsigned)view.hears.codec, (unsigned)view.hears.addr,
-                   (unsigned)view.hears.port);
+        show_flow("sends", "to", view.sends);
+        show_flow("hears", "from", view.hears);
         if (view.owes) printf(" owes a retry");
         printf("\n");
     }
@@ -121,7 +124,8 @@ static media_setup setup(int box, uint8_t kind, media_codecs list) {
  * the word 0. */
 static void make_desk(void) {
     static media_state program[2];
-    media_slot slots[] = {{MEDIA_AUDIO, 0, 1}, {MEDIA_AUDIO, 1, 2}};
+    media_slot slots[] = {{.medium = MEDIA_AUDIO, .origin = 1},
+                          {.medium = MEDIA_AUDIO, .initiator = 1, .origin = 2}};
     media_setup desk = setup(DESK, MEDIA_FEATURE, codecs(0, 0, 0));
     program[0].goals[0] = program[0].goals[1] = (media_goal){MEDIA_GOAL_CLOSE, 0};
     program[0].count = 1;
@@ -164,12 +168,15 @@ static void refuse(void) {
     event = (media_event){MEDIA_TELL, 0, 0};
     print_code(media_box_act(&boxes[ALICE], &event, sent, MEDIA_ROOM, &count));
     media_setup again = setup(ALICE, MEDIA_DEVICE, codecs(0, 0, 0));
-    print_code(media_box_make(&boxes[ALICE], &again, (media_slot[]){{0, 0, 9}}, 1));
+    print_code(media_box_make(&boxes[ALICE], &again, (media_slot[]){{.origin = 9}}, 1));
+    print_code(media_box_make(&none, &again, (media_slot[]){{.origin = 9, .has_address = 2}}, 1));
     printf("count %zu, text of 10: %u\n", count, (unsigned)media_box_text(10, &text));
 }
 
 int main(void) {
-    media_slot phone[] = {{MEDIA_AUDIO, 1, 0}}, other[] = {{MEDIA_AUDIO, 0, 3}};
+    /* alice's media address is 192.0.2.1:40000, and bob's 192.0.2.2:40000 */
+    media_slot phone[] = {{MEDIA_AUDIO, 1, 0, 1, 40000, 0xc0000201}};
+    media_slot other[] = {{MEDIA_AUDIO, 0, 3, 1, 40000, 0xc0000202}};
     media_setup alice = setup(ALICE, MEDIA_DEVICE, codecs(2, 8, 0)), bob = setup(BOB, MEDIA_DEVICE, codecs(2, 0, 8));
     if (media_box_version() != MEDIA_BOX_VERSION) return 1;
     want(media_box_make(&boxes[ALICE], &alice, phone, 1), "make");

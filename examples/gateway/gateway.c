@@ -211,8 +211,10 @@ static media_slot_view see(int end) {
 }
 
 static void show_flow(const char *what, const char *way, media_flow flow) {
-    if (flow.flows)
-        printf(" %s codec %u %s %u:%u", what, (unsigned)flow.codec, way, (unsigned)flow.addr, (unsigned)flow.port);
+    if (!flow.flows) return;
+    printf(" %s codec %u %s %u.%u.%u.%u:%u", what, (unsigned)flow.codec, way, (unsigned)(flow.addr >> 24),
+           (unsigned)(flow.addr >> 16 & 0xff), (unsigned)(flow.addr >> 8 & 0xff), (unsigned)(flow.addr & 0xff),
+           (unsigned)flow.port);
 }
 
 static void show(const char *when) {
@@ -230,6 +232,11 @@ static void show(const char *when) {
 
 /* ---- the two processes */
 
+/* Where the phones want their media and send them from. They are told to the other process as they are. */
+#define ALICES_ADDRESS UINT32_C(0xc0000201) /* 192.0.2.1 */
+#define BOBS_ADDRESS UINT32_C(0xc0000202)   /* 192.0.2.2 */
+enum { MEDIA_PORT = 40000 };
+
 static void make_box(int box) {
     const bool feature = box == DESK || box == TRUNK;
     const media_codecs none = {0}, alices = {2, {8, 0}}, bobs = {2, {0, 8}};
@@ -238,7 +245,10 @@ static void make_box(int box) {
     media_slot slots[2];
     size_t count = 0;
     for (int i = 0; i < ENDS; i++)
-        if (ends[i].box == box) slots[count++] = (media_slot){MEDIA_AUDIO, i % 2 == 0, (uint32_t)i};
+        if (ends[i].box == box)
+            slots[count++] = (media_slot){.medium = MEDIA_AUDIO, .initiator = i % 2 == 0, .origin = (uint32_t)i,
+                                          .has_address = !feature, .port = MEDIA_PORT,
+                                          .addr = box == ALICE ? ALICES_ADDRESS : BOBS_ADDRESS};
     want(media_box_make(&boxes[box], &setup, slots, count), "make");
 }
 

@@ -1,6 +1,7 @@
 """A feature with a program between two phones. It prints the state of each slot once nothing is under way."""
 
 from collections import deque
+from ipaddress import IPv4Address
 
 import media_box as m
 
@@ -13,9 +14,10 @@ def make_boxes():
     shut = m.State.of([m.Goal(m.GOAL_CLOSE)] * 2, [m.Rule(m.TOLD, 1, 0, 1)])
     through = m.State.of([m.Goal(m.GOAL_LINK, 1), m.Goal(m.GOAL_LINK, 0)], [m.Rule(m.TOLD, 0, 0, 0)])
     two = [m.Slot(m.AUDIO, 0, 1), m.Slot(m.AUDIO, 1, 2)]
+    phone, other = m.Slot.at(m.AUDIO, 1, 0, "192.0.2.1", 40000), m.Slot.at(m.AUDIO, 0, 3, "192.0.2.2", 40000)
     return {
-        "alice": m.Box(m.DEVICE, 0, [m.Slot(m.AUDIO, 1, 0)], codecs=[8, 0]),
-        "bob": m.Box(m.DEVICE, 1, [m.Slot(m.AUDIO, 0, 3)], codecs=[0, 8]),
+        "alice": m.Box(m.DEVICE, 0, [phone], codecs=[8, 0]),
+        "bob": m.Box(m.DEVICE, 1, [other], codecs=[0, 8]),
         "desk": m.Box(m.FEATURE, 2, two, program=[shut, through]),
     }
 
@@ -48,8 +50,8 @@ def show(when):
     print(when)
     for who, slot in ENDS:
         view = boxes[who].see_slot(slot)
-        codec = view.sends.codec if view.sends.flows else None
-        print(f"{who}.{slot} {STATES[view.state]} sends {codec} owes {view.owes}")
+        sends = f"{view.sends.codec} to {IPv4Address(view.sends.addr)}:{view.sends.port}" if view.sends.flows else None
+        print(f"{who}.{slot} {STATES[view.state]} sends {sends} owes {view.owes}")
 
 
 try:

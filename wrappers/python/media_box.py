@@ -13,8 +13,9 @@ of sending, and each once. Where a call raises Refused the box is as it was. One
 import ctypes
 import os
 from ctypes import POINTER, Structure, byref, c_bool, c_char, c_size_t, c_uint8, c_uint16, c_uint32, c_void_p
+from ipaddress import IPv4Address
 
-VERSION = 1
+VERSION = 2
 OK = 0
 AUDIO, VIDEO = range(2)
 DEVICE, FEATURE = range(2)
@@ -57,7 +58,18 @@ class _Setup(Structure):
 
 
 class Slot(Structure):
+    """A slot of a box that is to be made. media_box.h says what its fields are."""
+
     _fields_ = [("medium", c_uint8), ("initiator", c_uint8), ("origin", c_uint32)]
+    _fields_ += [("has_address", c_uint8), ("port", c_uint16), ("addr", c_uint32)]
+
+    @classmethod
+    def at(cls, medium, initiator, origin, addr, port):
+        """The slot of a device that has this media address: a text such as "192.0.2.1", or any number, and a port."""
+        number = int(IPv4Address(addr)) if isinstance(addr, str) else addr
+        if not (0 <= number < 2**32 and 0 <= port < 2**16):
+            raise ValueError("an address has 32 bits, and a port 16")
+        return cls(medium, initiator, origin, 1, port, number)
 
 
 class Goal(Structure):

@@ -33,7 +33,7 @@ extern "C" {
 #endif
 
 /* The version of this interface. It is another where something that is declared here has changed. */
-#define MEDIA_BOX_VERSION 1
+#define MEDIA_BOX_VERSION 2
 
 /* ---- codes */
 
@@ -112,9 +112,8 @@ typedef struct media_sent {
 
 /* ---- what a box is made of */
 
-/* A device has the codecs that it receives and those that it sends, and the version that its descriptors begin with.
- * Its media are wanted at the address `number` + 1, and at the port 5000 + the slot's number. Of a feature the codecs
- * aren't used, but must be lists. */
+/* A device has the codecs that it receives and those that it sends, and the version that its descriptors begin with. Of
+ * a feature the codecs aren't used, but must be lists. */
 typedef struct media_setup {
     uint8_t kind; /* MEDIA_DEVICE or MEDIA_FEATURE */
     media_codecs receives;
@@ -124,11 +123,17 @@ typedef struct media_setup {
 } media_setup;
 
 /* A slot: its medium, whether it is on its tunnel's side of the initiator (of the two ends of a tunnel just one is, and
- * both have one medium), and the origin of its descriptors, a number that no other slot of the network has. */
+ * both have one medium), and the origin of its descriptors, a number that no other slot of the network has.
+ * A device's slot has a media address too, at which it wants media and from which it sends them: `addr` and `port`,
+ * where `has_address` is 1. Where it is 0 these two aren't read, and the address is the box's number + 1, the port 5000 +
+ * the slot's number. It is the slot's for as long as the box lives. A feature's slot uses none. */
 typedef struct media_slot {
     uint8_t medium;
     uint8_t initiator; /* 0 or 1 */
     uint32_t origin;
+    uint8_t has_address; /* 0 or 1 */
+    uint16_t port;
+    uint32_t addr; /* as of IPv4, with its first byte the highest: 192.0.2.1 is 0xc0000201; or any other number */
 } media_slot;
 
 /* The program of a feature is a list of states. A new box is at none, and its first Shift leads to the first state. */

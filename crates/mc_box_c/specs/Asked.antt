@@ -14,6 +14,7 @@ use Rattle.mc_box.specs.declared.event.Kind.{Kind}
 use Rattle.mc_box.specs.declared.event.Kind.TheVariants.{Device, Feature}
 use Rattle.mc_box.specs.declared.event.MediaChange.TheVariants.{Hear, Talk}
 use Rattle.mc_box.specs.declared.limit.TheConstants.{SLOT_LIMIT}
+use Rattle.mc_box.specs.declared.setup.MediaAddress.{MediaAddress}
 use Rattle.mc_box.specs.declared.setup.Setup.{Setup}
 use Rattle.mc_box.specs.declared.setup.SlotSetup.{SlotSetup}
 use Rattle.mc_box_c.specs.Numbers.{is_list, medium_of, named}
@@ -49,10 +50,19 @@ abbrev pub kind_of : ℕ → Kind
 kind_of number = if number == 0 then Device else Feature
 
 abbrev pub is_plain_slot : PlainSlot → Bool
-is_plain_slot plain = nat_lt plain.medium 2 && nat_lt plain.initiator 2
+is_plain_slot plain = nat_lt plain.medium 2 && nat_lt plain.initiator 2 && nat_lt plain.has_address 2
+
+-- the media address that is given, if any
+abbrev pub given_address : PlainSlot → Option MediaAddress
+given_address plain = if plain.has_address == 1 then Some record { addr = plain.addr; port = plain.port } else None
 
 abbrev pub setup_of : PlainSlot → SlotSetup
-setup_of plain = record { origin = plain.origin; medium = medium_of plain.medium; initiator = plain.initiator == 1; address = None }
+setup_of plain = record {
+  origin = plain.origin;
+  medium = medium_of plain.medium;
+  initiator = plain.initiator == 1;
+  address = given_address plain;
+}
 
 -- the numbers say a box that can be made, without its program
 abbrev pub is_setup : PlainSetup → List PlainSlot → Bool

@@ -4,12 +4,12 @@ ghost use Rattle.std.specs.Prelude.{◌≡◌, map, IfOk, IsTrue};
 ghost use Rattle.std.specs.List.{list_all};
 ghost use Rattle.mc_signal.specs.Choice.{codecs_of};
 ghost use Rattle.mc_box_c.specs.Numbers.{is_list, named};
-ghost use Rattle.mc_box_c.specs.Asked.{event_of, flag_of, goal_of, is_box, is_plain_slot, is_setup, kind_of, setup_of, SaysSetup};
+ghost use Rattle.mc_box_c.specs.Asked.{event_of, flag_of, given_address, goal_of, is_box, is_plain_slot, is_setup, kind_of, setup_of, SaysSetup};
 
 use crate::program::{PlainState, is_program, program_of};
 use crate::signals::{PlainList, medium_of};
 use mc_box::limit::SLOT_LIMIT;
-use mc_box::{Change, Event, Kind, MediaChange, Setup, SlotSetup};
+use mc_box::{Change, Event, Kind, MediaAddress, MediaChange, Setup, SlotSetup};
 use mc_signal::CodecList;
 use mc_slot::Goal;
 use std::alloc::{AllocError, Global};
@@ -26,13 +26,17 @@ pub struct PlainSetup {
 }
 
 /// A slot of a box that is to be made. `medium` is 0 for audio and 1 for video, and `initiator` is 1 on the side of the
-/// channel's initiator and 0 on the other.
+/// channel's initiator and 0 on the other. `has_address` is 1 where the slot's media address is `addr` and `port`, and 0
+/// where it is made of numbers of the box.
 #[repr(C)]
 #[derive(Clone, Copy)]
 pub struct PlainSlot {
     pub medium: u8,
     pub initiator: u8,
     pub origin: u32,
+    pub has_address: u8,
+    pub port: u16,
+    pub addr: u32,
 }
 
 /// An event that takes no signal. By its kind: 0 gives the slot `first` the goal `second` (0 open, 1 close, 2 hold), 1
@@ -109,7 +113,21 @@ impl PlainSlot {
     fn is_slot(&self) -> bool
         ensures { result ≡ is_plain_slot self.now }
     {
-        self.medium < 2 && self.initiator < 2
+        self.medium < 2 && self.initiator < 2 && self.has_address < 2
+    }
+
+    // The media address that they give, if any.
+    fn given_address(&self) -> Option<MediaAddress>
+        ensures { result ≡ given_address self.now }
+    {
+        if self.has_address == 1 {
+            Some(MediaAddress {
+                addr: self.addr,
+                port: self.port,
+            })
+        } else {
+            None
+        }
     }
 
     // The slot that they say.
@@ -120,7 +138,7 @@ impl PlainSlot {
             origin: self.origin,
             medium: medium_of(self.medium),
             initiator: self.initiator == 1,
-            address: None,
+            address: self.given_address(),
         }
     }
 }

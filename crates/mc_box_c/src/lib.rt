@@ -31,12 +31,12 @@ use text::PlainText;
 use view::{PlainBoxView, PlainSlotView};
 
 /// The version of the interface. It changes with each change that C would see.
-pub const VERSION: u32 = 1;
+pub const VERSION: u32 = 2;
 
 /// The version of the interface, which the header has, too.
 #[unsafe(no_mangle)]
 pub extern "C" fn media_box_version() -> u32
-    ensures { result ≡ 1 }
+    ensures { result ≡ 2 }
 {
     VERSION
 }

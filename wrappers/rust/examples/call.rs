@@ -1,8 +1,9 @@
 //! A feature with a program between two phones. It prints the state of each slot once nothing is under way.
 
-use media_box::{Event, Goal, Guard, Kind, MediaBox, Medium, Rule, Sent, Setup, Signal, Slot, State};
+use media_box::{Address, Event, Goal, Guard, Kind, MediaBox, Medium, Rule, Sent, Setup, Signal, Slot, State};
 use std::collections::VecDeque;
 use std::error::Error;
+use std::net::{Ipv4Addr, SocketAddrV4};
 
 // The ends of two tunnels: each end's far end is the one that stands beside it in its pair.
 const ENDS: [(usize, u8); 4] = [(0, 0), (2, 0), (2, 1), (1, 0)];
@@ -46,8 +47,10 @@ impl Call {
         println!("{when}");
         for (who, slot) in ENDS {
             let view = self.boxes[who].see_slot(slot)?;
-            let codec = view.sends.map(|flow| flow.codec);
-            println!("{}.{slot} {:?} sends {codec:?} owes {}", NAMES[who], view.state, view.owes);
+            let sends = view.sends.map_or("None".to_owned(), |flow| {
+                format!("{} to {}:{}", flow.codec, Ipv4Addr::from(flow.addr), flow.port)
+            });
+            println!("{}.{slot} {:?} sends {sends} owes {}", NAMES[who], view.state, view.owes);
         }
         Ok(())
     }
@@ -58,6 +61,7 @@ fn setup(kind: Kind, number: u32, codecs: &[u8], slots: &[(bool, u32)]) -> Setup
         medium: Medium::Audio,
         initiator: *initiator,
         origin: *origin,
+        address: None,
     };
     Setup {
         kind,
@@ -68,6 +72,14 @@ fn setup(kind: Kind, number: u32, codecs: &[u8], slots: &[(bool, u32)]) -> Setup
         slots: slots.iter().map(slot).collect(),
         program: Vec::new(),
     }
+}
+
+// A phone with one slot, which has the media address 192.0.2.`host`:40000.
+fn phone(number: u32, codecs: &[u8], initiator: bool, origin: u32, host: u8) -> Setup {
+    let mut made = setup(Kind::Device, number, codecs, &[(initiator, origin)]);
+    let address = SocketAddrV4::new(Ipv4Addr::new(192, 0, 2, host), 40000);
+    made.slots[0].address = Some(Address::from(address));
+    made
 }
 
 fn main() -> Result<(), Box<dyn Error>> {
@@ -88,8 +100,8 @@ fn main() -> Result<(), Box<dyn Error>> {
     ];
     let mut call = Call {
         boxes: vec![
-            MediaBox::new(&setup(Kind::Device, 0, &[8, 0], &[(true, 0)]))?,
-            MediaBox::new(&setup(Kind::Device, 1, &[0, 8], &[(false, 3)]))?,
+            MediaBox::new(&phone(0, &[8, 0], true, 0, 1))?,
+            MediaBox::new(&phone(1, &[0, 8], false, 3, 2))?,
             MediaBox::new(&desk)?,
         ],
         queues: Default::default(),

@@ -8,6 +8,7 @@ mod raw;
 
 use std::error::Error as StdError;
 use std::fmt;
+use std::net::SocketAddrV4;
 
 /// Why a call did nothing.
 #[derive(Clone, Copy, PartialEq, Eq, Debug)]
@@ -158,6 +159,25 @@ pub struct Slot {
     pub medium: Medium,
     pub initiator: bool,
     pub origin: u32,
+    /// Where the slot of a device wants media, and from where it sends them. Without one, that is made of the numbers of
+    /// the box and the slot, as `media_box.h` says.
+    pub address: Option<Address>,
+}
+
+/// A media address: of IPv4, or any other number.
+#[derive(Clone, Copy, PartialEq, Eq, Debug)]
+pub struct Address {
+    pub addr: u32,
+    pub port: u16,
+}
+
+impl From<SocketAddrV4> for Address {
+    fn from(address: SocketAddrV4) -> Address {
+        Address {
+            addr: u32::from(*address.ip()),
+            port: address.port(),
+        }
+    }
 }
 
 /// A state of a program: a goal for each slot, and transitions in their order.
@@ -358,6 +378,9 @@ fn raw_slots(setup: &Setup) -> Vec<raw::Slot> {
         medium: slot.medium as u8,
         initiator: slot.initiator as u8,
         origin: slot.origin,
+        has_address: slot.address.is_some() as u8,
+        port: slot.address.map_or(0, |address| address.port),
+        addr: slot.address.map_or(0, |address| address.addr),
     };
     setup.slots.iter().map(plain).collect()
 }

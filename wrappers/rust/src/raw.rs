@@ -2,7 +2,7 @@
 
 use std::ffi::c_void;
 
-pub const VERSION: u32 = 1;
+pub const VERSION: u32 = 2;
 pub const TAKE_ROOM: usize = 3;
 pub const ROOM: usize = 128;
 
@@ -46,6 +46,9 @@ pub struct Slot {
     pub medium: u8,
     pub initiator: u8,
     pub origin: u32,
+    pub has_address: u8,
+    pub port: u16,
+    pub addr: u32,
 }
 
 #[repr(C)]
