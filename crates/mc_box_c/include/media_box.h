@@ -41,7 +41,7 @@ enum {
     MEDIA_OK = 0,          /* it was done */
     MEDIA_NO_BOX = 1,      /* there is no box */
     MEDIA_HAS_BOX = 2,     /* there is a box already */
-    MEDIA_MEMORY = 3,      /* malloc or realloc gave nothing */
+    MEDIA_MEMORY = 3,      /* malloc or realloc gave nothing: a box is made or not, and nothing else asks for memory */
     MEDIA_INVALID = 4,     /* the numbers say no setup, program, signal, event or code */
     MEDIA_NO_SLOT = 5,     /* the box has no such slot */
     MEDIA_UNLAWFUL = 6,    /* the slot can't take this signal now */
@@ -253,15 +253,15 @@ uint32_t media_box_end(media_box *box);
 
 /* A slot takes a signal that came over its tunnel, and its goal has its turn. What is sent comes into the first
  * `*count` of the `room` places of `out`; the others stay. There must be MEDIA_TAKE_ROOM, however few are used. After
- * each code but MEDIA_OK `*count` is 0. It wants no memory.
+ * each code but MEDIA_OK `*count` is 0. It asks for no memory: all that it may use was asked for when the box was made.
  * MEDIA_OK, MEDIA_NO_BOX, MEDIA_INVALID, MEDIA_NO_SLOT, MEDIA_UNLAWFUL or MEDIA_NO_ROOM. */
 uint32_t media_box_take(media_box *box, uint8_t slot, const media_signal *signal, media_sent *out, size_t room,
                         size_t *count);
 
 /* An event happens. `out`, `room` and `count` are as in media_box_take, but there must be twice as many places as the
- * box has slots: MEDIA_ROOM are always enough. An event that names no slot of the box is disabled.
- * MEDIA_OK, MEDIA_NO_BOX, MEDIA_MEMORY, MEDIA_INVALID, MEDIA_DISABLED, MEDIA_VERSION_END (of MEDIA_HEAR) or
- * MEDIA_NO_ROOM. */
+ * box has slots: MEDIA_ROOM are always enough. An event that names no slot of the box is disabled. It asks for no
+ * memory.
+ * MEDIA_OK, MEDIA_NO_BOX, MEDIA_INVALID, MEDIA_DISABLED, MEDIA_VERSION_END (of MEDIA_HEAR) or MEDIA_NO_ROOM. */
 uint32_t media_box_act(media_box *box, const media_event *event, media_sent *out, size_t room, size_t *count);
 
 /* What there is to see of the box comes into `*out`. MEDIA_OK or MEDIA_NO_BOX. */

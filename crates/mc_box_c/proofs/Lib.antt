@@ -1,3 +1,4 @@
+pub mod Counts
 pub mod LooseValues
 pub mod KeptValues
 pub mod Lists

@@ -8,7 +8,7 @@ use Rattle.mc_box.specs.declared.event.Event.{Event}
 use Rattle.mc_box.specs.declared.event.Event.TheVariants.{Take}
 use Rattle.mc_box_c.specs.Asked.{event_of}
 use Rattle.mc_box_c.specs.Numbers.{is_signal, sent_of, Says}
-use Rattle.mc_box_c.specs.declared.answer.TheConstants.{MEMORY, INVALID, NO_SLOT, UNLAWFUL, DISABLED, VERSION_END, NO_ROOM}
+use Rattle.mc_box_c.specs.declared.answer.TheConstants.{INVALID, NO_SLOT, UNLAWFUL, DISABLED, VERSION_END, NO_ROOM}
 use Rattle.mc_box_c.specs.declared.asked.PlainEvent.{PlainEvent}
 use Rattle.mc_box_c.specs.declared.signals.PlainSent.{PlainSent}
 use Rattle.mc_box_c.specs.declared.signals.PlainSignal.{PlainSignal}
@@ -66,7 +66,6 @@ pub record EndsVersions (box : BoxState) (plain : PlainEvent) : Type 0 where
 
 -- the codes of an event that didn't happen
 pub data WhyNotActed (box : BoxState) (plain : PlainEvent) (room : ℕ) : ℕ → Type 0 where
-  memory : WhyNotActed box plain room MEMORY
   invalid : event_of plain ≡ None → WhyNotActed box plain room INVALID
   disabled : IsDisabled box plain → WhyNotActed box plain room DISABLED
   version_end : EndsVersions box plain → WhyNotActed box plain room VERSION_END

@@ -1,4 +1,4 @@
-//! A box, and a queue for what it sends in one event.
+//! A box, and a queue with room for what it sends in one event.
 
 ghost use Rattle.std.specs.Prelude.{[], ◌≡◌, ◌≢◌, ◌+◌, ◌*◌, ◌<◌, ◌≤◌, ◌++◌, drop, is_some, length, map, IfOk, IsTrue};
 ghost use Rattle.mc_slot.specs.Moves.{slot_take};
@@ -18,12 +18,13 @@ use mc_signal::Signal;
 use mc_slot::Sends;
 use std::alloc::{AllocError, Global};
 
-/// A box, and a queue for what it sends in one event.
+/// A box, and a queue with room for what it sends in one event. So no event wants memory.
 #[derive(Drop)]
 pub struct HeldBox {
     pub part: MediaBox,
     pub out: Lane<(u8, Signal)>,
     pub ghost idle: { out.items ≡ [] },
+    pub ghost room: { 2 * length part.slots ≤ out.spare },
 }
 
 impl HeldBox {
@@ -37,10 +38,9 @@ impl HeldBox {
         requires { IsTrue (is_box setup.now slots.now states.now) }
         ensures { IfOk result (λ made. SaysBox setup.now slots.now states.now made.part) }
     {
-        Ok(HeldBox {
-            part: MediaBox::new(alloc, setup.setup(alloc, slots, states)?)?,
-            out: Lane::new(alloc),
-        })
+        let part = MediaBox::new(alloc, setup.setup(alloc, slots, states)?)?;
+        let out = queue_for(alloc, part.slots().len())?;
+        Ok(HeldBox { part, out })
     }
 
     /// A slot takes a signal, and what is sent comes into `out`. Answers a code.
@@ -69,6 +69,7 @@ impl HeldBox {
         if !self.is_lawful(slot, &signal) {
             return answer::UNLAWFUL;
         }
+        self.part.keeps();
         // What is sent comes into a list of its own, which isn't copied.
         let mut sends = Sends::none();
         self.part.send_take(slot, signal, &mut sends);
@@ -104,9 +105,7 @@ impl HeldBox {
         if !self.part.enabled(&event) {
             return answer::DISABLED;
         }
-        if self.out.reserve(most).is_err() {
-            return answer::MEMORY;
-        }
+        self.part.keeps();
         match self.part.act(event, &mut self.out) {
             Ok(()) => {
                 *count = empty_into(&mut self.out, out);
@@ -115,6 +114,16 @@ impl HeldBox {
             Err(VersionEnd) => answer::VERSION_END,
         }
     }
+}
+
+// A queue with room for what a box of so many slots sends in one event.
+fn queue_for(alloc: Global, slots: usize) -> Result<Lane<(u8, Signal)>, AllocError>
+    requires { slots ≤ 64 }
+    ensures { IfOk result (λ made. (made.items ≡ []) × (2 * slots ≤ made.spare)) }
+{
+    let mut queue = Lane::new(alloc);
+    queue.reserve(2 * slots)?;
+    Ok(queue)
 }
 
 // The sent signals come into `out`.
@@ -132,6 +141,7 @@ fn empty_into(queue: &mut Lane<(u8, Signal)>, out: &mut [PlainSent]) -> usize
     requires { length queue.old.items ≤ length out.old }
     ensures written { out.new ≡ map sent_of queue.old.items ++ drop (length queue.old.items) out.old }
     ensures empty { queue.new.items ≡ [] }
+    ensures room { queue.new.spare ≡ queue.old.spare + length queue.old.items }
     ensures count { result ≡ length queue.old.items }
 {
     let count = queue.len();

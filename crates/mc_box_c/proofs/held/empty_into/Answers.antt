@@ -12,6 +12,7 @@ loop-i-preserved c =
       | in-Some w ↦
           let first : drop c.loop-i.i c.args.queue.now.items ≡ w.in-Some.sent ∷ c.pop.new.self.items = sym c.loop-i.invariant.left ∙ w.in-Some.ensures.item in
           record {
+            room = omega (arith, c.loop-i.invariant.room, w.in-Some.ensures.size);
             left = sym (drop_next c.loop-i.i c.args.queue.now.items w.in-Some.sent c.pop.new.self.items first);
             written = w.out-is ∙ rw w.of.ensures (written_next sent_of c.loop-i.i c.args.queue.now.items c.args.out.now c.loop-i.out w.in-Some.sent c.pop.new.self.items first within c.loop-i.invariant.written);
           }

@@ -9,5 +9,5 @@ returns c = record {
   sends = c.in_ok-setup.field-0.sends;
   receives_these = c.in_ok-setup.ensures.receives;
   sends_these = c.in_ok-setup.ensures.sends;
-  is = c.in_ok-new.ensures ∙ says_box c.args.setup.now c.args.slots.now c.args.states.now c.in_ok-setup.field-0 c.in_ok-setup.ensures;
+  is = c.in_ok-part.ensures ∙ says_box c.args.setup.now c.args.slots.now c.args.states.now c.in_ok-setup.field-0 c.in_ok-setup.ensures;
 }

@@ -3,6 +3,7 @@ use Rattle.std.specs.Prelude.{List}
 use Rattle.mc_slot.specs.Sending.{sends_of}
 use Rattle.mc_slot.specs.declared.Slot.{Slot}
 use Rattle.mc_box_c.specs.Answers.WhyNotTaken.{invalid, no_slot, unlawful, no_room}
+use Rattle.mc_box_c.proofs.Counts.{took_as_many}
 use Rattle.mc_box_c.proofs.Says.{is_none}
 use Rattle.mc_box_c.proofs.held.HeldBox.take.Goals as goal
 
@@ -23,3 +24,9 @@ send_take-requires-clause-room c =
     let fits : c.none-sends.result.len ≤ length c.none-sends.result.at = search rules in
     let count : length (sends_of c.none-sends.result) ≡ c.none-sends.result.len = length-take-le c.none-sends.result.len c.none-sends.result.at fits in
     omega (arith, count, ap length c.none-sends.ensures)
+
+-- the box has as many slots as before
+pub invariant_of-self : goal.invariant_of-self
+invariant_of-self c =
+    let same = took_as_many c.args.self.now.part c.args.slot c.in-Some.signal (record { sent = c.send_take.ensures.event.sent; after = c.send_take.new.self }) c.keeps.ensures c.send_take.ensures.event.goes in
+    record { idle = c.args.self.now.idle; room = omega (arith, same, c.args.self.now.room) }
