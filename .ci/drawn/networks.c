@@ -178,10 +178,10 @@ static void draw_program(int box, bool awaits_slots) {
 /* At most one program waits for states of slots. */
 static void draw_programs(void) {
     memset(named, 0, sizeof named);
-    net.has_programs = one_in(2);
+    net.has_programs = !one_in(3);
     net.awaited = 0;
     net.word_count = 1 + below(WORD_MOST);
-    bool awaits_slots = one_in(2);
+    bool awaits_slots = !one_in(3);
     for (int i = 0; net.has_programs && i < net.box_count; i++)
         if (is_feature(i) && !one_in(3)) {
             draw_program(i, awaits_slots);

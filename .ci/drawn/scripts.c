@@ -1,6 +1,10 @@
-/* Draws scripts, of batches whose outcome the text alone decides. So at each settle the goals are the same in any
- * order, and no path is hold against hold whose state isn't sure. Links make no ring at a settle, and none at any time
- * where a box has a program. */
+/* Draws scripts, of batches whose outcome the text alone decides: at each settle the goals are the same in any order,
+ * and no path is hold against hold whose state isn't sure. So it is with programs where
+ *   - a box isn't told goals in a batch in which its program goes on, and is told one word at most, unless the last
+ *     word alone says where its program comes to;
+ *   - one program at most waits for states of slots, and where it does, one transition at most can be gone at rest, and
+ *     the slots of the others are in none of the states that they wait for, at any moment.
+ * Links make no ring at a settle, and none at any time where a box has a program. */
 #include <stdlib.h>
 #include <string.h>
 #include "drawn.h"
