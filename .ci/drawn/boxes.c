@@ -254,6 +254,8 @@ static void print_heard(int end) {
 /* Whether the flow has the media address of the device at this end. */
 static bool is_address(const media_flow *flow, int end) {
     const struct end *at = &net.ends[end];
+    const media_slot *slot = &net.boxes[at->box].slots[at->slot];
+    if (slot->has_address) return flow->addr == slot->addr && flow->port == slot->port;
     return flow->addr == at->box + 1u && flow->port == 5000u + at->slot;
 }
 

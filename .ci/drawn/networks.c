@@ -56,6 +56,10 @@ static void add_slot(int box, int number, int medium) {
     slot->medium = (uint8_t)medium;
     slot->initiator = number % 2 == 0;
     slot->origin = (uint32_t)number;
+    if (is_feature(box) || one_in(2)) return;
+    slot->has_address = 1;
+    slot->addr = draw(&of_text, UINT32_MAX);
+    slot->port = (uint16_t)below(1 << 16);
 }
 
 static void add_channel(int one, int other) {
