@@ -3,7 +3,8 @@ use Rattle.std.proofs.Common.{◌≡◌, ◌≢◌, ◌/◌, ◌++◌, Bool, tru
 use Rattle.mc_signal.specs.declared.Tagged.{Tagged}
 use Rattle.mc_merge.specs.LaneLogs.{without_stamps}
 use Rattle.mc_model.specs.Worlds.{ChannelState, WorldState}
-use Rattle.mc_port.specs.Ends.{given, in_ring, left_in, out_ring, received}
+use mathlib.Core.List.{IsPrefix}
+use Rattle.mc_port.specs.Ends.{given, in_ring, known, left_in, out_ring, received}
 use Rattle.mc_port.specs.declared.ends.InPort.{InPort}
 use Rattle.mc_port.specs.declared.ends.OutPort.{OutPort}
 use Rattle.mc_merge.specs.Account.{part_lane}
@@ -84,6 +85,7 @@ carried_later from from_2 from_3 to to_2 to_3 sender taker carried same same_2 =
   takes_2 = same_2.port_is ∙ carried.takes_2;
   left = carried.left;
   all = carried.all;
+  knew = carried.knew;
   came = same_2.lanes (into_lane taker carried.into.starts_here) (into_half taker carried.into.starts_here) ∙ carried.came;
   empty = same.lanes (out_lane sender carried.out.starts_here) (out_half sender carried.out.starts_here) ∙ carried.empty;
   even = carried.even;
@@ -102,6 +104,7 @@ carried_sooner from_0 from from_2 to_0 to to_2 sender taker same same_2 carried 
   takes_2 = carried.takes_2;
   left = carried.left;
   all = carried.all;
+  knew = carried.knew;
   came = carried.came
       ∙ ap₂ (λ (l w : List Tagged). l ++ (without_stamps carried.left ++ w)) (same_2.lanes (into_lane taker carried.into.starts_here) (into_half taker carried.into.starts_here))
       (same.lanes (out_lane sender carried.out.starts_here) (out_half sender carried.out.starts_here));
@@ -223,6 +226,7 @@ both_carried from from_1 from_2 to to_1 to_2 s t one two =
         takes_2 = over_2.new.sends;
         left = one.left;
         all = one.all;
+        knew = one.knew;
         came = into_stays ∙ one.came;
         empty = wait_stays ∙ one.empty;
         even = ap received (c_2.out_from ∙ ap (λ (p : Port). p.from) out_was) ∙ (one.even ∙ ap given (sym (c_2.into_to ∙ ap (λ (p : Port). p.to) into_was)));
@@ -238,6 +242,7 @@ both_carried from from_1 from_2 to to_1 to_2 s t one two =
         takes_2 = over_2.new.takes;
         left = two.left;
         all = ap (λ (p : InPort). received p ++ two.left) (sym second_into) ∙ (two.all ∙ ap given second_out);
+        knew = subst (λ (p : InPort). IsPrefix (known p) two.left) second_into two.knew;
         came = ap (λ (b : Bool). part_lane (state_of from_2) (into_lane s b)) (sym starts_2)
             ∙ (two.came ∙ ap₂ (λ (l w : List Tagged). l ++ (without_stamps two.left ++ w)) back_into back_wait);
         empty = ap (λ (b : Bool). part_lane (state_of to_2) (out_lane t b)) (sym starts) ∙ two.empty;

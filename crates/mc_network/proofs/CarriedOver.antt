@@ -5,7 +5,8 @@ use Rattle.mc_part.specs.Carrying.{CanCarry, CarriesAll}
 use Rattle.mc_part.specs.Phases.{EachChanged}
 use Rattle.mc_part.specs.declared.part.Part.{Part}
 use Rattle.mc_part.specs.declared.part_run.PartRun.{PartRun}
-use Rattle.mc_network.specs.Phasing.{AreApart, CarriesAt, CarriesBoth, CarriesOver, HasCrossed, IsCarryable, IsEnd, IsSameAt, IsSameRun, StaysAt}
+use Rattle.mc_network.specs.Networks.{IsEnd}
+use Rattle.mc_network.specs.Phasing.{AreApart, CarriesAt, CarriesBoth, CarriesOver, HasCrossed, IsCarryable, IsSameAt, IsSameRun, StaysAt}
 use Rattle.mc_network.specs.declared.network.Crossing.{Crossing}
 use Rattle.mc_network.proofs.CarriedLanes.{HasBoth, as_before, as_before_on, both_carried, can_still, carried_later, carried_sooner, same_at, same_at_on}
 use Rattle.mc_network.proofs.Lists.{get_other, one_of, same_or_not, set_apart, set_both, set_here, set_length, there_at}

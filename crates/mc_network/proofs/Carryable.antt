@@ -64,12 +64,12 @@ pub record IsOpen (part : Part) (lane : ℕ) : Type 0 where
   pub away : length part.engine.boxes ≤ leads_to (tables_of part) lane
   pub empty : part_lane (state_of part) lane ≡ []
 
-given_by_port : (ports : List Port) (k : ℕ) (port : Port) (starts : Bool) → slice_get ports k ≡ Some port → port.starts_here ≡ starts → given_at ports (out_lane k starts) ≡ given port.to
+pub given_by_port : (ports : List Port) (k : ℕ) (port : Port) (starts : Bool) → slice_get ports k ≡ Some port → port.starts_here ≡ starts → given_at ports (out_lane k starts) ≡ given port.to
 given_by_port ports k port starts there is =
     ap (λ (b : Bool). given_at ports (out_lane k b)) (sym is)
     ∙ (ap (λ (o : Option Port). given_by o (out_lane k port.starts_here)) (ap (λ (n : ℕ). slice_get ports n) (out_half k port.starts_here) ∙ there) ∙ own_given k port)
 
-received_by_port : (ports : List Port) (k : ℕ) (port : Port) (starts : Bool) → slice_get ports k ≡ Some port → port.starts_here ≡ starts → received_at ports (into_lane k starts) ≡ received port.from
+pub received_by_port : (ports : List Port) (k : ℕ) (port : Port) (starts : Bool) → slice_get ports k ≡ Some port → port.starts_here ≡ starts → received_at ports (into_lane k starts) ≡ received port.from
 received_by_port ports k port starts there is =
     ap (λ (b : Bool). received_at ports (into_lane k b)) (sym is)
     ∙ (ap (λ (o : Option Port). received_by o (into_lane k port.starts_here)) (ap (λ (n : ℕ). slice_get ports n) (into_half k port.starts_here) ∙ there) ∙ own_received k port)

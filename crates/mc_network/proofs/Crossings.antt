@@ -11,8 +11,8 @@ use Rattle.mc_part.proofs.Layouts.{from_there, to_there}
 use Rattle.mc_part.proofs.Placed.{Touches, place_apart, touch_on}
 use Rattle.mc_part.proofs.Ranks.{Found, rank_back, rank_found}
 use Rattle.mc_part.proofs.Slots.{end_on}
-use Rattle.mc_network.specs.Networks.{crossing_at, crossings_of, is_apart}
-use Rattle.mc_network.specs.Phasing.{AreApart, IsEnd, IsNoEnd}
+use Rattle.mc_network.specs.Networks.{IsEnd, crossing_at, crossings_of, is_apart}
+use Rattle.mc_network.specs.Phasing.{AreApart, IsNoEnd}
 use Rattle.mc_network.specs.declared.network.Crossing.{Crossing}
 
 -- ---- numbers of channels

@@ -213,6 +213,9 @@ is_cut_network boxes lanes lists network out =
       empty = none_waits boxes others channels lanes rests assigned lists runs out.have count lane_count;
       crossings = out.wired.crossings_are;
       joined = all_joined boxes channels lanes assigned lists runs network.crossings.items out.have out.wired;
+      ported = λ part run there port below.
+          let laid = laid_run boxes channels lanes assigned lists runs part run out.have there in
+          out.wired.ported part port (subst (λ (k : ℕ). port < k) laid.ports_are.count below);
       clocks = out.clocks;
       idle = λ part run there.
           let below : part < length runs = slice_get_within runs part run there in

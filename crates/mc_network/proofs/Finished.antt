@@ -25,7 +25,7 @@ use Rattle.mc_part.specs.declared.limit.TheConstants.{STAMP_LIMIT}
 use Rattle.mc_part.specs.declared.part.Part.{Part}
 use Rattle.mc_part.specs.declared.part_run.PartRun.{PartRun}
 use Rattle.mc_part.specs.declared.port.Port.{Port}
-use Rattle.mc_network.specs.Networks.{AreJoined, IsCutNetwork, IsIdle, IsJoined, ShareClock, base_of, network_layout, states_among, turn_budget}
+use Rattle.mc_network.specs.Networks.{AreJoined, HasCrossing, IsCutNetwork, IsIdle, IsJoined, ShareClock, base_of, network_layout, states_among, turn_budget}
 use Rattle.mc_network.specs.Phasing.{HasCrossed, IsClosed}
 use Rattle.mc_network.specs.declared.network.Crossing.{Crossing}
 use Rattle.mc_network.specs.declared.network.CutNetwork.{CutNetwork}
@@ -98,6 +98,19 @@ joined_at n retries every budget chosen gone carried closed logs_2 before after 
 
 -- ---- each part is ready again
 
+port_count : (one two : List Port) → sides two ≡ sides one → length two ≡ length one
+port_count one two same = sym (length-map two (λ (q : Port). q.starts_here)) ∙ (ap (λ (l : List Bool). length l) same ∙ length-map one (λ (q : Port). q.starts_here))
+
+-- each port is still at an end of a channel
+ported_after : (n : CutNetwork) (retries every : Bool) (budget : ℕ) (chosen gone carried closed : List PartRun) (logs_2 : List PartLog) (before after : List Turn) → Phased n retries every budget chosen gone carried closed logs_2 before after
+    → (i : ℕ) (d : PartRun) → slice_get closed i ≡ Some d → (port : ℕ) → port < length d.part.ports.items → HasCrossing n.crossings.items i port
+ported_after n retries every budget chosen gone carried closed logs_2 before after p i d there port below =
+    let opened = opened_at n retries every budget chosen gone carried closed logs_2 before after p i d there in
+    let at : ClosedAt gone closed n retries every budget chosen i opened.0 = closed_at n retries every budget chosen gone carried closed logs_2 before after p i opened.0 opened.1 in
+    let same : at.d ≡ d = one_of (slice_get closed i) at.d d at.d_there there in
+    let like : IsLike at.ran.c.part d.part = subst (λ (r : PartRun). IsLike at.ran.c.part r.part) same at.like in
+    p.went.cut.ported i opened.0 opened.1 port (subst (λ (k : ℕ). port < k) (port_count opened.0.part.ports.items d.part.ports.items (like.sides_are ∙ at.ran.runs.run.sides)) below)
+
 -- what a closed part keeps of the part that ran
 idle_after : (n : CutNetwork) (retries every : Bool) (budget : ℕ) (chosen gone carried closed : List PartRun) (logs_2 : List PartLog) (before after : List Turn) → Phased n retries every budget chosen gone carried closed logs_2 before after → ((i : ℕ) (x d : PartRun) → slice_get n.runs.items i ≡ Some x → slice_get closed i ≡ Some d → AllByRecursion (λ (turn : Turn). IsTrue (is_allowed d.part.engine turn)) (drop d.part.used d.part.commands.items))
     → EachOf (IsIdle (turn_budget (length n.runs.items))) closed
@@ -135,9 +148,6 @@ idle_after n retries every budget chosen gone carried closed logs_2 before after
       room = subst (λ (k : ℕ). SLOT_LIMIT * k ≤ turn_budget (length n.runs.items)) (sym (boxes ∙ at.ran.runs.run.spanned.work.box_count)) idle.room;
       allowed = allowed i x d opened.1 there;
     }
-  where
-    port_count : (one two : List Port) → sides two ≡ sides one → length two ≡ length one
-    port_count one two same = sym (length-map two (λ (q : Port). q.starts_here)) ∙ (ap (λ (l : List Bool). length l) same ∙ length-map one (λ (q : Port). q.starts_here))
 
 -- ---- all of it
 
@@ -181,6 +191,7 @@ cut_after n retries every budget chosen gone carried runs logs calm before after
           (subst (λ (states : ℕ → PartState). AreEmptied (base_of n) (network_layout n) (tables_at (parts_by none.none runs.items)) states) (sym (states_are none.none runs.items)) parts.empty);
       crossings = cut.crossings;
       joined = λ i d inside. joined_at n retries every budget chosen gone carried runs.items logs.items before after p i (get_or n.crossings.items i d) (there_at n.crossings.items i d inside);
+      ported = ported_after n retries every budget chosen gone carried runs.items logs.items before after p;
       clocks = subst (λ (l : List ℕ). All (ShareClock l) n.crossings.items) (sym p.merged.clocks) cut.clocks;
       idle = subst (λ (k : ℕ). EachOf (IsIdle (turn_budget k)) runs.items) (sym count)
           (idle_after n retries every budget chosen gone carried runs.items logs.items before after p (λ i x d there there_2. finished.allowed i d there_2));

@@ -34,6 +34,7 @@ use Rattle.mc_network.proofs.PhaseEnd.{cut_by, phased}
 use Rattle.mc_network.proofs.Phased.{none_of}
 use Rattle.mc_network.proofs.Played.{KeepsCounts, allowed_after, keeps_counts, sound_at}
 use Rattle.mc_network.proofs.Strange.{none_meets_strange}
+use Rattle.mc_network.proofs.Strays.{none_meets_stray}
 
 -- ---- a command that can't happen
 
@@ -87,15 +88,15 @@ stop_met retries every budget x b c stop chose went ended true is =
     stops_as c.ended at.result c.part budget stop at.is ended at.ends
 stop_met retries every budget x b c stop chose went ended false is = absurd (let none : c.ended ≡ None = ap (λ (r : PartRun). r.ended) (went.idle is) ∙ chose.ended in cc)
 
-lawful_by : (o : Option (Result Ended PartStop)) → ((who : ℕ) → o ≡ Some (Err (Unable who)) → ⊥) → ((who local : ℕ) → o ≡ Some (Err (Strange who local)) → ⊥) → EndsLawfully o
-lawful_by None unable strange = tt
-lawful_by (Some (Ok ended)) unable strange = tt
-lawful_by (Some (Err Spent)) unable strange = tt
-lawful_by (Some (Err (NoMemory e))) unable strange = tt
-lawful_by (Some (Err (VersionEnd who local))) unable strange = tt
-lawful_by (Some (Err (Unable who))) unable strange = unable who refl
-lawful_by (Some (Err (Strange who local))) unable strange = strange who local refl
-lawful_by (Some (Err (Stray port))) unable strange = tt
+lawful_by : (o : Option (Result Ended PartStop)) → ((who : ℕ) → o ≡ Some (Err (Unable who)) → ⊥) → ((who local : ℕ) → o ≡ Some (Err (Strange who local)) → ⊥) → ((port : ℕ) → o ≡ Some (Err (Stray port)) → ⊥) → EndsLawfully o
+lawful_by None unable strange stray = tt
+lawful_by (Some (Ok ended)) unable strange stray = tt
+lawful_by (Some (Err Spent)) unable strange stray = tt
+lawful_by (Some (Err (NoMemory e))) unable strange stray = tt
+lawful_by (Some (Err (VersionEnd who local))) unable strange stray = tt
+lawful_by (Some (Err (Unable who))) unable strange stray = unable who refl
+lawful_by (Some (Err (Strange who local))) unable strange stray = strange who local refl
+lawful_by (Some (Err (Stray port))) unable strange stray = stray port refl
 
 pub lawful_after : (n : CutNetwork) (retries : Bool) (runs : Vec PartRun Global) (logs : Vec PartLog Global) (before after : List Turn) → IsCutNetwork n → HasPlayed retries n.calm n.crossings.items n.runs.items runs.items n.logs.items logs.items before after
     → EachOf (λ (run : PartRun). EndsLawfully run.ended) runs.items
@@ -120,6 +121,9 @@ lawful_after n retries runs logs before after cut played i d there =
     (λ who local stop.
     none_meets_strange n retries played.every played.budget played.chosen gone played.carried runs logs before after p cut_2 i who local x c d opened.1 at.ran.c_there there at.ran.runs.run.channels at.ran.runs.run.spanned.work.box_count like
     (stop_met retries played.every played.budget x at.ran.b c (Strange who local) at.ran.chose at.ran.went (sym ended ∙ stop) at.ran.b.active refl))
+    (λ port stop.
+    none_meets_stray n retries played.every played.budget played.chosen gone played.carried runs.items logs.items before after (none_of n cut) p i port c at.ran.c_there
+    (stop_met retries played.every played.budget x at.ran.b c (Stray port) at.ran.chose at.ran.went (sym ended ∙ stop) at.ran.b.active refl))
 
 pub lawful_as_read : (runs runs_2 : List PartRun) → runs ≡ runs_2 → EachOf (λ (run : PartRun). EndsLawfully run.ended) runs_2 → EachOf (λ (run : PartRun). EndsLawfully run.ended) runs
 lawful_as_read runs runs_2 is each = subst (λ (l : List PartRun). EachOf (λ (run : PartRun). EndsLawfully run.ended) l) (sym is) each

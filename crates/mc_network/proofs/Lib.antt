@@ -34,6 +34,7 @@ mod Progressed
 mod Recommanded
 mod Shapes
 mod Strange
+mod Strays
 mod Swapped
 mod CommandAdded
 pub mod SoundWorlds

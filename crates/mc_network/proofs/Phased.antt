@@ -164,7 +164,7 @@ max_least : (b m : ℕ) → m ≡ 0 → max b m ≡ b
 max_least b m none = grind (arith, common_steps)
 
 -- no log has more turns than the budget
-log_few : (n : CutNetwork) (retries every : Bool) (budget : ℕ) (chosen gone : List PartRun) → Went n retries every budget chosen gone → (i : ℕ) (a : PartRun) (there : slice_get n.runs.items i ≡ Some a) → (c : PartRun) → slice_get gone i ≡ Some c
+pub log_few : (n : CutNetwork) (retries every : Bool) (budget : ℕ) (chosen gone : List PartRun) → Went n retries every budget chosen gone → (i : ℕ) (a : PartRun) (there : slice_get n.runs.items i ≡ Some a) → (c : PartRun) → slice_get gone i ≡ Some c
     → length c.part.log.items ≤ budget
 log_few n retries every budget chosen gone w i a there c q =
     let ran = ran_at n retries every budget chosen gone w i a there in
@@ -186,7 +186,7 @@ log_in [] i d inside = absurd (omega (arith, inside))
 log_in (x ∷ xs) zero d inside = (x, (refl, refl))
 log_in (x ∷ xs) (suc i) d inside = log_in xs i d (omega (arith, inside))
 
-times_div : (k b n : ℕ) → k ≡ n → b ≤ STAMP_LIMIT / n → k * b ≤ STAMP_LIMIT
+pub times_div : (k b n : ℕ) → k ≡ n → b ≤ STAMP_LIMIT / n → k * b ≤ STAMP_LIMIT
 times_div k b n same few = let div : n * (STAMP_LIMIT / n) ≤ STAMP_LIMIT = div_times STAMP_LIMIT n in let more : n * b ≤ n * (STAMP_LIMIT / n) = times_le n b (STAMP_LIMIT / n) few in subst (λ (m : ℕ). m * b ≤ STAMP_LIMIT) (sym same) (omega (arith, div, more))
   where
     div_times : (m d : ℕ) → d * (m / d) ≤ m

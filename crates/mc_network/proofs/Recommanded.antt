@@ -88,6 +88,10 @@ cut_same n runs calm cut same fit =
             there = joined_same joined.from.part joined.to.part from.0.part to.0.part (get_or n.crossings.items i d).from_port (get_or n.crossings.items i d).to_port joined.there one two;
             back = joined_same joined.to.part joined.from.part to.0.part from.0.part (get_or n.crossings.items i d).to_port (get_or n.crossings.items i d).from_port joined.back two one;
           };
+      ported = λ i b there port below.
+          let a = run_there n.runs.items i (subst (λ (k : ℕ). i < k) same.count (slice_get_within runs.items i b there)) in
+          let is : IsRecommanded a.0.part b.part = same.each i a.0 b a.1 there in
+          cut.ported i a.0 a.1 port (subst (λ (v : Vec Port Global). port < length v.items) is.ports below);
       clocks = cut.clocks;
       idle = λ i b there.
           let a = run_there n.runs.items i (subst (λ (k : ℕ). i < k) same.count (slice_get_within runs.items i b there)) in

@@ -1,5 +1,5 @@
 -- The ports of one channel more.
-use Rattle.std.proofs.Common.{◌≡◌, ◌≢◌, ◌<◌, ◌≤◌, ◌+◌, ◌==◌, inl, inr, not, if◌then◌else◌, All, Bool, true, false, cond, filter, ℕ, zero, suc, Some, List, [], ◌∷◌, ◌++◌, append-nil, length, length-set, length-take-le, get_or, get_or-set_same, get_or-set_other, map, take, replicate, refl, ap, ap₂, sym, ◌∙◌, subst, arith, true≢false, eq-eqb, eqb-true, ne_eqb}
+use Rattle.std.proofs.Common.{◌≡◌, ◌≢◌, ◌<◌, ◌≤◌, ◌+◌, ◌==◌, inl, inr, not, if◌then◌else◌, All, Bool, true, false, cond, filter, ℕ, zero, suc, Some, List, [], ◌∷◌, ◌++◌, append-nil, length, length-append, length-set, length-take-le, get_or, get_or-set_same, get_or-set_other, map, take, replicate, refl, ap, ap₂, sym, ◌∙◌, subst, arith, true≢false, eq-eqb, eqb-true, ne_eqb}
 use Rattle.std.proofs.lemmas.Bool.{cases_eq, cases_lt}
 use Rattle.std.proofs.lemmas.List.{get_or_default, length-map, map-append, length-replicate}
 use Rattle.std.proofs.lemmas.List.Elements.{All-append, filter_more}
@@ -12,7 +12,7 @@ use Rattle.mc_part.proofs.Placed.{front_at, place_of_crossing}
 use Rattle.mc_merge.specs.Lanes.{absent_channel}
 use Rattle.mc_model.specs.Worlds.{ChannelState}
 use Rattle.mc_network.specs.Laying.{AddsBy, AddsCrossing, AddsNone, AreWired, IsRinged, ports_in, with_port}
-use Rattle.mc_network.specs.Networks.{crossing_at, is_apart}
+use Rattle.mc_network.specs.Networks.{HasCrossing, IsEnd, crossing_at, is_apart}
 use Rattle.mc_network.specs.declared.network.Crossing.{Crossing}
 use Rattle.mc_network.specs.declared.wiring.Wiring.{Wiring}
 use Rattle.mc_network.proofs.ChannelNumbers.{rest_at}
@@ -96,6 +96,7 @@ without assigned channels count i from to old new between same wired none =
           ∙ append-nil (starts_in assigned (take i channels) part)));
       crossings_are = crossings;
       ringed = wired.ringed;
+      ported = wired.ported;
     } in
     subst (λ (l : List (List Port)). AreWired assigned channels count (i + 1) l new.crossings.items) (sym none.ports_are)
     (subst (λ (l : List Crossing). AreWired assigned channels count (i + 1) (inner_lists old.ports.items) l) (sym none.crossings_are) here)
@@ -170,6 +171,39 @@ crosses : (assigned : List ℕ) (channel : ChannelState) (from to part : ℕ) �
 crosses assigned channel from to part from_is to_is p q one two =
     ap₂ (λ (x y : Bool). if x then not y else y) (ap (is_part part) (sym from_is) ∙ one) (ap (is_part part) (sym to_is) ∙ two)
 
+-- each port is at an end of a channel, also the two that come
+port_more : (crossings : List Crossing) (made : Crossing) (part port n m : ℕ) → n ≡ m + 1 → port < n → IsEnd made part m → (port < m → HasCrossing crossings part port) → HasCrossing (crossings ++ made ∷ []) part port
+port_more crossings made part port n m long below end before = elim (cases_eq port m) [
+  | inl last ↦ record {
+    at = length crossings;
+    crossing = made;
+    there = rest_at crossings (made ∷ []) 0 (length crossings) made (omega arith) refl;
+    end = subst (λ (k : ℕ). IsEnd made part k) (sym last) end;
+  }
+  | inr other ↦ port_still crossings made part port (before (omega (arith, long, below, other)))
+]
+  where
+    port_still : (crossings : List Crossing) (made : Crossing) (part port : ℕ) → HasCrossing crossings part port → HasCrossing (crossings ++ made ∷ []) part port
+    port_still crossings made part port has = record { at = has.at; crossing = has.crossing; there = front_at crossings (made ∷ []) has.at has.crossing has.there; end = has.end }
+
+ported_more : (lists : List (List Port)) (crossings : List Crossing) (from to : ℕ) (a b : Port) (made : Crossing) → from < length lists → to < length lists → from ≢ to
+    → made.from ≡ from → made.from_port ≡ length (ports_in lists from) → made.to ≡ to → made.to_port ≡ length (ports_in lists to)
+    → ((part port : ℕ) → port < length (ports_in lists part) → HasCrossing crossings part port)
+    → (part port : ℕ) → port < length (ports_in (with_port (with_port lists from a) to b) part) → HasCrossing (crossings ++ made ∷ []) part port
+ported_more lists crossings from to a b made in_a in_b apart from_is from_port to_is to_port ported part port below = elim (cases_eq part from) [
+  | inl one ↦ port_more crossings made part port (length (ports_in (with_port (with_port lists from a) to b) part)) (length (ports_in lists part))
+      (subst (λ (n : ℕ). length (ports_in (with_port (with_port lists from a) to b) n) ≡ length (ports_in lists n) + 1) (sym one) (ap length (in_from lists from to a b in_a apart) ∙ length-append (ports_in lists from) (a ∷ []))) below
+      (inl (from_is ∙ sym one, from_port ∙ ap (λ (n : ℕ). length (ports_in lists n)) (sym one))) (ported part port)
+  | inr other ↦ elim (cases_eq part to) [
+    | inl two ↦ port_more crossings made part port (length (ports_in (with_port (with_port lists from a) to b) part)) (length (ports_in lists part))
+        (subst (λ (n : ℕ). length (ports_in (with_port (with_port lists from a) to b) n) ≡ length (ports_in lists n) + 1) (sym two) (ap length (in_to lists from to a b in_b apart) ∙ length-append (ports_in lists to) (b ∷ []))) below
+        (inr (to_is ∙ sym two, to_port ∙ ap (λ (n : ℕ). length (ports_in lists n)) (sym two))) (ported part port)
+    | inr none ↦
+        let has = ported part port (subst (λ (n : ℕ). port < n) (ap length (in_others lists from to part a b other none)) below) in
+        record { at = has.at; crossing = has.crossing; there = front_at crossings (made ∷ []) has.at has.crossing has.there; end = has.end }
+  ]
+]
+
 with_crossing : (assigned : List ℕ) (channels : List ChannelState) (count i from to : ℕ) (old new : Wiring) → IsBetween assigned channels i from to → (to == from) ≡ false → from < count → to < count
     → AreWired assigned channels count i (inner_lists old.ports.items) old.crossings.items → AddsCrossing from to old new
     → AreWired assigned channels count (i + 1) (inner_lists new.ports.items) new.crossings.items
@@ -230,6 +264,7 @@ with_crossing assigned channels count i from to old new between differ in_from_c
                 ∙ at_last (ports_in lists to) b (length (ports_in (with_port lists from a) to)) (ap length (before_to lists from to a apart));
             rings = adds.rings;
           }));
+      ported = ported_more lists old.crossings.items from to a b made in_a in_b apart refl refl refl (ap length (before_to lists from to a apart)) wired.ported;
     } in
     subst (λ (l : List (List Port)). AreWired assigned channels count (i + 1) l new.crossings.items) (sym adds.ports_are)
     (subst (λ (l : List Crossing). AreWired assigned channels count (i + 1) (with_port (with_port lists from a) to b) l) (sym adds.crossings_are) here) where
@@ -309,4 +344,7 @@ none_wired assigned channels count lists crossings is none = record {
   sides_are = λ part below. ap (λ (l : List (List Port)). sides (get_or l part no_list)) is ∙ ap sides (none_at count part);
   crossings_are = none;
   ringed = subst (λ (l : List Crossing). All (IsRinged lists) l) (sym none) (λ k d below. absurd (omega arith));
+  ported = λ part port below.
+      let long : length (ports_in lists part) ≡ 0 = ap (λ (l : List (List Port)). length (get_or l part no_list)) is ∙ ap length (none_at count part) in
+      absurd (omega (arith, below, long));
 }

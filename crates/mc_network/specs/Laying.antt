@@ -8,7 +8,7 @@ use Rattle.mc_part.specs.Cutting.{AreNumbersIn, count_of, inner_lists, with_give
 use Rattle.mc_merge.specs.Lanes.{absent_channel}
 use Rattle.mc_model.specs.Sound.{IsNumbered}
 use Rattle.mc_model.specs.Worlds.{AreChannels, ChannelState, WorldState, first_world, places_among}
-use Rattle.mc_network.specs.Networks.{crossing_at, is_apart, turn_budget}
+use Rattle.mc_network.specs.Networks.{HasCrossing, crossing_at, is_apart, turn_budget}
 use Rattle.mc_network.specs.declared.dividing.Division.{Division}
 use Rattle.mc_network.specs.declared.limit.TheConstants.{NETWORK_LIMIT}
 use Rattle.mc_network.specs.declared.network.Crossing.{Crossing}
@@ -146,7 +146,7 @@ abbrev pub AddsBy : Bool → ℕ → ℕ → Wiring → Wiring → Type 0
 AddsBy true from to old new = AddsNone old new
 AddsBy false from to old new = AddsCrossing from to old new
 
--- each of the first channels that crosses has its ports
+-- each of the first channels that crosses has its ports, and there are no others
 pub record AreWired (assigned : List ℕ) (channels : List ChannelState) (count n : ℕ)
     (ports : List (List Port)) (crossings : List Crossing) : Type 0 where
   pub count_is : length ports ≡ count
@@ -155,6 +155,7 @@ pub record AreWired (assigned : List ℕ) (channels : List ChannelState) (count 
   pub crossings_are : crossings ≡ map (crossing_at assigned channels)
       (filter (is_apart assigned channels) (range_with_len 0 n))
   pub ringed : All (IsRinged ports) crossings
+  pub ported : (part port : ℕ) → port < length (ports_in ports part) → HasCrossing crossings part port
 
 -- a port by its number in its part
 abbrev pub numbered_port : ℕ → List ℕ → ℕ → Port → Port

@@ -1,5 +1,5 @@
 -- A network that is cut into parts: the world that its parts stand for, and what it keeps between phases.
-use Rattle.std.specs.Prelude.{◌≡◌, ◌<◌, ◌≤◌, ◌*◌, ◌/◌, ℕ, All, Bool, not, IsTrue, List, [], drop, filter, length, map, replicate, slice_get, slice_index_or, Some}
+use Rattle.std.specs.Prelude.{◌≡◌, ◌⊎◌, ◌<◌, ◌≤◌, ◌*◌, ◌/◌, ℕ, All, Bool, not, IsTrue, List, [], drop, filter, length, map, replicate, slice_get, slice_index_or, Some}
 use Rattle.std.specs.List.{AllByRecursion, range_with_len}
 use Rattle.mc_box.specs.Boxes.{no_box}
 use Rattle.mc_box.specs.declared.event.Event.{Event}
@@ -96,6 +96,18 @@ abbrev pub crossings_of : List ℕ → List ChannelState → List Crossing
 crossings_of assigned channels = map (crossing_at assigned channels)
     (filter (is_apart assigned channels) (range_with_len 0 (length channels)))
 
+-- a channel has its end in a part by this port
+abbrev pub IsEnd : Crossing → ℕ → ℕ → Type 0
+IsEnd crossing part port = ((crossing.from ≡ part) × (crossing.from_port ≡ port))
+    ⊎ ((crossing.to ≡ part) × (crossing.to_port ≡ port))
+
+-- one of these channels has
+pub record HasCrossing (crossings : List Crossing) (part port : ℕ) : Type 0 where
+  pub at : ℕ
+  pub crossing : Crossing
+  pub there : slice_get crossings at ≡ Some crossing
+  pub end : IsEnd crossing part port
+
 -- two parts have the ends of one ring in these ports, at which tunnels come in at the one and go out at the other
 pub record AreJoined (from to : Part) (sender taker : ℕ) : Type 0 where
   pub out : Port
@@ -160,6 +172,8 @@ pub record IsCutNetwork (network : CutNetwork) : Type 0 where
       (states_among network.runs.items)
   pub crossings : network.crossings.items ≡ crossings_of network.assigned.items (channels_of network)
   pub joined : All (IsJoined network.runs.items) network.crossings.items
+  pub ported : (part : ℕ) (run : PartRun) → slice_get network.runs.items part ≡ Some run
+      → (port : ℕ) → port < length run.part.ports.items → HasCrossing network.crossings.items part port
   pub clocks : All (ShareClock (clocks_of network.logs.items)) network.crossings.items
   pub idle : EachOf (IsIdle (turn_budget (length network.runs.items))) network.runs.items
   pub calm : IsTrue network.calm → EachOf (λ (run : PartRun). AreCalm run.part) network.runs.items

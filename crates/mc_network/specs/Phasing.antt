@@ -1,8 +1,9 @@
 -- A phase, step by step: which parts run, what is carried over, and what becomes of their logs.
 use Rattle.std.specs.Prelude.{◌≡◌, ◌≢◌, ◌⊎◌, ◌<◌, ◌≤◌, ◌/◌, ◌++◌, ℕ, Bool, false, true, IsTrue, List, [], length, map, slice_get, Option, Some, None, Result, Ok, Err}
+use mathlib.Core.List.{IsPrefix}
 use Rattle.mc_box.specs.declared.event.Turn.{Turn}
 use Rattle.mc_merge.specs.LaneLogs.{without_stamps}
-use Rattle.mc_network.specs.Networks.{IsCutNetwork, turn_budget}
+use Rattle.mc_network.specs.Networks.{IsCutNetwork, IsEnd, turn_budget}
 use Rattle.mc_network.specs.declared.network.Crossing.{Crossing}
 use Rattle.mc_network.specs.declared.network.CutNetwork.{CutNetwork}
 use Rattle.mc_part.specs.Carrying.{CanCarry, lane_at, waiting_at}
@@ -15,8 +16,8 @@ use Rattle.mc_part.specs.declared.part_run.PartRun.{PartRun}
 use Rattle.mc_part.specs.declared.port.Port.{Port}
 use Rattle.mc_part.specs.declared.stop.Ended.{Ended}
 use Rattle.mc_part.specs.declared.stop.PartStop.{PartStop}
-use Rattle.mc_part.specs.declared.stop.PartStop.TheVariants.{NoMemory, Spent, Strange, Unable, VersionEnd}
-use Rattle.mc_port.specs.Ends.{given, received}
+use Rattle.mc_part.specs.declared.stop.PartStop.TheVariants.{NoMemory, Spent, Strange, Stray, Unable, VersionEnd}
+use Rattle.mc_port.specs.Ends.{given, known, received}
 use Rattle.mc_port.specs.declared.stamped.Stamped.{Stamped}
 use Rattle.mc_merge.specs.Account.{part_lane}
 use Rattle.mc_merge.specs.Weaving.{AreWoven, clock_at, clocks_of, log_at, logs_of, numbers_of, turn_in}
@@ -49,11 +50,6 @@ pub record WakesUp (a b : PartRun) : Type 0 where
 
 -- ---- what is carried over
 
--- a channel has its end in a part by this port
-abbrev pub IsEnd : Crossing → ℕ → ℕ → Type 0
-IsEnd crossing part port = ((crossing.from ≡ part) × (crossing.from_port ≡ port))
-    ⊎ ((crossing.to ≡ part) × (crossing.to_port ≡ port))
-
 -- each channel leads from one part to another, and two have no end in common
 pub record AreApart (crossings : List Crossing) : Type 0 where
   pub others : (i : ℕ) (crossing : Crossing) → slice_get crossings i ≡ Some crossing → crossing.from ≢ crossing.to
@@ -69,7 +65,8 @@ pub record IsCarryable (runs : List PartRun) (crossing : Crossing) : Type 0 wher
   pub there : CanCarry from.part to.part crossing.from_port crossing.to_port
   pub back : CanCarry to.part from.part crossing.to_port crossing.from_port
 
--- what is left in the ring of a lane, and then what waits before it, goes to the end of the lane beyond
+-- what is left in the ring of a lane, and then what waits before it, goes to the end of the lane beyond; the taking end
+-- knew of a beginning of what was left
 pub record IsLaneCarried (from from_2 to to_2 : Part) (sender taker : ℕ) : Type 0 where
   pub out : Port
   pub into : Port
@@ -81,6 +78,7 @@ pub record IsLaneCarried (from from_2 to to_2 : Part) (sender taker : ℕ) : Typ
   pub takes_2 : slice_get to_2.ports.items taker ≡ Some into_2
   pub left : List Stamped
   pub all : received into.from ++ left ≡ given out.to
+  pub knew : IsPrefix (known into.from) left
   pub came : lane_at to_2 taker into ≡ lane_at to taker into ++ (without_stamps left ++ waiting_at from sender out)
   pub empty : waiting_at from_2 sender out ≡ []
   pub even : received into_2.from ≡ given out_2.to
@@ -185,11 +183,12 @@ HasMemory (Some (Ok ended)) = Unit {0}
 HasMemory (Some (Err (NoMemory e))) = ⊥
 HasMemory (Some (Err stop)) = Unit {0}
 
--- it didn't stop at what can't come in a sound network: a command that can't happen, or a signal that its slot must
--- not take
+-- it didn't stop at what can't come in a sound network: a command that can't happen, a signal that its slot must not
+-- take, or an item that its port shouldn't carry
 abbrev pub EndsLawfully : Option (Result Ended PartStop) → Type 0
 EndsLawfully (Some (Err (Unable who))) = ⊥
 EndsLawfully (Some (Err (Strange who local))) = ⊥
+EndsLawfully (Some (Err (Stray port))) = ⊥
 EndsLawfully ended = Unit {0}
 
 -- its run stopped at a last version

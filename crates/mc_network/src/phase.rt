@@ -189,10 +189,8 @@ fn stop_of(run: &PartRun) -> Result<Option<(u32, u8)>, AllocError>
         Some(Err(PartStop::VersionEnd(who, local))) => Ok(Some((who, local))),
         Some(Err(PartStop::Unable(_))) => unreachable!(),
         Some(Err(PartStop::Strange(_, _))) => unreachable!(),
+        Some(Err(PartStop::Stray(_))) => unreachable!(),
         Some(Err(PartStop::NoMemory(_))) => Err(AllocError),
-        // It doesn't come in a sound network either. But no contract of a ring ties what the taking end knows to what
-        // was given, while its two ends are apart.
-        Some(Err(PartStop::Stray(_))) => Err(AllocError),
     }
 }
 

@@ -1,6 +1,7 @@
 -- What is carried over, step by step.
 use Rattle.std.proofs.Common.{Bool, true, false, OnErr, Result, Ok, Err, IsTrue, ◌≡◌, ◌<◌, ℕ, suc, Option, Some, None, List, [], ◌∷◌, ◌++◌, append_assoc, drop, length, map, get_or, slice_get, refl, ap, sym, ◌∙◌, subst, arith}
 use Rattle.std.specs.Option.{is_some, option_and_then}
+use mathlib.Core.List.{IsPrefix}
 use Rattle.std.specs.Vec.{with_item}
 use Rattle.std.proofs.Math.ListN.{set}
 use Rattle.std.proofs.Math.Seq.{drop-append_seam, drop-length, map-set_same}
@@ -10,7 +11,7 @@ use Rattle.std.proofs.lemmas.Option.{get_or_from_slice_get, slice_get-get_or, sl
 use Rattle.mc_signal.specs.declared.Tagged.{Tagged}
 use Rattle.mc_merge.specs.LaneLogs.{without_stamps}
 use Rattle.mc_model.specs.Worlds.{ChannelState, WorldState, front, front_for, lane_of, place, tunnel_of}
-use Rattle.mc_port.specs.Ends.{RingName, given, in_ring, left_in, out_ring, received, without_stamp}
+use Rattle.mc_port.specs.Ends.{RingName, given, in_ring, known, left_in, out_ring, received, without_stamp}
 use Rattle.mc_port.specs.declared.ends.InPort.{InPort}
 use Rattle.mc_port.specs.declared.ends.OutPort.{OutPort}
 use Rattle.mc_port.specs.declared.stamped.Stamped.{Stamped}
@@ -18,7 +19,7 @@ use Rattle.mc_merge.specs.Account.{part_lane}
 use Rattle.mc_world.specs.Pumping.{IsOutgoing, is_slot_at, with_last, without_first}
 use Rattle.mc_world.specs.Waiting.{take_waits}
 use Rattle.mc_world.specs.declared.network.engine.Outgoing.{Outgoing}
-use Rattle.mc_part.specs.Carrying.{AllComeIn, AllGoOut, AreFor, CanCarry, Carries, CarriesAll, GoesOver, HasNoneLeft, HoldsAt, HasNoneWaiting, IsSameBut, LosesNothing, lane_at, left_between, left_count, tunnel_count, under_way, waiting_at, waiting_before, waiting_by}
+use Rattle.mc_part.specs.Carrying.{AllComeIn, AllGoOut, AreFor, CanCarry, Carries, CarriesAll, GoesOver, HasNoneLeft, HoldsAt, HasNoneWaiting, IsSameBut, Knew, LosesNothing, lane_at, left_between, left_count, tunnel_count, under_way, waiting_at, waiting_before, waiting_by}
 use Rattle.mc_part.specs.Parts.{state_of, tables_of}
 use Rattle.mc_part.specs.Ports.{entry_slot, into_lane, out_lane, rings_of, sides}
 use Rattle.mc_part.specs.declared.part.Part.{Part}
@@ -196,6 +197,14 @@ pub as_read : (from to : Part) (sender taker : ℕ) (can : CanCarry from to send
 as_read from to sender taker can read read_2 out into engine is is_2 goes =
     subst (λ (p : Port). GoesOver from to sender taker can (record from { ports = with_item from.ports sender (record read { to = out }) }) (record to { engine = engine; ports = with_item to.ports taker (record p { from = into }) })) is_2
     (subst (λ (p : Port). GoesOver from to sender taker can (record from { ports = with_item from.ports sender (record p { to = out }) }) (record to { engine = engine; ports = with_item to.ports taker (record can.into { from = into }) })) is goes)
+
+-- what the taking end knew of
+pub knew_at : (from to : Part) (sender taker : ℕ) (can : CanCarry from to sender taker) (read read_2 : Port) → read ≡ get_or from.ports.items sender read → read_2 ≡ get_or to.ports.items taker read_2
+    → IsPrefix (known read_2.from) (left_in read.to read_2.from) → IsPrefix (known can.into.from) (left_in can.out.to can.into.from)
+knew_at from to sender taker can read read_2 is is_2 knew =
+    let same : can.out ≡ read = one_there from.ports.items sender can.out read can.sends (read_there from.ports.items sender can.out read can.sends is) in
+    let same_2 : can.into ≡ read_2 = one_there to.ports.items taker can.into read_2 can.takes (read_there to.ports.items taker can.into read_2 can.takes is_2) in
+    subst (λ (p : Port). IsPrefix (known p.from) (left_in can.out.to p.from)) (sym same_2) (subst (λ (p : Port). IsPrefix (known read_2.from) (left_in p.to read_2.from)) (sym same) knew)
 
 -- ---- one item of the ring
 
@@ -480,8 +489,8 @@ pub loses_more : (from from_2 from_3 to to_2 to_3 : Part) (sender taker : ℕ) �
 loses_more from from_2 from_3 to to_2 to_3 sender taker so_far step = record { old = so_far.old; over = joined from from_2 from_3 to to_2 to_3 sender taker so_far.old so_far.over (step so_far.over.new) }
 
 -- in the end all is carried over
-pub all_over : (from from_2 to to_2 : Part) (sender taker : ℕ) → LosesNothing from from_2 to to_2 sender taker → HasNoneLeft from_2 to_2 sender taker → HasNoneWaiting from_2 to_2 sender taker → CarriesAll from from_2 to to_2 sender taker
-all_over from from_2 to to_2 sender taker loses none none_2 =
+pub all_over : (from from_2 to to_2 : Part) (sender taker : ℕ) → LosesNothing from from_2 to to_2 sender taker → Knew from to sender taker → HasNoneLeft from_2 to_2 sender taker → HasNoneWaiting from_2 to_2 sender taker → CarriesAll from from_2 to to_2 sender taker
+all_over from from_2 to to_2 sender taker loses knew none none_2 =
     let old : CanCarry from to sender taker = loses.old in
     let new : CanCarry from_2 to_2 sender taker = loses.over.new in
     let carries : Carries from from_2 to to_2 sender taker old new = loses.over.carries in
@@ -500,6 +509,7 @@ all_over from from_2 to to_2 sender taker loses none none_2 =
       over = loses.over;
       left = left;
       all = ap (λ (l : List Stamped). received old.into.from ++ l) items ∙ all;
+      knew = knew old;
       came = ap (λ (s : Bool). part_lane (state_of to_2) (into_lane taker s)) (sym (starts_same old.into new.into carries.to_same.port_is)) ∙ end;
       empty = ap (λ (s : Bool). part_lane (state_of from_2) (out_lane sender s)) (sym (starts_same old.out new.out carries.from_same.port_is)) ∙ none_2 new;
       even = none new;

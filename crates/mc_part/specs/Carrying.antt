@@ -1,11 +1,12 @@
 -- What is carried over from part to part between two phases, by a lane that crosses.
 use Rattle.std.specs.Prelude.{◌≡◌, ◌≢◌, ℕ, ◌/◌, ◌<◌, ◌≤◌, IsTrue, List, [], ◌++◌, length, map, slice_get, slice_index_or, slice_set, Option, Some, None}
 use Rattle.std.specs.List.{AllByRecursion}
+use mathlib.Core.List.{IsPrefix}
 use Rattle.mc_signal.specs.declared.Tagged.{Tagged}
 use Rattle.mc_merge.specs.LaneLogs.{without_stamps}
 use Rattle.mc_merge.specs.Lanes.{absent_channel, leads_to}
 use Rattle.mc_model.specs.Worlds.{WorldState, channel_number_limit, lane_of, number, place, slot_count}
-use Rattle.mc_port.specs.Ends.{IsPair, given, in_ring, left_in, out_ring, received}
+use Rattle.mc_port.specs.Ends.{IsPair, given, in_ring, known, left_in, out_ring, received}
 use Rattle.mc_port.specs.declared.stamped.Stamped.{Stamped}
 use Rattle.mc_merge.specs.Account.{ComesFromHere, IsPartWork, PartState, part_lane}
 use Rattle.mc_merge.specs.Logs.{Own}
@@ -111,18 +112,25 @@ pub record LosesNothing (from from_2 to to_2 : Part) (sender taker : ℕ) : Type
   pub old : CanCarry from to sender taker
   pub over : GoesOver from to sender taker old from_2 to_2
 
--- all is carried over: nothing is left in the ring, and nothing waits before it
+-- all is carried over: nothing is left in the ring, and nothing waits before it. What the taking end knew of was a
+-- beginning of what was left
 pub record CarriesAll (from from_2 to to_2 : Part) (sender taker : ℕ) : Type 0 where
   pub old : CanCarry from to sender taker
   pub over : GoesOver from to sender taker old from_2 to_2
   pub left : List Stamped
   pub all : received old.into.from ++ left ≡ given old.out.to
+  pub knew : IsPrefix (known old.into.from) left
   pub came : lane_at to_2 taker old.into ≡ lane_at to taker old.into
       ++ (without_stamps left ++ waiting_at from sender old.out)
   pub empty : waiting_at from_2 sender old.out ≡ []
   pub even : received over.new.into.from ≡ given over.new.out.to
 
 -- ---- one step of it
+
+-- what the taking end knows of is a beginning of what is left in the ring
+abbrev pub Knew : (from to : Part) (sender taker : ℕ) → Type 0
+Knew from to sender taker = (can : CanCarry from to sender taker) → IsPrefix (known can.into.from)
+    (left_in can.out.to can.into.from)
 
 -- the ring is empty, and so is what waits before it
 abbrev pub HasNoneLeft : (from to : Part) (sender taker : ℕ) → Type 0

@@ -1,11 +1,12 @@
 // What is carried over between two parts, by a lane that crosses.
 
 ghost use Rattle.std.specs.Prelude.{◌≡◌, ◌<◌, ◌^◌, ◌++◌, [], ◌∷◌, length, slice_get, IfOk, IsFalse, IsTrue, OnErr, OnOk, Some};
+ghost use mathlib.Core.List.{IsPrefix};
 ghost use Rattle.mc_port.specs.Ends.{IsPair, given, in_ring, known, left_in, out_ring, received};
 ghost use Rattle.mc_world.specs.Pumping.{is_slot_at, with_last};
 ghost use Rattle.mc_part.specs.Ports.{entry_slot, into_lane};
 ghost use Rattle.mc_part.specs.Carrying.{left_count, waiting_before};
-ghost use Rattle.mc_part.specs.Carrying.{CanCarry, CarriesAll, GoesOver, HasNoneLeft, HasNoneWaiting, LosesNothing};
+ghost use Rattle.mc_part.specs.Carrying.{CanCarry, CarriesAll, GoesOver, HasNoneLeft, HasNoneWaiting, Knew, LosesNothing};
 
 use crate::part::Part;
 use crate::port::{Port, into_lane};
@@ -37,6 +38,7 @@ fn carry_item(
     requires { CanCarry from.old to.old sender taker }
     ensures over { (can : CanCarry from.old to.old sender taker)
         → GoesOver from.old to.old sender taker can from.new to.new }
+    ensures knew { Knew from.old to.old sender taker }
     ensures none { IfOk result (λ more. IsFalse more → HasNoneLeft from.new to.new sender taker) }
     ensures fewer { IfOk result (λ more. IsTrue more
         → left_count from.new to.new sender taker < left_count from.old to.old sender taker) }
@@ -58,6 +60,7 @@ fn first_left(from: &mut OutPort, to: &mut InPort) -> Option<Stamped>
     ensures given { given from.new ≡ given from.old }
     ensures received { received to.new ≡ received to.old }
     ensures left { received to.old ++ left_in from.old to.old ≡ given from.old }
+    ensures knew { IsPrefix (known to.old) (left_in from.old to.old) }
     ensures first { result ≡ slice_get (left_in from.old to.old) 0 }
     ensures known { result ≡ slice_get (known to.new) 0 }
 {

@@ -4,7 +4,7 @@ use Rattle.mc_port.specs.Ends.{left_in, given, received, in_ring, out_ring}
 use Rattle.mc_port.specs.declared.stamped.Stamped.{Stamped}
 use Rattle.mc_part.specs.declared.port.Port.{Port}
 use Rattle.mc_part.specs.declared.part.Part.{Part}
-use Rattle.mc_part.proofs.CarriedLanes.{as_read, fewer_left, item_still, none_first, none_left_between, one_there, read_there, received_all, set_there, slot_at_read, taken_read}
+use Rattle.mc_part.proofs.CarriedLanes.{as_read, fewer_left, item_still, knew_at, none_first, none_left_between, one_there, read_there, received_all, set_there, slot_at_read, taken_read}
 use Rattle.mc_part.proofs.carrying.carry_item.Goals as goal
 
 pub returns-in_default-clause-over : goal.returns-in_default-clause-over
@@ -84,3 +84,12 @@ returns-clause-fewer c on =
     let into_2 : Port = record read_2 { from = c.take_item.new.to } in
     fewer_left from (record from { ports = with_item from.ports c.args.sender out_2 }) to (record to { engine = c.put.new.engine; ports = with_item to.ports c.args.taker into_2 }) c.args.sender c.args.taker read out_2 read_2 into_2 item there there_2 refl refl
     c.first_left.ensures.given (c.take_item.ensures.received ∙ ap (λ (l : List Stamped). l ++ item ∷ []) c.first_left.ensures.received) c.first_left.ensures.left (sym c.first_left.ensures.first ∙ c.in-Some.is)
+
+pub returns-in_default-clause-knew : goal.returns-in_default-clause-knew
+returns-in_default-clause-knew c can = knew_at c.args.from.now c.args.to.now c.args.sender c.args.taker can c.index_mut.result.now c.index_mut-port.result.now c.index_mut.ensures.value c.index_mut-port.ensures.value c.first_left.ensures.knew
+
+pub returns-in_err-put-clause-knew : goal.returns-in_err-put-clause-knew
+returns-in_err-put-clause-knew c can = knew_at c.args.from.now c.args.to.now c.args.sender c.args.taker can c.index_mut.result.now c.index_mut-port.result.now c.index_mut.ensures.value c.index_mut-port.ensures.value c.first_left.ensures.knew
+
+pub returns-clause-knew : goal.returns-clause-knew
+returns-clause-knew c can = knew_at c.args.from.now c.args.to.now c.args.sender c.args.taker can c.index_mut.result.now c.index_mut-port.result.now c.index_mut.ensures.value c.index_mut-port.ensures.value c.first_left.ensures.knew
