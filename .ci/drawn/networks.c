@@ -148,31 +148,50 @@ static void draw_goals(int box, media_state *state) {
     }
 }
 
-static void draw_rules(struct box *it, int state, const uint8_t *target_of) {
-    media_state *of = &it->states[state];
-    if (it->awaits_slots && it->count > 0 && state + 1 < it->state_count)
+static void add_rule(struct box *of, int state, int guard, int first, int second, int target) {
+    media_state *it = &of->states[state];
+    it->rules[it->count++] = (media_rule){(uint8_t)guard, (uint8_t)first, (uint8_t)second, (uint8_t)target};
+    if (guard == MEDIA_TOLD) net.awaited |= 1u << first;
+}
+
+static void draw_rules(struct box *it, int state, const int *target_of) {
+    int later = it->state_count - state - 1;
+    if (it->awaits_slots && it->count > 0 && later > 0)
         for (int i = 1 + below(2); i > 0; i--) {
-            media_rule *rule = &of->rules[of->count++];
-            rule->guard = MEDIA_SLOT_IS;
-            rule->first = (uint8_t)below(it->count);
-            rule->second = one_in(3) ? MEDIA_CLOSED : MEDIA_FLOWING;
-            rule->target = (uint8_t)(state + 1 + below(it->state_count - state - 1));
+            int slot = below(it->count), awaited = one_in(3) ? MEDIA_CLOSED : MEDIA_FLOWING;
+            add_rule(it, state, MEDIA_SLOT_IS, slot, awaited, state + 1 + below(later));
         }
     for (int word = 0; word < net.word_count; word++) {
-        uint8_t target = it->forgets ? target_of[word] : (uint8_t)below(it->state_count);
-        if (!it->forgets && one_in(2)) continue;
-        of->rules[of->count++] = (media_rule){MEDIA_TOLD, (uint8_t)word, 0, target};
-        net.awaited |= 1u << word;
+        if (it->forgets) add_rule(it, state, MEDIA_TOLD, word, 0, target_of[word]);
+        else if (one_in(2)) add_rule(it, state, MEDIA_TOLD, word, 0, below(it->state_count));
+    }
+}
+
+/* Lets in one caller after another: each word leads from the state in which all slots close to that in which the first
+ * one holds, and where that flows the next one holds, too. So an end may have to ask again after each Shift. */
+static void admit_in_turn(struct box *it) {
+    int last = it->state_count - 1 < it->count ? it->state_count - 1 : it->count;
+    it->state_count = (uint8_t)(last + 1);
+    for (int state = 0; state <= last; state++) {
+        for (int i = 0; i < it->count; i++)
+            it->states[state].goals[i].goal = i < state ? MEDIA_GOAL_HOLD : MEDIA_GOAL_CLOSE;
+        for (int word = 0; (state == 0 || state == last) && word < net.word_count; word++)
+            add_rule(it, state, MEDIA_TOLD, word, 0, state < last);
+        if (0 < state && state < last) add_rule(it, state, MEDIA_SLOT_IS, state - 1, MEDIA_FLOWING, state + 1);
     }
 }
 
 static void draw_program(int box, bool awaits_slots) {
     struct box *it = &net.boxes[box];
-    uint8_t target_of[WORD_MOST];
+    int target_of[WORD_MOST];
     it->state_count = (uint8_t)(1 + below(STATE_MOST));
     it->awaits_slots = awaits_slots;
     it->forgets = !awaits_slots && one_in(3);
-    for (int word = 0; word < WORD_MOST; word++) target_of[word] = (uint8_t)below(it->state_count);
+    if (awaits_slots && one_in(2)) {
+        admit_in_turn(it);
+        return;
+    }
+    for (int word = 0; word < WORD_MOST; word++) target_of[word] = below(it->state_count);
     for (int state = 0; state < it->state_count; state++) {
         draw_goals(box, &it->states[state]);
         draw_rules(it, state, target_of);

@@ -117,11 +117,11 @@ static bool is_shut(const struct settings *of, int slot) {
 /* Whether the slot isn't in this state at any moment of this settle: flowing, or closed. */
 static bool is_never(const struct settings *of, int slot, int state) {
     if (of->rest[slot] == state) return false;
-    if (state == MEDIA_CLOSED) {
-        struct path path = path_over(of, slot);
-        return path.is_kept && !((had[path.one] | had[path.other]) & BIT(MEDIA_GOAL_CLOSE));
-    }
-    if (had[slot] == BIT(MEDIA_GOAL_CLOSE) || is_shut(of, slot)) return true;
+    struct path path = path_over(of, slot);
+    unsigned goals = had[path.one] | had[path.other];
+    if (state == MEDIA_CLOSED) return path.is_kept && !(goals & BIT(MEDIA_GOAL_CLOSE));
+    bool nobody_opens = path.is_kept && !(goals & BIT(MEDIA_GOAL_OPEN));
+    if (had[slot] == BIT(MEDIA_GOAL_CLOSE) || is_shut(of, slot) || nobody_opens) return true;
     return of->goals[slot].goal == MEDIA_GOAL_LINK && !relinked[slot] && is_shut(of, of->goals[slot].partner);
 }
 
@@ -230,17 +230,19 @@ static bool draw_link(int box, media_event *event) {
     return true;
 }
 
+static bool draw_tell(int box, media_event *event) {
+    uint8_t word = (uint8_t)below(net.word_count);
+    *event = (media_event){MEDIA_TELL, word, 0};
+    return net.boxes[box].state_count > 0 && net.awaited >> word & 1;
+}
+
 static bool draw_command(struct command *command, bool is_first) {
     int box = command->box = below(net.box_count);
     const struct box *it = &net.boxes[box];
     if (it->count == 0) return false;
     uint8_t slot = (uint8_t)below(it->count);
-    if (it->state_count > 0 && (is_first || one_in(2))) {
-        if (is_first && !one_in(8)) return false;
-        uint8_t word = (uint8_t)below(net.word_count);
-        command->event = (media_event){MEDIA_TELL, word, 0};
-        return net.awaited >> word & 1;
-    }
+    if (it->state_count > 0 && is_first) return one_in(8) && draw_tell(box, &command->event);
+    if (it->state_count > 0 && one_in(2)) return draw_tell(box, &command->event);
     if (is_feature(box) && !one_in(6)) return draw_link(box, &command->event);
     command->event = (media_event){MEDIA_SET_GOAL, slot, draw_end_goal()};
     if (!is_feature(box) && one_in(3)) {
@@ -250,12 +252,22 @@ static bool draw_command(struct command *command, bool is_first) {
     return true;
 }
 
-/* A batch that the text alone decides. Where a path is undecided, one of its ends is told to open or to close. */
-static bool try_batch(struct settings *now, struct batch *batch, int count, bool is_first) {
-    int open_end;
+/* Many commands at first; then few, or each program is told a word. */
+static void draw_commands(struct batch *batch, bool is_first) {
+    bool tells = net.has_programs && !is_first && one_in(3);
+    int count = is_first ? 2 * slot_count() : tells ? net.box_count : below(9);
     batch->count = 0;
-    for (int i = 0; i < count; i++)
-        if (draw_command(&batch->commands[batch->count], is_first)) batch->count++;
+    for (int i = 0; i < count; i++) {
+        struct command *next = &batch->commands[batch->count];
+        next->box = i;
+        if (tells ? draw_tell(i, &next->event) : draw_command(next, is_first)) batch->count++;
+    }
+}
+
+/* Whether the text alone decides this batch, with more commands: where a path is undecided, one of its ends is told to
+ * open or to close. */
+static bool decide(struct settings *now, struct batch *batch) {
+    int open_end;
     while (!is_decided(now, batch->commands, batch->count, &open_end)) {
         if (open_end == NONE || batch->count == BATCH_MOST) return false;
         uint8_t goal = one_in(4) ? MEDIA_GOAL_CLOSE : MEDIA_GOAL_OPEN;
@@ -267,10 +279,11 @@ static bool try_batch(struct settings *now, struct batch *batch, int count, bool
 
 static void draw_batch(struct settings *now, struct batch *batch, bool is_first) {
     for (int tries = 0; tries < 40; tries++) {
-        int count = is_first ? 2 * slot_count() : below(9);
-        if (try_batch(now, batch, tries == 39 ? 0 : count, is_first)) return;
+        draw_commands(batch, is_first);
+        if (decide(now, batch)) return;
     }
-    abort(); /* a batch without commands is decided, where the first one is */
+    batch->count = 0; /* that is decided in each network that is drawn */
+    if (!decide(now, batch)) abort();
 }
 
 /* A network whose first Shifts are decided, and a script. */
