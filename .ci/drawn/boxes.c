@@ -5,7 +5,7 @@
  * the text, and FOLDER/N.media.stdout what the boxes came to, in the lines that `run` prints. They are made of what is
  * to be seen at the slots alone. ORDER is the seed of the orders, and no text depends on it. With a fifth word the
  * queues are faulty now and then. Standard output is a summary. The status is 1 where a file can't be written, or where
- * of a hundred networks or more none has something that the summary counts. */
+ * of a hundred networks or more without faults none has something that the summary counts. */
 #include <stdlib.h>
 #include <string.h>
 #include "drawn.h"
@@ -346,7 +346,7 @@ int main(int argc, char **argv) {
     for (unsigned long i = 0; i < count; i++) write_files(argv[1], first + i, order);
     for (int i = 0; i < COUNTS; i++) {
         printf("%s: %lu\n", count_names[i], counts[i]);
-        if (counts[i] == 0 && count >= 100) return 1;
+        if (counts[i] == 0 && count >= 100 && fault == FAULTLESS) return 1;
     }
     return 0;
 }
