@@ -25,10 +25,11 @@ use Rattle.mc_part.specs.declared.limit.TheConstants.{STAMP_LIMIT}
 use Rattle.mc_part.specs.declared.part.Part.{Part}
 use Rattle.mc_part.specs.declared.part_run.PartRun.{PartRun}
 use Rattle.mc_part.specs.declared.port.Port.{Port}
-use Rattle.mc_network.specs.Networks.{AreJoined, HasCrossing, IsCutNetwork, IsIdle, IsJoined, ShareClock, base_of, network_layout, states_among, turn_budget}
+use Rattle.mc_network.specs.Networks.{AreJoined, HasCrossing, IsCutNetwork, IsIdle, IsJoined, ShareClock, base_of, network_layout, network_state, states_among, turn_budget}
 use Rattle.mc_network.specs.Phasing.{HasCrossed, IsClosed}
 use Rattle.mc_network.specs.declared.network.Crossing.{Crossing}
 use Rattle.mc_network.specs.declared.network.CutNetwork.{CutNetwork}
+use Rattle.mc_network.specs.declared.network.TheConstants.{NOTHING_KNOWN}
 use Rattle.mc_network.proofs.Carryable.{comes_as, goes_as}
 use Rattle.mc_network.proofs.CarriedLanes.{same_tables}
 use Rattle.mc_network.proofs.Closed.{ClosedAt, Phased, carried_over, closed_at, closed_count, drained, goes_on, keeps_sound, opened_at}
@@ -36,6 +37,7 @@ use Rattle.mc_network.proofs.Drained.{IsLike}
 use Rattle.mc_network.proofs.Lists.{one_of, there_at}
 use Rattle.mc_network.proofs.PartsBy.{parts_by, run_there, states_are, tables_are}
 use Rattle.mc_network.proofs.Phased.{HasNone, joined_of, none_of, went_run}
+use Rattle.mc_network.proofs.Unknown.{nothing_holds}
 use Rattle.mc_network.proofs.Ways.{IsPortAfter, port_after}
 
 -- ---- ports
@@ -163,7 +165,7 @@ same_boxes n retries every budget chosen gone carried closed logs_2 before after
     ap (λ (l : List BoxState). length l) ((carried_over n retries every budget chosen gone carried closed logs_2 before after none p).boxes part) ∙ (went_run n retries every budget chosen gone none p.went part).run.spanned.work.box_count
 
 pub cut_after : (n : CutNetwork) (retries every : Bool) (budget : ℕ) (chosen gone carried : List PartRun) (runs : Vec PartRun Global) (logs : Vec PartLog Global) (calm : Bool) (before after : List Turn)
-    → Phased n retries every budget chosen gone carried runs.items logs.items before after → Finished n runs logs calm → IsCutNetwork (record n { runs = runs; logs = logs; calm = calm })
+    → Phased n retries every budget chosen gone carried runs.items logs.items before after → Finished n runs logs calm → IsCutNetwork (record n { runs = runs; logs = logs; calm = calm; known = NOTHING_KNOWN })
 cut_after n retries every budget chosen gone carried runs logs calm before after p finished =
     let cut = p.went.cut in
     let none : HasNone n = none_of n cut in
@@ -196,5 +198,6 @@ cut_after n retries every budget chosen gone carried runs logs calm before after
       idle = subst (λ (k : ℕ). EachOf (IsIdle (turn_budget k)) runs.items) (sym count)
           (idle_after n retries every budget chosen gone carried runs.items logs.items before after p (λ i x d there there_2. finished.allowed i d there_2));
       calm = finished.calm_is;
+      known = nothing_holds (network_state (record n { runs = runs; logs = logs; calm = calm; known = NOTHING_KNOWN }));
       sound = subst (λ (states : ℕ → PartState). IsSound (stands_for (base_of n) (network_layout n) states)) (sym (states_are none.none runs.items)) (keeps_sound n retries every budget chosen gone carried runs.items logs.items before after none p);
     }

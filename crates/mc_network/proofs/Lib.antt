@@ -12,6 +12,7 @@ mod Ends
 mod Finished
 pub mod FirstSlots
 pub mod Joining
+mod BetweenSettles
 pub mod LaidOut
 pub mod LaneFills
 pub mod LanesWhole
@@ -40,6 +41,7 @@ mod CommandAdded
 pub mod SoundWorlds
 pub mod Tables
 pub mod Together
+mod Unknown
 mod Ways
 pub mod WholeWorlds
 pub mod Wires

@@ -28,6 +28,10 @@ pub record HasBegunSettle (a b : PartRun) : Type 0 where
   pub shifts : (who : ℕ) → shifts_of b.part who ≡ 0
   pub within : IsWithin a.part → IsWithin b.part
 
+-- no box of a part has made a Shift
+abbrev pub HasNoShifts : PartRun → Type 0
+HasNoShifts run = (who : ℕ) → shifts_of run.part who ≡ 0
+
 -- no box of a part has made all its Shifts
 abbrev pub HasSpare : PartRun → Type 0
 HasSpare run = (who : ℕ) → shifts_of run.part who < SHIFT_LIMIT

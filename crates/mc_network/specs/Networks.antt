@@ -11,7 +11,7 @@ use Rattle.mc_merge.specs.Lanes.{absent_channel}
 use Rattle.mc_model.specs.Shapes.{is_allowed}
 use Rattle.mc_model.specs.Sound.{IsSound}
 use Rattle.mc_model.specs.Worlds.{ChannelState, WorldState, channel_number_limit}
-use Rattle.mc_network.specs.States.{NetworkState, no_shifts, no_stimuli}
+use Rattle.mc_network.specs.States.{HoldsOf, NetworkState, no_shifts, no_stimuli}
 use Rattle.mc_network.specs.declared.limit.TheConstants.{NETWORK_LIMIT}
 use Rattle.mc_network.specs.declared.network.Crossing.{Crossing}
 use Rattle.mc_network.specs.declared.network.CutNetwork.{CutNetwork}
@@ -178,3 +178,4 @@ pub record IsCutNetwork (network : CutNetwork) : Type 0 where
   pub idle : EachOf (IsIdle (turn_budget (length network.runs.items))) network.runs.items
   pub calm : IsTrue network.calm → EachOf (λ (run : PartRun). AreCalm run.part) network.runs.items
   pub sound : IsSound (world_in network)
+  pub known : HoldsOf network.known (network_state network)

@@ -4,12 +4,12 @@ ghost use Rattle.std.specs.Prelude.{◌≡◌, ◌<◌, ◌≤◌, ◌∷◌, �
 ghost use Rattle.mc_box.specs.BoxEvents.{is_command};
 ghost use Rattle.mc_box.specs.declared.limit.TheConstants.{SHIFT_LIMIT};
 ghost use Rattle.mc_model.specs.Shapes.{is_allowed};
-ghost use Rattle.mc_network.specs.Commanding.{AddsAt, HasAdded, HasBegunSettle, HasSpare, IsLeftIn, IsNoneLeft};
+ghost use Rattle.mc_network.specs.Commanding.{AddsAt, HasAdded, HasBegunSettle, HasNoShifts, HasSpare, IsLeftIn, IsNoneLeft};
 ghost use Rattle.mc_network.specs.Networks.{IsCutNetwork, network_state};
 ghost use Rattle.mc_network.specs.States.{HasCommands, NoneLeft, new_state, with_command};
 ghost use Rattle.mc_part.specs.Phases.{EachChanged, EachOf};
 
-use crate::network::CutNetwork;
+use crate::network::{CutNetwork, NOTHING_KNOWN};
 use mc_box::Turn;
 use mc_box::limit::SHIFT_LIMIT;
 use mc_part::{Part, PartRun};
@@ -21,15 +21,21 @@ pub fn begin_settle(network: &mut CutNetwork)
     ensures cut { IsCutNetwork network.new }
     ensures state { network_state network.new ≡ new_state (network_state network.old).world }
 {
-    network.calm = stays_calm(network.calm, &network.runs);
-    begin_parts(&mut network.runs);
+    let unshifted = network.known.unshifted;
+    network.calm = stays_calm(unshifted, network.calm, &network.runs);
+    begin_parts(unshifted, &mut network.runs);
+    network.known = NOTHING_KNOWN;
 }
 
 // Whether no box can make a Shift once it has all its Shifts again.
-fn stays_calm(calm: bool, runs: &[PartRun]) -> bool
+fn stays_calm(unshifted: bool, calm: bool, runs: &[PartRun]) -> bool
+    requires { IsTrue unshifted → EachOf HasNoShifts runs.now }
     ensures calm { IsTrue result → IsTrue calm }
     ensures spare { IsTrue result → EachOf HasSpare runs.now }
 {
+    if unshifted {
+        return calm;
+    }
     for run in runs {
         if !has_spare(&run.part.shifts) {
             return false;
@@ -51,19 +57,21 @@ fn has_spare(counts: &[u32]) -> bool
 }
 
 // No command is left in any part.
-fn begin_parts(runs: &mut [PartRun])
+fn begin_parts(unshifted: bool, runs: &mut [PartRun])
+    requires { IsTrue unshifted → EachOf HasNoShifts runs.old }
     ensures { EachChanged HasBegunSettle runs.old runs.new }
 {
     for place in 0..runs.len() {
-        begin_part(&mut runs[place]);
+        begin_part(unshifted, &mut runs[place]);
     }
 }
 
 // The same of one part.
-fn begin_part(run: &mut PartRun)
+fn begin_part(unshifted: bool, run: &mut PartRun)
+    requires { IsTrue unshifted → HasNoShifts run.old }
     ensures { HasBegunSettle run.old run.new }
 {
-    run.part.begin_settle();
+    run.part.begin_settle(unshifted);
 }
 
 /// Gives a box a command more, which its shape allows, after those that it has. It fails only for want of memory, and
@@ -78,6 +86,7 @@ pub fn add_command(network: &mut CutNetwork, turn: Turn) -> Result<(), AllocErro
     let part = network.assigned[turn.who as usize];
     let who = network.numbers[turn.who as usize];
     let event = turn.event;
+    network.known = NOTHING_KNOWN;
     add_at(&mut network.runs, part, Turn { who, event })
 }
 

@@ -11,9 +11,10 @@ ghost use Rattle.mc_network.specs.declared.limit.TheConstants.{NETWORK_LIMIT};
 use crate::dividing::divide;
 use crate::engines::lay_parts;
 use crate::logs::lay_logs;
-use crate::network::CutNetwork;
+use crate::network::{CutNetwork, NOTHING_KNOWN};
 use crate::wiring::{Wiring, wire};
 use mc_box::{Event, MediaBox};
+use mc_part::PartRun;
 use mc_world::World;
 use std::alloc::{AllocError, Global};
 use std::mem;
@@ -33,6 +34,7 @@ pub fn cut_network(alloc: Global, world: World, most: usize) -> Result<CutNetwor
     let Wiring { ports, crossings } = wire(alloc, &division, &frame.channels)?;
     let runs = lay_parts(alloc, &division, &frame.channels, &lanes, boxes, ports)?;
     let logs = lay_logs(alloc, &division, &crossings)?;
+    let programs = some_program(&runs);
     Ok(CutNetwork {
         frame,
         assigned: division.assigned,
@@ -41,7 +43,19 @@ pub fn cut_network(alloc: Global, world: World, most: usize) -> Result<CutNetwor
         logs,
         crossings,
         calm,
+        programs,
+        known: NOTHING_KNOWN,
     })
+}
+
+// Whether a box of some part has a program.
+fn some_program(runs: &[PartRun]) -> bool {
+    runs.iter().any(|run| has_program(run.part.engine.boxes()))
+}
+
+// Whether one of these boxes has a program.
+fn has_program(boxes: &[MediaBox]) -> bool {
+    boxes.iter().any(|home| home.has_program())
 }
 
 // Whether no box has an enabled transition.

@@ -29,8 +29,10 @@ pub struct Part {
 }
 
 impl Part {
-    /// A settle begins: there are no commands yet, and no box has made a Shift in it.
-    pub fn begin_settle(&mut self)
+    /// A settle begins: there are no commands yet, and no box has made a Shift in it. Where `unshifted` is set none has
+    /// made one in the settle before either, and the boxes aren't looked over.
+    pub fn begin_settle(&mut self, unshifted: bool)
+        requires { IsTrue unshifted → (who : ℕ) → shifts_of self.old who ≡ 0 }
         ensures left { NoneLeft self.new }
         ensures shifts { (who : ℕ) → shifts_of self.new who ≡ 0 }
         ensures within { IsWithin self.old → IsWithin self.new }
@@ -38,7 +40,7 @@ impl Part {
     {
         self.commands.clear();
         self.used = 0;
-        set_back(&mut self.shifts);
+        set_back(unshifted, &mut self.shifts);
     }
 
     /// One command more, for one of the boxes, by its number here. It fails only for want of memory.
@@ -83,11 +85,15 @@ impl Part {
     }
 }
 
-// Sets all counts back to 0.
-fn set_back(counts: &mut [u32])
+// Sets all counts back to 0, unless they are.
+fn set_back(unshifted: bool, counts: &mut [u32])
+    requires { IsTrue unshifted → (who : ℕ) → slice_index_or counts.old who 0 ≡ 0 }
     ensures count { length counts.new ≡ length counts.old }
     ensures none { (who : ℕ) → slice_index_or counts.new who 0 ≡ 0 }
 {
+    if unshifted {
+        return;
+    }
     for place in 0..counts.len() {
         counts[place] = 0;
     }

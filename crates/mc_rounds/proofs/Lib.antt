@@ -54,5 +54,6 @@ pub mod NoneOwed
 pub mod Plays
 pub mod Rested
 pub mod Retried
+mod Since
 pub mod Takes
 pub mod TurnKinds

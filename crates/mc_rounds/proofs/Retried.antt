@@ -213,6 +213,12 @@ ends_settled first c begun after went idle free unshifted world batch start has 
       shift_limit = limit_played world batch after start c has so_far.plays;
     }
 
+-- in a network that is kept
+pub ends_kept : (first c d : NetworkState) (begun after : List Turn) → d ≡ c → EndsFrom first begun after c.world Rest
+    → EndsFrom first begun after d.world Rest
+ends_kept first c d begun after same ends =
+    subst (λ (state : NetworkState). EndsFrom first begun after state.world Rest) (sym same) ends
+
 -- ---- a phase of retries after a rest
 
 -- after it retries are due if a Shift came in it

@@ -11,6 +11,7 @@ pub mod Playing
 pub mod Rounds
 pub mod Runs
 pub mod Settling
+pub mod Since
 pub mod Stops
 pub mod Teams
 pub mod Workers

@@ -70,10 +70,6 @@ pub record Rests (old new : NetworkState) (before after : List Turn) (ring : Opt
 
 -- ---- retries
 
--- no slot owes one
-abbrev pub NoneOwes : NetworkState → Type 0
-NoneOwes state = (who local : ℕ) → world_owes state.world who local ≡ false
-
 -- a phase in which each retry that was owed came once; and whether a Shift came in it. Else the others are Takes
 pub record Retries (old new : NetworkState) (before after : List Turn) (shifted : Bool) : Type 0 where
   pub played : HasPlayed old new before after

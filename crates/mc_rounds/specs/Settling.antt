@@ -1,5 +1,5 @@
 -- How a settle by phases ends.
-use Rattle.std.specs.Prelude.{◌≡◌, ◌*◌, ◌+◌, ℕ, Bool, if◌then◌else◌, is_some, List, map}
+use Rattle.std.specs.Prelude.{◌≡◌, ◌*◌, ◌+◌, ℕ, Bool, if◌then◌else◌, List, map}
 use Rattle.std.specs.List.{list_any}
 use Rattle.mc_box.specs.BoxEvents.{turn_of}
 use Rattle.mc_box.specs.LinkFree.{is_linking}
@@ -9,7 +9,6 @@ use Rattle.mc_model.specs.Settles.{IsSettled, IsStopped, MeetsLast, commands_of}
 use Rattle.mc_model.specs.Sound.{IsSound}
 use Rattle.mc_model.specs.Worlds.{WorldState}
 use Rattle.mc_network.specs.States.{NetworkState}
-use Rattle.mc_part.specs.declared.part_run.PartRun.{PartRun}
 use Rattle.mc_seq.specs.Restless.{IsRestless}
 use Rattle.mc_seq.specs.ShiftLimit.{KeepsShiftLimit}
 use Rattle.mc_seq.specs.declared.stopping.Ending.{Ending}
@@ -24,13 +23,9 @@ pub record HasBatch (world : WorldState) (batch : List Turn) (state : NetworkSta
   pub commands : (who : ℕ) → map (turn_of who) (state.stimuli who) ≡ commands_of who batch
   pub no_shifts : (who : ℕ) → state.shifts who ≡ 0
 
--- a box of some part has a program
-abbrev pub some_program : List PartRun → Bool
-some_program runs = list_any (λ run. list_any (λ one. is_some one.program) run.part.engine.boxes) runs
-
--- a command links slots
+-- a turn may link slots
 abbrev pub sets_link : List Turn → Bool
-sets_link batch = list_any (λ turn. is_linking turn.event) batch
+sets_link turns = list_any (λ turn. is_linking turn.event) turns
 
 -- the turns settle a batch, and no box makes more Shifts among them than the limit
 pub record SettlesInLimit (world : WorldState) (batch turns : List Turn) (last : WorldState) : Type 0 where

@@ -7,9 +7,11 @@ mod commands;
 mod finishing;
 mod in_parts;
 pub mod limit;
+mod owing;
 mod playing;
 mod resting;
 mod settling;
+mod shifting;
 mod team;
 mod worlds;
 

@@ -1,16 +1,17 @@
 // Phases after the commands.
 
-ghost use Rattle.std.specs.Prelude.{◌≡◌, ℕ, false, IfOk, OnOk};
-ghost use Rattle.mc_box.specs.BoxEvents.{is_enabled, is_shift};
-ghost use Rattle.mc_box.specs.declared.event.Event.TheVariants.{Retry};
+ghost use Rattle.std.specs.Prelude.{◌≡◌, false, IfOk, OnOk};
+ghost use Rattle.mc_box.specs.BoxEvents.{is_shift};
 ghost use Rattle.mc_model.specs.Paths.{has_ring};
 ghost use Rattle.mc_network.specs.Networks.{IsCutNetwork, network_state};
 ghost use Rattle.mc_network.specs.States.{NoneLeft};
-ghost use Rattle.mc_rounds.specs.Playing.{GoesOn, NoneOwes, Retries, some_shift};
+ghost use Rattle.mc_rounds.specs.Playing.{GoesOn, Retries, some_shift};
+ghost use Rattle.mc_rounds.specs.Since.{IsKnownSince};
 
-use mc_box::{Event, MediaBox, Turn};
+use crate::owing::owes_retry;
+use mc_box::{Event, Turn};
 use mc_io::Gate;
-use mc_network::{CutNetwork, box_of, run_phase};
+use mc_network::{CutNetwork, Known, run_phase};
 use std::alloc::AllocError;
 use std::thread::Threads;
 
@@ -44,21 +45,24 @@ pub fn go_on<R: Threads + Sync, G: Gate + Sync>(
     }
 }
 
-/// A phase in which each retry that is owed comes first, where one is. Whether a Shift came in it.
+/// A phase in which each retry that is owed comes first, where one is. Whether a Shift came in it. So no thread is taken
+/// for nothing.
 pub fn retry<R: Threads + Sync, G: Gate + Sync>(
     rt: &R,
     gate: &G,
     short: bool,
+    known: Known,
     network: &mut CutNetwork,
     turns: &mut Vec<Turn>,
 ) -> Result<bool, AllocError>
     requires cut { IsCutNetwork network.old }
     requires used_up { NoneLeft (network_state network.old) }
+    requires since { IsKnownSince known turns.old.items (network_state network.old) }
     ensures cut { OnOk result (IsCutNetwork network.new) }
     ensures retried { IfOk result (Retries (network_state network.old) (network_state network.new)
         turns.old.items turns.new.items) }
 {
-    if !owes_retry(network) {
+    if !owes_retry(network, known, turns) {
         return Ok(false);
     }
     let before = turns.len();
@@ -68,33 +72,8 @@ pub fn retry<R: Threads + Sync, G: Gate + Sync>(
     Ok(has_shift(&turns[before..]))
 }
 
-// Whether some slot owes a retry. So no thread is taken for nothing.
-fn owes_retry(network: &CutNetwork) -> bool
-    requires { IsCutNetwork network.now }
-    ensures { result ≡ false → NoneOwes (network_state network.now) }
-{
-    for who in 0..network.assigned.len() {
-        if box_owes(box_of(network, who as u32)) {
-            return true;
-        }
-    }
-    false
-}
-
-// Whether some slot of a box does.
-fn box_owes(home: &MediaBox) -> bool
-    ensures { result ≡ false → (local : ℕ) → is_enabled home.now (Retry local) ≡ false }
-{
-    for local in 0..home.slots().len() {
-        if home.enabled(&Event::Retry(local as u8)) {
-            return true;
-        }
-    }
-    false
-}
-
-// Whether a Shift is among these turns.
-fn has_shift(turns: &[Turn]) -> bool
+/// Whether a Shift is among these turns.
+pub fn has_shift(turns: &[Turn]) -> bool
     ensures { result ≡ some_shift turns.now }
 {
     turns.iter().any(|turn| is_shift(turn.event))

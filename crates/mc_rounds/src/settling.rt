@@ -1,7 +1,6 @@
 // A settle of a batch.
 
-ghost use Rattle.std.specs.Prelude.{◌≡◌, ◌||◌, [], is_some, IfErr, IfOk, OnOk, Some};
-ghost use Rattle.std.specs.List.{list_any};
+ghost use Rattle.std.specs.Prelude.{◌≡◌, ◌||◌, [], IfErr, IfOk, OnOk, Some};
 ghost use Rattle.mc_box.specs.LinkFree.{is_linking};
 ghost use Rattle.mc_model.specs.Settles.{IsSettled};
 ghost use Rattle.mc_model.specs.Shapes.{AreAllowed};
@@ -9,16 +8,15 @@ ghost use Rattle.mc_model.specs.Worlds.{number};
 ghost use Rattle.mc_network.specs.Networks.{IsCutNetwork, network_state};
 ghost use Rattle.mc_network.specs.States.{IsAtLast};
 ghost use Rattle.mc_seq.specs.ShiftLimit.{KeepsShiftLimit};
-ghost use Rattle.mc_rounds.specs.Settling.{EndsSettle, sets_link, some_program};
+ghost use Rattle.mc_rounds.specs.Settling.{EndsSettle, sets_link};
 ghost use Rattle.mc_rounds.specs.Stops.{Stops};
 
 use crate::answers::answer;
 use crate::commands::{begin, use_up};
 use crate::finishing::finish;
-use mc_box::{Change, Event, MediaBox, Turn};
+use mc_box::{Change, Event, Turn};
 use mc_io::Gate;
 use mc_network::{CutNetwork, slot_number};
-use mc_part::PartRun;
 use mc_seq::{Ending, SettleFault};
 use std::alloc::{AllocError, Global};
 use std::thread::Threads;
@@ -67,12 +65,12 @@ fn run_batch<R: Threads + Sync, G: Gate + Sync>(
     ensures ended { IfOk result (EndsSettle (network_state network.old).world batch.now turns.new.items
         (network_state network.new).world) }
 {
-    let programs = some_program(&network.runs);
-    let short = may_link(programs, batch);
+    let known = network.known;
+    let short = may_link(network.programs, batch);
     begin(network, batch)?;
     match use_up(rt, gate, short, network, turns)? {
         Some((who, local)) => Ok(Ending::LastVersion(number(network, who, local))),
-        None => finish(rt, alloc, gate, programs, network, turns),
+        None => finish(rt, alloc, gate, known, network, turns),
     }
 }
 
@@ -88,20 +86,6 @@ fn number(network: &CutNetwork, who: u32, local: u8) -> u32
     }
 }
 
-// Whether a box of some part has a program.
-fn some_program(runs: &[PartRun]) -> bool
-    ensures { result ≡ some_program runs.now }
-{
-    runs.iter().any(|run| has_program(run.part.engine.boxes()))
-}
-
-// Whether one of these boxes has a program.
-fn has_program(boxes: &[MediaBox]) -> bool
-    ensures { result ≡ list_any (λ one. is_some one.program) boxes.now }
-{
-    boxes.iter().any(|one| one.has_program())
-}
-
 // Whether a ring may come about while commands of a batch are left, round which no phase should go for long.
 fn may_link(programs: bool, batch: &[Turn]) -> bool
     ensures { result ≡ (programs || sets_link batch.now) }
@@ -109,11 +93,11 @@ fn may_link(programs: bool, batch: &[Turn]) -> bool
     programs || sets_link(batch)
 }
 
-// Whether a command of a batch links slots.
-fn sets_link(batch: &[Turn]) -> bool
-    ensures { result ≡ sets_link batch.now }
+/// Whether one of these turns may link slots.
+pub fn sets_link(turns: &[Turn]) -> bool
+    ensures { result ≡ sets_link turns.now }
 {
-    batch.iter().any(|turn| is_linking(turn.event))
+    turns.iter().any(|turn| is_linking(turn.event))
 }
 
 // Whether an event may link slots.

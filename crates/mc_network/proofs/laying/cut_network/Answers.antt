@@ -1,4 +1,4 @@
-use Rattle.std.proofs.Common.{◌≡◌, ◌<◌, ◌≤◌, ◌*◌, All, IsTrue, ℕ, List, false, length, get_or, ap, ap₂, sym, ◌∙◌, subst, rules}
+use Rattle.std.proofs.Common.{refl, ◌≡◌, ◌<◌, ◌≤◌, ◌*◌, All, IsTrue, ℕ, List, false, length, get_or, ap, ap₂, sym, ◌∙◌, subst, rules}
 use Rattle.std.proofs.lemmas.List.{length-map}
 use Rattle.mc_box.specs.BoxEvents.{is_enabled}
 use Rattle.mc_box.specs.Boxes.{BoxState, no_box}
@@ -16,6 +16,7 @@ use Rattle.mc_network.specs.Laying.{AreWhole}
 use Rattle.mc_network.specs.States.{new_state}
 use Rattle.mc_network.specs.declared.limit.TheConstants.{NETWORK_LIMIT}
 use Rattle.mc_network.specs.declared.network.CutNetwork.{CutNetwork}
+use Rattle.mc_network.specs.declared.network.TheConstants.{NOTHING_KNOWN}
 use Rattle.mc_part.specs.Cuts.{starts_in}
 use Rattle.mc_part.specs.declared.port.Port.{Port}
 use Rattle.mc_signal.specs.declared.Tagged.{Tagged}
@@ -65,6 +66,8 @@ returns c =
       logs = c.in_ok-logs.logs;
       crossings = c.in_ok-ports.field-0.crossings;
       calm = c.none_shifts-calm.result;
+      programs = c.some_program-programs.result;
+      known = NOTHING_KNOWN;
     } in
     let boxes : List BoxState = c.replace-boxes.result.items in
     let channels : List ChannelState = c.into_parts-frame.result.channels.items in
@@ -84,7 +87,7 @@ returns c =
     let out : IsLaidOut boxes lanes lists network =
     is_laid_out boxes lanes (signals_of c.deref-4.result.now) lists network c.in_ok-division.division.count c.deref-2.result.now c.deref-3.result.now c.deref-5.result.now sound frame few
     (are_whole boxes channels lanes c.into_parts-frame.ensures.frame.0.0 sound) count each c.in_ok-division.ensures.division c.in_ok-ports.ensures c.deref-2.ensures.value c.in_ok-runs.ensures c.deref-3.ensures.value
-    (ap signals_of c.deref-4.ensures.value) c.in_ok-logs.ensures.numbers c.in_ok-logs.ensures.none c.in_ok-logs.ensures.clocks c.deref-5.ensures.value calm in
+    (ap signals_of c.deref-4.ensures.value) c.in_ok-logs.ensures.numbers c.in_ok-logs.ensures.none c.in_ok-logs.ensures.clocks c.deref-5.ensures.value calm refl in
     record {
       cut = is_cut_network boxes lanes lists network out;
       state = state_is boxes lanes lists network out ∙ ap new_state same;

@@ -3,7 +3,15 @@ use Rattle.mc_network.specs.States.{IsAtLast, NoneLeft}
 use Rattle.mc_rounds.proofs.AtLast.{at_last, ends_at_last}
 use Rattle.mc_rounds.proofs.Plays.{plays_from}
 use Rattle.mc_rounds.proofs.Retried.{ends_for}
+use Rattle.mc_rounds.proofs.Since.{known_batch}
 use Rattle.mc_rounds.proofs.settling.run_batch.Goals as goal
+
+pub finish-requires-clause-since : goal.finish-requires-clause-since
+finish-requires-clause-since g c κs below =
+    let used = c.in_ok-who.ensures.used in
+    known_batch c.args.network.now.known (network_state c.args.network.now) (network_state c.begin.new.network) (network_state c.use_up.new.network)
+    c.args.batch.now c.args.turns.now.items c.use_up.new.turns.items c.requires.none_yet c.in_ok-who.ensures.cut.sound c.requires.cut.known
+    c.in_ok-begin.ensures.has used.played
 
 pub returns-in-Some-clause-ended : goal.returns-in-Some-clause-ended
 returns-in-Some-clause-ended g c =
