@@ -1,0 +1,2 @@
+pub mod EndsDrawing
+pub mod Taking

@@ -1,0 +1,30 @@
+use Rattle.std.proofs.Common.{◌≡◌, ◌∙◌, ap, ap₂, codes, rules, true}
+use Rattle.std.proofs.lemmas.Result.{IfOk-weaker}
+use Rattle.clap.specs.Words.{App, app_of, new_app, rule_of, with_rule}
+use Rattle.clap.specs.Simple.{app_of_fields, on_top}
+use Rattle.clap.specs.declared.builder.command.Command.{Command}
+use Rattle.clap.specs.declared.builder.command.Command.TheViews.{out-Command}
+use Rattle.mc_ladder_top.specs.Words.{ascii_rule}
+use Rattle.mc_ladder_top.proofs.words.ladder_command.Goals as goal
+
+abbrev unnamed : App → App
+unnamed = on_top (λ s. record s { no_binary_name = true })
+
+abbrev helpless : App → App
+helpless = on_top (λ s. record s { disable_help_flag = true })
+
+is_unnamed : (old new : Command) → out-Command new ≡ record (out-Command old) { no_binary_name = true } → app_of new ≡ unnamed (app_of old)
+is_unnamed old new e = ap app_of_fields e
+
+is_helpless : (old new : Command) → out-Command new ≡ record (out-Command old) { disable_help_flag = true } → app_of new ≡ helpless (app_of old)
+is_helpless old new e = ap app_of_fields e
+
+abbrev bare : App
+bare = helpless (unnamed (new_app (codes "medialadder")))
+
+pub returns : goal.returns
+returns c =
+    let ascii : rule_of c.action-ascii.result ≡ ascii_rule = search rules in
+    let begun : app_of c.disable_help_flag.result ≡ bare = is_helpless _ _ c.disable_help_flag.ensures
+    ∙ ap helpless (is_unnamed _ _ c.no_binary_name.ensures ∙ ap unnamed c.new-2.ensures.app) in
+    IfOk-weaker c.arg.result _ _ (λ r h. h.shape (search rules) ∙ ap₂ with_rule begun ascii) c.arg.ensures

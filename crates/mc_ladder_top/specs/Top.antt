@@ -1,0 +1,52 @@
+-- What the top call promises.
+use Rattle.std.specs.Prelude.{◌≡◌, ◌≢◌, ◌⊎◌, ℕ, List, IfSome, None, false}
+use Rattle.std.specs.declared.option.Option.{Option}
+use Rattle.mc_ladder.specs.Ladders.{ladder_text}
+use Rattle.mc_ladder.specs.declared.glyph.Style.{Style}
+use Rattle.mc_lines.specs.declared.tail.Tail.TheVariants.{Journal}
+use Rattle.mc_net.specs.Nets.{DeclaresBlocks}
+use Rattle.mc_net.specs.declared.net.Net.{Net}
+use Rattle.mc_program.specs.Programs.{BlockState}
+use Rattle.mc_script.specs.declared.command.JournalLine.{JournalLine}
+use Rattle.mc_top.specs.Top.{Delivers, EndsAs, Settles, ToldDeclares, ToldJournal}
+use Rattle.mc_top.specs.declared.status.TheConstants.{WORKED, FAULTY_TEXT, USAGE, NO_MEMORY, READ_FAULT, JOURNAL_FAULT}
+use Rattle.mc_top.specs.declared.top.Done.{Done}
+use Rattle.mc_words.specs.declared.words.Mode.{Mode}
+use Rattle.mc_words.specs.declared.words.Mode.TheVariants.{Check}
+
+-- the mode of `mediactl` whose answers are this program's where it draws nothing
+abbrev pub checking : Mode
+checking = Check false
+
+-- the status may be due for a text that was read
+abbrev pub IsDueForText : ℕ → Type 0
+IsDueForText due = (due ≡ WORKED) ⊎ (due ≡ FAULTY_TEXT) ⊎ (due ≡ NO_MEMORY) ⊎ (due ≡ JOURNAL_FAULT)
+
+-- the status may be due where the words are a command line of the program
+abbrev pub IsDueForDrawing : ℕ → Type 0
+IsDueForDrawing due = IsDueForText due ⊎ (due ≡ READ_FAULT)
+
+-- the status may be due: each may but that of a fault in writing
+abbrev pub IsDue : ℕ → Type 0
+IsDue due = IsDueForDrawing due ⊎ (due ≡ USAGE)
+
+-- what is told of a text declares these blocks of programs
+abbrev pub ToldBlocks : Option (List ℕ) → List BlockState → Type 0
+ToldBlocks told blocks = IfSome told (λ text. DeclaresBlocks Journal text blocks)
+
+-- the journal behind a text is good, and its ladder was delivered: that of the names, the blocks of programs and the
+-- first world that the text declares, and of the turns and settles that stand in the journal
+pub record Drew (style : Style) (told old new : Option (List ℕ)) (status : ℕ) (journal : List JournalLine)
+    : Type 0 where
+  pub net : Net
+  pub blocks : List BlockState
+  pub declared : ToldDeclares Journal told net
+  pub programs : ToldBlocks told blocks
+  pub told_journal : ToldJournal Journal told net journal
+  pub settles : Settles net None journal
+  pub delivered : Delivers status WORKED old new (ladder_text style net.names blocks net.world journal)
+
+-- a ladder was drawn, or the call ended as the check of the same text does
+pub record EndsDrawing (style : Style) (told old new : Option (List ℕ)) (done : Done) : Type 0 where
+  pub drew : done.due ≡ WORKED → Drew style told old new done.status done.journal.items
+  pub refused : done.due ≢ WORKED → EndsAs checking told old new done

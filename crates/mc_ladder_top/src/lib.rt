@@ -1,0 +1,11 @@
+//! The top call of the program that draws call ladders: it reads a text with its journal, checks both, and draws the
+//! journal.
+#![tactic(auto)]
+
+mod drawing;
+pub mod laws;
+mod top;
+mod words;
+
+pub use top::ladder_top;
+pub use words::read_style;
