@@ -117,7 +117,7 @@ sends_from box start step same make turn = record {
 -- other goals, as many, make no other make
 make_goals : (box : BoxState) (goals : List SlotGoal) → length goals ≡ length box.goals → IsSameMake (with_goals box goals) box
 make_goals box goals size =
-    record { alike = record { kind = refl; number = refl; receives = refl; sends = refl; slots = refl; program = refl }; goals = size; media = refl; origins = λ local. refl }
+    record { alike = record { kind = refl; number = refl; receives = refl; sends = refl; first_version = refl; slots = refl; program = refl }; goals = size; media = refl; origins = λ local. refl }
 
 origin_by : (box : BoxState) (local : ℕ) (media : SlotMedia) (k : ℕ) → local < length box.media → media.origin ≡ (media_at box local).origin
     → (media_at (with_media box local media) k).origin ≡ (media_at box k).origin
@@ -131,7 +131,7 @@ origin_by box local media k here same = elim (cases_eq k local) [
 -- nor do other media of the same slot
 make_media : (box : BoxState) (local : ℕ) (media : SlotMedia) → local < length box.media → media.origin ≡ (media_at box local).origin → IsSameMake (with_media box local media) box
 make_media box local media here same = record {
-  alike = record { kind = refl; number = refl; receives = refl; sends = refl; slots = refl; program = refl };
+  alike = record { kind = refl; number = refl; receives = refl; sends = refl; first_version = refl; slots = refl; program = refl };
   goals = refl;
   media = length-set box.media local media;
   origins = λ k. origin_by box local media k here same;

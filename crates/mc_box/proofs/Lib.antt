@@ -1,4 +1,5 @@
 pub mod Acting
+pub mod AddedSlots
 pub mod Changes
 pub mod EventActs
 pub mod EventGoes

@@ -44,7 +44,7 @@ closed_rests : (slot : Slot) (mine : Descriptor) (me : Sender) → slot.state �
 closed_rests slot mine me is = grind arith
 
 -- so is a slot of such a goal
-closed_goal_rests : (goal : SlotGoal) (box : BoxState) (local : ℕ) → goal ≡ End ToClose → (slot_at box local).state ≡ Closed → RestsAt goal box local
+pub closed_goal_rests : (goal : SlotGoal) (box : BoxState) (local : ℕ) → goal ≡ End ToClose → (slot_at box local).state ≡ Closed → RestsAt goal box local
 closed_goal_rests goal box local is closed =
     subst (λ (g : SlotGoal). RestsAt g box local) (sym is) (closed_rests (slot_at box local) (own box local) (sender box local) closed)
 

@@ -103,7 +103,7 @@ placed_sound box at told sound fits = record {
 -- nor is it another make
 pub make_placed : (box : BoxState) (at told : Option ℕ) → IsSameMake (placed box at told) box
 make_placed box at told =
-    record { alike = record { kind = refl; number = refl; receives = refl; sends = refl; slots = refl; program = refl }; goals = refl; media = refl; origins = λ local. refl }
+    record { alike = record { kind = refl; number = refl; receives = refl; sends = refl; first_version = refl; slots = refl; program = refl }; goals = refl; media = refl; origins = λ local. refl }
 
 -- ---- a told word
 

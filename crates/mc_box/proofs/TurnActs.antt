@@ -29,7 +29,7 @@ use Rattle.mc_box.proofs.SentBy.{sent_by-append, sent_by_own, sent_by_other, sen
 -- ---- boxes of one make
 
 pub make_same : (box : BoxState) → IsSameMake box box
-make_same box = record { alike = record { kind = refl; number = refl; receives = refl; sends = refl; slots = refl; program = refl }; goals = refl; media = refl; origins = λ local. refl }
+make_same box = record { alike = record { kind = refl; number = refl; receives = refl; sends = refl; first_version = refl; slots = refl; program = refl }; goals = refl; media = refl; origins = λ local. refl }
 
 pub make_more : (first second third : BoxState) → IsSameMake second first → IsSameMake third second → IsSameMake third first
 make_more first second third one two = record {
@@ -38,6 +38,7 @@ make_more first second third one two = record {
     number = two.alike.number ∙ one.alike.number;
     receives = two.alike.receives ∙ one.alike.receives;
     sends = two.alike.sends ∙ one.alike.sends;
+    first_version = two.alike.first_version ∙ one.alike.first_version;
     slots = two.alike.slots ∙ one.alike.slots;
     program = two.alike.program ∙ one.alike.program;
   };
@@ -49,7 +50,7 @@ make_more first second third one two = record {
 -- other slots make no other make
 pub make_slots : (box : BoxState) (slots : List Slot) → length slots ≡ length box.slots → IsSameMake (box_with box slots) box
 make_slots box slots size =
-    record { alike = record { kind = refl; number = refl; receives = refl; sends = refl; slots = size; program = refl }; goals = refl; media = refl; origins = λ local. refl }
+    record { alike = record { kind = refl; number = refl; receives = refl; sends = refl; first_version = refl; slots = size; program = refl }; goals = refl; media = refl; origins = λ local. refl }
 
 -- ---- what each slot sends
 

@@ -18,12 +18,13 @@ abbrev pub sent_by : ℕ → List (ℕ × Signal) → List Signal
 sent_by local [] = []
 sent_by local (sending ∷ rest) = if sending.0 == local then sending.1 ∷ sent_by local rest else sent_by local rest
 
--- a box of the same kind and number, with the same lists of codecs, as many slots and the same program
+-- a box of the same kind and number, with the same lists of codecs and the same first version, as many slots and the same program
 pub record IsAlike (new old : BoxState) : Type 0 where
   pub kind : new.kind ≡ old.kind
   pub number : new.number ≡ old.number
   pub receives : new.receives ≡ old.receives
   pub sends : new.sends ≡ old.sends
+  pub first_version : new.first_version ≡ old.first_version
   pub slots : length new.slots ≡ length old.slots
   pub program : new.program ≡ old.program
 

@@ -57,6 +57,7 @@ box_state parts = record {
   number = parts.number;
   receives = parts.codecs;
   sends = parts.sends;
+  first_version = parts.first_version;
   slots = parts.slots.items;
   goals = parts.goals.items;
   media = parts.media.items;

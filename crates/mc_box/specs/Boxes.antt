@@ -1,5 +1,5 @@
 -- A box as clauses see it, and what it is as new.
-use Rattle.std.specs.Prelude.{◌≡◌, ◌<◌, ◌≤◌, ◌^◌, ℕ, Bool, true, false, List, [], map, length, nat_lt, slice_index_or, slice_set, Option, Some, None, IfSome}
+use Rattle.std.specs.Prelude.{◌≡◌, ◌<◌, ◌≤◌, ◌^◌, ℕ, Bool, true, false, List, [], ◌∷◌, ◌++◌, map, length, nat_lt, slice_index_or, slice_set, Option, Some, None, IfSome}
 use Rattle.mc_rule.specs.Programs.{IsProgram, ProgStateState, no_state}
 use Rattle.mc_signal.specs.Empty.{no_codecs}
 use Rattle.mc_signal.specs.Own.{address_of, port_of, device_descriptor, device_sender, feature_descriptor, feature_sender}
@@ -21,12 +21,13 @@ use Rattle.mc_box.specs.declared.setup.Setup.{Setup}
 use Rattle.mc_box.specs.declared.setup.SlotMedia.{SlotMedia}
 use Rattle.mc_box.specs.declared.setup.SlotSetup.{SlotSetup}
 
--- a box: its kind and number, the lists that it receives and sends, for each slot the slot, its goal, and what its descriptors are made of, and its program, with the state that it is at and the told word that it keeps
+-- a box: its kind and number, the lists that it receives and sends, the version at which its descriptors begin, for each slot the slot, its goal, and what its descriptors are made of, and its program, with the state that it is at and the told word that it keeps
 pub record BoxState : Type 0 where
   pub kind : Kind
   pub number : ℕ
   pub receives : CodecList
   pub sends : CodecList
+  pub first_version : ℕ
   pub slots : List Slot
   pub goals : List SlotGoal
   pub media : List SlotMedia
@@ -135,12 +136,21 @@ first_box kind number receives sends version setups program = record {
   number = number;
   receives = receives;
   sends = sends;
+  first_version = version;
   slots = map first_slot setups;
   goals = map first_goal setups;
   media = map (first_media version) setups;
   program = program;
   at = None;
   told = None;
+}
+
+-- a box gets one slot more: it comes last, closed and with goal close, and hears and talks at the box's first version
+abbrev pub with_new_slot : BoxState → SlotSetup → BoxState
+with_new_slot box setup = record box {
+  slots = box.slots ++ first_slot setup ∷ [];
+  goals = box.goals ++ first_goal setup ∷ [];
+  media = box.media ++ first_media box.first_version setup ∷ [];
 }
 
 -- the new box of a setup

@@ -6,12 +6,12 @@ ghost use Rattle.mc_slot.specs.Moves.{slot_take};
 ghost use Rattle.mc_slot.specs.Sending.{HasPlaces};
 ghost use Rattle.mc_box.specs.BoxEvents.{box_event, is_enabled, is_take, is_version_end, may_link, step_of, AddsStep, Appends};
 ghost use Rattle.mc_box.specs.BoxSound.{IsSoundBox};
-ghost use Rattle.mc_box.specs.Boxes.{first_slot, goal_at, is_slot, box_owes, own, sender, set_up, slot_at, FitsSlots};
+ghost use Rattle.mc_box.specs.Boxes.{first_slot, goal_at, is_slot, box_owes, own, sender, set_up, slot_at, with_new_slot, FitsSlots};
 ghost use Rattle.mc_box.specs.declared.limit.TheConstants.{SLOT_LIMIT};
 
 use crate::event::{Change, Event, Kind, MediaChange};
 use crate::parts::BoxParts;
-use crate::setup::Setup;
+use crate::setup::{Setup, SlotSetup};
 use mc_goal::owes;
 use mc_lane::Lane;
 use mc_signal::{Descriptor, Sender, Signal};
@@ -53,6 +53,17 @@ impl MediaBox {
         Ok(MediaBox {
             parts: BoxParts::new(alloc, setup)?,
         })
+    }
+
+    /// The box gets one slot more, in the last place: it is closed, its goal is close, and it hears and talks, at the
+    /// box's first version. All else stays. A box with a program has its slots for good.
+    pub fn add_slot(&mut self, setup: SlotSetup) -> Result<(), AllocError>
+        requires room { length self.old.slots < SLOT_LIMIT }
+        requires unprogrammed { self.old.program ≡ None }
+        ensures added { OnOk result (self.new ≡ with_new_slot self.old setup) }
+        ensures unchanged { OnErr result (self.new ≡ self.old) }
+    {
+        self.parts.add_slot(setup)
     }
 
     /// What every box keeps, for a caller to rest on: its links are mutual, each slot keeps what its state allows, and

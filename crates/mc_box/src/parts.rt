@@ -1,10 +1,10 @@
 // The parts of a box: its links are as they should be, while its goals may still have to come to rest.
 
-ghost use Rattle.std.specs.Prelude.{◌≡◌, ◌^◌, ◌<◌, ◌≤◌, if◌then◌else◌, length, map, IfOk};
+ghost use Rattle.std.specs.Prelude.{◌≡◌, ◌^◌, ◌<◌, ◌≤◌, if◌then◌else◌, length, map, IfOk, OnErr, OnOk};
 ghost use Rattle.mc_signal.specs.Empty.{no_codecs};
 ghost use Rattle.mc_signal.specs.Own.{address_of};
 ghost use Rattle.mc_box.specs.BoxSound.{box_state, IsWired};
-ghost use Rattle.mc_box.specs.Boxes.{first_slot, first_goal, first_media, media_address, own, sender, set_up};
+ghost use Rattle.mc_box.specs.Boxes.{first_slot, first_goal, first_media, media_address, own, sender, set_up, with_new_slot};
 
 use crate::event::Kind;
 use crate::setup::{MediaAddress, Setup, SlotMedia, SlotSetup};
@@ -20,6 +20,7 @@ pub struct BoxParts {
     pub number: u32,
     pub codecs: CodecList,
     pub sends: CodecList,
+    pub first_version: u32,
     pub slots: Vec<Slot>,
     pub goals: Vec<SlotGoal>,
     pub media: Vec<SlotMedia>,
@@ -47,6 +48,7 @@ impl BoxParts {
             number,
             codecs,
             sends,
+            first_version,
             slots: first_slots(alloc, &slots)?,
             goals: first_goals(alloc, &slots)?,
             media: first_media_of(alloc, first_version, &slots)?,
@@ -54,6 +56,27 @@ impl BoxParts {
             at: None,
             told: None,
         })
+    }
+
+    /// One slot more, in the last place: it is closed, its goal is close, and it hears and talks, at the box's first
+    /// version.
+    pub fn add_slot(&mut self, setup: SlotSetup) -> Result<(), AllocError>
+        ensures added { OnOk result (box_state self.new ≡ with_new_slot (box_state self.old) setup) }
+        ensures unchanged { OnErr result (box_state self.new ≡ box_state self.old) }
+    {
+        self.slots.reserve(1)?;
+        self.goals.reserve(1)?;
+        self.media.push(SlotMedia {
+            origin: setup.origin,
+            version: self.first_version,
+            hears: true,
+            talks: true,
+            address: setup.address,
+        })?;
+        self.slots
+            .push_reserved(Slot::new(setup.medium, setup.initiator));
+        self.goals.push_reserved(SlotGoal::End(Goal::Close));
+        Ok(())
     }
 
     /// The newest descriptor of a slot.

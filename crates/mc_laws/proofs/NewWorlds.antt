@@ -31,7 +31,7 @@ first_is_served boxes channels lane =
 -- ---- a world as new
 
 -- two closed slots of one medium, on the two sides of a tunnel
-closed_tunnel : (a b : Slot) → a ≡ closed_slot a.medium a.initiator → b ≡ closed_slot b.medium b.initiator → a.medium ≡ b.medium → a.initiator ≡ not b.initiator → TunnelSound a [] b []
+pub closed_tunnel : (a b : Slot) → a ≡ closed_slot a.medium a.initiator → b ≡ closed_slot b.medium b.initiator → a.medium ≡ b.medium → a.initiator ≡ not b.initiator → TunnelSound a [] b []
 closed_tunnel a b one two medium sides = grind (arith)
 
 -- far slots stand on different sides

@@ -13,7 +13,7 @@ use Rattle.mc_laws.proofs.StepKeeps.{step_keeps_sound}
 use Rattle.mc_laws.proofs.SteppedKeeps.{shape_stays}
 
 alike_same : (new old : BoxState) → new ≡ old → IsAlike new old
-alike_same new old same = rw same (record { kind = refl; number = refl; receives = refl; sends = refl; slots = refl; program = refl })
+alike_same new old same = rw same (record { kind = refl; number = refl; receives = refl; sends = refl; first_version = refl; slots = refl; program = refl })
 
 pub same_shape : (world : WorldState) → HasShape world world
 same_shape world = record { channels = refl; boxes = refl; alike = λ who. alike_same (box_at world who) (box_at world who) refl }
@@ -27,6 +27,7 @@ alike_both last next first two one = record {
   number = two.number ∙ one.number;
   receives = two.receives ∙ one.receives;
   sends = two.sends ∙ one.sends;
+  first_version = two.first_version ∙ one.first_version;
   slots = two.slots ∙ one.slots;
   program = two.program ∙ one.program;
 }

@@ -100,7 +100,7 @@ slot_acts world who s step lanes numbered below left acts inside = elim (cases_e
 ]
 
 same_make : (new old : BoxState) → new ≡ old → IsSameMake new old
-same_make new old same = rw same (record { alike = record { kind = refl; number = refl; receives = refl; sends = refl; slots = refl; program = refl }; goals = refl; media = refl; origins = λ k. refl })
+same_make new old same = rw same (record { alike = record { kind = refl; number = refl; receives = refl; sends = refl; first_version = refl; slots = refl; program = refl }; goals = refl; media = refl; origins = λ k. refl })
 
 make_acts : (boxes : List BoxState) (who box : ℕ) (after : BoxState) → who < length boxes → IsSameMake after (get_or boxes who no_box) → IsSameMake (get_or (set boxes who after) box no_box) (get_or boxes box no_box)
 make_acts boxes who box after below make = elim (cases_eq box who) [

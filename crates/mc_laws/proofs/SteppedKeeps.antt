@@ -16,7 +16,7 @@ use Rattle.mc_laws.proofs.Numbers.{far_back}
 use Rattle.mc_laws.proofs.SentOut.{served_append}
 
 -- the world after a step has the channels of the one before
-abbrev moved_on : WorldState → List BoxState → List (List Tagged) → WorldState
+abbrev pub moved_on : WorldState → List BoxState → List (List Tagged) → WorldState
 moved_on world boxes lanes = record world { boxes = boxes; lanes = lanes }
 
 pub after_is : (old new : WorldState) (who : ℕ) → Stepped old new who → new ≡ moved_on old new.boxes new.lanes

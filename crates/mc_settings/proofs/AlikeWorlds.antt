@@ -20,7 +20,7 @@ alike_self world = record { shape = same_shape world; settings = λ who. refl; m
 
 box_back : (box other : BoxState) → IsAlike box other → IsAlike other box
 box_back box other alike =
-    record { kind = sym alike.kind; number = sym alike.number; receives = sym alike.receives; sends = sym alike.sends; slots = sym alike.slots; program = sym alike.program }
+    record { kind = sym alike.kind; number = sym alike.number; receives = sym alike.receives; sends = sym alike.sends; first_version = sym alike.first_version; slots = sym alike.slots; program = sym alike.program }
 
 pub shape_back : (world other : WorldState) → HasShape world other → HasShape other world
 shape_back world other shape = record { channels = sym shape.channels; boxes = sym shape.boxes; alike = λ who. box_back (box_at world who) (box_at other who) (shape.alike who) }

@@ -74,7 +74,7 @@ slots_stay world turns who = ap (λ (box : BoxState). box.slots) (box_is world t
 box_alike : (world : WorldState) (turns : List Turn) (who : ℕ) → IsAlike (box_at (commanded world turns) who) (box_at world who)
 box_alike world turns who =
     subst (λ (box : BoxState). IsAlike box (box_at world who)) (sym (box_is world turns who))
-    (record { kind = refl; number = refl; receives = refl; sends = refl; slots = refl; program = refl })
+    (record { kind = refl; number = refl; receives = refl; sends = refl; first_version = refl; slots = refl; program = refl })
 
 -- the shape of a world stays
 pub shape_stays : (world : WorldState) (turns : List Turn) → HasShape (commanded world turns) world
