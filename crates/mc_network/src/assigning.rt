@@ -8,6 +8,7 @@ ghost use Rattle.mc_network.specs.declared.limit.TheConstants.{NETWORK_LIMIT};
 ghost use Rattle.mc_part.specs.declared.limit.TheConstants.{STAMP_LIMIT};
 
 use crate::limit::NETWORK_LIMIT;
+use crate::splitting::split_place;
 use crate::walking::walks;
 use mc_box::limit::SLOT_LIMIT;
 use mc_model::Channel;
@@ -23,8 +24,8 @@ pub struct Assigned {
 }
 
 /// Assigns boxes to at most so many parts. Boxes that channels join go to one part, where they are no more than its
-/// share, and else, or where there are no others, to two: so two boxes make two parts where there may be two. The parts
-/// are about as large as each other. No clause tells where the boxes go.
+/// share, and else, or where there are no others, to two: so two boxes make two parts where there may be two. They are
+/// split where few channels cross, and near the middle where that is as good. No clause tells where the boxes go.
 pub fn assign(
     alloc: Global,
     channels: &[Channel],
@@ -67,7 +68,8 @@ fn spread(
         if walk.len() <= share {
             place(walk, &mut sizes, &mut parts);
         } else {
-            let (front, back) = walk.split_at(walk.len() / 2);
+            let middle = split_place(alloc, channels, boxes, walk)?;
+            let (front, back) = walk.split_at(middle.min(walk.len()));
             place(front, &mut sizes, &mut parts);
             place(back, &mut sizes, &mut parts);
         }

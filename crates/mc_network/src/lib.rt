@@ -17,6 +17,7 @@ mod looking;
 mod merging;
 mod network;
 mod phase;
+mod splitting;
 mod walking;
 mod whole;
 mod wiring;
