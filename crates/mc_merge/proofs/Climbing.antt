@@ -36,7 +36,3 @@ all_push P (y ∷ xs) x all here = (all.0, all_push P xs x all.1 here)
 pub climb_push : (stamps : List ℕ) (stamp : ℕ) → Climb stamps → AllByRecursion (λ (before : ℕ). before ≤ stamp) stamps → Climb (stamps ++ stamp ∷ [])
 climb_push [] stamp climb before = (tt, tt)
 climb_push (first ∷ stamps) stamp climb before = (all_push (λ (later : ℕ). first ≤ later) stamps stamp climb.0 before.0, climb_push stamps stamp climb.1 before.1)
-
-pub all_from : (stamps : List ℕ) (low stamp : ℕ) → low ≤ stamp → AllByRecursion (λ (later : ℕ). stamp ≤ later) stamps → AllByRecursion (λ (later : ℕ). low ≤ later) stamps
-all_from [] low stamp least all = tt
-all_from (first ∷ stamps) low stamp least all = (let above = all.0 in omega arith, all_from stamps low stamp least all.1)

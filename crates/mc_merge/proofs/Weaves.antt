@@ -397,13 +397,3 @@ all_empty now none part = elim (cases_lt part (length now)) [
   | inl below ↦ none part below
   | inr past ↦ get_or_past (logs_of now) part [] (subst (λ (n : ℕ). n ≤ part) (sym (long_logs now)) past)
 ]
-
-pub all_merged : (start now : List PartLog) (before turns : List Turn) (len capacity : ℕ) → IsUnderWay start now before turns len capacity → IsNext (clocks_of now) (logs_of now) (length now) None → AddsMerged start before turns
-all_merged start now before turns len capacity way none = record {
-  woven = way.merging.done;
-  are = record {
-    each = λ part. sym (append-nil (of_part part way.merging.done)) ∙ (ap (λ (l : List Made). of_part part way.merging.done ++ l) (sym (all_empty now none part)) ∙ way.merging.each part);
-    order = way.merging.order;
-  };
-  added = way.merging.turns_are;
-}

@@ -27,30 +27,6 @@ pub record ChosenSoFar (every : Bool) (k : ℕ) (old now : List PartRun) : Type 
   pub done : (i : ℕ) (a b : PartRun) → i < k → slice_get old i ≡ Some a → slice_get now i ≡ Some b → IsChosen every a b
   pub rest : (i : ℕ) → k ≤ i → slice_get now i ≡ slice_get old i
 
-pub none_chosen : (every : Bool) (runs : List PartRun) → ChosenSoFar every 0 runs runs
-none_chosen every runs = record { count = refl; done = λ i a b below p q. absurd (omega (arith, below)); rest = λ i past. refl }
-
-pub next_chosen : (every : Bool) (k : ℕ) (old now : List PartRun) (a b : PartRun) → slice_get now k ≡ Some a → IsChosen every a b → ChosenSoFar every k old now → ChosenSoFar every (k + 1) old (slice_set now k b)
-next_chosen every k old now a b there chosen so_far = record {
-  count = set_length now k b ∙ so_far.count;
-  done = done;
-  rest = λ i past. get_other now k i b (λ same. absurd (omega (arith, past, same))) ∙ so_far.rest i (omega (arith, past));
-}
-  where
-    done : (i : ℕ) (x y : PartRun) → i < k + 1 → slice_get old i ≡ Some x → slice_get (slice_set now k b) i ≡ Some y → IsChosen every x y
-    done i x y below p q = elim (same_or_not i k) [
-      | inl same ↦
-          subst (λ (r : PartRun). IsChosen every r y) (one_of (slice_get old i) a x (sym (so_far.rest i (omega (arith, same))) ∙ (ap (λ (n : ℕ). slice_get now n) same ∙ there)) p)
-          (subst (λ (r : PartRun). IsChosen every a r) (one_of (slice_get (slice_set now k b) i) b y (ap (λ (n : ℕ). slice_get (slice_set now k b) n) same ∙ set_here now k a b there) q) chosen)
-      | inr off ↦ so_far.done i x y (omega (arith, below, off)) p (sym (get_other now k i b off) ∙ q)
-    ]
-
-pub all_chosen : (every : Bool) (k : ℕ) (old now : List PartRun) → length old ≤ k → ChosenSoFar every k old now → AreChosen every old now
-all_chosen every k old now past so_far = record {
-  count = so_far.count;
-  each = λ i a b p q. so_far.done i a b (let below = slice_get_within old i a p in omega (arith, below, past)) p q;
-}
-
 -- and more of them wake up
 wakes : (every : Bool) (a b c : PartRun) → IsChosen every a b → WakesUp b c → IsChosen every a c
 wakes every a b c chosen woken = record {

@@ -16,11 +16,6 @@ use Rattle.mc_world.specs.Pumping.{is_slot_at, with_last}
 
 -- ---- one lane
 
--- nothing is put on an empty lane
-pub none_put : (world : WorldState) (lane : ℕ) → get_or world.lanes lane [] ≡ [] → world ≡ record world { lanes = set world.lanes lane [] }
-none_put world lane empty =
-    ap (λ (l : List (List Tagged)). record world { lanes = l }) (sym (ap (λ (x : List Tagged). set world.lanes lane x) (sym empty) ∙ set-get_or world.lanes lane []))
-
 set_twice : {A : Type 0} (xs : List A) (i : ℕ) (x y : A) → set (set xs i x) i y ≡ set xs i y
 set_twice [] i x y = refl
 set_twice (z ∷ xs) zero x y = refl

@@ -73,15 +73,6 @@ rank_all {A} test xs = ap (λ (l : List A). length (filter test l)) (take_all (l
 
 -- ---- counts of ranks
 
--- at the beginning
-pub none_ranked : (test : ℕ → ChannelState → Bool) (channels : List ChannelState) (count : ℕ) (counts : List ℕ)
-    → counts ≡ replicate count 0 → AreRanks test (λ (part : ℕ). 0) channels 0 counts
-none_ranked test channels count counts is = record {
-  each = λ part below.
-      let long : length counts ≡ count = ap (λ (l : List ℕ). length l) is ∙ length-replicate {A = ℕ} count 0 in
-      ap (λ (l : List ℕ). get_or l part 0) is ∙ get_or-replicate {A = ℕ} count part 0 0 (omega arith);
-}
-
 -- where the next channel passes no test
 pub none_more : (test : ℕ → ChannelState → Bool) (base : ℕ → ℕ) (channels : List ChannelState) (n : ℕ)
     (counts : List ℕ) → n < length channels
@@ -197,31 +188,6 @@ pub record AreNext (assigned : List ℕ) (channels : List ChannelState) (n from 
   pub from_is : from ≡ end_part assigned channels n 0
   pub to_is : to ≡ end_part assigned channels n 1
 
--- within one part
-pub inner_counted : (assigned : List ℕ) (channels : List ChannelState) (n from to : ℕ)
-    (crossed inner after : List ℕ) → AreNext assigned channels n from to → from ≡ to → from < length inner
-    → after ≡ set inner from (get_or inner from 0 + 1)
-    → AreCounted assigned channels n crossed inner → AreCounted assigned channels (n + 1) crossed after
-inner_counted assigned channels n from to crossed inner after next same there raised_is counted = record {
-  crossed_are = none_more (is_crossing assigned) no_base channels n crossed next.below
-      (λ part. (tests part).0) counted.crossed_are;
-  inner_are = ranks_to (is_inner assigned) (inner_base assigned channels) channels n inner after next.below
-      (ap length raised_is ∙ length-set inner from (get_or inner from 0 + 1))
-      (λ part below. ap (λ (l : List ℕ). get_or l part 0) raised_is
-      ∙ (raised inner from part there below
-      ∙ ap (λ (b : Bool). get_or inner part 0 + one_if b) (sym (tests part).1)))
-      counted.inner_are;
-}
-  where
-    channel : ChannelState
-    channel = get_or channels n absent_channel
-
-    tests : (part : ℕ) → (is_crossing assigned part channel ≡ false) × (is_inner assigned part channel ≡ (part == from))
-    tests part =
-        let two = inner_tests (part_of assigned channel.from) (part_of assigned channel.to) part
-        (sym next.from_is ∙ (same ∙ next.to_is)) in
-        (two.0, two.1 ∙ ap (λ (f : ℕ). part == f) (sym next.from_is))
-
 -- so it crosses for none
 pub within_counted : (assigned : List ℕ) (channels : List ChannelState) (n from to : ℕ) (crossed : List ℕ)
     → AreNext assigned channels n from to → from ≡ to
@@ -278,52 +244,6 @@ apart_counted assigned channels n from to inner next apart ranks =
 
 -- ---- places
 
--- an inner channel's number in its part
-pub inner_place : (assigned : List ℕ) (channels : List ChannelState) (n from to place : ℕ) (inner : List ℕ)
-    → AreNext assigned channels n from to → from ≡ to → from < length inner → place ≡ get_or inner from 0
-    → AreRanks (is_inner assigned) (inner_base assigned channels) channels n inner
-    → (part : ℕ) → part ≡ from → place ≡ place_in assigned channels part n
-inner_place assigned channels n from to place inner next same there read ranks part is =
-    let channel = get_or channels n absent_channel in
-    let not_crossing : is_crossing assigned part channel ≡ false =
-    (inner_tests (part_of assigned channel.from) (part_of assigned channel.to) part
-    (sym next.from_is ∙ (same ∙ next.to_is))).0 in
-    let value : place ≡ inner_base assigned channels part + rank (is_inner assigned part) n channels =
-    read ∙ (ranks.each from there
-    ∙ ap (λ (p : ℕ). inner_base assigned channels p + rank (is_inner assigned p) n channels) (sym is)) in
-    value ∙ sym (ap (λ (b : Bool). if b then rank (is_crossing assigned part) n channels
-    else inner_base assigned channels part + rank (is_inner assigned part) n channels) not_crossing)
-
--- and that of one that crosses, in either part
-pub crossing_place : (assigned : List ℕ) (channels : List ChannelState) (n from to place part : ℕ)
-    → AreNext assigned channels n from to → (from ≡ to → ⊥) → (part ≡ from) ⊎ (part ≡ to)
-    → place ≡ rank (is_crossing assigned part) n channels → place ≡ place_in assigned channels part n
-crossing_place assigned channels n from to place part next apart at value =
-    value ∙ sym (ap (λ (b : Bool). if b then rank (is_crossing assigned part) n channels
-    else inner_base assigned channels part + rank (is_inner assigned part) n channels) crossing)
-  where
-    channel : ChannelState
-    channel = get_or channels n absent_channel
-
-    count : one_if (is_crossing assigned part channel)
-        ≡ one_if (part == part_of assigned channel.from) + one_if (part == part_of assigned channel.to)
-    count = (crossing_tests (part_of assigned channel.from) (part_of assigned channel.to) part
-        (λ same. apart (next.from_is ∙ (same ∙ sym next.to_is)))).0
-
-    crossing : is_crossing assigned part channel ≡ true
-    crossing = elim at [
-      | inl one ↦
-          let here : one_if (part == part_of assigned channel.from) ≡ 1 =
-          ap one_if (eq-eqb part (part_of assigned channel.from) (one ∙ next.from_is)) ∙ one_true in
-          one_is (is_crossing assigned part channel) (one_if (part == part_of assigned channel.to))
-          (omega (arith, count, here))
-      | inr two ↦
-          let here : one_if (part == part_of assigned channel.to) ≡ 1 =
-          ap one_if (eq-eqb part (part_of assigned channel.to) (two ∙ next.to_is)) ∙ one_true in
-          one_is (is_crossing assigned part channel) (one_if (part == part_of assigned channel.from))
-          (omega (arith, count, here))
-    ]
-
 -- ---- bounds
 
 -- counts fit
@@ -344,13 +264,6 @@ other_fits test base channels n from to counts after apart is ranks there low fe
     ∙ get_or-set_other counts from to (get_or counts from 0 + 1) 0 (λ same. apart (sym same)) in
     let old : get_or counts to 0 < 2 ^ 31 = counts_fit test base channels n to counts ranks there low few in
     omega arith
-
--- what the second count reads
-pub other_read : (counts after : List ℕ) (from to : ℕ) → (from ≡ to → ⊥)
-    → after ≡ set counts from (get_or counts from 0 + 1) → get_or after to 0 ≡ get_or counts to 0
-other_read counts after from to apart is =
-    ap (λ (l : List ℕ). get_or l to 0) is
-    ∙ get_or-set_other counts from to (get_or counts from 0 + 1) 0 (λ same. apart (sym same))
 
 -- the part at an end is there
 pub end_inside : (assigned : List ℕ) (channels : List ChannelState) (count c side : ℕ)

@@ -22,39 +22,6 @@ pub record PairsSoFar (f : PartRun → PartLog → PartRun) (g : PartRun → Par
   pub rest : (i : ℕ) → k ≤ i → slice_get now i ≡ slice_get old i
   pub rest_logs : (i : ℕ) → k ≤ i → slice_get logs_2 i ≡ slice_get logs i
 
-pub no_pairs : (f : PartRun → PartLog → PartRun) (g : PartRun → PartLog → PartLog) (runs : List PartRun) (logs : List PartLog) → PairsSoFar f g 0 runs runs logs logs
-no_pairs f g runs logs = record {
-  count = refl;
-  count_logs = refl;
-  run = λ i a l below p q. absurd (omega (arith, below));
-  log = λ i a l below p q. absurd (omega (arith, below));
-  rest = λ i past. refl;
-  rest_logs = λ i past. refl;
-}
-
-pub next_pair : (f : PartRun → PartLog → PartRun) (g : PartRun → PartLog → PartLog) (k : ℕ) (old now : List PartRun) (logs logs_2 : List PartLog) (a b : PartRun) (l m : PartLog) → slice_get now k ≡ Some a → slice_get logs_2 k ≡ Some l
-    → b ≡ f a l → m ≡ g a l → PairsSoFar f g k old now logs logs_2 → PairsSoFar f g (k + 1) old (slice_set now k b) logs (slice_set logs_2 k m)
-next_pair f g k old now logs logs_2 a b l m there there_2 is is_2 so_far = record {
-  count = set_length now k b ∙ so_far.count;
-  count_logs = set_length logs_2 k m ∙ so_far.count_logs;
-  run = λ i x y below p q. elim (same_or_not i k) [
-    | inl same ↦
-        let x_is : a ≡ x = one_of (slice_get old i) a x (sym (so_far.rest i (omega (arith, same))) ∙ (ap (λ (n : ℕ). slice_get now n) same ∙ there)) p in
-        let y_is : l ≡ y = one_of (slice_get logs i) l y (sym (so_far.rest_logs i (omega (arith, same))) ∙ (ap (λ (n : ℕ). slice_get logs_2 n) same ∙ there_2)) q in
-        ap (λ (n : ℕ). slice_get (slice_set now k b) n) same ∙ (set_here now k a b there ∙ ap (λ (r : PartRun). Some r) (is ∙ ap₂ f x_is y_is))
-    | inr off ↦ get_other now k i b off ∙ so_far.run i x y (omega (arith, below, off)) p q
-  ];
-  log = λ i x y below p q. elim (same_or_not i k) [
-    | inl same ↦
-        let x_is : a ≡ x = one_of (slice_get old i) a x (sym (so_far.rest i (omega (arith, same))) ∙ (ap (λ (n : ℕ). slice_get now n) same ∙ there)) p in
-        let y_is : l ≡ y = one_of (slice_get logs i) l y (sym (so_far.rest_logs i (omega (arith, same))) ∙ (ap (λ (n : ℕ). slice_get logs_2 n) same ∙ there_2)) q in
-        ap (λ (n : ℕ). slice_get (slice_set logs_2 k m) n) same ∙ (set_here logs_2 k l m there_2 ∙ ap (λ (r : PartLog). Some r) (is_2 ∙ ap₂ g x_is y_is))
-    | inr off ↦ get_other logs_2 k i m off ∙ so_far.log i x y (omega (arith, below, off)) p q
-  ];
-  rest = λ i past. get_other now k i b (λ same. absurd (omega (arith, past, same))) ∙ so_far.rest i (omega (arith, past));
-  rest_logs = λ i past. get_other logs_2 k i m (λ same. absurd (omega (arith, past, same))) ∙ so_far.rest_logs i (omega (arith, past));
-}
-
 pub all_pairs : (f : PartRun → PartLog → PartRun) (g : PartRun → PartLog → PartLog) (k : ℕ) (old now : List PartRun) (logs logs_2 : List PartLog) → length old ≤ k → PairsSoFar f g k old now logs logs_2 → HavePairs f g old now logs logs_2
 all_pairs f g k old now logs logs_2 past so_far = record {
   count = so_far.count;
@@ -166,6 +133,3 @@ pub known_swapped : (old mid : List PartRun) (logs logs_2 : List PartLog) → le
 known_swapped old mid logs logs_2 each pairs known part =
     subst (λ (l : List (List ℕ)). IsKnown (numbers_at l part) (log_at (logs_of logs_2) part)) (sym (numbers_swapped swapped_run old mid logs logs_2 pairs each))
     (subst (λ (l : List (List Made)). IsKnown (numbers_at (numbers_of logs) part) (log_at l part)) (sym (logs_swapped swapped_run old mid logs logs_2 pairs each)) (known part))
-
-pub swapped_count : (old mid : List PartRun) (logs logs_2 logs_3 : List PartLog) → length logs ≡ length old → HavePairs swapped_run swapped_log old mid logs logs_2 → numbers_of logs_3 ≡ numbers_of logs_2 → length logs_3 ≡ length mid
-swapped_count old mid logs logs_2 logs_3 each pairs numbers = numbers_count logs_2 logs_3 numbers ∙ (pairs.count_logs ∙ (each ∙ sym pairs.count))

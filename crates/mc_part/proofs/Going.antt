@@ -36,19 +36,6 @@ ran retries every budget a part result active ready runs within few ends progres
 pub idle : (retries every : Bool) (budget : ℕ) (a : PartRun) → a.active ≡ false → IsReady retries every budget a → HasGone retries budget a a
 idle retries every budget a off ready = record { away = ready.away; within = ready.within; active = refl; idle = λ is. refl; ended = λ on. absurd (cc) }
 
--- of one part, or none
-pub one_changed : {A : Type 0} (R : A → A → Type 0) (items : List A) (old new : A) → length items ≤ 1 → slice_get items 0 ≡ Some old → R old new → EachChanged R items (set items 0 new)
-one_changed R [] old new few there changed = absurd (cc)
-one_changed R (first ∷ second ∷ items) old new few there changed = absurd (omega (arith, few))
-one_changed {A = A} R (first ∷ []) old new few there changed = record { count = refl; each = λ i a b p q. at_first i a b p q }
-  where
-    at_first : (i : ℕ) (a b : A) → slice_get (first ∷ []) i ≡ Some a → slice_get (new ∷ []) i ≡ Some b → R a b
-    at_first zero a b p q =
-        let one : a ≡ old = cc in
-        let two : b ≡ new = cc in
-        subst (λ (x : A). R x b) (sym one) (subst (λ (x : A). R old x) (sym two) changed)
-    at_first (suc i) a b p q = absurd (cc)
-
 pub none_changed : {A : Type 0} (R : A → A → Type 0) (items : List A) → items ≡ [] → EachChanged R items items
 none_changed {A = A} R items none = subst (λ (l : List A). EachChanged R l l) (sym none) (record { count = refl; each = λ i a b p q. absurd (cc) })
 

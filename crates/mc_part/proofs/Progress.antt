@@ -149,7 +149,3 @@ runs_after retries a b c result one two = runs_to retries a c result (runs_as a 
 pub runs_unasked : (retries : Bool) (a : Part) → IsWithin a → retries ≡ false → Runs a a (owed_of retries a)
 runs_unasked true a within off = absurd (cc)
 runs_unasked false a within off = runs_none a within
-
-pub runs_asked : (retries : Bool) (a b : Part) → retries ≡ true → Runs a b (owed_of true a) → Runs a b (owed_of retries a)
-runs_asked true a b on runs = runs
-runs_asked false a b on runs = absurd (cc)

@@ -85,23 +85,9 @@ retry_owes box slot other None step off goes =
     let here = and_parts (is_slot box slot) (box_owes box slot) one.0 in
     owes_by (goal_at box slot) box slot other step off here.1 one.1
 
-one_made : (entries : List Entry) (entry : Entry) (box last : BoxState) (slot other : ℕ) → entries ≡ entry ∷ [] → entry.event ≡ Retry slot → other ≢ slot → AreMade box entries last
-    → is_enabled last (Retry other) ≡ is_enabled box (Retry other)
-one_made [] entry box last slot other is event off made = absurd (cc)
-one_made (first ∷ second ∷ rest) entry box last slot other is event off made = absurd (cc)
-one_made (first ∷ []) entry box last slot other is event off made =
-    let same : first ≡ entry = cc in
-    let event_is : first.event ≡ Retry slot = ap (λ (e : Entry). e.event) same ∙ event in
-    let goes : box_event box (Retry slot) (signal_in first.taken) ≡ Some (record { sent = first.sent; after = first.after }) = ap (λ (e : Event). box_event box e (signal_in first.taken)) (sym event_is) ∙ made.0 in
-    ap (λ (x : BoxState). is_enabled x (Retry other)) (sym made.1) ∙ retry_owes box slot other (signal_in first.taken) (record { sent = first.sent; after = first.after }) off goes
-
 own_one : (test : Bool) (entry : Entry) → test ≡ true → (if test then entry ∷ [] else []) ++ [] ≡ entry ∷ []
 own_one true entry is = refl
 own_one false entry is = absurd (cc)
-
-pub others_owe : (a b : Part) (who local other : ℕ) → TurnsOnce a b who (Retry local) → other ≢ local → owes b who other ≡ owes a who other
-others_owe a b who local other once off =
-    one_made (own_log who (once.own ∷ [])) once.own.entry (box_at a.engine who) (box_at b.engine who) local other (own_one (once.own.who == who) once.own.entry (eq-eqb once.own.who who once.box)) once.event_is off (once.work.made who)
 
 -- ---- the slots of a box
 
@@ -193,21 +179,12 @@ none_below a within = runs_as a a no_retries (owed_in (below_box 0) a) (λ at sl
 pub no_slots_below : (a : Part) (who : ℕ) → IsWithin a → HasRetried (below_slot who 0) a a
 no_slots_below a who within = runs_as a a no_retries (owed_in (below_slot who 0) a) (λ at slot. none_and (at == who) (nat_lt slot 0) (world_owes a.engine at slot) (not_below slot)) (runs_none a within)
 
-pub all_retried : (a b : Part) → HasRetried (below_box (length a.engine.boxes)) a b → Runs a b (owed_of true a)
-all_retried a b runs = runs_as a b (owed_in (below_box (length a.engine.boxes)) a) (owed_of true a)
-    (λ at slot. all_boxes (nat_lt at (length a.engine.boxes)) (nat_lt at (length a.engine.boxes)) (is_slot (box_at a.engine at) slot) (box_owes (box_at a.engine at) slot) refl) runs
-
 -- ---- whatever was made
 
 pub made_some : (a b : Part) (who local : ℕ) (result : Result (Unit {0}) AllocError) → IsWithin a → who < length a.engine.boxes → owes a who local ≡ true → OnOk result (TurnsOnce a b who (Retry local))
     → OnErr result (b ≡ record a { log = b.log }) → OnErr result (b.log.items ≡ a.log.items) → RunsSome a b
 made_some a b who local (Ok done) within inside is once same log = some_of a b (owed_in (slot_only who local) a) (slot_retried a b who local within inside is once)
 made_some a b who local (Err e) within inside is once same log = some_of a b no_retries (failed a b within same log)
-
-pub made_retried : (a b : Part) (who local : ℕ) (result : Result (Unit {0}) AllocError) → IsWithin a → who < length a.engine.boxes → owes a who local ≡ true → OnOk result (TurnsOnce a b who (Retry local))
-    → OnOk result (HasRetried (slot_only who local) a b)
-made_retried a b who local (Ok done) within inside is once = slot_retried a b who local within inside is once
-made_retried a b who local (Err e) within inside is once = tt
 
 pub some_on : (a b c : Part) (retries : ℕ → ℕ → ℕ) → Runs a b retries → RunsSome b c → RunsSome a c
 some_on a b c retries one two = record { retries = λ at local. retries at local + two.retries at local; runs = runs_sum a b c retries two.retries one two.runs }

@@ -173,11 +173,3 @@ pub part_there : {A : Type 0} (things : List A) (assigned : List ℕ) (count n p
 part_there {A} things assigned count n p lists is below =
     let long : length lists ≡ count = sym (length-map lists (λ (v : Vec A Global). v.items)) ∙ (ap length is ∙ length-map-range_with_len (share_of (take n things) (take n assigned)) 0 count) in
     subst (λ (m : ℕ). p < m) (sym long) below
-
--- all was given
-pub all_shared : {A : Type 0} (things rest : List A) (assigned : List ℕ) (count n : ℕ) (lists : List (List A)) → rest ≡ drop n things → length rest ≡ 0 → length things ≡ length assigned
-    → lists ≡ shares_so_far things assigned count n → lists ≡ map (share_of things assigned) (range_with_len 0 count)
-all_shared things rest assigned count n lists left none same is =
-    let gone : length (drop n things) ≡ 0 = ap length (sym left) ∙ none in
-    let long : length things ≤ n = omega (arith, length-drop n things, gone) in
-    is ∙ ap₂ (λ (a : List _) (b : List ℕ). map (share_of a b) (range_with_len 0 count)) (take_all n things long) (take_all n assigned (omega arith))

@@ -94,8 +94,5 @@ no_end true true three is both = absurd (cc)
 no_end true false three is both = absurd (cc)
 no_end false two three is both = absurd (cc)
 
-pub ends_none : (world : WorldState) (who : ℕ) (event : Event) → is_version_end (box_at world who) event ≡ false → LacksVersion world (turn_of who event) → ⊥
-ends_none world who event newer lacks = no_end (nat_lt who (length world.boxes)) (is_version_end (box_at world who) event) (is_enabled (box_at world who) event) newer lacks.1
-
 pub read_box : (world : WorldState) (boxes : List BoxState) (who : ℕ) (box : BoxState) → boxes ≡ world.boxes → who < length world.boxes → box ≡ get_or boxes who box → box ≡ box_at world who
 read_box world boxes who box same inside is = get_or_read world.boxes who box inside (is ∙ ap (λ (l : List BoxState). get_or l who box) same) no_box

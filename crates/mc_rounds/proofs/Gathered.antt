@@ -32,11 +32,6 @@ keys_more who i log x now new first key at is pushed so_far =
     ap (λ (l : List Key). l ++ rest) (pushed ∙ ap (λ (k : Key). now ++ k ∷ []) is)
     ∙ (append_assoc now (record { stamp = x.stamp; who = who; index = i } ∷ []) rest ∙ (ap (λ (l : List Key). now ++ l) (sym (keys_step who i log x at)) ∙ so_far))
 
-pub keys_end : (who i : ℕ) (log : List Logged) (keys : List Key) → length log ≤ i → keys ++ keys_of who i (drop i (log_stamps log)) ≡ keys
-keys_end who i log keys long =
-    let none : drop i (log_stamps log) ≡ [] = drop_all i (log_stamps log) (omega (arith, length-map log (λ (logged : Logged). logged.stamp))) in
-    rw none (append-nil keys)
-
 -- ---- log by log
 
 -- what is still to come of a list of logs, one log less

@@ -128,17 +128,6 @@ take_one (y ∷ ys) (suc n) x e = let more : suc n + 1 ≡ suc (n + 1) = omega a
 pub take_whole : {X : Type 0} (xs : List X) (n : ℕ) → length xs ≤ n → take n xs ≡ xs
 take_whole xs n long = grind (arith, common_steps)
 
--- what holds anyhow
-pub on_ok_all : {X E : Type 0} (A : Type 0) (r : Result X E) → A → OnOk r A
-on_ok_all A (Ok x) h = h
-on_ok_all A (Err e) h = tt
-
--- what the first elements come to, and what the next one does
-pub mapped_more : {X Y : Type 0} (f : X → Y) (xs : List X) (i : ℕ) (d : X) (before now : List Y) (y : Y) → i < length xs → now ≡ before ++ map f (take i xs) → y ≡ f (slice_index_or xs i d)
-    → now ++ y ∷ [] ≡ before ++ map f (take (i + 1) xs)
-mapped_more f xs i d before now y inside is own =
-    rw (is, own) (append_assoc before (map f (take i xs)) (f (slice_index_or xs i d) ∷ []) ∙ ap (λ ys. before ++ ys) (sym (map_more f xs i d inside)))
-
 -- what stands in front of a list, and behind it
 pub get_before : {X : Type 0} (xs ys : List X) (i : ℕ) → i < length xs → slice_get (xs ++ ys) i ≡ slice_get xs i
 get_before [] ys i within = absurd (omega arith)

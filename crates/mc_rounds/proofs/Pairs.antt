@@ -151,14 +151,3 @@ giver_there members ends a tied at =
     let names : out_names members ends.from ≡ map out_ring a.worker.outs.items = at_some out_names_of members ends.from a [] at in
     let within : ends.from_end < length (map out_ring a.worker.outs.items) = subst (λ (l : List RingName). ends.from_end < length l) names tied.giving in
     omega (arith, within, length-map a.worker.outs.items out_ring)
-
-pub taker_there : (members : List Member) (ends : LaneEnds) (b : Member) → IsTied members ends → slice_get members ends.to ≡ Some b → ends.to_end < length b.worker.ins.items
-taker_there members ends b tied at =
-    let names : in_names members ends.to ≡ map in_ring b.worker.ins.items = at_some in_names_of members ends.to b [] at in
-    let within : ends.to_end < length (map in_ring b.worker.ins.items) = subst (λ (l : List RingName). ends.to_end < length l) names tied.taking in
-    omega (arith, within, length-map b.worker.ins.items in_ring)
-
-pub same_ring : (members : List Member) (ends : LaneEnds) (a b : Member) → IsTied members ends → slice_get members ends.from ≡ Some a → slice_get members ends.to ≡ Some b
-    → slice_get (map out_ring a.worker.outs.items) ends.from_end ≡ slice_get (map in_ring b.worker.ins.items) ends.to_end
-same_ring members ends a b tied at_a at_b =
-    ap (λ (l : List RingName). slice_get l ends.from_end) (sym (at_some out_names_of members ends.from a [] at_a)) ∙ (tied.ring ∙ ap (λ (l : List RingName). slice_get l ends.to_end) (at_some in_names_of members ends.to b [] at_b))

@@ -112,15 +112,6 @@ sent_by_test : (test : Bool) (tunnel stamp : ℕ) (signal : Signal) → sent_if 
 sent_by_test true tunnel stamp signal = refl
 sent_by_test false tunnel stamp signal = refl
 
--- a sending goes to the end of its slot
-pub sending_placed : (found : Option (ℕ × ℕ)) (place : ℕ × ℕ) (end stamp : ℕ) (signal : Signal) → found ≡ Some place
-    → if_at place.0 end (record { stamp = stamp; tunnel = place.1; signal = signal }) ≡ sent_if (tunnel_if_at end found) stamp signal
-sending_placed found place end stamp signal is = rw is (sym (sent_by_test (place.0 == end) place.1 stamp signal))
-
--- and that of a slot without a place goes nowhere
-pub sending_lost : (found : Option (ℕ × ℕ)) (end stamp : ℕ) (signal : Signal) → found ≡ None → [] ≡ sent_if (tunnel_if_at end found) stamp signal
-sending_lost found end stamp signal is = rw is refl
-
 -- one sending more
 pub sends_more : (tunnels : Tunnels) (stamp : ℕ) (sent : List (ℕ × Signal)) (i : ℕ) (sending : ℕ × Signal) → i < length sent → sending ≡ slice_index_or sent i sending
     → event_sends tunnels stamp (take (i + 1) sent) ≡ event_sends tunnels stamp (take i sent) ++ sent_if (tunnels sending.0) stamp sending.1

@@ -202,14 +202,6 @@ unlawful_front w end slot item next place apart off =
     strange_by w end item next
     (inr (λ s at. subst (λ (t : ℕ). slot_take (slot_at w.part t) item.signal ≡ None) (apart slot s (end, item.tunnel) place at) (none_of (slot_take (slot_at w.part slot) item.signal) off)))
 
--- one without a slot
-pub lost_front : (w : Worker) (end : ℕ) (item : Stamped) → next_in (in_at w end) ≡ Some item → ((slot : ℕ) → slice_get w.place slot ≢ Some (end, item.tunnel)) → IsStrangeFront w end item.tunnel
-lost_front w end item next none = strange_by w end item next (inr (λ s at. absurd (none s at)))
-
--- and one with too great a stamp
-pub late_front : (w : Worker) (end : ℕ) (item : Stamped) → next_in (in_at w end) ≡ Some item → STAMP_LIMIT < item.stamp → IsStrangeFront w end item.tunnel
-late_front w end item next late = strange_by w end item next (inl late)
-
 -- ---- retries
 
 -- events, and then more
@@ -225,28 +217,6 @@ retried_joined a b c s t u first second p q = record {
 
 pub none_retried : (a b : Worker) (s : Progress) → IsWork a b [] → AreRetried a b s s []
 none_retried a b s work = record { log = []; work = work; events_are = refl; added = none_added s; no_take = refl; no_stimulus = refl }
-
-one_retried : (a b : Worker) (s t : Progress) (slot : ℕ) → IsOneTurn a b s t (Retry slot) → AreRetried a b s t (Retry slot ∷ [])
-one_retried a b s t slot turn = record {
-  log = turn.one ∷ [];
-  work = turn.work;
-  events_are = ap (λ (e : Event). e ∷ []) turn.event_is;
-  added = turn.added;
-  no_take = rw turn.event_is refl;
-  no_stimulus = rw turn.event_is refl;
-}
-
-only_memory : (ended : Bool) (stop : Stop) → ended ≡ false → IsTrue ended ⊎ IsTrue (is_memory stop) → IsTrue (is_memory stop)
-only_memory ended stop off (inl on) = cc
-only_memory ended stop off (inr memory) = memory
-
--- a retry, or a stop for memory
-pub retry_made : (r : Option Stop) (a b : Worker) (s t : Progress) (slot : ℕ) (events : List Event) → events ≡ Retry slot ∷ []
-    → MatchOption r (IsOneTurn a b s t (Retry slot)) (λ stop. IsWork a b [] × (t ≡ s)) → IfSome r (λ stop. IsTrue (is_version_end a.part (Retry slot)) ⊎ IsTrue (is_memory stop))
-    → MatchOption r (AreRetried a b s t events) (λ stop. AreRetried a b s t [] × IsTrue (is_memory stop))
-retry_made None a b s t slot events e turn memory = rw e (one_retried a b s t slot turn)
-retry_made (Some stop) a b s t slot events e turn memory =
-    (subst (λ (u : Progress). AreRetried a b s u []) (sym turn.1) (none_retried a b s turn.0), only_memory (is_version_end a.part (Retry slot)) stop refl memory)
 
 -- ---- the whole round
 
