@@ -1,1 +1,2 @@
+mod PathLine
 mod Spaced

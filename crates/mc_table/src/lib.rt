@@ -8,6 +8,6 @@ mod whys;
 mod words;
 
 pub use line::put_line;
-pub use settle::print_settle;
+pub use settle::{print_settle, put_settle};
 pub use summary::print_summary;
 pub use whys::print_whys;

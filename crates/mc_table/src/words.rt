@@ -1,24 +1,38 @@
 // The words of printed lines.
-ghost use Rattle.std.specs.Prelude.{◌≡◌};
+ghost use Rattle.std.specs.Prelude.{◌≡◌, ◌++◌, ◌∷◌, []};
+ghost use Rattle.mc_script.specs.Meaning.{goal_word};
 ghost use Rattle.mc_table.specs.Words.{codec_word, flow_word, medium_word, IsNamedCodec};
 
 use mc_signal::Medium;
+use mc_slot::Goal;
 use mc_text::Names;
 
-/// The word for a path that flows, or doesn't.
-pub fn flow_word(flowing: bool) -> &'static [u8]
-    ensures { result.now ≡ flow_word flowing }
+/// The goals of a path's two ends, with a space before each and one behind both.
+pub fn goals_words(low: Goal, high: Goal) -> &'static [u8]
+    ensures { result.now ≡ 32 ∷ goal_word low ++ 32 ∷ goal_word high ++ 32 ∷ [] }
 {
-    if flowing { b"flowing" } else { b"closed" }
+    match (low, high) {
+        (Goal::Open, Goal::Open) => b" open open ",
+        (Goal::Open, Goal::Close) => b" open close ",
+        (Goal::Open, Goal::Hold) => b" open hold ",
+        (Goal::Close, Goal::Open) => b" close open ",
+        (Goal::Close, Goal::Close) => b" close close ",
+        (Goal::Close, Goal::Hold) => b" close hold ",
+        (Goal::Hold, Goal::Open) => b" hold open ",
+        (Goal::Hold, Goal::Close) => b" hold close ",
+        (Goal::Hold, Goal::Hold) => b" hold hold ",
+    }
 }
 
-/// The word of a medium.
-pub fn medium_word(medium: Medium) -> &'static [u8]
-    ensures { result.now ≡ medium_word medium }
+/// Whether a path flows, its medium, and the line end behind them.
+pub fn state_words(flowing: bool, medium: Medium) -> &'static [u8]
+    ensures { result.now ≡ flow_word flowing ++ 32 ∷ medium_word medium ++ 10 ∷ [] }
 {
-    match medium {
-        Medium::Audio => b"audio",
-        Medium::Video => b"video",
+    match (flowing, medium) {
+        (true, Medium::Audio) => b"flowing audio\n",
+        (true, Medium::Video) => b"flowing video\n",
+        (false, Medium::Audio) => b"closed audio\n",
+        (false, Medium::Video) => b"closed video\n",
     }
 }
 

@@ -17,7 +17,7 @@ ghost use Rattle.mc_top.specs.Shown.{printed_text, shown_text};
 use crate::viewer::PathViewer;
 use mc_replay::{ReplayFault, check_lines, tell_lines};
 use mc_script::{Batch, JournalText};
-use mc_table::{print_settle, print_whys};
+use mc_table::{print_settle, print_whys, put_settle};
 use mc_text::Names;
 use mc_view::PathView;
 use mc_world::World;
@@ -149,8 +149,7 @@ fn print_settles(
     let mut output = Vec::new(alloc);
     for index in 0..shown.len() {
         let number = (index + 1) as u32;
-        let text = print_settle(alloc, names, number, &shown[index])?;
-        output.extend_from_slice(&text)?;
+        put_settle(alloc, names, number, &shown[index], &mut output)?;
     }
     Ok(output)
 }

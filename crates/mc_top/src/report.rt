@@ -1,13 +1,14 @@
 //! What a run reports at its settles.
-ghost use Rattle.std.specs.Prelude.{◌≡◌, ◌++◌, ◌<◌, All, IfOk, length};
+ghost use Rattle.std.specs.Prelude.{◌≡◌, ◌++◌, ◌<◌, All, IfOk, OnOk, length};
 ghost use Rattle.mc_conf.specs.Printed.{AreNamedEnds, print_conf};
 ghost use Rattle.mc_table.specs.Shown.{IsNamedView, print_settle};
+ghost use Rattle.mc_table.specs.Summaries.{print_summary};
 ghost use Rattle.mc_top.specs.Printed.{opening_text};
 ghost use Rattle.mc_top.specs.Shown.{HasNamedBox, print_report};
 ghost use Rattle.mc_top.specs.Summaries.{heading_text};
 
 use mc_conf::print_conf;
-use mc_table::{print_settle, print_summary, put_line};
+use mc_table::{print_summary, put_line, put_settle};
 use mc_text::Names;
 use mc_view::PathView;
 use mc_world::World;
@@ -24,44 +25,58 @@ pub enum Report {
     Conference { who: u32 },
 }
 
-/// What is reported at a settle, by its number and the paths that are shown.
-pub fn print_report(
+/// Appends what is reported at a settle, by its number and the paths that are shown.
+pub fn put_report(
     alloc: Global,
     report: Report,
     names: &Names,
     number: u32,
     views: &[PathView],
-) -> Result<Vec<u8>, AllocError>
+    out: &mut Vec<u8>,
+) -> Result<(), AllocError>
     requires views { All (IsNamedView names.now) views.now }
     requires ends { All (AreNamedEnds names.now) views.now }
     requires who { HasNamedBox names.now report }
-    ensures { IfOk result (λ text. text.items ≡ print_report report names.now number views.now) }
+    ensures { OnOk result (out.new.items ≡ out.old.items ++ print_report report names.now number views.now) }
 {
     match report {
-        Report::Paths => print_settle(alloc, names, number, views),
-        Report::Summary { .. } => print_summary(alloc, number, views),
-        Report::Conference { who } => print_conference(alloc, names, who, number, views),
+        Report::Paths => put_settle(alloc, names, number, views, out),
+        Report::Summary { .. } => put_summary(alloc, number, views, out),
+        Report::Conference { who } => put_conference(alloc, names, who, number, views, out),
     }
 }
 
-// The paths of a settle, and then the conference at a box.
-fn print_conference(
+// Appends the line that sums a settle up.
+fn put_summary(
+    alloc: Global,
+    number: u32,
+    views: &[PathView],
+    out: &mut Vec<u8>,
+) -> Result<(), AllocError>
+    ensures { OnOk result (out.new.items ≡ out.old.items ++ print_summary number views.now) }
+{
+    let line = print_summary(alloc, number, views)?;
+    out.extend_from_slice(&line)
+}
+
+// Appends the paths of a settle, and then the conference at a box.
+fn put_conference(
     alloc: Global,
     names: &Names,
     who: u32,
     number: u32,
     views: &[PathView],
-) -> Result<Vec<u8>, AllocError>
+    out: &mut Vec<u8>,
+) -> Result<(), AllocError>
     requires views { All (IsNamedView names.now) views.now }
     requires ends { All (AreNamedEnds names.now) views.now }
     requires who { who < length names.now.boxes }
-    ensures { IfOk result (λ text. text.items
-        ≡ print_settle names.now number views.now ++ print_conf names.now who views.now) }
+    ensures { OnOk result (out.new.items
+        ≡ out.old.items ++ print_settle names.now number views.now ++ print_conf names.now who views.now) }
 {
-    let mut text = print_settle(alloc, names, number, views)?;
+    put_settle(alloc, names, number, views, out)?;
     let conference = print_conf(alloc, names, who, views)?;
-    text.extend_from_slice(&conference)?;
-    Ok(text)
+    out.extend_from_slice(&conference)
 }
 
 /// What stands in front of the first settle of a world.

@@ -21,7 +21,7 @@ ghost use Rattle.mc_top.specs.Shown.{HasNamedBox, print_report};
 ghost use Rattle.mc_top.specs.declared.stop.Stop.TheVariants.{Restless};
 
 use crate::print::{print_restless, print_stop, put_journal};
-use crate::report::{Report, print_opening, print_report};
+use crate::report::{Report, print_opening, put_report};
 use crate::script_network::ScriptNetwork;
 use crate::stop::Stop;
 use mc_box::Turn;
@@ -139,8 +139,7 @@ fn print_settle(
 {
     network.keeps();
     let views = network.views(alloc)?;
-    let text = print_report(alloc, report, names, number, &views)?;
-    output.extend_from_slice(&text)
+    put_report(alloc, report, names, number, &views, output)
 }
 
 // A script whose settle had a fault: the turns up to there are kept, and one line is printed.

@@ -2,11 +2,11 @@ use Rattle.mc_top.proofs.Viewing.{parties_named, views_named}
 use Rattle.mc_top.specs.Scripts.{network_world}
 use Rattle.mc_top.proofs.run.print_settle.Goals as goal
 
-pub print_report-requires-clause-views : goal.print_report-requires-clause-views
-print_report-requires-clause-views c =
+pub put_report-requires-clause-views : goal.put_report-requires-clause-views
+put_report-requires-clause-views c =
     rw (c.deref.ensures.value, c.in_ok-views.ensures.views)
     (views_named c.args.names.now (network_world c.args.network.now) c.requires.named c.keeps.ensures.sound (c.in_ok-views.ensures.quiet c.requires.quiet))
 
-pub print_report-requires-clause-ends : goal.print_report-requires-clause-ends
-print_report-requires-clause-ends c =
+pub put_report-requires-clause-ends : goal.put_report-requires-clause-ends
+put_report-requires-clause-ends c =
     rw (c.deref.ensures.value, c.in_ok-views.ensures.views) (parties_named c.args.names.now (network_world c.args.network.now) c.requires.named c.keeps.ensures.sound)
