@@ -1,0 +1,11 @@
+pub mod ClosedTunnels
+pub mod IdleSlots
+pub mod Joined
+pub mod JoinedPartners
+pub mod JoinedSound
+pub mod Lists
+pub mod OutStays
+pub mod Outs
+pub mod WideBoxes
+pub mod WideWorlds
+pub mod WideSteps

@@ -1,0 +1,4 @@
+pub mod GrowthLaws
+pub mod Growths
+pub mod Joins
+pub mod Outs
