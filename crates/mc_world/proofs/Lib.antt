@@ -20,3 +20,4 @@ mod FirstHomes
 mod Cutting
 mod Filling
 mod CutLanes
+mod JoinedTables

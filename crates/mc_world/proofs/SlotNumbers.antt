@@ -54,26 +54,30 @@ none_beyond world who local numbered beyond = none_by (number world who local) (
     let inside : (place world s).1 < length (box_at world who).slots = subst (λ (n : ℕ). (place world s).1 < length (box_at world n).slots) at.1 (numbered.slots s at.0) in
     omega (arith, at.2, inside, beyond))
 
--- so numbers are found among the origins
+-- so numbers are found among the origins of a box
+pub origins_found : (world : WorldState) (who local : ℕ) → IsNumbered world → slice_get (origins (box_at world who)) local ≡ number world who local
+origins_found world who local numbered = elim (cases_lt who (length world.boxes)) [
+  | inl here ↦ elim (cases_lt local (length (box_at world who).slots)) [
+    | inl inside ↦
+        let within : local < length (origins (box_at world who)) =
+        omega (arith, inside, (numbered.whole who here).media, length-map (box_at world who).media (λ (media : SlotMedia). media.origin)) in
+        slice_get-get_or (origins (box_at world who)) local 0 within
+        ∙ (ap Some (get_or-map (λ (media : SlotMedia). media.origin) (box_at world who).media local no_media) ∙ sym (by_origin world who local numbered here inside))
+    | inr beyond ↦
+        slice_get_past (origins (box_at world who)) local
+        (omega (arith, beyond, (numbered.whole who here).media, length-map (box_at world who).media (λ (media : SlotMedia). media.origin)))
+        ∙ sym (none_beyond world who local numbered beyond)
+  ]
+  | inr outside ↦
+      ap (λ (box : BoxState). slice_get (origins box) local) (get_or-eq_default world.boxes no_box outside) ∙ sym (none_outside world who local numbered outside)
+]
+
+-- and of the boxes of a table
 pub found_by : (world : WorldState) (topology : Topology) (who local : ℕ) → IsNumbered world → map (λ numbers. numbers.items) topology.numbers.items ≡ map origins world.boxes
     → slice_get (numbers_of topology who) local ≡ number world who local
 found_by world topology who local numbered are =
     let home : numbers_of topology who ≡ origins (box_at world who) = ap (λ (l : List (List ℕ)). get_or l who []) are ∙ get_or-map origins world.boxes who no_box in
-    ap (λ (l : List ℕ). slice_get l local) home ∙ (elim (cases_lt who (length world.boxes)) [
-      | inl here ↦ elim (cases_lt local (length (box_at world who).slots)) [
-        | inl inside ↦
-            let within : local < length (origins (box_at world who)) =
-            omega (arith, inside, (numbered.whole who here).media, length-map (box_at world who).media (λ (media : SlotMedia). media.origin)) in
-            slice_get-get_or (origins (box_at world who)) local 0 within
-            ∙ (ap Some (get_or-map (λ (media : SlotMedia). media.origin) (box_at world who).media local no_media) ∙ sym (by_origin world who local numbered here inside))
-        | inr beyond ↦
-            slice_get_past (origins (box_at world who)) local
-            (omega (arith, beyond, (numbered.whole who here).media, length-map (box_at world who).media (λ (media : SlotMedia). media.origin)))
-            ∙ sym (none_beyond world who local numbered beyond)
-      ]
-      | inr outside ↦
-          ap (λ (box : BoxState). slice_get (origins box) local) (get_or-eq_default world.boxes no_box outside) ∙ sym (none_outside world who local numbered outside)
-    ])
+    ap (λ (l : List ℕ). slice_get l local) home ∙ origins_found world who local numbered
 
 -- ---- lanes away from a box
 

@@ -1,6 +1,7 @@
 -- Lanes as they change, by the tables of a world.
-use Rattle.std.specs.Prelude.{ℕ, Bool, if◌then◌else◌, ◌≡◌, ◌+◌, ◌*◌, ◌/◌, ◌%◌, ◌^◌, ◌<◌, ◌≤◌, List, [], ◌∷◌, ◌++◌, All, drop, fold, length, map, position, slice_index_or, slice_set, HoldsAt, Some, unwrap_or}
+use Rattle.std.specs.Prelude.{ℕ, Bool, if◌then◌else◌, ◌≡◌, ◌+◌, ◌*◌, ◌/◌, ◌%◌, ◌^◌, ◌<◌, ◌≤◌, List, [], ◌∷◌, ◌++◌, All, drop, fold, length, map, position, slice_index_or, slice_set, HoldsAt, Some, unwrap_or, Vec}
 use Rattle.std.specs.List.{slice_get}
+use Rattle.std.specs.declared.alloc.Global.{Global}
 use Rattle.std.specs.Option.{option_map}
 use Rattle.mc_lane.specs.Queue.{Queue}
 use Rattle.mc_signal.specs.declared.Signal.{Signal}
@@ -31,6 +32,14 @@ origins box = map (λ media. media.origin) box.media
 -- and as the tables have them, in the order of their local numbers
 abbrev pub numbers_of : Topology → ℕ → List ℕ
 numbers_of topology who = slice_index_or (map (λ numbers. numbers.items) topology.numbers.items) who []
+
+-- the numbers of the slots of all boxes
+abbrev pub number_lists : List (Vec ℕ Global) → List (List ℕ)
+number_lists lists = map (λ numbers. numbers.items) lists
+
+-- a box has one number more, in the last place
+abbrev pub with_number : List (List ℕ) → (who number : ℕ) → List (List ℕ)
+with_number lists who number = slice_set lists who (slice_index_or lists who [] ++ number ∷ [])
 
 -- the lane that leads to a slot, and the number of the slot's tunnel within its channel
 abbrev pub lane_by : Topology → ℕ → ℕ

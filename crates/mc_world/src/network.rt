@@ -14,6 +14,7 @@ ghost use Rattle.mc_model.specs.Worlds.{AreChannels, first_world, slot_count, bo
 
 mod cut;
 mod engine;
+mod joining;
 mod parts;
 mod rings;
 mod step;

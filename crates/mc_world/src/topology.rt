@@ -1,8 +1,8 @@
 // Where slots stand, and how signals go from them.
 
-ghost use Rattle.std.specs.Prelude.{◌≡◌, ◌<◌, ◌/◌, IfOk, length, map};
+ghost use Rattle.std.specs.Prelude.{◌≡◌, ◌<◌, ◌/◌, ◌+◌, ◌≤◌, ◌^◌, ◌++◌, ◌∷◌, [], IfOk, OnOk, length, map};
 ghost use Rattle.std.specs.List.{slice_get};
-ghost use Rattle.mc_world.specs.Lanes.{lane_by, numbers_of, origins, tunnel_by};
+ghost use Rattle.mc_world.specs.Lanes.{lane_by, number_lists, numbers_of, origins, tunnel_by, with_number};
 ghost use Rattle.mc_model.specs.Worlds.{far, front_for};
 
 use mc_box::MediaBox;
@@ -37,6 +37,27 @@ impl Topology {
         self.numbers(who).get(local as usize).copied()
     }
 
+    /// A channel of one tunnel comes last: its two slots have the next two numbers, and come last among those of their
+    /// boxes. What was there stays where it is.
+    pub fn join(&mut self, channel: u32, from: (u32, u8), to: (u32, u8)) -> Result<(), AllocError>
+        requires near { from.0 < length self.old.numbers.items }
+        requires away { to.0 < length self.old.numbers.items }
+        requires fit { length self.old.places.items + 2 ≤ 2 ^ 32 }
+        ensures places { OnOk result (self.new.places.items ≡ self.old.places.items ++ from ∷ to ∷ []) }
+        ensures tunnels { OnOk result (self.new.tunnels.items ≡ self.old.tunnels.items ++ (channel, 0) ∷ []) }
+        ensures numbers { OnOk result (number_lists self.new.numbers.items
+            ≡ with_number (with_number (number_lists self.old.numbers.items) from.0 (length self.old.places.items)) to.0
+            (length self.old.places.items + 1)) }
+        ensures homes { OnOk result (length self.new.numbers.items ≡ length self.old.numbers.items) }
+    {
+        let slot = self.places.len() as u32;
+        self.places.push(from)?;
+        self.places.push(to)?;
+        self.tunnels.push((channel, 0))?;
+        add_number(&mut self.numbers, from.0, slot)?;
+        add_number(&mut self.numbers, to.0, slot + 1)
+    }
+
     /// The lane that leads to a slot, and the number of the slot's tunnel within its channel.
     pub fn toward(&self, slot: u32) -> (usize, u8)
         requires { slot / 2 < length self.now.tunnels.items }
@@ -67,6 +88,18 @@ pub fn front_for(lane: &Lane<Tagged>, tunnel: u8) -> Option<Signal>
         Some(first) if first.tunnel == tunnel => Some(first.signal),
         _ => None,
     }
+}
+
+// A slot has its number last among those of its box.
+fn add_number(numbers: &mut Vec<Vec<u32>>, who: u32, slot: u32) -> Result<(), AllocError>
+    requires { who < length numbers.old.items }
+    ensures numbers { OnOk result (number_lists numbers.new.items
+        ≡ with_number (number_lists numbers.old.items) who slot) }
+    ensures homes { OnOk result (length numbers.new.items ≡ length numbers.old.items) }
+{
+    let list = &mut numbers[who as usize];
+    list.push(slot)?;
+    Ok(())
 }
 
 /// The numbers of the slots of each of these boxes.
