@@ -1,21 +1,23 @@
--- By which slots a Take sends: by its own, and over a link by its partner.
-use Rattle.std.proofs.Common.{◌≡◌, ◌<◌, ◌==◌, ◌⊎◌, inl, inr, if◌then◌else◌, ℕ, zero, suc, Bool, true, false, Some, List, [], ◌∷◌, length, get_or, ap, sym, ◌∙◌, subst, arith}
+-- By which slots a box sends: in a Take by its own, and over a link by its partner; in a retry by its own.
+use Rattle.std.proofs.Common.{◌≡◌, ◌<◌, None, Option, Result, Ok, Err, OnOk, ◌++◌, ◌==◌, ◌⊎◌, inl, inr, if◌then◌else◌, ℕ, zero, suc, Bool, true, false, Some, List, [], ◌∷◌, length, get_or, ap, sym, ◌∙◌, subst, arith}
 use Rattle.std.specs.List.{slice_get}
+use Rattle.std.specs.Result.{is_err}
 use Rattle.std.proofs.lemmas.Bool.{cases_eq}
 use Rattle.std.proofs.lemmas.Grind.{common_steps}
 use Rattle.mc_signal.specs.declared.Signal.{Signal}
 use Rattle.mc_slot.specs.declared.SlotGoal.{SlotGoal}
 use Rattle.mc_slot.specs.declared.SlotGoal.TheVariants.{End, Link}
 use Rattle.mc_box.specs.Acting.{sent_by}
-use Rattle.mc_box.specs.BoxEvents.{BoxStep, box_event}
+use Rattle.mc_box.specs.BoxEvents.{Appends, BoxStep, box_event}
 use Rattle.mc_box.specs.BoxSound.{IsSoundBox}
 use Rattle.mc_box.specs.Boxes.{BoxState, goal_at}
-use Rattle.mc_box.specs.declared.event.Event.TheVariants.{Take}
-use Rattle.mc_box.proofs.TakeTurns.{TookBy, take_turned}
+use Rattle.mc_box.specs.declared.event.Event.{Event}
+use Rattle.mc_box.specs.declared.event.Event.TheVariants.{Take, Set, Media, Tell, Retry, Shift}
+use Rattle.mc_box.proofs.TakeTurns.{TookBy, retry_turned, take_turned}
 use Rattle.mc_model.specs.Worlds.{far}
 use Rattle.mc_world.specs.Lanes.{HasRoom, HasRoomFrom, lane_by, numbers_of}
 use Rattle.mc_world.specs.Making.{IsBeside}
-use Rattle.mc_world.specs.Senders.{AreSenders}
+use Rattle.mc_world.specs.Senders.{AreSenders, MaySendBy}
 use Rattle.mc_world.specs.declared.lanes.Senders.{Senders}
 use Rattle.mc_world.specs.declared.topology.Topology.{Topology}
 use Rattle.mc_world.proofs.LaneChanges.{Lane}
@@ -64,3 +66,24 @@ room_by topology lanes who box senders most signal step sound goes are beside ow
           subst (λ (t : ℕ). HasRoom lanes (lane_by topology (far t)) most) slot_is own
       | inr goal ↦ subst (λ (t : ℕ). HasRoom lanes (lane_by topology (far t)) most) (beside other s goal at) mate
     ]
+
+-- what an event sends goes by slots by which it may send
+pub may_send : (box : BoxState) (event : Event) (step : BoxStep) (k : ℕ) (d : ℕ × Signal) → box_event box event None ≡ Some step → k < length step.sent → MaySendBy event (get_or step.sent k d).0
+may_send box (Retry local) step k d goes below = elim (cases_eq (get_or step.sent k d).0 local) [
+  | inl same ↦ same
+  | inr apart ↦ absurd (some_sent step.sent k d below ((retry_turned box local step goes).turned.others (get_or step.sent k d).0 apart).sends)
+]
+may_send box (Take local) step k d goes below = tt
+may_send box (Set change) step k d goes below = tt
+may_send box (Media change) step k d goes below = tt
+may_send box (Tell word) step k d goes below = tt
+may_send box Shift step k d goes below = tt
+
+-- what holds where a result is no error holds of one that isn't
+pub ok_holds : {A E : Type 0} (result : Result A E) (holds : Type 0) → is_err result ≡ false → OnOk result holds → holds
+ok_holds (Ok value) holds fine there = there
+ok_holds (Err error) holds fine there = absurd (cc)
+
+-- what a box appends to an empty queue is what it sends
+pub made_appended : (made : Option BoxStep) (after : BoxState) (old items : List (ℕ × Signal)) → old ≡ [] → Appends made after old items → made ≡ Some (record { sent = items; after = after })
+made_appended made after old items none is = is.goes ∙ ap (λ (sent : List (ℕ × Signal)). Some (record { sent = sent; after = after })) (sym (is.appended ∙ ap (λ (front : List (ℕ × Signal)). front ++ is.sent) none))

@@ -13,7 +13,7 @@ ghost use Rattle.mc_world.specs.Making.{IsBeside, MakesEvent};
 ghost use Rattle.mc_world.specs.Senders.{AreSenders};
 ghost use Rattle.mc_world.specs.Waiting.{waits_by, IsWaiting};
 
-use crate::lanes::{Senders, make_room, make_room_by, relay, send_lane};
+use crate::lanes::{Senders, make_room_by, make_room_for, relay, send_lane};
 use crate::topology::Topology;
 use crate::waiting::Waiting;
 use mc_box::limit::LAST_VERSION;
@@ -82,7 +82,7 @@ pub fn act(
     ensures none { sends.new.items ≡ [] }
 {
     let most = 2 * home.slots().len();
-    make_room(lanes, topology, who, most)?;
+    make_room_for(lanes, topology, who, event, most)?;
     sends.reserve(most)?;
     if home.act(event, sends).is_err() {
         unreachable!()

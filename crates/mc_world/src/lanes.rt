@@ -4,12 +4,14 @@ ghost use Rattle.std.specs.Prelude.{◌≡◌, ℕ, ◌+◌, ◌<◌, true, leng
 ghost use Rattle.mc_slot.specs.Sending.{sends_of};
 ghost use Rattle.std.specs.List.{slice_get};
 ghost use Rattle.mc_world.specs.Lanes.{signals_of, lane_by, numbers_of, tunnel_by, without_front, one_sent, all_sent, relay, with_sending, IsLaid, HasRoom, HasRoomAway, HasRoomFor, HasRoomFrom};
-ghost use Rattle.mc_world.specs.Senders.{AreSenders};
+ghost use Rattle.mc_box.specs.declared.event.Event.{Event};
+ghost use Rattle.mc_world.specs.Senders.{AreSenders, MaySendBy};
 ghost use Rattle.mc_world.specs.Fronts.{NextServed};
 ghost use Rattle.mc_world.specs.Waiting.{waits_by, IsWaiting};
 
 use crate::topology::{Topology, far};
 use crate::waiting::Waiting;
+use mc_box::Event;
 use mc_lane::Lane;
 use mc_signal::{Signal, Tagged};
 use mc_slot::Sends;
@@ -39,8 +41,8 @@ impl Senders {
     }
 }
 
-/// Makes room in each lane that leads away from a slot of the box, for as much as one event may send in all.
-pub fn make_room(
+// Makes room in each lane that leads away from a slot of the box.
+fn make_room(
     lanes: &mut [Lane<Tagged>],
     topology: &Topology,
     who: u32,
@@ -55,6 +57,43 @@ pub fn make_room(
         reserve(lanes, lane, most)?;
     }
     Ok(())
+}
+
+/// Makes room for as much as an event may send in all, in each lane by which it may.
+pub fn make_room_for(
+    lanes: &mut [Lane<Tagged>],
+    topology: &Topology,
+    who: u32,
+    event: Event,
+    most: usize,
+) -> Result<(), AllocError>
+    requires { IsLaid topology.now (length lanes.old) }
+    ensures same { signals_of lanes.new ≡ signals_of lanes.old }
+    ensures room { OnOk result ((local : ℕ) → MaySendBy event local → HasRoomFor lanes.new topology.now who local most) }
+{
+    match event {
+        Event::Retry(local) => make_room_at(lanes, topology, who, local, most),
+        _ => make_room(lanes, topology, who, most),
+    }
+}
+
+// Makes room in the lane that leads away from a slot, if it has a number.
+fn make_room_at(
+    lanes: &mut [Lane<Tagged>],
+    topology: &Topology,
+    who: u32,
+    local: u8,
+    most: usize,
+) -> Result<(), AllocError>
+    requires { IsLaid topology.now (length lanes.old) }
+    ensures same { signals_of lanes.new ≡ signals_of lanes.old }
+    ensures room { OnOk result (HasRoomFor lanes.new topology.now who local most) }
+{
+    let Some(slot) = topology.number(who, local) else {
+        return Ok(());
+    };
+    let (lane, _) = topology.toward(far(slot));
+    reserve(lanes, lane, most)
 }
 
 /// Makes room in the two lanes that lead away from these slots: a Take sends by no other.
