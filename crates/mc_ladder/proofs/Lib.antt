@@ -1,7 +1,7 @@
 mod Added
 mod Drawing
 pub mod Named
-mod Numbered
+pub mod Numbered
 mod Sending
 mod Stops
 mod Taken

@@ -7,7 +7,7 @@ use crate::glyph::{Glyph, Style, put_cell, put_cells};
 use crate::lanes::GAP;
 use std::alloc::AllocError;
 
-// The columns where an arrow begins and ends, and whether its signal is dropped.
+/// The columns where an arrow begins and ends, and whether its signal is dropped.
 #[derive(Clone, Copy)]
 pub struct Arrow {
     pub from: usize,
@@ -16,8 +16,8 @@ pub struct Arrow {
 }
 
 impl Arrow {
-    // Whether it goes to the right.
-    fn is_right(self) -> bool
+    /// Whether it goes to the right.
+    pub fn is_right(self) -> bool
         ensures { result ≡ is_right self }
     {
         self.from < self.to

@@ -63,7 +63,7 @@ fn place_among(columns: &[u32], who: u32) -> Option<usize>
     columns.iter().position(|other| *other == who)
 }
 
-// The column of a box; the first where it has none.
+/// The column of a box; the first where it has none.
 pub fn column_of(columns: &[u32], who: u32) -> usize
     ensures { result ≡ column_of columns.now who }
 {

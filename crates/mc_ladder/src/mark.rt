@@ -7,7 +7,7 @@ use crate::glyph::{Glyph, Style, put_cell, put_cells};
 use crate::lanes::GAP;
 use std::alloc::AllocError;
 
-// A column, and what stands on its line.
+/// A column, and what stands on its line.
 #[derive(Clone, Copy)]
 pub struct Mark {
     pub at: usize,

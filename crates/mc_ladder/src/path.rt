@@ -12,7 +12,7 @@ use mc_view::PathView;
 use mc_world::World;
 use std::alloc::{AllocError, Global};
 
-// The columns of a path's two ends, and whether it flows.
+/// The columns of a path's two ends, and whether it flows.
 #[derive(Clone, Copy)]
 pub struct Ends {
     pub low: usize,
@@ -48,7 +48,7 @@ impl Ends {
     }
 }
 
-// The columns of the ends of a path.
+/// The columns of the ends of a path.
 pub fn ends_of(columns: &[u32], view: &PathView) -> Ends
     ensures { result ≡ ends_of columns.now view.now }
 {
@@ -59,8 +59,8 @@ pub fn ends_of(columns: &[u32], view: &PathView) -> Ends
     }
 }
 
-// Whether a path stops at a column.
-fn is_stop(stops: &[usize], column: usize) -> bool
+/// Whether a path stops at a column.
+pub fn is_stop(stops: &[usize], column: usize) -> bool
     ensures { result ≡ is_stop stops.now column }
 {
     stops.iter().any(|stop| *stop == column)
@@ -142,7 +142,7 @@ fn stops_from(
     Ok(stops)
 }
 
-// The columns at which a path stops, by its lower end.
+/// The columns at which a path stops, by its lower end.
 pub fn path_columns(
     alloc: Global,
     columns: &[u32],

@@ -13,7 +13,7 @@ use mc_text::Names;
 use mc_world::World;
 use std::alloc::{AllocError, Global};
 
-// The name of a box; none where there is no such box.
+/// The name of a box; none where there is no such box.
 #[tactic(auto, using(crate::proofs::Named::name_few))]
 pub fn box_word(names: &Names, who: u32) -> &[u8]
     ensures few { length result.now ≤ NAME_LIMIT }
@@ -26,7 +26,7 @@ pub fn box_word(names: &Names, who: u32) -> &[u8]
     }
 }
 
-// The name of a slot; none where there is no such slot.
+/// The name of a slot; none where there is no such slot.
 #[tactic(auto, using(crate::proofs::Named::name_few))]
 pub fn slot_word(names: &Names, who: u32, local: u8) -> &[u8]
     ensures few { length result.now ≤ NAME_LIMIT }
@@ -50,7 +50,7 @@ pub fn told_word(names: &Names, word: u8) -> &[u8]
     }
 }
 
-// The name of a codec, or the word for none.
+/// The name of a codec, or the word for none.
 pub fn codec_word(names: &Names, codec: Option<u8>) -> &[u8]
     ensures { result.now ≡ codec_word names.now codec }
 {
@@ -61,7 +61,7 @@ pub fn codec_word(names: &Names, codec: Option<u8>) -> &[u8]
     }
 }
 
-// The box of a slot, and its local number there.
+/// The box of a slot, and its local number there.
 pub fn place_of(world: &World, slot: u32) -> (u32, u8)
     ensures { result ≡ place world.now slot }
 {
@@ -82,7 +82,7 @@ pub fn slot_place(alloc: Global, names: &Names, who: u32, local: u8) -> Result<V
     Ok(word)
 }
 
-// The same by its number.
+/// A slot by its number, as `box/slot`.
 pub fn place_word(
     alloc: Global,
     names: &Names,

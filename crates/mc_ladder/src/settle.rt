@@ -23,13 +23,15 @@ use mc_view::{EndView, PathView};
 use mc_world::World;
 use std::alloc::{AllocError, Global};
 
-fn flow_word(flowing: bool) -> &'static [u8]
+/// The word for whether a path flows.
+pub fn flow_word(flowing: bool) -> &'static [u8]
     ensures { result.now ≡ flow_word flowing }
 {
     if flowing { b"flowing" } else { b"closed" }
 }
 
-fn medium_word(medium: Medium) -> &'static [u8]
+/// The word for a medium.
+pub fn medium_word(medium: Medium) -> &'static [u8]
     ensures { result.now ≡ medium_word medium }
 {
     match medium {

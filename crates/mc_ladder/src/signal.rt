@@ -11,7 +11,7 @@ use mc_text::Names;
 use mc_world::World;
 use std::alloc::{AllocError, Global};
 
-// The word of a signal alone.
+/// The word of a signal alone.
 pub fn signal_word(signal: &Signal) -> &'static [u8]
     ensures { result.now ≡ signal_word signal.now }
 {
@@ -25,7 +25,7 @@ pub fn signal_word(signal: &Signal) -> &'static [u8]
     }
 }
 
-// Appends a word behind a space.
+/// Appends a word after a space.
 pub fn put_word(word: &[u8], out: &mut Vec<u8>) -> Result<(), AllocError>
     ensures { OnOk result (out.new.items ≡ out.old.items ++ spaced word.now) }
 {
@@ -33,8 +33,8 @@ pub fn put_word(word: &[u8], out: &mut Vec<u8>) -> Result<(), AllocError>
     out.extend_from_slice(word)
 }
 
-// Appends the codecs of a descriptor, or that it has none.
-fn put_codecs(names: &Names, codecs: &CodecList, out: &mut Vec<u8>) -> Result<(), AllocError>
+/// Appends the codecs of a descriptor, or that it has none.
+pub fn put_codecs(names: &Names, codecs: &CodecList, out: &mut Vec<u8>) -> Result<(), AllocError>
     ensures { OnOk result (out.new.items ≡ out.old.items ++ codecs_text names.now (codecs_of codecs.now)) }
 {
     let listed = codecs.as_slice();
@@ -126,7 +126,7 @@ fn put_dropped(dropped: bool, out: &mut Vec<u8>) -> Result<(), AllocError>
     }
 }
 
-// Appends the words of a signal, each behind a space.
+/// Appends the words of a signal, each after a space.
 pub fn put_signal(
     alloc: Global,
     names: &Names,

@@ -24,8 +24,8 @@ use std::alloc::{AllocError, Global};
 
 // ---- a Take
 
-// The arrow of a Take: from the box of the slot that sent to that of the slot that takes.
-fn arrow_of(columns: &[u32], world: &World, taken: &Taking) -> Arrow
+/// The arrow of a Take: from the box of the slot that sent to that of the slot that takes.
+pub fn arrow_of(columns: &[u32], world: &World, taken: &Taking) -> Arrow
     ensures { result ≡ arrow_of columns.now world.now taken.now }
 {
     Arrow {
@@ -116,8 +116,8 @@ fn put_taken(
 
 // ---- any other turn
 
-// The first word of a turn's.
-fn command_word(event: Event) -> &'static [u8]
+/// The first word of a turn.
+pub fn command_word(event: Event) -> &'static [u8]
     ensures { result.now ≡ command_word event }
 {
     match event {
@@ -154,8 +154,8 @@ fn put_switch(on: bool, out: &mut Vec<u8>) -> Result<(), AllocError>
     }
 }
 
-// Appends the words of a turn behind the first and its box, each behind a space. A Shift leads to this state.
-fn put_command_rest(
+/// Appends the words of a turn after the first and its box, each after a space. A Shift leads to this state.
+pub fn put_command_rest(
     names: &Names,
     who: u32,
     event: Event,
@@ -209,8 +209,8 @@ fn put_command_tail(
     Ok(())
 }
 
-// The mark of a turn, at its box.
-fn mark_of(columns: &[u32], turn: Turn) -> Mark
+/// The mark of a turn, at its box.
+pub fn mark_of(columns: &[u32], turn: Turn) -> Mark
     ensures { result ≡ mark_of columns.now turn }
 {
     Mark {
@@ -258,8 +258,8 @@ fn put_command(
 
 // ---- the state of a program
 
-// The number of the state that a box is at.
-fn state_at(world: &World, who: u32) -> Option<u32>
+/// The number of the state that a box is at.
+pub fn state_at(world: &World, who: u32) -> Option<u32>
     ensures { result ≡ state_at world.now who }
 {
     match world.boxes().get(who as usize) {
@@ -290,8 +290,8 @@ fn state_among(blocks: &[Block], who: u32, at: u32) -> &[u8]
     b""
 }
 
-// The same of the state that a box is at, if it is at one.
-fn state_word(blocks: &[Block], who: u32, at: Option<u32>) -> &[u8]
+/// The name of the state that a box is at, among the programs of these blocks; none where it is at none.
+pub fn state_word(blocks: &[Block], who: u32, at: Option<u32>) -> &[u8]
     ensures { result.now ≡ state_word blocks.now who at }
 {
     match at {
@@ -302,8 +302,8 @@ fn state_word(blocks: &[Block], who: u32, at: Option<u32>) -> &[u8]
 
 // ---- a turn
 
-// Makes a turn. One that can't happen changes nothing.
-fn make(world: &mut World, turn: Turn) -> Result<(), AllocError>
+/// Makes a turn. One that can't happen changes nothing.
+pub fn make(world: &mut World, turn: Turn) -> Result<(), AllocError>
     ensures { OnOk result (world.new ≡ next_world world.old turn) }
 {
     match world.step(turn.who, turn.event) {

@@ -1,0 +1,6 @@
+use Rattle.std.proofs.lemmas.Result.{on_ok_weaker}
+use Rattle.mc_ladder_svg.proofs.Chains.{three}
+use Rattle.mc_ladder_svg.proofs.element.put_text.Goals as goal
+
+pub returns : goal.returns
+returns c = on_ok_weaker c.put_bytes-2.result (λ last. three _ _ _ _ _ _ _ c.in_ok-put_text_opening.ensures c.in_ok-put_bytes.ensures last) c.put_bytes-2.ensures

@@ -1,0 +1,6 @@
+use Rattle.std.proofs.lemmas.Result.{on_ok_weaker}
+use Rattle.mc_ladder_svg.proofs.Chains.{two}
+use Rattle.mc_ladder_svg.proofs.route.put_ends.Goals as goal
+
+pub returns : goal.returns
+returns c = on_ok_weaker c.put_right_end.result (λ last. two _ _ _ _ _ c.in_ok-put_left_end.ensures last) c.put_right_end.ensures

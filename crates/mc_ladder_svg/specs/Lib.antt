@@ -1,0 +1,13 @@
+pub mod Arrows
+pub mod Elements
+pub mod Heads
+pub mod Lines
+pub mod Marks
+pub mod Measures
+pub mod PathRows
+pub mod Pictures
+pub mod Settles
+pub mod Sheets
+pub mod Signals
+pub mod TurnRows
+pub mod Turns

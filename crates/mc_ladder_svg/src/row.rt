@@ -1,0 +1,46 @@
+// What each turn's row has: its place and its number.
+
+ghost use Rattle.std.specs.Prelude.{◌≡◌, ◌++◌, OnOk};
+ghost use Rattle.mc_ladder_svg.specs.TurnRows.{row_end, row_place, row_start};
+
+use crate::element::put_bytes;
+use std::alloc::{AllocError, Global};
+
+// The number of a turn, and the height at which its row begins.
+#[derive(Clone, Copy)]
+pub struct Row {
+    pub number: u32,
+    pub y: u128,
+}
+
+// Appends the beginning of a row, up to the class of its colour.
+pub fn put_row_start(
+    alloc: Global,
+    number: u32,
+    class: &str,
+    out: &mut Vec<u8>,
+) -> Result<(), AllocError>
+    ensures { OnOk result (out.new.items ≡ out.old.items ++ row_start number class.now) }
+{
+    let tag = format!(in alloc; "<g id=\"turn-{number}\" class=\"{class}")?;
+    put_bytes(tag.as_bytes(), out)
+}
+
+// Appends the place of a row, up to its title.
+pub fn put_row_place(alloc: Global, y: u128, out: &mut Vec<u8>) -> Result<(), AllocError>
+    ensures { OnOk result (out.new.items ≡ out.old.items ++ row_place y) }
+{
+    let tag = format!(in alloc; "\" transform=\"translate(0,{y})\"><title>")?;
+    put_bytes(tag.as_bytes(), out)
+}
+
+// Appends the end of a row, and its number.
+pub fn put_row_end(alloc: Global, row: Row, out: &mut Vec<u8>) -> Result<(), AllocError>
+    ensures { OnOk result (out.new.items ≡ out.old.items ++ row_end row) }
+{
+    let Row { number, y } = row;
+    let tag = format!(in alloc;
+        "</g>\n<g transform=\"translate(0,{y})\"><text class=\"d e\" x=\"52\" y=\"21\">{number}</text></g>\n"
+    )?;
+    put_bytes(tag.as_bytes(), out)
+}
