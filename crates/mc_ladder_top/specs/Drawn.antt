@@ -1,7 +1,7 @@
--- The ladder of the journal behind a text.
+-- The ladder of the journal after a text.
 use Rattle.std.specs.Prelude.{◌≡◌, ℕ, List}
 use Rattle.mc_ladder.specs.Ladders.{ladder_text}
-use Rattle.mc_ladder.specs.declared.glyph.Style.{Style}
+use Rattle.mc_ladder_svg.specs.Pictures.{ladder_svg}
 use Rattle.mc_lines.specs.SoFar.{Declared}
 use Rattle.mc_lines.specs.declared.tail.Tail.TheVariants.{Journal}
 use Rattle.mc_net.specs.Nets.{DeclaresBlocks, DeclaresNet}
@@ -9,15 +9,24 @@ use Rattle.mc_net.specs.Texts.{Says}
 use Rattle.mc_net.specs.declared.net.Net.{Net}
 use Rattle.mc_program.specs.Programs.{BlockState}
 use Rattle.mc_script.specs.declared.command.JournalLine.{JournalLine}
+use Rattle.mc_text.specs.NameLists.{NameLists}
+use Rattle.mc_model.specs.Worlds.{WorldState}
+use Rattle.mc_ladder_top.specs.declared.picture.Picture.{Picture}
+use Rattle.mc_ladder_top.specs.declared.picture.Picture.TheVariants.{Text, Svg}
+
+-- the ladder of a journal in this form, from the first world of a network on
+abbrev pub picture_bytes : Picture → NameLists → List BlockState → WorldState → List JournalLine → List ℕ
+picture_bytes (Text style) names blocks world journal = ladder_text style names blocks world journal
+picture_bytes Svg names blocks world journal = ladder_svg names blocks world journal
 
 -- the text is in the grammar
 abbrev pub IsInGrammar : List ℕ → Type 0
 IsInGrammar text = (d : Declared) × Says Journal text d
 
--- the output is the ladder of the journal, with the network that the text declares and the blocks of its programs
-pub record IsLadder (style : Style) (text : List ℕ) (journal : List JournalLine) (output : List ℕ) : Type 0 where
+-- the output is the ladder of the journal in this form, with the network that the text declares and the blocks of its programs
+pub record IsLadder (picture : Picture) (text : List ℕ) (journal : List JournalLine) (output : List ℕ) : Type 0 where
   pub net : Net
   pub blocks : List BlockState
   pub declares : DeclaresNet Journal text net
   pub gives : DeclaresBlocks Journal text blocks
-  pub drawn : output ≡ ladder_text style net.names blocks net.world journal
+  pub drawn : output ≡ picture_bytes picture net.names blocks net.world journal

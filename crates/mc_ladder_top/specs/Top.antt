@@ -1,8 +1,8 @@
 -- What the top call promises.
 use Rattle.std.specs.Prelude.{◌≡◌, ◌≢◌, ◌⊎◌, ℕ, List, IfSome, None, false}
 use Rattle.std.specs.declared.option.Option.{Option}
-use Rattle.mc_ladder.specs.Ladders.{ladder_text}
-use Rattle.mc_ladder.specs.declared.glyph.Style.{Style}
+use Rattle.mc_ladder_top.specs.Drawn.{picture_bytes}
+use Rattle.mc_ladder_top.specs.declared.picture.Picture.{Picture}
 use Rattle.mc_lines.specs.declared.tail.Tail.TheVariants.{Journal}
 use Rattle.mc_net.specs.Nets.{DeclaresBlocks}
 use Rattle.mc_net.specs.declared.net.Net.{Net}
@@ -34,9 +34,9 @@ IsDue due = IsDueForDrawing due ⊎ (due ≡ USAGE)
 abbrev pub ToldBlocks : Option (List ℕ) → List BlockState → Type 0
 ToldBlocks told blocks = IfSome told (λ text. DeclaresBlocks Journal text blocks)
 
--- the journal behind a text is good, and its ladder was delivered: that of the names, the blocks of programs and the
+-- the journal after a text is good, and its ladder was delivered in this form: that of the names, the blocks of programs and the
 -- first world that the text declares, and of the turns and settles that stand in the journal
-pub record Drew (style : Style) (told old new : Option (List ℕ)) (status : ℕ) (journal : List JournalLine)
+pub record Drew (picture : Picture) (told old new : Option (List ℕ)) (status : ℕ) (journal : List JournalLine)
     : Type 0 where
   pub net : Net
   pub blocks : List BlockState
@@ -44,9 +44,9 @@ pub record Drew (style : Style) (told old new : Option (List ℕ)) (status : ℕ
   pub programs : ToldBlocks told blocks
   pub told_journal : ToldJournal Journal told net journal
   pub settles : Settles net None journal
-  pub delivered : Delivers status WORKED old new (ladder_text style net.names blocks net.world journal)
+  pub delivered : Delivers status WORKED old new (picture_bytes picture net.names blocks net.world journal)
 
 -- a ladder was drawn, or the call ended as the check of the same text does
-pub record EndsDrawing (style : Style) (told old new : Option (List ℕ)) (done : Done) : Type 0 where
-  pub drew : done.due ≡ WORKED → Drew style told old new done.status done.journal.items
+pub record EndsDrawing (picture : Picture) (told old new : Option (List ℕ)) (done : Done) : Type 0 where
+  pub drew : done.due ≡ WORKED → Drew picture told old new done.status done.journal.items
   pub refused : done.due ≢ WORKED → EndsAs checking told old new done

@@ -4,8 +4,10 @@
 
 mod drawing;
 pub mod laws;
+mod picture;
 mod top;
 mod words;
 
+pub use picture::Picture;
 pub use top::ladder_top;
-pub use words::read_style;
+pub use words::read_picture;

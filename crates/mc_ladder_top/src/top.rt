@@ -3,7 +3,7 @@
 ghost use Rattle.std.specs.Prelude.{◌≡◌, ◌⊎◌, ◌==◌, ◌≤◌, ℕ, List, [], false, length, map, IsFalse, IsTrue, None, Option, Some};
 ghost use Rattle.mc_io.specs.Bytes.{ConsumesAtMost};
 ghost use Rattle.mc_io.specs.Faults.{Rose, faults_after};
-ghost use Rattle.mc_ladder.specs.declared.glyph.Style.{Style};
+ghost use Rattle.mc_ladder_top.specs.declared.picture.Picture.{Picture};
 ghost use Rattle.mc_ladder_top.specs.Top.{EndsDrawing, IsDue, IsDueForDrawing, IsDueForText};
 ghost use Rattle.mc_ladder_top.specs.Words.{AreTaken, AskFor};
 ghost use Rattle.mc_lines.specs.Rules.{read_limit};
@@ -16,10 +16,10 @@ ghost use Rattle.mc_top.specs.Statuses.{judges_text, keeps_journal};
 ghost use Rattle.mc_top.specs.Top.{GivesUp, HasReadWhole, PrintsUsage};
 
 use crate::drawing::{Drawn, draw_checked};
-use crate::words::read_style;
+use crate::picture::Picture;
+use crate::words::read_picture;
 use mc_explain::Reason;
 use mc_io::{ReadFault, Sink, Source};
-use mc_ladder::Style;
 use mc_net::{Net, NetFault, Tail, read_net};
 use mc_top::status::{NO_MEMORY, READ_FAULT, USAGE, WORKED, WRITE_FAULT};
 use mc_top::{
@@ -30,22 +30,22 @@ use std::alloc::Global;
 // The mode of `mediactl` whose answers are given where nothing is drawn.
 const CHECKING: Mode = Mode::Check { why: false };
 
-// Checks the journal behind a text by the network that the text declares, and draws it.
-fn draw_net<K: Sink>(alloc: Global, style: Style, text: &[u8], net: Net, sink: &mut K) -> Done
+// Checks the journal after a text by the network that the text declares, and draws it.
+fn draw_net<K: Sink>(alloc: Global, picture: Picture, text: &[u8], net: Net, sink: &mut K) -> Done
     requires short { length text.now ≤ read_limit Journal }
     requires declares { DeclaresNet Journal text.now net }
     requires named { NamesAll net.names net.world }
     requires allowed { AreAllAllowed net.world (map batch_turns net.batches.items) }
     ensures statuses { IsDueForText result.due }
     ensures status { (result.status ≡ result.due) ⊎ (result.status ≡ WRITE_FAULT) }
-    ensures ends { EndsDrawing style (Some text.now) (K.written sink.old) (K.written sink.new) result }
+    ensures ends { EndsDrawing picture (Some text.now) (K.written sink.old) (K.written sink.new) result }
     ensures journal { IsFalse (keeps_journal result.due) → result.journal.items ≡ [] }
     ensures reason { Explains (IsFaultOf Journal text.now) result.reason result.status
         (K.written sink.old) (K.written sink.new) result.journal.items }
     ensures fault { K.faults sink.new ≡ faults_after (K.faults sink.old) (result.status == WRITE_FAULT) }
 {
     net.world.keeps();
-    match draw_checked(alloc, style, text, net) {
+    match draw_checked(alloc, picture, text, net) {
         Ok(Drawn { ladder, journal }) => deliver(sink, WORKED, &ladder, journal, Reason::Worked),
         Err(TailFault::At(place)) => refuse_tail(alloc, text, place, sink),
         Err(TailFault::NoMemory(_)) => give_up(alloc, NO_MEMORY, Reason::NoMemory),
@@ -53,18 +53,18 @@ fn draw_net<K: Sink>(alloc: Global, style: Style, text: &[u8], net: Net, sink: &
 }
 
 // The same for a text, which may have a fault.
-fn draw_text<K: Sink>(alloc: Global, style: Style, text: &[u8], sink: &mut K) -> Done
+fn draw_text<K: Sink>(alloc: Global, picture: Picture, text: &[u8], sink: &mut K) -> Done
     requires short { length text.now ≤ read_limit Journal }
     ensures statuses { IsDueForText result.due }
     ensures status { (result.status ≡ result.due) ⊎ (result.status ≡ WRITE_FAULT) }
-    ensures ends { EndsDrawing style (Some text.now) (K.written sink.old) (K.written sink.new) result }
+    ensures ends { EndsDrawing picture (Some text.now) (K.written sink.old) (K.written sink.new) result }
     ensures journal { IsFalse (keeps_journal result.due) → result.journal.items ≡ [] }
     ensures reason { Explains (IsFaultOf Journal text.now) result.reason result.status
         (K.written sink.old) (K.written sink.new) result.journal.items }
     ensures fault { K.faults sink.new ≡ faults_after (K.faults sink.old) (result.status == WRITE_FAULT) }
 {
     match read_net(alloc, text, Tail::Journal) {
-        Ok(net) => draw_net(alloc, style, text, net, sink),
+        Ok(net) => draw_net(alloc, picture, text, net, sink),
         Err(NetFault::Line(fault)) => refuse_text(alloc, CHECKING, text, fault, sink),
         Err(NetFault::NoMemory(_)) => give_up(alloc, NO_MEMORY, Reason::NoMemory),
     }
@@ -73,13 +73,13 @@ fn draw_text<K: Sink>(alloc: Global, style: Style, text: &[u8], sink: &mut K) ->
 // The same for the text that a source has left.
 fn draw_source<S: Source, K: Sink>(
     alloc: Global,
-    style: Style,
+    picture: Picture,
     source: &mut S,
     sink: &mut K,
 ) -> Done
     ensures statuses { IsDueForDrawing result.due }
     ensures status { (result.status ≡ result.due) ⊎ (result.status ≡ WRITE_FAULT) }
-    ensures ends { EndsDrawing style (S.left source.old) (K.written sink.old) (K.written sink.new) result }
+    ensures ends { EndsDrawing picture (S.left source.old) (K.written sink.old) (K.written sink.new) result }
     ensures journal { IsFalse (keeps_journal result.due) → result.journal.items ≡ [] }
     ensures read_whole { IsTrue (judges_text result.due)
         → HasReadWhole Journal (S.left source.old) (S.left source.new) }
@@ -90,7 +90,7 @@ fn draw_source<S: Source, K: Sink>(
     ensures write_fault { K.faults sink.new ≡ faults_after (K.faults sink.old) (result.status == WRITE_FAULT) }
 {
     match text_of(alloc, CHECKING, source) {
-        Ok(text) => draw_text(alloc, style, &text, sink),
+        Ok(text) => draw_text(alloc, picture, &text, sink),
         Err(ReadFault::Failed) => give_up(alloc, READ_FAULT, Reason::ReadFault),
         Err(ReadFault::NoMemory(_)) => give_up(alloc, NO_MEMORY, Reason::NoMemory),
     }
@@ -118,8 +118,8 @@ pub fn ladder_top<S: Source, K: Sink>(
     ensures unread { ¬ AreTaken words.items → source.new ≡ source.old }
 
     // Where they ask for a ladder, it was drawn, or the call ended as the check of the same text does.
-    ensures ends { (style : Style) → AskFor words.items style
-        → EndsDrawing style (S.left source.old) (K.written sink.old) (K.written sink.new) result }
+    ensures ends { (picture : Picture) → AskFor words.items picture
+        → EndsDrawing picture (S.left source.old) (K.written sink.old) (K.written sink.new) result }
     ensures no_journal { IsFalse (keeps_journal result.due) → result.journal.items ≡ [] }
 
     // A text is judged only where it was read whole.
@@ -141,11 +141,11 @@ pub fn ladder_top<S: Source, K: Sink>(
         → ¬ Rose (S.faults source.old) (S.faults source.new) → ¬ Rose (K.faults sink.old) (K.faults sink.new)
         → (result.status ≡ WORKED) ⊎ (result.status ≡ NO_MEMORY) }
 {
-    let Ok(read) = read_style(alloc, &words) else {
+    let Ok(read) = read_picture(alloc, &words) else {
         return give_up(alloc, NO_MEMORY, Reason::NoMemory);
     };
-    let Some(style) = read else {
+    let Some(picture) = read else {
         return refuse_words(alloc, &words, sink);
     };
-    draw_source(alloc, style, source, sink)
+    draw_source(alloc, picture, source, sink)
 }

@@ -19,10 +19,11 @@ const HELP: &str =
 medialadder: a column for each box, time downwards, and an arrow for each signal that a box took.
 medialadder:   medialadder            draws in UTF-8
 medialadder:   medialadder --ascii    draws in ASCII
+medialadder:   medialadder --svg      draws as SVG
 medialadder: 'mediactl run --journal' prints a journal. Append it to its text, and both can be drawn.
 ";
 
-// The words behind the program's name. Where they can't be had as text there are none.
+// The words after the program's name. Where they can't be had as text there are none.
 fn words<R: Env + AllocGlobal>(rt: &R) -> Result<Vec<String>, AllocError> {
     match env::args(rt) {
         Ok(args) => args.skip(1).collect(rt.alloc()),

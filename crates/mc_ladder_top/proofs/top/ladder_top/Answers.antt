@@ -14,6 +14,6 @@ returns-in_default-read-clause-complete g c =
 
 pub returns-clause-complete : goal.returns-clause-complete
 returns-clause-complete g c = λ text takes told can no_read no_write.
-    completes_drawing c.in-Some.style (g.S.Source.left c.args.source.now) (g.K.Sink.written c.args.sink.now) (g.K.Sink.written c.draw_source.new.sink) text c.draw_source.result
+    completes_drawing c.in-Some.picture (g.S.Source.left c.args.source.now) (g.K.Sink.written c.args.sink.now) (g.K.Sink.written c.draw_source.new.sink) text c.draw_source.result
     c.draw_source.ensures.statuses c.draw_source.ensures.status c.draw_source.ensures.ends told can
     (not_failed _ _ _ _ c.draw_source.ensures.read_fault no_read) (not_failed _ _ _ _ c.draw_source.ensures.write_fault no_write)

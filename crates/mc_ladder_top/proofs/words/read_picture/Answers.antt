@@ -1,13 +1,22 @@
 use Rattle.std.proofs.Common.{IfNone, map, string_bytes, subst, sym}
 use Rattle.std.proofs.lemmas.Result.{IfOk-weaker}
 use Rattle.mc_ladder_top.specs.Words.{AreTaken}
-use Rattle.mc_ladder_top.proofs.Taking.{asked, refused, taken}
-use Rattle.mc_ladder_top.proofs.words.read_style.Goals as goal
+use Rattle.mc_ladder_top.proofs.Taking.{asked, asked_none, asked_some, refused, taken}
+use Rattle.mc_ladder_top.proofs.words.read_picture.Goals as goal
 
 pub returns-in-Ok-clause-some : goal.returns-in-Ok-clause-some
 returns-in-Ok-clause-some c =
-    asked c.args.words.now c.in-Ok.matches c.get_count.result _
-    (taken _ (map string_bytes c.args.words.now) c.in-Ok.matches c.in_ok-ladder_command.ensures c.in-Ok.ensures.kinds c.in-Ok.ensures.matches) c.get_count.ensures.value c.style_of.ensures
+    asked_some c.args.words.now c.picture_of.result
+    (asked c.args.words.now c.in-Ok.matches c.get_count-ascii.result c.get_count-svg.result _
+    (taken _ (map string_bytes c.args.words.now) c.in-Ok.matches c.in_ok-ladder_command.ensures c.in-Ok.ensures.kinds c.in-Ok.ensures.matches)
+    c.get_count-ascii.ensures.value c.get_count-svg.ensures.value c.picture_of.ensures)
+
+pub returns-in-Ok-clause-none : goal.returns-in-Ok-clause-none
+returns-in-Ok-clause-none c =
+    asked_none c.args.words.now c.picture_of.result
+    (asked c.args.words.now c.in-Ok.matches c.get_count-ascii.result c.get_count-svg.result _
+    (taken _ (map string_bytes c.args.words.now) c.in-Ok.matches c.in_ok-ladder_command.ensures c.in-Ok.ensures.kinds c.in-Ok.ensures.matches)
+    c.get_count-ascii.ensures.value c.get_count-svg.ensures.value c.picture_of.ensures)
 
 pub returns-in-Err-clause-none : goal.returns-in-Err-clause-none
 returns-in-Err-clause-none c =
