@@ -1,18 +1,17 @@
 -- What a cut looks for, and what it changes.
-use Rattle.std.proofs.Common.{◌≡◌, ◌≢◌, ◌<◌, ◌≤◌, ◌+◌, ◌-◌, ◌*◌, ◌/◌, ◌++◌, ◌==◌, ◌&&◌, ◌||◌, inl, inr, cond, ℕ, zero, suc, Bool, true, false, IsTrue, Option, Some, None, Result, Ok, Err, List, [], ◌∷◌, length, length-append, map, get_or, refl, ap, sym, ◌∙◌, subst, arith, zero-add, append_assoc}
+use Rattle.std.proofs.Common.{◌≡◌, ◌≢◌, ◌<◌, ◌≤◌, ◌+◌, ◌-◌, ◌*◌, ◌/◌, ◌++◌, ◌==◌, ◌&&◌, ◌||◌, inl, inr, cond, ℕ, zero, suc, Bool, true, false, Option, Some, None, List, [], ◌∷◌, length, length-append, get_or, refl, ap, sym, ◌∙◌, subst, arith, zero-add, append_assoc}
 use Rattle.std.specs.List.{enumerate_from, find, range_with_len}
-use Rattle.std.proofs.Math.ListN.{replicate, set, get_or-eq_default}
+use Rattle.std.proofs.Math.ListN.{replicate, set}
 use Rattle.std.proofs.lemmas.Bool.{cases_eq, cases_lt}
 use Rattle.std.proofs.lemmas.Grind.{common_steps}
-use Rattle.std.proofs.lemmas.List.{get_or-append_right, get_or_append_left, get_or-map, get_or-replicate, get_or-set_same, get_or-set_other, length-map, length-replicate, length-set}
+use Rattle.std.proofs.lemmas.List.{get_or-append_right, get_or_append_left, get_or-map, get_or-set_same, get_or-set_other, length-map, length-replicate, length-set}
 use Rattle.std.proofs.lemmas.List.FromFn.{get_or-enumerate_from, length-enumerate_from}
-use Rattle.std.specs.Result.{OnErr, OnOk}
 use Rattle.mc_model.specs.Sound.{IsSound}
 use Rattle.mc_model.specs.Worlds.{ChannelState, TunnelPlace, WorldState, all_tunnels, no_tunnel, slot_count, tunnels_from, tunnels_within}
 use Rattle.mc_model.specs.declared.channel.Tunnel.{Tunnel}
 use Rattle.mc_laws.proofs.TunnelPlaces.{channel_in, two_each}
 use Rattle.mc_grow.specs.Cuts.{AreSlotsOf, IsFirstFrom}
-use Rattle.mc_growth.specs.Outs.{AreOut, IsIdle, MayCut, channel_at, flags_without, is_of, is_out, is_used, least_used}
+use Rattle.mc_growth.specs.Outs.{AreOut, MayCut, channel_at, flags_without, is_of, is_out, is_used, least_used}
 use Rattle.mc_growth.proofs.Outs.{cut_keeps_out, join_keeps_out}
 use Rattle.mc_growth.specs.Joins.{MayJoin, joined}
 use Rattle.mc_signal.specs.declared.Medium.{Medium}
@@ -176,12 +175,12 @@ out_end world old now channel first end of all to =
 -- ---- where the slots of a channel are
 
 -- the channel of a tunnel of the first channel of these
-within_same : (tunnels : List Tunnel) (channel within i : ℕ) → i < length tunnels → (get_or (tunnels_within channel within tunnels) i no_tunnel).channel ≡ channel
+pub within_same : (tunnels : List Tunnel) (channel within i : ℕ) → i < length tunnels → (get_or (tunnels_within channel within tunnels) i no_tunnel).channel ≡ channel
 within_same [] channel within i below = absurd (omega arith)
 within_same (tunnel ∷ tunnels) channel within zero below = refl
 within_same (tunnel ∷ tunnels) channel within (suc i) below = within_same tunnels channel (within + 1) i (omega arith)
 
-within_long : (tunnels : List Tunnel) (channel within : ℕ) → length (tunnels_within channel within tunnels) ≡ length tunnels
+pub within_long : (tunnels : List Tunnel) (channel within : ℕ) → length (tunnels_within channel within tunnels) ≡ length tunnels
 within_long [] channel within = refl
 within_long (tunnel ∷ tunnels) channel within = ap suc (within_long tunnels channel (within + 1))
 

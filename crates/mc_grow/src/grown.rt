@@ -1,17 +1,24 @@
 // A network that grows and shrinks.
 
-ghost use Rattle.std.specs.Prelude.{◌≡◌, not, filter, IfOk, OnErr, OnOk};
+ghost use Rattle.std.specs.Prelude.{◌≡◌, ◌↔◌, ◌∷◌, [], not, filter, IfOk, IsFalse, IsTrue, OnErr, OnOk, Some};
+ghost use Rattle.mc_box.specs.BoxEvents.{turn_of};
 ghost use Rattle.mc_growth.specs.Growths.{grown_from, with_cut, with_join};
 ghost use Rattle.mc_growth.specs.Joins.{MayJoin};
-ghost use Rattle.mc_growth.specs.Outs.{is_out, least_used, AreOut, MayCut};
+ghost use Rattle.mc_growth.specs.Outs.{is_out, least_used, AreOut, MayCut, SetNoneOut};
+ghost use Rattle.mc_grow.specs.Asked.{is_out_at, names_out};
 ghost use Rattle.mc_grow.specs.Cuts.{unless_used};
+ghost use Rattle.mc_model.specs.Steps.{step};
 
-use crate::channels::{least_used, take_out};
+use crate::channels::{has_room, is_there, least_used, may_leave, take_out};
+use mc_box::{Change, Event};
 use mc_signal::Medium;
 use mc_view::PathView;
-use mc_world::World;
+use mc_world::{StepFault, World};
 use std::alloc::{AllocError, Global};
 use std::marker::Model;
+
+// The greatest number that a channel may have.
+const LAST_CHANNEL: u32 = (1 << 28) - 1;
 
 /// A slot of a channel that was to be cut isn't closed, or has another goal than close.
 #[derive(Clone, Copy, PartialEq, Eq, Debug)]
@@ -71,6 +78,72 @@ impl Grown {
             Some(out) => *out,
             None => false,
         }
+    }
+
+    /// Whether a channel may join two boxes, as `join` asks: both are there, they differ, each has fewer slots than the
+    /// limit and no program, and there is a number for the channel.
+    pub fn may_join(&self, from: u32, to: u32) -> bool
+        ensures { IsTrue result ↔ MayJoin self.now.world from to }
+    {
+        let boxes = self.world.boxes();
+        (from as usize) < boxes.len()
+            && (to as usize) < boxes.len()
+            && from != to
+            && has_room(&boxes[from as usize])
+            && has_room(&boxes[to as usize])
+            && !is_there(&self.world, LAST_CHANNEL)
+    }
+
+    /// Whether a channel may be cut, as `cut` asks: it is there, none of its slots is out, and neither of its boxes has a
+    /// program.
+    pub fn may_cut(&self, channel: u32) -> bool
+        ensures { IsTrue result ↔ MayCut self.now.world self.now.out channel }
+    {
+        is_there(&self.world, channel) && may_leave(&self.world, &self.out, channel)
+    }
+
+    /// Whether an event of a box is a Set on a slot that is out.
+    pub fn sets_out(&self, who: u32, event: &Event) -> bool
+        ensures { IsFalse result ↔ SetNoneOut self.now.world self.now.out (turn_of who event.now ∷ []) }
+    {
+        self.world.keeps();
+        self.names_out(who, event)
+    }
+
+    // Whether the slots that a Set of a box names are out, or one of them.
+    fn names_out(&self, who: u32, event: &Event) -> bool
+        ensures { result ≡ names_out self.now.world self.now.out who event.now }
+    {
+        match event {
+            Event::Set(Change::End(local, _)) => self.is_out_at(who, *local),
+            Event::Set(Change::Link(first, second)) => {
+                self.is_out_at(who, *first) || self.is_out_at(who, *second)
+            }
+            Event::Take(_) | Event::Media(_) | Event::Tell(_) | Event::Retry(_) | Event::Shift => {
+                false
+            }
+        }
+    }
+
+    // Whether a slot of a box is out.
+    fn is_out_at(&self, who: u32, local: u8) -> bool
+        ensures { result ≡ is_out_at self.now.world self.now.out who local }
+    {
+        match self.world.number(who, local) {
+            Some(slot) => self.is_out(slot),
+            None => false,
+        }
+    }
+
+    /// One event of one box that is no Set on a slot that is out, as the world makes it.
+    pub fn step(&mut self, who: u32, event: Event) -> Result<(), StepFault>
+        requires { SetNoneOut self.old.world self.old.out (turn_of who event ∷ []) }
+        ensures ok { OnOk result (step self.old.world (turn_of who event) ≡ Some self.new.world) }
+        ensures unchanged { OnErr result (self.new ≡ self.old) }
+        ensures out { self.new.out ≡ self.old.out }
+    {
+        self.world.keeps();
+        self.world.step(who, event)
     }
 
     /// A channel of one tunnel joins two boxes: its two slots have the next numbers, the initiator's, `from`'s, first, and

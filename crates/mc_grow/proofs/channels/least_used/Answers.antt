@@ -1,6 +1,6 @@
-use Rattle.std.proofs.Common.{◌≡◌, ◌≤◌, true, rules, arith}
+use Rattle.std.proofs.Common.{◌≡◌, true, rules, arith}
 use Rattle.mc_growth.specs.Outs.{is_used}
-use Rattle.mc_grow.proofs.Cutting.{NoneUsed, least_in, none_end}
+use Rattle.mc_grow.proofs.Cutting.{least_in, none_end}
 use Rattle.mc_grow.proofs.channels.least_used.Goals as goal
 
 pub returns-then-is_used : goal.returns-then-is_used
