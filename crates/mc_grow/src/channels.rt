@@ -1,5 +1,5 @@
-// The slots of a channel: where they are, which of them is in use, and that they are out from now on. They stand side by
-// side, so none of this looks at those of other channels.
+// The slots of a channel: where they are, which of them is in use, and that they are out from now on. They stand side
+// by side, so none of this looks at those of other channels.
 
 ghost use Rattle.std.specs.Prelude.{◌≡◌, ◌↔◌, ◌<◌, ◌≤◌, ◌+◌, ◌^◌, is_some, length, IsTrue};
 ghost use Rattle.mc_grow.specs.Asked.{AllMayLeave, MayLeave};

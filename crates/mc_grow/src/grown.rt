@@ -94,8 +94,8 @@ impl Grown {
             && !is_there(&self.world, LAST_CHANNEL)
     }
 
-    /// Whether a channel may be cut, as `cut` asks: it is there, none of its slots is out, and neither of its boxes has a
-    /// program.
+    /// Whether a channel may be cut, as `cut` asks: it is there, none of its slots is out, and neither of its boxes has
+    /// a program.
     pub fn may_cut(&self, channel: u32) -> bool
         ensures { IsTrue result ↔ MayCut self.now.world self.now.out channel }
     {
@@ -146,9 +146,9 @@ impl Grown {
         self.world.step(who, event)
     }
 
-    /// A channel of one tunnel joins two boxes: its two slots have the next numbers, the initiator's, `from`'s, first, and
-    /// come last in their boxes. All else stays, whatever is under way. It fails only for want of memory; the network is
-    /// gone then. It costs what it adds, and now and then the growth of a table.
+    /// A channel of one tunnel joins two boxes: its two slots have the next numbers, the initiator's, `from`'s, first,
+    /// and come last in their boxes. All else stays, whatever is under way. It fails only for want of memory; the
+    /// network is gone then. It costs what it adds, and now and then the growth of a table.
     pub fn join(
         self,
         alloc: Global,
