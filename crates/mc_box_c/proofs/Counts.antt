@@ -1,5 +1,5 @@
 -- A box has as many slots after an event as before it.
-use Rattle.std.proofs.Common.{◌≡◌, ◌≢◌, ◌==◌, if◌then◌else◌, ℕ, Some, None, List, [], ◌∷◌, length, refl, arith}
+use Rattle.std.proofs.Common.{◌≡◌, ◌≢◌, ◌==◌, if◌then◌else◌, ℕ, Some, None, [], ◌∷◌, length, refl, arith}
 use Rattle.std.proofs.lemmas.Grind.{common_steps}
 use Rattle.mc_signal.specs.declared.Signal.{Signal}
 use Rattle.mc_box.specs.BoxEvents.{BoxStep, box_event}

@@ -1,5 +1,8 @@
 -- One item more is written in front of what was there.
-use Rattle.std.proofs.Common.{◌≡◌, ℕ, suc, zero, ◌+◌, ◌<◌, List, [], ◌∷◌, ◌++◌, length, map, take, drop, slice_set, get_or, refl, ap, arith}
+use Rattle.std.proofs.Common.{◌≡◌, ℕ, suc, zero, ◌+◌, ◌<◌, List, [], ◌∷◌, ◌++◌, length, map, take, drop, slice_set, get_or, refl, ap, arith, ◌≤◌}
+use Rattle.std.specs.Prelude.{replicate}
+use Rattle.std.proofs.lemmas.List.{replicate-append-replicate}
+use Rattle.std.proofs.lemmas.Slice.{drop-append-drop}
 
 module _ {A B : Type 0} (f : A → B) where
   next : (i : ℕ) (xs : List A) (ys : List B) (x : A) (rest : List A) → drop i xs ≡ x ∷ rest → i < length ys
@@ -41,3 +44,32 @@ module _ {A : Type 0} where
   drop_none [] i e l = omega arith
   drop_none (x ∷ xs) zero e l = cc
   drop_none (x ∷ xs) (suc i) e l = drop_none xs i e (omega arith)
+
+  -- all of a list is the same item
+  pub alike : (y : A) (n : ℕ) (xs : List A) → n ≤ length xs → map (λ (x : A). y) (take n xs) ≡ replicate n y
+  alike y zero xs l = refl
+  alike y (suc n) [] l = absurd (omega arith)
+  alike y (suc n) (x ∷ xs) l = ap (λ (zs : List A). y ∷ zs) (alike y n xs (omega arith))
+
+  pub alike_length : (y : A) (n : ℕ) (xs : List A) → n ≤ length xs → length (map (λ (x : A). y) (take n xs)) ≡ n
+  alike_length y zero xs l = refl
+  alike_length y (suc n) [] l = absurd (omega arith)
+  alike_length y (suc n) (x ∷ xs) l = ap suc (alike_length y n xs (omega arith))
+
+  -- what comes from a place on is as it was, where all before it is overwritten
+  pub drop_after : (y : A) (n : ℕ) (xs zs : List A) → n ≤ length xs → zs ≡ map (λ (x : A). y) (take n xs) ++ drop n xs → drop n zs ≡ drop n xs
+  drop_after y n xs zs l is = rw is (drop-append-drop n xs (map (λ (x : A). y) (take n xs)) n (omega arith) (alike_length y n xs l))
+
+  -- where the rest was blank, all is
+  pub all_blank : (y : A) (n m : ℕ) (xs zs : List A) → n ≤ length xs → drop n xs ≡ replicate m y → zs ≡ map (λ (x : A). y) (take n xs) ++ drop n xs → zs ≡ replicate (n + m) y
+  all_blank y n m xs zs l rest is = rw is (rw rest (rw (alike y n xs l) (replicate-append-replicate n m y)))
+
+  pub same_length : (y : A) (n : ℕ) (xs : List A) → length (map (λ (x : A). y) (take n xs) ++ drop n xs) ≡ length xs
+  same_length y zero xs = refl
+  same_length y (suc n) [] = refl
+  same_length y (suc n) (x ∷ xs) = ap suc (same_length y n xs)
+
+  pub long : (n : ℕ) (xs : List A) → length (take n xs) ≡ n → n ≤ length xs
+  long zero xs e = omega arith
+  long (suc n) [] e = absurd (omega (arith, e))
+  long (suc n) (x ∷ xs) e = let rest : n ≤ length xs = long n xs (omega (arith, e)) in omega (arith, rest)

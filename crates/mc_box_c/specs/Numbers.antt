@@ -1,6 +1,7 @@
 -- What numbers that C hands over say, and the numbers that C is handed.
-use Rattle.std.specs.Prelude.{◌≡◌, ◌==◌, ◌&&◌, ℕ, Bool, true, false, not, if◌then◌else◌, List, [], ◌∷◌, ◌++◌, length, nat_le, nat_lt, slice_get, take, Option, Some, None}
+use Rattle.std.specs.Prelude.{◌≡◌, ◌==◌, ◌&&◌, ◌||◌, ℕ, Bool, true, false, not, if◌then◌else◌, List, [], ◌∷◌, ◌++◌, length, nat_le, nat_lt, slice_get, take, Option, Some, None, IsTrue}
 use Rattle.mc_signal.specs.Choice.{codecs_of, has_codec}
+use Rattle.mc_signal.specs.Codecs.{AreCodecs, AreDistinct, IsBlankFrom}
 use Rattle.mc_signal.specs.declared.codec_list.CodecList.{CodecList}
 use Rattle.mc_signal.specs.declared.Descriptor.{Descriptor}
 use Rattle.mc_signal.specs.declared.Medium.{Medium}
@@ -38,6 +39,10 @@ named plain = take plain.count plain.at
 abbrev pub is_list : PlainList → Bool
 is_list plain = nat_le plain.count 8 && can_list [] (named plain)
 
+-- so many codecs are below 64 and none is there twice, and 0 comes after them
+abbrev pub IsStored : ℕ → List ℕ → Type 0
+IsStored count at = AreCodecs count at × AreDistinct count at × IsBlankFrom count at
+
 -- a list has its codecs in front, and 0 behind
 abbrev pub plain_list : CodecList → PlainList
 plain_list list = record { count = list.len; at = list.at }
@@ -68,6 +73,10 @@ Says plain Close = plain.kind ≡ 2
 Says plain Closeack = plain.kind ≡ 3
 Says plain (Describe d) = (plain.kind ≡ 4) × SaysDescriptor plain d
 Says plain (Select s) = (plain.kind ≡ 5) × SaysSelector plain s
+
+-- the numbers are of a kind of signal with a descriptor, and of a medium
+abbrev pub IsDescribed : PlainSignal → Type 0
+IsDescribed plain = IsTrue ((plain.kind == 0 && nat_lt plain.medium 2) || plain.kind == 1 || plain.kind == 4)
 
 -- the numbers say some signal: its kind, its medium and its codecs are such
 abbrev pub is_signal : PlainSignal → Bool

@@ -2,6 +2,7 @@
 
 ghost use Rattle.std.specs.Prelude.{[], ◌≡◌, ◌≢◌, ◌+◌, ◌*◌, ◌<◌, ◌≤◌, ◌++◌, drop, is_some, length, map, IfOk, IsTrue};
 ghost use Rattle.mc_slot.specs.Moves.{slot_take};
+ghost use Rattle.mc_slot.specs.Sending.{sends_of};
 ghost use Rattle.mc_box.specs.Boxes.{slot_at};
 ghost use Rattle.mc_box_c.specs.Answers.{HasActed, HasTaken, WhyNotActed, WhyNotTaken};
 ghost use Rattle.mc_box_c.specs.Asked.{is_box, SaysBox};
@@ -18,13 +19,17 @@ use mc_signal::Signal;
 use mc_slot::Sends;
 use std::alloc::{AllocError, Global};
 
-/// A box, and a queue with room for what it sends in one event. So no event wants memory.
+/// A box, a queue with room for what it sends in one event, and a list for what it sends when it takes a signal. Both
+/// are empty between calls. So no event wants memory, and no call makes a list.
 #[derive(Drop)]
 pub struct HeldBox {
     pub part: MediaBox,
     pub out: Lane<(u8, Signal)>,
+    pub sends: Sends,
+    pub signal: Signal,
     pub ghost idle: { out.items ≡ [] },
     pub ghost room: { 2 * length part.slots ≤ out.spare },
+    pub ghost unsent: { sends.len ≡ 0 },
 }
 
 impl HeldBox {
@@ -40,7 +45,12 @@ impl HeldBox {
     {
         let part = MediaBox::new(alloc, setup.setup(alloc, slots, states)?)?;
         let out = queue_for(alloc, part.slots().len())?;
-        Ok(HeldBox { part, out })
+        Ok(HeldBox {
+            part,
+            out,
+            sends: Sends::none(),
+            signal: Signal::Close,
+        })
     }
 
     /// A slot takes a signal, and what is sent comes into `out`. Answers a code.
@@ -55,36 +65,39 @@ impl HeldBox {
         ensures why_not { result ≢ OK → WhyNotTaken self.old.part slot plain.now (length out.old) result }
         ensures unchanged { result ≢ OK → (self.new.part ≡ self.old.part) × (out.new ≡ out.old) × (count.new ≡ 0) }
     {
-        *count = 0;
         if self.part.slots().len() <= slot as usize {
+            *count = 0;
             return answer::NO_SLOT;
         }
-        let signal = match plain.signal() {
-            Some(signal) => signal,
-            None => return answer::INVALID,
-        };
         if out.len() < 3 {
-            return answer::NO_ROOM;
+            // Numbers that say no signal are told first.
+            if plain.is_signal() {
+                *count = 0;
+                return answer::NO_ROOM;
+            }
+            *count = 0;
+            return answer::INVALID;
         }
-        if !self.is_lawful(slot, &signal) {
+        if !plain.read(&mut self.signal) {
+            *count = 0;
+            return answer::INVALID;
+        }
+        if !self.is_lawful(slot) {
+            *count = 0;
             return answer::UNLAWFUL;
         }
         self.part.keeps();
-        // What is sent comes into a list of its own, which isn't copied.
-        let mut sends = Sends::none();
-        self.part.send_take(slot, signal, &mut sends);
-        let sent = sends.as_slice();
-        write_all(sent, out);
-        *count = sent.len();
+        self.part.send_take(slot, self.signal, &mut self.sends);
+        *count = empty_list_into(&mut self.sends, out);
         answer::OK
     }
 
-    // Whether a slot can take the signal.
-    fn is_lawful(&self, slot: u8, signal: &Signal) -> bool
+    // Whether a slot can take the signal that was read.
+    fn is_lawful(&self, slot: u8) -> bool
         requires { slot < length self.now.part.slots }
-        ensures { result ≡ is_some (slot_take (slot_at self.now.part slot) signal.now) }
+        ensures { result ≡ is_some (slot_take (slot_at self.now.part slot) self.now.signal) }
     {
-        self.part.slots()[slot as usize].lawful(signal)
+        self.part.slots()[slot as usize].lawful(&self.signal)
     }
 
     /// An event that takes no signal happens, and what is sent comes into `out`. Answers a code.
@@ -126,14 +139,27 @@ fn queue_for(alloc: Global, slots: usize) -> Result<Lane<(u8, Signal)>, AllocErr
     Ok(queue)
 }
 
-// The sent signals come into `out`.
-fn write_all(sent: &[(u8, Signal)], out: &mut [PlainSent])
-    requires { length sent.now ≤ length out.old }
-    ensures { out.new ≡ map sent_of sent.now ++ drop (length sent.now) out.old }
+// What is listed comes into `out`, and is no longer listed.
+fn empty_list_into(sends: &mut Sends, out: &mut [PlainSent]) -> usize
+    requires room { sends.old.len ≤ length out.old }
+    requires few { sends.old.len ≤ 3 }
+    ensures written { out.new ≡ map sent_of (sends_of sends.old) ++ drop sends.old.len out.old }
+    ensures empty { sends.new.len ≡ 0 }
+    ensures count { result ≡ sends.old.len }
 {
-    for i in 0..sent.len() {
-        out[i] = PlainSent::of(sent[i]);
+    let count = sends.as_slice().len();
+    if count == 0 {
+        return 0;
     }
+    let mut i = 0;
+    // That it ends at 3 lets the compiler unroll the loop.
+    while i < 3 && i < count {
+        out[i].set(&sends.at[i]);
+        sends.at[i] = (0, Signal::Close);
+        i += 1;
+    }
+    sends.len = 0;
+    count
 }
 
 // What is queued comes into `out`, and is no longer queued.
@@ -147,7 +173,7 @@ fn empty_into(queue: &mut Lane<(u8, Signal)>, out: &mut [PlainSent]) -> usize
     let count = queue.len();
     for i in 0..count {
         if let Some(sent) = queue.pop() {
-            out[i] = PlainSent::of(sent);
+            out[i].set(&sent);
         }
     }
     count

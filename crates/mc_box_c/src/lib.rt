@@ -161,17 +161,7 @@ pub extern "C" fn media_box_take(
     ensures why_not { result ≢ OK → result ≢ NO_BOX → OfBox (box_in handle.old)
         (λ old. WhyNotTaken old slot signal.now (length out.old) result) }
 {
-    match handle.open(alloc) {
-        Some(mut held) => {
-            let code = held.take(slot, signal, out, count);
-            handle.close(held);
-            code
-        }
-        None => {
-            *count = 0;
-            answer::NO_BOX
-        }
-    }
+    handle.take(alloc, slot, signal, out, count)
 }
 
 /// The event that the numbers say happens. What is sent comes into `out`, and how much that is into `count`.

@@ -1,8 +1,8 @@
 //! What crosses between C and a box: structs of numbers, each of which may say anything.
 
-ghost use Rattle.std.specs.Prelude.{◌≡◌, ◌+◌, ◌∷◌, [], ◌++◌, ◌≤◌, IfSome, IsTrue, is_some, drop, length, map};
+ghost use Rattle.std.specs.Prelude.{◌≡◌, ◌∷◌, [], ◌++◌, ◌≤◌, true, IfSome, IsTrue, is_some};
 ghost use Rattle.mc_signal.specs.Choice.{codecs_of};
-ghost use Rattle.mc_box_c.specs.Numbers.{can_add, can_list, is_list, is_signal, medium_number, medium_of, named, no_list, one_codec, plain_bare, plain_descriptor, plain_list, plain_of, sent_of, Says, SaysDescriptor};
+ghost use Rattle.mc_box_c.specs.Numbers.{can_add, can_list, is_list, is_signal, medium_number, medium_of, named, no_list, one_codec, plain_bare, plain_descriptor, plain_selector, plain_of, sent_of, IsDescribed, IsStored, Says, SaysDescriptor, SaysSelector};
 
 use mc_signal::{CodecList, Descriptor, Medium, Selector, Signal};
 
@@ -37,6 +37,19 @@ pub struct PlainSent {
     pub signal: PlainSignal,
 }
 
+// The bits of eight bytes that are 0 where so many of them are codecs, below 64, and those after them are 0.
+static OUTSIDE: [u64; 9] = [
+    0xffffffffffffffff,
+    0xffffffffffffffc0,
+    0xffffffffffffc0c0,
+    0xffffffffffc0c0c0,
+    0xffffffffc0c0c0c0,
+    0xffffffc0c0c0c0c0,
+    0xffffc0c0c0c0c0c0,
+    0xffc0c0c0c0c0c0c0,
+    0xc0c0c0c0c0c0c0c0,
+];
+
 impl PlainList {
     /// The list that these numbers say, where there is one.
     pub fn list(&self) -> Option<CodecList>
@@ -49,35 +62,45 @@ impl PlainList {
         listed(&self.at[..self.count as usize])
     }
 
-    /// The numbers of a list.
-    pub fn of(list: &CodecList) -> PlainList
-        ensures { result ≡ plain_list list.now }
+    // Whether these are the numbers of a list as it is stored.
+    fn is_stored(&self) -> bool
+        requires { self.now.count ≤ 8 }
+        ensures { result ≡ true → IsStored self.now.count self.now.at }
     {
-        PlainList {
-            count: list.len,
-            at: list.at,
-        }
+        let at = self.at;
+        are_stored(self.count, at)
     }
 
-    // No codecs.
-    fn none() -> PlainList
-        ensures { result ≡ no_list }
+    // Takes no codecs.
+    fn set_none(&mut self)
+        ensures { self.new ≡ no_list }
     {
-        PlainList {
-            count: 0,
-            at: [0, 0, 0, 0, 0, 0, 0, 0],
-        }
+        self.count = 0;
+        self.at = [0; 8];
     }
 
-    // A codec alone.
-    fn one(codec: u8) -> PlainList
-        ensures { result ≡ one_codec codec }
+    // Takes a codec alone.
+    fn set_one(&mut self, codec: u8)
+        ensures { self.new ≡ one_codec codec }
     {
-        PlainList {
-            count: 1,
-            at: [codec, 0, 0, 0, 0, 0, 0, 0],
-        }
+        self.count = 1;
+        self.at = [codec, 0, 0, 0, 0, 0, 0, 0];
     }
+}
+
+// Whether so many codecs are below 64 and all different, and 0 after them. They are compared as bits.
+fn are_stored(count: u8, at: [u8; 8]) -> bool
+    requires { count ≤ 8 }
+    ensures { result ≡ true → IsStored count at }
+{
+    let mut seen = 0u64;
+    for i in 0..count as usize {
+        seen |= 1u64 << (at[i] & 63);
+    }
+    if seen.count_ones() != count as u32 {
+        return false;
+    }
+    u64::from_le_bytes(at) & OUTSIDE[count as usize] == 0
 }
 
 // The list of these codecs, where they are one.
@@ -127,48 +150,115 @@ pub fn medium_number(medium: Medium) -> u8
 }
 
 impl PlainSignal {
-    /// The signal that these numbers say, where they say one.
-    pub fn signal(&self) -> Option<Signal>
-        ensures says { IfSome result (Says self.now) }
-        ensures reads { is_some result ≡ is_signal self.now }
+    /// Whether these numbers say a signal.
+    #[inline(never)]
+    pub fn is_signal(&self) -> bool
+        ensures { result ≡ is_signal self.now }
+    {
+        let mut signal = Signal::Close;
+        self.read(&mut signal)
+    }
+
+    /// Reads the signal that these numbers say into `signal`. Answers whether they say one.
+    #[inline(always)]
+    pub fn read(&self, signal: &mut Signal) -> bool
+        ensures says { result ≡ true → Says self.now signal.new }
+        ensures reads { result ≡ is_signal self.now }
     {
         match self.kind {
-            0 => {
-                if 1 < self.medium {
-                    return None;
-                }
-                match self.descriptor() {
-                    Some(d) => Some(Signal::Open(medium_of(self.medium), d)),
-                    None => None,
-                }
+            0 if 1 < self.medium => return false,
+            0 | 1 | 4 => return self.read_described(signal),
+            2 => *signal = Signal::Close,
+            3 => *signal = Signal::Closeack,
+            5 if self.codecs.count <= 1 => *signal = Signal::Select(self.selector()),
+            _ => return false,
+        }
+        true
+    }
+
+    // The same, of a signal with a descriptor.
+    #[inline(always)]
+    fn read_described(&self, signal: &mut Signal) -> bool
+        requires { IsDescribed self.now }
+        ensures says { result ≡ true → Says self.now signal.new }
+        ensures reads { result ≡ is_signal self.now }
+    {
+        if 8 < self.codecs.count {
+            return false;
+        }
+        if !self.codecs.is_stored() {
+            return self.read_listed(signal);
+        }
+        match self.kind {
+            0 => *signal = Signal::Open(medium_of(self.medium), self.stored_descriptor()),
+            1 => *signal = Signal::Oack(self.stored_descriptor()),
+            _ => *signal = Signal::Describe(self.stored_descriptor()),
+        }
+        true
+    }
+
+    // The same, where the codecs aren't as a list stores them, but may be one.
+    #[inline(never)]
+    fn read_listed(&self, signal: &mut Signal) -> bool
+        requires { IsDescribed self.now }
+        ensures says { result ≡ true → Says self.now signal.new }
+        ensures reads { result ≡ is_signal self.now }
+    {
+        match self.descriptor() {
+            Some(d) => {
+                *signal = self.describing(d);
+                true
             }
-            1 => match self.descriptor() {
-                Some(d) => Some(Signal::Oack(d)),
-                None => None,
+            None => false,
+        }
+    }
+
+    // The signal of this kind with a descriptor.
+    fn describing(&self, d: Descriptor) -> Signal
+        requires kind { IsDescribed self.now }
+        requires says { SaysDescriptor self.now d }
+        ensures { Says self.now result }
+    {
+        match self.kind {
+            0 => Signal::Open(medium_of(self.medium), d),
+            1 => Signal::Oack(d),
+            _ => Signal::Describe(d),
+        }
+    }
+
+    // The descriptor that these numbers say, where their codecs are those of a list as it is stored.
+    fn stored_descriptor(&self) -> Descriptor
+        requires few { self.now.codecs.count ≤ 8 }
+        requires stored { IsStored self.now.codecs.count self.now.codecs.at }
+        ensures { SaysDescriptor self.now result }
+    {
+        Descriptor {
+            origin: self.origin,
+            version: self.version,
+            addr: self.addr,
+            port: self.port,
+            codecs: CodecList {
+                len: self.codecs.count,
+                at: self.codecs.at,
             },
-            2 => Some(Signal::Close),
-            3 => Some(Signal::Closeack),
-            4 => match self.descriptor() {
-                Some(d) => Some(Signal::Describe(d)),
-                None => None,
+        }
+    }
+
+    // The selector that these numbers say, with the codec that is named.
+    fn selector(&self) -> Selector
+        requires { self.now.codecs.count ≤ 1 }
+        ensures { SaysSelector self.now result }
+    {
+        Selector {
+            origin: self.origin,
+            version: self.version,
+            addr: self.addr,
+            port: self.port,
+            codec: if self.codecs.count == 0 {
+                None
+            } else {
+                Some(self.codecs.at[0])
             },
-            5 => {
-                if 1 < self.codecs.count {
-                    return None;
-                }
-                Some(Signal::Select(Selector {
-                    origin: self.origin,
-                    version: self.version,
-                    addr: self.addr,
-                    port: self.port,
-                    codec: if self.codecs.count == 0 {
-                        None
-                    } else {
-                        Some(self.codecs.at[0])
-                    },
-                }))
-            }
-            _ => None,
         }
     }
 
@@ -189,68 +279,72 @@ impl PlainSignal {
         }
     }
 
-    /// The numbers of a signal.
-    pub fn of(signal: &Signal) -> PlainSignal
-        ensures { result ≡ plain_of signal.now }
+    /// Takes the numbers of a signal.
+    #[inline(always)]
+    pub fn set(&mut self, signal: &Signal)
+        ensures { self.new ≡ plain_of signal.now }
     {
         match signal {
-            Signal::Open(medium, d) => PlainSignal::of_descriptor(0, medium_number(*medium), d),
-            Signal::Oack(d) => PlainSignal::of_descriptor(1, 0, d),
-            Signal::Close => PlainSignal::bare(2),
-            Signal::Closeack => PlainSignal::bare(3),
-            Signal::Describe(d) => PlainSignal::of_descriptor(4, 0, d),
-            Signal::Select(s) => PlainSignal {
-                kind: 5,
-                medium: 0,
-                codecs: match s.codec {
-                    Some(codec) => PlainList::one(codec),
-                    None => PlainList::none(),
-                },
-                port: s.port,
-                origin: s.origin,
-                version: s.version,
-                addr: s.addr,
-            },
+            Signal::Open(medium, d) => self.set_described(0, medium_number(*medium), d),
+            Signal::Oack(d) => self.set_described(1, 0, d),
+            Signal::Close => self.set_bare(2),
+            Signal::Closeack => self.set_bare(3),
+            Signal::Describe(d) => self.set_described(4, 0, d),
+            Signal::Select(s) => self.set_selector(s),
         }
     }
 
-    fn of_descriptor(kind: u8, medium: u8, d: &Descriptor) -> PlainSignal
-        ensures { result ≡ plain_descriptor kind medium d.now }
+    fn set_described(&mut self, kind: u8, medium: u8, d: &Descriptor)
+        ensures { self.new ≡ plain_descriptor kind medium d.now }
     {
-        PlainSignal {
-            kind,
-            medium,
-            codecs: PlainList::of(&d.codecs),
-            port: d.port,
-            origin: d.origin,
-            version: d.version,
-            addr: d.addr,
-        }
+        let (count, at) = (d.codecs.len, d.codecs.at);
+        let (port, origin, version, addr) = (d.port, d.origin, d.version, d.addr);
+        self.kind = kind;
+        self.medium = medium;
+        self.codecs.count = count;
+        self.codecs.at = at;
+        self.port = port;
+        self.origin = origin;
+        self.version = version;
+        self.addr = addr;
     }
 
-    fn bare(kind: u8) -> PlainSignal
-        ensures { result ≡ plain_bare kind }
+    fn set_selector(&mut self, s: &Selector)
+        ensures { self.new ≡ plain_selector s.now }
     {
-        PlainSignal {
-            kind,
-            medium: 0,
-            codecs: PlainList::none(),
-            port: 0,
-            origin: 0,
-            version: 0,
-            addr: 0,
+        let s = *s;
+        self.kind = 5;
+        self.medium = 0;
+        match s.codec {
+            Some(codec) => self.codecs.set_one(codec),
+            None => self.codecs.set_none(),
         }
+        self.port = s.port;
+        self.origin = s.origin;
+        self.version = s.version;
+        self.addr = s.addr;
+    }
+
+    fn set_bare(&mut self, kind: u8)
+        ensures { self.new ≡ plain_bare kind }
+    {
+        self.kind = kind;
+        self.medium = 0;
+        self.codecs.set_none();
+        self.port = 0;
+        self.origin = 0;
+        self.version = 0;
+        self.addr = 0;
     }
 }
 
 impl PlainSent {
-    /// The numbers of a signal that a slot sends.
-    pub fn of(sent: (u8, Signal)) -> PlainSent
-        ensures { result ≡ sent_of sent }
+    /// Takes the numbers of a signal that a slot sends.
+    #[inline(always)]
+    pub fn set(&mut self, sent: &(u8, Signal))
+        ensures { self.new ≡ sent_of sent.now }
     {
-        PlainSent {
-            slot: sent.0,
-            signal: PlainSignal::of(&sent.1),
-        }
+        self.slot = sent.0;
+        self.signal.set(&sent.1);
     }
 }

@@ -14,7 +14,7 @@ loop-i-preserved c =
           record {
             room = omega (arith, c.loop-i.invariant.room, w.in-Some.ensures.size);
             left = sym (drop_next c.loop-i.i c.args.queue.now.items w.in-Some.sent c.pop.new.self.items first);
-            written = w.out-is ∙ rw w.of.ensures (written_next sent_of c.loop-i.i c.args.queue.now.items c.args.out.now c.loop-i.out w.in-Some.sent c.pop.new.self.items first within c.loop-i.invariant.written);
+            written = w.out-is ∙ rw w.set.ensures (written_next sent_of c.loop-i.i c.args.queue.now.items c.args.out.now c.loop-i.out w.in-Some.sent c.pop.new.self.items first within c.loop-i.invariant.written);
           }
       | in_default w ↦ absurd (drop_none c.args.queue.now.items c.loop-i.i (sym c.loop-i.invariant.left ∙ w.in_default.ensures.item.0) inside)
     ]

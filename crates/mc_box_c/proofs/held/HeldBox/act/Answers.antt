@@ -19,4 +19,4 @@ returns-in-Err-clause-why_not c = λ _. version_end (record { asked = c.in-Some.
 pub invariant_of-self : goal.invariant_of-self
 invariant_of-self c =
     let same = acted_as_many c.args.self.now.part c.in-Some.event (record { sent = c.in-Ok.ensures.event.sent; after = c.act.new.self }) c.keeps.ensures c.in-Ok.ensures.event.goes in
-    record { idle = c.empty_into.ensures.empty; room = omega (arith, same, ap length c.args.self.now.idle, c.args.self.now.room, c.in-Ok.ensures.room, c.empty_into.ensures.room) }
+    record { idle = c.empty_into.ensures.empty; room = omega (arith, same, ap length c.args.self.now.idle, c.args.self.now.room, c.in-Ok.ensures.room, c.empty_into.ensures.room); unsent = c.args.self.now.unsent }
