@@ -1,0 +1,4 @@
+mod GrownRuns
+mod JoinedPaths
+mod Settled
+mod Shapes
