@@ -1,19 +1,20 @@
 -- Codecs that are compared as bits of a number.
-use Rattle.std.proofs.Common.{◌≡◌, ◌≢◌, ◌+◌, ◌*◌, ◌/◌, ◌%◌, ◌<◌, ◌≤◌, ◌∙◌, ℕ, zero, suc, Bool, true, false, List, [], ◌∷◌, arith, ap, bit_and, bit_or, length, refl, sym, subst}
+use Rattle.std.proofs.Common.{◌≡◌, ◌≢◌, ◌+◌, ◌*◌, ◌/◌, ◌%◌, ◌<◌, ◌≤◌, ◌∙◌, ℕ, zero, suc, Bool, true, false, List, [], ◌∷◌, arith, ap, bit_and, bit_or, bit_xor, length, refl, sym, subst, take}
 use Rattle.mc_signal.specs.Codecs.{AreCodecs, AreDistinct, IsBlankFrom}
+use Rattle.mc_box_c.specs.Numbers.{Tells}
 use Prim.Native.Nat.{◌^◌}
 use mathlib.Core.Logic.{◌⊎◌, inl, inr}
 use Rattle.std.specs.Prelude.{nat_eq, nat_lt, if◌then◌else◌, ◌&&◌}
 use Rattle.std.specs.List.{slice_index}
 use Rattle.std.specs.Int.{bit_at, from_le_bytes, to_le_bytes, w64}
 use Rattle.std.specs.Int.Count.{ones, ones-ones}
-use Rattle.std.specs.Int.Bits.{or_zero_r}
+use Rattle.std.specs.Int.Bits.{or_zero_r, xor_zero_r}
 use Rattle.std.proofs.lemmas.Bool.{le-ltb, lt-ltb}
 use Rattle.std.proofs.lemmas.Grind.{common_steps}
-use Rattle.std.proofs.lemmas.List.{get_or_past}
+use Rattle.std.proofs.lemmas.List.{get_or-take, get_or_past, length-take-le}
 use Rattle.std.proofs.Math.ListN.{get_or}
-use Rattle.std.proofs.lemmas.Nat.{and_le_r, and_mask, and_mod, and_shr, le_bytes_8, one_shl, ones_cat, or_block, pow_pos}
-use Rattle.std.proofs.lemmas.Nat.Bits.{and_high, bit_at_or, bit_at_set_same, bit_at-lt}
+use Rattle.std.proofs.lemmas.Nat.{and_le_r, and_mask, and_mod, and_shr, le_bytes_8, one_shl, ones_cat, or_block, pow_pos, xor_block}
+use Rattle.std.proofs.lemmas.Nat.Bits.{and_high, bit_at_or, bit_at_set_same, bit_at_xor, bit_at-lt, bit_at-pow_other, bit_at-pow_same}
 use Rattle.std.proofs.Math.Nat.{div-add-mod, div-one, eq-or-lt_of_le, le-max_left, mod-lt, mul_comm, zero-div}
 
 -- the lowest bit, set once more
@@ -42,6 +43,33 @@ ones_set s m =
     let one : p ≡ 1 * p + 0 = omega arith in
     let set : bit_or s p ≡ bit_or a 1 * p + r = ap (λ (x : ℕ). bit_or x p) whole ∙ ap (λ (x : ℕ). bit_or (a * p + r) x) one ∙ or_block m a 1 r 0 small (pow_pos m) ∙ ap (λ (x : ℕ). bit_or a 1 * p + x) (or_zero_r r) in
     omega (arith, ap ones set, ones_cat m (bit_or a 1) r small, ap ones whole, ones_cat m a r small, low_set a)
+
+-- the lowest bit, turned
+low_turn_by : (b t : ℕ) → t < 2 → ones (bit_xor (b * 2 + t) 1) + 2 * t ≡ ones (b * 2 + t) + 1
+low_turn_by b zero h =
+    let block : bit_xor (b * 2 + 0) 1 ≡ b * 2 + 1 = xor_block 1 b 0 0 1 (omega arith) (omega arith) ∙ ap (λ (x : ℕ). x * 2 + 1) (xor_zero_r b) in
+    omega (arith, ap ones block, ones_cat 1 b 1 (omega arith), ones_cat 1 b 0 (omega arith), ones-ones 1, ones-ones 0)
+low_turn_by b (suc zero) h =
+    let block : bit_xor (b * 2 + 1) 1 ≡ b * 2 + 0 = xor_block 1 b 0 1 1 (omega arith) (omega arith) ∙ ap (λ (x : ℕ). x * 2 + 0) (xor_zero_r b) in
+    omega (arith, ap ones block, ones_cat 1 b 1 (omega arith), ones_cat 1 b 0 (omega arith), ones-ones 1, ones-ones 0)
+low_turn_by b (suc (suc t)) h = absurd (omega (arith, h))
+
+low_turn : (a : ℕ) → ones (bit_xor a 1) + 2 * (a % 2) ≡ ones a + 1
+low_turn a =
+    let whole : a / 2 * 2 + a % 2 ≡ a = ap (λ (x : ℕ). x + a % 2) (mul_comm (a / 2) 2) ∙ div-add-mod a 2 in
+    subst (λ (x : ℕ). ones (bit_xor x 1) + 2 * (a % 2) ≡ ones x + 1) whole (low_turn_by (a / 2) (a % 2) (mod-lt a (omega arith)))
+
+-- a bit, turned
+ones_turn : (s m : ℕ) → ones (bit_xor s (2 ^ m)) + 2 * bit_at s m ≡ ones s + 1
+ones_turn s m =
+    let p = 2 ^ m in
+    let a = s / p in
+    let r = s % p in
+    let small : r < p = mod-lt s (pow_pos m) in
+    let whole : s ≡ a * p + r = sym (ap (λ (x : ℕ). x + r) (mul_comm a p) ∙ div-add-mod s p) in
+    let one : p ≡ 1 * p + 0 = omega arith in
+    let turn : bit_xor s p ≡ bit_xor a 1 * p + r = ap (λ (x : ℕ). bit_xor x p) whole ∙ ap (λ (x : ℕ). bit_xor (a * p + r) x) one ∙ xor_block m a 1 r 0 small (pow_pos m) ∙ ap (λ (x : ℕ). bit_xor a 1 * p + x) (xor_zero_r r) in
+    omega (arith, ap ones turn, ones_cat m (bit_xor a 1) r small, ap ones whole, ones_cat m a r small, low_turn a)
 
 kept : (a b i : ℕ) → bit_at a i ≡ 1 → bit_at (bit_or a b) i ≡ 1
 kept a b i e = omega (arith, e, bit_at_or a b i, le-max_left (bit_at a i) (bit_at b i), bit_at-lt (bit_or a b) i)
@@ -94,6 +122,43 @@ module _ (at : List ℕ) (i seen : ℕ) (was : Compared at i seen) where
     marked = λ e k l. marked (omega (arith, e, set, was.few)) k (eq-or-lt_of_le (omega (arith, l)));
     apart = λ e j k b l. apart (omega (arith, e, set, was.few)) (omega (arith, e, set, was.few)) j k b (eq-or-lt_of_le (omega (arith, l)));
   }
+
+  turn : ones (bit_xor seen (2 ^ m)) + 2 * bit_at seen m ≡ ones seen + 1
+  turn = ones_turn seen m
+
+  turned : ones seen ≡ i → bit_at seen m ≡ 0 → (k : ℕ) → (k ≡ i) ⊎ (k < i) → bit_at (bit_xor seen (2 ^ m)) (mark (slice_index at k)) ≡ 1
+  turned full clear k (inl e) =
+      let here : bit_at (bit_xor seen (2 ^ m)) m ≡ 1 = omega (arith, bit_at_xor seen (2 ^ m) m, bit_at-pow_same m, clear) in
+      subst (λ (x : ℕ). bit_at (bit_xor seen (2 ^ m)) (mark (slice_index at x)) ≡ 1) (sym e) here
+  turned full clear k (inr l) =
+      let n = mark (slice_index at k) in
+      let there : bit_at seen n ≡ 1 = was.marked full k l in
+      let other : n ≢ m = λ same. let both : bit_at seen n ≡ bit_at seen m = ap (bit_at seen) same in omega (arith, there, both, clear) in
+      omega (arith, bit_at_xor seen (2 ^ m) n, bit_at-pow_other m n other, there)
+
+  by_power : Compared at (i + 1) (bit_xor seen (2 ^ m))
+  by_power =
+      let low : bit_at seen m < 2 = bit_at-lt seen m in
+      record {
+        few = omega (arith, turn, was.few);
+        marked = λ e k l. turned (omega (arith, e, turn, was.few, low)) (omega (arith, e, turn, was.few, low)) k (eq-or-lt_of_le (omega (arith, l)));
+        apart = λ e j k b l. apart (omega (arith, e, turn, was.few, low)) (omega (arith, e, turn, was.few, low)) j k b (eq-or-lt_of_le (omega (arith, l)));
+      }
+
+  pub one_turned : Compared at (i + 1) (bit_xor seen bit)
+  one_turned = subst (λ (x : ℕ). Compared at (i + 1) (bit_xor seen x)) (sym (one_shl m 64 small)) by_power
+
+abbrev bit_of : ℕ → ℕ
+bit_of codec = 1 * 2 ^ mark codec % 18446744073709551616
+
+-- two at a time
+pub two_more : (at : List ℕ) (i seen : ℕ) → Compared at (2 * i) seen
+    → Compared at (2 * (i + 1)) (bit_xor (bit_or seen (bit_of (slice_index at (2 * i)))) (bit_of (slice_index at (2 * i + 1))))
+two_more at i seen was =
+    let on : 2 * i + 1 + 1 ≡ 2 * (i + 1) = omega arith in
+    let first : ℕ = bit_or seen (bit_of (slice_index at (2 * i))) in
+    let both : ℕ = bit_xor first (bit_of (slice_index at (2 * i + 1))) in
+    subst (λ (n : ℕ). Compared at n both) on (one_turned at (2 * i + 1) first (one_more at (2 * i) seen was))
 
 -- so it is of every number below one
 abbrev every : (ℕ → Bool) → ℕ → Bool
@@ -183,8 +248,11 @@ module _ (at : List ℕ) (count word : ℕ) (places : length at ≡ 8) (bytes : 
       let byte : slice_index at k < 256 = bytes k in
       omega (arith, low, all, byte)
 
-  pub stored : (i seen : ℕ) → Compared at i seen → i ≡ count → ones seen ≡ count
-      → AreCodecs count at × AreDistinct count at × IsBlankFrom count at
-  stored i seen was end full =
-      let all : ones seen ≡ i = full ∙ sym end in
-      ((λ k l. codec k (omega (arith, l, few)) l), (λ j k b l. was.apart all j k b (omega (arith, l, end))), (λ k l. after k (before_or_not k 8) l))
+  pub fits : AreCodecs count at × IsBlankFrom count at
+  fits = ((λ k l. codec k (omega (arith, l, few)) l), (λ k l. after k (before_or_not k 8) l))
+
+-- what is told of the first codecs of eight
+pub told : (count : ℕ) (at : List ℕ) (marks : ℕ) → count ≤ 8 → length at ≡ 8 → Tells (take count at) marks → ones marks ≡ count → AreDistinct count at
+told count at marks few places tells full = λ j k b l same.
+    let long : length (take count at) ≡ count = length-take-le count at (omega (arith, few, places)) in
+    tells (full ∙ sym long) j k b (omega (arith, l, long)) (get_or-take count at j 0 (omega (arith, b, l)) ∙ same ∙ sym (get_or-take count at k 0 l))

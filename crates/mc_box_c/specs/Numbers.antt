@@ -1,5 +1,6 @@
 -- What numbers that C hands over say, and the numbers that C is handed.
 use Rattle.std.specs.Prelude.{◌≡◌, ◌==◌, ◌&&◌, ◌||◌, ℕ, Bool, true, false, not, if◌then◌else◌, List, [], ◌∷◌, ◌++◌, length, nat_le, nat_lt, slice_get, take, Option, Some, None, IsTrue}
+use Rattle.std.specs.Int.Count.{ones}
 use Rattle.mc_signal.specs.Choice.{codecs_of, has_codec}
 use Rattle.mc_signal.specs.Codecs.{AreCodecs, AreDistinct, IsBlankFrom}
 use Rattle.mc_signal.specs.declared.codec_list.CodecList.{CodecList}
@@ -42,6 +43,10 @@ is_list plain = nat_le plain.count 8 && can_list [] (named plain)
 -- so many codecs are below 64 and none is there twice, and 0 comes after them
 abbrev pub IsStored : ℕ → List ℕ → Type 0
 IsStored count at = AreCodecs count at × AreDistinct count at × IsBlankFrom count at
+
+-- there are as many bits as codecs only where no two codecs are the same
+abbrev pub Tells : List ℕ → ℕ → Type 0
+Tells codecs marks = (ones marks ≡ length codecs) → AreDistinct (length codecs) codecs
 
 -- a list has its codecs in front, and 0 behind
 abbrev pub plain_list : CodecList → PlainList

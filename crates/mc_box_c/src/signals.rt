@@ -1,8 +1,9 @@
 //! What crosses between C and a box: structs of numbers, each of which may say anything.
 
-ghost use Rattle.std.specs.Prelude.{◌≡◌, ◌∷◌, [], ◌++◌, ◌≤◌, true, IfSome, IsTrue, is_some};
+ghost use Rattle.std.specs.Prelude.{◌≡◌, ◌∷◌, [], ◌++◌, ◌≤◌, true, IfSome, IsTrue, is_some, length};
 ghost use Rattle.mc_signal.specs.Choice.{codecs_of};
-ghost use Rattle.mc_box_c.specs.Numbers.{can_add, can_list, is_list, is_signal, medium_number, medium_of, named, no_list, one_codec, plain_bare, plain_descriptor, plain_selector, plain_of, sent_of, IsDescribed, IsStored, Says, SaysDescriptor, SaysSelector};
+ghost use Rattle.mc_signal.specs.Codecs.{AreCodecs, IsBlankFrom};
+ghost use Rattle.mc_box_c.specs.Numbers.{can_add, can_list, is_list, is_signal, medium_number, medium_of, named, no_list, one_codec, plain_bare, plain_descriptor, plain_selector, plain_of, sent_of, IsDescribed, IsStored, Says, SaysDescriptor, SaysSelector, Tells};
 
 use mc_signal::{CodecList, Descriptor, Medium, Selector, Signal};
 
@@ -63,12 +64,29 @@ impl PlainList {
     }
 
     // Whether these are the numbers of a list as it is stored.
+    #[inline(always)]
     fn is_stored(&self) -> bool
         requires { self.now.count ≤ 8 }
         ensures { result ≡ true → IsStored self.now.count self.now.at }
     {
+        if self.marks().count_ones() != self.count as u32 {
+            return false;
+        }
         let at = self.at;
-        are_stored(self.count, at)
+        are_codecs(self.count, at)
+    }
+
+    // The codecs as bits.
+    #[inline(always)]
+    fn marks(&self) -> u64
+        requires { self.now.count ≤ 8 }
+        ensures { Tells (named self.now) result }
+    {
+        if self.count == 8 {
+            marks_of_eight(&self.at[..8])
+        } else {
+            marks(&self.at[..self.count as usize])
+        }
     }
 
     // Takes no codecs.
@@ -88,18 +106,39 @@ impl PlainList {
     }
 }
 
-// Whether so many codecs are below 64 and all different, and 0 after them. They are compared as bits.
-fn are_stored(count: u8, at: [u8; 8]) -> bool
-    requires { count ≤ 8 }
-    ensures { result ≡ true → IsStored count at }
+// Codecs as bits, by their lowest six bits.
+#[inline(always)]
+fn marks(codecs: &[u8]) -> u64
+    ensures { Tells codecs.now result }
 {
-    let mut seen = 0u64;
-    for i in 0..count as usize {
-        seen |= 1u64 << (at[i] & 63);
+    let mut marks = 0u64;
+    for i in 0..codecs.len() {
+        marks |= 1u64 << (codecs[i] & 63);
     }
-    if seen.count_ones() != count as u32 {
-        return false;
+    marks
+}
+
+// The same of eight codecs, with no test for the end of them. Different bits come together by either operator, and the
+// compiler leaves a mixture as it is, where it would take vectors and more steps for one of them.
+#[inline(always)]
+fn marks_of_eight(codecs: &[u8]) -> u64
+    requires { length codecs.now ≡ 8 }
+    ensures { Tells codecs.now result }
+{
+    let mut marks = 0u64;
+    for i in 0..4 {
+        marks |= 1u64 << (codecs[2 * i] & 63);
+        marks ^= 1u64 << (codecs[2 * i + 1] & 63);
     }
+    marks
+}
+
+// Whether so many are codecs, below 64, and 0 after them.
+#[inline(always)]
+fn are_codecs(count: u8, at: [u8; 8]) -> bool
+    requires { count ≤ 8 }
+    ensures { result ≡ true → AreCodecs count at × IsBlankFrom count at }
+{
     u64::from_le_bytes(at) & OUTSIDE[count as usize] == 0
 }
 
