@@ -20,7 +20,8 @@ use mc_slot::Sends;
 use std::alloc::{AllocError, Global};
 
 /// A box, a queue with room for what it sends in one event, and a list for what it sends when it takes a signal. Both
-/// are empty between calls. So no event wants memory, and no call makes a list.
+/// are empty between calls. So no event wants memory, and no call makes a list. The signal that a slot takes is read into
+/// `signal`, which says nothing between calls: a variable would be kept as its fields, and these cost more to move.
 #[derive(Drop)]
 pub struct HeldBox {
     pub part: MediaBox,
