@@ -8,6 +8,7 @@ ghost use Rattle.mc_growth.specs.Outs.{is_out, least_used, AreOut, MayCut, SetNo
 ghost use Rattle.mc_grow.specs.Asked.{is_out_at, names_out};
 ghost use Rattle.mc_grow.specs.Cuts.{unless_used};
 ghost use Rattle.mc_model.specs.Steps.{step};
+ghost use Rattle.mc_world.specs.StepAnswers.{CannotHappen, LacksVersion};
 
 use crate::channels::{has_room, is_there, least_used, may_leave, take_out};
 use mc_box::{Change, Event};
@@ -141,6 +142,8 @@ impl Grown {
         ensures ok { OnOk result (step self.old.world (turn_of who event) ≡ Some self.new.world) }
         ensures unchanged { OnErr result (self.new ≡ self.old) }
         ensures out { self.new.out ≡ self.old.out }
+        ensures version_end { (result ≡ Err StepFault.VersionEnd) ↔ LacksVersion self.old.world (turn_of who event) }
+        ensures not_enabled { (result ≡ Err StepFault.NotEnabled) ↔ CannotHappen self.old.world (turn_of who event) }
     {
         self.world.keeps();
         self.world.step(who, event)
