@@ -27,7 +27,7 @@ enum Job {
     Paths,
 }
 
-// How many tunnels the words behind the program's name ask for, what is to be done, and how many times.
+// How many tunnels the words after the program's name ask for, what is to be done, and how many times.
 fn asked<R: Env + AllocGlobal>(rt: &R) -> Option<(u32, Job, u32)> {
     let mut words = env::args(rt).ok()?.skip(1);
     let tunnels = words.next()?.parse::<u32>().ok()?;

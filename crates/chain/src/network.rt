@@ -10,7 +10,7 @@ use std::alloc::Global;
 /// The number of the box that calls.
 pub const CALLER: u32 = 0;
 
-/// The number of the box that is called. Features have the numbers behind it.
+/// The number of the box that is called. Features have the numbers after it.
 pub const CALLEE: u32 = 1;
 
 // How many features a network has room for.

@@ -12,7 +12,7 @@ use Rattle.mc_slot.specs.declared.Cause.TheVariants.{Other, Push}
 use Rattle.mc_slot.specs.declared.Slot.{Slot}
 use Rattle.mc_slot.specs.declared.SlotGoal.{SlotGoal}
 use Rattle.mc_slot.specs.declared.SlotGoal.TheVariants.{End, Link}
-use Rattle.mc_tunnel.proofs.Steps.{took_kept, took_medium}
+use Rattle.mc_slot_laws.proofs.Steps.{took_kept, took_medium}
 use Rattle.mc_box.specs.BoxEvents.{BoxStep, with_answer, box_event, enabled_shift, goal_step, goals_step, event_step, with_hearing, is_enabled, media_step, set_step, shift_by, shift_goals, shift_step, take_step, tell_step, with_shift, with_talking}
 use Rattle.mc_box.specs.BoxShapes.{is_device}
 use Rattle.mc_box.specs.BoxSound.{IsSoundBox, IsWired}

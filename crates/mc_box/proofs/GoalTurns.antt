@@ -19,7 +19,7 @@ use Rattle.mc_slot.specs.declared.Goal.{Goal}
 use Rattle.mc_slot.specs.declared.Slot.{Slot}
 use Rattle.mc_slot.specs.declared.SlotGoal.{SlotGoal}
 use Rattle.mc_slot.specs.declared.SlotGoal.TheVariants.{End, Link}
-use Rattle.mc_turn.proofs.EndRests.{rests_kept}
+use Rattle.mc_slot_laws.proofs.EndRests.{rests_kept}
 use Rattle.mc_box.specs.BoxEvents.{BoxStep, end_step, goal_step, pair_step, side_of, goal_step_by, turn_length_by}
 use Rattle.mc_box.specs.BoxSound.{IsWired, RestsAt}
 use Rattle.mc_box.specs.Goals.{most_signals}

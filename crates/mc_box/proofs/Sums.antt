@@ -3,8 +3,8 @@ use Rattle.std.proofs.Common.{◌≡◌, ◌≢◌, ◌<◌, ◌≤◌, ◌+◌,
 use Rattle.std.proofs.Math.ListN.{get_or}
 use Rattle.std.proofs.lemmas.Bool.{cases_lt, and_parts, le-leb, lt-leb, lt-ltb, le-ltb}
 use Rattle.mc_slot.specs.Same.{is_same_slot_goal}
-use Rattle.mc_turn.specs.Sums.{total}
-use Rattle.mc_turn.proofs.Sums.{total_grows, total_next, total_none, total_one, total_same}
+use Rattle.mc_slot_laws.specs.Sums.{total}
+use Rattle.mc_slot_laws.proofs.Sums.{total_grows, total_next, total_none, total_one, total_same}
 use Rattle.mc_slot.specs.declared.Goal.TheVariants.{Close as ToClose}
 use Rattle.mc_slot.specs.declared.SlotGoal.{SlotGoal}
 use Rattle.mc_slot.specs.declared.SlotGoal.TheVariants.{End, Link}

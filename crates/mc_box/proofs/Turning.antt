@@ -3,8 +3,8 @@ use Rattle.std.proofs.Common.{◌≡◌, ℕ, ◌+◌, ◌*◌, ◌<◌, ◌≤�
 use Rattle.std.specs.Option.{option_and_then, option_map}
 use Rattle.std.proofs.Math.ListN.{get_or}
 use Rattle.std.proofs.lemmas.List.{drop_more}
-use Rattle.mc_turn.specs.Sums.{total}
-use Rattle.mc_turn.proofs.Sums.{total_grows, total_next}
+use Rattle.mc_slot_laws.specs.Sums.{total}
+use Rattle.mc_slot_laws.proofs.Sums.{total_grows, total_next}
 use Rattle.mc_signal.specs.declared.Signal.{Signal}
 use Rattle.mc_slot.specs.declared.Goal.TheVariants.{Close as ToClose}
 use Rattle.mc_slot.specs.declared.SlotGoal.{SlotGoal}

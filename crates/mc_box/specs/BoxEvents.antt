@@ -29,7 +29,8 @@ use Rattle.mc_box.specs.declared.event.MediaChange.TheVariants.{Hear, Talk}
 use Rattle.mc_box.specs.declared.limit.TheConstants.{LAST_VERSION}
 use Rattle.mc_box.specs.declared.setup.SlotMedia.{SlotMedia}
 
--- the signals that a box sends in an event, each with the local number of its slot, in the order of sending; and the box after it
+-- the signals that a box sends in an event, each with the local number of its slot, in the order of sending; and the
+-- box after it
 pub record BoxStep : Type 0 where
   pub sent : List (ℕ × Signal)
   pub after : BoxState
@@ -44,13 +45,17 @@ step_of sends after = record { sent = sends_of sends; after = after }
 abbrev pub end_step : Goal → BoxState → ℕ → Cause → Option BoxStep
 end_step goal box local cause =
     let signals = end_turn goal (slot_at box local) (is_push cause) (own box local) (sender box local) in
-    option_map (λ after. record { sent = map (pair_of local) signals; after = with_slot box local after }) (slot_send_all (slot_at box local) signals)
+    option_map (λ after. record { sent = map (pair_of local) signals; after = with_slot box local after })
+    (slot_send_all (slot_at box local) signals)
 
 -- two linked slots, the lower one first, pass on what each has of the other
 abbrev pub pair_step : BoxState → ℕ → ℕ → Option Side → Option BoxStep
 pair_step box low high closed =
     let signals = link_turn (slot_at box low) (slot_at box high) closed in
-    option_and_then (λ first. option_map (λ second. record { sent = map (with_number low high) signals; after = with_slot (with_slot box low first) high second })
+    option_and_then (λ first. option_map (λ second. record {
+      sent = map (with_number low high) signals;
+      after = with_slot (with_slot box low first) high second;
+    })
     (slot_send_all (slot_at box high) (sent_by_second signals)))
     (slot_send_all (slot_at box low) (sent_by_first signals))
 
@@ -60,7 +65,8 @@ side_of local partner = if nat_lt local partner then First else Second
 
 -- a link's turn, as seen from one of its slots
 abbrev pub link_step : BoxState → ℕ → ℕ → Cause → Option BoxStep
-link_step box local partner cause = pair_step box (min local partner) (max local partner) (closed_side cause (side_of local partner))
+link_step box local partner cause =
+    pair_step box (min local partner) (max local partner) (closed_side cause (side_of local partner))
 
 abbrev pub goal_step_by : SlotGoal → BoxState → ℕ → Cause → Option BoxStep
 goal_step_by (End goal) box local cause = end_step goal box local cause
@@ -76,8 +82,10 @@ pair_length box low high closed = length (link_turn (slot_at box low) (slot_at b
 
 -- and the turn of a goal
 abbrev pub turn_length_by : SlotGoal → BoxState → ℕ → Cause → ℕ
-turn_length_by (End goal) box local cause = length (end_turn goal (slot_at box local) (is_push cause) (own box local) (sender box local))
-turn_length_by (Link partner) box local cause = pair_length box (min local partner) (max local partner) (closed_side cause (side_of local partner))
+turn_length_by (End goal) box local cause =
+    length (end_turn goal (slot_at box local) (is_push cause) (own box local) (sender box local))
+turn_length_by (Link partner) box local cause =
+    pair_length box (min local partner) (max local partner) (closed_side cause (side_of local partner))
 
 -- and that of the goal that holds a slot
 abbrev pub turn_length : BoxState → ℕ → Cause → ℕ
@@ -105,7 +113,9 @@ sends_first sent step = record step { sent = sent ++ step.sent }
 -- the goals of these slots have their turns one after another, each pushed
 abbrev pub goal_steps : BoxState → List ℕ → Option BoxStep
 goal_steps box [] = Some (record { sent = []; after = box })
-goal_steps box (local ∷ locals) = option_and_then (λ step. option_map (sends_first step.sent) (goal_steps step.after locals)) (goal_step box local Push)
+goal_steps box (local ∷ locals) =
+    option_and_then (λ step. option_map (sends_first step.sent) (goal_steps step.after locals))
+    (goal_step box local Push)
 
 -- each goal that isn't as it was has its turn
 abbrev pub changed_steps : BoxState → List SlotGoal → Option BoxStep
@@ -135,7 +145,8 @@ change_media box local media = goal_step (with_media box local media) local Othe
 -- hearing is set, where there is a newer version
 abbrev pub hear_step : BoxState → ℕ → Bool → Option BoxStep
 hear_step box local on =
-    if (media_at box local).version == LAST_VERSION then None else change_media box local (with_hearing on (media_at box local))
+    if (media_at box local).version == LAST_VERSION then None
+    else change_media box local (with_hearing on (media_at box local))
 
 -- talking is set
 abbrev pub talk_step : BoxState → ℕ → Bool → Option BoxStep

@@ -19,7 +19,8 @@ pub record BoxShapeState : Type 0 where
 
 -- the shape of a box
 abbrev pub box_shape : BoxState → BoxShapeState
-box_shape box = record { kind = box.kind; media = map (λ slot. slot.medium) box.slots; programmed = is_some box.program }
+box_shape box =
+    record { kind = box.kind; media = map (λ slot. slot.medium) box.slots; programmed = is_some box.program }
 
 -- what stands where no box is
 abbrev pub no_shape : BoxShapeState
@@ -46,7 +47,9 @@ abbrev pub is_feature : Kind → Bool
 is_feature Feature = true
 is_feature Device = false
 
--- enabled by shape: whether a box of this shape can have a command. An end is a slot of it; a link is of a feature, between two slots of one medium; media are a device's; and words are for programs. What is no command isn't enabled by shape
+-- enabled by shape: whether a box of this shape can have a command. An end is a slot of it; a link is of a feature,
+-- between two slots of one medium; media are a device's; and words are for programs. What is no command isn't enabled
+-- by shape
 abbrev pub is_enabled_by : BoxShapeState → Event → Bool
 is_enabled_by shape (Set (NewEnd local goal)) = has_slot shape local
 is_enabled_by shape (Set (NewLink first second)) =

@@ -26,13 +26,16 @@ pub record IsLinked (box : BoxState) (local partner : ℕ) : Type 0 where
   pub feature : box.kind ≡ Feature
   pub medium : (slot_at box partner).medium ≡ (slot_at box local).medium
 
--- a box's program, if any: it is for these slots of a feature, and at no state or at one of its own. Without one there is no told word
-pub record FitsProgram (kind : Kind) (slots : List Slot) (program : Option (List ProgStateState)) (at told : Option ℕ) : Type 0 where
+-- a box's program, if any: it is for these slots of a feature, and at no state or at one of its own. Without one there
+-- is no told word
+pub record FitsProgram (kind : Kind) (slots : List Slot) (program : Option (List ProgStateState))
+    (at told : Option ℕ) : Type 0 where
   pub states : IfSome program (FitsSlots kind slots)
   pub here : IfSome at (λ number. number < length (states_of program))
   pub word : IfNone program (told ≡ None)
 
--- each slot has its goal and its media, local numbers and the address fit, each slot keeps what its state allows, links are mutual, and the program fits
+-- each slot has its goal and its media, local numbers and the address fit, each slot keeps what its state allows, links
+-- are mutual, and the program fits
 pub record IsWired (box : BoxState) : Type 0 where
   pub whole : IsBox box
   pub few : length box.slots ≤ SLOT_LIMIT

@@ -21,7 +21,9 @@ use Rattle.mc_box.specs.declared.setup.Setup.{Setup}
 use Rattle.mc_box.specs.declared.setup.SlotMedia.{SlotMedia}
 use Rattle.mc_box.specs.declared.setup.SlotSetup.{SlotSetup}
 
--- a box: its kind and number, the lists that it receives and sends, the version at which its descriptors begin, for each slot the slot, its goal, and what its descriptors are made of, and its program, with the state that it is at and the told word that it keeps
+-- a box: its kind and number, the lists that it receives and sends, the version at which its descriptors begin, for
+-- each slot the slot, its goal, and what its descriptors are made of, and its program, with the state that it is at and
+-- the told word that it keeps
 pub record BoxState : Type 0 where
   pub kind : Kind
   pub number : ℕ
@@ -68,13 +70,16 @@ with_goals box goals = record box { goals = goals }
 abbrev pub with_media : BoxState → ℕ → SlotMedia → BoxState
 with_media box local media = record box { media = slice_set box.media local media }
 
--- the media address of a device's slot: the one it was given, or else one made of the number of the box and the local number
+-- the media address of a device's slot: the one it was given, or else one made of the number of the box and the local
+-- number
 abbrev pub media_address : Option MediaAddress → ℕ → ℕ → MediaAddress
 media_address (Some given) number local = given
 media_address None number local = record { addr = address_of number; port = port_of local }
 
 abbrev pub own_of : Kind → BoxState → SlotMedia → ℕ → Descriptor
-own_of Device box media local = device_descriptor media.origin media.version (media_address media.address box.number local).addr (media_address media.address box.number local).port media.hears box.receives
+own_of Device box media local =
+    device_descriptor media.origin media.version (media_address media.address box.number local).addr
+    (media_address media.address box.number local).port media.hears box.receives
 own_of Feature box media local = feature_descriptor media.origin
 
 -- the newest descriptor of a slot
@@ -82,7 +87,9 @@ abbrev pub own : BoxState → ℕ → Descriptor
 own box local = own_of box.kind box (media_at box local) local
 
 abbrev pub sender_of : Kind → BoxState → SlotMedia → ℕ → Sender
-sender_of Device box media local = device_sender (media_address media.address box.number local).addr (media_address media.address box.number local).port media.talks box.sends
+sender_of Device box media local =
+    device_sender (media_address media.address box.number local).addr
+    (media_address media.address box.number local).port media.talks box.sends
 sender_of Feature box media local = feature_sender
 
 -- what a slot can send
@@ -124,13 +131,15 @@ first_slot setup = closed_slot setup.medium setup.initiator
 
 -- hearing and talking are on at the beginning
 abbrev pub first_media : ℕ → SlotSetup → SlotMedia
-first_media version setup = record { origin = setup.origin; version = version; hears = true; talks = true; address = setup.address }
+first_media version setup =
+    record { origin = setup.origin; version = version; hears = true; talks = true; address = setup.address }
 
 abbrev pub first_goal : SlotSetup → SlotGoal
 first_goal setup = End ToClose
 
 -- a new box: all its slots are closed, all its goals are close, and its program is at no state
-abbrev pub first_box : Kind → (number : ℕ) → CodecList → CodecList → (version : ℕ) → List SlotSetup → Option (List ProgStateState) → BoxState
+abbrev pub first_box : Kind → (number : ℕ) → CodecList → CodecList → (version : ℕ) → List SlotSetup
+    → Option (List ProgStateState) → BoxState
 first_box kind number receives sends version setups program = record {
   kind = kind;
   number = number;
@@ -155,7 +164,8 @@ with_new_slot box setup = record box {
 
 -- the new box of a setup
 abbrev pub set_up : Setup → BoxState
-set_up setup = first_box setup.kind setup.number setup.codecs setup.sends setup.first_version setup.slots.items setup.program
+set_up setup =
+    first_box setup.kind setup.number setup.codecs setup.sends setup.first_version setup.slots.items setup.program
 
 -- a box is new, within the limits: some version and slots give it, which its program fits
 pub record IsNewBox (box : BoxState) : Type 0 where

@@ -32,35 +32,43 @@ abbrev pub EventSendsFromSlots : Type 0
 EventSendsFromSlots = (box : BoxState) (event : Event) (signal : Option Signal) (step : BoxStep)
     → IsSoundBox box → box_event box event signal ≡ Some step → All (λ sending. sending.0 < length box.slots) step.sent
 
--- where a slot takes the first signal that is under way to it, each slot acts: that one takes it, and the others take nothing
+-- where a slot takes the first signal that is under way to it, each slot acts: that one takes it, and the others take
+-- nothing
 abbrev pub TakeActs : Type 0
 TakeActs = (box : BoxState) (local : ℕ) (signal : Signal) (step : BoxStep) (to left : ℕ → List Signal)
     → IsSoundBox box → box_event box (Take local) (Some signal) ≡ Some step
-    → to local ≡ signal ∷ left local → ((k : ℕ) → k < length box.slots → k ≢ local → left k ≡ to k) → BoxActs box to step left
+    → to local ≡ signal ∷ left local → ((k : ℕ) → k < length box.slots → k ≢ local → left k ≡ to k)
+    → BoxActs box to step left
 
 -- in any other event each slot acts and takes nothing
 abbrev pub EventActs : Type 0
 EventActs = (box : BoxState) (event : Event) (step : BoxStep) (to left : ℕ → List Signal)
-    → IsSoundBox box → box_event box event None ≡ Some step → ((k : ℕ) → k < length box.slots → left k ≡ to k) → BoxActs box to step left
+    → IsSoundBox box → box_event box event None ≡ Some step → ((k : ℕ) → k < length box.slots → left k ≡ to k)
+    → BoxActs box to step left
 
 -- a slot can take a signal that is lawful for it
 abbrev pub TakeGoes : Type 0
 TakeGoes = (box : BoxState) (local : ℕ) (signal : Signal)
-    → IsSoundBox box → local < length box.slots → IsSome (slot_take (slot_at box local) signal) → IsSome (box_event box (Take local) (Some signal))
+    → IsSoundBox box → local < length box.slots → IsSome (slot_take (slot_at box local) signal)
+    → IsSome (box_event box (Take local) (Some signal))
 
 -- an enabled event that takes nothing can happen, unless its slot's version is the last
 abbrev pub EventGoes : Type 0
 EventGoes = (box : BoxState) (event : Event)
-    → IsSoundBox box → IsTrue (is_enabled box event) → is_take event ≡ false → is_version_end box event ≡ false → IsSome (box_event box event None)
+    → IsSoundBox box → IsTrue (is_enabled box event) → is_take event ≡ false → is_version_end box event ≡ false
+    → IsSome (box_event box event None)
 
 -- what a Take that happened says of its slot and its signal
 abbrev pub TakeWasLawful : Type 0
 TakeWasLawful = (box : BoxState) (local : ℕ) (signal : Signal) (step : BoxStep)
-    → box_event box (Take local) (Some signal) ≡ Some step → (local < length box.slots) × IsSome (slot_take (slot_at box local) signal)
+    → box_event box (Take local) (Some signal) ≡ Some step
+    → (local < length box.slots) × IsSome (slot_take (slot_at box local) signal)
 
 -- an event that happened and took nothing was enabled
 abbrev pub EventWasEnabled : Type 0
-EventWasEnabled = (box : BoxState) (event : Event) (step : BoxStep) → box_event box event None ≡ Some step → is_enabled box event ≡ true
+EventWasEnabled =
+    (box : BoxState) (event : Event) (step : BoxStep) → box_event box event None ≡ Some step
+    → is_enabled box event ≡ true
 
 -- the table of the events that come from commands: each Set, each Media event and each Tell, and no others
 pub record CommandTable : Type 0 where
@@ -73,7 +81,8 @@ pub record CommandTable : Type 0 where
 
 -- what a box's shape enables is each command that is enabled, and nothing else
 abbrev pub ShapeEnables : Type 0
-ShapeEnables = (box : BoxState) (event : Event) → is_enabled_by (box_shape box) event ≡ (is_command event && is_enabled box event)
+ShapeEnables =
+    (box : BoxState) (event : Event) → is_enabled_by (box_shape box) event ≡ (is_command event && is_enabled box event)
 
 -- none happens where its slot's version is the last
 abbrev pub VersionEndStops : Type 0

@@ -16,7 +16,8 @@ without_link local (Link partner) = if partner == local then End ToHold else Lin
 abbrev pub goal_after : Change → ℕ → SlotGoal → SlotGoal
 goal_after (NewEnd slot goal) local old = if local == slot then End goal else without_link slot old
 goal_after (NewLink first second) local old =
-    if local == first then Link second else (if local == second then Link first else without_link first (without_link second old))
+    if local == first then Link second
+    else (if local == second then Link first else without_link first (without_link second old))
 
 -- the same for the goals from a slot on
 abbrev pub goals_from : Change → ℕ → List SlotGoal → List SlotGoal

@@ -13,7 +13,7 @@ use Rattle.mc_box_c.specs.declared.asked.PlainEvent.{PlainEvent}
 use Rattle.mc_box_c.specs.declared.signals.PlainSent.{PlainSent}
 use Rattle.mc_box_c.specs.declared.signals.PlainSignal.{PlainSignal}
 
--- these signals are in front of the buffer, and what was behind them is still there
+-- these signals are in front of the buffer, and what was after them is still there
 abbrev pub AreWritten : List (ℕ × Signal) → List PlainSent → List PlainSent → ℕ → Type 0
 AreWritten sent before after count = (after ≡ map sent_of sent ++ drop (length sent) before) × (count ≡ length sent)
 

@@ -48,7 +48,7 @@ IsStored count at = AreCodecs count at × AreDistinct count at × IsBlankFrom co
 abbrev pub Tells : List ℕ → ℕ → Type 0
 Tells codecs marks = (ones marks ≡ length codecs) → AreDistinct (length codecs) codecs
 
--- a list has its codecs in front, and 0 behind
+-- a list has its codecs in front, and 0 after
 abbrev pub plain_list : CodecList → PlainList
 plain_list list = record { count = list.len; at = list.at }
 

@@ -41,7 +41,7 @@ use Rattle.mc_box.proofs.GoalTurns.{end_form, pair_form}
 use Rattle.mc_box.proofs.Options.{else_some, if_some, map_some, then_some}
 use Rattle.mc_box.proofs.TakeTurns.{TookBy, retry_turned, take_turned}
 use Rattle.mc_slot.proofs.Equal.{slot_goal_refl}
-use Rattle.mc_tunnel.proofs.Walks.{closes-append}
+use Rattle.mc_slot_laws.proofs.Walks.{closes-append}
 
 part_by : (here : Bool) (signal : Signal) (rest : List Signal) → close_of signal ≡ 0 → NoClose rest → NoClose (if here then signal ∷ rest else rest)
 part_by true signal rest one none = let first : close_of signal ≡ 0 = one in let more : closes rest ≡ 0 = none in omega arith

@@ -12,7 +12,7 @@ use Rattle.mc_slot.specs.declared.State.TheVariants.{Closed, Opening, Opened, Fl
 use Rattle.mc_box.specs.Acting.{Acted, sends, takes}
 use Rattle.mc_cause.specs.Causes.{is_closed}
 use Rattle.mc_box.proofs.Options.{if_some, then_some}
-use Rattle.mc_tunnel.proofs.Walks.{closes-append}
+use Rattle.mc_slot_laws.proofs.Walks.{closes-append}
 
 pub some_is : {A : Type 0} {x y : A} → Some x ≡ Some y → x ≡ y
 some_is is = cc

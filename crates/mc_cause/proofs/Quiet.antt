@@ -20,7 +20,7 @@ use Rattle.mc_slot.specs.declared.Slot.{Slot}
 use Rattle.mc_slot.specs.declared.SlotGoal.TheVariants.{End}
 use Rattle.mc_slot.specs.declared.State.{State}
 use Rattle.mc_slot.specs.declared.State.TheVariants.{Closed, Opening, Opened, Flowing, Closing}
-use Rattle.mc_tunnel.proofs.Walks.{closes-append}
+use Rattle.mc_slot_laws.proofs.Walks.{closes-append}
 use Rattle.mc_cause.specs.CauseLaws.{is_close_goal}
 
 -- ---- lists of signals

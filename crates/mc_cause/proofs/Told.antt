@@ -22,7 +22,7 @@ use Rattle.mc_laws.proofs.Numbers.{box_inside, number_is}
 use Rattle.mc_laws.proofs.Parts.{part_of}
 use Rattle.mc_laws.proofs.SentOut.{list_in}
 use Rattle.mc_laws.proofs.StepActs.{Happened, act_happens, left_else, left_here, take_happens, without}
-use Rattle.mc_tunnel.proofs.Walks.{closes-append}
+use Rattle.mc_slot_laws.proofs.Walks.{closes-append}
 
 -- 1 for the slot that takes a signal of a kind, by how many each signal of the kind counts
 abbrev pub count_at : (Signal → ℕ) → Option Signal → Option ℕ → ℕ → ℕ

@@ -38,7 +38,9 @@ pub record TellsCauses (first : WorldState) (turns : List Turn) (last : WorldSta
   pub none : NoneCloses first
   pub runs : run first turns ≡ Some last
   pub count : causes.turns ≡ length turns
-  pub origins : (s : ℕ) → s < slot_count last → slice_index_or causes.origins s None ≡ carried_in (slot_of last s).state (last_or None ((known_from none_known first turns).origins s))
+  pub origins : (s : ℕ) → s < slot_count last
+      → slice_index_or causes.origins s None
+      ≡ carried_in (slot_of last s).state (last_or None ((known_from none_known first turns).origins s))
   pub whys : (s : ℕ) → s < slot_count last → slice_index_or causes.whys s None ≡ why first turns s
 
 -- ---- one turn
@@ -56,7 +58,8 @@ IsAfterTurn next turn whys = (before : WorldState) × HasHappened before next tu
 abbrev pub origin_at : List (Option ℕ) → (slot number : ℕ) → ℕ
 origin_at origins slot number = unwrap_or (slice_index_or origins (far slot) None) number
 
--- what a slot carries after a turn: nothing where it waits for no closeack, what it carried where it waited before, and else the turn from which its close came now
+-- what a slot carries after a turn: nothing where it waits for no closeack, what it carried where it waited before, and
+-- else the turn from which its close came now
 abbrev pub noted : State → Option ℕ → ℕ → Option ℕ
 noted Closing None origin = Some origin
 noted Closing (Some old) origin = Some old

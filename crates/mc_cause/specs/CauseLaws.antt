@@ -42,7 +42,8 @@ closes_by event = false
 abbrev pub begins_by : WorldState → ℕ → Event → Bool
 begins_by world who (Set (NewEnd local ToClose)) = true
 begins_by world who Shift = true
-begins_by world who (Take local) = is_open (option_and_then (front world) (number world who local)) && is_close_goal (goal_at (box_at world who) local)
+begins_by world who (Take local) =
+    is_open (option_and_then (front world) (number world who local)) && is_close_goal (goal_at (box_at world who) local)
 begins_by world who event = false
 
 -- a turn closes of its own accord: a Set of the goal close, a Shift, or the Take of an open by an end under close
@@ -64,7 +65,9 @@ NoneCloses world = (s : ℕ) → s < slot_count world → (slot_of world s).stat
 
 -- a cause that is a turn is one that closes of its own accord
 abbrev pub CausesBegin : Type 0
-CausesBegin = (world last : WorldState) (turns : List Turn) (s at : ℕ) → IsSound world → NoneCloses world → run world turns ≡ Some last
+CausesBegin =
+    (world last : WorldState) (turns : List Turn) (s at : ℕ) → IsSound world → NoneCloses world
+    → run world turns ≡ Some last
     → s < slot_count world → why world turns s ≡ Some at → Begins world turns at
 
 -- and it takes no close
@@ -74,16 +77,20 @@ BeginsTakeNone = (world : WorldState) (turn : Turn) → begins_close world turn 
 -- by how many of these turns a slot became closed
 abbrev pub times_closed : WorldState → List Turn → ℕ → ℕ
 times_closed world [] s = 0
-times_closed world (turn ∷ turns) s = (if becomes_closed world turn s then 1 else 0) + times_closed (next_world world turn) turns s
+times_closed world (turn ∷ turns) s =
+    (if becomes_closed world turn s then 1 else 0) + times_closed (next_world world turn) turns s
 
 -- there is no cause exactly where the slot never became closed
 abbrev pub NoneWhereNever : Type 0
-NoneWhereNever = (world last : WorldState) (turns : List Turn) (s : ℕ) → IsSound world → NoneCloses world → run world turns ≡ Some last
+NoneWhereNever =
+    (world last : WorldState) (turns : List Turn) (s : ℕ) → IsSound world → NoneCloses world
+    → run world turns ≡ Some last
     → s < slot_count world → (why world turns s ≡ None) ↔ (times_closed world turns s ≡ 0)
 
 -- no slot of a world of new boxes waits for a closeack
 abbrev pub NewNoneCloses : Type 0
-NewNoneCloses = (boxes : List BoxState) (channels : List ChannelState) → AreNew boxes → NoneCloses (first_world boxes channels)
+NewNoneCloses =
+    (boxes : List BoxState) (channels : List ChannelState) → AreNew boxes → NoneCloses (first_world boxes channels)
 
 -- a close or a closeack
 abbrev pub is_closing : Option Signal → Bool
@@ -91,9 +98,12 @@ is_closing (Some Close) = true
 is_closing (Some Closeack) = true
 is_closing signal = false
 
--- a turn that takes neither, and doesn't close of its own accord, changes nothing that is known of closes: so no code has to look at its slots
+-- a turn that takes neither, and doesn't close of its own accord, changes nothing that is known of closes: so no code
+-- has to look at its slots
 abbrev pub OthersKeepCauses : Type 0
-OthersKeepCauses = (world next : WorldState) (turn : Turn) (known : Known) (s : ℕ) → IsSound world → step world turn ≡ Some next → is_closing (taken world turn) ≡ false → begins_close world turn ≡ false
+OthersKeepCauses =
+    (world next : WorldState) (turn : Turn) (known : Known) (s : ℕ) → IsSound world → step world turn ≡ Some next
+    → is_closing (taken world turn) ≡ false → begins_close world turn ≡ false
     → s < slot_count world
     → ((known_after known world turn).origins s ≡ known.origins s)
     × ((known_after known world turn).why s ≡ known.why s)

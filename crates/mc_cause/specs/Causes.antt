@@ -1,4 +1,5 @@
--- The turn from which a close came. Closes are counted: the k-th close that a slot takes is the k-th that its far slot has sent. No lane is spoken of.
+-- The turn from which a close came. Closes are counted: the k-th close that a slot takes is the k-th that its far slot
+-- has sent. No lane is spoken of.
 use Rattle.std.specs.Prelude.{ℕ, ◌+◌, ◌==◌, ◌&&◌, ◌++◌, not, Bool, true, false, if◌then◌else◌, List, [], ◌∷◌, replicate, slice_index, Option, Some, None}
 use Rattle.std.specs.List.{last_or}
 use Rattle.std.specs.Option.{option_and_then, unwrap_or}
@@ -33,7 +34,8 @@ takes_close world turn = where_close (taken world turn) (taking world turn)
 
 -- what a slot sends in a turn
 abbrev pub sends : WorldState → Turn → ℕ → List Signal
-sends world turn s = if (place world s).0 == turn.who then sent_by (place world s).1 (sendings world turn.who turn.event) else []
+sends world turn s =
+    if (place world s).0 == turn.who then sent_by (place world s).1 (sendings world turn.who turn.event) else []
 
 -- the world after a turn that is enabled
 abbrev pub next_world : WorldState → Turn → WorldState
@@ -45,11 +47,14 @@ is_closed state = false
 
 -- a slot becomes closed by a turn where it was in another state before it, and is closed after it
 abbrev pub becomes_closed : WorldState → Turn → ℕ → Bool
-becomes_closed world turn s = not (is_closed (slot_of world s).state) && is_closed (slot_of (next_world world turn) s).state
+becomes_closed world turn s =
+    not (is_closed (slot_of world s).state) && is_closed (slot_of (next_world world turn) s).state
 
 -- ---- all turns so far
 
--- what is known of closes after some turns: how many turns there were, and of each slot from which turns the closes came that it has sent, in order, how many closes it has taken, and from which turn the close came by which it last became closed
+-- what is known of closes after some turns: how many turns there were, and of each slot from which turns the closes
+-- came that it has sent, in order, how many closes it has taken, and from which turn the close came by which it last
+-- became closed
 pub record Known : Type 0 where
   pub turns : ℕ
   pub origins : ℕ → List ℕ
@@ -60,12 +65,14 @@ pub record Known : Type 0 where
 abbrev pub none_known : Known
 none_known = record { turns = 0; origins = λ s. []; taken = λ s. 0; why = λ s. None }
 
--- from which turn the closes of a turn came: from this turn where it takes no close, and else from where the close came that it takes. That is the far slot's of the same number
+-- from which turn the closes of a turn came: from this turn where it takes no close, and else from where the close came
+-- that it takes. That is the far slot's of the same number
 abbrev pub origin : Known → Option ℕ → ℕ
 origin known None = known.turns + 1
 origin known (Some s) = slice_index (known.origins (far s)) (known.taken s)
 
--- from which turn the close came by which a slot becomes closed: where the turn takes a close, it is that one; else it takes a closeack, and it is the last close that the slot itself has sent
+-- from which turn the close came by which a slot becomes closed: where the turn takes a close, it is that one; else it
+-- takes a closeack, and it is the last close that the slot itself has sent
 abbrev pub cause : Known → Option ℕ → ℕ → Option ℕ
 cause known (Some taker) s = Some (origin known (Some taker))
 cause known None s = last_or None (known.origins s)
@@ -88,6 +95,7 @@ abbrev pub known_from : Known → WorldState → List Turn → Known
 known_from known world [] = known
 known_from known world (turn ∷ turns) = known_from (known_after known world turn) (next_world world turn) turns
 
--- why a slot is closed after turns of a world: the number of the turn from which the close came by which it last became closed, counted from 1, or none where it never did
+-- why a slot is closed after turns of a world: the number of the turn from which the close came by which it last became
+-- closed, counted from 1, or none where it never did
 abbrev pub why : WorldState → List Turn → ℕ → Option ℕ
 why world turns s = (known_from none_known world turns).why s

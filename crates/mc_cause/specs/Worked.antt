@@ -17,7 +17,8 @@ use Rattle.mc_cause.specs.Causes.{why}
 
 -- both phones hang up, each before it has taken the other's close
 abbrev pub closes_cross : List Turn
-closes_cross = opens_held ++ alice (sets ToClose) ∷ bob (sets ToClose) ∷ alice takes ∷ bob takes ∷ alice takes ∷ bob takes ∷ []
+closes_cross =
+    opens_held ++ alice (sets ToClose) ∷ bob (sets ToClose) ∷ alice takes ∷ bob takes ∷ alice takes ∷ bob takes ∷ []
 
 -- a slot for speech, by its number among all slots, and whether it is on the side of its channel's initiator
 abbrev pub speech_slot : ℕ → Bool → SlotSetup
@@ -43,16 +44,20 @@ far_bob event = record { who = 2; event = event }
 -- alice opens and bob holds, through the box
 abbrev pub opens_through : List Turn
 opens_through =
-    feature (Set (NewLink 0 1)) ∷ alice (sets ToOpen) ∷ far_bob (sets ToHold) ∷ feature (Take 0) ∷ far_bob takes ∷ feature (Take 1)
+    feature (Set (NewLink 0 1)) ∷ alice (sets ToOpen) ∷ far_bob (sets ToHold) ∷ feature (Take 0) ∷ far_bob takes
+    ∷ feature (Take 1)
     ∷ alice takes ∷ feature (Take 1) ∷ feature (Take 0) ∷ alice takes ∷ far_bob takes ∷ []
 
 -- and bob closes
 abbrev pub closes_through : List Turn
-closes_through = opens_through ++ far_bob (sets ToClose) ∷ feature (Take 1) ∷ far_bob takes ∷ alice takes ∷ feature (Take 0) ∷ []
+closes_through =
+    opens_through ++ far_bob (sets ToClose) ∷ feature (Take 1) ∷ far_bob takes ∷ alice takes ∷ feature (Take 0) ∷ []
 
 -- alice asks again, and bob refuses that too: his answer is turn 19
 abbrev pub refuses_through : List Turn
-refuses_through = closes_through ++ alice (Retry 0) ∷ feature (Take 0) ∷ far_bob takes ∷ feature (Take 1) ∷ far_bob takes ∷ alice takes ∷ feature (Take 0) ∷ []
+refuses_through =
+    closes_through ++ alice (Retry 0) ∷ feature (Take 0) ∷ far_bob takes ∷ feature (Take 1) ∷ far_bob takes
+    ∷ alice takes ∷ feature (Take 0) ∷ []
 
 pub record WorkedCauses : Type 0 where
   pub refused : (why two_phones opens_closed 0 ≡ Some 6) × (why two_phones opens_closed 1 ≡ Some 6)
@@ -61,4 +66,5 @@ pub record WorkedCauses : Type 0 where
   pub never : (why two_phones holds_held 0 ≡ None) × (why two_phones holds_held 1 ≡ None)
   pub runs : IsSome (run phones_and_box refuses_through)
   pub closed : (why phones_and_box closes_through 0 ≡ Some 12) × (why phones_and_box closes_through 3 ≡ Some 12)
-  pub refused_again : (why phones_and_box refuses_through 0 ≡ Some 19) × (why phones_and_box refuses_through 3 ≡ Some 19)
+  pub refused_again : (why phones_and_box refuses_through 0 ≡ Some 19)
+      × (why phones_and_box refuses_through 3 ≡ Some 19)

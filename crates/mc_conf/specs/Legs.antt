@@ -13,7 +13,8 @@ use Rattle.mc_conf.specs.declared.party.Leg.{Leg}
 abbrev pub AreEnds : PathView → (near far : EndView) → Type 0
 AreEnds view near far = ((near ≡ view.low) × (far ≡ view.high)) ⊎ ((near ≡ view.high) × (far ≡ view.low))
 
--- a path is a leg of a box: it flows, exactly one of its ends is on the box, and the other one, its party, is a device's
+-- a path is a leg of a box: it flows, exactly one of its ends is on the box, and the other one, its party, is a
+-- device's
 pub record IsLeg (who : ℕ) (view : PathView) (leg : Leg) : Type 0 where
   pub near : EndView
   pub ends : AreEnds view near leg.party
@@ -35,7 +36,10 @@ far_end low high view = None
 
 -- the leg that a path is, if it is one
 abbrev pub leg_of : ℕ → PathView → Option Leg
-leg_of who view = if view.flowing then option_and_then (leg_to view.medium) (far_end (view.low.who == who) (view.high.who == who) view) else None
+leg_of who view =
+    if view.flowing
+    then option_and_then (leg_to view.medium) (far_end (view.low.who == who) (view.high.who == who) view)
+    else None
 
 -- ---- all legs
 
@@ -50,7 +54,8 @@ legs views who = count_by (λ view. is_some (leg_of who view)) views
 -- a leg in its place among others
 abbrev pub inserted : Leg → List Leg → List Leg
 inserted leg [] = leg ∷ []
-inserted leg (first ∷ rest) = if nat_le leg.party.slot first.party.slot then leg ∷ first ∷ rest else first ∷ inserted leg rest
+inserted leg (first ∷ rest) =
+    if nat_le leg.party.slot first.party.slot then leg ∷ first ∷ rest else first ∷ inserted leg rest
 
 -- legs by the numbers of their parties' slots
 abbrev pub in_order : List Leg → List Leg

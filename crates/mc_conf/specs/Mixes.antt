@@ -14,10 +14,12 @@ use Rattle.mc_conf.specs.declared.party.Leg.{Leg}
 abbrev pub first_codec : CodecList → Option ℕ
 first_codec list = slice_get (codecs_of list) 0
 
--- the codec in which a party hears another, if it does: of two legs of one medium, where the other can send a codec, the first one of its own
+-- the codec in which a party hears another, if it does: of two legs of one medium, where the other can send a codec,
+-- the first one of its own
 abbrev pub heard_codec : (hearer heard : Leg) → Option ℕ
 heard_codec hearer heard =
-    if not (hearer.party.slot == heard.party.slot) && is_same_medium hearer.medium heard.medium && is_some (first_codec heard.party.sends)
+    if not (hearer.party.slot == heard.party.slot) && is_same_medium hearer.medium heard.medium
+    && is_some (first_codec heard.party.sends)
     then first_codec hearer.party.own.codecs
     else None
 

@@ -13,7 +13,8 @@ pub record Pair : Type 0 where
   pub heard : Leg
   pub codec : ℕ
 
--- the one hears the other: they are two parties of one medium, the one wants media, the first of its own codecs best, and the other can send some
+-- the one hears the other: they are two parties of one medium, the one wants media, the first of its own codecs best,
+-- and the other can send some
 pub record Hears (pair : Pair) : Type 0 where
   pub apart : pair.hearer.party.slot ≢ pair.heard.party.slot
   pub medium : pair.hearer.medium ≡ pair.heard.medium
@@ -63,11 +64,14 @@ pub record AreAllPairs (views : List PathView) (who : ℕ) (found : List Mix) : 
 -- ---- laws
 
 abbrev pub MixesAreAllPairs : Type 0
-MixesAreAllPairs = (views : List PathView) (who : ℕ) → PartiesDiffer (legs_in views who) → AreAllPairs views who (mixes views who)
+MixesAreAllPairs =
+    (views : List PathView) (who : ℕ) → PartiesDiffer (legs_in views who) → AreAllPairs views who (mixes views who)
 
 -- two lists of paths have the same legs of a box
 abbrev pub HaveSameLegs : (one other : List PathView) → ℕ → Type 0
 HaveSameLegs one other who = (leg : Leg) → HasLeg one who leg ↔ HasLeg other who leg
 
 abbrev pub OthersChangeNothing : Type 0
-OthersChangeNothing = (one other : List PathView) (who : ℕ) → PartiesDiffer (legs_in one who) → PartiesDiffer (legs_in other who) → HaveSameLegs one other who → mixes one who ≡ mixes other who
+OthersChangeNothing =
+    (one other : List PathView) (who : ℕ) → PartiesDiffer (legs_in one who) → PartiesDiffer (legs_in other who)
+    → HaveSameLegs one other who → mixes one who ≡ mixes other who

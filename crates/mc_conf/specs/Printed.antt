@@ -36,7 +36,8 @@ pub record IsNamedMix (names : NameLists) (mix : Mix) : Type 0 where
 
 -- the box, with the number of its legs
 abbrev pub heading_line : NameLists → (who count : ℕ) → List ℕ
-heading_line names who count = line_of (codes "conf" ∷ slice_index_or names.boxes who [] ∷ codes "legs" ∷ decimal count ∷ [])
+heading_line names who count =
+    line_of (codes "conf" ∷ slice_index_or names.boxes who [] ∷ codes "legs" ∷ decimal count ∷ [])
 
 -- who hears whom, and in which codec
 abbrev pub mix_line : NameLists → Mix → List ℕ

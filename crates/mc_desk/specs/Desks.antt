@@ -48,7 +48,9 @@ pub record IsSameOperator (old new : Operator) : Type 0 where
 
 -- each of them is the same operator as the one at its place before
 abbrev pub AreSameOperators : List Operator → List Operator → Type 0
-AreSameOperators old new = (place : ℕ) (other : Operator) → place < length old → IsSameOperator (slice_index_or old place other) (slice_index_or new place other)
+AreSameOperators old new =
+    (place : ℕ) (other : Operator) → place < length old
+    → IsSameOperator (slice_index_or old place other) (slice_index_or new place other)
 
 -- they are all the operators of this desk, in order
 pub record AreOperatorsOf (desk : Desk) (operators : List Operator) : Type 0 where

@@ -25,7 +25,19 @@ AreIndexed requests = map (λ (request : Request). request.index) requests ≡ r
 
 -- the taker's, before it took any request: so many operators' passes were made of it, and these are all, or not
 abbrev pub taker_with : ℕ → Bool → Log
-taker_with made complete = record { asks = false; number = 0; last = false; accepted = []; takes = true; taken = []; made = made; complete = complete; known = [] }
+taker_with made complete =
+    record {
+      asks = false;
+      number = 0;
+      last = false;
+      accepted = [];
+      takes = true;
+      taken = [];
+      made = made;
+      complete =
+          complete;
+      known = [];
+    }
 
 -- the taker's, before any other pass was made
 abbrev pub new_taker : Log
@@ -33,11 +45,35 @@ new_taker = taker_with 0 false
 
 -- an operator's, before it asked
 abbrev pub new_operator : ℕ → Bool → Log
-new_operator number last = record { asks = true; number = number; last = last; accepted = []; takes = false; taken = []; made = 0; complete = false; known = [] }
+new_operator number last =
+    record {
+      asks = true;
+      number = number;
+      last = last;
+      accepted = [];
+      takes = false;
+      taken = [];
+      made = 0;
+      complete =
+          false;
+      known = [];
+    }
 
 -- what is left of a pass that is back
 abbrev pub nobody : Log
-nobody = record { asks = false; number = 0; last = false; accepted = []; takes = false; taken = []; made = 0; complete = false; known = [] }
+nobody =
+    record {
+      asks = false;
+      number = 0;
+      last = false;
+      accepted = [];
+      takes = false;
+      taken = [];
+      made = 0;
+      complete =
+          false;
+      known = [];
+    }
 
 -- one request more was accepted
 abbrev pub with_accepted : Log → Request → Log
@@ -94,7 +130,8 @@ pub record FitsTaker (past : Past) (pass : ℕ) (log : Log) : Type 0 where
   pub taken_is : log.taken ≡ past.taken
   pub made_is : log.made ≡ past.made
   pub complete_is : log.complete ≡ past.complete
-  pub known_is : (operator : ℕ) → operator < length log.known → (past.seat operator ≡ none) × (slice_index_or log.known operator [] ≡ past.accepted operator)
+  pub known_is : (operator : ℕ) → operator < length log.known
+      → (past.seat operator ≡ none) × (slice_index_or log.known operator [] ≡ past.accepted operator)
   pub back : length log.known ≤ log.made
 
 -- a pass knows its part of the past

@@ -3,13 +3,13 @@ use Rattle.std.proofs.Common.{◌≡◌, ℕ, ◌+◌, ◌-◌, ◌≤◌, List,
 use Rattle.std.proofs.lemmas.List.{drop-drop, get_or-drop}
 use Rattle.mc_text.specs.Lines.{lines}
 
--- the lines that are left are those behind so many of the text, and not more than are before the wanted one
+-- the lines that are left are those after so many of the text, and not more than are before the wanted one
 pub record IsBehind (text rest : List ℕ) (counter wanted : ℕ) : Type 0 where
   pub some : 1 ≤ counter
   pub few : counter - 1 ≤ wanted - 1
   pub left : lines rest ≡ drop (counter - 1) (lines text)
 
--- behind one line more
+-- after one line more
 pub one_more : (text rest next : List ℕ) (counter wanted : ℕ) → IsBehind text rest counter wanted → counter + 1 ≤ wanted
     → lines next ≡ drop 1 (lines rest) → IsBehind text next (counter + 1) wanted
 one_more text rest next counter wanted behind more is = record {

@@ -29,7 +29,9 @@ commands =
 
 -- the rule of texts that a line breaks
 abbrev pub text_fault : ℕ → ℕ → List ℕ
-text_fault number line = codes "line " ++ decimal line ++ codes " of the text breaks rule " ++ decimal number ++ codes ": " ++ text_rule number ++ codes "."
+text_fault number line =
+    codes "line " ++ decimal line ++ codes " of the text breaks rule " ++ decimal number ++ codes ": "
+    ++ text_rule number ++ codes "."
 
 -- it is a turn that breaks the rule
 abbrev pub is_of_turns : ℕ → Bool
@@ -37,23 +39,31 @@ is_of_turns number = number == NOT_ENABLED || number == NOT_NEXT
 
 -- the rule of journals that a turn breaks, by the turn's number and its line in the text
 abbrev pub turn_fault : ℕ → ℕ → ℕ → List ℕ
-turn_fault number turn line = codes "line " ++ decimal line ++ codes " of the text, turn " ++ decimal turn ++ codes " of its journal, breaks rule " ++ decimal number ++ codes ": " ++ journal_rule number ++ codes "."
+turn_fault number turn line =
+    codes "line " ++ decimal line ++ codes " of the text, turn " ++ decimal turn
+    ++ codes " of its journal, breaks rule " ++ decimal number ++ codes ": " ++ journal_rule number ++ codes "."
 
 -- the rule that a line breaks after so many turns
 abbrev pub line_fault : ℕ → ℕ → ℕ → List ℕ
-line_fault number turns line = codes "line " ++ decimal line ++ codes " of the text, with " ++ decimal turns ++ codes " turns of its journal made, breaks rule " ++ decimal number ++ codes ": " ++ journal_rule number ++ codes "."
+line_fault number turns line =
+    codes "line " ++ decimal line ++ codes " of the text, with " ++ decimal turns
+    ++ codes " turns of its journal made, breaks rule " ++ decimal number ++ codes ": " ++ journal_rule number
+    ++ codes "."
 
 -- the rule of journals that is broken where so many turns, less one, were made
 abbrev pub journal_fault : ℕ → ℕ → ℕ → List ℕ
-journal_fault number turn line = if is_of_turns number then turn_fault number turn line else line_fault number (turn - 1) line
+journal_fault number turn line =
+    if is_of_turns number then turn_fault number turn line else line_fault number (turn - 1) line
 
 -- where a script stopped, and why
 abbrev pub stop : (settle : ℕ) → (place why : List ℕ) → List ℕ
-stop settle place why = codes "settle " ++ decimal settle ++ codes " of the script stopped at " ++ place ++ codes ": " ++ why
+stop settle place why =
+    codes "settle " ++ decimal settle ++ codes " of the script stopped at " ++ place ++ codes ": " ++ why
 
 -- which features there are, by their names, each after a space
 abbrev pub features_told : List ℕ → List ℕ
-features_told features = if has_bytes features then codes ". Its features are:" ++ features ++ codes "." else codes ", nor any other."
+features_told features =
+    if has_bytes features then codes ". Its features are:" ++ features ++ codes "." else codes ", nor any other."
 
 -- no feature has this name
 abbrev pub no_box : (place features : List ℕ) → List ℕ
@@ -66,10 +76,17 @@ sentences Help = codes "the commands are:" ∷ commands
 sentences Usage = codes "the words after the program's name are no command; the commands are:" ∷ commands
 sentences (FaultyText number line text detail) = text_fault number line ∷ []
 sentences (VersionEnd place settle) =
-    stop settle place.items (codes "a hear command of this slot would need a version past the last one, 4294967295. Look at the first version of its device.") ∷ []
-sentences (Ring place settle) = stop settle place.items (codes "this slot is on a ring of links, so a path has no ends. Look at the links that lead on from it.") ∷ []
+    stop settle place.items (codes
+    "a hear command of this slot would need a version past the last one, 4294967295. Look at the first version of its device.")
+    ∷ []
+sentences (Ring place settle) =
+    stop settle place.items
+    (codes "this slot is on a ring of links, so a path has no ends. Look at the links that lead on from it.")
+    ∷ []
 sentences (Restless place settle) =
-    stop settle place.items (codes "the program of this box made 256 steps in this settle, which is the most, and could make one more. Look at its when lines: they may lead round in a circle.") ∷ []
+    stop settle place.items (codes
+    "the program of this box made 256 steps in this settle, which is the most, and could make one more. Look at its when lines: they may lead round in a circle.")
+    ∷ []
 sentences (FaultyJournal number turn line text) = journal_fault number turn line ∷ []
 sentences (NoBox place features) = no_box place.items features.items ∷ []
 sentences NoMemory = codes "there wasn't enough memory. Nothing was printed." ∷ []
@@ -84,7 +101,8 @@ line_shown bytes = if has_bytes bytes then quote bytes else []
 
 -- so is that of a text, and then what helps with the rule that it breaks
 abbrev pub text_shown : ℕ → List ℕ → Detail → List ℕ
-text_shown number bytes detail = if has_bytes bytes then quote bytes ++ flat_map told_line (hints number bytes detail) else []
+text_shown number bytes detail =
+    if has_bytes bytes then quote bytes ++ flat_map told_line (hints number bytes detail) else []
 
 -- the line that is shown for a fault
 abbrev pub shown : Reason → List ℕ

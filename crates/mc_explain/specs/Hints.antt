@@ -1,4 +1,5 @@
--- What else helps where a line breaks a rule: the word at fault, the limit that was passed, and the form of such a line.
+-- What else helps where a line breaks a rule: the word at fault, the limit that was passed, and the form of such a
+-- line.
 use Rattle.std.specs.Prelude.{ℕ, ◌==◌, ◌||◌, Bool, List, [], ◌∷◌, ◌++◌, codes, flat_map, get_or, if◌then◌else◌}
 use Rattle.std.specs.Fmt.{decimal}
 use Rattle.std.specs.Str.{bytes_eq}
@@ -12,7 +13,7 @@ use Rattle.mc_lines.specs.declared.detail.Why.TheVariants as why
 use Rattle.mc_lines.specs.declared.limit.TheConstants.{COMMAND_LIMIT, LIST_LIMIT}
 use Rattle.mc_model.specs.declared.channel.TheConstants.{TUNNEL_LIMIT}
 use Rattle.mc_plan.specs.declared.limit.TheConstants.{CHANNEL_LIMIT}
-use Rattle.mc_program.specs.declared.limit.TheConstants.{STATE_LIMIT, TRANSITION_LIMIT}
+use Rattle.mc_program_lines.specs.declared.limit.TheConstants.{STATE_LIMIT, TRANSITION_LIMIT}
 use Rattle.mc_script.specs.declared.rule.TheConstants.{EXTRA_WORD, MISSING_WORD, NO_SUCH_SLOT, UNDECLARED, WRONG_VERSION, WRONG_WORD}
 use Rattle.mc_text.specs.Lines.{words}
 use Rattle.mc_text.specs.declared.limit.TheConstants.{BOX_LIMIT, CODEC_LIMIT, SLOT_LIMIT, TOLD_LIMIT}
@@ -35,7 +36,11 @@ forms =
     ∷ (codes "prog", codes "prog FEATURE STATE STATE ..")
     ∷ (codes "state", codes "state STATE, in the order of the prog line")
     ∷ (codes "goal", codes "goal SLOT GOAL after a state line, with open, close or hold for GOAL")
-    ∷ (codes "when", codes "when told WORD STATE, or when is SLOT IT STATE with closed, opening, opened, flowing or closing for IT, after a state line")
+    ∷ (
+      codes "when",
+      codes
+          "when told WORD STATE, or when is SLOT IT STATE with closed, opening, opened, flowing or closing for IT, after a state line",
+    )
     ∷ (codes "begin", codes "begin, once")
     ∷ (codes "journal", codes "journal, after the commands, under check and why alone")
     ∷ (codes "set", codes "set BOX SLOT GOAL after begin, with open, close or hold for GOAL")
@@ -55,7 +60,9 @@ first_word line = get_or (words line) 0 []
 
 -- the form of such a line helps with the rule
 abbrev pub wants_form : ℕ → Bool
-wants_form number = number == UNDECLARED || number == WRONG_WORD || number == MISSING_WORD || number == EXTRA_WORD || number == WRONG_VERSION || number == NO_SUCH_SLOT
+wants_form number =
+    number == UNDECLARED || number == WRONG_WORD || number == MISSING_WORD || number == EXTRA_WORD
+    || number == WRONG_VERSION || number == NO_SUCH_SLOT
 
 -- the form of lines like this one, where it helps with the rule
 abbrev pub form_hint : ℕ → (line : List ℕ) → List (List ℕ)

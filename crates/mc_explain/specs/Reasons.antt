@@ -14,8 +14,11 @@ line_at number text = take LINE_LIMIT (get_or (lines text) (number - 1) [])
 
 -- the reason is that the text has a fault of this number on this line, with its bytes and what else is known of it
 abbrev pub IsTextFault : ℕ → ℕ → Detail → List ℕ → Reason → Type 0
-IsTextFault number line detail text reason = (told : Vec ℕ Global) × (reason ≡ FaultyText number line told detail) × (told.items ≡ line_at line text)
+IsTextFault number line detail text reason =
+    (told : Vec ℕ Global) × (reason ≡ FaultyText number line told detail) × (told.items ≡ line_at line text)
 
--- the reason is that the journal of a text has a fault of this number at this turn, on this line of the text, with its bytes
+-- the reason is that the journal of a text has a fault of this number at this turn, on this line of the text, with its
+-- bytes
 abbrev pub IsFaultOfJournal : ℕ → ℕ → ℕ → List ℕ → Reason → Type 0
-IsFaultOfJournal number turn line text reason = (told : Vec ℕ Global) × (reason ≡ FaultyJournal number turn line told) × (told.items ≡ line_at line text)
+IsFaultOfJournal number turn line text reason =
+    (told : Vec ℕ Global) × (reason ≡ FaultyJournal number turn line told) × (told.items ≡ line_at line text)

@@ -10,16 +10,27 @@ sentence_in (rule ∷ rules) number = if rule.0 == number then rule.1 else sente
 
 -- the rules on the lines of a text, each with its sentence
 abbrev pub text_rules : List (ℕ × List ℕ)
-text_rules =
-    (TEXT_TOO_LONG, codes "the text is too long: it may have 1048576 bytes, and under check and why 16777216 with its journal")
+text_rules = (
+  TEXT_TOO_LONG,
+  codes
+      "the text is too long: it may have 1048576 bytes, and under check and why 16777216 with its journal",
+)
     ∷ (LINE_TOO_LONG, codes "the line has more than 256 bytes")
     ∷ (STRANGE_BYTE, codes "the line has a byte that no text may have, such as a tab or a carriage return")
     ∷ (UNDECLARED, codes "the line names a codec, a box, a state or a told word that isn't declared")
     ∷ (WRONG_WORD, codes "a word of the line may not stand in its place")
     ∷ (MISSING_WORD, codes "a word is missing at the end of the line")
     ∷ (EXTRA_WORD, codes "the line has a word too many")
-    ∷ (WRONG_VERSION, codes "the first version of a device must be a number from 1 to 4294967295, without a leading zero")
-    ∷ (GIVEN_TWICE, codes "a name is taken, a codec is listed twice, or a device gets a second send line, a box a second program, or a slot a second goal")
+    ∷ (
+      WRONG_VERSION,
+      codes
+          "the first version of a device must be a number from 1 to 4294967295, without a leading zero",
+    )
+    ∷ (
+      GIVEN_TWICE,
+      codes
+          "a name is taken, a codec is listed twice, or a device gets a second send line, a box a second program, or a slot a second goal",
+    )
     ∷ (SAME_BOX, codes "the channel has one box at both ends")
     ∷ (NO_SUCH_SLOT, codes "the box has no slot of that name")
     ∷ (SAME_SLOT, codes "the line links a slot to itself")
@@ -36,7 +47,11 @@ abbrev pub journal_rules : List (ℕ × List ℕ)
 journal_rules =
     (NOT_ENABLED, codes "this turn can't happen here: look at what the turns before it left to its slot or its box")
     ∷ (NO_LINE, codes "a line that no journal may have: look for a misspelt word, or for a name that the text doesn't declare")
-    ∷ (NOT_SETTLED, codes "not all is settled: a command, a signal, a retry or a step of a program is still to come, or links make a ring; or the script has no further settle")
+    ∷ (
+      NOT_SETTLED,
+      codes
+          "not all is settled: a command, a signal, a retry or a step of a program is still to come, or links make a ring; or the script has no further settle",
+    )
     ∷ (NOT_NEXT, codes "this command isn't the next one that the script has for its box: look at the order of the script")
     ∷ (ENDS_EARLY, codes "the journal ends before the script does: look for a settle that is missing at its end")
     ∷ []

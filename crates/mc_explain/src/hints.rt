@@ -10,7 +10,7 @@ use mc_lines::limit::{COMMAND_LIMIT, LIST_LIMIT};
 use mc_lines::{Detail, Limit, Why};
 use mc_model::TUNNEL_LIMIT;
 use mc_plan::limit::CHANNEL_LIMIT;
-use mc_program::limit::{STATE_LIMIT, TRANSITION_LIMIT};
+use mc_program_lines::limit::{STATE_LIMIT, TRANSITION_LIMIT};
 use mc_script::rule::{
     EXTRA_WORD, MISSING_WORD, NO_SUCH_SLOT, UNDECLARED, WRONG_VERSION, WRONG_WORD,
 };

@@ -123,7 +123,7 @@ fn line_at(text: &[u8], line: u32) -> &[u8]
     within_limit(first_line(rest))
 }
 
-// What stands behind the first line of a text, if it has one.
+// What stands after the first line of a text, if it has one.
 fn behind_line(text: &[u8]) -> &[u8]
     ensures { lines result.now ≡ drop 1 (lines text.now) }
 {

@@ -9,9 +9,9 @@ use Rattle.mc_slot.specs.Outlook.{closes, outlook, waits}
 use Rattle.mc_slot.specs.Tunnel.{Agree, TunnelSound}
 use Rattle.mc_slot.specs.declared.Slot.{Slot}
 use Rattle.mc_slot.specs.declared.State.TheVariants.{Closed, Opened}
-use Rattle.mc_tunnel.proofs.Alike.{Opens, nothing, one, out_closed}
-use Rattle.mc_tunnel.proofs.Taking.{met}
-use Rattle.mc_tunnel.proofs.Walks.{walked}
+use Rattle.mc_slot_laws.proofs.Alike.{Opens, nothing, one, out_closed}
+use Rattle.mc_slot_laws.proofs.Taking.{met}
+use Rattle.mc_slot_laws.proofs.Walks.{walked}
 
 -- what is under way to a closed slot, if it is no close: nothing, or an open by which it will be opened
 data Coming (out : Slot) : List Signal → Type 0 where

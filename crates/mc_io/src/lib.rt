@@ -17,4 +17,4 @@ pub use memory_source::MemSource;
 pub use sink::Sink;
 pub use source::{Failed, Source};
 pub use standard::{StdSink, StdSource};
-pub use whole::{ReadFault, read_up_to, write_whole};
+pub use whole::{SourceFault, read_up_to, write_whole};

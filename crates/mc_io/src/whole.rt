@@ -3,32 +3,32 @@ ghost use Rattle.std.specs.Prelude.{◌≡◌, ◌+◌, ◌^◌, ◌<◌, ◌≤
 ghost use Rattle.std.specs.Io.KnownBytes.{Appends, Consumes, IsAtEnd};
 ghost use Rattle.mc_io.specs.Faults.{faults_after, is_failed_read};
 ghost use Rattle.mc_io.specs.Bytes.{AppendsPart, ConsumesAtMost};
-ghost use Rattle.mc_io.specs.declared.whole.ReadFault.TheVariants.{Failed, NoMemory};
+ghost use Rattle.mc_io.specs.declared.whole.SourceFault.TheVariants.{Failed, NoMemory};
 
 use crate::{Failed, Sink, Source};
 use std::alloc::{AllocError, AllocFailed, Global};
 
 /// Why a text isn't had.
 #[derive(Debug, Drop)]
-pub enum ReadFault {
+pub enum SourceFault {
     /// The source failed.
     Failed,
     NoMemory(AllocError),
 }
 
-impl From<AllocError> for ReadFault {
+impl From<AllocError> for SourceFault {
     ghost from_gives = { λ e f. f ≡ NoMemory e };
 
     fn from(e: AllocError) -> Self {
-        ReadFault::NoMemory(e)
+        SourceFault::NoMemory(e)
     }
 }
 
-impl From<Failed> for ReadFault {
+impl From<Failed> for SourceFault {
     ghost from_gives = { λ _ f. f ≡ Failed };
 
     fn from(_: Failed) -> Self {
-        ReadFault::Failed
+        SourceFault::Failed
     }
 }
 
@@ -40,7 +40,7 @@ pub fn read_up_to<S: Source>(
     alloc: Global,
     source: &mut S,
     limit: usize,
-) -> Result<Vec<u8>, ReadFault>
+) -> Result<Vec<u8>, SourceFault>
     requires { limit < 2 ^ 32 }
 
     ensures text { IfOk result (λ text. IfSome (S.left source.old) (λ left. text.items ≡ take (limit + 1) left)) }

@@ -95,12 +95,12 @@ module _ (names : NameLists) where
 
 -- ---- what a line says
 
--- where no rule is broken, none behind the first is
+-- where no rule is broken, none after the first is
 others_kept : (number : ℕ) (broken : Bool) (others : List (ℕ × Bool)) → least_broken ((number, broken) ∷ others) ≡ None → least_broken others ≡ None
 others_kept number true others kept = absurd (let clash : Some number ≡ None = kept in cc)
 others_kept number false others kept = kept
 
--- none behind those on bytes
+-- none after those on bytes
 behind_bytes : (line : List ℕ) (rules : List (ℕ × Bool)) → least_broken (byte_rules line ++ rules) ≡ None → least_broken rules ≡ None
 behind_bytes line rules kept =
     let strange = list_any (λ byte. not (is_plain byte)) line in

@@ -15,7 +15,7 @@ one_suc n = omega arith
 abbrev pub said : List LineReading → List JournalLine
 said readings = flat_map line_in (before_first is_bad readings)
 
--- behind a bad line nothing counts
+-- after a bad line nothing counts
 pub said-bad : (reading : LineReading) (others : List LineReading) → is_bad reading ≡ true → said (reading ∷ others) ≡ []
 said-bad reading others bad = rw bad refl
 

@@ -1,4 +1,4 @@
--- The words of a command, behind `turn`.
+-- The words of a command, after `turn`.
 use Rattle.std.proofs.Common.{◌≡◌, ℕ, List, ◌∷◌, ◌++◌, codes, refl, ap, ◌∙◌, append_assoc}
 use Rattle.std.specs.List.{join_with_byte}
 use Rattle.mc_text.specs.NameLists.{NameLists}

@@ -15,4 +15,6 @@ ReadsBack names shape lines =
 
 -- what is printed is read as the same lines, where the shape allows their commands
 abbrev pub JournalsAreRead : Type 0
-JournalsAreRead = (names : NameLists) (shape : List BoxShapeState) (lines : List JournalLine) → All (IsFoundLine names) lines → All (AllowsLine shape) lines → ReadsBack names shape lines
+JournalsAreRead =
+    (names : NameLists) (shape : List BoxShapeState) (lines : List JournalLine) → All (IsFoundLine names) lines
+    → All (AllowsLine shape) lines → ReadsBack names shape lines

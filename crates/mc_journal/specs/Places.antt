@@ -3,7 +3,8 @@ use Rattle.std.specs.Prelude.{ℕ, suc, ◌-◌, ◌==◌, Bool, true, false, Li
 use Rattle.mc_journal.specs.declared.reading.LineReading.{LineReading}
 use Rattle.mc_journal.specs.declared.reading.LineReading.TheVariants.{Skipped, Line, Bad}
 
--- a line of the text is the wanted one: one of the journal where no other is to come before it, or one that is no line of a journal
+-- a line of the text is the wanted one: one of the journal where no other is to come before it, or one that is no line
+-- of a journal
 abbrev pub is_wanted : LineReading → (before : ℕ) → Bool
 is_wanted Skipped before = false
 is_wanted (Line line) before = before == 0
@@ -15,7 +16,9 @@ before_after Skipped before = before
 before_after (Line line) before = before - 1
 before_after Bad before = before
 
--- how many lines of a text stand before the line of its journal that comes after so many others. Where the journal has no such line it is the first of the text that is none, or the text's end
+-- how many lines of a text stand before the line of its journal that comes after so many others. Where the journal has
+-- no such line it is the first of the text that is none, or the text's end
 abbrev pub line_place : List LineReading → (before : ℕ) → ℕ
 line_place [] before = 0
-line_place (reading ∷ others) before = if is_wanted reading before then 0 else suc (line_place others (before_after reading before))
+line_place (reading ∷ others) before =
+    if is_wanted reading before then 0 else suc (line_place others (before_after reading before))

@@ -10,7 +10,7 @@ use Rattle.mc_script.specs.Printed.{IsFound, IsFoundEvent, IsFoundSlot, IsNamedE
 use Rattle.mc_script.specs.declared.command.JournalLine.{JournalLine}
 use Rattle.mc_script.specs.declared.command.JournalLine.TheVariants.{Turn as Made, Settled}
 
--- the words of a turn, behind `turn`; those of a command are its own
+-- the words of a turn, after `turn`; those of a command are its own
 abbrev pub turn_words : NameLists → ℕ → Event → List (List ℕ)
 turn_words names who (Take local) = codes "take" ∷ box_name names who ∷ slot_name names who local ∷ []
 turn_words names who (Retry local) = codes "retry" ∷ box_name names who ∷ slot_name names who local ∷ []

@@ -20,21 +20,24 @@ use Rattle.mc_journal.specs.declared.reading.LineReading.{LineReading}
 use Rattle.mc_journal.specs.declared.reading.LineReading.TheVariants.{Skipped, Line, Bad}
 use Rattle.mc_journal.specs.declared.turn.SlotPlace.{SlotPlace}
 
--- ---- turns, by the words behind `turn`
+-- ---- turns, by the words after `turn`
 
--- `BOX SLOT`, and no word behind them
+-- `BOX SLOT`, and no word after them
 abbrev pub slot_place : NameLists → List (List ℕ) → Option SlotPlace
 slot_place names words =
     if is_some (slice_get words 2) then None
-    else option_and_then (λ who. option_map (λ local. record { who = who; local = local }) (slot_named names (Some who) (slice_get words 1))) (box_named names (slice_get words 0))
+    else option_and_then (λ who. option_map (λ local. record { who = who; local = local })
+    (slot_named names (Some who) (slice_get words 1))) (box_named names (slice_get words 0))
 
 abbrev pub spelt_take : NameLists → List (List ℕ) → Option Turn
-spelt_take names words = option_map (λ (place : SlotPlace). record { who = place.who; event = Take place.local }) (slot_place names words)
+spelt_take names words =
+    option_map (λ (place : SlotPlace). record { who = place.who; event = Take place.local }) (slot_place names words)
 
 abbrev pub spelt_retry : NameLists → List (List ℕ) → Option Turn
-spelt_retry names words = option_map (λ (place : SlotPlace). record { who = place.who; event = Retry place.local }) (slot_place names words)
+spelt_retry names words =
+    option_map (λ (place : SlotPlace). record { who = place.who; event = Retry place.local }) (slot_place names words)
 
--- `BOX`, and no word behind it
+-- `BOX`, and no word after it
 abbrev pub spelt_shift : NameLists → List (List ℕ) → Option Turn
 spelt_shift names words =
     if is_some (slice_get words 1) then None
@@ -45,9 +48,10 @@ abbrev pub unbroken : {X : Type 0} → Option ℕ → Option X → Option X
 unbroken None meaning = meaning
 unbroken (Some number) meaning = None
 
--- the command that the words behind the first spell, where they break no rule
+-- the command that the words after the first spell, where they break no rule
 abbrev pub sound_command : NameLists → List BoxShapeState → CommandWord → List (List ℕ) → Option Command
-sound_command names shape kind words = unbroken (least_broken (kind_rules names shape (Some kind) words)) (command_by names (Some kind) words)
+sound_command names shape kind words =
+    unbroken (least_broken (kind_rules names shape (Some kind) words)) (command_by names (Some kind) words)
 
 -- a settle is no turn
 abbrev pub stimulus_of : Command → Option Turn
@@ -57,7 +61,7 @@ stimulus_of Settle = None
 abbrev pub command_turn : NameLists → List BoxShapeState → CommandWord → List (List ℕ) → Option Turn
 command_turn names shape kind words = option_and_then stimulus_of (sound_command names shape kind words)
 
--- the turn that a word opens, by those behind it
+-- the turn that a word opens, by those after it
 abbrev pub made_turn : NameLists → List BoxShapeState → List ℕ → List (List ℕ) → Option Turn
 made_turn names shape first others =
     if bytes_eq first (codes "take") then spelt_take names others
@@ -75,11 +79,11 @@ abbrev pub turn_reading : Option Turn → LineReading
 turn_reading None = Bad
 turn_reading (Some turn) = Line (Made turn)
 
--- `settle`, and no word behind it
+-- `settle`, and no word after it
 abbrev pub settle_reading : List (List ℕ) → LineReading
 settle_reading words = if is_some (slice_get words 0) then Bad else Line Settled
 
--- a line that this word opens, by the words behind it
+-- a line that this word opens, by the words after it
 abbrev pub opened_reading : NameLists → List BoxShapeState → List ℕ → List (List ℕ) → LineReading
 opened_reading names shape first others =
     if bytes_eq first (codes "turn") then turn_reading (turn_said names shape others)
@@ -89,14 +93,16 @@ opened_reading names shape first others =
 -- a blank line has no first word, and that of a comment begins with #
 abbrev pub first_reading : NameLists → List BoxShapeState → Option (List ℕ) → List (List ℕ) → LineReading
 first_reading names shape None others = Skipped
-first_reading names shape (Some first) others = if begins_hash first then Skipped else opened_reading names shape first others
+first_reading names shape (Some first) others =
+    if begins_hash first then Skipped else opened_reading names shape first others
 
 abbrev pub words_reading : NameLists → List BoxShapeState → List (List ℕ) → LineReading
 words_reading names shape words = first_reading names shape (slice_get words 0) (drop 1 words)
 
 -- the rules on bytes hold for comments, too
 abbrev pub line_reading : NameLists → List BoxShapeState → List ℕ → LineReading
-line_reading names shape line = if is_some (least_broken (byte_rules line)) then Bad else words_reading names shape (words line)
+line_reading names shape line =
+    if is_some (least_broken (byte_rules line)) then Bad else words_reading names shape (words line)
 
 -- ---- whole texts
 

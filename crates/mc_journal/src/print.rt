@@ -114,7 +114,7 @@ fn put_box(names: &Names, word: &[u8], who: u32, text: &mut Vec<u8>) -> Result<(
     Ok(())
 }
 
-// Appends a word behind a space.
+// Appends a word after a space.
 fn put_next(word: &[u8], text: &mut Vec<u8>) -> Result<(), AllocError>
     ensures { OnOk result (text.new.items ≡ text.old.items ++ (32 ∷ word.now)) }
 {

@@ -82,7 +82,7 @@ fn turn_reading(turn: Option<Turn>) -> LineReading
     }
 }
 
-// `settle`, behind which no word stands.
+// `settle`, after which no word stands.
 fn settle_reading<'a>(mut words: Words<'a>) -> LineReading
     ensures { result ≡ settle_reading words.entry }
 {

@@ -1,4 +1,4 @@
-// The turns of a journal, by the words behind `turn`.
+// The turns of a journal, by the words after `turn`.
 
 ghost use Rattle.std.specs.Prelude.{◌≡◌};
 ghost use Rattle.mc_script.specs.Places.{Fits};
@@ -17,7 +17,7 @@ pub struct SlotPlace {
     pub local: u8,
 }
 
-/// The turn that the words behind `turn` say. None where they say none, or where a command breaks one of its rules.
+/// The turn that the words after `turn` say. None where they say none, or where a command breaks one of its rules.
 pub fn turn_said<'a>(names: &Names, shape: &Shape, mut words: Words<'a>) -> Option<Turn>
     requires { Fits names.now shape.now }
     ensures { result ≡ turn_said names.now shape.now words.entry }
@@ -26,7 +26,7 @@ pub fn turn_said<'a>(names: &Names, shape: &Shape, mut words: Words<'a>) -> Opti
     made_turn(names, shape, first, words)
 }
 
-// The turn that a word opens, by those behind it.
+// The turn that a word opens, by those after it.
 fn made_turn<'a>(names: &Names, shape: &Shape, first: &[u8], others: Words<'a>) -> Option<Turn>
     requires { Fits names.now shape.now }
     ensures { result ≡ made_turn names.now shape.now first.now others.entry }
@@ -93,7 +93,7 @@ fn slot_place<'a>(names: &Names, words: Words<'a>) -> Option<SlotPlace>
     Some(SlotPlace { who, local })
 }
 
-// A command but `settle`, by the words behind its first.
+// A command but `settle`, by the words after its first.
 fn command_turn<'a>(
     names: &Names,
     shape: &Shape,

@@ -4,7 +4,7 @@ use Rattle.std.specs.List.{range_with_len}
 use Rattle.mc_ladder.specs.Columns.{with_all_new, with_new}
 use Rattle.mc_ladder.proofs.Numbered.{map_one_more, numbers_more}
 
--- the last of some boxes comes behind the others
+-- the last of some boxes comes after the others
 pub last_new : (columns others : List ℕ) (who : ℕ) → with_all_new columns (others ++ who ∷ []) ≡ with_new (with_all_new columns others) who
 last_new columns [] who = refl
 last_new columns (first ∷ others) who = last_new (with_new columns first) others who

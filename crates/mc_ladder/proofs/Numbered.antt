@@ -11,7 +11,7 @@ with_last first (suc count) last is = ap (λ (ks : List ℕ). first ∷ ks) (wit
 pub numbers_more : (k : ℕ) → range_with_len 0 (k + 1) ≡ range_with_len 0 k ++ k ∷ []
 numbers_more k = let next : k + 1 ≡ suc k = omega arith in ap (λ (n : ℕ). range_with_len 0 n) next ∙ with_last 0 k k (omega arith)
 
--- what the next number gives stands behind what those before it gave
+-- what the next number gives stands after what those before it gave
 pub each_more : (f : ℕ → List ℕ) (before : List ℕ) (k : ℕ) → before ++ flat_map f (range_with_len 0 (k + 1)) ≡ (before ++ flat_map f (range_with_len 0 k)) ++ f k
 each_more f before k = ap (λ (ks : List ℕ). before ++ flat_map f ks) (numbers_more k) ∙ sym (flat_map_more f before (range_with_len 0 k) k)
 

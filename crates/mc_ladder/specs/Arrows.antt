@@ -13,11 +13,13 @@ is_right arrow = nat_lt arrow.from arrow.to
 
 -- a column stands between its beginning and its end
 abbrev pub crosses : Arrow → ℕ → Bool
-crosses arrow column = (nat_lt arrow.from column && nat_lt column arrow.to) || (nat_lt arrow.to column && nat_lt column arrow.from)
+crosses arrow column =
+    (nat_lt arrow.from column && nat_lt column arrow.to) || (nat_lt arrow.to column && nat_lt column arrow.from)
 
 -- so does the gap to the right of a column
 abbrev pub covers : Arrow → ℕ → Bool
-covers arrow column = (nat_le arrow.from column && nat_lt column arrow.to) || (nat_le arrow.to column && nat_lt column arrow.from)
+covers arrow column =
+    (nat_le arrow.from column && nat_lt column arrow.to) || (nat_le arrow.to column && nat_lt column arrow.from)
 
 -- that gap is the one beside its beginning
 abbrev pub begins_beside : Arrow → ℕ → Bool

@@ -7,7 +7,8 @@ use Rattle.mc_ladder.specs.declared.glyph.Style.{Style}
 use Rattle.mc_ladder.specs.Columns.{columns_of}
 use Rattle.mc_ladder.specs.Placing.{place_width, widest_name}
 
--- in which bytes it is drawn, the boxes by their columns, the cells for the place of a turn, and whether the heads need two lines
+-- in which bytes it is drawn, the boxes by their columns, the cells for the place of a turn, and whether the heads need
+-- two lines
 pub record FrameState : Type 0 where
   pub style : Style
   pub columns : List ℕ

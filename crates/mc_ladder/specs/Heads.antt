@@ -9,7 +9,8 @@ use Rattle.mc_ladder.specs.declared.lanes.TheConstants.{GAP, MARGIN}
 use Rattle.mc_ladder.specs.Frames.{FrameState}
 use Rattle.mc_ladder.specs.Glyphs.{cells, each_of, glyph_bytes}
 
--- the name of a column stands in a line: of two lines, those of columns 0, 2, 4 and so on in the first, and the others in the second
+-- the name of a column stands in a line: of two lines, those of columns 0, 2, 4 and so on in the first, and the others
+-- in the second
 abbrev pub is_named : HeadLine → ℕ → Bool
 is_named Only column = true
 is_named First column = column % 2 == 0
@@ -37,27 +38,34 @@ head_after line name column = if is_named line column then name - name / 2 else 
 abbrev pub name_at : NameLists → List ℕ → ℕ → List ℕ
 name_at names columns column = slice_index_or names.boxes (slice_index_or columns column 0) []
 
--- how many blanks stand before a head: up to its place from the margin's beginning, or from the end of the head before it
+-- how many blanks stand before a head: up to its place from the margin's beginning, or from the end of the head before
+-- it
 abbrev pub head_lead : HeadLine → NameLists → List ℕ → ℕ → ℕ
 head_lead line names columns column =
     if column == 0 then MARGIN - head_before line (length (name_at names columns column)) column
-    else GAP + 1 - head_after line (length (name_at names columns (column - 1))) (column - 1) - head_before line (length (name_at names columns column)) column
+    else GAP + 1 - head_after line (length (name_at names columns (column - 1))) (column - 1)
+    - head_before line (length (name_at names columns column)) column
 
 abbrev pub head_text : Style → HeadLine → List ℕ → ℕ → List ℕ
-head_text style line name column = if is_named line column then name else if goes_on line then glyph_bytes style Line else []
+head_text style line name column =
+    if is_named line column then name else if goes_on line then glyph_bytes style Line else []
 
 abbrev pub head : Style → HeadLine → NameLists → List ℕ → ℕ → List ℕ
-head style line names columns column = cells style Blank (head_lead line names columns column) ++ head_text style line (name_at names columns column) column
+head style line names columns column =
+    cells style Blank (head_lead line names columns column)
+    ++ head_text style line (name_at names columns column) column
 
 -- for how many columns a line has heads: the first of two ends with its last name
 abbrev pub head_count : HeadLine → ℕ → ℕ
 head_count line columns = if is_first line && columns % 2 == 0 then columns - 1 else columns
 
 abbrev pub head_line : Style → HeadLine → NameLists → List ℕ → List ℕ
-head_line style line names columns = each_of (head_count line (length columns)) (head style line names columns) ++ 10 ∷ []
+head_line style line names columns =
+    each_of (head_count line (length columns)) (head style line names columns) ++ 10 ∷ []
 
 -- the heads of all columns
 abbrev pub heads : FrameState → NameLists → List ℕ
 heads frame names =
-    if frame.long then head_line frame.style First names frame.columns ++ head_line frame.style Second names frame.columns
+    if frame.long
+    then head_line frame.style First names frame.columns ++ head_line frame.style Second names frame.columns
     else head_line frame.style Only names frame.columns

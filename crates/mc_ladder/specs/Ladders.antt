@@ -1,7 +1,7 @@
 -- A whole ladder: for each turn of a journal its row, and for each settle its paths, in the order of the journal.
 use Rattle.std.specs.Prelude.{ℕ, ◌+◌, ◌%◌, ◌==◌, if◌then◌else◌, List, [], ◌∷◌, ◌++◌}
 use Rattle.mc_model.specs.Worlds.{WorldState}
-use Rattle.mc_program.specs.Programs.{BlockState}
+use Rattle.mc_program_lines.specs.Programs.{BlockState}
 use Rattle.mc_script.specs.declared.command.JournalLine.{JournalLine}
 use Rattle.mc_script.specs.declared.command.JournalLine.TheVariants.{Turn as Made, Settled}
 use Rattle.mc_text.specs.NameLists.{NameLists}
@@ -33,15 +33,18 @@ heads_due frame names count = if count.within % HEADS_EVERY == 0 then heads fram
 
 -- what is drawn for a line
 abbrev pub line_rows : FrameState → NameLists → List BlockState → WorldState → Count → JournalLine → List ℕ
-line_rows frame names blocks world count (Made turn) = heads_due frame names count ++ turn_row frame names blocks world turn (count.turns + 1)
+line_rows frame names blocks world count (Made turn) =
+    heads_due frame names count ++ turn_row frame names blocks world turn (count.turns + 1)
 line_rows frame names blocks world count Settled = settle_rows frame names world (count.settles + 1)
 
 -- what is drawn for the lines of a journal, in a world and after so many lines
 abbrev pub ladder_from : FrameState → NameLists → List BlockState → WorldState → Count → List JournalLine → List ℕ
 ladder_from frame names blocks world count [] = []
 ladder_from frame names blocks world count (line ∷ lines) =
-    line_rows frame names blocks world count line ++ ladder_from frame names blocks (world_after world line) (count_after count line) lines
+    line_rows frame names blocks world count line
+    ++ ladder_from frame names blocks (world_after world line) (count_after count line) lines
 
 -- the ladder of a journal, from the first world of a network on
 abbrev pub ladder_text : Style → NameLists → List BlockState → WorldState → List JournalLine → List ℕ
-ladder_text style names blocks world journal = ladder_from (frame_of style names world) names blocks world first_count journal
+ladder_text style names blocks world journal =
+    ladder_from (frame_of style names world) names blocks world first_count journal

@@ -13,7 +13,7 @@ bare_column style = glyph_bytes style Line ++ cells style Blank GAP
 abbrev pub bare_lanes : Style → ℕ → List ℕ
 bare_lanes style columns = each_of columns (λ column. bare_column style)
 
--- how many cells of a rule stand to the right of a column; behind the last one the words are a cell away
+-- how many cells of a rule stand to the right of a column; after the last one the words are a cell away
 abbrev pub rule_gap : (columns column : ℕ) → ℕ
 rule_gap columns column = if column + 1 == columns then GAP - 1 else GAP
 

@@ -1,4 +1,4 @@
--- A mark at the line of a box, with a word behind it.
+-- A mark at the line of a box, with a word after it.
 use Rattle.std.specs.Prelude.{ℕ, ◌-◌, ◌==◌, if◌then◌else◌, List, ◌++◌, length}
 use Rattle.mc_ladder.specs.declared.glyph.Glyph.{Glyph}
 use Rattle.mc_ladder.specs.declared.glyph.Glyph.TheVariants.{Blank, Line}
@@ -11,7 +11,7 @@ use Rattle.mc_ladder.specs.Glyphs.{cells, each_of, glyph_bytes}
 abbrev pub mark_glyph : Mark → ℕ → Glyph
 mark_glyph mark column = if column == mark.at then mark.glyph else Line
 
--- in the gap to the right of a column: behind the mark a space and the word
+-- in the gap to the right of a column: after the mark a space and the word
 abbrev pub mark_gap : Style → Mark → List ℕ → ℕ → List ℕ
 mark_gap style mark word column =
     if column == mark.at then glyph_bytes style Blank ++ word ++ cells style Blank (GAP - 1 - length word)

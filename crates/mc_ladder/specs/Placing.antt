@@ -1,4 +1,4 @@
--- What stands behind the lanes of a row: where its turn happens.
+-- What stands after the lanes of a row: where its turn happens.
 use Rattle.std.specs.Prelude.{ℕ, zero, suc, ◌+◌, ◌-◌, List, [], ◌∷◌, ◌++◌, length, max, slice_index_or}
 use Rattle.mc_ladder.specs.declared.glyph.Glyph.TheVariants.{Blank}
 use Rattle.mc_ladder.specs.declared.glyph.Style.{Style}
@@ -23,7 +23,8 @@ to_cells Ascii = 4
 
 -- the place of a Take in a field of so many cells: the slot that sent, and the slot that takes
 abbrev pub take_place : Style → (from to : List ℕ) → (width : ℕ) → List ℕ
-take_place style from to width = from ++ to_word style ++ to ++ cells style Blank (width - length from - to_cells style - length to)
+take_place style from to width =
+    from ++ to_word style ++ to ++ cells style Blank (width - length from - to_cells style - length to)
 
 -- the place of any other turn: its box
 abbrev pub box_place : Style → List ℕ → (width : ℕ) → List ℕ
@@ -42,7 +43,8 @@ widest_name names = greatest_of (length names.boxes) (λ who. length (slice_inde
 
 -- the cells that the place of a Take takes, by the slot that takes
 abbrev pub take_cells : Style → NameLists → WorldState → ℕ → ℕ
-take_cells style names world s = length (place_word names world (far s)) + to_cells style + length (place_word names world s)
+take_cells style names world s =
+    length (place_word names world (far s)) + to_cells style + length (place_word names world s)
 
 -- the width of the longest place that a turn of this network can have
 abbrev pub place_width : Style → NameLists → WorldState → ℕ

@@ -16,7 +16,8 @@ use Rattle.mc_ladder.specs.Glyphs.{cells, each_of, glyph_bytes}
 
 -- the columns of the two ends
 abbrev pub ends_of : List ℕ → PathView → Ends
-ends_of columns view = record { low = column_of columns view.low.who; high = column_of columns view.high.who; flowing = view.flowing }
+ends_of columns view =
+    record { low = column_of columns view.low.who; high = column_of columns view.high.who; flowing = view.flowing }
 
 -- the column of a slot's box
 abbrev pub stop_of : List ℕ → WorldState → ℕ → ℕ
@@ -72,7 +73,8 @@ abbrev pub path_gap : Style → Ends → List ℕ → ℕ → List ℕ
 path_gap style ends stops column = cells style (if goes_over stops column then path_cell ends else Blank) GAP
 
 abbrev pub path_column : Style → Ends → List ℕ → ℕ → List ℕ
-path_column style ends stops column = glyph_bytes style (path_glyph ends stops column) ++ path_gap style ends stops column
+path_column style ends stops column =
+    glyph_bytes style (path_glyph ends stops column) ++ path_gap style ends stops column
 
 -- a path over so many columns
 abbrev pub path_lanes : Style → ℕ → Ends → List ℕ → List ℕ

@@ -8,7 +8,7 @@ use Rattle.mc_box.specs.declared.event.Turn.{Turn}
 use Rattle.std.specs.Option.{unwrap_or}
 use Rattle.mc_model.specs.Steps.{step}
 use Rattle.mc_model.specs.Worlds.{WorldState, box_at, place}
-use Rattle.mc_program.specs.Programs.{BlockState}
+use Rattle.mc_program_lines.specs.Programs.{BlockState}
 use Rattle.mc_script.specs.Meaning.{goal_word, slot_name, switch_word}
 use Rattle.mc_text.specs.NameLists.{NameLists}
 use Rattle.mc_ladder.specs.declared.arrow.Arrow.{Arrow}
@@ -37,7 +37,7 @@ arrow_of columns world taken = record {
   dropped = taken.dropped;
 }
 
--- behind the lanes: both places, and the signal in words
+-- after the lanes: both places, and the signal in words
 abbrev pub take_tail : FrameState → NameLists → WorldState → Taking → List ℕ
 take_tail frame names world taken =
     take_place frame.style (place_word names world taken.from) (place_word names world taken.slot) frame.width
@@ -46,10 +46,12 @@ take_tail frame names world taken =
 -- the number, and the arrow
 abbrev pub take_lanes : Style → List ℕ → WorldState → Taking → (number : ℕ) → List ℕ
 take_lanes style columns world taken number =
-    numbered style number ++ arrow_lanes style (length columns) (arrow_of columns world taken) (signal_word taken.signal)
+    numbered style number
+    ++ arrow_lanes style (length columns) (arrow_of columns world taken) (signal_word taken.signal)
 
 abbrev pub take_row : FrameState → NameLists → WorldState → Taking → (number : ℕ) → List ℕ
-take_row frame names world taken number = take_lanes frame.style frame.columns world taken number ++ take_tail frame names world taken
+take_row frame names world taken number =
+    take_lanes frame.style frame.columns world taken number ++ take_tail frame names world taken
 
 -- where no signal waits, which no turn of a good journal takes, there is no row
 abbrev pub taken_row : FrameState → NameLists → WorldState → Option Taking → (number : ℕ) → List ℕ
@@ -77,18 +79,19 @@ mark_glyph_of event = Square
 abbrev pub switch_text : Bool → List ℕ
 switch_text on = spaced (switch_word on)
 
--- the words behind the first and the box, each behind a space; a Shift leads to this state
+-- the words after the first and the box, each after a space; a Shift leads to this state
 abbrev pub command_rest : NameLists → (who : ℕ) → Event → (state : List ℕ) → List ℕ
 command_rest names who (Take local) state = spaced (slot_name names who local)
 command_rest names who (Set (NewEnd local goal)) state = spaced (slot_name names who local) ++ spaced (goal_word goal)
-command_rest names who (Set (NewLink local other)) state = spaced (slot_name names who local) ++ spaced (slot_name names who other)
+command_rest names who (Set (NewLink local other)) state =
+    spaced (slot_name names who local) ++ spaced (slot_name names who other)
 command_rest names who (Media (Hear local on)) state = spaced (slot_name names who local) ++ switch_text on
 command_rest names who (Media (Talk local on)) state = spaced (slot_name names who local) ++ switch_text on
 command_rest names who (Tell told) state = spaced (slice_index_or names.told told [])
 command_rest names who (Retry local) state = spaced (slot_name names who local)
 command_rest names who Shift state = spaced (codes "to") ++ spaced state
 
--- behind the lanes: the box, and the turn in words
+-- after the lanes: the box, and the turn in words
 abbrev pub command_tail : FrameState → NameLists → Turn → (state : List ℕ) → List ℕ
 command_tail frame names turn state =
     box_place frame.style (slice_index_or names.boxes turn.who []) frame.width
@@ -100,10 +103,12 @@ mark_of columns turn = record { at = column_of columns turn.who; glyph = mark_gl
 
 -- the number, and the mark
 abbrev pub command_lanes : Style → List ℕ → Turn → (number : ℕ) → List ℕ
-command_lanes style columns turn number = numbered style number ++ mark_lanes style (length columns) (mark_of columns turn) (command_word turn.event)
+command_lanes style columns turn number =
+    numbered style number ++ mark_lanes style (length columns) (mark_of columns turn) (command_word turn.event)
 
 abbrev pub command_row : FrameState → NameLists → Turn → (state : List ℕ) → (number : ℕ) → List ℕ
-command_row frame names turn state number = command_lanes frame.style frame.columns turn number ++ command_tail frame names turn state
+command_row frame names turn state number =
+    command_lanes frame.style frame.columns turn number ++ command_tail frame names turn state
 
 -- ---- the state of a program
 
@@ -118,7 +123,8 @@ state_at world who = (box_at world who).at
 -- the name of a state of a box's program, among these programs
 abbrev pub state_among : List BlockState → (who at : ℕ) → List ℕ
 state_among [] who at = []
-state_among (block ∷ others) who at = if block.who == who then slice_index_or block.states at [] else state_among others who at
+state_among (block ∷ others) who at =
+    if block.who == who then slice_index_or block.states at [] else state_among others who at
 
 -- the same of the state that a box is at, if it is at one
 abbrev pub state_word : List BlockState → (who : ℕ) → Option ℕ → List ℕ
@@ -128,8 +134,10 @@ state_word blocks who (Some at) = state_among blocks who at
 -- ---- a turn
 
 abbrev pub row_by : FrameState → NameLists → List BlockState → WorldState → Turn → Event → (number : ℕ) → List ℕ
-row_by frame names blocks world turn (Take local) number = taken_row frame names world (taking_of world turn.who local) number
-row_by frame names blocks world turn Shift number = command_row frame names turn (state_word blocks turn.who (state_at (next_world world turn) turn.who)) number
+row_by frame names blocks world turn (Take local) number =
+    taken_row frame names world (taking_of world turn.who local) number
+row_by frame names blocks world turn Shift number =
+    command_row frame names turn (state_word blocks turn.who (state_at (next_world world turn) turn.who)) number
 row_by frame names blocks world turn event number = command_row frame names turn [] number
 
 -- the row of a turn of a world, with the turn's number

@@ -8,7 +8,8 @@ use Rattle.mc_model.specs.Worlds.{WorldState, far, list_to, place, slot_count}
 use Rattle.mc_ladder.specs.declared.taking.Taking.{Taking}
 use Rattle.mc_ladder.specs.Takings.{taking_at}
 
--- in this turn the box of a slot sent a signal over the slot's tunnel: it came under way to the slot at the other end, behind what was left there
+-- in this turn the box of a slot sent a signal over the slot's tunnel: it came under way to the slot at the other end,
+-- after what was left there
 pub record Sends (old new : WorldState) (turn : Turn) (s : ℕ) (signal : Signal) : Type 0 where
   pub who : turn.who ≡ (place old (far s)).0
   pub left : List Signal
@@ -29,7 +30,10 @@ pub record WasSent (first : WorldState) (turns : List Turn) (s : ℕ) (signal : 
   pub goes : step old turn ≡ Some new
   pub sends : Sends old new turn s signal
 
--- After turns of a world in which nothing was under way to a slot, the signal that an arrow carries to the slot was sent in one of them by the box of the far slot, and there the arrow begins
+-- After turns of a world in which nothing was under way to a slot, the signal that an arrow carries to the slot was
+-- sent in one of them by the box of the far slot, and there the arrow begins
 abbrev pub ArrowsBeginAtSenders : Type 0
-ArrowsBeginAtSenders = (first last : WorldState) (turns : List Turn) (s : ℕ) (taken : Taking) → IsSound first → s < slot_count first → list_to first s ≡ [] → run first turns ≡ Some last
+ArrowsBeginAtSenders =
+    (first last : WorldState) (turns : List Turn) (s : ℕ) (taken : Taking) → IsSound first → s < slot_count first
+    → list_to first s ≡ [] → run first turns ≡ Some last
     → taking_at last s ≡ Some taken → (taken.slot ≡ s) × (taken.from ≡ far s) × WasSent first turns s taken.signal

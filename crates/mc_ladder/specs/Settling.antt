@@ -20,32 +20,38 @@ use Rattle.mc_ladder.specs.Routes.{ends_of, path_columns, path_lanes}
 -- a path over the columns
 abbrev pub route_lanes : Style → List ℕ → WorldState → PathView → List ℕ
 route_lanes style columns world view =
-    cells style Blank MARGIN ++ path_lanes style (length columns) (ends_of columns view) (path_columns columns world view.low.slot)
+    cells style Blank MARGIN
+    ++ path_lanes style (length columns) (ends_of columns view) (path_columns columns world view.low.slot)
 
--- a path, and behind it the line that is printed for it
+-- a path, and after it the line that is printed for it
 abbrev pub path_row : Style → List ℕ → NameLists → WorldState → PathView → List ℕ
 path_row style columns names world view = route_lanes style columns world view ++ view_line names view
 
--- the lines of the boxes, and a line behind them
+-- the lines of the boxes, and a line after them
 abbrev pub bare_row : FrameState → List ℕ → List ℕ
 bare_row frame line = cells frame.style Blank MARGIN ++ bare_lanes frame.style (length frame.columns) ++ line
 
 -- who hears what, where the path flows
 abbrev pub hears_rows : FrameState → NameLists → Bool → PathView → List ℕ
-hears_rows frame names true view = bare_row frame (hearing_line names view.low) ++ bare_row frame (hearing_line names view.high)
+hears_rows frame names true view =
+    bare_row frame (hearing_line names view.low) ++ bare_row frame (hearing_line names view.high)
 hears_rows frame names false view = []
 
 abbrev pub path_rows : FrameState → NameLists → WorldState → PathView → List ℕ
-path_rows frame names world view = path_row frame.style frame.columns names world view ++ hears_rows frame names view.flowing view
+path_rows frame names world view =
+    path_row frame.style frame.columns names world view ++ hears_rows frame names view.flowing view
 
 -- the rule before them, with the number of the settle
 abbrev pub titled_rule : FrameState → ℕ → List ℕ
-titled_rule frame number = rule_lanes frame.style (length frame.columns) ++ 32 ∷ line_of (codes "settle" ∷ decimal number ∷ [])
+titled_rule frame number =
+    rule_lanes frame.style (length frame.columns) ++ 32 ∷ line_of (codes "settle" ∷ decimal number ∷ [])
 
--- the rule behind them
+-- the rule after them
 abbrev pub rule_row : FrameState → List ℕ
 rule_row frame = rule_lanes frame.style (length frame.columns) ++ 10 ∷ []
 
 -- a settle of a world, with its number: each path once, in the order of the lower end slots
 abbrev pub settle_rows : FrameState → NameLists → WorldState → (number : ℕ) → List ℕ
-settle_rows frame names world number = titled_rule frame number ++ flat_map (path_rows frame names world) (map (view_of world) (paths world)) ++ rule_row frame
+settle_rows frame names world number =
+    titled_rule frame number ++ flat_map (path_rows frame names world) (map (view_of world) (paths world))
+    ++ rule_row frame

@@ -1,4 +1,4 @@
--- The words of a signal, each behind a space.
+-- The words of a signal, each after a space.
 use Rattle.std.specs.Prelude.{ℕ, Bool, true, false, List, [], ◌∷◌, ◌++◌, codes, Some}
 use Rattle.std.specs.Fmt.{decimal}
 use Rattle.std.specs.List.{flat_map}
@@ -28,15 +28,18 @@ codecs_text names (first ∷ others) = flat_map (λ codec. spaced (codec_word na
 
 -- a descriptor by its slot and its version
 abbrev pub names_descriptor : NameLists → WorldState → List ℕ → (origin version : ℕ) → List ℕ
-names_descriptor names world word origin version = spaced word ++ spaced (place_word names world origin) ++ spaced (decimal version)
+names_descriptor names world word origin version =
+    spaced word ++ spaced (place_word names world origin) ++ spaced (decimal version)
 
 -- a descriptor: its codecs, and whose it is
 abbrev pub described_text : NameLists → WorldState → Descriptor → List ℕ
-described_text names world d = codecs_text names (codecs_of d.codecs) ++ names_descriptor names world (codes "of") d.origin d.version
+described_text names world d =
+    codecs_text names (codecs_of d.codecs) ++ names_descriptor names world (codes "of") d.origin d.version
 
 -- a selector: its codec, and the descriptor that it answers
 abbrev pub selected_text : NameLists → WorldState → Selector → List ℕ
-selected_text names world s = spaced (codec_word names s.codec) ++ names_descriptor names world (codes "for") s.origin s.version
+selected_text names world s =
+    spaced (codec_word names s.codec) ++ names_descriptor names world (codes "for") s.origin s.version
 
 -- what a signal carries
 abbrev pub carried_text : NameLists → WorldState → Signal → List ℕ
@@ -51,4 +54,5 @@ dropped_text true = spaced (codes "dropped")
 dropped_text false = []
 
 abbrev pub signal_text : NameLists → WorldState → Signal → (dropped : Bool) → List ℕ
-signal_text names world signal dropped = spaced (signal_word signal) ++ carried_text names world signal ++ dropped_text dropped
+signal_text names world signal dropped =
+    spaced (signal_word signal) ++ carried_text names world signal ++ dropped_text dropped

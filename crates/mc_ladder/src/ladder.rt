@@ -8,7 +8,7 @@ use crate::glyph::Style;
 use crate::heads::put_heads;
 use crate::settle::put_settle;
 use crate::turn::put_turn;
-use mc_program::Block;
+use mc_program_lines::Block;
 use mc_script::JournalLine;
 use mc_text::Names;
 use mc_world::World;

@@ -30,7 +30,7 @@ pub fn put_bare(style: Style, columns: usize, out: &mut Vec<u8>) -> Result<(), A
     Ok(())
 }
 
-// How many cells of a rule stand to the right of a column. Behind the last one the words are a cell away.
+// How many cells of a rule stand to the right of a column. After the last one the words are a cell away.
 fn rule_gap(columns: usize, column: usize) -> usize
     requires { column + 1 < 2 ^ 64 }
     ensures { result ≡ rule_gap columns column }

@@ -1,4 +1,4 @@
-// A mark at the line of a box, with a word behind it.
+// A mark at the line of a box, with a word after it.
 
 ghost use Rattle.std.specs.Prelude.{◌≡◌, ◌++◌, OnOk};
 ghost use Rattle.mc_ladder.specs.Marks.{mark_column, mark_gap, mark_glyph, mark_lanes};

@@ -1,4 +1,4 @@
-// The names of boxes, slots and codecs, and what stands behind the lanes of a row: where its turn happens.
+// The names of boxes, slots and codecs, and what stands after the lanes of a row: where its turn happens.
 
 ghost use Rattle.std.specs.Prelude.{◌≡◌, ◌≤◌, ◌++◌, [], slice_index_or, length, IfOk, OnOk};
 ghost use Rattle.mc_ladder.specs.Placing.{box_place, place_word, take_place, to_cells, to_word};

@@ -47,7 +47,7 @@ pub fn put_codecs(names: &Names, codecs: &CodecList, out: &mut Vec<u8>) -> Resul
     Ok(())
 }
 
-// Appends the name of a descriptor, by its slot and its version, behind a word.
+// Appends the name of a descriptor, by its slot and its version, after a word.
 fn put_name(
     alloc: Global,
     names: &Names,

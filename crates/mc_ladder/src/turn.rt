@@ -16,7 +16,7 @@ use crate::place::{
 use crate::signal::{put_signal, put_word, signal_word};
 use crate::taking::{Taking, taking_of};
 use mc_box::{Change, Event, MediaChange, Turn};
-use mc_program::Block;
+use mc_program_lines::Block;
 use mc_script::goal_word;
 use mc_text::Names;
 use mc_world::{StepFault, World};
@@ -35,7 +35,7 @@ pub fn arrow_of(columns: &[u32], world: &World, taken: &Taking) -> Arrow
     }
 }
 
-// Appends what stands behind the lanes of a Take.
+// Appends what stands after the lanes of a Take.
 fn put_take_tail(
     alloc: Global,
     frame: &Frame,
@@ -191,7 +191,7 @@ pub fn put_command_rest(
     }
 }
 
-// Appends what stands behind the lanes.
+// Appends what stands after the lanes.
 fn put_command_tail(
     frame: &Frame,
     names: &Names,

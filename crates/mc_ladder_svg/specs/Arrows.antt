@@ -41,7 +41,8 @@ line_class false = codes "l"
 
 abbrev pub arrow_line : Arrow → List ℕ
 arrow_line arrow = concat (
-    codes "<path class=\"" ∷ line_class arrow.dropped ∷ codes "\" d=\"M" ∷ decimal (x_of arrow.from) ∷ codes " 17H" ∷ decimal (tip arrow) ∷ codes "\"/>" ∷ [])
+    codes "<path class=\"" ∷ line_class arrow.dropped ∷ codes "\" d=\"M" ∷ decimal (x_of arrow.from) ∷ codes " 17H"
+    ∷ decimal (tip arrow) ∷ codes "\"/>" ∷ [])
 
 -- a head from its point on
 abbrev pub head_shape : Side → List ℕ
@@ -50,11 +51,15 @@ head_shape Right = codes "l-10-5v10z"
 
 -- its point is at the line of the box
 abbrev pub arrow_head : Arrow → List ℕ
-arrow_head arrow = concat (codes "<path class=\"f\" d=\"M" ∷ decimal (x_of arrow.to) ∷ codes " 17" ∷ head_shape (onward arrow) ∷ codes "\"/>" ∷ [])
+arrow_head arrow =
+    concat (codes "<path class=\"f\" d=\"M" ∷ decimal (x_of arrow.to) ∷ codes " 17" ∷ head_shape (onward arrow)
+    ∷ codes "\"/>" ∷ [])
 
 -- a cross, from its left edge on
 abbrev pub cross_at : (left : ℕ) → List ℕ
-cross_at left = concat (codes "<path class=\"l\" d=\"M" ∷ decimal left ∷ codes " 12l10 10M" ∷ decimal left ∷ codes " 22l10-10\"/>" ∷ [])
+cross_at left =
+    concat (codes "<path class=\"l\" d=\"M" ∷ decimal left ∷ codes " 12l10 10M" ∷ decimal left ∷ codes " 22l10-10\"/>"
+    ∷ [])
 
 -- it stands where the line ends
 abbrev pub arrow_cross : Arrow → List ℕ
@@ -75,17 +80,20 @@ arrow_drawn arrow = arrow_line arrow ++ arrow_dot arrow ++ arrow_end arrow
 
 -- those of a signal stand over the gap beside the box that sent
 abbrev pub arrow_words : NameLists → Arrow → Signal → List ℕ
-arrow_words names arrow signal = text_at (codes "m") (beside (onward arrow) (x_of arrow.from) 68) 10 (shown_words names signal)
+arrow_words names arrow signal =
+    text_at (codes "m") (beside (onward arrow) (x_of arrow.from) 68) 10 (shown_words names signal)
 
 -- the name of a slot, beside the line of its box
 abbrev pub slot_name_at : NameLists → WorldState → (slot : ℕ) → Side → (column : ℕ) → List ℕ
 slot_name_at names world slot side column =
-    text_beside (codes "d") side (beside side (x_of column) 8) 21 (slot_name names (place world slot).0 (place world slot).1)
+    text_beside (codes "d") side (beside side (x_of column) 8) 21
+    (slot_name names (place world slot).0 (place world slot).1)
 
 -- the names of both slots stand outside the arrow
 abbrev pub slot_names : NameLists → WorldState → Arrow → Taking → List ℕ
 slot_names names world arrow taken =
-    slot_name_at names world taken.from (back arrow) arrow.from ++ slot_name_at names world taken.slot (onward arrow) arrow.to
+    slot_name_at names world taken.from (back arrow) arrow.from
+    ++ slot_name_at names world taken.slot (onward arrow) arrow.to
 
 -- the title has both places, and the signal in full
 abbrev pub take_title : NameLists → WorldState → Taking → List ℕ
@@ -99,11 +107,13 @@ take_title names world taken =
 
 -- up to the title
 abbrev pub take_opening : Arrow → (class : List ℕ) → Row → List ℕ
-take_opening arrow class row = row_start row.number class ++ box_class arrow.from ++ box_class arrow.to ++ row_place row.y
+take_opening arrow class row =
+    row_start row.number class ++ box_class arrow.from ++ box_class arrow.to ++ row_place row.y
 
 -- from the title's end on
 abbrev pub take_picture : NameLists → WorldState → Arrow → Taking → List ℕ
-take_picture names world arrow taken = codes "</title>" ++ arrow_drawn arrow ++ arrow_words names arrow taken.signal ++ slot_names names world arrow taken
+take_picture names world arrow taken =
+    codes "</title>" ++ arrow_drawn arrow ++ arrow_words names arrow taken.signal ++ slot_names names world arrow taken
 
 -- with an arrow and of a class
 abbrev pub take_by : NameLists → WorldState → Arrow → (class : List ℕ) → Taking → Row → List ℕ
@@ -111,4 +121,5 @@ take_by names world arrow class taken row =
     take_opening arrow class row ++ take_title names world taken ++ take_picture names world arrow taken ++ row_end row
 
 abbrev pub take_row : List ℕ → NameLists → WorldState → Taking → Row → List ℕ
-take_row columns names world taken row = take_by names world (arrow_of columns world taken) (signal_class taken.signal) taken row
+take_row columns names world taken row =
+    take_by names world (arrow_of columns world taken) (signal_class taken.signal) taken row

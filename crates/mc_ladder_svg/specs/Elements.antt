@@ -21,7 +21,8 @@ text_beside class side x y words = text_at (class ++ 32 ∷ anchor side) x y wor
 
 abbrev pub circle : (class : List ℕ) → (x y radius : ℕ) → List ℕ
 circle class x y radius = concat (
-    codes "<circle class=\"" ∷ class ∷ codes "\" cx=\"" ∷ decimal x ∷ codes "\" cy=\"" ∷ decimal y ∷ codes "\" r=\"" ∷ decimal radius ∷ codes "\"/>" ∷ [])
+    codes "<circle class=\"" ∷ class ∷ codes "\" cx=\"" ∷ decimal x ∷ codes "\" cy=\"" ∷ decimal y ∷ codes "\" r=\""
+    ∷ decimal radius ∷ codes "\"/>" ∷ [])
 
 -- the class by which a row tells that a column takes part in it
 abbrev pub box_class : ℕ → List ℕ
@@ -29,7 +30,8 @@ box_class column = codes " b" ++ decimal column
 
 -- the line of a column, from one height to another
 abbrev pub upright : (top bottom column : ℕ) → List ℕ
-upright top bottom column = concat (codes "M" ∷ decimal (x_of column) ∷ codes " " ∷ decimal top ∷ codes "V" ∷ decimal bottom ∷ [])
+upright top bottom column =
+    concat (codes "M" ∷ decimal (x_of column) ∷ codes " " ∷ decimal top ∷ codes "V" ∷ decimal bottom ∷ [])
 
 abbrev pub upright_each : (columns top bottom : ℕ) → List ℕ
 upright_each columns top bottom = each_of columns (upright top bottom)

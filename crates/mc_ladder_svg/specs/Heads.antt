@@ -1,4 +1,5 @@
--- The heads of the columns: the name of each box over its line, with square corners for a device, and round ones for a feature.
+-- The heads of the columns: the name of each box over its line, with square corners for a device, and round ones for a
+-- feature.
 use Rattle.std.specs.Prelude.{ℕ, ◌-◌, Bool, true, false, List, [], ◌∷◌, ◌++◌, codes, length, slice_index_or}
 use Rattle.std.specs.Fmt.{decimal}
 use Rattle.std.specs.List.{concat}
@@ -20,7 +21,8 @@ corner false = 13
 -- the frame of a head, from its left edge on
 abbrev pub frame_at : (column left corner : ℕ) → List ℕ
 frame_at column left corner = concat (
-    codes "<g class=\"hd b" ∷ decimal column ∷ codes "\" data-c=\"" ∷ decimal column ∷ codes "\"><rect class=\"x\" x=\"" ∷ decimal left
+    codes "<g class=\"hd b" ∷ decimal column ∷ codes "\" data-c=\"" ∷ decimal column ∷ codes "\"><rect class=\"x\" x=\""
+    ∷ decimal left
     ∷ codes "\" y=\"8\" width=\"128\" height=\"26\" rx=\"" ∷ decimal corner ∷ codes "\"/>" ∷ [])
 
 -- in the middle of its column
@@ -40,7 +42,8 @@ abbrev pub box_of : List ℕ → (column : ℕ) → ℕ
 box_of columns column = slice_index_or columns column 0
 
 abbrev pub head : NameLists → WorldState → List ℕ → (column : ℕ) → List ℕ
-head names world columns column = head_of names column (box_of columns column) (corner (is_device_at world (box_of columns column)))
+head names world columns column =
+    head_of names column (box_of columns column) (corner (is_device_at world (box_of columns column)))
 
 -- the heads of all columns
 abbrev pub heads : NameLists → WorldState → List ℕ → List ℕ

@@ -65,7 +65,9 @@ route flowing stops = line_class flowing ++ legs stops ++ codes "\"/>"
 
 -- a hollow dot where a box links a leg with the next, between their heights
 abbrev pub link_circle : List ℕ → (leg : ℕ) → List ℕ
-link_circle stops leg = circle (codes "x") (x_of (column_at stops (2 * leg + 1))) ((leg_height stops leg + leg_height stops (leg + 1)) / 2) 4
+link_circle stops leg =
+    circle (codes "x") (x_of (column_at stops (2 * leg + 1)))
+    ((leg_height stops leg + leg_height stops (leg + 1)) / 2) 4
 
 abbrev pub links : List ℕ → List ℕ
 links stops = each_of (length stops / 2 - 1) (link_circle stops)

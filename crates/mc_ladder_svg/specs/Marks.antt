@@ -65,5 +65,6 @@ command_by mark side class name words row =
 
 abbrev pub command_row : List ℕ → NameLists → Turn → (state : List ℕ) → Row → List ℕ
 command_row columns names turn state row =
-    command_by (mark_of columns turn) (words_side (length columns) (column_of columns turn.who)) (command_class turn.event) (slice_index_or names.boxes turn.who [])
+    command_by (mark_of columns turn) (words_side (length columns) (column_of columns turn.who))
+    (command_class turn.event) (slice_index_or names.boxes turn.who [])
     (command_words names turn state) row

@@ -76,7 +76,8 @@ abbrev pub flow_label : (columns : ℕ) → Ends → PathView → List ℕ
 flow_label columns ends view = text_at (codes "o m") (flow_x columns ends) 10 (flow_words view)
 
 abbrev pub path_labels : (columns : ℕ) → NameLists → Ends → PathView → List ℕ
-path_labels columns names ends view = low_labels names ends view.low ++ high_labels names ends view.high ++ flow_label columns ends view
+path_labels columns names ends view =
+    low_labels names ends view.low ++ high_labels names ends view.high ++ flow_label columns ends view
 
 -- its line, the boxes that link it, and its ends
 abbrev pub path_drawn : Ends → List ℕ → List ℕ
@@ -109,9 +110,11 @@ path_opening columns stops view before = path_class (is_heard view) ++ path_boxe
 -- a path by the columns of its ends and of its slots
 abbrev pub path_between : (columns : ℕ) → NameLists → Ends → List ℕ → PathView → (before : ℕ) → List ℕ
 path_between columns names ends stops view before =
-    path_opening columns stops view before ++ path_drawn ends stops ++ path_labels columns names ends view ++ codes "</g>\n"
+    path_opening columns stops view before ++ path_drawn ends stops ++ path_labels columns names ends view
+    ++ codes "</g>\n"
 
 -- a path that has so many before it
 abbrev pub path_row : List ℕ → NameLists → WorldState → PathView → (before : ℕ) → List ℕ
 path_row columns names world view before =
-    path_between (length columns) names (ends_of columns view) (stops_drawn columns world view.low.slot (ends_of columns view)) view before
+    path_between (length columns) names (ends_of columns view)
+    (stops_drawn columns world view.low.slot (ends_of columns view)) view before

@@ -3,7 +3,7 @@ use Rattle.std.specs.Prelude.{ℕ, ◌+◌, List, [], ◌∷◌, ◌++◌, codes
 use Rattle.mc_model.specs.Paths.{paths}
 use Rattle.mc_model.specs.Worlds.{WorldState}
 use Rattle.mc_path.specs.Views.{view_of}
-use Rattle.mc_program.specs.Programs.{BlockState}
+use Rattle.mc_program_lines.specs.Programs.{BlockState}
 use Rattle.mc_script.specs.declared.command.JournalLine.{JournalLine}
 use Rattle.mc_script.specs.declared.command.JournalLine.TheVariants.{Turn as Made, Settled}
 use Rattle.mc_text.specs.NameLists.{NameLists}
@@ -27,7 +27,8 @@ turn_place place = record { turns = place.turns + 1; settles = place.settles; y 
 
 -- the place after a settle with so many paths
 abbrev pub settle_place : Place → (paths : ℕ) → Place
-settle_place place paths = record { turns = place.turns; settles = place.settles + 1; y = place.y + settle_height paths }
+settle_place place paths =
+    record { turns = place.turns; settles = place.settles + 1; y = place.y + settle_height paths }
 
 -- the paths of a world, as they are shown
 abbrev pub views_of : WorldState → List PathView
@@ -40,14 +41,17 @@ place_after world place Settled = settle_place place (length (views_of world))
 
 -- what is drawn for a line
 abbrev pub line_rows : List ℕ → NameLists → List BlockState → WorldState → Place → JournalLine → List ℕ
-line_rows columns names blocks world place (Made turn) = turn_row columns names blocks world turn (record { number = place.turns + 1; y = place.y })
-line_rows columns names blocks world place Settled = settle_block columns names world (views_of world) (record { number = place.settles + 1; y = place.y })
+line_rows columns names blocks world place (Made turn) =
+    turn_row columns names blocks world turn (record { number = place.turns + 1; y = place.y })
+line_rows columns names blocks world place Settled =
+    settle_block columns names world (views_of world) (record { number = place.settles + 1; y = place.y })
 
 -- what is drawn for the lines of a journal, in a world and from a place on
 abbrev pub rows_from : List ℕ → NameLists → List BlockState → WorldState → Place → List JournalLine → List ℕ
 rows_from columns names blocks world place [] = []
 rows_from columns names blocks world place (line ∷ lines) =
-    line_rows columns names blocks world place line ++ rows_from columns names blocks (world_after world line) (place_after world place line) lines
+    line_rows columns names blocks world place line
+    ++ rows_from columns names blocks (world_after world line) (place_after world place line) lines
 
 -- the place after them
 abbrev pub place_at_end : WorldState → Place → List JournalLine → Place

@@ -21,7 +21,8 @@ block_tag row = concat (
 abbrev pub block : (width bottom : ℕ) → List ℕ
 block width bottom = concat (
     codes "<path class=\"u\" d=\"M0 6H" ∷ decimal width ∷ codes "V" ∷ decimal bottom
-    ∷ codes "H0z\"/><path class=\"v\" d=\"M0 6H" ∷ decimal width ∷ codes "M0 " ∷ decimal bottom ∷ codes "H" ∷ decimal width ∷ codes "\"/>"
+    ∷ codes "H0z\"/><path class=\"v\" d=\"M0 6H" ∷ decimal width ∷ codes "M0 " ∷ decimal bottom ∷ codes "H"
+    ∷ decimal width ∷ codes "\"/>"
     ∷ [])
 
 -- up to the first path, in a size
@@ -35,13 +36,15 @@ settle_opening columns paths row = opening_by columns (width_of columns) (settle
 -- each path, where so many stand before the first
 abbrev pub paths_drawn : List ℕ → NameLists → WorldState → (before : ℕ) → List PathView → List ℕ
 paths_drawn columns names world before [] = []
-paths_drawn columns names world before (view ∷ views) = path_row columns names world view before ++ paths_drawn columns names world (before + 1) views
+paths_drawn columns names world before (view ∷ views) =
+    path_row columns names world view before ++ paths_drawn columns names world (before + 1) views
 
 -- from the end of the last path on
 abbrev pub settle_end : Row → List ℕ
 settle_end row = concat (
     line (codes "</g>")
-    ∷ codes "<g transform=\"translate(0," ∷ decimal row.y ∷ codes ")\"><text class=\"h\" x=\"6\" y=\"22\">settle " ∷ decimal row.number
+    ∷ codes "<g transform=\"translate(0," ∷ decimal row.y ∷ codes ")\"><text class=\"h\" x=\"6\" y=\"22\">settle "
+    ∷ decimal row.number
     ∷ line (codes "</text></g>")
     ∷ [])
 

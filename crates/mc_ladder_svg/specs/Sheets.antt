@@ -15,7 +15,8 @@ style_sheet = concat (
     line (codes "<style>") ∷
     line (codes "svg{background:#fff;color:#1c2128;font:11px ui-monospace,\"DejaVu Sans Mono\",Menlo,Consolas,\"Liberation Mono\",monospace}") ∷
     line (codes "text{fill:currentColor;white-space:pre}") ∷
-    line (codes ".m{text-anchor:middle}.e{text-anchor:end}.h{font-weight:bold}.hd .h{font-size:12px}.z{font-size:10px}") ∷
+    line (codes ".m{text-anchor:middle}.e{text-anchor:end}.h{font-weight:bold}.hd .h{font-size:12px}.z{font-size:10px}")
+    ∷
     line (codes ".o{paint-order:stroke;stroke:#fff;stroke-width:5px;stroke-linejoin:round}") ∷
     line (codes ".p{fill:#fff}.v{fill:none;stroke:#8b939e}.u{fill:#f3f5f8}") ∷
     line (codes ".se .o{stroke:#f3f5f8}.g{stroke-dasharray:6 3}") ∷
@@ -34,11 +35,14 @@ size width height = concat (
     ∷ line [] ∷ line (codes "<title>Call ladder</title>") ∷ [])
 
 abbrev pub ground : (width height : ℕ) → List ℕ
-ground width height = concat (codes "<rect class=\"p\" width=\"" ∷ decimal width ∷ codes "\" height=\"" ∷ decimal height ∷ line (codes "\"/>") ∷ [])
+ground width height =
+    concat (codes "<rect class=\"p\" width=\"" ∷ decimal width ∷ codes "\" height=\"" ∷ decimal height
+    ∷ line (codes "\"/>") ∷ [])
 
 -- a page of a size, with the lines of the boxes down to a height
 abbrev pub page : (columns width height end : ℕ) → List ℕ
-page columns width height end = size width height ++ style_sheet ++ ground width height ++ uprights columns 34 end ++ codes "\n"
+page columns width height end =
+    size width height ++ style_sheet ++ ground width height ++ uprights columns 34 end ++ codes "\n"
 
 -- all that stands before the heads, of so many columns, where the last row ends at a height
 abbrev pub opening : (columns end : ℕ) → List ℕ

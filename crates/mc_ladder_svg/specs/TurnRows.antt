@@ -17,5 +17,6 @@ row_place y = concat (codes "\" transform=\"translate(0," ∷ decimal y ∷ code
 abbrev pub row_end : Row → List ℕ
 row_end row = concat (
     line (codes "</g>")
-    ∷ codes "<g transform=\"translate(0," ∷ decimal row.y ∷ codes ")\"><text class=\"d e\" x=\"52\" y=\"21\">" ∷ decimal row.number ∷ line (codes "</text></g>")
+    ∷ codes "<g transform=\"translate(0," ∷ decimal row.y ∷ codes ")\"><text class=\"d e\" x=\"52\" y=\"21\">"
+    ∷ decimal row.number ∷ line (codes "</text></g>")
     ∷ [])

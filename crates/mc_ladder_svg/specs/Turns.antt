@@ -4,7 +4,7 @@ use Rattle.mc_box.specs.declared.event.Event.{Event}
 use Rattle.mc_box.specs.declared.event.Event.TheVariants.{Take, Shift}
 use Rattle.mc_box.specs.declared.event.Turn.{Turn}
 use Rattle.mc_model.specs.Worlds.{WorldState}
-use Rattle.mc_program.specs.Programs.{BlockState}
+use Rattle.mc_program_lines.specs.Programs.{BlockState}
 use Rattle.mc_text.specs.NameLists.{NameLists}
 use Rattle.mc_ladder.specs.declared.taking.Taking.{Taking}
 use Rattle.mc_ladder.specs.Rows.{next_world, state_at, state_word}
@@ -19,8 +19,10 @@ taken_row columns names world None row = []
 taken_row columns names world (Some taken) row = take_row columns names world taken row
 
 abbrev pub row_by : List ℕ → NameLists → List BlockState → WorldState → Turn → Event → Row → List ℕ
-row_by columns names blocks world turn (Take local) row = taken_row columns names world (taking_of world turn.who local) row
-row_by columns names blocks world turn Shift row = command_row columns names turn (state_word blocks turn.who (state_at (next_world world turn) turn.who)) row
+row_by columns names blocks world turn (Take local) row =
+    taken_row columns names world (taking_of world turn.who local) row
+row_by columns names blocks world turn Shift row =
+    command_row columns names turn (state_word blocks turn.who (state_at (next_world world turn) turn.who)) row
 row_by columns names blocks world turn event row = command_row columns names turn [] row
 
 -- the row of a turn of a world, with the turn's number and the height at which the row begins

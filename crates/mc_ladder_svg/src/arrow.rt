@@ -159,7 +159,7 @@ fn put_slot_name(
     put_beside(alloc, "d", side, x, 21, slot_word(names, who, local), out)
 }
 
-// Appends the name of the slot that sent, behind the beginning of the arrow.
+// Appends the name of the slot that sent, after the beginning of the arrow.
 fn put_near_name(
     alloc: Global,
     names: &Names,

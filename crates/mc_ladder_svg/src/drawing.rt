@@ -13,7 +13,7 @@ use crate::sheet::put_opening;
 use crate::turn::put_turn;
 use mc_ladder::columns_of;
 use mc_path::paths;
-use mc_program::Block;
+use mc_program_lines::Block;
 use mc_script::JournalLine;
 use mc_text::Names;
 use mc_world::World;

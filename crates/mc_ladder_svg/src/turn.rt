@@ -9,7 +9,7 @@ use crate::mark::put_command;
 use crate::row::Row;
 use mc_box::{Event, Turn};
 use mc_ladder::{Taking, make, state_at, state_word, taking_of};
-use mc_program::Block;
+use mc_program_lines::Block;
 use mc_text::Names;
 use mc_world::World;
 use std::alloc::{AllocError, Global};

@@ -12,7 +12,7 @@ use Rattle.mc_net.proofs.OneNet.{one_net}
 use Rattle.mc_net.specs.Nets.{DeclaresBlocks, DeclaresNet, batch_turns}
 use Rattle.mc_net.specs.TextLaws.{IsSameNet}
 use Rattle.mc_net.specs.declared.net.Net.{Net}
-use Rattle.mc_program.specs.Programs.{BlockState}
+use Rattle.mc_program_lines.specs.Programs.{BlockState}
 use Rattle.mc_replay.proofs.Holds.{journals_hold}
 use Rattle.mc_replay.specs.Journals.{IsJournal}
 use Rattle.mc_script.specs.declared.command.JournalLine.{JournalLine}

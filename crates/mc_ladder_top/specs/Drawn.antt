@@ -7,7 +7,7 @@ use Rattle.mc_lines.specs.declared.tail.Tail.TheVariants.{Journal}
 use Rattle.mc_net.specs.Nets.{DeclaresBlocks, DeclaresNet}
 use Rattle.mc_net.specs.Texts.{Says}
 use Rattle.mc_net.specs.declared.net.Net.{Net}
-use Rattle.mc_program.specs.Programs.{BlockState}
+use Rattle.mc_program_lines.specs.Programs.{BlockState}
 use Rattle.mc_script.specs.declared.command.JournalLine.{JournalLine}
 use Rattle.mc_text.specs.NameLists.{NameLists}
 use Rattle.mc_model.specs.Worlds.{WorldState}
@@ -23,7 +23,8 @@ picture_bytes Svg names blocks world journal = ladder_svg names blocks world jou
 abbrev pub IsInGrammar : List ℕ → Type 0
 IsInGrammar text = (d : Declared) × Says Journal text d
 
--- the output is the ladder of the journal in this form, with the network that the text declares and the blocks of its programs
+-- the output is the ladder of the journal in this form, with the network that the text declares and the blocks of its
+-- programs
 pub record IsLadder (picture : Picture) (text : List ℕ) (journal : List JournalLine) (output : List ℕ) : Type 0 where
   pub net : Net
   pub blocks : List BlockState

@@ -6,7 +6,7 @@ use Rattle.mc_ladder_top.specs.declared.picture.Picture.{Picture}
 use Rattle.mc_lines.specs.declared.tail.Tail.TheVariants.{Journal}
 use Rattle.mc_net.specs.Nets.{DeclaresBlocks}
 use Rattle.mc_net.specs.declared.net.Net.{Net}
-use Rattle.mc_program.specs.Programs.{BlockState}
+use Rattle.mc_program_lines.specs.Programs.{BlockState}
 use Rattle.mc_script.specs.declared.command.JournalLine.{JournalLine}
 use Rattle.mc_top.specs.Top.{Delivers, EndsAs, Settles, ToldDeclares, ToldJournal}
 use Rattle.mc_top.specs.declared.status.TheConstants.{WORKED, FAULTY_TEXT, USAGE, NO_MEMORY, READ_FAULT, JOURNAL_FAULT}
@@ -34,7 +34,8 @@ IsDue due = IsDueForDrawing due ⊎ (due ≡ USAGE)
 abbrev pub ToldBlocks : Option (List ℕ) → List BlockState → Type 0
 ToldBlocks told blocks = IfSome told (λ text. DeclaresBlocks Journal text blocks)
 
--- the journal after a text is good, and its ladder was delivered in this form: that of the names, the blocks of programs and the
+-- the journal after a text is good, and its ladder was delivered in this form: that of the names, the blocks of
+-- programs and the
 -- first world that the text declares, and of the turns and settles that stand in the journal
 pub record Drew (picture : Picture) (told old new : Option (List ℕ)) (status : ℕ) (journal : List JournalLine)
     : Type 0 where

@@ -33,7 +33,9 @@ picture_of false false = Some (AsText Utf8)
 
 -- the words are flags of the program, and ask for this picture, if for any
 abbrev pub AskForAny : List Text → Option Picture → Type 0
-AskForAny words picture = (fault_of ladder_command words ≡ []) × (picture_of (asks_for (codes "ascii") words) (asks_for (codes "svg") words) ≡ picture)
+AskForAny words picture =
+    (fault_of ladder_command words ≡ [])
+    × (picture_of (asks_for (codes "ascii") words) (asks_for (codes "svg") words) ≡ picture)
 
 -- the words are a command line of the program, and ask for this picture
 abbrev pub AskFor : List (String Global) → Picture → Type 0
@@ -47,7 +49,8 @@ AreTaken words = (picture : Picture) × AskFor words picture
 abbrev pub flag_twice : List Text
 flag_twice = codes "--ascii" ∷ codes "--ascii" ∷ codes "--" ∷ []
 
--- what the words ask for: none for UTF-8, a flag for ASCII, also where it stands twice, and another for SVG. Both together
+-- what the words ask for: none for UTF-8, a flag for ASCII, also where it stands twice, and another for SVG. Both
+-- together
 -- ask for no picture, and neither a word of another kind nor another flag is taken
 pub record WordsAskForPictures : Type 0 where
   pub none : AskForAny [] (Some (AsText Utf8))

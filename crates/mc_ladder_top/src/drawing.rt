@@ -12,7 +12,7 @@ ghost use Rattle.mc_top.specs.Refusals.{RefusesCheckBy};
 
 use crate::picture::{Picture, draw};
 use mc_net::{Net, NetFault, Tail, read_blocks, read_net};
-use mc_program::Block;
+use mc_program_lines::Block;
 use mc_script::JournalLine;
 use mc_top::{TailFault, check_by_net};
 use std::alloc::{AllocError, Global};

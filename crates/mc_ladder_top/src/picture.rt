@@ -5,7 +5,7 @@ ghost use Rattle.mc_ladder_top.specs.Drawn.{picture_bytes};
 
 use mc_ladder::{Style, draw_ladder};
 use mc_ladder_svg::draw_svg;
-use mc_program::Block;
+use mc_program_lines::Block;
 use mc_script::JournalLine;
 use mc_text::Names;
 use mc_world::World;

@@ -19,7 +19,7 @@ use crate::drawing::{Drawn, draw_checked};
 use crate::picture::Picture;
 use crate::words::read_picture;
 use mc_explain::Reason;
-use mc_io::{ReadFault, Sink, Source};
+use mc_io::{Sink, Source, SourceFault};
 use mc_net::{Net, NetFault, Tail, read_net};
 use mc_top::status::{NO_MEMORY, READ_FAULT, USAGE, WORKED, WRITE_FAULT};
 use mc_top::{
@@ -91,8 +91,8 @@ fn draw_source<S: Source, K: Sink>(
 {
     match text_of(alloc, CHECKING, source) {
         Ok(text) => draw_text(alloc, picture, &text, sink),
-        Err(ReadFault::Failed) => give_up(alloc, READ_FAULT, Reason::ReadFault),
-        Err(ReadFault::NoMemory(_)) => give_up(alloc, NO_MEMORY, Reason::NoMemory),
+        Err(SourceFault::Failed) => give_up(alloc, READ_FAULT, Reason::ReadFault),
+        Err(SourceFault::NoMemory(_)) => give_up(alloc, NO_MEMORY, Reason::NoMemory),
     }
 }
 

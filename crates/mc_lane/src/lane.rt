@@ -101,7 +101,7 @@ impl<T: Copy> Lane<T> {
         self.queue.len()
     }
 
-    /// The item that stands behind `i` others.
+    /// The item that stands after `i` others.
     pub fn get(&self, i: usize) -> T
         requires { i < length self.now.items }
         ensures { Some result ≡ slice_get self.now.items i }

@@ -5,8 +5,8 @@ use Rattle.mc_slot.specs.Moves.{answer_signals}
 use Rattle.mc_slot.specs.Tunnel.{TunnelSound}
 use Rattle.mc_slot.specs.declared.Slot.{Slot}
 use Rattle.mc_box.specs.Acting.{Acted, sends, takes}
-use Rattle.mc_tunnel.proofs.Taking.{take_keeps}
-use Rattle.mc_tunnel.proofs.Sending.{sends_keep}
+use Rattle.mc_slot_laws.proofs.Taking.{take_keeps}
+use Rattle.mc_slot_laws.proofs.Sending.{sends_keep}
 
 -- a tunnel one of whose slots acts stays sound
 pub act_keeps : (a : Slot) (to_a signals : List Signal) (after : Slot) (rest : List Signal) → Acted a to_a signals after rest

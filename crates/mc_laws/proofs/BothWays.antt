@@ -15,7 +15,7 @@ use Rattle.mc_laws.proofs.RingChains.{ring_by}
 use Rattle.mc_laws.proofs.RingWalks.{goes_round, ring_after, ring_before, ring_partner, rings_meet_no_end}
 use Rattle.mc_laws.proofs.Walks.{after_more, after_next}
 
--- so many tunnels from a slot: the one walk is at a slot ahead of it, the other at a slot behind
+-- so many tunnels from a slot: the one walk is at a slot ahead of it, the other at a slot after
 pub record WalkBoth (world : WorldState) (s done ahead behind : ℕ) : Type 0 where
   pub ahead_inside : ahead < slot_count world
   pub ahead_is : slot_after world done s ≡ Some ahead
@@ -54,7 +54,7 @@ ends_ahead world s done ahead behind walk none ring =
     let more = goes_round world s (suc done) ring in
     some_is_none (slot_after world (suc done) s) more.0 more.1 (after_more world done s ∙ (ap (λ (o : Option ℕ). option_and_then (next_slot world) o) walk.ahead_is ∙ none))
 
--- or behind it
+-- or after it
 pub ends_behind : (world : WorldState) (s done ahead behind : ℕ) → IsSound world → WalkBoth world s done ahead behind → partner_of world behind ≡ None → IsOnRing world s → ⊥
 ends_behind world s done ahead behind sound walk none ring =
     let there = ring_before world behind s done sound walk.behind_inside walk.behind_is ring in

@@ -171,7 +171,7 @@ run_keeps_named world now next batches turns sound links come goes = run_by turn
 number_same : (world now : WorldState) (who local : ℕ) → now.channels ≡ world.channels → number now who local ≡ number world who local
 number_same world now who local same = ap (λ (c : List ChannelState). number (record world { channels = c }) who local) same
 
--- a link behind a tunnel is a named one
+-- a link after a tunnel is a named one
 next_joins : (world now : WorldState) (batches : List (List Turn)) (s t : ℕ) → IsSound now → LinksAreNamed world batches now → s < slot_count now → next_slot now s ≡ Some t
     → Joins world batches (far s) t
 next_joins world now batches s t sound links inside is =

@@ -56,7 +56,7 @@ pub settles_count_hears : SettlesCountHears
 settles_count_hears world last batch turns settled who local =
     sym (commands_hear turns who local) ∙ (ap (hears_of who local) (settled.commands who) ∙ commands_hear batch who local)
 
--- the first turns, and one Hear behind them, are among all
+-- the first turns, and one Hear after them, are among all
 pub hears_first : (turns : List Turn) (n who local : ℕ) (turn : Turn) → slice_get turns n ≡ Some turn → is_hear_of who local turn ≡ true
     → hears_of who local (take n turns) + 1 ≤ hears_of who local turns
 hears_first [] n who local turn is hears = absurd cc

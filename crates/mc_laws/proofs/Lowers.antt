@@ -3,8 +3,8 @@ use Rattle.std.proofs.Common.{◌≡◌, ◌≢◌, ◌<◌, ◌≤◌, ◌+◌,
 use Rattle.std.specs.List.{list_all}
 use Rattle.std.proofs.lemmas.Grind.{common_steps}
 use Rattle.std.proofs.Math.Nat.{mul-le-mul_left, mul-one, mul_assoc, pow-succ', pow-zero}
-use Rattle.mc_turn.specs.Sums.{total}
-use Rattle.mc_turn.proofs.Sums.{total_one, total_same}
+use Rattle.mc_slot_laws.specs.Sums.{total}
+use Rattle.mc_slot_laws.proofs.Sums.{total_one, total_same}
 use Rattle.mc_link.specs.LinkTurn.{link_turn, sent_by_first, sent_by_second, closed_side}
 use Rattle.mc_link.specs.LinkWeights.{stored_link}
 use Rattle.mc_link.specs.declared.Side.TheVariants.{First}
@@ -18,8 +18,8 @@ use Rattle.mc_slot.specs.declared.Slot.{Slot}
 use Rattle.mc_slot.specs.declared.SlotGoal.{SlotGoal}
 use Rattle.mc_slot.specs.declared.SlotGoal.TheVariants.{End, Link}
 use Rattle.mc_slot.specs.declared.State.{State}
-use Rattle.mc_turn.specs.Weights.{weight, weights, stored_end}
-use Rattle.mc_turn.proofs.EndPays.{end_pays}
+use Rattle.mc_slot_laws.specs.Weights.{weight, weights, stored_end}
+use Rattle.mc_slot_laws.proofs.EndPays.{end_pays}
 use Rattle.mc_box.specs.Acting.{sent_by}
 use Rattle.mc_box.specs.BoxEvents.{is_take}
 use Rattle.mc_box.specs.BoxSound.{RestsAt}

@@ -58,15 +58,37 @@ pub one_blank : IsBlankFrom 1 one_entries
 one_blank k above = grind (arith, common_steps)
 
 abbrev pub both_codecs : CodecList
-both_codecs = record { len = 2; at = both_entries; places = both_places; short = both_short; known = both_known; distinct = both_distinct; blank = both_blank }
+both_codecs =
+    record {
+      len = 2;
+      at = both_entries;
+      places = both_places;
+      short = both_short;
+      known = both_known;
+      distinct =
+          both_distinct;
+      blank = both_blank;
+    }
 
 abbrev pub one_codec : CodecList
-one_codec = record { len = 1; at = one_entries; places = one_places; short = one_short; known = one_known; distinct = one_distinct; blank = one_blank }
+one_codec =
+    record {
+      len = 1;
+      at = one_entries;
+      places = one_places;
+      short = one_short;
+      known = one_known;
+      distinct =
+          one_distinct;
+      blank = one_blank;
+    }
 
 abbrev pub two_phones : WorldState
 two_phones = first_world
-    (first_box Device 0 both_codecs both_codecs 1 (record { origin = 0; medium = Audio; initiator = true; address = None } ∷ []) None
-    ∷ first_box Device 1 one_codec one_codec 1 (record { origin = 1; medium = Audio; initiator = false; address = None } ∷ []) None
+    (first_box Device 0 both_codecs both_codecs 1
+    (record { origin = 0; medium = Audio; initiator = true; address = None } ∷ []) None
+    ∷ first_box Device 1 one_codec one_codec 1
+    (record { origin = 1; medium = Audio; initiator = false; address = None } ∷ []) None
     ∷ [])
     (record { from = 0; to = 1; tunnels = record { medium = Audio; from = 0; to = 0 } ∷ [] } ∷ [])
 
@@ -91,7 +113,9 @@ opens_held = alice (sets ToOpen) ∷ bob (sets ToHold) ∷ bob takes ∷ alice t
 
 -- alice opens, and bob, who was left closed, refuses; he refuses the retry too
 abbrev pub opens_closed : List Turn
-opens_closed = alice (sets ToOpen) ∷ bob takes ∷ alice takes ∷ bob takes ∷ alice (Retry 0) ∷ bob takes ∷ alice takes ∷ bob takes ∷ []
+opens_closed =
+    alice (sets ToOpen) ∷ bob takes ∷ alice takes ∷ bob takes ∷ alice (Retry 0) ∷ bob takes ∷ alice takes ∷ bob takes
+    ∷ []
 
 -- both hold from the start
 abbrev pub holds_held : List Turn
@@ -103,9 +127,12 @@ flows_held = opens_held ++ alice (sets ToHold) ∷ []
 
 -- alice opens and closes before bob has taken anything
 abbrev pub opens_and_closes : List Turn
-opens_and_closes = alice (sets ToOpen) ∷ alice (sets ToClose) ∷ bob (sets ToHold) ∷ bob takes ∷ alice takes ∷ alice takes ∷ bob takes ∷ alice takes ∷ []
+opens_and_closes =
+    alice (sets ToOpen) ∷ alice (sets ToClose) ∷ bob (sets ToHold) ∷ bob takes ∷ alice takes ∷ alice takes ∷ bob takes
+    ∷ alice takes ∷ []
 
--- the turns are a run of the two phones that comes to rest. Their one path is in this state, and so are its two slots; where it flows its ends hear these codecs, and the selectors that they got say so
+-- the turns are a run of the two phones that comes to rest. Their one path is in this state, and so are its two slots;
+-- where it flows its ends hear these codecs, and the selectors that they got say so
 pub record ComesTo (turns : List Turn) (state : State) (low high : Option ℕ) : Type 0 where
   pub runs : IsSome (run two_phones turns)
   pub at_rest : IsTrue (rests (after two_phones turns))

@@ -34,24 +34,30 @@ pub record MakesStep (world next : WorldState) (who : ℕ) (event : Event) : Typ
 
 -- in each turn of a sound world the turn's box makes its step
 abbrev pub StepIsMade : Type 0
-StepIsMade = (world next : WorldState) (turn : Turn) → IsSound world → step world turn ≡ Some next → MakesStep world next turn.who turn.event
+StepIsMade =
+    (world next : WorldState) (turn : Turn) → IsSound world → step world turn ≡ Some next
+    → MakesStep world next turn.who turn.event
 
 -- ---- where it goes
 
 -- a signal that a slot sends, with its tunnel, where this lane leads to the far slot
 abbrev pub signal_on : WorldState → (lane : ℕ) → Signal → Option ℕ → List Tagged
 signal_on world lane signal None = []
-signal_on world lane signal (Some s) = if lane_of world (far s) == lane then record { tunnel = (tunnel_of world (far s)).within; signal = signal } ∷ [] else []
+signal_on world lane signal (Some s) =
+    if lane_of world (far s) == lane then record { tunnel = (tunnel_of world (far s)).within; signal = signal } ∷ []
+    else []
 
 -- of what a box sends, what goes to this lane, in the order of sending. What names no slot of the box goes to none
 abbrev pub sent_on : WorldState → (who lane : ℕ) → List (ℕ × Signal) → List Tagged
 sent_on world who lane [] = []
-sent_on world who lane (sending ∷ rest) = signal_on world lane sending.1 (number world who sending.0) ++ sent_on world who lane rest
+sent_on world who lane (sending ∷ rest) =
+    signal_on world lane sending.1 (number world who sending.0) ++ sent_on world who lane rest
 
 -- a lane without its front, where a slot takes that
 abbrev pub left_on : WorldState → (lane : ℕ) → Option ℕ → List Tagged
 left_on world lane None = slice_index_or world.lanes lane []
-left_on world lane (Some s) = if lane_of world s == lane then drop 1 (slice_index_or world.lanes lane []) else slice_index_or world.lanes lane []
+left_on world lane (Some s) =
+    if lane_of world s == lane then drop 1 (slice_index_or world.lanes lane []) else slice_index_or world.lanes lane []
 
 -- what is left on a lane in a turn
 abbrev pub lane_left : WorldState → Turn → ℕ → List Tagged

@@ -1,4 +1,5 @@
--- Laws of steps and runs: a sound world stays sound, its slots may take what is under way to them, and something can be taken as long as anything is under way.
+-- Laws of steps and runs: a sound world stays sound, its slots may take what is under way to them, and something can be
+-- taken as long as anything is under way.
 use Rattle.std.specs.Prelude.{◌≡◌, ◌<◌, ℕ, false, List, Some, IsSome}
 use Rattle.mc_signal.specs.declared.Signal.{Signal}
 use Rattle.mc_slot.specs.Moves.{slot_take}
@@ -12,7 +13,8 @@ use Rattle.mc_box.specs.declared.event.Turn.{Turn}
 
 -- each enabled turn of a sound world is what the slots of its box do
 abbrev pub StepActs : Type 0
-StepActs = (world next : WorldState) (turn : Turn) → IsSound world → step world turn ≡ Some next → Stepped world next turn.who
+StepActs =
+    (world next : WorldState) (turn : Turn) → IsSound world → step world turn ≡ Some next → Stepped world next turn.who
 
 -- each enabled turn of a sound world leads to a sound world
 abbrev pub StepKeepsSound : Type 0
@@ -20,19 +22,26 @@ StepKeepsSound = (world next : WorldState) (turn : Turn) → IsSound world → s
 
 -- and so does each run
 abbrev pub RunKeepsSound : Type 0
-RunKeepsSound = (world next : WorldState) (turns : List Turn) → IsSound world → run world turns ≡ Some next → IsSound next
+RunKeepsSound =
+    (world next : WorldState) (turns : List Turn) → IsSound world → run world turns ≡ Some next → IsSound next
 
 -- a signal at the front of a slot's lane, which is for the slot, is one that it may take
 abbrev pub FrontIsTaken : Type 0
-FrontIsTaken = (world : WorldState) (s : ℕ) (signal : Signal) → IsSound world → s < slot_count world → front world s ≡ Some signal → IsSome (slot_take (slot_of world s) signal)
+FrontIsTaken =
+    (world : WorldState) (s : ℕ) (signal : Signal) → IsSound world → s < slot_count world → front world s ≡ Some signal
+    → IsSome (slot_take (slot_of world s) signal)
 
 -- that Take is enabled where there is such a signal
 abbrev pub FrontStepGoes : Type 0
-FrontStepGoes = (world : WorldState) (s : ℕ) (signal : Signal) → IsSound world → s < slot_count world → front world s ≡ Some signal → IsSome (step world (take_of world s))
+FrontStepGoes =
+    (world : WorldState) (s : ℕ) (signal : Signal) → IsSound world → s < slot_count world → front world s ≡ Some signal
+    → IsSome (step world (take_of world s))
 
 -- as long as something is under way, some slot can take its front
 abbrev pub UnderWayGoes : Type 0
-UnderWayGoes = (world : WorldState) → IsSound world → is_quiet world ≡ false → (s : ℕ) × (s < slot_count world) × IsSome (step world (take_of world s))
+UnderWayGoes =
+    (world : WorldState) → IsSound world → is_quiet world ≡ false
+    → (s : ℕ) × (s < slot_count world) × IsSome (step world (take_of world s))
 
 -- a world of new boxes, of any number of them and of channels, is sound where all is numbered as it should be
 abbrev pub FirstIsSound : Type 0

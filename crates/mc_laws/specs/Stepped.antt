@@ -17,7 +17,8 @@ pub record LaneGrows (world : WorldState) (lane : ℕ) (old new : List Tagged) :
   pub served : AllServed world lane more
   pub is : new ≡ left ++ more
 
--- one box has acted: each slot has taken and sent, and under way to it is what was left and what the slot at the other end of its tunnel has sent. Slots of other boxes have done nothing, and those boxes stay; nothing is built anew
+-- one box has acted: each slot has taken and sent, and under way to it is what was left and what the slot at the other
+-- end of its tunnel has sent. Slots of other boxes have done nothing, and those boxes stay; nothing is built anew
 pub record Stepped (old new : WorldState) (who : ℕ) : Type 0 where
   pub sent : ℕ → List Signal
   pub left : ℕ → List Signal
@@ -33,7 +34,9 @@ pub record Stepped (old new : WorldState) (who : ℕ) : Type 0 where
 
 -- the two slots of each tunnel and what is under way to them are sound
 abbrev pub TunnelsSound : WorldState → Type 0
-TunnelsSound world = (s : ℕ) → s < slot_count world → TunnelSound (slot_of world s) (list_to world s) (slot_of world (far s)) (list_to world (far s))
+TunnelsSound world =
+    (s : ℕ) → s < slot_count world
+    → TunnelSound (slot_of world s) (list_to world s) (slot_of world (far s)) (list_to world (far s))
 
 -- what holds of a world whose slots have acted
 pub record Stays (old new : WorldState) : Type 0 where
@@ -46,4 +49,6 @@ pub record Stays (old new : WorldState) : Type 0 where
 
 -- whichever box has acted, and by whichever of its slots
 abbrev pub SteppedStays : Type 0
-SteppedStays = (old new : WorldState) (who : ℕ) → Stepped old new who → TunnelsSound old → IsNumbered old → LanesServed old → Stays old new
+SteppedStays =
+    (old new : WorldState) (who : ℕ) → Stepped old new who → TunnelsSound old → IsNumbered old → LanesServed old
+    → Stays old new

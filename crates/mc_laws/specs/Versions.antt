@@ -27,5 +27,6 @@ pub record PassesLast (world : WorldState) (hears : ℕ → ℕ → ℕ) : Type 
 
 -- the last version is met only so
 abbrev pub LastIsPassed : Type 0
-LastIsPassed = (world last : WorldState) (batch turns : List Turn) (at : ℕ) → IsSound world → IsStopped world batch turns last
+LastIsPassed =
+    (world last : WorldState) (batch turns : List Turn) (at : ℕ) → IsSound world → IsStopped world batch turns last
     → MeetsLast batch turns last at → PassesLast world (λ who local. hears_of who local batch)

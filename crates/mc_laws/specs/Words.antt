@@ -26,7 +26,8 @@ abbrev pub words_kept : Option ℕ → ℕ
 words_kept None = 0
 words_kept (Some word) = 1
 
--- at no state the Shift to the first state, and then one by the kept word, if any; at a state the one that is enabled, if any
+-- at no state the Shift to the first state, and then one by the kept word, if any; at a state the one that is enabled,
+-- if any
 abbrev pub shifts_left : Option (List ProgStateState) → Option ℕ → List Slot → Option ℕ → ℕ
 shifts_left None at slots told = 0
 shifts_left (Some states) None slots told = 1 + words_kept told
@@ -36,14 +37,20 @@ shifts_left (Some states) (Some at) slots told = if is_some (enabled states (Som
 abbrev pub still_to_come : BoxState → ℕ
 still_to_come box = shifts_left box.program box.at box.slots box.told
 
--- words bound Shifts: of a box that goes by words a run has at most as many Shifts as it has Tells of the box, and as were still to come before the run less those still to come after it
+-- words bound Shifts: of a box that goes by words a run has at most as many Shifts as it has Tells of the box, and as
+-- were still to come before the run less those still to come after it
 abbrev pub WordsBoundShifts : Type 0
-WordsBoundShifts = (world last : WorldState) (turns : List Turn) (who : ℕ) → IsSound world → GoesByWords (box_at world who) → run world turns ≡ Some last
-    → count_by (is_shift_of who) turns + still_to_come (box_at last who) ≤ still_to_come (box_at world who) + count_by (is_tell_of who) turns
+WordsBoundShifts =
+    (world last : WorldState) (turns : List Turn) (who : ℕ) → IsSound world → GoesByWords (box_at world who)
+    → run world turns ≡ Some last
+    → count_by (is_shift_of who) turns + still_to_come (box_at last who) ≤ still_to_come (box_at world who)
+    + count_by (is_tell_of who) turns
 
 -- a run leaves each program by words
 abbrev pub RunKeepsWords : Type 0
-RunKeepsWords = (world last : WorldState) (turns : List Turn) → IsSound world → ShiftsByWords world → run world turns ≡ Some last → ShiftsByWords last
+RunKeepsWords =
+    (world last : WorldState) (turns : List Turn) → IsSound world → ShiftsByWords world → run world turns ≡ Some last
+    → ShiftsByWords last
 
 -- in a world that rests no Shift is still to come
 abbrev pub RestAwaitsWords : Type 0

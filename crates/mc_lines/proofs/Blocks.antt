@@ -7,7 +7,7 @@ use Rattle.mc_box.specs.BoxShapes.{BoxShapeState, shape_of}
 use Rattle.mc_script.specs.Places.{Fits}
 use Rattle.mc_lines.specs.Meaning.{programmed_shape}
 use Rattle.mc_lines.specs.Forms.{IsOpenIn}
-use Rattle.mc_program.specs.Programs.{BlockState, FitsBox}
+use Rattle.mc_program_lines.specs.Programs.{BlockState, FitsBox}
 
 at_length : {A : Type 0} (xs : List A) (x : A) → slice_get (xs ++ x ∷ []) (length xs) ≡ Some x
 at_length [] x = refl

@@ -13,7 +13,7 @@ use Rattle.mc_text.specs.NameLists.{NameLists, place_of}
 use Rattle.mc_lines.specs.Listing.{can_add, is_codec}
 use Rattle.mc_lines.specs.Meaning.{codec_number}
 use Rattle.mc_lines.specs.Rules.{lists_undeclared}
-use Rattle.mc_program.specs.WordLists.{has_repeat}
+use Rattle.mc_program_lines.specs.WordLists.{has_repeat}
 use Rattle.mc_lines.specs.declared.limit.TheConstants.{LIST_LIMIT}
 
 -- declared codecs, at most eight and none twice

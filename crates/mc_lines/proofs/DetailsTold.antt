@@ -11,9 +11,9 @@ use Rattle.mc_script.specs.Rules.{has_no_program, is_no_device, is_no_feature, l
 use Rattle.mc_script.specs.declared.keyword.CommandWord.{CommandWord}
 use Rattle.mc_script.specs.declared.keyword.CommandWord.TheVariants as command
 use Rattle.mc_script.specs.declared.rule.TheConstants.{LIMIT_PASSED, MISSING_WORD, NO_SUCH_SLOT, NO_VERSION_LINE, UNDECLARED, WRONG_WORD}
-use Rattle.mc_program.specs.Programs.{BlockState, PartState, block_goal_rules, block_link_rules, block_when_rules, goal_rules, in_block, is_not_next, open_part_of, part_link_rules, spelt_state, waits_for, when_kind_rules}
-use Rattle.mc_program.specs.declared.part.WaitWord.{WaitWord}
-use Rattle.mc_program.specs.declared.part.WaitWord.TheVariants as waits
+use Rattle.mc_program_lines.specs.Programs.{BlockState, PartState, block_goal_rules, block_link_rules, block_when_rules, goal_rules, in_block, is_not_next, open_part_of, part_link_rules, spelt_state, waits_for, when_kind_rules}
+use Rattle.mc_program_lines.specs.declared.part.WaitWord.{WaitWord}
+use Rattle.mc_program_lines.specs.declared.part.WaitWord.TheVariants as waits
 use Rattle.mc_lines.specs.DetailLaws.{Tells, TellsByRule, is_of_a_word}
 use Rattle.mc_lines.specs.Details.{detail_of, first_misspelt, first_undeclared, has_version, no_slot_place, opening, passed_limit, target_place, undeclared_place, wrong_in_name, wrong_in_wait, wrong_word}
 use Rattle.mc_lines.specs.Rules.{also_rules, words_rules, begin_rules, begins_digit, block_in, channel_rules, codec_rules, codec_words, command_line_rules, device_rules, feature_rules, is_late, is_program_link, is_skipped, is_version, journal_rules, kind_of, line_words_rules, lists_undeclared, open_block, program_link_rules, program_rules, rank, rules_by, send_line_rules, send_rules, shapes, spelt_medium, state_rules, has_journal}

@@ -6,7 +6,7 @@ use Rattle.mc_script.specs.declared.keyword.CommandWord.{CommandWord}
 use Rattle.mc_script.specs.declared.rule.TheConstants.{LIMIT_PASSED, UNFINISHED}
 use Rattle.mc_lines.specs.Rules.{command_line_rules, entry_fault, is_skipped, is_unfinished, line_fault, line_words_rules, passes_limit, text_limit}
 use Rattle.mc_lines.specs.SoFar.{Declared}
-use Rattle.mc_program.proofs.KeptRules.{first_kept, others_kept}
+use Rattle.mc_program_lines.proofs.KeptRules.{first_kept, others_kept}
 use Rattle.mc_lines.specs.declared.limit.TheConstants.{COMMAND_LIMIT}
 
 -- where a rule of the first list is broken, the others don't count

@@ -1,11 +1,11 @@
--- Whatever a line declares, what may stand behind the commands stays as it is.
+-- Whatever a line declares, what may stand after the commands stays as it is.
 use Rattle.std.proofs.Common.{◌≡◌, ℕ, ◌∷◌, ◌++◌, [], Bool, true, false, List, drop, if◌then◌else◌, map, Option, Some, None, refl, subst}
 use Rattle.std.specs.List.{slice_get}
 use Rattle.std.specs.Option.{option_and_then, option_map, unwrap_or}
 use Rattle.mc_text.specs.Lines.{words}
 use Rattle.mc_text.specs.NameLists.{NameLists}
 use Rattle.mc_plan.specs.Plans.{last_channel}
-use Rattle.mc_program.specs.Programs.{◌>>=◌, BlockState, block_goal_after, block_link_after, block_when_after, new_block, with_new_part}
+use Rattle.mc_program_lines.specs.Programs.{◌>>=◌, BlockState, block_goal_after, block_link_after, block_when_after, new_block, with_new_part}
 use Rattle.mc_script.specs.Meaning.{command_by}
 use Rattle.mc_script.specs.Places.{box_named, spelt_value}
 use Rattle.mc_script.specs.declared.keyword.CommandWord.{CommandWord}

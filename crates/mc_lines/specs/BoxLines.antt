@@ -22,7 +22,14 @@ use Rattle.mc_lines.specs.declared.section.Section.TheVariants as section
 
 -- what is declared of a planned box
 abbrev pub box_seen : BoxPlan → DeclaredBox
-box_seen planned = record { kind = planned.kind; version = planned.first_version; receives = codecs_of planned.codecs; sends = codecs_of planned.sends }
+box_seen planned =
+    record {
+      kind = planned.kind;
+      version = planned.first_version;
+      receives = codecs_of planned.codecs;
+      sends =
+          codecs_of planned.sends;
+    }
 
 -- what is declared after a `dev` line
 abbrev pub device_seen : Declared → DeviceLine → Declared
@@ -36,14 +43,18 @@ send_seen d line = with_send_line d line.who (codecs_of line.sends)
 abbrev pub channel_seen : Declared → ChannelLine → Declared
 channel_seen d line = with_joined d line.medium line.from line.slot.now line.to line.far_slot.now
 
--- the rule that a `chan` line breaks whose last word is missing; its first slot is asked only where that one's box is known
+-- the rule that a `chan` line breaks whose last word is missing; its first slot is asked only where that one's box is
+-- known
 abbrev pub missing_word : Declared → (known : Bool) → (slot : Option (List ℕ)) → ℕ
-missing_word d known slot = if is_late d section.Channels || (known && is_misspelt slot) then WRONG_WORD else MISSING_WORD
+missing_word d known slot =
+    if is_late d section.Channels || (known && is_misspelt slot) then WRONG_WORD else MISSING_WORD
 
 -- whether the slots of a `chan` line whose words are there may be spelt so, and no word is left over
 abbrev pub check_slots : Declared → (slot far_slot : List ℕ) → (more : Bool) → Result (Unit {0}) LineFault
 check_slots d slot far_slot more =
-    if is_late d section.Channels || is_misspelt (Some slot) || is_misspelt (Some far_slot) then Err (record { number = WRONG_WORD }) else unless more EXTRA_WORD tt
+    if is_late d section.Channels || is_misspelt (Some slot) || is_misspelt (Some far_slot)
+    then Err (record { number = WRONG_WORD })
+    else unless more EXTRA_WORD tt
 
 -- whether two boxes may be joined by one more channel of one tunnel
 abbrev pub check_join : NameLists → List ChannelState → (from to : ℕ) → Result (Unit {0}) LineFault
@@ -60,17 +71,23 @@ also_seen d line = with_widened d line.medium line.from line.slot.now line.to li
 
 -- the two boxes of the last channel, the initiator first
 abbrev pub last_ends : List ChannelState → Option (ℕ × ℕ)
-last_ends channels = if length channels == 0 then None else Some ((last_channel channels).from, (last_channel channels).to)
+last_ends channels =
+    if length channels == 0 then None else Some ((last_channel channels).from, (last_channel channels).to)
 
 -- whether the channel between two boxes, which has so many tunnels, may have one more
 abbrev pub check_widen : NameLists → ChannelState → Result (Unit {0}) LineFault
-check_widen names ends = unless (is_full names ends.from || is_full names ends.to || nat_le TUNNEL_LIMIT (length ends.tunnels)) LIMIT_PASSED tt
+check_widen names ends =
+    unless (is_full names ends.from || is_full names ends.to
+    || nat_le TUNNEL_LIMIT (length ends.tunnels)) LIMIT_PASSED tt
 
 -- what is left to ask of an `also` line whose words are known where they must be
 abbrev pub widening_rules : Declared → ChannelLine → List (ℕ × Bool)
 widening_rules d line =
-    let ends = last_channel d.channels in
-    (GIVEN_TWICE, is_some (place_of (slot_names d.names line.from) line.slot.now) || is_some (place_of (slot_names d.names line.to) line.far_slot.now))
+    let ends = last_channel d.channels in (
+      GIVEN_TWICE,
+      is_some (place_of (slot_names d.names line.from) line.slot.now)
+          || is_some (place_of (slot_names d.names line.to) line.far_slot.now),
+    )
     ∷ (LIMIT_PASSED, is_full d.names ends.from || is_full d.names ends.to || nat_le TUNNEL_LIMIT (length ends.tunnels))
     ∷ (NAME_TOO_LONG, is_overlong (Some line.slot.now) || is_overlong (Some line.far_slot.now))
     ∷ []
@@ -84,8 +101,11 @@ pub record IsOfLast (d : Declared) (line : ChannelLine) : Type 0 where
 
 -- what is left to ask of a `chan` line whose words are known where they must be
 abbrev pub joining_rules : Declared → ChannelLine → List (ℕ × Bool)
-joining_rules d line =
-    (GIVEN_TWICE, is_some (place_of (slot_names d.names line.from) line.slot.now) || is_some (place_of (slot_names d.names line.to) line.far_slot.now))
+joining_rules d line = (
+  GIVEN_TWICE,
+  is_some (place_of (slot_names d.names line.from) line.slot.now)
+      || is_some (place_of (slot_names d.names line.to) line.far_slot.now),
+)
     ∷ (SAME_BOX, line.from == line.to)
     ∷ (LIMIT_PASSED, is_full d.names line.from || is_full d.names line.to || nat_le CHANNEL_LIMIT (length d.channels))
     ∷ (NAME_TOO_LONG, is_overlong (Some line.slot.now) || is_overlong (Some line.far_slot.now))

@@ -17,6 +17,9 @@ Tells word limit words Nothing = IsTrue (not (word || limit))
 abbrev pub is_of_a_word : ℕ → Bool
 is_of_a_word number = number == UNDECLARED || number == WRONG_WORD || number == NO_SUCH_SLOT
 
--- of the least number of the rules on its words that a line breaks, a word that stands in the line is told where it is that of a rule on single words, the limit where it is that of the rule on limits, and else nothing
+-- of the least number of the rules on its words that a line breaks, a word that stands in the line is told where it is
+-- that of a rule on single words, the limit where it is that of the rule on limits, and else nothing
 abbrev pub TellsByRule : Type 0
-TellsByRule = (d : Declared) (words : List (List ℕ)) (number : ℕ) → entry_fault d words ≡ Some number → Tells (is_of_a_word number) (number == LIMIT_PASSED) words (detail_of d words number)
+TellsByRule =
+    (d : Declared) (words : List (List ℕ)) (number : ℕ) → entry_fault d words ≡ Some number
+    → Tells (is_of_a_word number) (number == LIMIT_PASSED) words (detail_of d words number)

@@ -1,4 +1,6 @@
--- What is known of a line's fault beside the number of its rule. It is asked of a line that breaks this rule and none of a lesser number, so a table has no more tests than tell the causes of one rule apart, in the order of the line's words. The words are those after the one that opens the line, which is counted in their places.
+-- What is known of a line's fault beside the number of its rule. It is asked of a line that breaks this rule and none
+-- of a lesser number, so a table has no more tests than tell the causes of one rule apart, in the order of the line's
+-- words. The words are those after the one that opens the line, which is counted in their places.
 use Rattle.std.specs.Prelude.{ℕ, ◌+◌, ◌==◌, ◌||◌, not, Bool, false, List, [], ◌∷◌, Option, Some, None, drop, if◌then◌else◌, length, nat_le, position}
 use Rattle.std.specs.List.{slice_get}
 use Rattle.std.specs.Option.{is_none, option_and_then, option_map, unwrap_or}
@@ -10,10 +12,10 @@ use Rattle.mc_script.specs.Rules.{is_no_device, is_no_feature}
 use Rattle.mc_script.specs.declared.keyword.CommandWord.{CommandWord}
 use Rattle.mc_script.specs.declared.keyword.CommandWord.TheVariants as command
 use Rattle.mc_script.specs.declared.rule.TheConstants.{LIMIT_PASSED, NO_SUCH_SLOT, UNDECLARED, WRONG_WORD}
-use Rattle.mc_program.specs.Programs.{PartState, open_part_of, waits_for}
-use Rattle.mc_program.specs.declared.limit.TheConstants.{TRANSITION_LIMIT}
-use Rattle.mc_program.specs.declared.part.WaitWord.{WaitWord}
-use Rattle.mc_program.specs.declared.part.WaitWord.TheVariants as waits
+use Rattle.mc_program_lines.specs.Programs.{PartState, open_part_of, waits_for}
+use Rattle.mc_program_lines.specs.declared.limit.TheConstants.{TRANSITION_LIMIT}
+use Rattle.mc_program_lines.specs.declared.part.WaitWord.{WaitWord}
+use Rattle.mc_program_lines.specs.declared.part.WaitWord.TheVariants as waits
 use Rattle.mc_lines.specs.BoxLines.{last_ends}
 use Rattle.mc_lines.specs.Rules.{begins_digit, codec_words, is_full, is_late, is_program_link, kind_of, open_block, shapes, spelt_medium}
 use Rattle.mc_lines.specs.SoFar.{Declared}
@@ -57,11 +59,13 @@ awaited words = option_and_then waits_for (slice_get words 0)
 
 -- `dev NAME CODEC ..` or `dev NAME VERSION CODEC ..`
 abbrev pub undeclared_by_device : NameLists → List (List ℕ) → ℕ
-undeclared_by_device names words = (if has_version (drop 1 words) then 3 else 2) + first_undeclared names (codec_words (drop 1 words))
+undeclared_by_device names words =
+    (if has_version (drop 1 words) then 3 else 2) + first_undeclared names (codec_words (drop 1 words))
 
 -- `send BOX CODEC ..`
 abbrev pub undeclared_by_send : NameLists → List (List ℕ) → ℕ
-undeclared_by_send names words = if lacks names.boxes (slice_get words 0) then 1 else 2 + first_undeclared names (drop 1 words)
+undeclared_by_send names words =
+    if lacks names.boxes (slice_get words 0) then 1 else 2 + first_undeclared names (drop 1 words)
 
 -- `chan MEDIUM BOX SLOT BOX SLOT`
 abbrev pub undeclared_by_channel : NameLists → List (List ℕ) → ℕ
@@ -76,7 +80,8 @@ abbrev pub target_place : Option WaitWord → ℕ
 target_place (Some waits.Told) = 3
 target_place other = 4
 
--- the place of the first word that isn't declared; of the lines that aren't named here it is the box, which stands first
+-- the place of the first word that isn't declared; of the lines that aren't named here it is the box, which stands
+-- first
 abbrev pub undeclared_place : Declared → Option Keyword → List (List ℕ) → ℕ
 undeclared_place d (Some keyword.Dev) words = undeclared_by_device d.names words
 undeclared_place d (Some keyword.Send) words = undeclared_by_send d.names words
@@ -140,12 +145,14 @@ wrong_in_when d words = if is_none (open_part d) then opening else wrong_in_wait
 -- `hear BOX SLOT SWITCH` or `talk BOX SLOT SWITCH`
 abbrev pub wrong_in_media : Declared → List (List ℕ) → Detail
 wrong_in_media d words =
-    if is_no_device (shapes d) (box_named d.names (slice_get words 0)) then detail.Word 1 why.NoDevice else detail.Word 3 why.Fixed
+    if is_no_device (shapes d) (box_named d.names (slice_get words 0)) then detail.Word 1 why.NoDevice
+    else detail.Word 3 why.Fixed
 
 -- a command; in the programs `link` is none, and is wrong there where no part is open
 abbrev pub wrong_in_command : Declared → CommandWord → List (List ℕ) → Detail
 wrong_in_command d command.Set words = detail.Word 3 why.Fixed
-wrong_in_command d command.Link words = if is_program_link d.section command.Link then opening else detail.Word 1 why.NoFeature
+wrong_in_command d command.Link words =
+    if is_program_link d.section command.Link then opening else detail.Word 1 why.NoFeature
 wrong_in_command d command.Hear words = wrong_in_media d words
 wrong_in_command d command.Talk words = wrong_in_media d words
 wrong_in_command d command.Tell words = detail.Word 1 why.NoProgram
@@ -195,7 +202,10 @@ is_full_box names (Some who) = is_full names who
 -- `chan MEDIUM BOX SLOT BOX SLOT`
 abbrev pub passed_by_channel : NameLists → List (List ℕ) → Limit
 passed_by_channel names words =
-    if is_full_box names (box_named names (slice_get words 1)) || is_full_box names (box_named names (slice_get words 3)) then limit.Slots else limit.Channels
+    if is_full_box names (box_named names (slice_get words 1))
+    || is_full_box names (box_named names (slice_get words 3))
+    then limit.Slots
+    else limit.Channels
 
 -- `also MEDIUM SLOT SLOT`, between two boxes
 abbrev pub passed_by_also : NameLists → Option (ℕ × ℕ) → Limit
@@ -205,7 +215,8 @@ passed_by_also names (Some ends) = if is_full names ends.0 || is_full names ends
 -- `when ..`, in a part
 abbrev pub passed_by_when : Option PartState → Limit
 passed_by_when None = limit.ToldWords
-passed_by_when (Some part) = if nat_le TRANSITION_LIMIT (length part.transitions) then limit.Transitions else limit.ToldWords
+passed_by_when (Some part) =
+    if nat_le TRANSITION_LIMIT (length part.transitions) then limit.Transitions else limit.ToldWords
 
 -- the limit, of a line that may pass one
 abbrev pub passed_limit : Declared → Option Keyword → List (List ℕ) → Detail

@@ -4,7 +4,7 @@ use Rattle.mc_text.specs.NameLists.{NameLists, slot_names}
 use Rattle.mc_model.specs.Worlds.{ChannelState}
 use Rattle.mc_plan.specs.Plans.{slots_of}
 use Rattle.mc_script.specs.Places.{Fits}
-use Rattle.mc_program.specs.Programs.{BlockState, FitsBox}
+use Rattle.mc_program_lines.specs.Programs.{BlockState, FitsBox}
 use Rattle.mc_lines.specs.Rules.{open_block}
 use Rattle.mc_lines.specs.SoFar.{Declared, DeclaredBox}
 

@@ -11,4 +11,5 @@ is_codec names word = is_some (place_of names.codecs word)
 
 -- the word names a codec that isn't listed, and there is room for it
 abbrev pub can_add : NameLists → List ℕ → List ℕ → Bool
-can_add names listed word = is_codec names word && not (has_codec listed (codec_number names word)) && nat_lt (length listed) LIST_LIMIT
+can_add names listed word =
+    is_codec names word && not (has_codec listed (codec_number names word)) && nat_lt (length listed) LIST_LIMIT

@@ -1,4 +1,5 @@
--- The rules on the lines of a text, by their numbers: every rule is asked of every line, with what the lines before it declared. The words are those behind the first.
+-- The rules on the lines of a text, by their numbers: every rule is asked of every line, with what the lines before it
+-- declared. The words are those after the first.
 use Rattle.std.specs.Prelude.{ℕ, ◌+◌, ◌-◌, ◌==◌, ◌&&◌, ◌||◌, not, Bool, true, false, List, [], ◌∷◌, ◌++◌, Option, Some, None, codes, drop, if◌then◌else◌, length, nat_le, nat_lt}
 use Rattle.std.specs.List.{list_any, slice_get}
 use Rattle.std.specs.Option.{is_none, is_some, option_and_then, option_map, unwrap_or}
@@ -15,9 +16,9 @@ use Rattle.mc_script.specs.Rules.{begins_hash, byte_rules, command_word, is_no_d
 use Rattle.mc_script.specs.declared.keyword.CommandWord.{CommandWord}
 use Rattle.mc_script.specs.declared.keyword.CommandWord.TheVariants as command
 use Rattle.mc_script.specs.declared.rule.TheConstants.{EXTRA_WORD, GIVEN_TWICE, LIMIT_PASSED, MISSING_WORD, NAME_TOO_LONG, NO_BEGIN, NO_VERSION_LINE, SAME_BOX, TEXT_TOO_LONG, UNDECLARED, UNFINISHED, WRONG_VERSION, WRONG_WORD}
-use Rattle.mc_program.specs.Programs.{BlockState, block_goal_rules, block_link_rules, block_when_rules, in_block, is_unfinished_block, new_part_rules, new_program_rules}
+use Rattle.mc_program_lines.specs.Programs.{BlockState, block_goal_rules, block_link_rules, block_when_rules, in_block, is_unfinished_block, new_part_rules, new_program_rules}
 use Rattle.mc_lines.specs.SoFar.{Declared}
-use Rattle.mc_program.specs.WordLists.{has_repeat}
+use Rattle.mc_program_lines.specs.WordLists.{has_repeat}
 use Rattle.mc_lines.specs.declared.section.Keyword.{Keyword}
 use Rattle.mc_lines.specs.declared.section.Keyword.TheVariants as keyword
 use Rattle.mc_lines.specs.declared.section.Section.{Section}
@@ -31,7 +32,7 @@ use Rattle.mc_lines.specs.declared.limit.TheConstants.{COMMAND_LIMIT, JOURNAL_TE
 
 -- ---- limits
 
--- the most bytes of a text, with what stands behind its commands
+-- the most bytes of a text, with what stands after its commands
 abbrev pub text_limit : Tail → ℕ
 text_limit Nothing = TEXT_LIMIT
 text_limit Journal = JOURNAL_TEXT_LIMIT
@@ -42,7 +43,7 @@ read_limit tail = text_limit tail + 1
 
 -- ---- the end of the commands
 
--- a journal may stand behind the commands
+-- a journal may stand after the commands
 abbrev pub has_journal : Tail → Bool
 has_journal Nothing = false
 has_journal Journal = true
@@ -52,7 +53,7 @@ abbrev pub is_journal : List (List ℕ) → Bool
 is_journal (first ∷ []) = bytes_eq first (codes "journal")
 is_journal words = false
 
--- the line ends the commands of a text: its only word is `journal`, and a journal may stand behind it
+-- the line ends the commands of a text: its only word is `journal`, and a journal may stand after it
 abbrev pub ends_commands : Tail → List ℕ → Bool
 ends_commands tail line = has_journal tail && is_journal (words line)
 
@@ -72,7 +73,7 @@ rank section.Commands = 6
 abbrev pub is_late : Declared → Section → Bool
 is_late d s = nat_lt (rank s) (rank d.section)
 
--- a word that opens a line behind the channels
+-- a word that opens a line after the channels
 abbrev pub keyword_of_program : List ℕ → Option Keyword
 keyword_of_program word =
     if bytes_eq word (codes "prog") then Some keyword.Prog
@@ -102,13 +103,14 @@ kind_of words = option_and_then keyword_of (slice_get words 0)
 -- ---- values of words
 
 abbrev pub spelt_medium : List ℕ → Option Medium
-spelt_medium word = if bytes_eq word (codes "audio") then Some Audio else (if bytes_eq word (codes "video") then Some Video else None)
+spelt_medium word =
+    if bytes_eq word (codes "audio") then Some Audio else (if bytes_eq word (codes "video") then Some Video else None)
 
 abbrev pub begins_digit : List ℕ → Bool
 begins_digit [] = false
 begins_digit (first ∷ others) = is_digit first
 
--- a `dev` line's words behind the name, less a version
+-- a `dev` line's words after the name, less a version
 abbrev pub codec_words : List (List ℕ) → List (List ℕ)
 codec_words [] = []
 codec_words (first ∷ others) = if begins_digit first then others else first ∷ others
@@ -191,13 +193,29 @@ channel_rules d words =
     let from = box_named d.names (slice_get words 1) in
     let to = box_named d.names (slice_get words 3) in
     (UNDECLARED, lacks d.names.boxes (slice_get words 1) || lacks d.names.boxes (slice_get words 3))
-    ∷ (WRONG_WORD, is_late d section.Channels || is_no spelt_medium (slice_get words 0) || (is_some from && is_misspelt (slice_get words 2)) || (is_some to && is_misspelt (slice_get words 4)))
+    ∷ (
+      WRONG_WORD,
+      is_late d section.Channels || is_no spelt_medium (slice_get words 0)
+          || (is_some from && is_misspelt (slice_get words 2)) || (is_some to && is_misspelt (slice_get words 4)),
+    )
     ∷ (MISSING_WORD, is_none (slice_get words 4))
     ∷ (EXTRA_WORD, is_some (slice_get words 5))
-    ∷ (GIVEN_TWICE, of_slots d.names from (λ slots. has slots (slice_get words 2)) || of_slots d.names to (λ slots. has slots (slice_get words 4)))
+    ∷ (
+      GIVEN_TWICE,
+      of_slots d.names from (λ slots. has slots (slice_get words 2))
+          || of_slots d.names to (λ slots. has slots (slice_get words 4)),
+    )
     ∷ (SAME_BOX, are_same from to)
-    ∷ (LIMIT_PASSED, of_slots d.names from (λ slots. nat_le SLOT_LIMIT (length slots)) || of_slots d.names to (λ slots. nat_le SLOT_LIMIT (length slots)) || nat_le CHANNEL_LIMIT (length d.channels))
-    ∷ (NAME_TOO_LONG, (is_some from && is_overlong (slice_get words 2)) || (is_some to && is_overlong (slice_get words 4)))
+    ∷ (
+      LIMIT_PASSED,
+      of_slots d.names from (λ slots. nat_le SLOT_LIMIT (length slots))
+          || of_slots d.names to (λ slots. nat_le SLOT_LIMIT (length slots)) || nat_le CHANNEL_LIMIT (length d.channels),
+    )
+    ∷ (
+      NAME_TOO_LONG,
+      (is_some from && is_overlong (slice_get words 2))
+          || (is_some to && is_overlong (slice_get words 4)),
+    )
     ∷ []
 
 -- a box has as many slots as it may have
@@ -207,11 +225,18 @@ is_full names who = nat_le SLOT_LIMIT (length (slot_names names who))
 -- `also MEDIUM SLOT SLOT`, of the two boxes of the last `chan` line
 abbrev pub also_rules : Declared → List (List ℕ) → List (ℕ × Bool)
 also_rules d words =
-    let ends = last_channel d.channels in
-    (WRONG_WORD, is_late d section.Channels || length d.channels == 0 || is_no spelt_medium (slice_get words 0) || is_misspelt (slice_get words 1) || is_misspelt (slice_get words 2))
+    let ends = last_channel d.channels in (
+      WRONG_WORD,
+      is_late d section.Channels || length d.channels == 0 || is_no spelt_medium (slice_get words 0)
+          || is_misspelt (slice_get words 1) || is_misspelt (slice_get words 2),
+    )
     ∷ (MISSING_WORD, is_none (slice_get words 2))
     ∷ (EXTRA_WORD, is_some (slice_get words 3))
-    ∷ (GIVEN_TWICE, has (slot_names d.names ends.from) (slice_get words 1) || has (slot_names d.names ends.to) (slice_get words 2))
+    ∷ (
+      GIVEN_TWICE,
+      has (slot_names d.names ends.from) (slice_get words 1)
+          || has (slot_names d.names ends.to) (slice_get words 2),
+    )
     ∷ (LIMIT_PASSED, is_full d.names ends.from || is_full d.names ends.to || nat_le TUNNEL_LIMIT (length ends.tunnels))
     ∷ (NAME_TOO_LONG, is_overlong (slice_get words 1) || is_overlong (slice_get words 2))
     ∷ []
@@ -245,9 +270,11 @@ state_rules d words = new_part_rules (is_late d section.Programs) (open_block d)
 
 -- `begin`
 abbrev pub begin_rules : Declared → List (List ℕ) → List (ℕ × Bool)
-begin_rules d words = (WRONG_WORD, is_late d section.Begin) ∷ (EXTRA_WORD, is_some (slice_get words 0)) ∷ (UNFINISHED, is_unfinished d) ∷ []
+begin_rules d words =
+    (WRONG_WORD, is_late d section.Begin) ∷ (EXTRA_WORD, is_some (slice_get words 0)) ∷ (UNFINISHED, is_unfinished d)
+    ∷ []
 
--- `journal` opens a line behind `begin`, where a journal may stand behind the commands
+-- `journal` opens a line after `begin`, where a journal may stand after the commands
 abbrev pub journal_rules : Bool → List (List ℕ) → List (ℕ × Bool)
 journal_rules false words = (WRONG_WORD, true) ∷ []
 journal_rules true words = (EXTRA_WORD, is_some (slice_get words 0)) ∷ []
@@ -283,12 +310,14 @@ rules_by d (Some keyword.Goal) words = in_block (λ block. block_goal_rules d.na
 rules_by d (Some keyword.When) words = in_block (λ block. block_when_rules d.names block words) (open_block d)
 rules_by d (Some keyword.Begin) words = begin_rules d words
 rules_by d (Some keyword.Journal) words = journal_rules (d.begun && has_journal d.tail) words
-rules_by d (Some (keyword.Command kind)) words = if is_program_link d.section kind then program_link_rules d words else command_line_rules d kind words
+rules_by d (Some (keyword.Command kind)) words =
+    if is_program_link d.section kind then program_link_rules d words else command_line_rules d kind words
 rules_by d other words = (WRONG_WORD, true) ∷ []
 
 -- `media 1` or `media 2`, the two words
 abbrev pub is_version : List (List ℕ) → Bool
-is_version (first ∷ second ∷ []) = bytes_eq first (codes "media") && (bytes_eq second (codes "1") || bytes_eq second (codes "2"))
+is_version (first ∷ second ∷ []) =
+    bytes_eq first (codes "media") && (bytes_eq second (codes "1") || bytes_eq second (codes "2"))
 is_version words = false
 
 -- the number of such a line is 2
@@ -296,7 +325,8 @@ abbrev pub is_second : List (List ℕ) → Bool
 is_second (first ∷ second ∷ others) = bytes_eq second (codes "2")
 is_second words = false
 
--- the rules on the words of a line that isn't skipped; the first such line is the version line, of which nothing else is asked
+-- the rules on the words of a line that isn't skipped; the first such line is the version line, of which nothing else
+-- is asked
 abbrev pub words_rules : Bool → Declared → List (List ℕ) → List (ℕ × Bool)
 words_rules false d words = (NO_VERSION_LINE, not (is_version words)) ∷ []
 words_rules true d words = rules_by d (kind_of words) (drop 1 words)
@@ -314,7 +344,8 @@ line_words_rules false d words = words_rules d.versioned d words
 abbrev pub entry_fault : Declared → List (List ℕ) → Option ℕ
 entry_fault d words = least_broken (line_words_rules (is_skipped words) d words)
 
--- the line holds the byte with which the text passes this limit; so many bytes stand before the line, and its end belongs to it
+-- the line holds the byte with which the text passes this limit; so many bytes stand before the line, and its end
+-- belongs to it
 abbrev pub passes_limit : (limit total before : ℕ) → List ℕ → Bool
 passes_limit limit total before line = nat_lt limit total && nat_le before limit && nat_le limit (before + length line)
 
@@ -330,7 +361,8 @@ line_fault total before d line = least_broken (line_rules total before d line)
 
 -- the rules on the end of a text, as on one more line
 abbrev pub end_rules : Declared → List (ℕ × Bool)
-end_rules d = (UNFINISHED, is_unfinished d) ∷ (NO_BEGIN, d.versioned && not d.begun) ∷ (NO_VERSION_LINE, not d.versioned) ∷ []
+end_rules d =
+    (UNFINISHED, is_unfinished d) ∷ (NO_BEGIN, d.versioned && not d.begun) ∷ (NO_VERSION_LINE, not d.versioned) ∷ []
 
 abbrev pub end_fault : Declared → Option ℕ
 end_fault d = least_broken (end_rules d)

@@ -1,4 +1,4 @@
-//! The words of a `dev` line behind the name: a version, where the first begins with a digit, and codecs.
+//! The words of a `dev` line after the name: a version, where the first begins with a digit, and codecs.
 
 ghost use Rattle.std.specs.Prelude.{◌≡◌, ◌≤◌, ◌++◌, [], ◌∷◌, IsTrue, false, length, map, nat_lt};
 ghost use Rattle.std.specs.List.{list_any};
@@ -6,12 +6,12 @@ ghost use Rattle.std.specs.Str.{bytes_eq};
 ghost use Rattle.mc_signal.specs.Choice.{codecs_of};
 ghost use Rattle.mc_lines.specs.Listing.{can_add};
 ghost use Rattle.mc_lines.specs.Meaning.{codec_number, version_of};
-ghost use Rattle.mc_program.specs.WordLists.{has_repeat};
+ghost use Rattle.mc_program_lines.specs.WordLists.{has_repeat};
 ghost use Rattle.mc_lines.specs.Rules.{codec_words, has_bad_version, lists_undeclared};
 
 use crate::limit::LIST_LIMIT;
 use crate::places::begins_digit;
-use mc_program::word_list::are_more_than;
+use mc_program_lines::word_list::are_more_than;
 use mc_signal::CodecList;
 use mc_text::{Names, Words, read_number};
 

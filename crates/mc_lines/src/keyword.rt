@@ -30,7 +30,7 @@ pub fn keyword_of(word: &[u8]) -> Option<Keyword>
     }
 }
 
-// The kind of line that a word opens behind the channels.
+// The kind of line that a word opens after the channels.
 fn keyword_of_program(word: &[u8]) -> Option<Keyword>
     ensures { result ≡ keyword_of_program word.now }
 {

@@ -3,7 +3,7 @@
 /// The most bytes of a text.
 pub const TEXT_LIMIT: usize = 1_048_576;
 
-/// The most bytes of a text and the journal behind it.
+/// The most bytes of a text and the journal after it.
 pub const JOURNAL_TEXT_LIMIT: usize = 16_777_216;
 
 /// The most codecs of a `dev` or `send` line.

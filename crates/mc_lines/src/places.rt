@@ -6,7 +6,7 @@ ghost use Rattle.mc_script.specs.Places.{fixed_word};
 ghost use Rattle.mc_lines.specs.LineReadings.{overlong};
 ghost use Rattle.mc_lines.specs.Rules.{begins_digit, is_second, is_version, spelt_medium};
 
-use mc_program::ReadFault;
+use mc_program_lines::ReadFault;
 use mc_script::LineFault;
 use mc_script::rule::{GIVEN_TWICE, LIMIT_PASSED, NAME_TOO_LONG, WRONG_WORD};
 use mc_signal::Medium;

@@ -22,7 +22,7 @@ use crate::section::{Keyword, Section};
 use crate::tail::Tail;
 use mc_box::Shape;
 use mc_plan::Plan;
-use mc_program::{Block, ReadFault, is_unfinished};
+use mc_program_lines::{Block, ReadFault, is_unfinished};
 use mc_script::rule::{NO_BEGIN, NO_VERSION_LINE, TEXT_TOO_LONG, UNFINISHED, WRONG_WORD};
 use mc_script::{Command, LineFault, begins_hash, check_bytes};
 use mc_text::{Names, Words};
@@ -31,7 +31,7 @@ use std::marker::Model;
 
 /// What a text declares: names, the shapes of the boxes, the plan of boxes and channels, programs, and commands.
 #[derive(Drop)]
-pub struct Parts {
+pub struct Declarations {
     pub names: Names,
     pub shape: Shape,
     pub plan: Plan,
@@ -127,7 +127,7 @@ impl Reader {
         is_unfinished(self.open_block())
     }
 
-    // Reads a line of this kind. The words are those behind the first.
+    // Reads a line of this kind. The words are those after the first.
     fn read_kind<'a>(&mut self, kind: Keyword, words: Words<'a>) -> Result<(), ReadFault>
         requires { IsInForm self.old }
         ensures declared { ReadsKind self.old kind words.entry result self.new }
@@ -151,7 +151,7 @@ impl Reader {
         }
     }
 
-    // Reads a line of words behind the version line. The words are those behind the first.
+    // Reads a line of words after the version line. The words are those after the first.
     fn read_words<'a>(&mut self, first: &[u8], words: Words<'a>) -> Result<(), ReadFault>
         requires { IsInForm self.old }
         ensures declared { ReadsWords self.old (first.now ∷ words.entry) result self.new }
@@ -233,7 +233,7 @@ impl Reader {
     }
 
     /// What was declared.
-    pub fn into_parts(self) -> Parts
+    pub fn into_parts(self) -> Declarations
         ensures names { result.names ≡ self.names }
         ensures shape { result.shape ≡ self.shape }
         ensures boxes { map box_seen result.plan.boxes ≡ self.boxes }
@@ -241,7 +241,7 @@ impl Reader {
         ensures blocks { result.blocks.items ≡ self.blocks }
         ensures commands { result.commands.items ≡ self.commands }
     {
-        Parts {
+        Declarations {
             names: self.names,
             shape: self.shape,
             plan: self.plan,

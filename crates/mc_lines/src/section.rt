@@ -49,7 +49,7 @@ pub enum Keyword {
     Goal,
     When,
     Begin,
-    /// It opens a line only where a journal may stand behind the commands.
+    /// It opens a line only where a journal may stand after the commands.
     Journal,
     /// The word of a command. In the programs `link` opens a part's line.
     Command(CommandWord),

@@ -1,4 +1,4 @@
-//! What may stand behind the commands of a text.
+//! What may stand after the commands of a text.
 
 ghost use Rattle.std.specs.Prelude.{◌≡◌};
 ghost use Rattle.mc_lines.specs.Rules.{ends_commands, has_journal, is_journal, text_limit};
@@ -6,17 +6,17 @@ ghost use Rattle.mc_lines.specs.Rules.{ends_commands, has_journal, is_journal, t
 use crate::limit::{JOURNAL_TEXT_LIMIT, TEXT_LIMIT};
 use mc_text::Words;
 
-/// What may stand behind the commands of a text.
+/// What may stand after the commands of a text.
 #[derive(Clone, Copy, PartialEq, Eq, Debug)]
 pub enum Tail {
     /// Nothing.
     Nothing,
-    /// A journal, behind a line whose only word is `journal`.
+    /// A journal, after a line whose only word is `journal`.
     Journal,
 }
 
 impl Tail {
-    /// The most bytes of a text, with what stands behind its commands.
+    /// The most bytes of a text, with what stands after its commands.
     pub fn text_limit(self) -> usize
         ensures { result ≡ text_limit self }
     {
@@ -26,7 +26,7 @@ impl Tail {
         }
     }
 
-    /// Whether a journal may stand behind the commands.
+    /// Whether a journal may stand after the commands.
     pub fn has_journal(self) -> bool
         ensures { result ≡ has_journal self }
     {
@@ -37,7 +37,7 @@ impl Tail {
     }
 }
 
-/// Whether a line ends the commands of a text: its only word is `journal`, and a journal may stand behind it.
+/// Whether a line ends the commands of a text: its only word is `journal`, and a journal may stand after it.
 pub fn ends_commands(tail: Tail, line: &[u8]) -> bool
     ensures { result ≡ ends_commands tail line.now }
 {

@@ -10,8 +10,8 @@ use Rattle.mc_slot.specs.Tunnel.{Kept}
 use Rattle.mc_slot.specs.declared.Slot.{Slot}
 use Rattle.mc_slot.specs.declared.State.{State}
 use Rattle.mc_slot.specs.declared.State.TheVariants.{Closed, Opening, Opened, Flowing, Closing}
-use Rattle.mc_tunnel.proofs.Steps.{took_kept}
-use Rattle.mc_turn.proofs.Weighing.{weigh_one, weigh_times, weigh_list}
+use Rattle.mc_slot_laws.proofs.Steps.{took_kept}
+use Rattle.mc_slot_laws.proofs.Weighing.{weigh_one, weigh_times, weigh_list}
 use Rattle.mc_link.specs.LinkTurn.{selector_due, lean, link_turn, descriptor_due, sent_by_first, sent_by_second, closed_side}
 use Rattle.mc_link.specs.LinkWeights.{stored_link, LinkPays}
 use Rattle.mc_link.specs.declared.Side.{Side}

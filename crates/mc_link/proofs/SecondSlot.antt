@@ -3,7 +3,7 @@ use Rattle.std.proofs.Common.{◌≡◌, ◌≤◌, ◌+◌, ◌*◌, ◌++◌, 
 use Rattle.mc_signal.specs.declared.Signal.{Signal}
 use Rattle.mc_slot.specs.EndTurn.{cause_of}
 use Rattle.mc_slot.specs.Moves.{answer_signals, slot_send_all}
-use Rattle.mc_turn.specs.Weights.{weight, weights}
+use Rattle.mc_slot_laws.specs.Weights.{weight, weights}
 use Rattle.mc_link.specs.LinkLaws.{SecondSlotSendsThree, other_side}
 use Rattle.mc_link.specs.LinkTurn.{link_turn, sent_by_first, sent_by_second, closed_side}
 use Rattle.mc_link.specs.LinkWeights.{SecondSlotPays, stored_link}

@@ -5,7 +5,7 @@ use Rattle.mc_signal.specs.declared.Signal.{Signal}
 use Rattle.mc_slot.specs.Moves.{is_live}
 use Rattle.mc_slot.specs.declared.Slot.{Slot}
 use Rattle.mc_slot.specs.declared.State.TheVariants.{Opened, Flowing}
-use Rattle.mc_turn.proofs.Weighing.{weigh, weigh_all, pays}
+use Rattle.mc_slot_laws.proofs.Weighing.{weigh, weigh_all, pays}
 use Rattle.mc_link.specs.LinkTurn.{selector_due, lean, descriptor_due, sent_by_first, sent_by_second}
 use Rattle.mc_link.specs.declared.Side.{Side}
 use Rattle.mc_link.proofs.Parts.{live_both}

@@ -43,7 +43,8 @@ abbrev pub open_with : Slot → Option Descriptor → List Signal
 open_with slot None = []
 open_with slot (Some got) = Open slot.medium got ∷ []
 
--- a live slot passes on the descriptor that the other slot got: it accepts by it, or describes it where its own last differs
+-- a live slot passes on the descriptor that the other slot got: it accepts by it, or describes it where its own last
+-- differs
 abbrev pub pass_descriptor : State → Option Descriptor → Option Descriptor → List Signal
 pass_descriptor Opened last (Some got) = Oack got ∷ []
 pass_descriptor Flowing last (Some got) = describe_newer last got
@@ -64,9 +65,13 @@ selector_due slot other = pass_selector other.sel_in slot.got slot.sel_out
 
 -- what two live slots send: first each the other's descriptor, then each the other's selector
 abbrev pub flow : Slot → Slot → List (Side × Signal)
-flow a b = from_side First (descriptor_due a b) ++ (from_side Second (descriptor_due b a) ++ (from_side First (selector_due a b) ++ from_side Second (selector_due b a)))
+flow a b =
+    from_side First (descriptor_due a b)
+    ++ (from_side Second (descriptor_due b a)
+    ++ (from_side First (selector_due a b) ++ from_side Second (selector_due b a)))
 
--- what a link sends by the states of its slots: a closed one asks for media where the other is live, and two live ones pass on what is new
+-- what a link sends by the states of its slots: a closed one asks for media where the other is live, and two live ones
+-- pass on what is new
 abbrev pub lean_in : State → State → Slot → Slot → List (Side × Signal)
 lean_in Closed Opened a b = from_side First (open_with a b.got)
 lean_in Closed Flowing a b = from_side First (open_with a b.got)

@@ -6,7 +6,7 @@ use Rattle.mc_slot.specs.Tunnel.{Kept}
 use Rattle.mc_slot.specs.declared.Slot.{Slot}
 use Rattle.mc_slot.specs.declared.State.{State}
 use Rattle.mc_slot.specs.declared.State.TheVariants.{Closed, Opening, Opened, Flowing, Closing}
-use Rattle.mc_turn.specs.Weights.{weight, weights}
+use Rattle.mc_slot_laws.specs.Weights.{weight, weights}
 use Rattle.mc_link.specs.LinkTurn.{link_turn, IsLinkAtRest, sent_by_first, sent_by_second, closed_side}
 use Rattle.mc_link.specs.declared.Side.TheVariants.{First, Second}
 use Rattle.mc_slot.specs.EndTurn.{cause_of}
@@ -21,15 +21,21 @@ stored_link Closing Opened = 1
 stored_link Closing Flowing = 1
 stored_link state other = 0
 
--- y tunnels lie on the first slot's side of the link, and x on the second slot's. A signal weighs once for each tunnel that it may still go over: one
--- that comes to the first slot for its own tunnel and for x. At a link at rest that is more than what both slots then send weighs, the stored opens counted
+-- y tunnels lie on the first slot's side of the link, and x on the second slot's. A signal weighs once for each tunnel
+-- that it may still go over: one
+-- that comes to the first slot for its own tunnel and for x. At a link at rest that is more than what both slots then
+-- send weighs, the stored opens counted
 abbrev pub LinkPays : Type 0
 LinkPays = (a b middle a_after b_after : Slot) (signal : Signal) (answer : Option Signal) (n x y : ℕ)
     → Kept a → Kept b → IsLinkAtRest a b → slot_take a signal ≡ Some record { answer = answer; after = middle }
-    → slot_send_all middle (sent_by_first (link_turn middle b (closed_side (cause_of signal middle.state) First))) ≡ Some a_after
-    → slot_send_all b (sent_by_second (link_turn middle b (closed_side (cause_of signal middle.state) First))) ≡ Some b_after
+    → slot_send_all middle (sent_by_first (link_turn middle b (closed_side (cause_of signal middle.state) First)))
+    ≡ Some a_after
+    → slot_send_all b (sent_by_second (link_turn middle b (closed_side (cause_of signal middle.state) First)))
+    ≡ Some b_after
     → 1 ≤ x → 1 ≤ y → y < n
-    → 1 + y * weights n (answer_signals answer ++ sent_by_first (link_turn middle b (closed_side (cause_of signal middle.state) First)))
+    → 1
+    + y * weights n (answer_signals answer
+    ++ sent_by_first (link_turn middle b (closed_side (cause_of signal middle.state) First)))
     + x * weights n (sent_by_second (link_turn middle b (closed_side (cause_of signal middle.state) First)))
     + n * (n * n) * (y * stored_link a_after.state b_after.state + x * stored_link b_after.state a_after.state)
     ≤ (x + 1) * weight n signal + n * (n * n) * (y * stored_link a.state b.state + x * stored_link b.state a.state)
@@ -38,10 +44,14 @@ LinkPays = (a b middle a_after b_after : Slot) (signal : Signal) (answer : Optio
 abbrev pub SecondSlotPays : Type 0
 SecondSlotPays = (a b middle a_after b_after : Slot) (signal : Signal) (answer : Option Signal) (n x y : ℕ)
     → Kept a → Kept b → IsLinkAtRest a b → slot_take b signal ≡ Some record { answer = answer; after = middle }
-    → slot_send_all a (sent_by_first (link_turn a middle (closed_side (cause_of signal middle.state) Second))) ≡ Some a_after
-    → slot_send_all middle (sent_by_second (link_turn a middle (closed_side (cause_of signal middle.state) Second))) ≡ Some b_after
+    → slot_send_all a (sent_by_first (link_turn a middle (closed_side (cause_of signal middle.state) Second)))
+    ≡ Some a_after
+    → slot_send_all middle (sent_by_second (link_turn a middle (closed_side (cause_of signal middle.state) Second)))
+    ≡ Some b_after
     → 1 ≤ x → 1 ≤ y → x < n
-    → 1 + x * weights n (answer_signals answer ++ sent_by_second (link_turn a middle (closed_side (cause_of signal middle.state) Second)))
+    → 1
+    + x * weights n (answer_signals answer
+    ++ sent_by_second (link_turn a middle (closed_side (cause_of signal middle.state) Second)))
     + y * weights n (sent_by_first (link_turn a middle (closed_side (cause_of signal middle.state) Second)))
     + n * (n * n) * (y * stored_link a_after.state b_after.state + x * stored_link b_after.state a_after.state)
     ≤ (y + 1) * weight n signal + n * (n * n) * (y * stored_link a.state b.state + x * stored_link b.state a.state)

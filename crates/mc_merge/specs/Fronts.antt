@@ -19,5 +19,8 @@ pub record IsLawfulFront (world : WorldState) (lane : ℕ) (tagged : Tagged) : T
 
 -- each front of the rests is such a one: so no box stops at a front that it can't take
 abbrev pub FrontsAreLawful : Type 0
-FrontsAreLawful = (world : WorldState) (logs : List (List Entry)) (boxes : List BoxState) (rests : List (List Tagged)) → IsLogged world logs boxes rests → IsSound world
-    → (lane : ℕ) (tagged : Tagged) (rest : List Tagged) → slice_index_or rests lane [] ≡ tagged ∷ rest → IsLawfulFront (record world { boxes = boxes; lanes = rests }) lane tagged
+FrontsAreLawful =
+    (world : WorldState) (logs : List (List Entry)) (boxes : List BoxState) (rests : List (List Tagged))
+    → IsLogged world logs boxes rests → IsSound world
+    → (lane : ℕ) (tagged : Tagged) (rest : List Tagged) → slice_index_or rests lane [] ≡ tagged ∷ rest
+    → IsLawfulFront (record world { boxes = boxes; lanes = rests }) lane tagged

@@ -14,7 +14,8 @@ without_stamps items = map without_stamp items
 
 -- what these entries take at an end, each with the stamp of the entry that takes it
 abbrev pub takings : Tunnels → List Entry → List Stamped
-takings tunnels entries = flat_map (λ entry. map (with_stamp entry.stamp) (event_takes tunnels entry.event entry.taken)) entries
+takings tunnels entries =
+    flat_map (λ entry. map (with_stamp entry.stamp) (event_takes tunnels entry.event entry.taken)) entries
 
 -- ---- logs by the numbers of their boxes
 
@@ -27,7 +28,8 @@ taken_from world logs lane = takings (into_box world (leads_to world lane) lane)
 
 -- all that is sent into it
 abbrev pub sent_to : WorldState → List (List Entry) → ℕ → List Stamped
-sent_to world logs lane = log_sends (out_of_box world (leads_from world lane) lane) (log_of logs (leads_from world lane))
+sent_to world logs lane =
+    log_sends (out_of_box world (leads_from world lane) lane) (log_of logs (leads_from world lane))
 
 -- ---- with claims
 
@@ -40,4 +42,5 @@ logs_of logs = map entries_of logs
 
 -- all that is taken from a lane, with the stamps that the takings claim
 abbrev pub claims_from : WorldState → List (List Claimed) → ℕ → List Stamped
-claims_from world logs lane = log_takes (into_box world (leads_to world lane) lane) (claimed_of logs (leads_to world lane))
+claims_from world logs lane =
+    log_takes (into_box world (leads_to world lane) lane) (claimed_of logs (leads_to world lane))

@@ -1,4 +1,5 @@
--- The lanes of a world as its boxes see them: which tunnel of a lane each slot has, and which boxes stand at a lane's ends.
+-- The lanes of a world as its boxes see them: which tunnel of a lane each slot has, and which boxes stand at a lane's
+-- ends.
 use Rattle.std.specs.Prelude.{◌≡◌, ◌==◌, ℕ, ◌/◌, ◌%◌, ◌<◌, if◌then◌else◌, [], length, slice_index_or, Option, Some, None}
 use Rattle.std.specs.Option.{option_map}
 use Rattle.mc_signal.specs.declared.Tagged.{Tagged}
@@ -20,7 +21,8 @@ into_box world who lane local = tunnel_if_at lane (option_map (λ s. lane_place 
 
 -- and of a lane that leads away from it
 abbrev pub out_of_box : WorldState → ℕ → ℕ → Tunnels
-out_of_box world who lane local = tunnel_if_at lane (option_map (λ s. lane_place world (far s)) (number world who local))
+out_of_box world who lane local =
+    tunnel_if_at lane (option_map (λ s. lane_place world (far s)) (number world who local))
 
 -- the tunnel of each slot of a box
 abbrev pub tunnel_at : WorldState → ℕ → Tunnels
@@ -59,4 +61,6 @@ pub record HasBothBoxes (world : WorldState) (lane : ℕ) : Type 0 where
 
 -- where all is numbered as it should be, and each channel has a tunnel, each lane has both
 abbrev pub LanesHaveBoxes : Type 0
-LanesHaveBoxes = (world : WorldState) (lane : ℕ) → IsNumbered world → AreChannels world.channels → lane < length world.lanes → HasBothBoxes world lane
+LanesHaveBoxes =
+    (world : WorldState) (lane : ℕ) → IsNumbered world → AreChannels world.channels → lane < length world.lanes
+    → HasBothBoxes world lane

@@ -39,7 +39,8 @@ pub record IsMerged (clock : ℕ → ℕ) (logs : List (List Entry)) (whole : Li
 abbrev pub turns_of : List Own → List Turn
 turns_of whole = map (λ (own : Own). turn_of own.who own.entry.event) whole
 
--- whichever comes first of two at one time, they are a run: clocks of boxes that no channels join may begin at any times
+-- whichever comes first of two at one time, they are a run: clocks of boxes that no channels join may begin at any
+-- times
 abbrev pub RunsInOrder : Type 0
 RunsInOrder = (clock : ℕ → ℕ) (world : WorldState) (logs : List (List Entry)) (whole : List Own) (boxes : List BoxState)
     (rests : List (List Tagged))

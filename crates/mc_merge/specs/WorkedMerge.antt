@@ -65,7 +65,9 @@ abbrev pub with_claim : ℕ → Entry → Claimed
 with_claim stamp entry = record { entry = entry; claim = stamp }
 
 abbrev pub claimed_logs : List (List Claimed)
-claimed_logs = (with_claim 0 alice_opens ∷ with_claim 2 alice_takes ∷ []) ∷ (with_claim 0 bob_holds ∷ with_claim 1 bob_takes ∷ []) ∷ []
+claimed_logs =
+    (with_claim 0 alice_opens ∷ with_claim 2 alice_takes ∷ []) ∷ (with_claim 0 bob_holds ∷ with_claim 1 bob_takes ∷ [])
+    ∷ []
 
 -- one signal was taken from each lane
 abbrev pub left_over : List (List Stamped)

@@ -27,4 +27,6 @@ AllLinkNone batches = All LinkNone batches
 
 -- a run of such turns leaves a world without links so
 abbrev pub RunKeepsLinkFree : Type 0
-RunKeepsLinkFree = (world next : WorldState) (turns : List Turn) → IsLinkFree world → LinkNone turns → run world turns ≡ Some next → IsLinkFree next
+RunKeepsLinkFree =
+    (world next : WorldState) (turns : List Turn) → IsLinkFree world → LinkNone turns → run world turns ≡ Some next
+    → IsLinkFree next

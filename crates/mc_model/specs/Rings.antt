@@ -31,12 +31,18 @@ IsLeastOnRing world None = NoneBefore world (slot_count world)
 
 -- a walk over as many tunnels as there are meets no end exactly where its slot stands on a ring, to which it comes back
 abbrev pub RingsMeetNoEnd : Type 0
-RingsMeetNoEnd = (world : WorldState) (s : ℕ) → IsSound world → s < slot_count world → (other_end world s ≡ None) ↔ IsOnRing world s
+RingsMeetNoEnd =
+    (world : WorldState) (s : ℕ) → IsSound world → s < slot_count world → (other_end world s ≡ None) ↔ IsOnRing world s
 
 -- a walk goes over no tunnel both ways: of the slots from which it goes over a tunnel, none is the far slot of another
 abbrev pub WalksNeverReturn : Type 0
-WalksNeverReturn = (world : WorldState) (s count other t u : ℕ) → IsSound world → s < slot_count world → slot_after world count s ≡ Some t → slot_after world other s ≡ Some u → t ≢ far u
+WalksNeverReturn =
+    (world : WorldState) (s count other t u : ℕ) → IsSound world → s < slot_count world
+    → slot_after world count s ≡ Some t → slot_after world other s ≡ Some u → t ≢ far u
 
 -- Takes and Retries change no link, so there is a ring after them where there was one before
 abbrev pub RestKeepsRings : Type 0
-RestKeepsRings = (world next : WorldState) (turns : List Turn) → IsSound world → IsTrue (list_all (λ turn. takes_or_retries turn.event) turns) → run world turns ≡ Some next → has_ring next ≡ has_ring world
+RestKeepsRings =
+    (world next : WorldState) (turns : List Turn) → IsSound world
+    → IsTrue (list_all (λ turn. takes_or_retries turn.event) turns) → run world turns ≡ Some next
+    → has_ring next ≡ has_ring world

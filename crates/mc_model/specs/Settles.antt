@@ -67,14 +67,18 @@ takes_or_retries event = false
 
 -- whether a box's slot owes a retry
 abbrev pub world_owes : WorldState → ℕ → ℕ → Bool
-world_owes world who local = nat_lt who (length world.boxes) && is_slot (box_at world who) local && box_owes (box_at world who) local
+world_owes world who local =
+    nat_lt who (length world.boxes) && is_slot (box_at world who) local && box_owes (box_at world who) local
 
--- after a moment of a run, at which the world rests and the batch is used up, each retry that was owed at that moment comes once, and besides only Takes come
+-- after a moment of a run, at which the world rests and the batch is used up, each retry that was owed at that moment
+-- comes once, and besides only Takes come
 pub record IsLastRest (world : WorldState) (batch turns : List Turn) (moment : ℕ) : Type 0 where
   pub within : moment ≤ length turns
   pub at_rest : IsTrue (rests (after world (take moment turns)))
   pub used_up : (who : ℕ) → commands_of who (take moment turns) ≡ commands_of who batch
-  pub retries : (who local : ℕ) → count_by (is_retry_of who local) (drop moment turns) ≡ (if world_owes (after world (take moment turns)) who local then 1 else 0)
+  pub retries : (who local : ℕ)
+      → count_by (is_retry_of who local) (drop moment turns)
+      ≡ (if world_owes (after world (take moment turns)) who local then 1 else 0)
   pub besides : IsTrue (list_all (λ turn. takes_or_retries turn.event) (drop moment turns))
 
 -- the turns settle a batch, and leave the world last
@@ -91,7 +95,7 @@ pub record IsStopped (world : WorldState) (batch turns : List Turn) (last : Worl
   pub runs : run world turns ≡ Some last
   pub commands : (who : ℕ) → commands_of who turns ≡ take (length (commands_of who turns)) (commands_of who batch)
 
--- the command of a box that comes next, behind turns that have made the first ones of a batch
+-- the command of a box that comes next, after turns that have made the first ones of a batch
 abbrev pub next_command : (batch turns : List Turn) → ℕ → Option Turn
 next_command batch turns who = slice_get (commands_of who batch) (length (commands_of who turns))
 
@@ -123,9 +127,11 @@ is_tell_of who turn = is_tell turn.event && turn.who == who
 abbrev pub of_kind : (Event → Bool) → ℕ → List Turn → List Turn
 of_kind kind who turns = filter (λ turn. kind turn.event && turn.who == who) turns
 
--- a settled segment has the Sets, the Media events and the Tells of its batch, box by box and in order, each once, and no others
+-- a settled segment has the Sets, the Media events and the Tells of its batch, box by box and in order, each once, and
+-- no others
 abbrev pub SettledMakesItsBatch : Type 0
-SettledMakesItsBatch = (world last : WorldState) (batch turns : List Turn) → IsSettled world batch turns last → (who : ℕ)
+SettledMakesItsBatch =
+    (world last : WorldState) (batch turns : List Turn) → IsSettled world batch turns last → (who : ℕ)
     → (of_kind is_set who turns ≡ of_kind is_set who batch)
     × (of_kind is_media who turns ≡ of_kind is_media who batch)
     × (of_kind is_tell who turns ≡ of_kind is_tell who batch)

@@ -18,15 +18,18 @@ pub record HasShape (new old : WorldState) : Type 0 where
 
 -- a turn changes no shape, and no program
 abbrev pub StepKeepsShape : Type 0
-StepKeepsShape = (world next : WorldState) (turn : Turn) → IsSound world → step world turn ≡ Some next → HasShape next world
+StepKeepsShape =
+    (world next : WorldState) (turn : Turn) → IsSound world → step world turn ≡ Some next → HasShape next world
 
 -- nor does a run
 abbrev pub RunKeepsShape : Type 0
-RunKeepsShape = (world next : WorldState) (turns : List Turn) → IsSound world → run world turns ≡ Some next → HasShape next world
+RunKeepsShape =
+    (world next : WorldState) (turns : List Turn) → IsSound world → run world turns ≡ Some next → HasShape next world
 
 -- a command for a box that is there, which the shape of the box enables
 abbrev pub is_allowed : WorldState → Turn → Bool
-is_allowed world turn = nat_lt turn.who (length world.boxes) && is_enabled_by (box_shape (box_at world turn.who)) turn.event
+is_allowed world turn =
+    nat_lt turn.who (length world.boxes) && is_enabled_by (box_shape (box_at world turn.who)) turn.event
 
 -- a world allows each command of a batch
 abbrev pub AreAllowed : WorldState → List Turn → Type 0
@@ -38,7 +41,9 @@ AreAllAllowed world batches = All (AreAllowed world) batches
 
 -- such a command can happen at any time, unless it is a Hear of a slot that has the last version
 abbrev pub CommandGoes : Type 0
-CommandGoes = (world : WorldState) (turn : Turn) → IsSound world → IsTrue (is_allowed world turn) → IsSome (step world turn) ⊎ IsTrue (ends_version world turn)
+CommandGoes =
+    (world : WorldState) (turn : Turn) → IsSound world → IsTrue (is_allowed world turn)
+    → IsSome (step world turn) ⊎ IsTrue (ends_version world turn)
 
 -- whether a slot owes a retry, by its number
 abbrev pub owes_by_number : WorldState → ℕ → Bool
@@ -50,4 +55,6 @@ retry_of world s = record { who = (place world s).0; event = Retry (place world 
 
 -- it can happen where it is owed
 abbrev pub RetryGoes : Type 0
-RetryGoes = (world : WorldState) (s : ℕ) → IsSound world → s < slot_count world → IsTrue (owes_by_number world s) → IsSome (step world (retry_of world s))
+RetryGoes =
+    (world : WorldState) (s : ℕ) → IsSound world → s < slot_count world → IsTrue (owes_by_number world s)
+    → IsSome (step world (retry_of world s))

@@ -1,4 +1,5 @@
--- A step is one enabled event of one box; a run is a list of turns, each a step from the world that the turns before it leave.
+-- A step is one enabled event of one box; a run is a list of turns, each a step from the world that the turns before it
+-- leave.
 use Rattle.std.specs.Prelude.{ℕ, ◌++◌, if◌then◌else◌, List, [], ◌∷◌, drop, length, nat_lt, slice_set, Option, Some, None, ◌&&◌, Bool}
 use Rattle.std.specs.Option.{option_map, option_and_then, unwrap_or}
 use Rattle.mc_signal.specs.declared.Signal.{Signal}
@@ -23,13 +24,16 @@ after_pop world s = with_lane world (lane_of world s) (drop 1 (lane_to world s))
 
 -- a signal goes with its tunnel to the end of the lane that leads to a slot
 abbrev pub after_push : WorldState → Signal → ℕ → WorldState
-after_push world signal s = with_lane world (lane_of world s) (lane_to world s ++ record { tunnel = (tunnel_of world s).within; signal = signal } ∷ [])
+after_push world signal s =
+    with_lane world (lane_of world s)
+    (lane_to world s ++ record { tunnel = (tunnel_of world s).within; signal = signal } ∷ [])
 
 -- what a box sends goes to the far slots, in the order of sending
 abbrev pub after_sends : WorldState → ℕ → List (ℕ × Signal) → WorldState
 after_sends world who [] = world
 after_sends world who (sending ∷ rest) =
-    after_sends (unwrap_or (option_map (λ s. after_push world sending.1 (far s)) (number world who sending.0)) world) who rest
+    after_sends (unwrap_or
+    (option_map (λ s. after_push world sending.1 (far s)) (number world who sending.0)) world) who rest
 
 -- the world after a box has made its step
 abbrev pub after_making : WorldState → ℕ → BoxStep → WorldState
@@ -38,7 +42,8 @@ after_making world who step = after_sends (with_box world who step.after) who st
 -- a Take needs a signal that its slot can take now
 abbrev pub take_at : WorldState → ℕ → ℕ → ℕ → Option WorldState
 take_at world who local s =
-    option_and_then (λ signal. option_map (after_making (after_pop world s) who) (box_event (box_at world who) (Take local) (Some signal))) (front world s)
+    option_and_then (λ signal. option_map (after_making (after_pop world s) who)
+    (box_event (box_at world who) (Take local) (Some signal))) (front world s)
 
 abbrev pub step_by : WorldState → ℕ → Event → Option WorldState
 step_by world who (Take local) = option_and_then (take_at world who local) (number world who local)

@@ -22,4 +22,6 @@ QuietRests = (world : WorldState) → HasNoPrograms world → is_quiet world ≡
 
 -- and a run of it has no Shift
 abbrev pub RunMakesNoShift : Type 0
-RunMakesNoShift = (world last : WorldState) (turns : List Turn) → IsSound world → HasNoPrograms world → run world turns ≡ Some last → ShiftNone turns
+RunMakesNoShift =
+    (world last : WorldState) (turns : List Turn) → IsSound world → HasNoPrograms world → run world turns ≡ Some last
+    → ShiftNone turns

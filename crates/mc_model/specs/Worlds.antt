@@ -33,7 +33,8 @@ pub record AreChannels (channels : List ChannelState) : Type 0 where
   pub few : length channels ≤ channel_number_limit
   pub tunnels : All HasTunnels channels
 
--- boxes, channels, and for each channel and direction a lane of the signals under way. Lane 2k leads to the initiator's end of channel k, and lane 2k + 1 to the other
+-- boxes, channels, and for each channel and direction a lane of the signals under way. Lane 2k leads to the initiator's
+-- end of channel k, and lane 2k + 1 to the other
 pub record WorldState : Type 0 where
   pub boxes : List BoxState
   pub channels : List ChannelState
@@ -50,7 +51,8 @@ pub record TunnelPlace : Type 0 where
 -- these tunnels of a channel, numbered within it from a number on
 abbrev pub tunnels_within : ℕ → ℕ → List Tunnel → List TunnelPlace
 tunnels_within channel within [] = []
-tunnels_within channel within (tunnel ∷ tunnels) = record { channel = channel; within = within; medium = tunnel.medium } ∷ tunnels_within channel (within + 1) tunnels
+tunnels_within channel within (tunnel ∷ tunnels) =
+    record { channel = channel; within = within; medium = tunnel.medium } ∷ tunnels_within channel (within + 1) tunnels
 
 -- the tunnels of these channels, numbered from a number on
 abbrev pub tunnels_from : ℕ → List ChannelState → List TunnelPlace
@@ -71,7 +73,8 @@ places_within ends = flat_map (places_of ends) ends.tunnels
 abbrev pub places_among : List ChannelState → List (ℕ × ℕ)
 places_among channels = flat_map places_within channels
 
--- the box and local number of each slot, by the slot's number: tunnel t has the slots 2t, on the initiator's side, and 2t + 1
+-- the box and local number of each slot, by the slot's number: tunnel t has the slots 2t, on the initiator's side, and
+-- 2t + 1
 abbrev pub places : WorldState → List (ℕ × ℕ)
 places world = places_among world.channels
 
@@ -132,7 +135,8 @@ lane_to world s = slice_index_or world.lanes (lane_of world s) []
 -- what a lane has for one of its tunnels, in order
 abbrev pub for_tunnel : ℕ → List Tagged → List Signal
 for_tunnel tunnel [] = []
-for_tunnel tunnel (tagged ∷ rest) = if tagged.tunnel == tunnel then tagged.signal ∷ for_tunnel tunnel rest else for_tunnel tunnel rest
+for_tunnel tunnel (tagged ∷ rest) =
+    if tagged.tunnel == tunnel then tagged.signal ∷ for_tunnel tunnel rest else for_tunnel tunnel rest
 
 -- the signals under way to a slot
 abbrev pub list_to : WorldState → ℕ → List Signal

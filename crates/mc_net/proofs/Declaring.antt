@@ -7,10 +7,10 @@ use Rattle.mc_lines.specs.SoFar.{Declared}
 use Rattle.mc_lines.specs.declared.tail.Tail.{Tail}
 use Rattle.mc_net.specs.Texts.{Says, text_end}
 use Rattle.mc_net.specs.declared.net.Net.{Net}
-use Rattle.mc_lines.specs.declared.reader.Parts.{Parts}
+use Rattle.mc_lines.specs.declared.reader.Declarations.{Declarations}
 
 -- the parts are those that the text declares
-pub record AreOf (d : Declared) (parts : Parts) : Type 0 where
+pub record AreOf (d : Declared) (parts : Declarations) : Type 0 where
   pub names : parts.names ≡ d.names
   pub shape : parts.shape ≡ d.shape
   pub boxes : map box_seen parts.plan.boxes ≡ d.boxes
@@ -18,7 +18,7 @@ pub record AreOf (d : Declared) (parts : Parts) : Type 0 where
   pub blocks : parts.blocks.items ≡ d.blocks
   pub commands : parts.commands.items ≡ d.commands
 
-pub net_declares : (tail : Tail) (text : List ℕ) (d : Declared) (parts : Parts) (net : Net) (place : ℕ) → Says tail text d → AreOf d parts → place ≡ text_end tail text → IsMadeOf parts place net → DeclaresNet tail text net
+pub net_declares : (tail : Tail) (text : List ℕ) (d : Declared) (parts : Declarations) (net : Net) (place : ℕ) → Says tail text d → AreOf d parts → place ≡ text_end tail text → IsMadeOf parts place net → DeclaresNet tail text net
 net_declares tail text d parts net place says are there made = record {
   declared = d;
   says = says;

@@ -20,8 +20,8 @@ use Rattle.mc_script.specs.declared.command.Command.TheVariants.{Stimulus, Settl
 use Rattle.mc_script.specs.declared.keyword.CommandWord.{CommandWord}
 use Rattle.mc_script.specs.declared.keyword.CommandWord.TheVariants as command
 use Rattle.mc_script.specs.declared.rule.TheConstants.{SAME_SLOT, TWO_MEDIA, WRONG_WORD}
-use Rattle.mc_program.proofs.KeptRules.{kept_at}
-use Rattle.mc_program.proofs.Found.{named_within}
+use Rattle.mc_program_lines.proofs.KeptRules.{kept_at}
+use Rattle.mc_program_lines.proofs.Found.{named_within}
 
 -- the command's box is there, and its shape enables the event
 abbrev pub IsEnabled : NameLists → List BoxShapeState → Command → Type 0
@@ -35,7 +35,7 @@ pub record IsOfLine (names : NameLists) (shape : List BoxShapeState) (it : Comma
   pub kept : least_broken (kind_rules names shape (Some kind) words) ≡ None
   pub means : command_by names (Some kind) words ≡ Some it
 
--- the event of a box's slot that a line spells, by a value behind them
+-- the event of a box's slot that a line spells, by a value after them
 record IsAt (X : Type 0) (names : NameLists) (words : List (List ℕ)) (value : Option X) (event : ℕ → X → Event) (it : Command) : Type 0 where
   who : ℕ
   local : ℕ

@@ -102,7 +102,7 @@ empty_or_last (x ∷ xs) = by (empty_or_last xs)
     by (inl none) = inr (record { front = []; last = x; is = rw none refl })
     by (inr some) = inr (record { front = x ∷ some.front; last = some.last; is = rw some.is refl })
 
--- behind the same lines, the line with the byte that passes a limit, which may go on among all lines
+-- after the same lines, the line with the byte that passes a limit, which may go on among all lines
 record IsPassed (limit : ℕ) (short long : List (List ℕ)) : Type 0 where
   before : List (List ℕ)
   line : List ℕ
@@ -274,7 +274,7 @@ module _ (tail : Tail) (short long : List ℕ) (small : text_limit tail < length
 
 -- ---- first bytes
 
--- what is kept of a list with more behind it: all of the list and some of that, or the same whatever is behind it
+-- what is kept of a list with more after it: all of the list and some of that, or the same whatever is after it
 up_to_parts : (test : List ℕ → Bool) (front : List (List ℕ))
     → ((more : List (List ℕ)) → up_to test (front ++ more) ≡ front ++ up_to test more)
     ⊎ ((kept : List (List ℕ)) × ((more : List (List ℕ)) → up_to test (front ++ more) ≡ kept) × (extent kept ≤ extent front))
@@ -380,7 +380,7 @@ blocks_of_the_first_bytes tail text given declares = record {
   blocks = declares.blocks;
 }
 
--- where nothing may stand behind the commands, no line is left out
+-- where nothing may stand after the commands, no line is left out
 pub all_lines : (xs : List (List ℕ)) → up_to (ends_commands Nothing) xs ≡ xs
 all_lines [] = refl
 all_lines (x ∷ xs) = ap (λ (l : List (List ℕ)). x ∷ l) (all_lines xs)

@@ -13,9 +13,9 @@ use Rattle.mc_model.specs.Unprogrammed.{HasNoPrograms}
 use Rattle.mc_model.specs.Worlds.{WorldState, box_at}
 use Rattle.mc_plan.specs.Plans.{PlanState, world_of}
 use Rattle.mc_plan.proofs.Numbered.{length_boxes, plans_are_unprogrammed}
-use Rattle.mc_program.specs.Finished.{IsProgramFor, program_of}
-use Rattle.mc_program.specs.Programs.{BlockState}
-use Rattle.mc_program.proofs.FinishedBlocks.{finished_blocks_fit}
+use Rattle.mc_program_lines.specs.Finished.{IsProgramFor, program_of}
+use Rattle.mc_program_lines.specs.Programs.{BlockState}
+use Rattle.mc_program_lines.proofs.FinishedBlocks.{finished_blocks_fit}
 use Rattle.mc_lines.specs.BoxLines.{box_seen}
 use Rattle.mc_lines.specs.declared.section.Section.{Section}
 use Rattle.mc_net.specs.Nets.{MayHavePrograms, NamesAll, with_programs}

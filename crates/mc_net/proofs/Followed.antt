@@ -23,8 +23,8 @@ use Rattle.mc_net.proofs.TextEnds.{unended_texts}
 use Rattle.mc_net.specs.Followed.{JournalsMayFollow, ended, followed, journal_line, missing_end, up_to_journal}
 use Rattle.mc_net.specs.Texts.{AreSound, Says, bytes_before, declared_after, declared_by, fault_at, text_end, text_lines, up_to}
 use Rattle.mc_plan.specs.Plans.{last_channel}
-use Rattle.mc_program.proofs.KeptRules.{kept_at, others_kept}
-use Rattle.mc_program.specs.Programs.{◌>>=◌, BlockState, block_goal_after, block_link_after, block_when_after, new_block, with_new_part}
+use Rattle.mc_program_lines.proofs.KeptRules.{kept_at, others_kept}
+use Rattle.mc_program_lines.specs.Programs.{◌>>=◌, BlockState, block_goal_after, block_link_after, block_when_after, new_block, with_new_part}
 use Rattle.mc_script.specs.Meaning.{command_by}
 use Rattle.mc_script.specs.Places.{box_named, spelt_value}
 use Rattle.mc_script.specs.Rules.{byte_rules, least_broken}
@@ -34,7 +34,7 @@ use Rattle.mc_text.proofs.Cuts.{first_line, some_pieces}
 use Rattle.mc_text.specs.Lines.{is_line_end, lines, without_empty_last, words}
 use Rattle.mc_text.specs.NameLists.{NameLists}
 
--- ---- lines of a text with more behind it
+-- ---- lines of a text with more after it
 
 -- a byte of the first line, in front of pieces
 onto_piece : (byte : ℕ) (first : List ℕ) (others : List (List ℕ)) → without_empty_last ((byte ∷ first) ∷ others) ≡ onto_first byte (without_empty_last (first ∷ others))
@@ -61,7 +61,7 @@ lines_end byte bytes e = pieces_end is_line_end byte bytes e
 lines_on : (byte : ℕ) (bytes : List ℕ) → is_line_end byte ≡ false → lines (byte ∷ bytes) ≡ onto_first byte (lines bytes)
 lines_on byte bytes e = pieces_on is_line_end byte bytes e
 
--- a byte that goes onto the first of some lines leaves those behind them
+-- a byte that goes onto the first of some lines leaves those after them
 onto_append : (byte : ℕ) (some : List (List ℕ)) (first : List ℕ) (others more : List (List ℕ)) → some ≡ first ∷ others → onto_first byte (some ++ more) ≡ onto_first byte some ++ more
 onto_append byte some first others more is = rw is refl
 
@@ -75,7 +75,7 @@ extent_end some = omega arith
 abbrev end_by : Bool → List ℕ
 end_by ends = if ends then [] else 10 ∷ []
 
--- the lines of a text that is ended stand before those of what is behind it
+-- the lines of a text that is ended stand before those of what is after it
 ended_lines : (text more : List ℕ) → lines (ended text ++ more) ≡ lines text ++ lines more
 ended_lines [] more = refl
 ended_lines (byte ∷ []) more = by (is_line_end byte) refl

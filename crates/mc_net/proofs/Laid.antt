@@ -1,12 +1,12 @@
--- The programs that lines declared: each fits the slots of its box, which is a feature, no two are of one box, and all but one that is open are finished. They come behind the channels.
+-- The programs that lines declared: each fits the slots of its box, which is a feature, no two are of one box, and all but one that is open are finished. They come after the channels.
 use Rattle.std.proofs.Common.{◌≡◌, ◌≢◌, ◌⊎◌, inl, inr, ℕ, zero, suc, ◌+◌, ◌-◌, ◌<◌, ◌≤◌, ◌==◌, ◌||◌, Bool, true, false, List, [], ◌∷◌, ◌++◌, length, map, slice_index_or, slice_set, Option, Some, refl, sym, ap, ◌∙◌, subst, arith, length-append}
 use Rattle.std.proofs.lemmas.Bool.{cases_lt, or_parts}
 use Rattle.std.proofs.lemmas.List.{get_or_append_left, get_or-set_other, length-set, map-append}
 use Rattle.std.proofs.lemmas.List.Elements.{All-head, All-nil, All-push, All-set, All-tail, All-weaker}
 use Rattle.std.specs.List.{All, list_any, slice_get}
 use Rattle.mc_box.specs.BoxShapes.{BoxShapeState, is_feature, shape_of}
-use Rattle.mc_program.specs.BlockLaws.{FitsIn}
-use Rattle.mc_program.specs.Programs.{BlockState, is_unfinished_block, new_block}
+use Rattle.mc_program_lines.specs.BlockLaws.{FitsIn}
+use Rattle.mc_program_lines.specs.Programs.{BlockState, is_unfinished_block, new_block}
 use Rattle.mc_lines.proofs.Blocks.{same_media}
 use Rattle.mc_lines.specs.Meaning.{programmed_shape}
 use Rattle.mc_lines.specs.Rules.{block_in, rank}

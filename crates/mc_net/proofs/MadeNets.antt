@@ -26,7 +26,7 @@ use Rattle.mc_lines.specs.declared.tail.Tail.{Tail}
 use Rattle.mc_net.specs.Texts.{Says}
 use Rattle.mc_lines.specs.declared.limit.TheConstants.{COMMAND_LIMIT}
 use Rattle.mc_net.specs.declared.net.Net.{Net}
-use Rattle.mc_lines.specs.declared.reader.Parts.{Parts}
+use Rattle.mc_lines.specs.declared.reader.Declarations.{Declarations}
 use Rattle.mc_net.proofs.Batches.{few_batches}
 use Rattle.mc_net.proofs.Declaring.{AreOf}
 use Rattle.mc_net.proofs.Enabled.{IsEnabled, IsOfLine, line_enabled, line_named}
@@ -56,7 +56,7 @@ plan_named names plan each known =
     }
 
 -- so has all of a network's
-pub net_named : (tail : Tail) (text : List ℕ) (d : Declared) (parts : Parts) (net : Net) (place : ℕ) → Says tail text d → IsInForm d → AreOf d parts → IsMadeOf parts place net → NamesAll net.names net.world
+pub net_named : (tail : Tail) (text : List ℕ) (d : Declared) (parts : Declarations) (net : Net) (place : ℕ) → Says tail text d → IsInForm d → AreOf d parts → IsMadeOf parts place net → NamesAll net.names net.world
 net_named tail text d parts net place says form are made =
     let runs : IsRunnable d = says_runnable tail text d says in
     rw (made.names, made.world, are.names)
@@ -98,7 +98,7 @@ all_pass test (turn ∷ turns) all =
     rw (All-head (λ turn. IsTrue (test turn)) turn turns all) (all_pass test turns (All-tail (λ turn. IsTrue (test turn)) turn turns all))
 
 -- the first world allows each command of a network
-pub net_allowed : (tail : Tail) (text : List ℕ) (d : Declared) (parts : Parts) (net : Net) (place : ℕ) → Says tail text d → IsInForm d → AreOf d parts → IsMadeOf parts place net → AreAllAllowed net.world (map batch_turns net.batches.items)
+pub net_allowed : (tail : Tail) (text : List ℕ) (d : Declared) (parts : Declarations) (net : Net) (place : ℕ) → Says tail text d → IsInForm d → AreOf d parts → IsMadeOf parts place net → AreAllAllowed net.world (map batch_turns net.batches.items)
 net_allowed tail text d parts net place says form are made =
     let named : NamesAll net.names net.world = net_named tail text d parts net place says form are made in
     let runs : IsRunnable d = says_runnable tail text d says in
@@ -116,7 +116,7 @@ net_allowed tail text d parts net place says form are made =
     by same alike Settle enabled = tt
 
 -- the programs of a text may be laid out
-pub net_programs : (tail : Tail) (text : List ℕ) (d : Declared) (parts : Parts) → Says tail text d → AreOf d parts → MayHavePrograms (world_of parts.plan) parts.blocks.items
+pub net_programs : (tail : Tail) (text : List ℕ) (d : Declared) (parts : Declarations) → Says tail text d → AreOf d parts → MayHavePrograms (world_of parts.plan) parts.blocks.items
 net_programs tail text d parts says are =
     let runs : IsRunnable d = says_runnable tail text d says in
     let shaped : AreShapes d.shape (map box_seen parts.plan.boxes) parts.plan.channels (owners parts.blocks.items) = rw (are.boxes, are.channels, are.blocks) runs.shaped in
@@ -125,7 +125,7 @@ net_programs tail text d parts says are =
     programs_may d.shape parts.plan d.section parts.blocks.items shaped laid finished
 
 -- so a network has no more than commands may be
-pub net_has_few : (tail : Tail) (text : List ℕ) (d : Declared) (parts : Parts) (net : Net) (place : ℕ) → Says tail text d → AreOf d parts → IsMadeOf parts place net → length net.batches.items ≤ COMMAND_LIMIT
+pub net_has_few : (tail : Tail) (text : List ℕ) (d : Declared) (parts : Declarations) (net : Net) (place : ℕ) → Says tail text d → AreOf d parts → IsMadeOf parts place net → length net.batches.items ≤ COMMAND_LIMIT
 net_has_few tail text d parts net place says are made =
     let runs : IsRunnable d = says_runnable tail text d says in
     let listed : length (batches_of parts.commands.items) ≤ length parts.commands.items = few_batches parts.commands.items in

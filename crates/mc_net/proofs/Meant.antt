@@ -18,10 +18,10 @@ use Rattle.mc_lines.specs.declared.section.Section.TheVariants as section
 use Rattle.mc_net.specs.TextLaws.{EachLineDeclares, SoundLinesMean}
 use Rattle.mc_net.specs.Texts.{bytes_before, declared_by}
 use Rattle.mc_plan.specs.Plans.{last_channel}
-use Rattle.mc_program.proofs.KeptRules.{kept_at, others_kept}
-use Rattle.mc_program.specs.Programs.{◌>>=◌, BlockState, PartState, block_goal_after, block_goal_rules, block_link_after, block_link_rules, block_when_after, block_when_rules, goal_rules, in_block, in_part, is_not_next, is_transition, open_part_of, part_goal_after, part_link_after, part_link_rules, part_when_after, part_with_goal, spelt_state, told_after, told_place, waits_for, when_is_rules, when_kind_after, when_kind_rules, when_rules, when_told_rules, with_part, with_transition}
-use Rattle.mc_program.specs.declared.part.WaitWord.{WaitWord}
-use Rattle.mc_program.specs.declared.part.WaitWord.TheVariants as waits
+use Rattle.mc_program_lines.proofs.KeptRules.{kept_at, others_kept}
+use Rattle.mc_program_lines.specs.Programs.{◌>>=◌, BlockState, PartState, block_goal_after, block_goal_rules, block_link_after, block_link_rules, block_when_after, block_when_rules, goal_rules, in_block, in_part, is_not_next, is_transition, open_part_of, part_goal_after, part_link_after, part_link_rules, part_when_after, part_with_goal, spelt_state, told_after, told_place, waits_for, when_is_rules, when_kind_after, when_kind_rules, when_rules, when_told_rules, with_part, with_transition}
+use Rattle.mc_program_lines.specs.declared.part.WaitWord.{WaitWord}
+use Rattle.mc_program_lines.specs.declared.part.WaitWord.TheVariants as waits
 use Rattle.mc_rule.specs.declared.Guard.TheVariants.{SlotIs, Told}
 use Rattle.mc_rule.specs.declared.Rule.{Rule}
 use Rattle.mc_script.specs.Meaning.{at_slot, command_by}

@@ -4,7 +4,7 @@ use Rattle.std.proofs.lemmas.List.Elements.{All-cons, All-nil}
 use Rattle.std.specs.List.{All}
 use Rattle.std.specs.Option.{is_none, unwrap_or}
 use Rattle.mc_text.specs.NameLists.{NameLists, place_of}
-use Rattle.mc_program.proofs.Found.{found_within}
+use Rattle.mc_program_lines.proofs.Found.{found_within}
 use Rattle.mc_lines.specs.Meaning.{codec_number}
 use Rattle.mc_lines.specs.Rules.{lists_undeclared}
 use Rattle.mc_lines.specs.SoFar.{DeclaredBox}

@@ -7,11 +7,11 @@ use Rattle.std.proofs.lemmas.List.Elements.{All-nil}
 use Rattle.std.specs.List.{All, slice_get}
 use Rattle.std.specs.Option.{is_some, option_map}
 use Rattle.mc_model.specs.Worlds.{ChannelState}
-use Rattle.mc_program.proofs.Found.{chained, mapped}
-use Rattle.mc_program.proofs.KeptRules.{kept_at}
-use Rattle.mc_program.specs.Programs.{BlockState, PartState, block_when_after, block_when_rules, in_part, is_transition, open_part_of, part_when_after, told_after, told_place, waits_for, when_kind_after, when_kind_rules, when_rules, when_told_rules, with_part, with_transition}
-use Rattle.mc_program.specs.declared.part.WaitWord.{WaitWord}
-use Rattle.mc_program.specs.declared.part.WaitWord.TheVariants as waits
+use Rattle.mc_program_lines.proofs.Found.{chained, mapped}
+use Rattle.mc_program_lines.proofs.KeptRules.{kept_at}
+use Rattle.mc_program_lines.specs.Programs.{BlockState, PartState, block_when_after, block_when_rules, in_part, is_transition, open_part_of, part_when_after, told_after, told_place, waits_for, when_kind_after, when_kind_rules, when_rules, when_told_rules, with_part, with_transition}
+use Rattle.mc_program_lines.specs.declared.part.WaitWord.{WaitWord}
+use Rattle.mc_program_lines.specs.declared.part.WaitWord.TheVariants as waits
 use Rattle.mc_rule.specs.declared.Guard.TheVariants.{Told}
 use Rattle.mc_rule.specs.declared.Rule.{Rule}
 use Rattle.mc_script.specs.Places.{has, is_misspelt, is_overlong, spelt_value}

@@ -6,10 +6,10 @@ use Rattle.mc_rule.specs.declared.Rule.{Rule}
 use Rattle.mc_rule.specs.declared.Guard.TheVariants.{Told}
 use Rattle.mc_text.specs.NameLists.{NameLists, place_of, with_name, with_told_word}
 use Rattle.mc_script.specs.Places.{spelt_value}
-use Rattle.mc_program.specs.Programs.{BlockState, PartState, block_goal_after, block_link_after, block_when_after, is_transition, open_part_of, part_goal_after, part_link_after, part_when_after, told_after, told_place, waits_for, when_kind_after, with_part, with_transition}
-use Rattle.mc_program.specs.declared.part.WaitWord.{WaitWord}
-use Rattle.mc_program.specs.declared.part.WaitWord.TheVariants as waits
-use Rattle.mc_program.proofs.Found.{chained, mapped}
+use Rattle.mc_program_lines.specs.Programs.{BlockState, PartState, block_goal_after, block_link_after, block_when_after, is_transition, open_part_of, part_goal_after, part_link_after, part_when_after, told_after, told_place, waits_for, when_kind_after, with_part, with_transition}
+use Rattle.mc_program_lines.specs.declared.part.WaitWord.{WaitWord}
+use Rattle.mc_program_lines.specs.declared.part.WaitWord.TheVariants as waits
+use Rattle.mc_program_lines.proofs.Found.{chained, mapped}
 
 -- other told words at most
 pub record TellsMore (old new : NameLists) : Type 0 where

@@ -17,8 +17,8 @@ use Rattle.mc_box.specs.Boxes.{BoxState, goals_in, no_box}
 use Rattle.mc_model.specs.Worlds.{WorldState, box_at}
 use Rattle.mc_plan.specs.Layouts.{box_fault, crosses, has_wrong_goals, links_two_media, medium_of, program_fault, programmed, some_crosses, with_program}
 use Rattle.mc_plan.proofs.Layouts.{IsButFor, boxes_stay}
-use Rattle.mc_program.specs.Finished.{IsProgramFor, program_of}
-use Rattle.mc_program.specs.Programs.{BlockState}
+use Rattle.mc_program_lines.specs.Finished.{IsProgramFor, program_of}
+use Rattle.mc_program_lines.specs.Programs.{BlockState}
 use Rattle.mc_net.specs.Nets.{MayHavePrograms, with_programs}
 use Rattle.mc_net.proofs.Laid.{AreApart, has_owner, owners}
 

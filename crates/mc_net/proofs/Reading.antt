@@ -9,7 +9,7 @@ use Rattle.mc_lines.specs.SoFar.{Declared}
 use Rattle.mc_lines.specs.declared.tail.Tail.{Tail}
 use Rattle.mc_lines.specs.declared.tail.Tail.TheVariants.{Nothing, Journal}
 use Rattle.mc_lines.proofs.Tails.{tail_stays}
-use Rattle.mc_program.proofs.KeptRules.{first_kept}
+use Rattle.mc_program_lines.proofs.KeptRules.{first_kept}
 use Rattle.mc_net.specs.Reading.{ReadsHere, fault_behind, last_fault}
 use Rattle.mc_net.specs.declared.fault.NetFault.{NetFault}
 use Rattle.mc_net.specs.declared.fault.NetFault.TheVariants.{Line, NoMemory}
@@ -38,7 +38,7 @@ at_place [] x others (suc k) default here = absurd cc
 at_place (y ∷ ys) x others zero default here = cc
 at_place (y ∷ ys) x others (suc k) default here = at_place ys x others k default here
 
--- the lines behind it
+-- the lines after it
 behind_place : {A : Type 0} (xs : List A) (x : A) (others : List A) (k : ℕ) → x ∷ others ≡ drop k xs → others ≡ drop (suc k) xs
 behind_place [] x others zero here = absurd cc
 behind_place [] x others (suc k) here = absurd cc
@@ -85,7 +85,7 @@ not_past tail total before d line same kept =
     subst (λ (t : Tail). passes_limit (text_limit t) total before line ≡ false) same
     (first_kept 1 (passes_limit (text_limit d.tail) total before line) (byte_rules line ++ line_words_rules (is_skipped (words line)) d (words line)) kept)
 
--- a line that doesn't pass the limit leaves less than the limit behind it
+-- a line that doesn't pass the limit leaves less than the limit after it
 short_still : (limit total before line : ℕ) → (nat_lt limit total && nat_le before limit && nat_le limit (before + line)) ≡ false → limit < total → before ≤ limit → before + (line + 1) ≤ limit
 short_still limit total before line kept long short =
     let below : before + line < limit = grind arith in
@@ -160,7 +160,7 @@ refused_at_end tail text number before d broken read found =
     subst (λ (n : ℕ). IsFault tail text broken n) counted
     (at_end (subst (λ (n : ℕ). AreSound tail (length text) (text_lines tail text) n) all read.sound) (rw (← all, ← read.declared) found))
 
--- the fault behind the last line is that of the text
+-- the fault after the last line is that of the text
 pub refused_behind : (tail : Tail) (text : List ℕ) (number before : ℕ) (d : Declared) (fault : TextFault) → HasRead tail text number before d [] → last_fault d number ≡ Some fault → IsFault tail text fault.number fault.line
 refused_behind tail text number before d fault read found = by (end_fault d) refl found
   where
@@ -180,7 +180,7 @@ says_it tail text number before d read ended =
       declared = rw (← all) read.declared;
     }
 
--- where there is none behind the last line, that is so
+-- where there is none after the last line, that is so
 pub says_all : (tail : Tail) (text : List ℕ) (number before : ℕ) (d : Declared) → HasRead tail text number before d [] → last_fault d number ≡ None → Says tail text d
 says_all tail text number before d read none = by (end_fault d) refl none
   where
@@ -190,7 +190,7 @@ says_all tail text number before d read none = by (end_fault d) refl none
 
 -- ---- where the text ends
 
--- what isn't read begins behind the last line
+-- what isn't read begins after the last line
 pub ends_there : (tail : Tail) (text : List ℕ) (number before : ℕ) (d : Declared) → HasRead tail text number before d [] → min before (length text) ≡ text_end tail text
 ends_there tail text number before d read =
     let all : read.count ≡ length (text_lines tail text) = all_read (text_lines tail text) read.count read.rest read.so_far in
@@ -202,7 +202,7 @@ pub lines_of_rest : (test : List ℕ → Bool) (ends : Bool) (rest others : List
 lines_of_rest test true rest others is = rw is refl
 lines_of_rest test false rest others is = rw is refl
 
--- some bytes that are still to be read are those behind the line
+-- some bytes that are still to be read are those after the line
 pub rest_is : (ends : Bool) (rest others : List ℕ) → rest ≡ (if ends then [] else others) → 0 < length rest → rest ≡ others
 rest_is true rest others is some = absurd (let none : 0 < 0 = rw is at some in omega arith)
 rest_is false rest others is some = is

@@ -12,8 +12,8 @@ use Rattle.mc_text.specs.NameLists.{AreNames, NameLists, no_names, slot_names, w
 use Rattle.mc_box.specs.BoxShapes.{BoxShapeState, is_feature, shape_of}
 use Rattle.mc_model.specs.Worlds.{ChannelState}
 use Rattle.mc_plan.specs.Plans.{channel_between, last_channel, next_tunnel, no_channel, with_one_more}
-use Rattle.mc_program.specs.Programs.{BlockState, block_goal_after, block_goal_rules, block_link_after, block_link_rules, block_when_after, block_when_rules, has_program, in_block, new_block, new_part_rules, with_new_part}
-use Rattle.mc_program.specs.WordLists.{has_repeat}
+use Rattle.mc_program_lines.specs.Programs.{BlockState, block_goal_after, block_goal_rules, block_link_after, block_link_rules, block_when_after, block_when_rules, has_program, in_block, new_block, new_part_rules, with_new_part}
+use Rattle.mc_program_lines.specs.WordLists.{has_repeat}
 use Rattle.mc_text.specs.Spelling.{is_spelt}
 use Rattle.mc_script.specs.Meaning.{command_by}
 use Rattle.mc_script.specs.Places.{Fits, are_same, box_named, has, is_misspelt, is_no, is_overlong, spelt_value}
@@ -33,15 +33,15 @@ use Rattle.mc_lines.specs.declared.section.Section.{Section}
 use Rattle.mc_lines.specs.declared.section.Section.TheVariants as section
 use Rattle.mc_net.proofs.Enabled.{IsOfLine}
 use Rattle.mc_lines.proofs.FirstBroken.{all_before, all_behind, has_room}
-use Rattle.mc_program.proofs.KeptRules.{kept_at, others_kept}
+use Rattle.mc_program_lines.proofs.KeptRules.{kept_at, others_kept}
 use Rattle.mc_net.proofs.Unfinished.{none_open}
 use Rattle.mc_lines.specs.Forms.{IsInForm, NamesEach}
 use Rattle.mc_lines.proofs.Blocks.{fits_program}
 use Rattle.mc_lines.proofs.Fitting.{in_form_with_box}
 use Rattle.mc_lines.proofs.Joining.{in_form_with_channel, in_form_with_tunnel}
-use Rattle.mc_program.proofs.Blocks.{goal_lines_fit, link_lines_fit, new_parts_fit, new_programs_fit, when_lines_fit}
-use Rattle.mc_program.proofs.Found.{chained, mapped, named_within}
-use Rattle.mc_program.specs.BlockLaws.{FitsIn}
+use Rattle.mc_program_lines.proofs.Blocks.{goal_lines_fit, link_lines_fit, new_parts_fit, new_programs_fit, when_lines_fit}
+use Rattle.mc_program_lines.proofs.Found.{chained, mapped, named_within}
+use Rattle.mc_program_lines.specs.BlockLaws.{FitsIn}
 use Rattle.mc_net.proofs.Laid.{AllFinished, AreLaid, all_finished, has_owner, laid_behind, laid_more, laid_open, none_laid, open_is_last, owner_there, block_there, owners, same_owners}
 use Rattle.mc_net.proofs.OpenBlocks.{TellsMore, goal_keeps_box, link_keeps_box, tells_none, when_names}
 use Rattle.mc_net.proofs.Named.{HasCodecs, numbers_known}

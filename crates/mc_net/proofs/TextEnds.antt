@@ -1,4 +1,4 @@
--- Where a text ends, and which lines stand behind it.
+-- Where a text ends, and which lines stand after it.
 use Rattle.std.proofs.Common.{◌≡◌, ℕ, zero, suc, ◌+◌, ◌<◌, ◌≤◌, Bool, true, false, not, if◌then◌else◌, List, [], ◌∷◌, ◌++◌, length, drop, min, refl, sym, ap, ◌∙◌, arith}
 use Rattle.std.proofs.Math.Nat.{min-eq_right}
 use Rattle.std.proofs.lemmas.Grind.{common_steps}
@@ -39,9 +39,9 @@ unended_texts text =
     let all : bytes_before (lines text) (length (lines text)) ≡ extent (lines text) = all_bytes (lines text) in
     (same, ap (λ (ls : List (List ℕ)). min (bytes_before ls (length ls)) (length text)) same ∙ ap (λ (n : ℕ). min n (length text)) all ∙ min-eq_right (lines_have_all text))
 
--- ---- the lines behind a text
+-- ---- the lines after a text
 
--- what stands behind the first line, and more bytes
+-- what stands after the first line, and more bytes
 behind_first : (p : ℕ → Bool) (bytes : List ℕ) (more : ℕ) → drop (length (before_first p bytes) + 1 + more) bytes ≡ drop more (after_first p bytes)
 behind_first p bytes more =
     let within : position_or_len p bytes ≤ length bytes = prefix_len-le-length (λ x. not (p x)) bytes in
@@ -51,7 +51,7 @@ behind_first p bytes more =
 shorter_behind : (p : ℕ → Bool) (bytes : List ℕ) (most : ℕ) → 0 < length bytes → length bytes ≤ suc most → length (after_first p bytes) ≤ most
 shorter_behind p bytes most some few = grind (arith, common_steps)
 
--- the lines behind those that a test leaves
+-- the lines after those that a test leaves
 left_behind : (test : List ℕ → Bool) (most : ℕ) (text : List ℕ) → length text ≤ most → lines text ≡ up_to test (lines text) ++ lines (drop (extent (up_to test (lines text))) text)
 left_behind test most [] few = refl
 left_behind test zero (byte ∷ bytes) few = absurd (omega arith)

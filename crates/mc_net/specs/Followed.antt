@@ -28,6 +28,10 @@ up_to_journal text = ended text ++ journal_line
 abbrev pub followed : List ℕ → (journal : List ℕ) → List ℕ
 followed text journal = up_to_journal text ++ journal
 
--- what a text declares where nothing may stand after its commands, it declares with any journal there, too, which begins behind the line `journal`
+-- what a text declares where nothing may stand after its commands, it declares with any journal there, too, which
+-- begins after the line `journal`
 abbrev pub JournalsMayFollow : Type 0
-JournalsMayFollow = (text journal : List ℕ) (net : Net) → DeclaresNet Nothing text net → length (followed text journal) ≤ text_limit Journal → DeclaresNet Journal (followed text journal) (record net { rest = length (up_to_journal text) })
+JournalsMayFollow =
+    (text journal : List ℕ) (net : Net) → DeclaresNet Nothing text net
+    → length (followed text journal) ≤ text_limit Journal
+    → DeclaresNet Journal (followed text journal) (record net { rest = length (up_to_journal text) })

@@ -8,8 +8,8 @@ use Rattle.mc_model.specs.Worlds.{WorldState, box_at}
 use Rattle.mc_rule.specs.Programs.{IsProgram}
 use Rattle.mc_plan.specs.Layouts.{program_fault, with_program}
 use Rattle.mc_plan.specs.Plans.{PlanState, world_of}
-use Rattle.mc_program.specs.Finished.{program_of}
-use Rattle.mc_program.specs.Programs.{BlockState}
+use Rattle.mc_program_lines.specs.Finished.{program_of}
+use Rattle.mc_program_lines.specs.Programs.{BlockState}
 use Rattle.mc_box.specs.declared.event.Turn.{Turn}
 pub use Rattle.mc_script.specs.Batches.{batch_turns}
 use Rattle.mc_script.specs.declared.command.Command.{Command}
@@ -22,7 +22,7 @@ use Rattle.mc_lines.specs.SoFar.{Declared}
 use Rattle.mc_lines.specs.declared.tail.Tail.{Tail}
 use Rattle.mc_net.specs.Texts.{Says, text_end}
 use Rattle.mc_net.specs.declared.net.Net.{Net}
-use Rattle.mc_lines.specs.declared.reader.Parts.{Parts}
+use Rattle.mc_lines.specs.declared.reader.Declarations.{Declarations}
 
 -- ---- batches
 
@@ -31,7 +31,7 @@ abbrev pub before_next : Turn → List (List Turn) → List (List Turn)
 before_next turn [] = []
 before_next turn (batch ∷ batches) = (turn ∷ batch) ∷ batches
 
--- one batch for each settle, with the commands before it; those behind the last settle are in none
+-- one batch for each settle, with the commands before it; those after the last settle are in none
 abbrev pub batches_of : List Command → List (List Turn)
 batches_of [] = []
 batches_of (Stimulus turn ∷ commands) = before_next turn (batches_of commands)
@@ -47,17 +47,20 @@ with_programs first (block ∷ blocks) = with_programs (with_program first block
 -- one after the other, each of these blocks may
 abbrev pub MayHavePrograms : WorldState → List BlockState → Type 0
 MayHavePrograms first [] = Unit {0}
-MayHavePrograms first (block ∷ blocks) = IsProgram (program_of block) × (program_fault first block.who (program_of block) ≡ None) × MayHavePrograms (with_program first block.who (program_of block)) blocks
+MayHavePrograms first (block ∷ blocks) =
+    IsProgram (program_of block) × (program_fault first block.who (program_of block) ≡ None)
+    × MayHavePrograms (with_program first block.who (program_of block)) blocks
 
 -- the network is of these parts: its world is the first one of the plan, with their programs
-pub record IsMadeOf (parts : Parts) (place : ℕ) (net : Net) : Type 0 where
+pub record IsMadeOf (parts : Declarations) (place : ℕ) (net : Net) : Type 0 where
   pub world : net.world ≡ with_programs (world_of parts.plan) parts.blocks.items
   pub names : net.names ≡ parts.names
   pub shape : net.shape ≡ parts.shape
   pub batches : map batch_turns net.batches.items ≡ batches_of parts.commands.items
   pub rest : net.rest ≡ place
 
--- the first world of what was declared: that of a plan with the declared boxes and channels, in which each program is the declared one
+-- the first world of what was declared: that of a plan with the declared boxes and channels, in which each program is
+-- the declared one
 pub record IsFirstWorld (d : Declared) (first : WorldState) : Type 0 where
   pub plan : PlanState
   pub boxes : map box_seen plan.boxes ≡ d.boxes
@@ -96,7 +99,8 @@ pub record NamesAll (names : NameLists) (world : WorldState) : Type 0 where
 abbrev pub IsSayable : NameLists → List BoxShapeState → Turn → Type 0
 IsSayable names shape turn = IsNamed names (Stimulus turn) × Allows shape (Stimulus turn)
 
--- names are names, none of them twice, and the shapes fit them; all of the world has them; and so has what each command is about, which shapes allow
+-- names are names, none of them twice, and the shapes fit them; all of the world has them; and so has what each command
+-- is about, which shapes allow
 pub record IsWellNamed (net : Net) : Type 0 where
   pub names : HaveNames net.names
   pub fits : Fits net.names net.shape

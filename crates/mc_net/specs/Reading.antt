@@ -9,10 +9,13 @@ use Rattle.mc_net.specs.declared.fault.NetFault.TheVariants.{Line, NoMemory}
 use Rattle.mc_net.specs.declared.fault.TextFault.{TextFault}
 use Rattle.mc_net.specs.declared.text.Place.{Place}
 
--- of a text of `total` bytes, the line at a place breaks no rule, and this is what is declared after it; or it breaks one
+-- of a text of `total` bytes, the line at a place breaks no rule, and this is what is declared after it; or it breaks
+-- one
 abbrev pub ReadsHere : ℕ → Place → Declared → List ℕ → Result (Unit {0}) NetFault → Declared → Type 0
-ReadsHere total place d line (Ok done) now = (line_fault total place.before d line ≡ None) × (line_after d line ≡ Some now) × IsInForm now
-ReadsHere total place d line (Err (Line fault)) now = (line_fault total place.before d line ≡ Some fault.number) × (fault.line ≡ place.line)
+ReadsHere total place d line (Ok done) now =
+    (line_fault total place.before d line ≡ None) × (line_after d line ≡ Some now) × IsInForm now
+ReadsHere total place d line (Err (Line fault)) now =
+    (line_fault total place.before d line ≡ Some fault.number) × (fault.line ≡ place.line)
 ReadsHere total place d line (Err (NoMemory e)) now = Unit {0}
 
 -- the fault of the end, which counts as a line of this number

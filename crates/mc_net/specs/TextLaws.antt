@@ -1,4 +1,6 @@
--- Laws of texts: each says something or has a fault, and never both, nor two faults. A line that breaks no rule means something. The first bytes of a long text show its fault. A text declares one network. It says which boxes have programs, and names all of its network.
+-- Laws of texts: each says something or has a fault, and never both, nor two faults. A line that breaks no rule means
+-- something. The first bytes of a long text show its fault. A text declares one network. It says which boxes have
+-- programs, and names all of its network.
 use Rattle.std.specs.Prelude.{ℕ, suc, ◌≡◌, ◌⊎◌, ◌++◌, IsSome, List, [], None, Some, drop, length, map, slice_index_or, take}
 use Rattle.mc_text.specs.Lines.{lines}
 use Rattle.mc_lines.specs.Meaning.{line_after}
@@ -8,30 +10,40 @@ use Rattle.mc_model.specs.Unprogrammed.{HasNoPrograms}
 use Rattle.mc_model.specs.Worlds.{WorldState}
 use Rattle.mc_lines.specs.declared.tail.Tail.{Tail}
 use Rattle.mc_lines.specs.declared.tail.Tail.TheVariants.{Nothing}
-use Rattle.mc_program.specs.Programs.{BlockState}
+use Rattle.mc_program_lines.specs.Programs.{BlockState}
 use Rattle.mc_net.specs.Nets.{DeclaresBlocks, DeclaresNet, IsFirstWorld, IsUnprogrammed, IsWellNamed, batch_turns}
 use Rattle.mc_net.specs.Texts.{IsFault, Says, declared_by, fault_at, text_end, text_lines}
 use Rattle.mc_net.specs.declared.net.Net.{Net}
 
 -- a text that says something has no fault
 abbrev pub DeclaresOrFaults : Type 0
-DeclaresOrFaults = (tail : Tail) (text : List ℕ) (d : Declared) (number line : ℕ) → Says tail text d → IsFault tail text number line → ⊥
+DeclaresOrFaults =
+    (tail : Tail) (text : List ℕ) (d : Declared) (number line : ℕ) → Says tail text d → IsFault tail text number line
+    → ⊥
 
 -- a text has no two faults
 abbrev pub OneFault : Type 0
-OneFault = (tail : Tail) (text : List ℕ) (number line other_number other_line : ℕ) → IsFault tail text number line → IsFault tail text other_number other_line → (number ≡ other_number) × (line ≡ other_line)
+OneFault =
+    (tail : Tail) (text : List ℕ) (number line other_number other_line : ℕ) → IsFault tail text number line
+    → IsFault tail text other_number other_line → (number ≡ other_number) × (line ≡ other_line)
 
 -- a text says something, or it has a fault
 abbrev pub OneOrTheOther : Type 0
-OneOrTheOther = (tail : Tail) (text : List ℕ) → ((d : Declared) × Says tail text d) ⊎ ((number : ℕ) × (line : ℕ) × IsFault tail text number line)
+OneOrTheOther =
+    (tail : Tail) (text : List ℕ)
+    → ((d : Declared) × Says tail text d) ⊎ ((number : ℕ) × (line : ℕ) × IsFault tail text number line)
 
 -- a line that breaks no rule means something, whatever was declared before it
 abbrev pub SoundLinesMean : Type 0
-SoundLinesMean = (total before : ℕ) (d : Declared) (line : List ℕ) → line_fault total before d line ≡ None → IsSome (line_after d line)
+SoundLinesMean =
+    (total before : ℕ) (d : Declared) (line : List ℕ) → line_fault total before d line ≡ None
+    → IsSome (line_after d line)
 
--- so what lines declare, up to one that breaks no rule, is what this one means behind those before it
+-- so what lines declare, up to one that breaks no rule, is what this one means after those before it
 abbrev pub EachLineDeclares : Type 0
-EachLineDeclares = (tail : Tail) (total : ℕ) (lines : List (List ℕ)) (k : ℕ) → fault_at tail total lines k ≡ None → line_after (declared_by tail lines k) (slice_index_or lines k []) ≡ Some (declared_by tail lines (suc k))
+EachLineDeclares =
+    (tail : Tail) (total : ℕ) (lines : List (List ℕ)) (k : ℕ) → fault_at tail total lines k ≡ None
+    → line_after (declared_by tail lines k) (slice_index_or lines k []) ≡ Some (declared_by tail lines (suc k))
 
 -- the bytes up to the one with which a text passes its limit
 abbrev pub first_bytes : Tail → List ℕ → List ℕ
@@ -39,26 +51,31 @@ first_bytes tail text = take (read_limit tail) text
 
 -- the fault of the first bytes is that of the whole text
 abbrev pub FaultsOfTheFirstBytes : Type 0
-FaultsOfTheFirstBytes = (tail : Tail) (text : List ℕ) (number line : ℕ) → IsFault tail (first_bytes tail text) number line → IsFault tail text number line
+FaultsOfTheFirstBytes =
+    (tail : Tail) (text : List ℕ) (number line : ℕ) → IsFault tail (first_bytes tail text) number line
+    → IsFault tail text number line
 
 -- the network that the first bytes declare is that of the whole text
 abbrev pub NetsOfTheFirstBytes : Type 0
-NetsOfTheFirstBytes = (tail : Tail) (text : List ℕ) (net : Net) → DeclaresNet tail (first_bytes tail text) net → DeclaresNet tail text net
+NetsOfTheFirstBytes =
+    (tail : Tail) (text : List ℕ) (net : Net) → DeclaresNet tail (first_bytes tail text) net → DeclaresNet tail text net
 
 -- and so are the blocks of its programs
 abbrev pub BlocksOfTheFirstBytes : Type 0
 BlocksOfTheFirstBytes = (tail : Tail) (text : List ℕ) (given : List BlockState)
     → DeclaresBlocks tail (first_bytes tail text) given → DeclaresBlocks tail text given
 
--- first bytes that say something are the whole text, where nothing stands behind the commands
+-- first bytes that say something are the whole text, where nothing stands after the commands
 abbrev pub SaysTheWhole : Type 0
-SaysTheWhole = (text : List ℕ) (d : Declared) → Says Nothing (first_bytes Nothing text) d → first_bytes Nothing text ≡ text
+SaysTheWhole =
+    (text : List ℕ) (d : Declared) → Says Nothing (first_bytes Nothing text) d → first_bytes Nothing text ≡ text
 
--- behind the last line of a text stand the other lines
+-- after the last line of a text stand the other lines
 abbrev pub LinesBehind : Type 0
-LinesBehind = (tail : Tail) (text : List ℕ) → lines text ≡ text_lines tail text ++ lines (drop (text_end tail text) text)
+LinesBehind =
+    (tail : Tail) (text : List ℕ) → lines text ≡ text_lines tail text ++ lines (drop (text_end tail text) text)
 
--- where nothing may stand behind the commands, a text has all lines, and its end is that of the bytes
+-- where nothing may stand after the commands, a text has all lines, and its end is that of the bytes
 abbrev pub UnendedTexts : Type 0
 UnendedTexts = (text : List ℕ) → (text_lines Nothing text ≡ lines text) × (text_end Nothing text ≡ length text)
 
@@ -80,7 +97,9 @@ pub record IsSameNet (net other : Net) : Type 0 where
 
 -- a text declares one network
 abbrev pub OneNet : Type 0
-OneNet = (tail : Tail) (text : List ℕ) (net other : Net) → DeclaresNet tail text net → DeclaresNet tail text other → IsSameNet net other
+OneNet =
+    (tail : Tail) (text : List ℕ) (net other : Net) → DeclaresNet tail text net → DeclaresNet tail text other
+    → IsSameNet net other
 
 -- where no program was declared, no box of the first world has one
 abbrev pub UnprogrammedTexts : Type 0

@@ -16,7 +16,7 @@ abbrev pub up_to : (List ℕ → Bool) → List (List ℕ) → List (List ℕ)
 up_to ends [] = []
 up_to ends (line ∷ others) = line ∷ (if ends line then [] else up_to ends others)
 
--- the lines of a text: where a journal may stand behind its commands, none behind the one that ends them
+-- the lines of a text: where a journal may stand after its commands, none after the one that ends them
 abbrev pub text_lines : Tail → List ℕ → List (List ℕ)
 text_lines tail text = up_to (ends_commands tail) (lines text)
 
@@ -36,13 +36,14 @@ abbrev pub bytes_before : List (List ℕ) → ℕ → ℕ
 bytes_before lines zero = 0
 bytes_before lines (suc k) = bytes_before lines k + (length (slice_index_or lines k []) + 1)
 
--- where the line behind the last of a text begins, which is the end of the text where there is none
+-- where the line after the last of a text begins, which is the end of the text where there is none
 abbrev pub text_end : Tail → List ℕ → ℕ
 text_end tail text = min (bytes_before (text_lines tail text) (length (text_lines tail text))) (length text)
 
 -- the least number of the rules that the line at an index breaks, of a text with so many bytes
 abbrev pub fault_at : Tail → ℕ → List (List ℕ) → ℕ → Option ℕ
-fault_at tail total lines k = line_fault total (bytes_before lines k) (declared_by tail lines k) (slice_index_or lines k [])
+fault_at tail total lines k =
+    line_fault total (bytes_before lines k) (declared_by tail lines k) (slice_index_or lines k [])
 
 -- no line before an index breaks a rule
 abbrev pub AreSound : Tail → ℕ → List (List ℕ) → ℕ → Type 0
@@ -50,10 +51,15 @@ AreSound tail total lines count = (k : ℕ) → k < count → fault_at tail tota
 
 -- ---- a whole text
 
--- the text's first fault: a line, by its number from 1, breaks the rule of this number and none with a lesser one, and no line before it breaks a rule. The end counts as one more line
+-- the text's first fault: a line, by its number from 1, breaks the rule of this number and none with a lesser one, and
+-- no line before it breaks a rule. The end counts as one more line
 pub data IsFault (tail : Tail) (text : List ℕ) : ℕ → ℕ → Type 0 where
-  at_line : {number : ℕ} (k : ℕ) → k < length (text_lines tail text) → AreSound tail (length text) (text_lines tail text) k → fault_at tail (length text) (text_lines tail text) k ≡ Some number → IsFault tail text number (k + 1)
-  at_end : {number : ℕ} → AreSound tail (length text) (text_lines tail text) (length (text_lines tail text)) → end_fault (declared_by tail (text_lines tail text) (length (text_lines tail text))) ≡ Some number → IsFault tail text number (length (text_lines tail text) + 1)
+  at_line : {number : ℕ} (k : ℕ) → k < length (text_lines tail text)
+      → AreSound tail (length text) (text_lines tail text) k
+      → fault_at tail (length text) (text_lines tail text) k ≡ Some number → IsFault tail text number (k + 1)
+  at_end : {number : ℕ} → AreSound tail (length text) (text_lines tail text) (length (text_lines tail text))
+      → end_fault (declared_by tail (text_lines tail text) (length (text_lines tail text))) ≡ Some number
+      → IsFault tail text number (length (text_lines tail text) + 1)
 
 -- the text is in the grammar, and this is what it declares
 pub record Says (tail : Tail) (text : List ℕ) (d : Declared) : Type 0 where

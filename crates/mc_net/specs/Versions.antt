@@ -9,9 +9,12 @@ use Rattle.mc_lines.specs.SoFar.{Declared}
 
 -- the first version of each slot and its Hears up to the last settle don't pass the last version together
 abbrev pub MeetsNoLast : Declared → Type 0
-MeetsNoLast d = (who local : ℕ) → (declared_at d.boxes who).version + hears_in who local (batches_of d.commands) ≤ LAST_VERSION
+MeetsNoLast d =
+    (who local : ℕ) → (declared_at d.boxes who).version + hears_in who local (batches_of d.commands) ≤ LAST_VERSION
 
 -- in the first world each slot has the version that the line of its box says
 abbrev pub FirstVersions : Type 0
-FirstVersions = (d : Declared) (world : WorldState) (who local : ℕ) → IsFirstWorld d world → who < length world.boxes → local < length (box_at world who).slots
+FirstVersions =
+    (d : Declared) (world : WorldState) (who local : ℕ) → IsFirstWorld d world → who < length world.boxes
+    → local < length (box_at world who).slots
     → version_at world who local ≡ (declared_at d.boxes who).version

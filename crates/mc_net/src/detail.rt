@@ -11,7 +11,7 @@ ghost use Rattle.mc_net.specs.Texts.{IsFault, declared_by, text_lines};
 use crate::fault::TextFault;
 use crate::text::{Place, still_to_read};
 use mc_lines::{Detail, Reader, Tail};
-use mc_program::ReadFault;
+use mc_program_lines::ReadFault;
 use mc_text::next_line;
 use std::alloc::{AllocError, Global};
 

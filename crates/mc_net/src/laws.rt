@@ -31,7 +31,7 @@ pub fn sound_lines_mean()
 {}
 
 /// Of a text that is too long, the bytes up to the one with which it passes the limit have the fault of the whole, or
-/// declare its network and the blocks of its programs. Where they declare one and no journal may stand behind the
+/// declare its network and the blocks of its programs. Where they declare one and no journal may stand after the
 /// commands, there are no others.
 pub fn faults_of_the_first_bytes()
     ensures faults { FaultsOfTheFirstBytes }
@@ -40,12 +40,12 @@ pub fn faults_of_the_first_bytes()
     ensures whole { SaysTheWhole }
 {}
 
-/// What stands behind the line that ends the commands of a text are its other lines.
+/// What stands after the line that ends the commands of a text are its other lines.
 pub fn lines_behind()
     ensures { LinesBehind }
 {}
 
-/// Where nothing may stand behind the commands, each line is one of the text's, and the text ends where its bytes do.
+/// Where nothing may stand after the commands, each line is one of the text's, and the text ends where its bytes do.
 pub fn unended_texts()
     ensures { UnendedTexts }
 {}

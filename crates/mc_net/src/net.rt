@@ -5,7 +5,7 @@ ghost use Rattle.mc_model.specs.Shapes.{AreAllAllowed};
 ghost use Rattle.mc_plan.specs.Plans.{world_of};
 ghost use Rattle.mc_net.specs.Nets.{DeclaresBlocks, DeclaresNet, IsMadeOf, MayHavePrograms, NamesAll, batches_of, batch_turns, with_programs};
 ghost use Rattle.mc_plan.specs.Layouts.{program_fault, with_program};
-ghost use Rattle.mc_program.specs.Finished.{program_of};
+ghost use Rattle.mc_program_lines.specs.Finished.{program_of};
 ghost use Rattle.mc_rule.specs.Programs.{IsProgram};
 ghost use Rattle.mc_net.specs.Texts.{RefusesText};
 
@@ -13,16 +13,16 @@ use crate::fault::NetFault;
 use crate::text::read_text;
 use mc_box::Shape;
 use mc_lines::limit::COMMAND_LIMIT;
-use mc_lines::{Parts, Tail};
+use mc_lines::{Declarations, Tail};
 use mc_plan::{Layout, Plan};
-use mc_program::Block;
+use mc_program_lines::Block;
 use mc_script::{Batch, Command};
 use mc_text::Names;
 use mc_world::World;
 use std::alloc::{AllocError, Global};
 
 /// The network that a text declares: its first world, the names and shapes of its boxes, and the commands up to each
-/// settle. `rest` is where the line behind the one that ends the commands begins, and else the end of the text.
+/// settle. `rest` is where the line after the one that ends the commands begins, and else the end of the text.
 #[derive(Drop)]
 pub struct Net {
     pub world: World,
@@ -32,8 +32,8 @@ pub struct Net {
     pub rest: usize,
 }
 
-/// Reads a text, and makes the network that it declares. Where a journal may stand behind the commands, nothing is
-/// read behind the line `journal` that ends them.
+/// Reads a text, and makes the network that it declares. Where a journal may stand after the commands, nothing is
+/// read after the line `journal` that ends them.
 pub fn read_net(alloc: Global, text: &[u8], tail: Tail) -> Result<Net, NetFault>
     ensures declares { IfOk result (DeclaresNet tail text.now) }
     ensures named { IfOk result (λ net. NamesAll net.names net.world) }
@@ -48,13 +48,13 @@ pub fn read_net(alloc: Global, text: &[u8], tail: Tail) -> Result<Net, NetFault>
 }
 
 /// Reads a text, and answers the blocks of lines with the programs that it declares: one for each box with a program.
-/// Where a journal may stand behind the commands, nothing is read behind the line `journal` that ends them.
+/// Where a journal may stand after the commands, nothing is read after the line `journal` that ends them.
 pub fn read_blocks(alloc: Global, text: &[u8], tail: Tail) -> Result<Vec<Block>, NetFault>
     ensures declares { IfOk result (λ blocks. DeclaresBlocks tail text.now blocks.items) }
     ensures refused { IfErr result (RefusesText tail text.now) }
 {
     let (reader, _) = read_text(alloc, text, tail)?;
-    let Parts {
+    let Declarations {
         names,
         shape,
         plan,
@@ -70,11 +70,11 @@ pub fn read_blocks(alloc: Global, text: &[u8], tail: Tail) -> Result<Vec<Block>,
 }
 
 // The network of what a text declares.
-fn make_net(alloc: Global, parts: Parts, rest: usize) -> Result<Net, AllocError>
+fn make_net(alloc: Global, parts: Declarations, rest: usize) -> Result<Net, AllocError>
     requires { MayHavePrograms (world_of parts.plan) parts.blocks.items }
     ensures { IfOk result (IsMadeOf parts rest) }
 {
-    let Parts {
+    let Declarations {
         names,
         shape,
         plan,

@@ -9,7 +9,7 @@ ghost use Rattle.mc_net.specs.Texts.{RefusesText, Says, text_end};
 
 use crate::fault::{NetFault, TextFault};
 use mc_lines::{Reader, Tail, ends_commands};
-use mc_program::ReadFault;
+use mc_program_lines::ReadFault;
 use mc_text::next_line;
 use std::alloc::Global;
 
@@ -21,7 +21,7 @@ pub struct Place {
 }
 
 impl Place {
-    /// The place behind a line of these bytes.
+    /// The place after a line of these bytes.
     pub fn behind(self, line: &[u8]) -> Place
         requires short { self.before + length line.now + 1 < 2 ^ 64 }
         requires few { self.line + 1 < 2 ^ 32 }
@@ -77,7 +77,7 @@ fn read_lines(reader: &mut Reader, text: &[u8], tail: Tail) -> Result<usize, Net
     }
 }
 
-/// What is to be read behind a line, of the bytes that stand behind it: none where the line ends the commands.
+/// What is to be read after a line, of the bytes that stand after it: none where the line ends the commands.
 pub fn still_to_read<'a>(tail: Tail, line: &[u8], others: &'a [u8]) -> &'a [u8]
     ensures rest { result.now ≡ if ends_commands tail line.now then [] else others.now }
     ensures shorter { length result.now ≤ length others.now }
@@ -104,7 +104,7 @@ fn read_here(reader: &mut Reader, total: usize, place: Place, line: &[u8]) -> Re
     }
 }
 
-// The fault of a text whose lines break no rule: that of its end, by the number of the line behind the last.
+// The fault of a text whose lines break no rule: that of its end, by the number of the line after the last.
 fn last_fault(reader: &Reader, end: u32) -> Option<TextFault>
     ensures { result ≡ last_fault reader.now end }
 {

@@ -6,7 +6,7 @@ use Rattle.mc_signal.specs.declared.Medium.{Medium}
 use Rattle.mc_signal.specs.declared.Medium.TheVariants.{Audio}
 use Rattle.mc_signal.specs.declared.Signal.{Signal}
 use Rattle.mc_slot.specs.declared.Slot.{Slot}
-use Rattle.mc_tunnel.proofs.Steps.{took_medium}
+use Rattle.mc_slot_laws.proofs.Steps.{took_medium}
 use Rattle.mc_box.specs.Acting.{Acted, BoxActs, sends, takes}
 use Rattle.mc_box.specs.BoxEvents.{BoxStep, box_event}
 use Rattle.mc_box.specs.BoxShapes.{box_shape}

@@ -73,7 +73,8 @@ pub record IsAtLast (state : NetworkState) (at : ℕ × ℕ) : Type 0 where
   pub next : slice_get (state.stimuli at.0) 0 ≡ Some (Media (Hear at.1 on))
   pub lacks : LacksVersion state.world (turn_of at.0 (Media (Hear at.1 on)))
 
--- something is to do: a command, a Shift that a box may make, a signal that is under way, or a retry that is owed, where
+-- something is to do: a command, a Shift that a box may make, a signal that is under way, or a retry that is owed,
+-- where
 -- they are asked for
 pub data HasWork (retries : Bool) (state : NetworkState) : Type 0 where
   by_command : (who : ℕ) → state.stimuli who ≢ [] → HasWork retries state
@@ -88,7 +89,8 @@ pub record UsesOne (old new : NetworkState) : Type 0 where
   pub fewer : length (new.stimuli who) < length (old.stimuli who)
 
 -- a phase: a run in which each box's first commands were used in their order, its Shifts are counted, and each retry
--- that was owed came once, where they were asked for. Where something was to do a turn was made, and where commands were
+-- that was owed came once, where they were asked for. Where something was to do a turn was made, and where commands
+-- were
 -- left and no retries asked for one was used up, unless a box stopped at its last version
 pub record IsPhaseTo (retries : Bool) (old new : NetworkState) (made : List Turn)
     (last : Option (ℕ × ℕ)) : Type 0 where

@@ -36,7 +36,8 @@ pub record IsOrdered (logs : List (List ℕ)) (keys : List Key) : Type 0 where
 
 -- a greater stamp stands later
 abbrev pub StampsRise : List Key → Type 0
-StampsRise keys = (i j : ℕ) (a b : Key) → slice_get keys i ≡ Some a → slice_get keys j ≡ Some b → a.stamp < b.stamp → i < j
+StampsRise keys =
+    (i j : ℕ) (a b : Key) → slice_get keys i ≡ Some a → slice_get keys j ≡ Some b → a.stamp < b.stamp → i < j
 
 abbrev pub is_key_of : ℕ → Key → Bool
 is_key_of who key = key.who == who

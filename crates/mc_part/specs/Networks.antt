@@ -32,13 +32,15 @@ given_on layout parts lane = given_at (parts (layout.senders lane).0).ports.item
 
 -- a lane leads from one part to another
 abbrev pub LeadsAcross : WorldState → Layout → (ℕ → Part) → ℕ → Type 0
-LeadsAcross base layout parts lane = (lane < length base.lanes) × IsApart layout (tables_at parts) (states_of parts) lane
+LeadsAcross base layout parts lane =
+    (lane < length base.lanes) × IsApart layout (tables_at parts) (states_of parts) lane
 
 -- each box and lane stands in the parts, nothing waits before a ring, and nothing is in one
 pub record AreParts (base : WorldState) (layout : Layout) (parts : ℕ → Part) : Type 0 where
   pub laid : IsLayout base layout (tables_at parts) (states_of parts)
   pub empty : AreEmptied base layout (tables_at parts) (states_of parts)
-  pub even : (lane : ℕ) → LeadsAcross base layout parts lane → received_on layout parts lane ≡ given_on layout parts lane
+  pub even : (lane : ℕ) → LeadsAcross base layout parts lane
+      → received_on layout parts lane ≡ given_on layout parts lane
 
 -- the world that they stand for
 abbrev pub world_by : WorldState → Layout → (ℕ → Part) → WorldState

@@ -49,7 +49,7 @@ shown_none world s views next inside none is so_far =
     from_slot world s inside ∙ none_first (view_of world) (path_from world) s (get_or (places world) s (0, 0)) (drop (s + 1) (places world)) (path_from world s) refl none in
     ap (λ (shown : List PathView). shown ++ still_shown world (s + 1)) is ∙ (ap (λ (more : List PathView). views ++ more) (sym after) ∙ so_far)
 
--- and the path of one that has one comes behind those so far
+-- and the path of one that has one comes after those so far
 pub shown_next : (world : WorldState) (s : ℕ) (views next : List PathView) (view : PathView) → s < slot_count world → option_map (view_of world) (path_from world s) ≡ Some view
     → next ≡ views ++ view ∷ [] → ShownTo world s views → ShownTo world (s + 1) next
 shown_next world s views next view inside some is so_far =

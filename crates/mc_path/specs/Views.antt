@@ -53,4 +53,5 @@ SilentUnlessFlowing = (world : WorldState) (path : PathEnds) → (view_of world 
 
 -- a path goes over two slots for each tunnel that is shown
 abbrev pub TwoSlotsATunnel : Type 0
-TwoSlotsATunnel = (world : WorldState) (path : PathEnds) → length (slots_on world path) ≡ 2 * (view_of world path).tunnels
+TwoSlotsATunnel =
+    (world : WorldState) (path : PathEnds) → length (slots_on world path) ≡ 2 * (view_of world path).tunnels

@@ -7,4 +7,5 @@ use Rattle.mc_model.specs.Worlds.{WorldState}
 
 -- the end slot to which the walk from a slot comes, and how many tunnels it goes over; none where the slot is on a ring
 abbrev pub walk_from : WorldState → ℕ → Option Walked
-walk_from world s = option_map (λ last. record { end = last; tunnels = length (whole_walk world s) }) (other_end world s)
+walk_from world s =
+    option_map (λ last. record { end = last; tunnels = length (whole_walk world s) }) (other_end world s)

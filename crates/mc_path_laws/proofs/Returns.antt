@@ -12,7 +12,7 @@ use Rattle.mc_laws.proofs.Partners.{next_is}
 use Rattle.mc_laws.proofs.Walks.{end_alone, end_beyond, end_here, end_linked, end_parts}
 use Rattle.mc_path_laws.proofs.Sides.{sides_turned, turned}
 
--- a tunnel before the others is, the other way round, behind them
+-- a tunnel before the others is, the other way round, after them
 turn_first : (slots beyond : List ℕ) (s : ℕ) → turned slots ++ far s ∷ beyond ≡ turned (s ∷ slots) ++ beyond
 turn_first slots beyond s = sym (append_assoc (turned slots) (far s ∷ []) beyond) ∙ ap (λ (l : List ℕ). l ++ beyond) (sym (reverse-append (far s ∷ []) (map far slots)))
 

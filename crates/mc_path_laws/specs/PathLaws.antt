@@ -23,17 +23,24 @@ pub record AreIn (world : WorldState) (path : PathEnds) (state : State) : Type 0
 
 -- each end of a path last got the other's newest descriptor, and the choice for its own
 pub record HearEachOther (world : WorldState) (path : PathEnds) : Type 0 where
-  pub low : Hears (slot_of world path.low) (own_descriptor world path.low) (own_descriptor world path.high) (own_sender world path.high)
-  pub high : Hears (slot_of world path.high) (own_descriptor world path.high) (own_descriptor world path.low) (own_sender world path.low)
+  pub low : Hears (slot_of world path.low) (own_descriptor world path.low) (own_descriptor world path.high)
+      (own_sender world path.high)
+  pub high : Hears (slot_of world path.high) (own_descriptor world path.high) (own_descriptor world path.low)
+      (own_sender world path.low)
 
 -- all slots of a path of a sound world have one medium, that of its lower end's tunnel
 abbrev pub PathsOfOneMedium : Type 0
-PathsOfOneMedium = (world : WorldState) → IsSound world → All (λ path. All (λ s. (slot_of world s).medium ≡ (tunnel_of world path.low).medium) (slots_on world path)) (paths world)
+PathsOfOneMedium =
+    (world : WorldState) → IsSound world
+    → All (λ path. All (λ s. (slot_of world s).medium ≡ (tunnel_of world path.low).medium) (slots_on world path))
+    (paths world)
 
--- what a path is where nothing is under way: closed, or flowing with ends that hear each other, and all its slots are as its ends; closed where an end closes, and flowing where one opens and owes no retry
+-- what a path is where nothing is under way: closed, or flowing with ends that hear each other, and all its slots are
+-- as its ends; closed where an end closes, and flowing where one opens and owes no retry
 pub record IsQuietPath (world : WorldState) (path : PathEnds) : Type 0 where
   pub alike : AreIn world path Closed ⊎ (AreIn world path Flowing × HearEachOther world path)
-  pub along : (state : State) → AreIn world path state → All (λ s. (slot_of world s).state ≡ state) (slots_on world path)
+  pub along : (state : State) → AreIn world path state
+      → All (λ s. (slot_of world s).state ≡ state) (slots_on world path)
   pub low_closes : end_goal world path.low ≡ ToClose → AreIn world path Closed
   pub high_closes : end_goal world path.high ≡ ToClose → AreIn world path Closed
   pub low_opens : end_goal world path.low ≡ ToOpen → owes_by_number world path.low ≡ false → AreIn world path Flowing
@@ -50,14 +57,19 @@ pub record IsClean (world : WorldState) (s : ℕ) : Type 0 where
 
 -- all slots of a path are clean, unless one of its ends closes
 abbrev pub IsCleanPath : WorldState → PathEnds → Type 0
-IsCleanPath world path = end_goal world path.low ≢ ToClose → end_goal world path.high ≢ ToClose → All (λ s. IsClean world s) (slots_on world path)
+IsCleanPath world path =
+    end_goal world path.low ≢ ToClose → end_goal world path.high ≢ ToClose
+    → All (λ s. IsClean world s) (slots_on world path)
 
--- after a moment at which nothing was under way, while only Takes and Retries come, no close is ever under way on a path without an end that closes
+-- after a moment at which nothing was under way, while only Takes and Retries come, no close is ever under way on a
+-- path without an end that closes
 abbrev pub CleanPaths : Type 0
 CleanPaths = (world next : WorldState) (turns : List Turn) → IsSound world → IsTrue (is_quiet world)
-    → IsTrue (list_all (λ turn. takes_or_retries turn.event) turns) → run world turns ≡ Some next → All (IsCleanPath next) (paths next)
+    → IsTrue (list_all (λ turn. takes_or_retries turn.event) turns) → run world turns ≡ Some next
+    → All (IsCleanPath next) (paths next)
 
--- between two moments at which nothing is under way, by Takes and Retries alone, among which each retry comes that is owed at the first: each path is then as the path table says
+-- between two moments at which nothing is under way, by Takes and Retries alone, among which each retry comes that is
+-- owed at the first: each path is then as the path table says
 abbrev pub RestedPathsHold : Type 0
 RestedPathsHold = (world last : WorldState) (turns : List Turn) → IsSound world → IsTrue (is_quiet world)
     → IsTrue (list_all (λ turn. takes_or_retries turn.event) turns) → run world turns ≡ Some last
@@ -66,9 +78,12 @@ RestedPathsHold = (world last : WorldState) (turns : List Turn) → IsSound worl
 
 -- after each settled segment, whatever the order of its turns, each path is as the path table says
 abbrev pub SettledPathsHold : Type 0
-SettledPathsHold = (world last : WorldState) (batch turns : List Turn) → IsSound world → IsSettled world batch turns last → All (PathHolds last) (paths last)
+SettledPathsHold =
+    (world last : WorldState) (batch turns : List Turn) → IsSound world → IsSettled world batch turns last
+    → All (PathHolds last) (paths last)
 
--- behind a moment at which nothing was under way, while only Takes and Retries come: a slot that owes a retry owed it at that moment, too
+-- after a moment at which nothing was under way, while only Takes and Retries come: a slot that owes a retry owed it
+-- at that moment, too
 abbrev pub OwedSinceQuiet : Type 0
 OwedSinceQuiet = (world next : WorldState) (turns : List Turn) → IsSound world → IsTrue (is_quiet world)
     → IsTrue (list_all (λ turn. takes_or_retries turn.event) turns) → run world turns ≡ Some next
@@ -80,7 +95,9 @@ is_end_of s path = path.low == s || path.high == s
 
 -- each end of a sound world is an end of exactly one of its paths
 abbrev pub EachEndOnce : Type 0
-EachEndOnce = (world : WorldState) (s : ℕ) → IsSound world → s < slot_count world → IsTrue (is_end_goal (goal_of world s)) → count_by (is_end_of s) (paths world) ≡ 1
+EachEndOnce =
+    (world : WorldState) (s : ℕ) → IsSound world → s < slot_count world → IsTrue (is_end_goal (goal_of world s))
+    → count_by (is_end_of s) (paths world) ≡ 1
 
 -- whether a path goes over a slot
 abbrev pub is_on : WorldState → ℕ → PathEnds → Bool
@@ -89,7 +106,8 @@ is_on world s path = list_any (λ n. n == s) (slots_on world path)
 -- no path goes over a slot on a ring, and exactly one path over each other slot
 abbrev pub EachSlotOnce : Type 0
 EachSlotOnce = (world : WorldState) (s : ℕ) → IsSound world → s < slot_count world
-    → (IsOnRing world s → count_by (is_on world s) (paths world) ≡ 0) × ((IsOnRing world s → ⊥) → count_by (is_on world s) (paths world) ≡ 1)
+    → (IsOnRing world s → count_by (is_on world s) (paths world) ≡ 0)
+    × ((IsOnRing world s → ⊥) → count_by (is_on world s) (paths world) ≡ 1)
 
 -- no slot stands in the list twice
 abbrev pub HasNoRepeats : List ℕ → Type 0

@@ -14,22 +14,27 @@ use Rattle.mc_slot.specs.declared.State.{State}
 use Rattle.mc_slot.specs.declared.State.TheVariants.{Closed, Opened, Flowing, Closing}
 use Rattle.mc_link.specs.LinkTurn.{IsLinkAtRest}
 
--- what an end at rest may be: under close it is closed or closing; else it isn't opened, and where it flows it has sent its own descriptor and the choice for what it got
+-- what an end at rest may be: under close it is closed or closing; else it isn't opened, and where it flows it has sent
+-- its own descriptor and the choice for what it got
 abbrev pub EndMayRest : Goal → State → Slot → Descriptor → Sender → Type 0
 EndMayRest ToClose Closed slot own me = Unit {0}
 EndMayRest ToClose Closing slot own me = Unit {0}
 EndMayRest ToClose state slot own me = ⊥
 EndMayRest goal Opened slot own me = ⊥
-EndMayRest goal Flowing slot own me = (slot.sent ≡ Some own) × (slot.sel_out ≡ option_map (λ got. choose got me) slot.got)
+EndMayRest goal Flowing slot own me =
+    (slot.sent ≡ Some own) × (slot.sel_out ≡ option_map (λ got. choose got me) slot.got)
 EndMayRest goal state slot own me = Unit {0}
 
 -- an end is at rest exactly where the table has it
 abbrev pub EndsAtRest : Type 0
-EndsAtRest = (goal : Goal) (slot : Slot) (own : Descriptor) (me : Sender) → Kept slot → IsAtRest goal slot own me ↔ EndMayRest goal slot.state slot own me
+EndsAtRest =
+    (goal : Goal) (slot : Slot) (own : Descriptor) (me : Sender) → Kept slot
+    → IsAtRest goal slot own me ↔ EndMayRest goal slot.state slot own me
 
 -- a selector that one slot of a link got was sent on by the other, where it answers what that one got
 abbrev pub IsPassedOn : Option Selector → Option Descriptor → Option Selector → Type 0
-IsPassedOn heard got last = (h : Selector) (g : Descriptor) → heard ≡ Some h → got ≡ Some g → answers h g ≡ true → last ≡ Some h
+IsPassedOn heard got last =
+    (h : Selector) (g : Descriptor) → heard ≡ Some h → got ≡ Some g → answers h g ≡ true → last ≡ Some h
 
 -- two flowing slots of a link have sent on what the other got
 pub record HavePassedOn (a b : Slot) : Type 0 where
@@ -38,7 +43,8 @@ pub record HavePassedOn (a b : Slot) : Type 0 where
   pub first_selector : IsPassedOn b.sel_in a.got a.sel_out
   pub second_selector : IsPassedOn a.sel_in b.got b.sel_out
 
--- what the two slots of a link at rest may be: one of them is opening or closing, or both are closed, or both flow and have sent on what the other got
+-- what the two slots of a link at rest may be: one of them is opening or closing, or both are closed, or both flow and
+-- have sent on what the other got
 abbrev pub LinkMayRest : State → State → Slot → Slot → Type 0
 LinkMayRest Closed Opened a b = ⊥
 LinkMayRest Closed Flowing a b = ⊥

@@ -118,7 +118,7 @@ tunnel_step ends count i tunnel lists mid next all inside is near far whole =
 none_left : (lists : List (List SlotSetup)) → with_more (λ who. []) 0 lists ≡ lists
 none_left lists = more_none (λ who. []) 0 lists (λ k above. refl)
 
--- behind the last tunnel all is given
+-- after the last tunnel all is given
 pub tunnels_done : (ends : ChannelState) (count i : ℕ) (lists all : List (List SlotSetup)) → length ends.tunnels ≤ i
     → with_more (λ who. setups_within who (count + i) ends (drop i ends.tunnels)) 0 lists ≡ all → lists ≡ all
 tunnels_done ends count i lists all past whole =
@@ -136,7 +136,7 @@ channel_step channels count i long ends lists next all inside is as_long more wh
     ∙ (ap (λ (l : List (List SlotSetup)). with_more rest 0 l) more
     ∙ (more_twice (λ who. setups_at who count ends) rest 0 lists ∙ (ap (λ (l : List ChannelState). with_more (λ who. setups_from who count l) 0 lists) (sym front) ∙ whole)))
 
--- behind the last channel all is given
+-- after the last channel all is given
 pub channels_done : (channels : List ChannelState) (count i : ℕ) (lists all : List (List SlotSetup)) → length channels ≤ i
     → with_more (λ who. setups_from who count (drop i channels)) 0 lists ≡ all → lists ≡ all
 channels_done channels count i lists all past whole =

@@ -177,7 +177,7 @@ slots_widened channels medium who some =
 
 -- ---- the slots that it gives
 
--- a tunnel behind those of a channel gives what it would in a channel of its own
+-- a tunnel after those of a channel gives what it would in a channel of its own
 setups_behind : (who count : ℕ) (ends : ChannelState) (tunnel : Tunnel) (tunnels : List Tunnel)
     → setups_within who count (with_one_more tunnel ends) (tunnels ++ tunnel ∷ []) ≡ setups_within who count ends tunnels ++ setups_within who (count + length tunnels) ends (tunnel ∷ [])
 setups_behind who count ends tunnel [] = let same : count + 0 ≡ count = omega arith in rw same refl

@@ -15,9 +15,11 @@ AreThere boxes places = (s : ℕ) → s < length places → (place_at places s).
 
 -- the local number of each slot is how many slots of its box stand before it
 abbrev pub AreInOrder : List (ℕ × ℕ) → Type 0
-AreInOrder places = (s : ℕ) → s < length places → (place_at places s).1 ≡ count_by (is_of (place_at places s).0) (take s places)
+AreInOrder places =
+    (s : ℕ) → s < length places → (place_at places s).1 ≡ count_by (is_of (place_at places s).0) (take s places)
 
--- at most 256 boxes of 64 slots, and 1,024 channels of one to 8 tunnels between different boxes: each slot's box is there, and the slots of a box are numbered in the order of tunnels
+-- at most 256 boxes of 64 slots, and 1,024 channels of one to 8 tunnels between different boxes: each slot's box is
+-- there, and the slots of a box are numbered in the order of tunnels
 pub record IsLaidOut (plan : PlanState) : Type 0 where
   pub boxes : length plan.boxes ≤ BOX_LIMIT
   pub channels : length plan.channels ≤ CHANNEL_LIMIT

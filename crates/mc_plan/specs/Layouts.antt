@@ -16,7 +16,8 @@ use Rattle.mc_plan.specs.Refusals.{fault_if, unless_fault}
 use Rattle.mc_plan.specs.declared.fault.ProgramFault.{ProgramFault}
 use Rattle.mc_plan.specs.declared.fault.ProgramFault.TheVariants.{NoBox, NoFeature, HasProgram, WrongGoals, TwoMedia}
 
--- a first world within the limits: its boxes are new, whatever programs they have, tunnels join each of their slots once, with the numbers of the rules, and nothing is under way
+-- a first world within the limits: its boxes are new, whatever programs they have, tunnels join each of their slots
+-- once, with the numbers of the rules, and nothing is under way
 pub record IsLayout (first : WorldState) : Type 0 where
   pub channels : AreChannels first.channels
   pub fresh : AreNew first.boxes

@@ -1,4 +1,5 @@
--- Laws of plans: the world that a plan lays out is one that a call can be set up in, and stays so whatever its boxes do.
+-- Laws of plans: the world that a plan lays out is one that a call can be set up in, and stays so whatever its boxes
+-- do.
 use Rattle.std.specs.Prelude.{◌≡◌, ℕ, List, None, Some}
 use Rattle.mc_rule.specs.Programs.{IsProgram, ProgStateState}
 use Rattle.mc_model.specs.Sound.{AreNew, IsNumbered, IsSound}
@@ -20,7 +21,9 @@ PlansAreUnprogrammed = (plan : PlanState) → HasNoPrograms (world_of plan)
 
 -- each world that a run reaches from there is sound
 abbrev pub PlansStaySound : Type 0
-PlansStaySound = (plan : PlanState) (turns : List Turn) (next : WorldState) → IsLaidOut plan → run (world_of plan) turns ≡ Some next → IsSound next
+PlansStaySound =
+    (plan : PlanState) (turns : List Turn) (next : WorldState) → IsLaidOut plan → run (world_of plan) turns ≡ Some next
+    → IsSound next
 
 -- ---- layouts
 
@@ -30,8 +33,12 @@ PlansGiveLayouts = (plan : PlanState) → IsLaidOut plan → IsLayout (world_of 
 
 -- it still is one when a box has got a program
 abbrev pub ProgramsKeepLayouts : Type 0
-ProgramsKeepLayouts = (first : WorldState) (who : ℕ) (states : List ProgStateState) → IsLayout first → IsProgram states → program_fault first who states ≡ None → IsLayout (with_program first who states)
+ProgramsKeepLayouts =
+    (first : WorldState) (who : ℕ) (states : List ProgStateState) → IsLayout first → IsProgram states
+    → program_fault first who states ≡ None → IsLayout (with_program first who states)
 
 -- each world that a run reaches from there is sound
 abbrev pub LayoutsStaySound : Type 0
-LayoutsStaySound = (first : WorldState) (turns : List Turn) (next : WorldState) → IsLayout first → run first turns ≡ Some next → IsSound next
+LayoutsStaySound =
+    (first : WorldState) (turns : List Turn) (next : WorldState) → IsLayout first → run first turns ≡ Some next
+    → IsSound next

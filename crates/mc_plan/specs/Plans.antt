@@ -36,7 +36,8 @@ planned_at plan who = slice_index_or plan.boxes who no_plan
 
 -- a box sends these codecs
 abbrev pub with_sends : PlanState → ℕ → CodecList → PlanState
-with_sends plan who sends = record plan { boxes = slice_set plan.boxes who (record (planned_at plan who) { sends = sends }) }
+with_sends plan who sends =
+    record plan { boxes = slice_set plan.boxes who (record (planned_at plan who) { sends = sends }) }
 
 -- whether a slot is of a box
 abbrev pub is_of : ℕ → ℕ × ℕ → Bool
@@ -49,15 +50,18 @@ slots_of channels who = count_by (is_of who) (places_among channels)
 -- tunnels of these media, whose slots have local numbers from `near` and from `far` on
 abbrev pub tunnels_between : (near far : ℕ) → List Medium → List Tunnel
 tunnels_between near far [] = []
-tunnels_between near far (medium ∷ media) = record { medium = medium; from = near; to = far } ∷ tunnels_between (near + 1) (far + 1) media
+tunnels_between near far (medium ∷ media) =
+    record { medium = medium; from = near; to = far } ∷ tunnels_between (near + 1) (far + 1) media
 
 -- a channel between two boxes: each of its tunnels takes the next slot of both
 abbrev pub channel_between : List ChannelState → (from to : ℕ) → List Medium → ChannelState
-channel_between channels from to media = record { from = from; to = to; tunnels = tunnels_between (slots_of channels from) (slots_of channels to) media }
+channel_between channels from to media =
+    record { from = from; to = to; tunnels = tunnels_between (slots_of channels from) (slots_of channels to) media }
 
 -- that channel comes last
 abbrev pub with_channel : PlanState → (from to : ℕ) → List Medium → PlanState
-with_channel plan from to media = record plan { channels = plan.channels ++ channel_between plan.channels from to media ∷ [] }
+with_channel plan from to media =
+    record plan { channels = plan.channels ++ channel_between plan.channels from to media ∷ [] }
 
 -- what stands where there is no channel
 abbrev pub no_channel : ChannelState
@@ -77,11 +81,13 @@ with_tunnel_at channels k tunnel = slice_set channels k (with_one_more tunnel (s
 
 -- a tunnel of a channel that takes the next slot of both boxes
 abbrev pub next_tunnel : List ChannelState → ChannelState → Medium → Tunnel
-next_tunnel channels ends medium = record { medium = medium; from = slots_of channels ends.from; to = slots_of channels ends.to }
+next_tunnel channels ends medium =
+    record { medium = medium; from = slots_of channels ends.from; to = slots_of channels ends.to }
 
 -- the last of these channels gets one more
 abbrev pub widened : List ChannelState → Medium → List ChannelState
-widened channels medium = with_tunnel_at channels (length channels - 1) (next_tunnel channels (last_channel channels) medium)
+widened channels medium =
+    with_tunnel_at channels (length channels - 1) (next_tunnel channels (last_channel channels) medium)
 
 abbrev pub with_tunnel : PlanState → Medium → PlanState
 with_tunnel plan medium = record plan { channels = widened plan.channels medium }

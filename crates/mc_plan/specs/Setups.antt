@@ -13,8 +13,10 @@ setup_if here setup = if here then setup ∷ [] else []
 abbrev pub setups_within : ℕ → ℕ → ChannelState → List Tunnel → List SlotSetup
 setups_within who count ends [] = []
 setups_within who count ends (tunnel ∷ tunnels) =
-    setup_if (ends.from == who) (record { origin = 2 * count; medium = tunnel.medium; initiator = true; address = None })
-    ++ setup_if (ends.to == who) (record { origin = 2 * count + 1; medium = tunnel.medium; initiator = false; address = None })
+    setup_if (ends.from == who)
+    (record { origin = 2 * count; medium = tunnel.medium; initiator = true; address = None })
+    ++ setup_if (ends.to == who)
+    (record { origin = 2 * count + 1; medium = tunnel.medium; initiator = false; address = None })
     ++ setups_within who (count + 1) ends tunnels
 
 -- the slots of a box at a channel, whose tunnels are counted from a number on
@@ -24,7 +26,8 @@ setups_at who count ends = setups_within who count ends ends.tunnels
 -- the slots of a box at these channels, whose tunnels are counted from a number on
 abbrev pub setups_from : ℕ → ℕ → List ChannelState → List SlotSetup
 setups_from who count [] = []
-setups_from who count (ends ∷ channels) = setups_at who count ends ++ setups_from who (count + length ends.tunnels) channels
+setups_from who count (ends ∷ channels) =
+    setups_at who count ends ++ setups_from who (count + length ends.tunnels) channels
 
 -- all slots of a box
 abbrev pub setups_of : List ChannelState → ℕ → List SlotSetup
@@ -36,7 +39,7 @@ setups_of channels who = setups_from who 0 channels
 abbrev pub lists_of : List (Vec SlotSetup Global) → List (List SlotSetup)
 lists_of lists = map (λ list. list.items) lists
 
--- each of these boxes, numbered from a number on, has more slots, behind those that it has
+-- each of these boxes, numbered from a number on, has more slots, after those that it has
 abbrev pub with_more : (ℕ → List SlotSetup) → (who : ℕ) → List (List SlotSetup) → List (List SlotSetup)
 with_more more who [] = []
 with_more more who (list ∷ lists) = (list ++ more who) ∷ with_more more (who + 1) lists

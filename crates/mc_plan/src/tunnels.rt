@@ -56,7 +56,7 @@ pub fn add_tunnel(
     Ok(())
 }
 
-// How many slots a box has by these counts, and 0 behind the last of them.
+// How many slots a box has by these counts, and 0 after the last of them.
 pub fn count_of(counts: &[u8], who: u32) -> u8
     ensures { result ≡ slice_index_or counts.now who 0 }
 {

@@ -8,7 +8,8 @@ use Rattle.mc_box.specs.Boxes.{BoxState, no_box}
 use Rattle.mc_box.specs.declared.event.Event.{Event}
 use Rattle.mc_box.specs.declared.event.Event.TheVariants.{Shift}
 
--- an event of a box: its stamp, the tunnel and signal that it took, if it took one, what it sent in order, and the box after it
+-- an event of a box: its stamp, the tunnel and signal that it took, if it took one, what it sent in order, and the box
+-- after it
 pub record Entry : Type 0 where
   pub stamp : ℕ
   pub event : Event
@@ -26,7 +27,9 @@ signal_in taken = option_map (λ tagged. tagged.signal) taken
 -- the events of these entries, one after the other, make the one box into the other
 abbrev pub AreMade : BoxState → List Entry → BoxState → Type 0
 AreMade box [] last = box ≡ last
-AreMade box (entry ∷ entries) last = (box_event box entry.event (signal_in entry.taken) ≡ Some (record { sent = entry.sent; after = entry.after })) × AreMade entry.after entries last
+AreMade box (entry ∷ entries) last =
+    (box_event box entry.event (signal_in entry.taken) ≡ Some (record { sent = entry.sent; after = entry.after }))
+    × AreMade entry.after entries last
 
 abbrev pub stamps_of : List Entry → List ℕ
 stamps_of entries = map (λ entry. entry.stamp) entries
@@ -49,7 +52,9 @@ claim_of (Some tagged) claim = claim
 -- each stamp is one more than the greater of the stamp before it and what is claimed
 abbrev pub AreStamped : ℕ → List Claimed → Type 0
 AreStamped before [] = Unit {0}
-AreStamped before (claimed ∷ log) = (claimed.entry.stamp ≡ max before (claim_of claimed.entry.taken claimed.claim) + 1) × AreStamped claimed.entry.stamp log
+AreStamped before (claimed ∷ log) =
+    (claimed.entry.stamp ≡ max before (claim_of claimed.entry.taken claimed.claim) + 1)
+    × AreStamped claimed.entry.stamp log
 
 -- the stamp of the last entry, or the one before
 abbrev pub last_stamp : ℕ → List Claimed → ℕ

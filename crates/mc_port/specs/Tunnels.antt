@@ -9,7 +9,8 @@ use Rattle.mc_port.specs.Ends.{with_stamp}
 use Rattle.mc_port.specs.declared.stamped.Stamped.{Stamped}
 use Rattle.mc_port.specs.Entries.{Claimed, Entry}
 
--- which tunnel of a channel end each slot of a box has, by the slot's local number; none where the slot is at another end
+-- which tunnel of a channel end each slot of a box has, by the slot's local number; none where the slot is at another
+-- end
 abbrev pub Tunnels : Type 0
 Tunnels = ℕ → Option ℕ
 
@@ -42,7 +43,9 @@ event_sends tunnels stamp sent = flat_map (λ sending. sent_if (tunnels sending.
 
 -- what it takes at the end, with the stamps that it claims
 abbrev pub log_takes : Tunnels → List Claimed → List Stamped
-log_takes tunnels log = flat_map (λ claimed. map (with_stamp claimed.claim) (event_takes tunnels claimed.entry.event claimed.entry.taken)) log
+log_takes tunnels log =
+    flat_map (λ claimed. map (with_stamp claimed.claim)
+    (event_takes tunnels claimed.entry.event claimed.entry.taken)) log
 
 -- what it sends there, with its stamps
 abbrev pub log_sends : Tunnels → List Entry → List Stamped

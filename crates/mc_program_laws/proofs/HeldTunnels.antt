@@ -247,7 +247,7 @@ open_end slot_goal goal is stays = ap stays_open is ∙ open_by goal stays
     open_by ToClose stays = absurd (stays refl)
     open_by goal stays = refl
 
--- from a Shift in a world in which nothing is under way, by the goals behind it
+-- from a Shift in a world in which nothing is under way, by the goals after it
 pub held_flows : (world next last : WorldState) (who s : ℕ) (rest : List Turn) (goal far_goal : Goal) → IsSound world → IsTrue (is_quiet world) → s < slot_count world
     → (slot_of world s).state ≡ Flowing → (slot_of world (far s)).state ≡ Flowing → step world (turn_of who Shift) ≡ Some next
     → goal_of next s ≡ End goal → goal ≢ ToClose → goal_of next (far s) ≡ End far_goal → far_goal ≢ ToClose

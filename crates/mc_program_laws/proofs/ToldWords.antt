@@ -66,7 +66,7 @@ calm_turn Shift world next who sound quiet owes goes = inr refl
 
 -- ---- the Tell
 
--- a turn comes first, and behind it there are no commands
+-- a turn comes first, and after it there are no commands
 record ComesFirst (world : WorldState) (first : Turn) (turns : List Turn) (last : WorldState) : Type 0 where
   later : List Turn
   next : WorldState

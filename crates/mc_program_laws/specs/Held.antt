@@ -51,23 +51,35 @@ pub record AreOpenEnds (world : WorldState) (s : ℕ) : Type 0 where
 
 -- where nothing is under way in a sound world, a tunnel flows if one of its slots does
 abbrev pub QuietTunnelsFlow : Type 0
-QuietTunnelsFlow = (world : WorldState) (s : ℕ) → IsSound world → IsTrue (is_quiet world) → s < slot_count world → (slot_of world s).state ≡ Flowing → TunnelFlows world s
+QuietTunnelsFlow =
+    (world : WorldState) (s : ℕ) → IsSound world → IsTrue (is_quiet world) → s < slot_count world
+    → (slot_of world s).state ≡ Flowing → TunnelFlows world s
 
 -- a tunnel that flows still does after any turn that leaves both of its slots ends which don't close
 abbrev pub OpenEndsFlowOn : Type 0
-OpenEndsFlowOn = (world next : WorldState) (turn : Turn) (s : ℕ) → IsSound world → step world turn ≡ Some next → TunnelFlows world s → AreOpenEnds next s → TunnelFlows next s
+OpenEndsFlowOn =
+    (world next : WorldState) (turn : Turn) (s : ℕ) → IsSound world → step world turn ≡ Some next → TunnelFlows world s
+    → AreOpenEnds next s → TunnelFlows next s
 
 -- and after a Tell, whatever the goals of its slots
 abbrev pub TellsLeaveFlowing : Type 0
-TellsLeaveFlowing = (world next : WorldState) (who word s : ℕ) → IsSound world → step world (turn_of who (Tell word)) ≡ Some next → TunnelFlows world s → TunnelFlows next s
+TellsLeaveFlowing =
+    (world next : WorldState) (who word s : ℕ) → IsSound world → step world (turn_of who (Tell word)) ≡ Some next
+    → TunnelFlows world s → TunnelFlows next s
 
 -- while only Takes and Retries come, a tunnel that flows between two such ends does so all along
 abbrev pub RestsFlowOn : Type 0
-RestsFlowOn = (world last : WorldState) (turns : List Turn) (s : ℕ) → IsSound world → IsTrue (list_all (λ turn. takes_or_retries turn.event) turns)
+RestsFlowOn =
+    (world last : WorldState) (turns : List Turn) (s : ℕ) → IsSound world
+    → IsTrue (list_all (λ turn. takes_or_retries turn.event) turns)
     → run world turns ≡ Some last → TunnelFlows world s → AreOpenEnds world s → TunnelFlows last s × AreOpenEnds last s
 
--- from a sound world in which nothing is under way, by a Tell, a Shift, and then Takes and Retries alone: a tunnel one of whose slots flowed flows, if both of its slots are in the end ends that don't close
+-- from a sound world in which nothing is under way, by a Tell, a Shift, and then Takes and Retries alone: a tunnel one
+-- of whose slots flowed flows, if both of its slots are in the end ends that don't close
 abbrev pub HeldTunnelsFlowOn : Type 0
-HeldTunnelsFlowOn = (world last : WorldState) (who word s : ℕ) (rest : List Turn) → IsSound world → IsTrue (is_quiet world) → s < slot_count world
+HeldTunnelsFlowOn =
+    (world last : WorldState) (who word s : ℕ) (rest : List Turn) → IsSound world → IsTrue (is_quiet world)
+    → s < slot_count world
     → (slot_of world s).state ≡ Flowing → IsTrue (list_all (λ turn. takes_or_retries turn.event) rest)
-    → run world (turn_of who (Tell word) ∷ turn_of who Shift ∷ rest) ≡ Some last → AreOpenEnds last s → TunnelFlows last s
+    → run world (turn_of who (Tell word) ∷ turn_of who Shift ∷ rest) ≡ Some last → AreOpenEnds last s
+    → TunnelFlows last s

@@ -23,10 +23,13 @@ AwaitsWord states at = (slots : List Slot) → enabled states (Some at) slots No
 
 -- by this word a transition goes from one state to another, whatever the slots are
 abbrev pub LeadsTo : List ProgStateState → (at word target : ℕ) → Type 0
-LeadsTo states at word target = (slots : List Slot) → enabled states (Some at) slots (Some word) ≡ Some record { target = target; spends = true }
+LeadsTo states at word target =
+    (slots : List Slot) → enabled states (Some at) slots (Some word) ≡ Some record { target = target; spends = true }
 
--- a box's program has these states, is at this one or at none yet, and keeps this word, if any; and the box has these settings
-pub record ProgramStands (box : BoxState) (states : List ProgStateState) (place word : Option ℕ) (settings : Settings) : Type 0 where
+-- a box's program has these states, is at this one or at none yet, and keeps this word, if any; and the box has these
+-- settings
+pub record ProgramStands (box : BoxState) (states : List ProgStateState) (place word : Option ℕ)
+    (settings : Settings) : Type 0 where
   pub program : box.program ≡ Some states
   pub at : box.at ≡ place
   pub told : box.told ≡ word
@@ -56,24 +59,39 @@ pub record ShiftsFirst (who word : ℕ) (turns : List Turn) : Type 0 where
 
 -- a box without a program has the settings that its own commands make
 abbrev pub UnprogrammedFollows : Type 0
-UnprogrammedFollows = (world last : WorldState) (turns : List Turn) (who : ℕ) → IsSound world → (box_at world who).program ≡ None → run world turns ≡ Some last
+UnprogrammedFollows =
+    (world last : WorldState) (turns : List Turn) (who : ℕ) → IsSound world → (box_at world who).program ≡ None
+    → run world turns ≡ Some last
     → settings_of (box_at last who) ≡ set_by_all (commands_of who turns) (settings_of (box_at world who))
 
 -- at a state that awaits a word a box stays as it is, as long as it has no command
 abbrev pub UntoldStays : Type 0
-UntoldStays = (world last : WorldState) (turns : List Turn) (who at : ℕ) (states : List ProgStateState) (settings : Settings) → IsSound world → AwaitsWord states at
-    → ProgramStands (box_at world who) states (Some at) None settings → commands_of who turns ≡ [] → run world turns ≡ Some last
+UntoldStays =
+    (world last : WorldState) (turns : List Turn) (who at : ℕ) (states : List ProgStateState) (settings : Settings)
+    → IsSound world → AwaitsWord states at
+    → ProgramStands (box_at world who) states (Some at) None settings → commands_of who turns ≡ []
+    → run world turns ≡ Some last
     → ProgramStands (box_at last who) states (Some at) None settings
 
--- a program at no state is at the first one when a batch is settled that has no command of its box, if that state awaits a word
+-- a program at no state is at the first one when a batch is settled that has no command of its box, if that state
+-- awaits a word
 abbrev pub BeginsAtFirst : Type 0
-BeginsAtFirst = (world last : WorldState) (batch turns : List Turn) (who : ℕ) (states : List ProgStateState) (settings : Settings) → IsSound world → AwaitsWord states 0
-    → ProgramStands (box_at world who) states None None settings → commands_of who batch ≡ [] → IsSettled world batch turns last
+BeginsAtFirst =
+    (world last : WorldState) (batch turns : List Turn) (who : ℕ) (states : List ProgStateState) (settings : Settings)
+    → IsSound world → AwaitsWord states 0
+    → ProgramStands (box_at world who) states None None settings → commands_of who batch ≡ []
+    → IsSettled world batch turns last
     → ProgramStands (box_at last who) states (Some 0) None (settings_in states settings.media 0)
 
--- in a world that rests and owes no retry, whose only program awaits a word, a Tell of a word that leads to such a state again is settled by a Shift first, and the box is there
+-- in a world that rests and owes no retry, whose only program awaits a word, a Tell of a word that leads to such a
+-- state again is settled by a Shift first, and the box is there
 abbrev pub ToldWordLeads : Type 0
-ToldWordLeads = (world last : WorldState) (turns : List Turn) (who word at target : ℕ) (states : List ProgStateState) (settings : Settings) → IsSound world → IsTrue (rests world)
-    → OwesNoRetry world → IsOnlyProgram world who → ProgramStands (box_at world who) states (Some at) None settings → LeadsTo states at word target → AwaitsWord states target
+ToldWordLeads =
+    (world last : WorldState) (turns : List Turn) (who word at target : ℕ) (states : List ProgStateState)
+    (settings : Settings)
+    → IsSound world → IsTrue (rests world)
+    → OwesNoRetry world → IsOnlyProgram world who → ProgramStands (box_at world who) states (Some at) None settings
+    → LeadsTo states at word target → AwaitsWord states target
     → IsSettled world (turn_of who (Tell word) ∷ []) turns last
-    → ShiftsFirst who word turns × ProgramStands (box_at last who) states (Some target) None (settings_in states settings.media target)
+    → ShiftsFirst who word turns
+    × ProgramStands (box_at last who) states (Some target) None (settings_in states settings.media target)

@@ -25,7 +25,7 @@ pub fn rests_flow_on()
 {}
 
 /// Whatever a told word makes of other tunnels, one that flowed where nothing was under way flows on through the Tell,
-/// the Shift, and the Takes and Retries behind it, if its slots are then ends that hold or open. So the goals of a path
+/// the Shift, and the Takes and Retries after it, if its slots are then ends that hold or open. So the goals of a path
 /// of hold with hold leave no choice where its tunnel flowed.
 pub fn held_tunnels_flow_on()
     ensures { HeldTunnelsFlowOn }

@@ -26,7 +26,7 @@ first_of_box (turn ∷ left) who all =
     first_by (turn.who == who) turn (next_of who left) (commands_of who left) (first_of_box left who both.1)
     ∙ ap (λ (b : Bool). slice_get (cond (b && turn.who == who) (turn ∷ commands_of who left) (commands_of who left)) 0) (sym both.0)
 
--- the first one behind others
+-- the first one after others
 pub at_seam : (xs ys : List Turn) → slice_get (xs ++ ys) (length xs) ≡ slice_get ys 0
 at_seam [] ys = refl
 at_seam (x ∷ xs) ys = at_seam xs ys

@@ -15,8 +15,8 @@ use Rattle.mc_model.specs.Worlds.{WorldState, box_at}
 use Rattle.mc_laws.proofs.Numbers.{box_inside}
 use Rattle.mc_laws.proofs.StepActs.{step_acts}
 use Rattle.mc_laws.proofs.Sums.{total_front, total_has}
-use Rattle.mc_turn.specs.Sums.{total}
-use Rattle.mc_turn.proofs.Sums.{total_one}
+use Rattle.mc_slot_laws.specs.Sums.{total}
+use Rattle.mc_slot_laws.proofs.Sums.{total_one}
 use Rattle.mc_world.specs.Waiting.{bit}
 use Rattle.mc_replay.specs.Counts.{AreCounted, AreOfBox, owed_count, owed_in, ready_count, ready_in}
 use Rattle.mc_replay.specs.declared.counts.Counts.{Counts}

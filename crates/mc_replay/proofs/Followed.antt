@@ -28,7 +28,7 @@ use Rattle.mc_seq.proofs.Segments.{both_there}
 use Rattle.mc_replay.specs.Counts.{AreCounted, owed_count}
 use Rattle.mc_replay.specs.Follows.{AreCommands, Follows, IsNext, MakesTurn, TellsNext, TellsSettled, TriedStep, is_last}
 use Rattle.mc_replay.specs.Moments.{AreMoments, AreNumbered, CountsRetry, IsMoment, no_moment, retry_count, serves}
-use Rattle.mc_replay.specs.declared.moments.Moment.{Moment}
+use Rattle.mc_replay.specs.declared.moments.QuietMoment.{QuietMoment}
 use Rattle.mc_replay.specs.declared.retries.Retries.{Retries}
 use Rattle.mc_replay.specs.declared.segment.Segment.{Segment}
 use Rattle.mc_replay.specs.declared.segment.TurnFault.{TurnFault}
@@ -50,7 +50,7 @@ zero_by : (left : List Turn) → left ≡ [] → (length left == 0) ≡ true
 zero_by left is = ap (λ (l : List Turn). length l == 0) is
 
 -- it is kept exactly where the world rests and nothing is left
-kept_now : (begins last : WorldState) (batch turns left : List Turn) (before : ℕ) (old new : List Moment) (retries : Retries) (owed : ℕ) → run begins turns ≡ Some last → AreCommands left
+kept_now : (begins last : WorldState) (batch turns left : List Turn) (before : ℕ) (old new : List QuietMoment) (retries : Retries) (owed : ℕ) → run begins turns ≡ Some last → AreCommands left
     → ((who : ℕ) → commands_of who turns ++ commands_of who left ≡ commands_of who batch) → AreMomentsBefore begins batch turns before old → retries.made ≡ before + retry_count turns → owed ≡ owed_count last
     → new ≡ (if rests last && length left == 0 then old ++ record { retries = retries.made; owed = owed } ∷ [] else old) → AreMoments begins batch turns before new
 kept_now begins last batch turns left before old new retries owed goes all commands moments made owed_is is =
@@ -65,7 +65,7 @@ kept_now begins last batch turns left before old new retries owed goes all comma
 
 -- ---- the beginning
 
-pub follows_begin : (world : WorldState) (batch : List Turn) (segment : Segment) (old : List Moment) → segment.world ≡ world → IsSound world → AreAllowed world batch → AreKeptFor world segment.left → commands_left segment.left ≡ batch
+pub follows_begin : (world : WorldState) (batch : List Turn) (segment : Segment) (old : List QuietMoment) → segment.world ≡ world → IsSound world → AreAllowed world batch → AreKeptFor world segment.left → commands_left segment.left ≡ batch
     → AreCounted world segment.counts → AreNumbered (slot_count world) segment.retries → old ≡ []
     → segment.moments.items ≡ (if rests world && length (commands_left segment.left) == 0 then old ++ record { retries = segment.retries.made; owed = segment.counts.owed } ∷ [] else old)
     → Follows world batch [] segment
@@ -92,7 +92,7 @@ follows_begin world batch segment old same sound allowed kept left counted numbe
 slots_same : (one two : WorldState) → one.channels ≡ two.channels → slot_count one ≡ slot_count two
 slots_same one two same = ap (λ (channels : List ChannelState). length (places_among channels)) same
 
-pub follows_more : (begins : WorldState) (batch turns : List Turn) (turn : Turn) (old new : Segment) (forgotten : List Moment) → Follows begins batch turns old → IsSound old.world → step old.world turn ≡ Some new.world → AreCounted new.world new.counts
+pub follows_more : (begins : WorldState) (batch turns : List Turn) (turn : Turn) (old new : Segment) (forgotten : List QuietMoment) → Follows begins batch turns old → IsSound old.world → step old.world turn ≡ Some new.world → AreCounted new.world new.counts
     → AreKept new.left → length new.left.queues.items ≡ length old.left.queues.items → commands_left new.left ≡ left_by turn (commands_left old.left) → (is_command turn.event ≡ true → next_of turn.who (commands_left old.left) ≡ Some turn)
     → CountsRetry new.world old.retries new.retries turn.who turn.event → forgotten ≡ (if takes_or_retries turn.event then old.moments.items else [])
     → new.moments.items ≡ (if rests new.world && length (commands_left new.left) == 0 then forgotten ++ record { retries = new.retries.made; owed = new.counts.owed } ∷ [] else forgotten)
@@ -147,7 +147,7 @@ tried_makes (NoMemory e) result begins world batch turns turn counts old new is 
 -- ---- settling
 
 -- the first value passes, or a later one
-any_by : (b : Bool) (p : Moment → Bool) (x : Moment) (xs : List Moment) → p x ≡ b → (list_any p xs ≡ true → (i : ℕ) × (i < length xs) × (p (get_or xs i no_moment) ≡ true)) → list_any p (x ∷ xs) ≡ true
+any_by : (b : Bool) (p : QuietMoment → Bool) (x : QuietMoment) (xs : List QuietMoment) → p x ≡ b → (list_any p xs ≡ true → (i : ℕ) × (i < length xs) × (p (get_or xs i no_moment) ≡ true)) → list_any p (x ∷ xs) ≡ true
     → (i : ℕ) × (i < length (x ∷ xs)) × (p (get_or (x ∷ xs) i no_moment) ≡ true)
 any_by true p x xs is later any = (zero, omega arith, is)
 any_by false p x xs is later any =
@@ -155,12 +155,12 @@ any_by false p x xs is later any =
     (suc rest.0, omega (arith, rest.1), rest.2)
 
 -- a value that passes, by its place
-any_at : (p : Moment → Bool) (xs : List Moment) → list_any p xs ≡ true → (i : ℕ) × (i < length xs) × (p (get_or xs i no_moment) ≡ true)
+any_at : (p : QuietMoment → Bool) (xs : List QuietMoment) → list_any p xs ≡ true → (i : ℕ) × (i < length xs) × (p (get_or xs i no_moment) ≡ true)
 any_at p [] any = absurd (cc)
 any_at p (x ∷ xs) any = any_by (p x) p x xs refl (λ later. any_at p xs later) any
 
 -- what a moment that serves says
-serves_says : (moment : Moment) (retries : Retries) → serves moment retries ≡ true → (retries.low ≤ moment.retries) × (retries.made - moment.retries ≡ moment.owed)
+serves_says : (moment : QuietMoment) (retries : Retries) → serves moment retries ≡ true → (retries.low ≤ moment.retries) × (retries.made - moment.retries ≡ moment.owed)
 serves_says moment retries is = let both = both_true (nat_le retries.low moment.retries) (retries.made - moment.retries == moment.owed) is in (low_by retries.low moment.retries both.0, same_by (retries.made - moment.retries) moment.owed both.1)
   where
     low_by : (a b : ℕ) → nat_le a b ≡ true → a ≤ b
@@ -169,7 +169,7 @@ serves_says moment retries is = let both = both_true (nat_le retries.low moment.
     same_by : (a b : ℕ) → (a == b) ≡ true → a ≡ b
     same_by a b is = grind (arith, common_steps)
 
-says_serves : (moment : Moment) (retries : Retries) → retries.low ≤ moment.retries → retries.made - moment.retries ≡ moment.owed → serves moment retries ≡ true
+says_serves : (moment : QuietMoment) (retries : Retries) → retries.low ≤ moment.retries → retries.made - moment.retries ≡ moment.owed → serves moment retries ≡ true
 says_serves moment retries low same = both_there (nat_le retries.low moment.retries) (retries.made - moment.retries == moment.owed) (low_test retries.low moment.retries low) (same_test (retries.made - moment.retries) moment.owed same)
   where
     low_test : (a b : ℕ) → a ≤ b → nat_le a b ≡ true
@@ -178,16 +178,16 @@ says_serves moment retries low same = both_there (nat_le retries.low moment.retr
     same_test : (a b : ℕ) → a ≡ b → (a == b) ≡ true
     same_test a b is = grind (arith, common_steps)
 
--- the retries up to a moment, and those behind it
+-- the retries up to a moment, and those after it
 retries_parts : (turns : List Turn) (n : ℕ) → retry_count turns ≡ retry_count (take n turns) + retry_count (drop n turns)
 retries_parts turns n = ap retry_count (sym (take-append-drop n turns)) ∙ sum_by-append (λ (t : Turn). if is_retry t.event then 1 else 0) (take n turns) (drop n turns)
 
 pub settled_here : (begins : WorldState) (batch turns : List Turn) (segment : Segment) → Follows begins batch turns segment → is_last segment ≡ true → has_ring segment.world ≡ false → IsSettled begins batch turns segment.world
 settled_here begins batch turns segment follows last no_ring =
-    let one = both_true (length (commands_left segment.left) == 0) (rests segment.world && list_any (λ (moment : Moment). serves moment segment.retries) segment.moments.items) last in
-    let two = both_true (rests segment.world) (list_any (λ (moment : Moment). serves moment segment.retries) segment.moments.items) one.1 in
-    let found = any_at (λ (moment : Moment). serves moment segment.retries) segment.moments.items two.1 in
-    let moment : Moment = get_or segment.moments.items found.0 no_moment in
+    let one = both_true (length (commands_left segment.left) == 0) (rests segment.world && list_any (λ (moment : QuietMoment). serves moment segment.retries) segment.moments.items) last in
+    let two = both_true (rests segment.world) (list_any (λ (moment : QuietMoment). serves moment segment.retries) segment.moments.items) one.1 in
+    let found = any_at (λ (moment : QuietMoment). serves moment segment.retries) segment.moments.items two.1 in
+    let moment : QuietMoment = get_or segment.moments.items found.0 no_moment in
     let says = serves_says moment segment.retries found.2 in
     let kept = follows.moments.each found.0 found.1 in
     let n : ℕ = kept.0 in
@@ -215,15 +215,15 @@ only_here begins other batch turns segment follows settled =
     let rest = settled.last_rest in
     let is : IsMoment begins batch turns n = record { within = rest.within; at_rest = rest.at_rest; used_up = rest.used_up; besides = rest.besides } in
     let kept = follows.moments.all n is in
-    let moment : Moment = get_or segment.moments.items kept.0 no_moment in
+    let moment : QuietMoment = get_or segment.moments.items kept.0 no_moment in
     let goes = moment_goes begins segment.world turns n follows.runs in
     let serving = retried_serves world segment.world (drop n turns) (run_keeps_sound begins world (take n turns) follows.sound goes.0) goes.1 rest.retries in
     let low : segment.retries.low ≤ moment.retries = let low_is = (follows.retries.low n rest.within).1 serving.0 in omega (arith, low_is, kept.2.retries) in
     let owed : segment.retries.made - moment.retries ≡ moment.owed = omega (arith, serving.1, kept.2.retries, kept.2.owed, follows.retries.made, retries_parts turns n) in
-    let any : list_any (λ (m : Moment). serves m segment.retries) segment.moments.items ≡ true =
-    list_any_at (λ (m : Moment). serves m segment.retries) segment.moments.items kept.0 no_moment kept.1 (says_serves moment segment.retries low owed) in (
-      both_there (length (commands_left segment.left) == 0) (rests segment.world && list_any (λ (m : Moment). serves m segment.retries) segment.moments.items) (zero_by (commands_left segment.left) none)
-          (both_there (rests segment.world) (list_any (λ (m : Moment). serves m segment.retries) segment.moments.items) (ap rests (sym same) ∙ settled.at_rest) any),
+    let any : list_any (λ (m : QuietMoment). serves m segment.retries) segment.moments.items ≡ true =
+    list_any_at (λ (m : QuietMoment). serves m segment.retries) segment.moments.items kept.0 no_moment kept.1 (says_serves moment segment.retries low owed) in (
+      both_there (length (commands_left segment.left) == 0) (rests segment.world && list_any (λ (m : QuietMoment). serves m segment.retries) segment.moments.items) (zero_by (commands_left segment.left) none)
+          (both_there (rests segment.world) (list_any (λ (m : QuietMoment). serves m segment.retries) segment.moments.items) (ap rests (sym same) ∙ settled.at_rest) any),
       ap has_ring (sym same) ∙ settled.no_ring,
     )
 

@@ -23,7 +23,7 @@ use Rattle.mc_replay.proofs.Prefixes.{after_is}
 
 -- ---- the lines of a journal may stand
 
--- a turn behind others, of which the commands are those of the batch
+-- a turn after others, of which the commands are those of the batch
 next_here : (one two batch : List Turn) (turn : Turn) → ((who : ℕ) → commands_of who (one ++ turn ∷ two) ≡ commands_of who batch) → IsNext batch one turn
 next_here one two batch turn same command =
     let test : Turn → Bool = λ t. is_command t.event && t.who == turn.who in
@@ -35,7 +35,7 @@ next_here one two batch turn same command =
     own_box : (b : Bool) (who : ℕ) → IsTrue b → (b && who == who) ≡ true
     own_box b who is = grind (arith)
 
--- a turn of a settled segment may stand behind those before it
+-- a turn of a settled segment may stand after those before it
 turn_may : (one two batch : List Turn) (batches : List (List Turn)) (turn : Turn) (world last : WorldState) → IsSettled world batch (one ++ turn ∷ two) last
     → MayStand (record { begins = world; batches = batch ∷ batches; turns = one }) (Made turn)
 turn_may one two batch batches turn world last settled =

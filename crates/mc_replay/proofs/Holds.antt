@@ -13,7 +13,7 @@ use Rattle.mc_script.specs.declared.command.JournalLine.TheVariants.{Turn as Mad
 use Rattle.mc_replay.specs.Journals.{HoldsAtSettles, lines_for, next_world}
 use Rattle.mc_replay.specs.Laws.{JournalsHold}
 
--- the world behind a turn that is made
+-- the world after a turn that is made
 pub replayed_is : (world next : WorldState) (turn : Turn) → step world turn ≡ Some next → next_world world turn ≡ next
 replayed_is world next turn goes = rw goes refl
 

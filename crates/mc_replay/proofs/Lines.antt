@@ -13,7 +13,7 @@ pub may_both : (one two : List JournalLine) (point : Point) → AllMayStand poin
 may_both [] two point first second = second
 may_both (line ∷ one) two point first second = (first.0, may_both one two (point_behind point line) first.1 second)
 
--- the first line behind some that may all stand
+-- the first line after some that may all stand
 pub may_next : (one others : List JournalLine) (line : JournalLine) (point : Point) → AllMayStand point (one ++ line ∷ others) → MayStand (point_after point one) line
 may_next [] others line point all = all.0
 may_next (first ∷ one) others line point all = may_next one others line (point_behind point first) all.1

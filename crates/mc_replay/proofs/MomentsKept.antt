@@ -11,31 +11,31 @@ use Rattle.mc_model.specs.Worlds.{WorldState}
 use Rattle.mc_seq.proofs.Segments.{all_besides, both_there}
 use Rattle.mc_replay.specs.Counts.{owed_count}
 use Rattle.mc_replay.specs.Moments.{AreMoments, IsKeptOf, IsMoment, no_moment, retry_count}
-use Rattle.mc_replay.specs.declared.moments.Moment.{Moment}
+use Rattle.mc_replay.specs.declared.moments.QuietMoment.{QuietMoment}
 use Rattle.mc_replay.proofs.Prefixes.{after_is, drop_before, drop_end, longer, take_before, take_end}
 
 -- a moment that is one of those that are kept
-abbrev Kept : WorldState → List Turn → ℕ → List Moment → ℕ → Type 0
+abbrev Kept : WorldState → List Turn → ℕ → List QuietMoment → ℕ → Type 0
 Kept world turns before moments n = (i : ℕ) × (i < length moments) × IsKeptOf world turns before n (get_or moments i no_moment)
 
 -- each that is kept is a moment, and each moment before the present is kept
-pub record AreMomentsBefore (world : WorldState) (batch turns : List Turn) (before : ℕ) (moments : List Moment) : Type 0 where
+pub record AreMomentsBefore (world : WorldState) (batch turns : List Turn) (before : ℕ) (moments : List QuietMoment) : Type 0 where
   pub each : (i : ℕ) → i < length moments → (n : ℕ) × IsMoment world batch turns n × IsKeptOf world turns before n (get_or moments i no_moment)
   pub past : (n : ℕ) → n < length turns → IsMoment world batch turns n → Kept world turns before moments n
 
 -- ---- the present
 
-get_first : (xs : List Moment) (x : Moment) (i : ℕ) → i < length xs → get_or (xs ++ x ∷ []) i no_moment ≡ get_or xs i no_moment
+get_first : (xs : List QuietMoment) (x : QuietMoment) (i : ℕ) → i < length xs → get_or (xs ++ x ∷ []) i no_moment ≡ get_or xs i no_moment
 get_first [] x i inside = absurd (omega (arith, inside))
 get_first (y ∷ xs) x zero inside = refl
 get_first (y ∷ xs) x (suc i) inside = get_first xs x i (omega (arith, inside))
 
-get_last : (xs : List Moment) (x : Moment) → get_or (xs ++ x ∷ []) (length xs) no_moment ≡ x
+get_last : (xs : List QuietMoment) (x : QuietMoment) → get_or (xs ++ x ∷ []) (length xs) no_moment ≡ x
 get_last [] x = refl
 get_last (y ∷ xs) x = get_last xs x
 
 -- what is kept of the present
-now_kept : (world last : WorldState) (turns : List Turn) (before n : ℕ) (kept : Moment) → run world turns ≡ Some last → kept.retries ≡ before + retry_count turns → kept.owed ≡ owed_count last → n ≡ length turns → IsKeptOf world turns before n kept
+now_kept : (world last : WorldState) (turns : List Turn) (before n : ℕ) (kept : QuietMoment) → run world turns ≡ Some last → kept.retries ≡ before + retry_count turns → kept.owed ≡ owed_count last → n ≡ length turns → IsKeptOf world turns before n kept
 now_kept world last turns before n kept goes retries owed end =
     let all : take n turns ≡ turns = take_end turns n end in
     record {
@@ -60,7 +60,7 @@ moment_now world last batch turns n goes end moment =
     let all : take n turns ≡ turns = take_end turns n end in
     (ap rests (sym (after_is world last turns goes)) ∙ (ap (λ (l : List Turn). rests (after world l)) (sym all) ∙ moment.at_rest), λ who. ap (commands_of who) (sym all) ∙ moment.used_up who)
 
-kept_by : (now : Bool) (world last : WorldState) (batch turns : List Turn) (before : ℕ) (old : List Moment) (kept : Moment) → run world turns ≡ Some last → AreMomentsBefore world batch turns before old
+kept_by : (now : Bool) (world last : WorldState) (batch turns : List Turn) (before : ℕ) (old : List QuietMoment) (kept : QuietMoment) → run world turns ≡ Some last → AreMomentsBefore world batch turns before old
     → kept.retries ≡ before + retry_count turns → kept.owed ≡ owed_count last
     → (now ≡ true → IsMoment world batch turns (length turns)) → ((n : ℕ) → n ≡ length turns → IsMoment world batch turns n → now ≡ true)
     → AreMoments world batch turns before (if now then old ++ kept ∷ [] else old)
@@ -93,7 +93,7 @@ kept_by false world last batch turns before old kept goes moments retries owed h
 }
 
 -- the present is kept where the world rests and the batch is used up
-pub moments_now : (now : Bool) (world last : WorldState) (batch turns : List Turn) (before : ℕ) (old new : List Moment) (kept : Moment) → run world turns ≡ Some last → AreMomentsBefore world batch turns before old
+pub moments_now : (now : Bool) (world last : WorldState) (batch turns : List Turn) (before : ℕ) (old new : List QuietMoment) (kept : QuietMoment) → run world turns ≡ Some last → AreMomentsBefore world batch turns before old
     → kept.retries ≡ before + retry_count turns → kept.owed ≡ owed_count last
     → (now ≡ true → IsMoment world batch turns (length turns)) → ((n : ℕ) → n ≡ length turns → IsMoment world batch turns n → now ≡ true)
     → new ≡ (if now then old ++ kept ∷ [] else old) → AreMoments world batch turns before new
@@ -109,7 +109,7 @@ no_moments world batch before = record {
 
 -- ---- one turn more
 
--- behind a Take or a retry a moment stays one
+-- after a Take or a retry a moment stays one
 moment_stays : (world : WorldState) (batch turns : List Turn) (turn : Turn) (n : ℕ) → takes_or_retries turn.event ≡ true → IsMoment world batch turns n → IsMoment world batch (turns ++ turn ∷ []) n
 moment_stays world batch turns turn n besides moment =
     let same = take_before turns turn n moment.within in
@@ -121,7 +121,7 @@ moment_stays world batch turns turn n besides moment =
           ∙ (list_all-append (λ (t : Turn). takes_or_retries t.event) (drop n turns) (turn ∷ []) ∙ both_there (all_besides (drop n turns)) (all_besides (turn ∷ [])) moment.besides (both_there (takes_or_retries turn.event) true besides refl));
     }
 
--- and a moment from before was one, and behind it comes a Take or a retry
+-- and a moment from before was one, and after it comes a Take or a retry
 moment_was : (world : WorldState) (batch turns : List Turn) (turn : Turn) (n : ℕ) → n ≤ length turns → IsMoment world batch (turns ++ turn ∷ []) n → IsMoment world batch turns n × (takes_or_retries turn.event ≡ true)
 moment_was world batch turns turn n within moment =
     let same = take_before turns turn n within in
@@ -138,7 +138,7 @@ moment_was world batch turns turn n within moment =
     )
 
 -- what is kept of it is kept of the longer list
-kept_stays : (world : WorldState) (turns : List Turn) (turn : Turn) (before n : ℕ) (kept : Moment) → n ≤ length turns → IsKeptOf world turns before n kept → IsKeptOf world (turns ++ turn ∷ []) before n kept
+kept_stays : (world : WorldState) (turns : List Turn) (turn : Turn) (before n : ℕ) (kept : QuietMoment) → n ≤ length turns → IsKeptOf world turns before n kept → IsKeptOf world (turns ++ turn ∷ []) before n kept
 kept_stays world turns turn before n kept within is =
     let same = sym (take_before turns turn n within) in
     record {
@@ -147,7 +147,7 @@ kept_stays world turns turn before n kept within is =
     }
 
 -- a command and a Shift leave none of those that came before
-forgotten : (b : Bool) (world : WorldState) (batch turns : List Turn) (turn : Turn) (before : ℕ) (old : List Moment) → takes_or_retries turn.event ≡ b → AreMoments world batch turns before old
+forgotten : (b : Bool) (world : WorldState) (batch turns : List Turn) (turn : Turn) (before : ℕ) (old : List QuietMoment) → takes_or_retries turn.event ≡ b → AreMoments world batch turns before old
     → AreMomentsBefore world batch (turns ++ turn ∷ []) before (if b then old else [])
 forgotten true world batch turns turn before old is moments = record {
   each = λ i inside.
@@ -165,7 +165,7 @@ forgotten false world batch turns turn before old is moments = record {
       absurd (let besides = (moment_was world batch turns turn n within moment).1 in cc);
 }
 
-pub moments_forgotten : (world : WorldState) (batch turns : List Turn) (turn : Turn) (before : ℕ) (old new : List Moment) → AreMoments world batch turns before old → new ≡ (if takes_or_retries turn.event then old else [])
+pub moments_forgotten : (world : WorldState) (batch turns : List Turn) (turn : Turn) (before : ℕ) (old new : List QuietMoment) → AreMoments world batch turns before old → new ≡ (if takes_or_retries turn.event then old else [])
     → AreMomentsBefore world batch (turns ++ turn ∷ []) before new
 moments_forgotten world batch turns turn before old new moments is =
     subst (AreMomentsBefore world batch (turns ++ turn ∷ []) before) (sym is) (forgotten (takes_or_retries turn.event) world batch turns turn before old refl moments)

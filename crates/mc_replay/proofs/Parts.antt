@@ -1,4 +1,4 @@
--- A turn of a run, and the worlds before it and behind it.
+-- A turn of a run, and the worlds before it and after it.
 use Rattle.std.proofs.Common.{◌≡◌, ◌++◌, ◌∙◌, List, [], ◌∷◌, Some, IsSome, Option, refl, sym, subst}
 use Rattle.mc_box.proofs.Options.{then_some}
 use Rattle.mc_box.specs.declared.event.Turn.{Turn}
@@ -6,7 +6,7 @@ use Rattle.mc_model.specs.Steps.{after, run, step}
 use Rattle.mc_model.specs.Worlds.{WorldState}
 use Rattle.mc_replay.proofs.Prefixes.{after_is, run_parts}
 
--- a turn of a run can happen behind those before it
+-- a turn of a run can happen after those before it
 pub step_there : (one two : List Turn) (turn : Turn) (world last : WorldState) → run world (one ++ turn ∷ two) ≡ Some last → IsSome (step (after world one) turn)
 step_there one two turn world last goes =
     let parts = run_parts one (turn ∷ two) world last goes in

@@ -1,4 +1,4 @@
--- Turns up to a moment, and those behind it, as one turn more comes; and where runs go on.
+-- Turns up to a moment, and those after it, as one turn more comes; and where runs go on.
 use Rattle.std.proofs.Common.{◌≡◌, ◌≤◌, ◌+◌, ◌++◌, ◌⊎◌, inl, inr, cond, ℕ, Bool, List, [], ◌∷◌, Option, Some, length, take, drop, count_by, length-append, refl, ap, sym, ◌∙◌, arith}
 use Rattle.std.specs.Option.{option_and_then, unwrap_or}
 use Rattle.std.proofs.lemmas.Bool.{cases_lt}
@@ -40,7 +40,7 @@ count_more p turns turn = sum_by_push (λ (t : Turn). cond (p t) 1 0) turns turn
 
 -- ---- runs
 
--- a run comes by the world behind its first part
+-- a run comes by the world after its first part
 pub run_parts : (one two : List Turn) (world last : WorldState) → run world (one ++ two) ≡ Some last → (between : WorldState) × (run world one ≡ Some between) × (run between two ≡ Some last)
 run_parts [] two world last goes = (world, refl, goes)
 run_parts (turn ∷ one) two world last goes =

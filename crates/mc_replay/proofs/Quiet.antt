@@ -11,7 +11,7 @@ use Rattle.mc_model.specs.Settles.{is_empty, is_quiet}
 use Rattle.mc_model.specs.Sound.{IsSound}
 use Rattle.mc_model.specs.Worlds.{WorldState, box_at, front, front_for, lane_of, number, place, slot_count, tunnel_of}
 use Rattle.mc_seq.proofs.Fronts.{none_quiet}
-use Rattle.mc_turn.proofs.Sums.{total_none}
+use Rattle.mc_slot_laws.proofs.Sums.{total_none}
 use Rattle.mc_world.specs.Waiting.{CountsTakes, bit, take_waits, waiting_count}
 
 -- ---- a sum that is 0

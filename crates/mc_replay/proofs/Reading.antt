@@ -43,7 +43,7 @@ turns_more read line = sum_by-append (λ (l : JournalLine). cond (is_turn l) 1 0
 marks_more : (read : List JournalLine) (line : JournalLine) → marks_in (read ++ line ∷ []) ≡ marks_in read + marks_in (line ∷ [])
 marks_more read line = sum_by-append (λ (l : JournalLine). cond (is_mark l) 1 0) read (line ∷ [])
 
--- what follows a turn is shown from the world behind it
+-- what follows a turn is shown from the world after it
 shown_turn : (Shows : WorldState → List PathView → Type 0) (batches : List (List Turn)) (point : Point) (turn : Turn) (old new : Replay) → StandsAt batches point old → StandsAt batches (point_behind point (Made turn)) new
     → (more : List JournalLine) (others : List (List PathView)) → AreShown Shows new.segment.world more others → AreShown Shows old.segment.world (Made turn ∷ more) others
 shown_turn Shows batches point turn old new before behind more others shown =

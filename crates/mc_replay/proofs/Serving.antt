@@ -1,4 +1,4 @@
--- A moment is the last rest of a segment exactly where no slot was retried twice behind it, and as many retries came as slots owed one then.
+-- A moment is the last rest of a segment exactly where no slot was retried twice after it, and as many retries came as slots owed one then.
 use Rattle.std.proofs.Common.{◌≡◌, ◌≤◌, ◌<◌, ◌+◌, ◌++◌, ◌==◌, ◌&&◌, inl, inr, cond, if◌then◌else◌, ℕ, zero, suc, Bool, true, false, List, [], ◌∷◌, IsTrue, Some, length, count_by, refl, ap, sym, ◌∙◌, subst, arith}
 use Rattle.std.proofs.lemmas.Bool.{cases_eq, cases_lt}
 use Rattle.std.proofs.lemmas.Grind.{common_steps}
@@ -22,8 +22,8 @@ use Rattle.mc_model.specs.Worlds.{WorldState, box_at}
 use Rattle.mc_path_laws.specs.PathLaws.{OwedSinceQuiet}
 use Rattle.mc_seq.proofs.Retries.{total_alone}
 use Rattle.mc_seq.proofs.Segments.{all_besides, both_there}
-use Rattle.mc_turn.specs.Sums.{total}
-use Rattle.mc_turn.proofs.Sums.{total_none, total_same}
+use Rattle.mc_slot_laws.specs.Sums.{total}
+use Rattle.mc_slot_laws.proofs.Sums.{total_none, total_same}
 use Rattle.mc_world.specs.Waiting.{bit}
 use Rattle.mc_replay.specs.Counts.{owed_count}
 use Rattle.mc_box.specs.BoxEvents.{is_retry}
@@ -170,7 +170,7 @@ owed_by false law past behind world now next turn who local is sound quiet goes 
     let zero : ◌≡◌ {A = ℕ} (cond (is_retry_of who local turn) 1 0) 0 = ap (λ (b : Bool). cond b 1 0) is in
     later (omega (arith, some, counted, zero))
 
--- the slot of each retry that comes behind a moment owed it then
+-- the slot of each retry that comes after a moment owed it then
 owed_then : OwedSinceQuiet → (behind past : List Turn) (world now last : WorldState) (who local : ℕ) → IsSound world → IsTrue (is_quiet world) → run world past ≡ Some now → all_besides past ≡ true
     → run now behind ≡ Some last → all_besides behind ≡ true → 1 ≤ count_by (is_retry_of who local) behind → IsTrue (world_owes world who local)
 owed_then law [] past world now last who local sound quiet goes besides on all some = absurd (omega (arith, some))
@@ -184,7 +184,7 @@ owed_then law (turn ∷ behind) past world now last who local sound quiet goes b
 
 -- ---- both ways
 
--- what is asked of the retries behind a moment
+-- what is asked of the retries after a moment
 abbrev pub Retrieds : WorldState → List Turn → Type 0
 Retrieds world behind = (who local : ℕ) → count_by (is_retry_of who local) behind ≡ (if world_owes world who local then 1 else 0)
 

@@ -4,7 +4,7 @@ use Rattle.mc_box.specs.BoxEvents.{is_enabled}
 use Rattle.mc_box.specs.Boxes.{BoxState, box_owes}
 use Rattle.mc_box.specs.declared.event.Event.TheVariants.{Shift}
 use Rattle.mc_model.specs.Worlds.{WorldState, box_at}
-use Rattle.mc_turn.specs.Sums.{total}
+use Rattle.mc_slot_laws.specs.Sums.{total}
 use Rattle.mc_world.specs.Waiting.{bit}
 use Rattle.mc_replay.specs.declared.counts.Counts.{Counts}
 

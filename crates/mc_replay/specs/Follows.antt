@@ -27,12 +27,14 @@ pub record Stands (segment : Segment) : Type 0 where
   pub counted : AreCounted segment.world segment.counts
   pub numbered : AreNumbered (slot_count segment.world) segment.retries
 
--- a segment has followed these turns from a world: they lead to its world, box by box they have made the first commands of the batch, and the moments are kept that may be the last rest
+-- a segment has followed these turns from a world: they lead to its world, box by box they have made the first commands
+-- of the batch, and the moments are kept that may be the last rest
 pub record Follows (begins : WorldState) (batch turns : List Turn) (segment : Segment) : Type 0 where
   pub runs : run begins turns ≡ Some segment.world
   pub sound : IsSound begins
   pub stands : Stands segment
-  pub commands : (who : ℕ) → commands_of who turns ++ commands_of who (commands_left segment.left) ≡ commands_of who batch
+  pub commands : (who : ℕ)
+      → commands_of who turns ++ commands_of who (commands_left segment.left) ≡ commands_of who batch
   pub before : ℕ
   pub retries : AreRetries begins turns before segment.retries
   pub moments : AreMoments begins batch turns before segment.moments.items
@@ -46,16 +48,21 @@ abbrev pub TellsNext : List Turn → Turn → Bool → Type 0
 TellsNext left turn true = IsTrue (is_command turn.event) → next_of turn.who left ≡ Some turn
 TellsNext left turn false = IsTrue (is_command turn.event) × (next_of turn.who left ≢ Some turn)
 
--- what becomes of a turn behind those that a segment has followed
+-- what becomes of a turn after those that a segment has followed
 abbrev pub MakesTurn : WorldState → (batch turns : List Turn) → Turn → Result (Unit {0}) TurnFault → Segment → Type 0
-MakesTurn begins batch turns turn (Ok done) new = Follows begins batch (turns ++ turn ∷ []) new × IsNext batch turns turn
-MakesTurn begins batch turns turn (Err NotNext) new = IsTrue (is_command turn.event) × (next_command batch turns turn.who ≢ Some turn)
-MakesTurn begins batch turns turn (Err NotEnabled) new = IsNext batch turns turn × (step (after begins turns) turn ≡ None)
+MakesTurn begins batch turns turn (Ok done) new =
+    Follows begins batch (turns ++ turn ∷ []) new × IsNext batch turns turn
+MakesTurn begins batch turns turn (Err NotNext) new =
+    IsTrue (is_command turn.event) × (next_command batch turns turn.who ≢ Some turn)
+MakesTurn begins batch turns turn (Err NotEnabled) new =
+    IsNext batch turns turn × (step (after begins turns) turn ≡ None)
 MakesTurn begins batch turns turn (Err (NoMemory e)) new = Unit {0}
 
 -- nothing is left of the batch, the world rests, and some moment that is kept may be the last rest
 abbrev pub is_last : Segment → Bool
-is_last segment = length (commands_left segment.left) == 0 && (rests segment.world && list_any (λ moment. serves moment segment.retries) segment.moments.items)
+is_last segment =
+    length (commands_left segment.left) == 0
+    && (rests segment.world && list_any (λ moment. serves moment segment.retries) segment.moments.items)
 
 -- what is answered of turns where a line says that they settle the batch
 abbrev pub TellsSettled : WorldState → (batch turns : List Turn) → WorldState → Bool → Type 0

@@ -1,4 +1,4 @@
--- A journal: the turns of every settle, in order, each settle with its mark behind it, and what is shown at the marks.
+-- A journal: the turns of every settle, in order, each settle with its mark after it, and what is shown at the marks.
 use Rattle.std.specs.Prelude.{◌≡◌, List, [], ◌∷◌, ◌++◌, map}
 use Rattle.std.specs.List.{All}
 use Rattle.std.specs.Option.{unwrap_or}
@@ -27,14 +27,16 @@ IsJournal world (batch ∷ batches) journal =
 abbrev pub next_world : WorldState → Turn → WorldState
 next_world world turn = unwrap_or (step world turn) world
 
--- at each settle the two end slots of every path are in the path's state, and where it flows they have each other's newest descriptor and the choice for it
+-- at each settle the two end slots of every path are in the path's state, and where it flows they have each other's
+-- newest descriptor and the choice for it
 abbrev pub HoldsAtSettles : WorldState → List JournalLine → Type 0
 HoldsAtSettles world [] = Unit {0}
 HoldsAtSettles world (Made turn ∷ journal) = HoldsAtSettles (next_world world turn) journal
 HoldsAtSettles world (Settled ∷ journal) = All (PathHolds world) (paths world) × HoldsAtSettles world journal
 
 -- there is one list of views for each settle, in order, and it shows the world there
-abbrev pub AreShown : (WorldState → List PathView → Type 0) → WorldState → List JournalLine → List (List PathView) → Type 0
+abbrev pub AreShown : (WorldState → List PathView → Type 0) → WorldState → List JournalLine → List (List PathView)
+    → Type 0
 AreShown Shows world [] shown = shown ≡ []
 AreShown Shows world (Made turn ∷ journal) shown = AreShown Shows (next_world world turn) journal shown
 AreShown Shows world (Settled ∷ journal) [] = ⊥

@@ -10,17 +10,24 @@ use Rattle.mc_replay.specs.Points.{turns_in}
 
 -- no two faults
 abbrev pub OneJournalFault : Type 0
-OneJournalFault = (world : WorldState) (batches : List (List Turn)) (lines : List JournalLine) (bad : Bool) (number turn other_number other_turn : ℕ)
-    → IsJournalFault world batches lines bad number turn → IsJournalFault world batches lines bad other_number other_turn → (number ≡ other_number) × (turn ≡ other_turn)
+OneJournalFault =
+    (world : WorldState) (batches : List (List Turn)) (lines : List JournalLine) (bad : Bool)
+    (number turn other_number other_turn : ℕ)
+    → IsJournalFault world batches lines bad number turn
+    → IsJournalFault world batches lines bad other_number other_turn → (number ≡ other_number) × (turn ≡ other_turn)
 
 -- of each journal one number of lines may stand and no more
 abbrev pub OnePlace : Type 0
-OnePlace = (world : WorldState) (batches : List (List Turn)) (lines : List JournalLine) (count other : ℕ) → StandsFor world batches lines count → StandsFor world batches lines other → count ≡ other
+OnePlace =
+    (world : WorldState) (batches : List (List Turn)) (lines : List JournalLine) (count other : ℕ)
+    → StandsFor world batches lines count → StandsFor world batches lines other → count ≡ other
 
 -- and a fault's turn is one more than the turns among these
 abbrev pub FaultsStandThere : Type 0
-FaultsStandThere = (world : WorldState) (batches : List (List Turn)) (lines : List JournalLine) (bad : Bool) (number turn count : ℕ)
-    → IsJournalFault world batches lines bad number turn → StandsFor world batches lines count → turn ≡ turns_in (take count lines) + 1
+FaultsStandThere =
+    (world : WorldState) (batches : List (List Turn)) (lines : List JournalLine) (bad : Bool) (number turn count : ℕ)
+    → IsJournalFault world batches lines bad number turn → StandsFor world batches lines count
+    → turn ≡ turns_in (take count lines) + 1
 
 -- a journal of the batches has none
 abbrev pub GoodOrFaulty : Type 0
@@ -29,4 +36,6 @@ GoodOrFaulty = (world : WorldState) (batches : List (List Turn)) (lines : List J
 
 -- at each settle of a journal from a sound world the paths are as the table says
 abbrev pub JournalsHold : Type 0
-JournalsHold = (world : WorldState) (batches : List (List Turn)) (lines : List JournalLine) → IsSound world → IsJournal world batches lines → HoldsAtSettles world lines
+JournalsHold =
+    (world : WorldState) (batches : List (List Turn)) (lines : List JournalLine) → IsSound world
+    → IsJournal world batches lines → HoldsAtSettles world lines

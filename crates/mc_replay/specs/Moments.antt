@@ -1,4 +1,4 @@
--- The moments of a segment that may be its last rest, and the retries behind them.
+-- The moments of a segment that may be its last rest, and the retries after them.
 use Rattle.std.specs.Prelude.{◌≡◌, ◌↔◌, ◌<◌, ◌≤◌, ◌+◌, ◌-◌, ◌==◌, ◌&&◌, ◌++◌, nat_le, if◌then◌else◌, ℕ, Bool, List, [], ◌∷◌, length, max, take, drop, count_by, slice_index_or, slice_set, IsTrue, Option, Some, None}
 use Rattle.std.specs.List.{list_all}
 use Rattle.mc_box.specs.BoxEvents.{is_retry}
@@ -9,7 +9,7 @@ use Rattle.mc_model.specs.Settles.{commands_of, is_retry_of, rests, takes_or_ret
 use Rattle.mc_model.specs.Steps.{after}
 use Rattle.mc_model.specs.Worlds.{WorldState, number, place, slot_count}
 use Rattle.mc_replay.specs.Counts.{owed_count}
-use Rattle.mc_replay.specs.declared.moments.Moment.{Moment}
+use Rattle.mc_replay.specs.declared.moments.QuietMoment.{QuietMoment}
 use Rattle.mc_replay.specs.declared.retries.Retries.{Retries}
 
 -- ---- moments
@@ -18,34 +18,38 @@ use Rattle.mc_replay.specs.declared.retries.Retries.{Retries}
 abbrev pub retry_count : List Turn → ℕ
 retry_count turns = count_by (λ turn. is_retry turn.event) turns
 
--- behind so many of the turns the world rests, the batch is used up, and besides only Takes and retries come
+-- after so many of the turns the world rests, the batch is used up, and besides only Takes and retries come
 pub record IsMoment (world : WorldState) (batch turns : List Turn) (moment : ℕ) : Type 0 where
   pub within : moment ≤ length turns
   pub at_rest : IsTrue (rests (after world (take moment turns)))
   pub used_up : (who : ℕ) → commands_of who (take moment turns) ≡ commands_of who batch
   pub besides : IsTrue (list_all (λ turn. takes_or_retries turn.event) (drop moment turns))
 
--- what is kept of such a moment, where so many retries came before the segment: how many have come until then, and how many slots owed one then
-pub record IsKeptOf (world : WorldState) (turns : List Turn) (before moment : ℕ) (kept : Moment) : Type 0 where
+-- what is kept of such a moment, where so many retries came before the segment: how many have come until then, and how
+-- many slots owed one then
+pub record IsKeptOf (world : WorldState) (turns : List Turn) (before moment : ℕ) (kept : QuietMoment) : Type 0 where
   pub retries : kept.retries ≡ before + retry_count (take moment turns)
   pub owed : kept.owed ≡ owed_count (after world (take moment turns))
 
-abbrev pub no_moment : Moment
+abbrev pub no_moment : QuietMoment
 no_moment = record { retries = 0; owed = 0 }
 
--- the present behind those that are kept, where it is one
-abbrev pub with_present : Bool → Moment → List Moment → List Moment
+-- the present after those that are kept, where it is one
+abbrev pub with_present : Bool → QuietMoment → List QuietMoment → List QuietMoment
 with_present is_one present moments = if is_one then moments ++ present ∷ [] else moments
 
 -- each moment is kept, and no other
-pub record AreMoments (world : WorldState) (batch turns : List Turn) (before : ℕ) (moments : List Moment) : Type 0 where
-  pub each : (i : ℕ) → i < length moments → (moment : ℕ) × IsMoment world batch turns moment × IsKeptOf world turns before moment (slice_index_or moments i no_moment)
-  pub all : (moment : ℕ) → IsMoment world batch turns moment → (i : ℕ) × (i < length moments) × IsKeptOf world turns before moment (slice_index_or moments i no_moment)
+pub record AreMoments (world : WorldState) (batch turns : List Turn) (before : ℕ) (moments : List QuietMoment) : Type 0 where
+  pub each : (i : ℕ) → i < length moments
+      → (moment : ℕ) × IsMoment world batch turns moment
+      × IsKeptOf world turns before moment (slice_index_or moments i no_moment)
+  pub all : (moment : ℕ) → IsMoment world batch turns moment
+      → (i : ℕ) × (i < length moments) × IsKeptOf world turns before moment (slice_index_or moments i no_moment)
 
 -- ---- retries
 
--- no slot was retried twice behind a moment, and as many slots were retried as owed one then
-abbrev pub serves : Moment → Retries → Bool
+-- no slot was retried twice after a moment, and as many slots were retried as owed one then
+abbrev pub serves : QuietMoment → Retries → Bool
 serves moment retries = nat_le retries.low moment.retries && retries.made - moment.retries == moment.owed
 
 -- no slot is retried twice among these turns
@@ -56,11 +60,16 @@ AreRetriedOnce turns = (who local : ℕ) → count_by (is_retry_of who local) tu
 abbrev pub retries_at : WorldState → ℕ → List Turn → ℕ
 retries_at world s turns = count_by (is_retry_of (place world s).0 (place world s).1) turns
 
--- the retries of a segment, where so many came before it: of each slot the number of its last one, so that it is known whether one came behind any moment, and the greatest number of a slot that was retried again, so that it is known whether some slot was retried twice behind it
+-- the retries of a segment, where so many came before it: of each slot the number of its last one, so that it is known
+-- whether one came after any moment, and the greatest number of a slot that was retried again, so that it is known
+-- whether some slot was retried twice after it
 pub record AreRetries (world : WorldState) (turns : List Turn) (before : ℕ) (retries : Retries) : Type 0 where
   pub made : retries.made ≡ before + retry_count turns
-  pub last : (moment s : ℕ) → moment ≤ length turns → s < slot_count world → (before + retry_count (take moment turns) < slice_index_or retries.last.items s 0) ↔ (1 ≤ retries_at world s (drop moment turns))
-  pub low : (moment : ℕ) → moment ≤ length turns → (retries.low ≤ before + retry_count (take moment turns)) ↔ AreRetriedOnce (drop moment turns)
+  pub last : (moment s : ℕ) → moment ≤ length turns → s < slot_count world
+      → (before + retry_count (take moment turns) < slice_index_or retries.last.items s 0) ↔
+      (1 ≤ retries_at world s (drop moment turns))
+  pub low : (moment : ℕ) → moment ≤ length turns
+      → (retries.low ≤ before + retry_count (take moment turns)) ↔ AreRetriedOnce (drop moment turns)
 
 -- no slot has a number beyond those of the retries so far
 pub record AreNumbered (count : ℕ) (retries : Retries) : Type 0 where

@@ -1,4 +1,4 @@
--- Where a journal stands behind some of its lines, and which line may stand there.
+-- Where a journal stands after some of its lines, and which line may stand there.
 use Rattle.std.specs.Prelude.{◌≢◌, ℕ, Bool, true, false, IsSome, List, [], ◌∷◌, ◌++◌, count_by, drop}
 use Rattle.mc_box.specs.declared.event.Turn.{Turn}
 use Rattle.mc_model.specs.Settles.{IsSettled}
@@ -21,7 +21,7 @@ first_point world batches = record { begins = world; batches = batches; turns = 
 abbrev pub world_at : Point → WorldState
 world_at point = after point.begins point.turns
 
--- the batch of the segment; none is left behind the last mark
+-- the batch of the segment; none is left after the last mark
 abbrev pub first_batch : List (List Turn) → List Turn
 first_batch [] = []
 first_batch (batch ∷ batches) = batch
@@ -47,7 +47,7 @@ KeepsLineRules point Settled = IsSettled point.begins (batch_at point) point.tur
 abbrev pub MayStand : Point → JournalLine → Type 0
 MayStand point line = (point.batches ≢ []) × KeepsLineRules point line
 
--- and so may each of these lines, behind those before it
+-- and so may each of these lines, after those before it
 abbrev pub AllMayStand : Point → List JournalLine → Type 0
 AllMayStand point [] = Unit {0}
 AllMayStand point (line ∷ lines) = MayStand point line × AllMayStand (point_behind point line) lines

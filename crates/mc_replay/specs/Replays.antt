@@ -24,24 +24,29 @@ pub record StandsAt (batches : List (List Turn)) (point : Point) (replay : Repla
   pub allowed : AreAllAllowed replay.segment.world batches
   pub retries : replay.segment.retries.made ≤ replay.turns
 
--- a line that may stand there is counted, and the replay stands behind it
-pub record GoesBehind (batches : List (List Turn)) (point : Point) (line : JournalLine) (old new : Replay) : Type 0 where
+-- a line that may stand there is counted, and the replay stands after it
+pub record GoesBehind (batches : List (List Turn)) (point : Point) (line : JournalLine)
+    (old new : Replay) : Type 0 where
   pub may : MayStand point line
   pub stands : StandsAt batches (point_behind point line) new
   pub turns : new.turns ≡ old.turns + turns_in (line ∷ [])
   pub marks : new.settled ≡ old.settled + marks_in (line ∷ [])
 
--- what comes of a line: the replay goes on, or the line is faulty, and stands after as many lines as turns and marks are counted
+-- what comes of a line: the replay goes on, or the line is faulty, and stands after as many lines as turns and marks
+-- are counted
 abbrev pub Reads : List (List Turn) → Point → JournalLine → Replay → Result (Unit {0}) ReplayFault → Replay → Type 0
 Reads batches point line old (Ok done) new = GoesBehind batches point line old new
-Reads batches point line old (Err (At fault)) new = IsLineFault point line fault.number × (fault.turn ≡ old.turns + 1) × (fault.before ≡ old.turns + old.settled)
+Reads batches point line old (Err (At fault)) new =
+    IsLineFault point line fault.number × (fault.turn ≡ old.turns + 1) × (fault.before ≡ old.turns + old.settled)
 Reads batches point line old (Err (NoMemory e)) new = Unit {0}
 
--- the end has no fault: no line behind the others is bad, and so many batches have their marks
+-- the end has no fault: no line after the others is bad, and so many batches have their marks
 abbrev pub EndsJournal : (count : ℕ) → Replay → (bad : Bool) → Result (Unit {0}) ReplayFault → Type 0
 EndsJournal count replay bad (Ok done) = (bad ≡ false) × (count ≤ replay.settled)
-EndsJournal count replay bad (Err (At fault)) = (fault.turn ≡ replay.turns + 1) × (fault.before ≡ replay.turns + replay.settled)
-    × (((bad ≡ true) × (fault.number ≡ NO_LINE)) ⊎ ((bad ≡ false) × (replay.settled < count) × (fault.number ≡ ENDS_EARLY)))
+EndsJournal count replay bad (Err (At fault)) =
+    (fault.turn ≡ replay.turns + 1) × (fault.before ≡ replay.turns + replay.settled)
+    × (((bad ≡ true) × (fault.number ≡ NO_LINE))
+    ⊎ ((bad ≡ false) × (replay.settled < count) × (fault.number ≡ ENDS_EARLY)))
 EndsJournal count replay bad (Err (NoMemory e)) = Unit {0}
 
 -- a replay of which no line is read yet
@@ -55,14 +60,18 @@ abbrev pub views_of : List (Vec PathView Global) → List (List PathView)
 views_of kept = map (λ views. views.items) kept
 
 -- a mark adds one list of views, that of the world there
-abbrev pub AddsShown : (WorldState → List PathView → Type 0) → WorldState → JournalLine → (old new : List (List PathView)) → Type 0
+abbrev pub AddsShown : (WorldState → List PathView → Type 0) → WorldState → JournalLine
+    → (old new : List (List PathView)) → Type 0
 AddsShown Shows world (Made turn) old new = new ≡ old
 AddsShown Shows world Settled old new = (views : List PathView) × Shows world views × (new ≡ old ++ views ∷ [])
 
--- these lines were read from a world, and may all stand there; what follows is shown behind what was shown at their marks
-pub record HasReplayed (Shows : WorldState → List PathView → Type 0) (start : WorldState) (batches : List (List Turn)) (read : List JournalLine) (replay : Replay) (shown : List (List PathView)) : Type 0 where
+-- these lines were read from a world, and may all stand there; what follows is shown after what was shown at their
+-- marks
+pub record HasReplayed (Shows : WorldState → List PathView → Type 0) (start : WorldState) (batches : List (List Turn))
+    (read : List JournalLine) (replay : Replay) (shown : List (List PathView)) : Type 0 where
   pub may : AllMayStand (first_point start batches) read
   pub stands : StandsAt batches (point_after (first_point start batches) read) replay
   pub turns : replay.turns ≡ turns_in read
   pub marks : replay.settled ≡ marks_in read
-  pub views : (more : List JournalLine) (others : List (List PathView)) → AreShown Shows replay.segment.world more others → AreShown Shows start (read ++ more) (shown ++ others)
+  pub views : (more : List JournalLine) (others : List (List PathView))
+      → AreShown Shows replay.segment.world more others → AreShown Shows start (read ++ more) (shown ++ others)

@@ -37,7 +37,8 @@ pub record KeepsPace (replay : Replay) (whys : WhysState) : Type 0 where
 -- a turn is noted that has led from a world to that of a replay
 pub record NotesMade (old : WorldState) (turn : Turn) (replay : Replay) (before after : WhysState) : Type 0 where
   pub pace : KeepsPace replay after
-  pub tells : (first : WorldState) (turns : List Turn) → TellsCauses first turns old before → TellsCauses first (turns ++ turn ∷ []) replay.segment.world after
+  pub tells : (first : WorldState) (turns : List Turn) → TellsCauses first turns old before
+      → TellsCauses first (turns ++ turn ∷ []) replay.segment.world after
 
 -- the same where it is asked for
 abbrev pub HasNoted : WorldState → Turn → Replay → (before after : Option WhysState) → Type 0
@@ -61,7 +62,9 @@ told_of telling = whys_of telling.told.items
 -- what a line does to it: a turn is noted, and a mark tells
 abbrev pub TellsLine : WorldState → JournalLine → Replay → (old new : Telling) → Type 0
 TellsLine world (Made turn) replay old new = HasNoted world turn replay old.whys new.whys × (told_of new ≡ told_of old)
-TellsLine world Settled replay old new = (new.whys ≡ old.whys) × AddsWhys old.whys (told_of old) (told_of new) × (replay.segment.world ≡ world) × IfSome new.whys (KeepsPace replay)
+TellsLine world Settled replay old new =
+    (new.whys ≡ old.whys) × AddsWhys old.whys (told_of old) (told_of new) × (replay.segment.world ≡ world)
+    × IfSome new.whys (KeepsPace replay)
 
 -- these lines were read from a world, and have led to another; what follows is told after what was told at their marks
 pub record HasTold (first : WorldState) (read : List JournalLine) (last : WorldState) (telling : Telling) : Type 0 where
@@ -69,4 +72,5 @@ pub record HasTold (first : WorldState) (read : List JournalLine) (last : WorldS
   pub asked : telling.whys ≡ Some kept
   pub slots : AreOfSlots last kept
   pub causes : TellsCauses first (turns_among read) last kept
-  pub told : (more : List JournalLine) (others : List (List (Option ℕ))) → AreTold first (turns_among read) more others → AreTold first [] (read ++ more) (told_of telling ++ others)
+  pub told : (more : List JournalLine) (others : List (List (Option ℕ))) → AreTold first (turns_among read) more others
+      → AreTold first [] (read ++ more) (told_of telling ++ others)

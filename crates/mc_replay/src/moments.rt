@@ -13,13 +13,13 @@ use std::alloc::AllocError;
 // What is kept of a moment at which the world rests and the batch is used up: how many retries were made until then,
 // and how many slots owed one.
 #[derive(Clone, Copy)]
-pub struct Moment {
+pub struct QuietMoment {
     pub retries: u64,
     pub owed: u64,
 }
 
 // Forgets all moments at a command and at a Shift, which come before the last rest.
-pub fn forget(moments: &mut Vec<Moment>, event: Event)
+pub fn forget(moments: &mut Vec<QuietMoment>, event: Event)
     ensures { moments.new.items ≡ (if takes_or_retries event then moments.old.items else []) }
 {
     if !takes_or_retries(event) {
@@ -34,14 +34,14 @@ fn takes_or_retries(event: Event) -> bool
     matches!(event, Event::Take(_) | Event::Retry(_))
 }
 
-// Whether some moment may be the last rest: behind it no slot was retried twice, and as many were as owed a retry.
-pub fn some_serves(moments: &[Moment], retries: &Retries) -> bool
+// Whether some moment may be the last rest: after it no slot was retried twice, and as many were as owed a retry.
+pub fn some_serves(moments: &[QuietMoment], retries: &Retries) -> bool
     ensures { result ≡ list_any (λ moment. serves moment retries.now) moments.now }
 {
     moments.iter().any(|moment| serves(moment, retries))
 }
 
-fn serves(moment: &Moment, retries: &Retries) -> bool
+fn serves(moment: &QuietMoment, retries: &Retries) -> bool
     ensures { result ≡ serves moment.now retries.now }
 {
     retries.low <= moment.retries && retries.made.saturating_sub(moment.retries) == moment.owed

@@ -85,7 +85,7 @@ impl Replay {
         Ok(())
     }
 
-    // The end of the lines, behind which a bad one may stand.
+    // The end of the lines, after which a bad one may stand.
     pub fn end(&self, batches: &[Batch], bad: bool) -> Result<(), ReplayFault>
         requires { self.now.turns + self.now.settled + 1 < 2 ^ 32 }
         ensures { EndsJournal (length batches.now) self.now bad result }

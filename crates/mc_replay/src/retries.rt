@@ -9,7 +9,7 @@ use mc_world::World;
 use std::alloc::{AllocError, Global};
 
 // How many retries were made, for each slot the number of its last one (0 where there is none), and the greatest such
-// number of a slot that was retried again. So no slot was retried twice behind the first `n` retries where that number
+// number of a slot that was retried again. So no slot was retried twice after the first `n` retries where that number
 // is at most `n`.
 #[derive(Drop)]
 pub struct Retries {

@@ -7,7 +7,7 @@ pub const NOT_ENABLED: u8 = 31;
 /// Each line is one of a journal.
 pub const NO_LINE: u8 = 32;
 
-/// A mark stands where the turns since the last one have settled the next batch, and nothing stands behind the mark of
+/// A mark stands where the turns since the last one have settled the next batch, and nothing stands after the mark of
 /// the last batch.
 pub const NOT_SETTLED: u8 = 33;
 

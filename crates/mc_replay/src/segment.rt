@@ -14,7 +14,7 @@ ghost use Rattle.mc_replay.specs.Moments.{with_present};
 ghost use Rattle.mc_replay.specs.declared.segment.TurnFault.TheVariants.{NoMemory};
 
 use crate::counts::{Counts, count_all, counts_of, recounted};
-use crate::moments::{Moment, forget, is_quiet, some_serves};
+use crate::moments::{QuietMoment, forget, is_quiet, some_serves};
 use crate::retries::{Retries, count_retry, no_retries};
 use mc_box::Turn;
 use mc_seq::{Commands, all_commands, drop_command, is_command, next_command};
@@ -29,7 +29,7 @@ pub struct Segment {
     pub left: Commands,
     pub counts: Counts,
     pub retries: Retries,
-    pub moments: Vec<Moment>,
+    pub moments: Vec<QuietMoment>,
 }
 
 // Why a turn isn't made.
@@ -71,7 +71,7 @@ fn first_parts(
     alloc: Global,
     world: &World,
     batch: &[Turn],
-) -> Result<(Commands, Counts, Retries, Vec<Moment>), AllocError>
+) -> Result<(Commands, Counts, Retries, Vec<QuietMoment>), AllocError>
     requires { AreAllowed world.now batch.now }
     ensures follows { IfOk result (λ parts. Follows world.now batch.now []
         (record { world = world.now; left = parts.0; counts = parts.1; retries = parts.2; moments = parts.3 })) }
@@ -88,7 +88,7 @@ fn first_parts(
 
 // Keeps a moment at which the world rests and the batch is used up.
 fn keep_moment(
-    moments: &mut Vec<Moment>,
+    moments: &mut Vec<QuietMoment>,
     world: &World,
     left: &Commands,
     counts: Counts,
@@ -101,7 +101,7 @@ fn keep_moment(
         (record { retries = retries.now.made; owed = counts.owed }) moments.old.items) }
 {
     if rests(world, counts) && left.count == 0 {
-        moments.push(Moment {
+        moments.push(QuietMoment {
             retries: retries.made,
             owed: counts.owed,
         })?;

@@ -29,7 +29,7 @@ all_stand retries old ran run = chosen (λ (who : ℕ). StandsIn retries) old ra
 abbrev pub befores : List BoxWork → List Worker
 befores rounds = map (λ (round : BoxWork). round.before) rounds
 
--- those behind it
+-- those after it
 abbrev pub afters : List Member → List Worker
 afters ran = map (λ (member : Member). member.worker) ran
 

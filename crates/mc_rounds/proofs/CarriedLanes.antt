@@ -1,4 +1,4 @@
--- What is under way on each lane behind a round.
+-- What is under way on each lane after a round.
 use Rattle.std.proofs.Common.{◌≡◌, ℕ, ◌+◌, ◌*◌, ◌/◌, ◌%◌, ◌<◌, ◌==◌, Bool, true, false, if◌then◌else◌, List, [], ◌∷◌, ◌++◌, Some, length, map, slice_get, refl, ap, sym, ◌∙◌, arith}
 use Rattle.std.proofs.lemmas.Grind.{common_steps}
 use Rattle.std.proofs.lemmas.List.{map-append}
@@ -72,7 +72,7 @@ rest_under_way giving taking =
     ∙ (ap (λ (l : List Tagged). l ++ map without_stamp (left ++ giving.outbox)) (unclaimed_back taking.inbox)
     ∙ ap (λ (l : List Tagged). taking.inbox ++ l) (map-append without_stamp left giving.outbox))
 
--- what the ring was given was taken or is left; all that is under way is in the inbox behind the carrying
+-- what the ring was given was taken or is left; all that is under way is in the inbox after the carrying
 pub record IsLeft (ran new : List Member) (ends : LaneEnds) : Type 0 where
   pub order : (taking_end ran ends).got ++ left_between (giving_end ran ends) (taking_end ran ends) ≡ (giving_end ran ends).given
   pub inbox : (taking_end new ends).inbox ≡ under_way_between (giving_end ran ends) (taking_end ran ends)

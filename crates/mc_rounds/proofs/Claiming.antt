@@ -28,7 +28,7 @@ use Rattle.mc_worker.specs.Account.{logged}
 use Rattle.std.proofs.lemmas.Simd.{map-map}
 use Rattle.mc_worker.specs.declared.worker.Worker.{Worker}
 
--- the logs of all boxes, and what is under way behind them, are what the merge law asks for; the boxes keep the logs, and each had its own round
+-- the logs of all boxes, and what is under way after them, are what the merge law asks for; the boxes keep the logs, and each had its own round
 pub record IsRoundClaimed (retries : Bool) (channels : List ChannelState) (lanes : List LaneEnds) (old ran new : List Member) : Type 0 where
   pub logs : List (List Claimed)
   pub rests : List (List Stamped)
@@ -37,7 +37,7 @@ pub record IsRoundClaimed (retries : Bool) (channels : List ChannelState) (lanes
   pub kept : round_logs new ≡ map (λ (log : List Claimed). map logged log) logs
   pub each : (who : ℕ) (a c : Member) → slice_get old who ≡ Some a → slice_get ran who ≡ Some c → BoxRound retries a c (claimed_of logs who)
 
--- ---- what is under way behind a round
+-- ---- what is under way after a round
 
 -- what is left on a lane is what waits at its end
 lane_left : (ran new : List Member) (lanes : List LaneEnds) (lane : ℕ) (rest : List Stamped) (ends : LaneEnds) → ((l : ℕ) → l < length lanes → IsLeft ran new (ends_of_lane lanes l))

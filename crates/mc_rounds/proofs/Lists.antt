@@ -28,7 +28,7 @@ in_front [] back i d h = absurd (omega arith)
 in_front (x ∷ xs) back zero d h = refl
 in_front (x ∷ xs) back (suc i) d h = in_front xs back i d (omega arith)
 
--- and first behind it
+-- and first after it
 pub first_behind : {X : Type 0} (front back : List X) (d : X) → 0 < length back → slice_get (front ++ back) (length front) ≡ Some (slice_index_or back 0 d)
 first_behind [] [] d h = absurd (omega arith)
 first_behind [] (y ∷ ys) d h = refl
@@ -128,7 +128,7 @@ take_one (y ∷ ys) (suc n) x e = let more : suc n + 1 ≡ suc (n + 1) = omega a
 pub take_whole : {X : Type 0} (xs : List X) (n : ℕ) → length xs ≤ n → take n xs ≡ xs
 take_whole xs n long = grind (arith, common_steps)
 
--- what stands in front of a list, and behind it
+-- what stands in front of a list, and after it
 pub get_before : {X : Type 0} (xs ys : List X) (i : ℕ) → i < length xs → slice_get (xs ++ ys) i ≡ slice_get xs i
 get_before [] ys i within = absurd (omega arith)
 get_before (x ∷ xs) ys zero within = refl

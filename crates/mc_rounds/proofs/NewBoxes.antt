@@ -8,7 +8,7 @@ use Rattle.mc_rounds.proofs.ByPlace.{map_same}
 use Rattle.mc_rounds.specs.Made.{AreApart, CanMake, IsNewMember, IsTakenFor, LeavesOthers}
 use Rattle.mc_rounds.specs.Layouts.{AreEnds, IsLayoutOf, at_end, inner_lists, of_box}
 use Rattle.mc_rounds.specs.declared.team.layout.LaneEnds.{LaneEnds}
-use Rattle.mc_rounds.specs.declared.team.layout.Layout.{Layout}
+use Rattle.mc_rounds.specs.declared.team.layout.TeamLayout.{TeamLayout}
 use Rattle.mc_model.specs.Worlds.{ChannelState}
 use Rattle.mc_port.specs.declared.ends.InPort.{InPort}
 use Rattle.mc_port.specs.declared.ends.OutPort.{OutPort}
@@ -24,7 +24,7 @@ use Rattle.mc_worker.specs.declared.limit.TheConstants.{END_LIMIT}
 -- ---- what is left
 
 -- what a layout and lanes have for the boxes from one on is what they had first
-pub record IsLeft (first : Layout) (under_way : List (List Tagged)) (who : ℕ) (layout : Layout) (now : List (List Tagged)) : Type 0 where
+pub record IsLeft (first : TeamLayout) (under_way : List (List Tagged)) (who : ℕ) (layout : TeamLayout) (now : List (List Tagged)) : Type 0 where
   pub lanes : layout.lanes ≡ first.lanes
   pub ends : layout.ends ≡ first.ends
   pub places_count : length (inner_lists layout.places.items) ≡ length (inner_lists first.places.items)
@@ -52,7 +52,7 @@ one_taker lanes ends who k i j lane are here there =
     let a = are.taker who i lane here in let b = are.taker k j lane there in (sym a.0 ∙ b.0, sym a.1 ∙ b.1)
 
 -- what was taken for a box leaves the later ones what they had
-pub left_more : (first old new : Layout) (under_way now more : List (List Tagged)) (who : ℕ) → AreEnds first.lanes.items (inner_lists first.ends.items) → IsLeft first under_way who old now
+pub left_more : (first old new : TeamLayout) (under_way now more : List (List Tagged)) (who : ℕ) → AreEnds first.lanes.items (inner_lists first.ends.items) → IsLeft first under_way who old now
     → IsTakenFor who old new → LeavesOthers (of_box (inner_lists old.ends.items) who) now more → IsLeft first under_way (who + 1) new more
 left_more first old new under_way now more who are left taken leaves = record {
   lanes = taken.lanes ∙ left.lanes;
@@ -76,7 +76,7 @@ left_more first old new under_way now more who are left taken leaves = record {
 -- ---- a member
 
 -- a member with what is left is one with what there was first
-pub made_first : (first layout : Layout) (under_way now : List (List Tagged)) (who : ℕ) (member : Member) → IsLeft first under_way who layout now → IsNewMember layout now who member → IsNewMember first under_way who member
+pub made_first : (first layout : TeamLayout) (under_way now : List (List Tagged)) (who : ℕ) (member : Member) → IsLeft first under_way who layout now → IsNewMember layout now who member → IsNewMember first under_way who member
 made_first first layout under_way now who member left made = record {
   place = made.place ∙ left.places who (omega arith);
   ins = made.ins ∙ left.ins who (omega arith);
@@ -97,7 +97,7 @@ ends_apart : (lanes : List LaneEnds) (ends : List (List ℕ)) (who : ℕ) → Ar
 ends_apart lanes ends who are i j lane here there = (one_taker lanes ends who who i j lane are here there).1
 
 -- what is left has all that the next box wants
-pub can_make : (boxes : List BoxState) (channels : List ChannelState) (first layout : Layout) (under_way now : List (List Tagged)) (lanes slots who : ℕ) → IsLayoutOf boxes channels first → IsLeft first under_way who layout now
+pub can_make : (boxes : List BoxState) (channels : List ChannelState) (first layout : TeamLayout) (under_way now : List (List Tagged)) (lanes slots who : ℕ) → IsLayoutOf boxes channels first → IsLeft first under_way who layout now
     → who < length boxes → slots ≡ length (slice_index_or boxes who no_box).slots → lanes ≡ length now → length under_way ≡ 2 * length channels → CanMake layout lanes slots who
 can_make boxes channels first layout under_way now lanes slots who lay left within few count long =
     let whole = lay.whole in
@@ -126,13 +126,13 @@ can_make boxes channels first layout under_way now lanes slots who lay left with
 -- ---- all members
 
 -- the first boxes have their members, and the rest are left
-pub record IsMaking (first : Layout) (under_way : List (List Tagged)) (boxes : List BoxState) (members : List Member) (rest : List BoxState) (layout : Layout) (now : List (List Tagged)) : Type 0 where
+pub record IsMaking (first : TeamLayout) (under_way : List (List Tagged)) (boxes : List BoxState) (members : List Member) (rest : List BoxState) (layout : TeamLayout) (now : List (List Tagged)) : Type 0 where
   pub all : parts_of members ++ rest ≡ boxes
   pub left : IsLeft first under_way (length members) layout now
   pub made : (who : ℕ) (member : Member) → slice_get members who ≡ Some member → IsNewMember first under_way who member
 
 -- the member that comes last is made, and so are those before it
-last_made : (first : Layout) (under_way : List (List Tagged)) (members : List Member) (member : Member) (who : ℕ) (s : Member) → ((k : ℕ) (t : Member) → slice_get members k ≡ Some t → IsNewMember first under_way k t)
+last_made : (first : TeamLayout) (under_way : List (List Tagged)) (members : List Member) (member : Member) (who : ℕ) (s : Member) → ((k : ℕ) (t : Member) → slice_get members k ≡ Some t → IsNewMember first under_way k t)
     → IsNewMember first under_way (length members) member → slice_get (members ++ member ∷ []) who ≡ Some s → (who ≡ length members) ⊎ (who ≢ length members) → IsNewMember first under_way who s
 last_made first under_way members member who s all last at (inl is) =
     let here : slice_get (members ++ member ∷ []) who ≡ Some member = get_behind members (member ∷ []) who 0 (omega arith) in
@@ -151,7 +151,7 @@ seam members member rest left boxes part is here all =
     ∙ (append_assoc (parts_of members) (part ∷ []) left ∙ (ap (λ (l : List BoxState). parts_of members ++ l) (sym is) ∙ all))
 
 -- so one member more leaves one box less
-pub making_more : (first old new : Layout) (under_way now more : List (List Tagged)) (boxes : List BoxState) (members longer : List Member) (member : Member) (rest left : List BoxState) (part : BoxState)
+pub making_more : (first old new : TeamLayout) (under_way now more : List (List Tagged)) (boxes : List BoxState) (members longer : List Member) (member : Member) (rest left : List BoxState) (part : BoxState)
     → AreEnds first.lanes.items (inner_lists first.ends.items) → IsMaking first under_way boxes members rest old now → rest ≡ part ∷ left → member.worker.part ≡ part → IsNewMember old now (length members) member
     → IsTakenFor (length members) old new → LeavesOthers (of_box (inner_lists old.ends.items) (length members)) now more → longer ≡ members ++ member ∷ [] → IsMaking first under_way boxes longer left new more
 making_more first old new under_way now more boxes members longer member rest left part are so_far is here made taken leaves pushed =

@@ -4,7 +4,7 @@ use Rattle.std.proofs.lemmas.List.{length-map}
 use Rattle.mc_box.specs.Boxes.{BoxState}
 use Rattle.mc_rounds.specs.Made.{CanMake, IsNewMember}
 use Rattle.mc_rounds.specs.Layouts.{inner_lists, of_box}
-use Rattle.mc_rounds.specs.declared.team.layout.Layout.{Layout}
+use Rattle.mc_rounds.specs.declared.team.layout.TeamLayout.{TeamLayout}
 use Rattle.mc_port.specs.declared.ends.InPort.{InPort}
 use Rattle.mc_port.specs.declared.ends.OutPort.{OutPort}
 use Rattle.mc_signal.specs.declared.Tagged.{Tagged}
@@ -27,7 +27,7 @@ ready_with worker inboxes ready long =
     }
 
 -- a member of what the layout has for its box is made
-pub made_member : (layout : Layout) (under_way inboxes : List (List Tagged)) (lanes slots who : ℕ) (part : BoxState) (worker : Worker) (place : List (ℕ × ℕ)) (ins : List InPort) (outs : List OutPort)
+pub made_member : (layout : TeamLayout) (under_way inboxes : List (List Tagged)) (lanes slots who : ℕ) (part : BoxState) (worker : Worker) (place : List (ℕ × ℕ)) (ins : List InPort) (outs : List OutPort)
     → CanMake layout lanes slots who → IsReady worker → IsNewWorker part place ins outs worker
     → place ≡ of_box (inner_lists layout.places.items) who → ins ≡ of_box (inner_lists layout.ins.items) who → outs ≡ of_box (inner_lists layout.outs.items) who
     → inboxes ≡ map (box_of under_way) (of_box (inner_lists layout.ends.items) who)

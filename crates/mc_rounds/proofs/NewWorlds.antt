@@ -12,7 +12,7 @@ use Rattle.mc_rounds.specs.Made.{IsNewMember}
 use Rattle.mc_rounds.specs.declared.limit.TheConstants.{TEAM_LIMIT}
 use Rattle.mc_rounds.specs.Layouts.{IsLayoutOf, IsNewIn, IsNewOut, IsPlacedAt, at_end, ends_of_lane, inner_lists, no_lane_ends, of_box}
 use Rattle.mc_rounds.specs.declared.team.layout.LaneEnds.{LaneEnds}
-use Rattle.mc_rounds.specs.declared.team.layout.Layout.{Layout}
+use Rattle.mc_rounds.specs.declared.team.layout.TeamLayout.{TeamLayout}
 use Rattle.mc_model.specs.Sound.{IsNumbered, IsSound}
 use Rattle.mc_model.specs.Worlds.{AreChannels, ChannelState, far, first_world}
 use Rattle.mc_port.specs.Ends.{RingName, given, in_ring, known, out_ring, received}
@@ -42,7 +42,7 @@ numbered_first boxes channels lanes n = record {
 }
 
 -- each box has its member
-pub record AreNewMembers (boxes : List BoxState) (channels : List ChannelState) (layout : Layout) (under_way : List (List Tagged)) (members : List Member) : Type 0 where
+pub record AreNewMembers (boxes : List BoxState) (channels : List ChannelState) (layout : TeamLayout) (under_way : List (List Tagged)) (members : List Member) : Type 0 where
   pub parts : parts_of members ≡ boxes
   pub laid_out : IsLayoutOf boxes channels layout
   pub each : (who : ℕ) (member : Member) → slice_get members who ≡ Some member → IsNewMember layout under_way who member
@@ -59,7 +59,7 @@ none_at P f none (x ∷ xs) (suc i) all = none_at P f none xs i (λ k d within. 
 -- ---- where the lanes lead
 
 -- there is a member for each box
-pub member_count : (boxes : List BoxState) (channels : List ChannelState) (layout : Layout) (under_way : List (List Tagged)) (members : List Member) → AreNewMembers boxes channels layout under_way members → length members ≡ length boxes
+pub member_count : (boxes : List BoxState) (channels : List ChannelState) (layout : TeamLayout) (under_way : List (List Tagged)) (members : List Member) → AreNewMembers boxes channels layout under_way members → length members ≡ length boxes
 member_count boxes channels layout under_way members are = sym (length-map members (λ (s : Member). s.worker.part)) ∙ ap (λ (l : List BoxState). length l) are.parts
 
 -- a list of a box that has something is there
@@ -69,7 +69,7 @@ box_within (x ∷ xs) zero end lane at = omega arith
 box_within (x ∷ xs) (suc who) end lane at = let below = box_within xs who end lane at in omega arith
 
 -- so a lane that is at an end of a box has its member
-member_there : (boxes : List BoxState) (channels : List ChannelState) (layout : Layout) (under_way : List (List Tagged)) (members : List Member) (who end lane : ℕ) → AreNewMembers boxes channels layout under_way members
+member_there : (boxes : List BoxState) (channels : List ChannelState) (layout : TeamLayout) (under_way : List (List Tagged)) (members : List Member) (who end lane : ℕ) → AreNewMembers boxes channels layout under_way members
     → at_end (inner_lists layout.ends.items) who end ≡ Some lane → who < length members
 member_there boxes channels layout under_way members who end lane are at =
     let within = box_within (inner_lists layout.ends.items) who end lane at in
@@ -77,13 +77,13 @@ member_there boxes channels layout under_way members who end lane are at =
     omega (arith, within, count, length-map layout.ends.items (λ v. v.items), are.laid_out.whole.box_count)
 
 -- the box to which a lane leads, and that from which it leads
-taker_member : (boxes : List BoxState) (channels : List ChannelState) (layout : Layout) (under_way : List (List Tagged)) (members : List Member) (lane : ℕ) → AreNewMembers boxes channels layout under_way members
+taker_member : (boxes : List BoxState) (channels : List ChannelState) (layout : TeamLayout) (under_way : List (List Tagged)) (members : List Member) (lane : ℕ) → AreNewMembers boxes channels layout under_way members
     → lane < length layout.lanes.items → (member : Member) × (slice_get members (ends_of_lane layout.lanes.items lane).to ≡ Some member)
 taker_member boxes channels layout under_way members lane are below =
     there_is members (ends_of_lane layout.lanes.items lane).to (member_there boxes channels layout under_way members (ends_of_lane layout.lanes.items lane).to _ _ are (are.laid_out.whole.ends.taking lane below))
 
 -- and the other
-giver_member : (boxes : List BoxState) (channels : List ChannelState) (layout : Layout) (under_way : List (List Tagged)) (members : List Member) (lane : ℕ) → AreNewMembers boxes channels layout under_way members
+giver_member : (boxes : List BoxState) (channels : List ChannelState) (layout : TeamLayout) (under_way : List (List Tagged)) (members : List Member) (lane : ℕ) → AreNewMembers boxes channels layout under_way members
     → lane < length layout.lanes.items → (member : Member) × (slice_get members (ends_of_lane layout.lanes.items lane).from ≡ Some member)
 giver_member boxes channels layout under_way members lane are below =
     there_is members (ends_of_lane layout.lanes.items lane).from (member_there boxes channels layout under_way members (ends_of_lane layout.lanes.items lane).from _ _ are (are.laid_out.whole.ends.giving lane below))
@@ -91,7 +91,7 @@ giver_member boxes channels layout under_way members lane are below =
 -- ---- nothing is under way but in inboxes
 
 -- between two new boxes nothing is under way
-cleared_by : (layout : Layout) (under_way : List (List Tagged)) (who far_who end far_end : ℕ) (a b : Member) (taking : InEnd) (giving : OutEnd) → IsNewMember layout under_way who a → IsNewMember layout under_way far_who b
+cleared_by : (layout : TeamLayout) (under_way : List (List Tagged)) (who far_who end far_end : ℕ) (a b : Member) (taking : InEnd) (giving : OutEnd) → IsNewMember layout under_way who a → IsNewMember layout under_way far_who b
     → All IsNewIn (of_box (inner_lists layout.ins.items) who) → All IsNewOut (of_box (inner_lists layout.outs.items) far_who)
     → taking ≡ in_at a.worker end → giving ≡ out_at b.worker far_end → IsCleared taking giving
 cleared_by layout under_way who far_who end far_end a b taking giving one other new_ins new_outs takes gives = record {
@@ -103,7 +103,7 @@ cleared_by layout under_way who far_who end far_end a b taking giving one other 
 }
 
 -- so nothing is on any lane's ring
-cleared : (boxes : List BoxState) (channels : List ChannelState) (layout : Layout) (under_way : List (List Tagged)) (members : List Member) → AreNewMembers boxes channels layout under_way members → AreCleared members layout.lanes.items
+cleared : (boxes : List BoxState) (channels : List ChannelState) (layout : TeamLayout) (under_way : List (List Tagged)) (members : List Member) → AreNewMembers boxes channels layout under_way members → AreCleared members layout.lanes.items
 cleared boxes channels layout under_way members are lane below =
     let ends : LaneEnds = ends_of_lane layout.lanes.items lane in
     let to = taker_member boxes channels layout under_way members lane are below in
@@ -114,7 +114,7 @@ cleared boxes channels layout under_way members are lane below =
 -- ---- the layout
 
 -- the two ends of a lane have one ring
-tied : (boxes : List BoxState) (channels : List ChannelState) (layout : Layout) (under_way : List (List Tagged)) (members : List Member) (lane : ℕ) → AreNewMembers boxes channels layout under_way members → lane < length layout.lanes.items
+tied : (boxes : List BoxState) (channels : List ChannelState) (layout : TeamLayout) (under_way : List (List Tagged)) (members : List Member) (lane : ℕ) → AreNewMembers boxes channels layout under_way members → lane < length layout.lanes.items
     → IsTied members (ends_of_lane layout.lanes.items lane)
 tied boxes channels layout under_way members lane are below =
     let ends : LaneEnds = ends_of_lane layout.lanes.items lane in
@@ -136,14 +136,14 @@ tied boxes channels layout under_way members lane are below =
     }
 
 -- the places are those of the layout
-place_at : (layout : Layout) (under_way : List (List Tagged)) (members : List Member) (k : ℕ) (d : List (ℕ × ℕ)) → ((who : ℕ) (member : Member) → slice_get members who ≡ Some member → IsNewMember layout under_way who member)
+place_at : (layout : TeamLayout) (under_way : List (List Tagged)) (members : List Member) (k : ℕ) (d : List (ℕ × ℕ)) → ((who : ℕ) (member : Member) → slice_get members who ≡ Some member → IsNewMember layout under_way who member)
     → k < length members → k < length (inner_lists layout.places.items) → slice_index_or (places_of_boxes members) k d ≡ slice_index_or (inner_lists layout.places.items) k d
 place_at layout under_way members k d each within below =
     let here = there_is members k within in
     at_some (λ (s : Member). s.worker.place) members k here.0 d here.1 ∙ ((each k here.0 here.1).place ∙ get_or_default (inner_lists layout.places.items) k [] d below)
 
 -- so they are, box by box
-same_places : (boxes : List BoxState) (channels : List ChannelState) (layout : Layout) (under_way : List (List Tagged)) (members : List Member) → AreNewMembers boxes channels layout under_way members
+same_places : (boxes : List BoxState) (channels : List ChannelState) (layout : TeamLayout) (under_way : List (List Tagged)) (members : List Member) → AreNewMembers boxes channels layout under_way members
     → places_of_boxes members ≡ inner_lists layout.places.items
 same_places boxes channels layout under_way members are =
     let count = member_count boxes channels layout under_way members are in
@@ -152,7 +152,7 @@ same_places boxes channels layout under_way members are =
     (λ k d within. place_at layout under_way members k d are.each (omega (arith, within, long)) (omega (arith, within, long, count, are.laid_out.whole.bare.count)))
 
 -- the members are laid out as the layout says
-laid : (boxes : List BoxState) (channels : List ChannelState) (layout : Layout) (under_way : List (List Tagged)) (members : List Member) → AreNewMembers boxes channels layout under_way members
+laid : (boxes : List BoxState) (channels : List ChannelState) (layout : TeamLayout) (under_way : List (List Tagged)) (members : List Member) → AreNewMembers boxes channels layout under_way members
     → AreLaidOut channels members layout.lanes.items (inner_lists layout.ends.items)
 laid boxes channels layout under_way members are =
     let whole = are.laid_out.whole in
@@ -170,7 +170,7 @@ laid boxes channels layout under_way members are =
 -- ---- the world
 
 -- what waits at the end of a lane is what was under way on it
-waiting_at : (boxes : List BoxState) (channels : List ChannelState) (layout : Layout) (under_way : List (List Tagged)) (members : List Member) (lane : ℕ) → AreNewMembers boxes channels layout under_way members → lane < length layout.lanes.items
+waiting_at : (boxes : List BoxState) (channels : List ChannelState) (layout : TeamLayout) (under_way : List (List Tagged)) (members : List Member) (lane : ℕ) → AreNewMembers boxes channels layout under_way members → lane < length layout.lanes.items
     → (taking_end members (ends_of_lane layout.lanes.items lane)).inbox ≡ box_of under_way lane
 waiting_at boxes channels layout under_way members lane are below =
     let ends : LaneEnds = ends_of_lane layout.lanes.items lane in
@@ -180,7 +180,7 @@ waiting_at boxes channels layout under_way members lane are below =
     ∙ at_some (box_of under_way) (of_box (inner_lists layout.ends.items) ends.to) ends.to_end lane [] (are.laid_out.whole.ends.taking lane below))
 
 -- so the lanes are as they were
-same_lanes : (boxes : List BoxState) (channels : List ChannelState) (layout : Layout) (under_way : List (List Tagged)) (members : List Member) → AreNewMembers boxes channels layout under_way members → lanes_of members layout.lanes.items ≡ under_way
+same_lanes : (boxes : List BoxState) (channels : List ChannelState) (layout : TeamLayout) (under_way : List (List Tagged)) (members : List Member) → AreNewMembers boxes channels layout under_way members → lanes_of members layout.lanes.items ≡ under_way
 same_lanes boxes channels layout under_way members are =
     let f : LaneEnds → List Tagged = λ (ends : LaneEnds). (taking_end members ends).inbox in
     let long = length-map layout.lanes.items f in
@@ -190,12 +190,12 @@ same_lanes boxes channels layout under_way members are =
     get_or-map f layout.lanes.items k no_lane_ends d below ∙ (waiting_at boxes channels layout under_way members k are below ∙ get_or_default under_way k [] d (omega (arith, below, are.laid_out.whole.lane_count, are.lanes))))
 
 -- and so is the world
-same_world : (boxes : List BoxState) (channels : List ChannelState) (layout : Layout) (under_way : List (List Tagged)) (members : List Member) → AreNewMembers boxes channels layout under_way members
+same_world : (boxes : List BoxState) (channels : List ChannelState) (layout : TeamLayout) (under_way : List (List Tagged)) (members : List Member) → AreNewMembers boxes channels layout under_way members
     → world_of channels members layout.lanes.items ≡ the_world channels boxes under_way
 same_world boxes channels layout under_way members are = world_by channels (parts_of members) boxes (lanes_of members layout.lanes.items) under_way are.parts (same_lanes boxes channels layout under_way members are)
 
 -- so the members stand for that world
-pub stand_as_new : (boxes : List BoxState) (channels : List ChannelState) (layout : Layout) (under_way : List (List Tagged)) (members : List Member) → AreNewMembers boxes channels layout under_way members
+pub stand_as_new : (boxes : List BoxState) (channels : List ChannelState) (layout : TeamLayout) (under_way : List (List Tagged)) (members : List Member) → AreNewMembers boxes channels layout under_way members
     → AreChannels channels → IsSound (the_world channels boxes under_way) → length boxes ≤ TEAM_LIMIT → StandForWorld channels members layout.lanes.items (inner_lists layout.ends.items)
 stand_as_new boxes channels layout under_way members are within sound few = record {
   within = within;
@@ -207,7 +207,7 @@ stand_as_new boxes channels layout under_way members are within sound few = reco
 }
 
 -- and are that world's new team
-pub new_state : (boxes : List BoxState) (channels : List ChannelState) (layout : Layout) (under_way : List (List Tagged)) (members : List Member) → AreNewMembers boxes channels layout under_way members
+pub new_state : (boxes : List BoxState) (channels : List ChannelState) (layout : TeamLayout) (under_way : List (List Tagged)) (members : List Member) → AreNewMembers boxes channels layout under_way members
     → team_of channels members layout.lanes.items ≡ new_team (the_world channels boxes under_way)
 new_state boxes channels layout under_way members are =
     let count = member_count boxes channels layout under_way members are in
@@ -219,11 +219,11 @@ new_state boxes channels layout under_way members are =
 -- ---- what the calls answer
 
 -- a layout of the same boxes and channels is one of these
-pub laid_with : (boxes b : List BoxState) (channels c : List ChannelState) (layout : Layout) → b ≡ boxes → c ≡ channels → IsLayoutOf b c layout → IsLayoutOf boxes channels layout
+pub laid_with : (boxes b : List BoxState) (channels c : List ChannelState) (layout : TeamLayout) → b ≡ boxes → c ≡ channels → IsLayoutOf b c layout → IsLayoutOf boxes channels layout
 laid_with boxes b channels c layout p q laid = subst (λ (l : List BoxState). IsLayoutOf l channels layout) p (subst (λ (l : List ChannelState). IsLayoutOf b l layout) q laid)
 
 -- no box is left to be membered
-pub all_made : (boxes : List BoxState) (channels : List ChannelState) (first layout : Layout) (under_way now : List (List Tagged)) (members : List Member) (rest : List BoxState) → IsMaking first under_way boxes members rest layout now → rest ≡ []
+pub all_made : (boxes : List BoxState) (channels : List ChannelState) (first layout : TeamLayout) (under_way now : List (List Tagged)) (members : List Member) (rest : List BoxState) → IsMaking first under_way boxes members rest layout now → rest ≡ []
     → IsLayoutOf boxes channels first → length under_way ≡ 2 * length channels → AreNewMembers boxes channels first under_way members
 all_made boxes channels first layout under_way now members rest so_far none laid long = record {
   parts = sym (append-nil (parts_of members)) ∙ (ap (λ (l : List BoxState). parts_of members ++ l) (sym none) ∙ so_far.all);

@@ -73,7 +73,7 @@ same_lanes old new lanes same = ap (λ (views : List (ℕ → InEnd)). map (λ (
 pub same_world : (channels : List ChannelState) (old new : List Member) (lanes : List LaneEnds) → SameViews old new → world_of channels new lanes ≡ world_of channels old lanes
 same_world channels old new lanes same = world_by channels (parts_of new) (parts_of old) (lanes_of new lanes) (lanes_of old lanes) same.parts (same_lanes old new lanes same)
 
--- one command more, behind those that the box has
+-- one command more, after those that the box has
 pub one_more : (channels : List ChannelState) (members : List Member) (lanes : List LaneEnds) (turn : Turn) (a : Member) (w : Worker) → slice_get members turn.who ≡ Some a → HasOtherCommands a.worker w
     → w.stimuli.items ≡ a.worker.stimuli.items ++ turn.event ∷ []
     → team_of channels (slice_set members turn.who (member_of a w)) lanes ≡ with_command (team_of channels members lanes) turn

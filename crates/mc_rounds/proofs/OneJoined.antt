@@ -11,7 +11,7 @@ use Rattle.mc_box.specs.Boxes.{BoxState}
 use Rattle.mc_box.specs.declared.limit.TheConstants.{SLOT_LIMIT}
 use Rattle.mc_rounds.specs.Layouts.{AreSlotsApart, AreEnds, AreSlotsInside, ArePlaced, AreRings, IsEndAdded, IsLayoutSoFar, IsNewIn, IsNewOut, JoinsBoxes, ends_of_lane, inner_lists, of_box}
 use Rattle.mc_rounds.specs.declared.team.layout.LaneEnds.{LaneEnds}
-use Rattle.mc_rounds.specs.declared.team.layout.Layout.{Layout}
+use Rattle.mc_rounds.specs.declared.team.layout.TeamLayout.{TeamLayout}
 use Rattle.mc_rounds.proofs.TeamAdded.{boxes_added, get_either, one_more_at_most, with_added}
 use Rattle.mc_rounds.proofs.EndsFew.{ends_few, places_few}
 use Rattle.mc_rounds.proofs.EndsJoined.{AreJoined, end_stays, ends_joined, from_end_read, joined_ends, joined_lanes, lane_before, lane_first, lane_second, lanes_more, to_end_read, to_initiator, to_other}
@@ -26,7 +26,7 @@ use Rattle.mc_port.specs.declared.ends.OutPort.{OutPort}
 -- ---- before the channel
 
 -- what is known when a channel is to join its boxes
-pub record IsToJoin (boxes : List BoxState) (channels : List ChannelState) (n : ℕ) (channel : ChannelState) (layout : Layout) : Type 0 where
+pub record IsToJoin (boxes : List BoxState) (channels : List ChannelState) (n : ℕ) (channel : ChannelState) (layout : TeamLayout) : Type 0 where
   pub numbered : IsNumbered (first_world boxes channels)
   pub within : AreChannels channels
   pub small : All (λ (one : BoxState). length one.slots ≤ SLOT_LIMIT) boxes
@@ -34,17 +34,17 @@ pub record IsToJoin (boxes : List BoxState) (channels : List ChannelState) (n : 
   pub is : channel ≡ get_or channels n channel
   pub so_far : IsLayoutSoFar boxes (take n channels) layout
 
-pub has_tunnels : (boxes : List BoxState) (channels : List ChannelState) (n : ℕ) (channel : ChannelState) (layout : Layout) → IsToJoin boxes channels n channel layout → HasTunnels channel
+pub has_tunnels : (boxes : List BoxState) (channels : List ChannelState) (n : ℕ) (channel : ChannelState) (layout : TeamLayout) → IsToJoin boxes channels n channel layout → HasTunnels channel
 has_tunnels boxes channels n channel layout k = subst (λ (c : ChannelState). HasTunnels c) (sym k.is) (k.within.tunnels n channel k.below)
 
-count_so_far : (boxes : List BoxState) (channels : List ChannelState) (n : ℕ) (channel : ChannelState) (layout : Layout) → IsToJoin boxes channels n channel layout → length layout.lanes.items ≡ 2 * n
+count_so_far : (boxes : List BoxState) (channels : List ChannelState) (n : ℕ) (channel : ChannelState) (layout : TeamLayout) → IsToJoin boxes channels n channel layout → length layout.lanes.items ≡ 2 * n
 count_so_far boxes channels n channel layout k = k.so_far.lane_count ∙ ap (λ (m : ℕ). 2 * m) (length-take-le n channels (omega (arith, k.below)))
 
 -- its slots have entries, so its boxes are there
-pub is_inside : (boxes : List BoxState) (channels : List ChannelState) (n : ℕ) (channel : ChannelState) (layout : Layout) → IsToJoin boxes channels n channel layout → AreSlotsInside channel (inner_lists layout.places.items)
+pub is_inside : (boxes : List BoxState) (channels : List ChannelState) (n : ℕ) (channel : ChannelState) (layout : TeamLayout) → IsToJoin boxes channels n channel layout → AreSlotsInside channel (inner_lists layout.places.items)
 is_inside boxes channels n channel layout k = channel_inside boxes channels n channel (inner_lists layout.places.items) k.numbered k.so_far.bare k.below k.is
 
-pub is_apart : (boxes : List BoxState) (channels : List ChannelState) (n : ℕ) (channel : ChannelState) (layout : Layout) → IsToJoin boxes channels n channel layout → AreSlotsApart channel
+pub is_apart : (boxes : List BoxState) (channels : List ChannelState) (n : ℕ) (channel : ChannelState) (layout : TeamLayout) → IsToJoin boxes channels n channel layout → AreSlotsApart channel
 is_apart boxes channels n channel layout k = channel_apart boxes channels n channel k.numbered k.below k.is
 
 first_places : (channel : ChannelState) (tunnels : List Tunnel) (places : List (List (ℕ × ℕ))) → 0 < length tunnels
@@ -53,14 +53,14 @@ first_places channel [] places some inside = absurd (omega arith)
 first_places channel (tunnel ∷ tunnels) places some inside = ((inside 0 (channel.from, tunnel.from) refl).0, (inside 1 (channel.to, tunnel.to) refl).0)
 
 -- the boxes are there, and have few ends
-pub record HasEndRoom (channel : ChannelState) (layout : Layout) : Type 0 where
+pub record HasEndRoom (channel : ChannelState) (layout : TeamLayout) : Type 0 where
   pub from : channel.from < length layout.ends.items
   pub to : channel.to < length layout.ends.items
   pub ins : length layout.ins.items ≡ length layout.ends.items
   pub outs : length layout.outs.items ≡ length layout.ends.items
   pub few : (who : ℕ) → length (of_box (inner_lists layout.ends.items) who) ≤ SLOT_LIMIT
 
-pub has_room : (boxes : List BoxState) (channels : List ChannelState) (n : ℕ) (channel : ChannelState) (layout : Layout) → IsToJoin boxes channels n channel layout → HasEndRoom channel layout
+pub has_room : (boxes : List BoxState) (channels : List ChannelState) (n : ℕ) (channel : ChannelState) (layout : TeamLayout) → IsToJoin boxes channels n channel layout → HasEndRoom channel layout
 has_room boxes channels n channel layout k =
     let places : List (List (ℕ × ℕ)) = inner_lists layout.places.items in
     let there = first_places channel channel.tunnels places (has_tunnels boxes channels n channel layout k).some (is_inside boxes channels n channel layout k) in
@@ -77,7 +77,7 @@ has_room boxes channels n channel layout k =
 -- ---- after it
 
 -- what the channel changed
-pub record HasJoined (old new : Layout) (n : ℕ) (channel : ChannelState) (from_end to_end : ℕ) (as_initiator as_other : InPort) (for_initiator for_other : OutPort) : Type 0 where
+pub record HasJoined (old new : TeamLayout) (n : ℕ) (channel : ChannelState) (from_end to_end : ℕ) (as_initiator as_other : InPort) (for_initiator for_other : OutPort) : Type 0 where
   pub ends : inner_lists new.ends.items ≡ joined_ends (inner_lists old.ends.items) n channel.from channel.to
   pub ins : inner_lists new.ins.items ≡ joined_with (inner_lists old.ins.items) channel.from channel.to as_initiator as_other
   pub outs : inner_lists new.outs.items ≡ joined_with (inner_lists old.outs.items) channel.from channel.to for_other for_initiator
@@ -125,7 +125,7 @@ even_odd lanes channels channel from_end to_end k one count old is =
     ]
 
 -- so it is the layout with the channel
-one_joined : (boxes : List BoxState) (channels : List ChannelState) (n : ℕ) (channel : ChannelState) (old new : Layout) (from_end to_end : ℕ) (as_initiator as_other : InPort) (for_initiator for_other : OutPort)
+one_joined : (boxes : List BoxState) (channels : List ChannelState) (n : ℕ) (channel : ChannelState) (old new : TeamLayout) (from_end to_end : ℕ) (as_initiator as_other : InPort) (for_initiator for_other : OutPort)
     → IsToJoin boxes channels n channel old → HasJoined old new n channel from_end to_end as_initiator as_other for_initiator for_other → IsLayoutSoFar boxes (take n channels ++ channel ∷ []) new
 one_joined boxes channels n channel old new from_end to_end as_initiator as_other for_initiator for_other k has =
     let from : ℕ = channel.from in
@@ -190,7 +190,7 @@ one_joined boxes channels n channel old new from_end to_end as_initiator as_othe
           (all_joined IsNewOut outs ends from to for_other for_initiator from_there to_there out_beside has.out_other has.out_initiator k.so_far.new_outs who);
     }
 
-pub layout_joined : (boxes : List BoxState) (channels : List ChannelState) (n : ℕ) (channel : ChannelState) (old new : Layout) (from_end to_end : ℕ) (as_initiator as_other : InPort) (for_initiator for_other : OutPort)
+pub layout_joined : (boxes : List BoxState) (channels : List ChannelState) (n : ℕ) (channel : ChannelState) (old new : TeamLayout) (from_end to_end : ℕ) (as_initiator as_other : InPort) (for_initiator for_other : OutPort)
     → IsToJoin boxes channels n channel old → HasJoined old new n channel from_end to_end as_initiator as_other for_initiator for_other → IsLayoutSoFar boxes (take (n + 1) channels) new
 layout_joined boxes channels n channel old new from_end to_end as_initiator as_other for_initiator for_other k has =
     let more : take (n + 1) channels ≡ take n channels ++ channel ∷ [] = take_more channels n channel k.below ∙ ap (λ (c : ChannelState). take n channels ++ c ∷ []) (sym k.is) in
@@ -199,11 +199,11 @@ layout_joined boxes channels n channel old new from_end to_end as_initiator as_o
 
 -- ---- step by step
 
-pub to_join_view : (boxes : List BoxState) (channels : List ChannelState) (n : ℕ) (channel view : ChannelState) (layout : Layout) → view ≡ channel → IsToJoin boxes channels n channel layout → IsToJoin boxes channels n view layout
+pub to_join_view : (boxes : List BoxState) (channels : List ChannelState) (n : ℕ) (channel view : ChannelState) (layout : TeamLayout) → view ≡ channel → IsToJoin boxes channels n channel layout → IsToJoin boxes channels n view layout
 to_join_view boxes channels n channel view layout same k = subst (λ (c : ChannelState). IsToJoin boxes channels n c layout) (sym same) k
 
 -- what is known when the first box has its new end
-pub record HasSecondRoom (channel : ChannelState) (layout : Layout) : Type 0 where
+pub record HasSecondRoom (channel : ChannelState) (layout : TeamLayout) : Type 0 where
   pub to : channel.to < length layout.ends.items
   pub ins : length layout.ins.items ≡ length layout.ends.items
   pub outs : length layout.outs.items ≡ length layout.ends.items
@@ -212,7 +212,7 @@ pub record HasSecondRoom (channel : ChannelState) (layout : Layout) : Type 0 whe
 added_count : {A : Type 0} → (old new : List (Vec A Global)) (who : ℕ) (x : A) → inner_lists new ≡ with_added (inner_lists old) who x → length new ≡ length old
 added_count {A} old new who x is = sym (inner_count new) ∙ (ap (λ (l : List (List A)). length l) is ∙ (boxes_added (inner_lists old) who x ∙ inner_count old))
 
-pub has_second_room : (old mid : Layout) (channel : ChannelState) (lane : ℕ) (taking : InPort) (giving : OutPort) → HasEndRoom channel old → IsEndAdded old mid channel.from lane taking giving → HasSecondRoom channel mid
+pub has_second_room : (old mid : TeamLayout) (channel : ChannelState) (lane : ℕ) (taking : InPort) (giving : OutPort) → HasEndRoom channel old → IsEndAdded old mid channel.from lane taking giving → HasSecondRoom channel mid
 has_second_room old mid channel lane taking giving room added =
     let ends = added_count old.ends.items mid.ends.items channel.from lane added.ends in
     let ins = added_count old.ins.items mid.ins.items channel.from taking added.ins in
@@ -228,10 +228,10 @@ has_second_room old mid channel lane taking giving room added =
     }
 
 -- the layout when all is done
-abbrev pub joined_layout : Layout → Vec LaneEnds Global → Vec (Vec (ℕ × ℕ) Global) Global → Layout
+abbrev pub joined_layout : TeamLayout → Vec LaneEnds Global → Vec (Vec (ℕ × ℕ) Global) Global → TeamLayout
 joined_layout last lanes places = record { lanes = lanes; ends = last.ends; places = places; ins = last.ins; outs = last.outs }
 
-pub has_joined : (old mid last : Layout) (lanes : Vec LaneEnds Global) (places : Vec (Vec (ℕ × ℕ) Global) Global) (pushed : List LaneEnds) (n : ℕ) (channel : ChannelState) (from_end to_end : ℕ) (as_initiator as_other : InPort) (for_initiator for_other : OutPort)
+pub has_joined : (old mid last : TeamLayout) (lanes : Vec LaneEnds Global) (places : Vec (Vec (ℕ × ℕ) Global) Global) (pushed : List LaneEnds) (n : ℕ) (channel : ChannelState) (from_end to_end : ℕ) (as_initiator as_other : InPort) (for_initiator for_other : OutPort)
     → IsEndAdded old mid channel.from (2 * n) as_initiator for_other → IsEndAdded mid last channel.to (2 * n + 1) as_other for_initiator
     → from_end ≡ length (of_box (inner_lists old.ends.items) channel.from) → to_end ≡ length (of_box (inner_lists mid.ends.items) channel.to)
     → pushed ≡ last.lanes.items ++ to_initiator channel.from channel.to from_end to_end ∷ [] → lanes.items ≡ pushed ++ to_other channel.from channel.to from_end to_end ∷ []

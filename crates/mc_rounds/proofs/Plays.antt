@@ -21,7 +21,7 @@ use Rattle.mc_part.specs.declared.part_run.PartRun.{PartRun}
 use Rattle.mc_seq.proofs.Runs.{run-append}
 use Rattle.mc_rounds.proofs.Inside.{run_below, shift_there}
 use Rattle.mc_rounds.specs.Playing.{HasPlayed, Plays, some_shift, spare_shifts}
-use Rattle.mc_turn.specs.Sums.{total}
+use Rattle.mc_slot_laws.specs.Sums.{total}
 
 -- ---- two lists of turns
 

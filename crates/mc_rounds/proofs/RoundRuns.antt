@@ -74,7 +74,7 @@ in_order : {retries : Bool} {channels : List ChannelState} {lanes : List LaneEnd
     → (r : Round retries channels lanes ends old ran new keys) → IsOrdered (map stamps_of (logs_of r.claimed.logs)) keys
 in_order {keys = keys} r = subst (λ (l : List (List ℕ)). IsOrdered l keys) (ap (λ (l : List (List Logged)). map log_stamps l) r.claimed.kept ∙ written_stamps r.claimed.logs) r.ordered
 
--- the turns lead from the world before to the one behind
+-- the turns lead from the world before to the one after
 runs : {retries : Bool} {channels : List ChannelState} {lanes : List LaneEnds} {ends : List (List ℕ)} {old ran new : List Member} {keys : List Key}
     → (r : Round retries channels lanes ends old ran new keys) → run (world_of channels old lanes) (map (logged_turn (round_logs new)) keys) ≡ Some (world_of channels new lanes)
 runs {channels = channels} {lanes = lanes} {old = old} {new = new} {keys = keys} r =

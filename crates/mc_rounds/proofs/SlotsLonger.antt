@@ -11,7 +11,7 @@ use Rattle.mc_model.specs.Worlds.{ChannelState, HasTunnels, TunnelPlace, no_tunn
 use Rattle.mc_model.specs.declared.channel.TheConstants.{TUNNEL_LIMIT}
 use Rattle.mc_model.specs.declared.channel.Tunnel.{Tunnel}
 
--- ---- one channel more, behind all others
+-- ---- one channel more, after all others
 
 pub places_more : (channels : List ChannelState) (channel : ChannelState) → places_among (channels ++ channel ∷ []) ≡ places_among channels ++ places_within channel
 places_more channels channel = flat_map-append places_within channels (channel ∷ []) ∙ ap (λ (l : List (ℕ × ℕ)). places_among channels ++ l) (append-nil (places_within channel))

@@ -93,7 +93,7 @@ emptying_more lanes i old now new taken more ends leads so_far at pushed is =
           ∙ (other_left now ends other there (λ boxes e. off (leads.apart l i other ends found at boxes e)) (cases_eq other.to ends.to) ∙ so_far.waiting l other (omega arith) found);
     }
 
--- behind the last all were
+-- after the last all were
 pub emptied : (lanes : List LaneEnds) (i : ℕ) (old now : List (List (List Tagged))) (taken : List (List Tagged)) → length lanes ≤ i → IsEmptying lanes i old now taken → taken ≡ map (inbox_at old) lanes
 emptied lanes i old now taken past so_far = so_far.taken_so_far ∙ ap (λ (l : List LaneEnds). map (inbox_at old) l) (take_all i lanes past)
 

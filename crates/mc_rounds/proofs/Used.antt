@@ -6,7 +6,7 @@ use Rattle.mc_network.specs.States.{HasCommands, NetworkState, PlaysOn}
 use Rattle.mc_rounds.proofs.Inside.{command_there, run_below}
 use Rattle.mc_rounds.proofs.Plays.{no_more, phase_plays, played_more, same_count, total_less}
 use Rattle.mc_rounds.specs.Playing.{HasPlayed, Plays, UsesUp, command_total}
-use Rattle.mc_turn.specs.Sums.{total}
+use Rattle.mc_slot_laws.specs.Sums.{total}
 
 -- an option that isn't some is none
 none_of : {A : Type 0} (last : Option A) → is_some last ≡ false → last ≡ None

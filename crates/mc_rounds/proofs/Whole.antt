@@ -13,7 +13,7 @@ use Rattle.mc_box.specs.declared.limit.TheConstants.{SLOT_LIMIT}
 use Rattle.mc_laws.proofs.Numbers.{by_half, half_in}
 use Rattle.mc_laws.proofs.TunnelPlaces.{places_apart, two_each}
 use Rattle.mc_rounds.specs.Layouts.{AreBare, IsLayoutOf, IsLayoutSoFar, IsNewIn, IsNewOut, IsPlacedAt, at_end, inner_lists, of_box}
-use Rattle.mc_rounds.specs.declared.team.layout.Layout.{Layout}
+use Rattle.mc_rounds.specs.declared.team.layout.TeamLayout.{TeamLayout}
 use Rattle.mc_rounds.proofs.EndsFew.{ends_few, places_few}
 use Rattle.mc_rounds.proofs.SlotsLonger.{slot_tunnel_low}
 use Rattle.mc_model.specs.Sound.{IsNumbered}
@@ -90,18 +90,18 @@ one_local boxes channels ends who s t at one two =
 -- ---- all of it
 
 -- what is known when all channels have joined their boxes
-pub record AreAllJoined (boxes : List BoxState) (channels : List ChannelState) (layout : Layout) : Type 0 where
+pub record AreAllJoined (boxes : List BoxState) (channels : List ChannelState) (layout : TeamLayout) : Type 0 where
   pub numbered : IsNumbered (first_world boxes channels)
   pub limits : AreChannels channels
   pub small : All (λ (one : BoxState). length one.slots ≤ SLOT_LIMIT) boxes
   pub so_far : IsLayoutSoFar boxes channels layout
 
-few_ends : (boxes : List BoxState) (channels : List ChannelState) (layout : Layout) (who : ℕ) → AreAllJoined boxes channels layout → length (of_box (inner_lists layout.ends.items) who) ≤ SLOT_LIMIT
+few_ends : (boxes : List BoxState) (channels : List ChannelState) (layout : TeamLayout) (who : ℕ) → AreAllJoined boxes channels layout → length (of_box (inner_lists layout.ends.items) who) ≤ SLOT_LIMIT
 few_ends boxes channels layout who k =
     let low = ends_few boxes channels layout.lanes.items (inner_lists layout.ends.items) (inner_lists layout.places.items) who k.limits.tunnels k.so_far.lane_count k.so_far.ends k.so_far.places in
     omega (arith, low, places_few boxes (inner_lists layout.places.items) who k.so_far.bare k.small)
 
-pub whole_layout : (boxes : List BoxState) (channels : List ChannelState) (layout : Layout) → AreAllJoined boxes channels layout → IsLayoutOf boxes channels layout
+pub whole_layout : (boxes : List BoxState) (channels : List ChannelState) (layout : TeamLayout) → AreAllJoined boxes channels layout → IsLayoutOf boxes channels layout
 whole_layout boxes channels layout k =
     let ends : List (List ℕ) = inner_lists layout.ends.items in
     let places : List (List (ℕ × ℕ)) = inner_lists layout.places.items in
@@ -137,7 +137,7 @@ counted : {A : Type 0} → (lists : List (Vec A Global)) (n : ℕ) → inner_lis
 counted {A} lists n is = sym (length-map lists (λ (v : Vec A Global). v.items)) ∙ (ap length is ∙ length-replicate n [])
 
 -- boxes that nothing joins
-pub none_joined : (boxes : List BoxState) (layout : Layout) (n : ℕ) → n ≡ length boxes → layout.lanes.items ≡ [] → inner_lists layout.ends.items ≡ replicate n [] → AreBare boxes (inner_lists layout.places.items)
+pub none_joined : (boxes : List BoxState) (layout : TeamLayout) (n : ℕ) → n ≡ length boxes → layout.lanes.items ≡ [] → inner_lists layout.ends.items ≡ replicate n [] → AreBare boxes (inner_lists layout.places.items)
     → inner_lists layout.ins.items ≡ replicate n [] → inner_lists layout.outs.items ≡ replicate n [] → IsLayoutSoFar boxes [] layout
 none_joined boxes layout n count lanes ends bare ins outs = record {
   lane_count = ap length lanes;

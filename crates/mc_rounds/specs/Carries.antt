@@ -86,15 +86,18 @@ pub record IsLaneCarried (old new : List Member) (ends : LaneEnds) : Type 0 wher
 -- no two lanes have an end in common
 abbrev pub AreLanesApart : List LaneEnds → Type 0
 AreLanesApart lanes = (l k : ℕ) → l < length lanes → k < length lanes → l ≢ k
-    → ((ends_of_lane lanes l).to ≡ (ends_of_lane lanes k).to → (ends_of_lane lanes l).to_end ≢ (ends_of_lane lanes k).to_end)
-    × ((ends_of_lane lanes l).from ≡ (ends_of_lane lanes k).from → (ends_of_lane lanes l).from_end ≢ (ends_of_lane lanes k).from_end)
+    → ((ends_of_lane lanes l).to ≡ (ends_of_lane lanes k).to
+    → (ends_of_lane lanes l).to_end ≢ (ends_of_lane lanes k).to_end)
+    × ((ends_of_lane lanes l).from ≡ (ends_of_lane lanes k).from
+    → (ends_of_lane lanes l).from_end ≢ (ends_of_lane lanes k).from_end)
 
 abbrev pub AreTied : List Member → List LaneEnds → Type 0
 AreTied members lanes = (lane : ℕ) → lane < length lanes → IsTied members (ends_of_lane lanes lane)
 
 -- all that was under way on a lane is in the inbox
 abbrev pub IsBroughtOn : (old new : List Member) → LaneEnds → Type 0
-IsBroughtOn old new ends = IsBroughtIn (giving_end old ends) (giving_end new ends) (taking_end old ends) (taking_end new ends)
+IsBroughtOn old new ends =
+    IsBroughtIn (giving_end old ends) (giving_end new ends) (taking_end old ends) (taking_end new ends)
 
 -- what stands at both ends of a lane is as it was
 abbrev pub StaysAtLane : (old new : List Member) → LaneEnds → Type 0

@@ -18,11 +18,13 @@ no_out = record { outbox = []; given = []; free = 0; back = 0 }
 
 -- what stands at a channel end of a box, on its way in
 abbrev pub in_view : List Member → ℕ → ℕ → InEnd
-in_view members who end = slice_index_or (map (λ (member : Member). in_at member.worker) members) who (λ (e : ℕ). no_in) end
+in_view members who end =
+    slice_index_or (map (λ (member : Member). in_at member.worker) members) who (λ (e : ℕ). no_in) end
 
 -- and on its way out
 abbrev pub out_view : List Member → ℕ → ℕ → OutEnd
-out_view members who end = slice_index_or (map (λ (member : Member). out_at member.worker) members) who (λ (e : ℕ). no_out) end
+out_view members who end =
+    slice_index_or (map (λ (member : Member). out_at member.worker) members) who (λ (e : ℕ). no_out) end
 
 -- what tells the rings of a box's channel ends apart
 abbrev pub in_names : List Member → ℕ → List RingName

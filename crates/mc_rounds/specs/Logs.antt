@@ -38,7 +38,8 @@ logged_turn logs key = turn_of key.who (slice_index_or (slice_index_or logs key.
 
 -- ---- the turns
 
--- these turns are the entries of the logs, each once, in the order of their stamps, and of the boxes where stamps are the same
+-- these turns are the entries of the logs, each once, in the order of their stamps, and of the boxes where stamps are
+-- the same
 pub record AreTurnsOf (logs : List (List Logged)) (turns : List Turn) : Type 0 where
   -- the entries in that order
   pub keys : List Key

@@ -6,7 +6,7 @@ use Rattle.mc_box.specs.Boxes.{BoxState}
 use Rattle.mc_lane.specs.Queue.{Queue}
 use Rattle.mc_rounds.specs.Layouts.{at_end, inner_lists, of_box}
 use Rattle.mc_rounds.specs.declared.team.layout.LaneEnds.{LaneEnds}
-use Rattle.mc_rounds.specs.declared.team.layout.Layout.{Layout}
+use Rattle.mc_rounds.specs.declared.team.layout.TeamLayout.{TeamLayout}
 use Rattle.mc_model.specs.Worlds.{ChannelState, WorldState}
 use Rattle.mc_rounds.specs.declared.team.member.Member.{Member}
 use Rattle.mc_signal.specs.declared.Tagged.{Tagged}
@@ -26,14 +26,15 @@ abbrev pub AreApart : List ℕ → Type 0
 AreApart numbers = (i j number : ℕ) → slice_get numbers i ≡ Some number → slice_get numbers j ≡ Some number → i ≡ j
 
 -- a layout has all that the member of a box with so many slots wants, and the lanes that lead there are among so many
-pub record CanMake (layout : Layout) (lanes slots who : ℕ) : Type 0 where
+pub record CanMake (layout : TeamLayout) (lanes slots who : ℕ) : Type 0 where
   pub in_ends : who < length layout.ends.items
   pub in_places : who < length layout.places.items
   pub in_ins : who < length layout.ins.items
   pub in_outs : who < length layout.outs.items
   pub places : ArePlaces (of_box (inner_lists layout.places.items) who)
   pub long : length (of_box (inner_lists layout.places.items) who) ≡ slots
-  pub at_ends : AreAtEnds (length (of_box (inner_lists layout.ins.items) who)) (of_box (inner_lists layout.places.items) who)
+  pub at_ends : AreAtEnds (length (of_box (inner_lists layout.ins.items) who))
+      (of_box (inner_lists layout.places.items) who)
   pub outs : length (of_box (inner_lists layout.outs.items) who) ≡ length (of_box (inner_lists layout.ins.items) who)
   pub ends : length (of_box (inner_lists layout.ends.items) who) ≡ length (of_box (inner_lists layout.ins.items) who)
   pub few : length (of_box (inner_lists layout.ins.items) who) ≤ END_LIMIT
@@ -41,7 +42,7 @@ pub record CanMake (layout : Layout) (lanes slots who : ℕ) : Type 0 where
   pub there : (end lane : ℕ) → at_end (inner_lists layout.ends.items) who end ≡ Some lane → lane < lanes
 
 -- a member as new, with what a layout has for its box: what is under way on the lanes that lead there is in its inboxes
-pub record IsNewMember (layout : Layout) (under_way : List (List Tagged)) (who : ℕ) (member : Member) : Type 0 where
+pub record IsNewMember (layout : TeamLayout) (under_way : List (List Tagged)) (who : ℕ) (member : Member) : Type 0 where
   pub place : member.worker.place ≡ of_box (inner_lists layout.places.items) who
   pub ins : member.worker.ins.items ≡ of_box (inner_lists layout.ins.items) who
   pub outs : member.worker.outs.items ≡ of_box (inner_lists layout.outs.items) who
@@ -53,7 +54,7 @@ pub record IsNewMember (layout : Layout) (under_way : List (List Tagged)) (who :
   pub ready : IsReady member.worker
 
 -- what a layout has for a box was taken, and nothing else changed
-pub record IsTakenFor (who : ℕ) (old new : Layout) : Type 0 where
+pub record IsTakenFor (who : ℕ) (old new : TeamLayout) : Type 0 where
   pub lanes : new.lanes ≡ old.lanes
   pub ends : new.ends ≡ old.ends
   pub places : inner_lists new.places.items ≡ slice_set (inner_lists old.places.items) who []
@@ -78,4 +79,5 @@ inbox_at boxes ends = box_of (of_box boxes ends.to) ends.to_end
 -- no two lanes lead to the same channel end, and each leads to one that is there
 pub record LeadApart (lanes : List LaneEnds) (boxes : List (List (List Tagged))) : Type 0 where
   pub there : (l : ℕ) (ends : LaneEnds) → slice_get lanes l ≡ Some ends → ends.to_end < length (of_box boxes ends.to)
-  pub apart : (l k : ℕ) (one other : LaneEnds) → slice_get lanes l ≡ Some one → slice_get lanes k ≡ Some other → one.to ≡ other.to → one.to_end ≡ other.to_end → l ≡ k
+  pub apart : (l k : ℕ) (one other : LaneEnds) → slice_get lanes l ≡ Some one → slice_get lanes k ≡ Some other
+      → one.to ≡ other.to → one.to_end ≡ other.to_end → l ≡ k

@@ -1,4 +1,5 @@
--- What each box of a team did in a round: nothing, or one round of its own, with its log, its stop and the cause of that.
+-- What each box of a team did in a round: nothing, or one round of its own, with its log, its stop and the cause of
+-- that.
 use Rattle.std.specs.Prelude.{◌≡◌, ◌↔◌, ◌⊎◌, ◌+◌, ◌++◌, ◌<◌, ◌≤◌, ℕ, Bool, false, List, [], length, map, slice_get, slice_index_or, MatchOption, Option, None, Some}
 use Rattle.mc_box.specs.BoxEvents.{is_command, is_enabled, is_retry, is_shift}
 use Rattle.mc_box.specs.Boxes.{BoxState}
@@ -23,14 +24,17 @@ use Rattle.mc_worker.specs.declared.stop.Stop.{Stop}
 use Rattle.mc_worker.specs.declared.stop.Stop.TheVariants.{Rested, Spent, NoMemory, VersionEnd, Strange}
 use Rattle.mc_worker.specs.declared.worker.Worker.{Worker}
 
--- there is a log and a stop for each box, and for each box they say this; and together the logs are what the merge law asks for, between the worlds before the round and after it
-pub record AreLogsOf (Says : ℕ → List Claimed → Option Stop → Type 0) (old new : TeamState) (logs : List (List Logged)) (stops : List (Option Stop)) : Type 0 where
+-- there is a log and a stop for each box, and for each box they say this; and together the logs are what the merge law
+-- asks for, between the worlds before the round and after it
+pub record AreLogsOf (Says : ℕ → List Claimed → Option Stop → Type 0) (old new : TeamState) (logs : List (List Logged))
+    (stops : List (Option Stop)) : Type 0 where
   pub log_count : length logs ≡ length old.world.boxes
   pub stop_count : length stops ≡ length old.world.boxes
   -- each entry with what it took and sent, and with the stamp with which what it took was sent
   pub entries : List (List Claimed)
   pub logs_are : logs ≡ map (λ (log : List Claimed). map logged log) entries
-  pub each : (who : ℕ) → who < length old.world.boxes → Says who (claimed_of entries who) (slice_index_or stops who None)
+  pub each : (who : ℕ) → who < length old.world.boxes
+      → Says who (claimed_of entries who) (slice_index_or stops who None)
   -- what is under way after the round, with the stamps with which it was sent
   pub rests : List (List Stamped)
   pub rests_are : map without_stamps rests ≡ new.world.lanes
@@ -51,7 +55,8 @@ pub record HasLaneEnd (world : WorldState) (lane : ℕ) (worker : Worker) : Type
   pub waits : (in_at worker end).inbox ≡ slice_index_or world.lanes lane []
   pub tunnels : (local : ℕ) → tunnels_at worker.place end local ≡ into_box world (leads_to world lane) lane local
 
--- a box that had work made one round: its worker, with no stamp yet, made at most as many turns as a round may have, which are its log; and it stopped for the cause that the stop says
+-- a box that had work made one round: its worker, with no stamp yet, made at most as many turns as a round may have,
+-- which are its log; and it stopped for the cause that the stop says
 pub record IsOwnRound (retries : Bool) (old new : TeamState) (who : ℕ) (log : List Claimed) (stop : Stop) : Type 0 where
   pub works : HasTeamWork retries old who
   -- its worker before the round and after it
@@ -60,7 +65,8 @@ pub record IsOwnRound (retries : Bool) (old new : TeamState) (who : ℕ) (log : 
   pub has_before : HasBox old who before
   pub has_after : HasBox new who after
   pub no_stamp : before.stamp ≡ 0
-  pub lanes : (lane : ℕ) → lane < length old.world.lanes → leads_to old.world lane ≡ who → HasLaneEnd old.world lane before
+  pub lanes : (lane : ℕ) → lane < length old.world.lanes → leads_to old.world lane ≡ who
+      → HasLaneEnd old.world lane before
   -- the round
   pub end : RoundEnd
   pub round : IsRound retries before after end
@@ -90,12 +96,14 @@ pub record TakesAll (world : WorldState) (who lane : ℕ) (log : List Claimed) :
   pub later : List Stamped
   pub order : log_takes (into_box world who lane) log ≡ map (with_stamp 0) (slice_index_or world.lanes lane []) ++ later
 
--- a box rests after fewer turns than a round may have, with no command left, no Shift that it may make, and all taken that was under way to it
+-- a box rests after fewer turns than a round may have, with no command left, no Shift that it may make, and all taken
+-- that was under way to it
 pub record ShowsRest (old new : TeamState) (who : ℕ) (log : List Claimed) : Type 0 where
   pub few : length log < TURN_LIMIT
   pub no_command : stimuli_at new who ≡ []
   pub no_shift : MayNotShift new who
-  pub taken : (lane : ℕ) → lane < length old.world.lanes → leads_to old.world lane ≡ who → TakesAll old.world who lane log
+  pub taken : (lane : ℕ) → lane < length old.world.lanes → leads_to old.world lane ≡ who
+      → TakesAll old.world who lane log
 
 -- its next command is a Hear of a slot that is at its last version, after fewer turns than a round may have
 pub record ShowsLastHear (new : TeamState) (who local : ℕ) (log : List Claimed) : Type 0 where
@@ -110,7 +118,8 @@ ShowsEnd old new who log (NoMemory e) = ⊥
 ShowsEnd old new who log (VersionEnd local) = ShowsLastHear new who local log
 ShowsEnd old new who log (Strange end tunnel) = ⊥
 
--- the retries that are asked for come first, one for each slot that owes one, in the order of the slots; no other retry comes
+-- the retries that are asked for come first, one for each slot that owes one, in the order of the slots; no other retry
+-- comes
 pub record BeginsByRetries (retries : Bool) (box : BoxState) (log : List Claimed) : Type 0 where
   pub first : List Claimed
   pub rest : List Claimed

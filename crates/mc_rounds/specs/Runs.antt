@@ -48,7 +48,8 @@ pub record HasRun (retries : Bool) (old new : Member) : Type 0 where
   pub looked : Member
   pub looks : IsLookedAt old looked
   pub works : Bool
-  pub did : MatchBool works (HasWaitingWork retries looked.worker × IsRan retries looked new) ((HasWaitingWork retries looked.worker → ⊥) × (new ≡ looked))
+  pub did : MatchBool works (HasWaitingWork retries looked.worker × IsRan retries looked new)
+      ((HasWaitingWork retries looked.worker → ⊥) × (new ≡ looked))
 
 -- and so did each
 pub record HaveRun (retries : Bool) (old new : List Member) : Type 0 where
@@ -57,4 +58,6 @@ pub record HaveRun (retries : Bool) (old new : List Member) : Type 0 where
 
 -- no box stopped for want of memory
 abbrev pub NoneRefused : List Member → Type 0
-NoneRefused members = (who : ℕ) (member : Member) (end : RoundEnd) → slice_get members who ≡ Some member → member.end ≡ Some end → is_memory end.stop ≡ false
+NoneRefused members =
+    (who : ℕ) (member : Member) (end : RoundEnd) → slice_get members who ≡ Some member → member.end ≡ Some end
+    → is_memory end.stop ≡ false

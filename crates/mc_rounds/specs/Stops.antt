@@ -11,7 +11,7 @@ use Rattle.mc_seq.specs.declared.fault.SettleFault.{SettleFault}
 use Rattle.mc_seq.specs.declared.fault.SettleFault.TheVariants.{NoMemory, Restless, Ring, VersionEnd}
 use Rattle.mc_settings.specs.Batches.{UseUp}
 
--- behind these turns the next command of some box is the Hear of this slot, whose descriptor has the last version
+-- after these turns the next command of some box is the Hear of this slot, whose descriptor has the last version
 pub record StopsAtLast (world : WorldState) (batch turns : List Turn) (at : ℕ) : Type 0 where
   pub last : WorldState
   pub stopped : IsStopped world batch turns last
@@ -26,7 +26,8 @@ pub record StopsOnRing (world : WorldState) (batch turns : List Turn) (at : ℕ)
   pub used_up : UseUp batch turns
   pub least : IsFirstOnRing last at
 
--- these turns use up the batch, and leave nothing under way, but the program of this box can go on, and has made all its Shifts
+-- these turns use up the batch, and leave nothing under way, but the program of this box can go on, and has made all
+-- its Shifts
 pub record StopsUnrested (world : WorldState) (batch turns : List Turn) (at : ℕ) : Type 0 where
   pub last : WorldState
   pub stopped : IsStopped world batch turns last

@@ -12,7 +12,8 @@ use Rattle.mc_port.specs.declared.stamped.Stamped.{Stamped}
 use Rattle.mc_worker.specs.Account.{IsWork}
 use Rattle.mc_worker.specs.declared.worker.Worker.{Worker}
 
--- a worker stands for a box of the world: it has that box, with no stamp yet, its slots have their tunnels, and its log has its account
+-- a worker stands for a box of the world: it has that box, with no stamp yet, its slots have their tunnels, and its log
+-- has its account
 pub record StandsFor (world : WorldState) (who : ℕ) (old new : Worker) (log : List Claimed) : Type 0 where
   pub box : old.part ≡ box_at world who
   pub stamp : old.stamp ≡ 0
@@ -20,13 +21,15 @@ pub record StandsFor (world : WorldState) (who : ℕ) (old new : Worker) (log : 
   pub work : IsWork old new log
 
 -- a worker for each box, before and after some rounds, with its log, whose ends carry the lanes
-pub record AreWorkersOf (world : WorldState) (old new : List Worker) (logs : List (List Claimed)) (rests : List (List Stamped)) : Type 0 where
+pub record AreWorkersOf (world : WorldState) (old new : List Worker) (logs : List (List Claimed))
+    (rests : List (List Stamped)) : Type 0 where
   pub each_lane : length world.lanes ≡ 2 * length world.channels
   pub old_count : length old ≡ length world.boxes
   pub new_count : length new ≡ length world.boxes
   pub log_count : length logs ≡ length world.boxes
   pub lane_count : length rests ≡ length world.lanes
-  pub stand : (who : ℕ) (a b : Worker) → slice_get old who ≡ Some a → slice_get new who ≡ Some b → StandsFor world who a b (claimed_of logs who)
+  pub stand : (who : ℕ) (a b : Worker) → slice_get old who ≡ Some a → slice_get new who ≡ Some b
+      → StandsFor world who a b (claimed_of logs who)
   pub boxes : (lane : ℕ) → lane < length world.lanes → HasBothBoxes world lane
   pub carry : (lane : ℕ) (sender sender_after taker taker_after : Worker) → lane < length world.lanes
       → slice_get old (leads_from world lane) ≡ Some sender → slice_get new (leads_from world lane) ≡ Some sender_after
@@ -39,5 +42,6 @@ parts_of workers = map (λ (worker : Worker). worker.part) workers
 
 -- their logs, their boxes after it and what is still under way are what the merge law asks for
 abbrev pub AccountsAreClaimed : Type 0
-AccountsAreClaimed = (world : WorldState) (old new : List Worker) (logs : List (List Claimed)) (rests : List (List Stamped))
+AccountsAreClaimed =
+    (world : WorldState) (old new : List Worker) (logs : List (List Claimed)) (rests : List (List Stamped))
     → AreWorkersOf world old new logs rests → IsClaimed world logs (parts_of new) rests

@@ -74,7 +74,7 @@ impl Team {
         Ok(Team { frame, boxes })
     }
 
-    /// Gives a box a command more, which its shape allows, behind those that it has. It fails only for want of memory,
+    /// Gives a box a command more, which its shape allows, after those that it has. It fails only for want of memory,
     /// and the team is as it was then.
     pub fn add(&mut self, turn: Turn) -> Result<(), AllocError>
         requires { IsTrue (is_allowed self.old.world turn) }

@@ -1,4 +1,5 @@
--- The program of a box: states, each with a goal for every slot and transitions in order, and which transition is enabled.
+-- The program of a box: states, each with a goal for every slot and transitions in order, and which transition is
+-- enabled.
 use Rattle.std.specs.Prelude.{◌≡◌, ◌≢◌, ◌<◌, ◌≤◌, ◌==◌, ℕ, Bool, true, false, List, [], All, length, slice_index_or, Option, Some, None}
 use Rattle.std.specs.List.{find, slice_get}
 use Rattle.std.specs.Option.{option_map}
@@ -87,4 +88,5 @@ first_that_holds rules slots told = find (λ rule. holds slots told rule.guard) 
 -- the enabled transition: at no state the one to the first state, and at a state the first whose guard holds
 abbrev pub enabled : List ProgStateState → Option ℕ → List Slot → Option ℕ → Option Shifted
 enabled states None slots told = Some begins
-enabled states (Some at) slots told = option_map shifted_by (first_that_holds (slice_index_or states at no_state).rules slots told)
+enabled states (Some at) slots told =
+    option_map shifted_by (first_that_holds (slice_index_or states at no_state).rules slots told)

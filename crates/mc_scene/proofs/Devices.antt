@@ -5,7 +5,7 @@ use Rattle.mc_scene.specs.Chains.{run_codecs}
 use Rattle.mc_scene.specs.Groups.{device_text, numbered_codec}
 use Rattle.mc_scene.specs.declared.chains.CodecRun.{CodecRun}
 
--- the codec at a place, behind a space
+-- the codec at a place, after a space
 abbrev pub codec_behind : CodecRun → ℕ → List ℕ
 codec_behind run place = 32 ∷ numbered_codec ((run.first + place) % 8)
 
@@ -14,7 +14,7 @@ joined : (run : CodecRun) (name : List ℕ) (places : List ℕ)
 joined run name [] = sym (append-nil name)
 joined run name (place ∷ places) = ap (λ (rest : List ℕ). name ++ 32 ∷ rest) (joined run (numbered_codec ((run.first + place) % 8)) places)
 
--- a name behind `dev`, what stands behind it, and a line end
+-- a name after `dev`, what stands after it, and a line end
 ended : (before name others line : List ℕ) → line ≡ name ++ others → ((before ++ (codes "dev " ++ name)) ++ others) ++ 10 ∷ [] ≡ before ++ (codes "dev " ++ (line ++ 10 ∷ []))
 ended before name others line is =
     append_assoc (before ++ (codes "dev " ++ name)) others (10 ∷ [])
@@ -22,7 +22,7 @@ ended before name others line is =
     ∙ ap (λ (rest : List ℕ). before ++ (codes "dev " ++ rest)) (sym (append_assoc name others (10 ∷ [])))
     ∙ ap (λ (whole : List ℕ). before ++ (codes "dev " ++ (whole ++ 10 ∷ []))) (sym is)
 
--- so the name, all codecs behind spaces, and a line end are the line
+-- so the name, all codecs after spaces, and a line end are the line
 device_is : (run : CodecRun) (before name : List ℕ)
     → ((before ++ (codes "dev " ++ name)) ++ flat_map (codec_behind run) (range_with_len 0 run.count)) ++ 10 ∷ [] ≡ before ++ device_text name run
 device_is run before name =

@@ -14,7 +14,7 @@ abbrev pub state_after_draws : ℕ → ℕ → ℕ
 state_after_draws zero state = state
 state_after_draws (suc count) state = next_state (state_after_draws count state)
 
--- the draw behind so many others
+-- the draw after so many others
 abbrev pub draw_at : ℕ → ℕ → ℕ
 draw_at count state = state_after_draws (suc count) state / 65536
 

@@ -23,7 +23,8 @@ codecs_text = lines_text (
 
 -- all lines before the commands
 abbrev pub network_text : List Chain → List ℕ
-network_text chains = codecs_text ++ group_text Boxes chains ++ group_text Channels chains ++ words_line (codes "begin" ∷ [])
+network_text chains =
+    codecs_text ++ group_text Boxes chains ++ group_text Channels chains ++ words_line (codes "begin" ∷ [])
 
 -- the commands of a group, and a settle
 abbrev pub batch_text : Group → List Chain → List ℕ

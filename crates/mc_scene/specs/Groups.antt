@@ -41,7 +41,9 @@ feature_text chain place = words_line (codes "feat" ∷ feature_name chain place
 
 -- the left device, the features and the right device
 abbrev pub boxes_text : Chain → List ℕ
-boxes_text chain = device_text (left_name chain) chain.left ++ flat_map (feature_text chain) (range_with_len 0 chain.features) ++ device_text (right_name chain) chain.right
+boxes_text chain =
+    device_text (left_name chain) chain.left ++ flat_map (feature_text chain) (range_with_len 0 chain.features)
+    ++ device_text (right_name chain) chain.right
 
 -- ---- channels
 
@@ -55,12 +57,14 @@ near_slot place = if place == 0 then codes "s" else codes "e"
 
 -- the channel from that box to the next one, at its slot
 abbrev pub channel_text : Chain → ℕ → List ℕ → List ℕ → List ℕ
-channel_text chain place name slot = words_line (codes "chan" ∷ codes "audio" ∷ near_name chain place ∷ near_slot place ∷ name ∷ slot ∷ [])
+channel_text chain place name slot =
+    words_line (codes "chan" ∷ codes "audio" ∷ near_name chain place ∷ near_slot place ∷ name ∷ slot ∷ [])
 
 -- a channel to each feature and to the right device
 abbrev pub channels_text : Chain → List ℕ
 channels_text chain =
-    flat_map (λ place. channel_text chain place (feature_name chain place) (codes "w")) (range_with_len 0 chain.features)
+    flat_map (λ place. channel_text chain place (feature_name chain place) (codes "w"))
+    (range_with_len 0 chain.features)
     ++ channel_text chain chain.features (right_name chain) (codes "s")
 
 -- ---- commands

@@ -42,7 +42,7 @@ impl CodecRun {
     }
 }
 
-// So many chains, each drawn behind the one before it.
+// So many chains, each drawn after the one before it.
 pub fn draw_chains(alloc: Global, state: u32, size: u32) -> Result<Vec<Chain>, AllocError>
     ensures { IfOk result (λ chains. chains.items ≡ drawn_chains state size) }
 {

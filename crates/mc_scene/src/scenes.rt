@@ -73,7 +73,7 @@ const PREPAID: &[u8] = b"media 1\n\
     tell pc paid\n\
     settle\n";
 
-/// The text of a scene: its network, and a script with a settle behind each of its steps.
+/// The text of a scene: its network, and a script with a settle after each of its steps.
 pub fn scene_text(alloc: Global, scene: Scene) -> Result<Vec<u8>, AllocError>
     ensures { IfOk result (λ text. text.items ≡ scene_text scene) }
 {

@@ -52,7 +52,7 @@ fn put_commands(chains: &[Chain], text: &mut String) -> Result<(), AllocError>
     put_batch(Group::Closes, chains, text)
 }
 
-// Appends the commands of a group, and a settle behind them.
+// Appends the commands of a group, and a settle after them.
 fn put_batch(group: Group, chains: &[Chain], text: &mut String) -> Result<(), AllocError>
     ensures { OnOk result (string_bytes text.new ≡ string_bytes text.old ++ batch_text group chains.now) }
 {

@@ -87,7 +87,7 @@ channels_are chain (suc n) a post rest name slot goes =
     regroup : (one two three four : List ℕ) → one ++ ((two ++ three) ++ four) ≡ ((one ++ two) ++ three) ++ four
     regroup one two three four = simp append_assoc refl
 
--- the channels of a chain, and those of the chains behind it
+-- the channels of a chain, and those of the chains after it
 one_chain : (chains : List Chain) (chain : Chain) → flat_map words_line (lines_behind (at_right chain) (all_posts chains)) ≡ group_text Channels chains → flat_map words_line (lines_behind (at_left chain) (posts_behind chain chains)) ≡ group_text Channels (chain ∷ chains)
 one_chain chains chain behind =
     let seam = append_assoc (map (between chain) (range_with_len 0 chain.features)) (at_right chain ∷ []) (all_posts chains) in

@@ -57,7 +57,7 @@ chains_go (next ∷ others) chain =
 pub posts_counted : (chain : Chain) → length (chain_posts chain) ≡ chain.features + 2
 posts_counted chain = omega (arith, length-append (map (between chain) (range_with_len 0 chain.features)) (at_right chain ∷ []), length-map-range_with_len (between chain) 0 chain.features)
 
--- its features come behind its left device, and then its right device
+-- its features come after its left device, and then its right device
 pub features_at : (all before : List Post) (chain : Chain) (tail : List Post) → all ≡ before ++ (chain_posts chain ++ tail)
     → all ≡ (before ++ at_left chain ∷ []) ++ (map (between chain) (range_with_len 0 chain.features) ++ at_right chain ∷ tail)
 features_at all before chain tail is =

@@ -17,7 +17,7 @@ use Rattle.mc_lines.specs.declared.section.Section.{Section}
 use Rattle.mc_lines.specs.declared.section.Section.TheVariants as section
 use Rattle.mc_lines.specs.declared.tail.Tail.TheVariants.{Nothing}
 use Rattle.mc_lines.proofs.Joining.{in_form_with_channel}
-use Rattle.mc_program.specs.Programs.{◌>>=◌}
+use Rattle.mc_program_lines.specs.Programs.{◌>>=◌}
 use Rattle.mc_scene_laws.specs.ChainTexts.{eight_codecs}
 use Rattle.mc_scene_laws.specs.Posts.{Post, at_left, at_right, between, channel_to_right, channels_from, post_box, post_kind, post_media, post_name, post_shape, post_slots, slot_to_right}
 use Rattle.mc_scene_laws.specs.SceneTexts.{audio_channel}
@@ -64,7 +64,7 @@ is_right (at_left chain) = false
 is_right (between chain place) = false
 is_right (at_right chain) = true
 
--- behind a right device a chain begins, and behind another box it goes on; the last box is a right device
+-- after a right device a chain begins, and after another box it goes on; the last box is a right device
 abbrev pub GoesOn : Post → List Post → Type 0
 GoesOn post [] = is_right post ≡ true
 GoesOn post (next ∷ rest) = (is_left next ≡ is_right post) × GoesOn next rest
@@ -102,7 +102,7 @@ with_network at all slots shape channels = record {
   commands = [];
 }
 
--- the boxes before this one have all of their slots, and those behind it none
+-- the boxes before this one have all of their slots, and those after it none
 abbrev pub joined_to : Section → List Post → List Post → Post → List Post → Declared
 joined_to at all done post rest = with_network at all (map post_slots done ++ slots_before post ∷ map no_slots rest) (map post_shape done ++ shape_before post ∷ map bare_shape rest) (channels_from 0 done)
 

@@ -72,7 +72,7 @@ left_at all before chain tail who is counted feature =
     let clash : false ≡ true = sym (ap (λ (s : BoxShapeState). is_feature s.kind) (shape_at all before (at_left chain) ((map (between chain) (range_with_len 0 chain.features) ++ at_right chain ∷ []) ++ tail) who is counted)) ∙ feature in
     cc
 
--- nor is its right device, which stands behind its features
+-- nor is its right device, which stands after its features
 pub right_at : (all before : List Post) (chain : Chain) (tail : List Post) (who : ℕ) → all ≡ before ++ (chain_posts chain ++ tail) → length before ≡ who
     → (IsFeatureAt all (who + 1 + chain.features) → ⊥) × IsRightAt all (who + 1 + chain.features)
 right_at all before chain tail who is counted =

@@ -52,7 +52,7 @@ posts_in_form at posts early = record {
 
 -- ---- between two chains
 
--- behind a right device no slot is new
+-- after a right device no slot is new
 no_channel_is : (at : Section) (all done : List Post) (post next : Post) (rest : List Post) → slots_before post ≡ post_slots post → shape_before post ≡ post_shape post → channel_to_right (0 + length done) post ≡ []
     → slots_before next ≡ [] → shape_before next ≡ bare_shape next → joined_to at all done post (next ∷ rest) ≡ joined_to at all (done ++ post ∷ []) next rest
 no_channel_is at all done post next rest slots shape none next_slots next_shape =
@@ -69,7 +69,7 @@ no_channel_is at all done post next rest slots shape none next_slots next_shape 
     ap (λ (l : List (List (List ℕ))). with_network at all l (map post_shape done ++ shape_before post ∷ map bare_shape (next ∷ rest)) (channels_from 0 done)) all_slots
     ∙ ap₂ (λ (shapes : List BoxShapeState) (channels : List ChannelState). with_network at all (map post_slots (done ++ post ∷ []) ++ slots_before next ∷ map no_slots rest) shapes channels) all_shapes all_channels
 
--- behind the last box all are joined
+-- after the last box all are joined
 last_is : (at : Section) (all done : List Post) (post : Post) → all ≡ done ++ post ∷ [] → slots_before post ≡ post_slots post → shape_before post ≡ post_shape post → channel_to_right (0 + length done) post ≡ [] → joined_to at all done post [] ≡ joined at all
 last_is at all done post is slots shape none =
     let all_slots : map post_slots done ++ slots_before post ∷ [] ≡ map post_slots all =

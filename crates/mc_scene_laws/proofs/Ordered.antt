@@ -13,7 +13,7 @@ abbrev pub AreOrdered : ℕ → List Post → Type 0
 AreOrdered low [] = Unit {0}
 AreOrdered low (post ∷ posts) = (low ≤ post_key post) × IsPlaced post × AreOrdered (post_key post + 1) posts
 
--- a box behind others
+-- a box after others
 pub is_placed_in : (low : ℕ) (done : List Post) (post : Post) (rest : List Post) → AreOrdered low (done ++ post ∷ rest) → (low ≤ post_key post) × IsPlaced post
 is_placed_in low [] post rest ordered = (ordered.0, ordered.1)
 is_placed_in low (first ∷ done) post rest ordered =
@@ -62,7 +62,7 @@ found_nowhere p xs none =
     let past : nat_lt (length xs) (length xs) ≡ false = grind arith in
     rw (no_place p xs none, past) refl
 
--- a box's name is new behind those before it
+-- a box's name is new after those before it
 pub post_is_new : (low : ℕ) (done : List Post) (post : Post) (rest : List Post) → AreOrdered low (done ++ post ∷ rest) → place_of (map post_name done) (post_name post) ≡ None
 post_is_new low done post rest ordered = found_nowhere (bytes_eq (post_name post)) (map post_name done) (names_before low done post rest ordered)
 

@@ -8,7 +8,7 @@ use Rattle.std.specs.Option.{is_none, unwrap_or}
 use Rattle.std.specs.Str.{bytes_eq}
 use Rattle.mc_text.specs.NameLists.{place_of}
 use Rattle.mc_script.proofs.Apart.{is_word}
-use Rattle.mc_program.specs.WordLists.{has_repeat}
+use Rattle.mc_program_lines.specs.WordLists.{has_repeat}
 use Rattle.mc_lines.specs.Meaning.{version_of}
 use Rattle.mc_lines.specs.Rules.{codec_words, has_bad_version}
 use Rattle.mc_scene.specs.Chains.{run_codecs}

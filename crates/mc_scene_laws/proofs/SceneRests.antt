@@ -14,8 +14,8 @@ use Rattle.mc_laws.specs.Chains.{ClosesNoChain, NamesLink}
 use Rattle.mc_laws.specs.Words.{WaitsForWords}
 use Rattle.mc_model.specs.Settles.{is_tell_of}
 use Rattle.mc_model.specs.Worlds.{ChannelState, WorldState, far, places_among}
-use Rattle.mc_program.specs.Finished.{program_of}
-use Rattle.mc_program.specs.Programs.{BlockState}
+use Rattle.mc_program_lines.specs.Finished.{program_of}
+use Rattle.mc_program_lines.specs.Programs.{BlockState}
 use Rattle.mc_lines.specs.Meaning.{declared_at}
 use Rattle.mc_lines.specs.SoFar.{Declared}
 use Rattle.mc_net.specs.Nets.{IsFirstWorld, batches_of}

@@ -1,7 +1,7 @@
 -- Two neighbours in a list that change.
 use Rattle.std.proofs.Common.{◌≡◌, ℕ, zero, suc, List, [], ◌∷◌, ◌++◌, length, slice_index_or, slice_set, refl, ap, arith}
 
--- the first of two that come behind others
+-- the first of two that come after others
 pub first_there : {A : Type 0} (xs ys : List A) (a default : A) (n : ℕ) → n ≡ length xs → slice_index_or (xs ++ a ∷ ys) n default ≡ a
 first_there [] ys a default zero is = refl
 first_there [] ys a default (suc n) is = absurd (omega arith)

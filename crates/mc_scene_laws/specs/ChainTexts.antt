@@ -53,7 +53,9 @@ links_through who = Stimulus (turn_of who (Set (NewLink 0 1)))
 
 -- the commands for a chain whose left device has this number: features link, then both ends get their first goals
 abbrev pub chain_calls : ℕ → Chain → List Command
-chain_calls who chain = map (λ place. links_through (who + 1 + place)) (range_with_len 0 chain.features) ++ sets_end who ToOpen ∷ sets_end (who + 1 + chain.features) (first_told chain.goal) ∷ []
+chain_calls who chain =
+    map (λ place. links_through (who + 1 + place)) (range_with_len 0 chain.features) ++ sets_end who ToOpen
+    ∷ sets_end (who + 1 + chain.features) (first_told chain.goal) ∷ []
 
 -- the right end holds
 abbrev pub chain_holds : ℕ → Chain → List Command

@@ -1,4 +1,5 @@
--- Laws of generated texts: what they declare, that their batches come to rest, and that goals decide all of their paths.
+-- Laws of generated texts: what they declare, that their batches come to rest, and that goals decide all of their
+-- paths.
 use Rattle.std.specs.Prelude.{◌≤◌, ◌++◌, ℕ, List, length}
 use Rattle.mc_scene.specs.Chains.{drawn_chains}
 use Rattle.mc_scene.specs.Generated.{commands_text, generated, network_text}
@@ -14,7 +15,9 @@ use Rattle.mc_scene_laws.specs.Resting.{ComesToRest}
 
 -- the text of few chains, numbered in their order, is in the grammar
 abbrev pub ChainsAreTexts : Type 0
-ChainsAreTexts = (chains : List Chain) → 1 ≤ length chains → length chains ≤ SIZE_LIMIT → AreNumberedChains 0 chains → Says Nothing (network_text chains ++ commands_text chains) (chains_declared chains)
+ChainsAreTexts =
+    (chains : List Chain) → 1 ≤ length chains → length chains ≤ SIZE_LIMIT → AreNumberedChains 0 chains
+    → Says Nothing (network_text chains ++ commands_text chains) (chains_declared chains)
 
 -- drawn chains are numbered in their order, with the features and codecs that chains may have
 abbrev pub DrawnChainsAreNumbered : Type 0
@@ -22,7 +25,9 @@ DrawnChainsAreNumbered = (number size : ℕ) → AreNumberedChains 0 (drawn_chai
 
 -- so each generated text of few chains is in the grammar
 abbrev pub GeneratedAreTexts : Type 0
-GeneratedAreTexts = (number size : ℕ) → 1 ≤ size → size ≤ SIZE_LIMIT → Says Nothing (generated number size) (chains_declared (drawn_chains number size))
+GeneratedAreTexts =
+    (number size : ℕ) → 1 ≤ size → size ≤ SIZE_LIMIT
+    → Says Nothing (generated number size) (chains_declared (drawn_chains number size))
 
 -- no box of it has a program
 abbrev pub GeneratedAreUnprogrammed : Type 0
@@ -34,4 +39,6 @@ GeneratedComeToRest = (number size : ℕ) → ComesToRest (chains_declared (draw
 
 -- and no batch of it leaves a path of hold against hold
 abbrev pub GeneratedLeaveDecided : Type 0
-GeneratedLeaveDecided = (number size : ℕ) (world : WorldState) → IsFirstWorld (chains_declared (drawn_chains number size)) world → LeavesDecided world (batches_of (chains_declared (drawn_chains number size)).commands)
+GeneratedLeaveDecided =
+    (number size : ℕ) (world : WorldState) → IsFirstWorld (chains_declared (drawn_chains number size)) world
+    → LeavesDecided world (batches_of (chains_declared (drawn_chains number size)).commands)

@@ -14,7 +14,8 @@ use Rattle.mc_net.specs.Versions.{MeetsNoLast}
 abbrev pub TellsOnce : List Turn → Type 0
 TellsOnce batch = (who : ℕ) → count_by (is_tell_of who) batch ≤ 1
 
--- no Hear meets the last version, programs go by words, of which each batch tells a box one at most, and no chain of links and tunnels can be closed
+-- no Hear meets the last version, programs go by words, of which each batch tells a box one at most, and no chain of
+-- links and tunnels can be closed
 pub record ComesToRest (d : Declared) : Type 0 where
   pub versions : MeetsNoLast d
   pub by_words : (world : WorldState) → IsFirstWorld d world → ShiftsByWords world

@@ -36,7 +36,8 @@ exchange_shape = record { kind = Feature; media = Audio ∷ Audio ∷ Audio ∷ 
 
 -- a channel of one tunnel
 abbrev pub audio_channel : (from near to beyond : ℕ) → ChannelState
-audio_channel from near to beyond = record { from = from; to = to; tunnels = record { medium = Audio; from = near; to = beyond } ∷ [] }
+audio_channel from near to beyond =
+    record { from = from; to = to; tunnels = record { medium = Audio; from = near; to = beyond } ∷ [] }
 
 -- a device's slot gets a goal
 abbrev pub sets_end : ℕ → Goal → Command
@@ -70,11 +71,20 @@ pbx_declared = record {
     who = 3;
     states = codes "ab" ∷ codes "ac" ∷ [];
     parts =
-        record { goals = Some (Link 1) ∷ Some (Link 0) ∷ Some (End ToHold) ∷ []; transitions = record { guard = Told 0; target = 1 } ∷ [] }
-        ∷ record { goals = Some (Link 2) ∷ Some (End ToHold) ∷ Some (Link 0) ∷ []; transitions = record { guard = Told 0; target = 0 } ∷ [] }
+        record {
+          goals = Some (Link 1) ∷ Some (Link 0) ∷ Some (End ToHold)
+              ∷ [];
+          transitions = record { guard = Told 0; target = 1 } ∷ [];
+        }
+        ∷ record {
+          goals = Some (Link 2) ∷ Some (End ToHold) ∷ Some (Link 0)
+              ∷ [];
+          transitions = record { guard = Told 0; target = 0 } ∷ [];
+        }
         ∷ [];
   } ∷ [];
-  commands = sets_end 0 ToOpen ∷ sets_end 1 ToHold ∷ sets_end 2 ToOpen ∷ Settle ∷ tells 3 0 ∷ Settle ∷ tells 3 0 ∷ Settle ∷ sets_end 1 ToClose ∷ Settle ∷ [];
+  commands = sets_end 0 ToOpen ∷ sets_end 1 ToHold ∷ sets_end 2 ToOpen ∷ Settle ∷ tells 3 0 ∷ Settle ∷ tells 3 0
+      ∷ Settle ∷ sets_end 1 ToClose ∷ Settle ∷ [];
 }
 
 -- the feature has the number 3, and links its slot a with c, or with v
@@ -99,11 +109,20 @@ prepaid_declared = record {
     who = 3;
     states = codes "talk" ∷ codes "prompt" ∷ [];
     parts =
-        record { goals = Some (Link 1) ∷ Some (Link 0) ∷ Some (End ToClose) ∷ []; transitions = record { guard = Told 0; target = 1 } ∷ [] }
-        ∷ record { goals = Some (Link 2) ∷ Some (End ToHold) ∷ Some (Link 0) ∷ []; transitions = record { guard = Told 1; target = 0 } ∷ [] }
+        record {
+          goals = Some (Link 1) ∷ Some (Link 0) ∷ Some (End ToClose)
+              ∷ [];
+          transitions = record { guard = Told 0; target = 1 } ∷ [];
+        }
+        ∷ record {
+          goals = Some (Link 2) ∷ Some (End ToHold) ∷ Some (Link 0)
+              ∷ [];
+          transitions = record { guard = Told 1; target = 0 } ∷ [];
+        }
         ∷ [];
   } ∷ [];
-  commands = sets_end 0 ToOpen ∷ sets_end 1 ToHold ∷ sets_end 2 ToHold ∷ Settle ∷ tells 3 0 ∷ Settle ∷ tells 3 1 ∷ Settle ∷ [];
+  commands = sets_end 0 ToOpen ∷ sets_end 1 ToHold ∷ sets_end 2 ToHold ∷ Settle ∷ tells 3 0 ∷ Settle ∷ tells 3 1
+      ∷ Settle ∷ [];
 }
 
 abbrev pub scene_declared : Scene → Declared

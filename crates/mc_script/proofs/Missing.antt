@@ -1,4 +1,4 @@
--- Where a word is missing, so are those behind it, and a place has no word just where it has no box, or no value.
+-- Where a word is missing, so are those after it, and a place has no word just where it has no box, or no value.
 use Rattle.std.proofs.Common.{◌≡◌, ◌||◌, false, ℕ, List, [], ◌∷◌, Option, Some, None, refl}
 use Rattle.std.specs.List.{slice_get}
 use Rattle.std.specs.Option.{is_none}

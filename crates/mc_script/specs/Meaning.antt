@@ -22,18 +22,27 @@ use Rattle.mc_script.specs.declared.keyword.CommandWord.TheVariants as word
 -- `BOX SLOT`, and an event of it
 abbrev pub at_slot : NameLists → List (List ℕ) → (ℕ → Option Event) → Option Command
 at_slot names words event =
-    option_and_then (λ who. option_and_then (λ local. option_map (λ it. Stimulus (record { who = who; event = it })) (event local)) (slot_named names (Some who) (slice_get words 1)))
+    option_and_then (λ who. option_and_then (λ local. option_map (λ it. Stimulus (record { who = who; event = it }))
+    (event local)) (slot_named names (Some who) (slice_get words 1)))
     (box_named names (slice_get words 0))
 
--- the command that the words behind the first spell
+-- the command that the words after the first spell
 abbrev pub command_by : NameLists → Option CommandWord → List (List ℕ) → Option Command
-command_by names (Some word.Set) words = at_slot names words (λ local. option_map (λ goal. Set (NewEnd local goal)) (spelt_value spelt_goal (slice_get words 2)))
+command_by names (Some word.Set) words =
+    at_slot names words (λ local. option_map (λ goal. Set (NewEnd local goal))
+    (spelt_value spelt_goal (slice_get words 2)))
 command_by names (Some word.Link) words =
-    at_slot names words (λ local. option_map (λ other. Set (NewLink local other)) (slot_named names (box_named names (slice_get words 0)) (slice_get words 2)))
-command_by names (Some word.Hear) words = at_slot names words (λ local. option_map (λ on. Media (Hear local on)) (spelt_value spelt_switch (slice_get words 2)))
-command_by names (Some word.Talk) words = at_slot names words (λ local. option_map (λ on. Media (Talk local on)) (spelt_value spelt_switch (slice_get words 2)))
+    at_slot names words (λ local. option_map (λ other. Set (NewLink local other))
+    (slot_named names (box_named names (slice_get words 0)) (slice_get words 2)))
+command_by names (Some word.Hear) words =
+    at_slot names words (λ local. option_map (λ on. Media (Hear local on))
+    (spelt_value spelt_switch (slice_get words 2)))
+command_by names (Some word.Talk) words =
+    at_slot names words (λ local. option_map (λ on. Media (Talk local on))
+    (spelt_value spelt_switch (slice_get words 2)))
 command_by names (Some word.Tell) words =
-    option_and_then (λ who. option_map (λ told. Stimulus (record { who = who; event = Tell told })) (spelt_value (place_of names.told) (slice_get words 1))) (box_named names (slice_get words 0))
+    option_and_then (λ who. option_map (λ told. Stimulus (record { who = who; event = Tell told }))
+    (spelt_value (place_of names.told) (slice_get words 1))) (box_named names (slice_get words 0))
 command_by names (Some word.Settle) words = Some Settle
 command_by names None words = None
 
@@ -49,7 +58,8 @@ abbrev pub ReadsAs : {X : Type 0} → Result X LineFault → Option ℕ → Opti
 ReadsAs (Ok x) fault meaning = (fault ≡ None) × (meaning ≡ Some x)
 ReadsAs (Err e) fault meaning = fault ≡ Some e.number
 
--- the line of a command is refused by the least of these rules that it breaks, and else it is read as what its words spell
+-- the line of a command is refused by the least of these rules that it breaks, and else it is read as what its words
+-- spell
 abbrev pub ReadsCommand : NameLists → CommandWord → List (ℕ × Bool) → List (List ℕ) → Result Command LineFault → Type 0
 ReadsCommand names kind rules words result = ReadsAs result (least_broken rules) (command_by names (Some kind) words)
 
@@ -72,10 +82,14 @@ slot_name names who local = slice_index_or (slot_names names who) local []
 
 -- the words of a command; an event that is no command has none
 abbrev pub event_words : NameLists → ℕ → Event → List (List ℕ)
-event_words names who (Set (NewEnd local goal)) = codes "set" ∷ box_name names who ∷ slot_name names who local ∷ goal_word goal ∷ []
-event_words names who (Set (NewLink local other)) = codes "link" ∷ box_name names who ∷ slot_name names who local ∷ slot_name names who other ∷ []
-event_words names who (Media (Hear local on)) = codes "hear" ∷ box_name names who ∷ slot_name names who local ∷ switch_word on ∷ []
-event_words names who (Media (Talk local on)) = codes "talk" ∷ box_name names who ∷ slot_name names who local ∷ switch_word on ∷ []
+event_words names who (Set (NewEnd local goal)) =
+    codes "set" ∷ box_name names who ∷ slot_name names who local ∷ goal_word goal ∷ []
+event_words names who (Set (NewLink local other)) =
+    codes "link" ∷ box_name names who ∷ slot_name names who local ∷ slot_name names who other ∷ []
+event_words names who (Media (Hear local on)) =
+    codes "hear" ∷ box_name names who ∷ slot_name names who local ∷ switch_word on ∷ []
+event_words names who (Media (Talk local on)) =
+    codes "talk" ∷ box_name names who ∷ slot_name names who local ∷ switch_word on ∷ []
 event_words names who (Tell told) = codes "tell" ∷ box_name names who ∷ slice_index_or names.told told [] ∷ []
 event_words names who event = []
 

@@ -1,4 +1,5 @@
--- The words of a line by their places, and what is asked of them. A word that is missing isn't asked anything, and a slot only where its box is known.
+-- The words of a line by their places, and what is asked of them. A word that is missing isn't asked anything, and a
+-- slot only where its box is known.
 use Rattle.std.specs.Prelude.{ℕ, ◌≡◌, ◌<◌, ◌==◌, ◌&&◌, Bool, false, not, List, Option, Some, None, Result, Ok, Err, length, nat_lt, if◌then◌else◌}
 use Rattle.std.specs.Option.{is_none, is_some, option_and_then}
 use Rattle.mc_text.specs.NameLists.{NameLists, place_of, slot_names}

@@ -31,7 +31,8 @@ IsNamed names Settle = Unit {0}
 
 -- the word that has a number is a name, and is found as that number
 abbrev pub IsFound : List (List ℕ) → ℕ → Type 0
-IsFound names number = IsTrue (is_name (slice_index_or names number [])) × (place_of names (slice_index_or names number []) ≡ Some number)
+IsFound names number =
+    IsTrue (is_name (slice_index_or names number [])) × (place_of names (slice_index_or names number []) ≡ Some number)
 
 abbrev pub IsFoundSlot : NameLists → ℕ → ℕ → Type 0
 IsFoundSlot names who local = IsFound names.boxes who × IsFound (slot_names names who) local
@@ -64,7 +65,9 @@ IsRead names shape command =
 
 -- what is printed is read as the same command
 abbrev pub PrintedIsRead : Type 0
-PrintedIsRead = (names : NameLists) (shape : List BoxShapeState) (command : Command) → IsFoundCommand names command → Allows shape command → IsRead names shape command
+PrintedIsRead =
+    (names : NameLists) (shape : List BoxShapeState) (command : Command) → IsFoundCommand names command
+    → Allows shape command → IsRead names shape command
 
 -- boxes, slots and told words have names, and in none of these lists does a name stand twice
 pub record HaveNames (names : NameLists) : Type 0 where
@@ -74,4 +77,5 @@ pub record HaveNames (names : NameLists) : Type 0 where
 
 -- where names are names, each command that can be printed is found again
 abbrev pub NamedIsFound : Type 0
-NamedIsFound = (names : NameLists) (command : Command) → HaveNames names → IsNamed names command → IsFoundCommand names command
+NamedIsFound =
+    (names : NameLists) (command : Command) → HaveNames names → IsNamed names command → IsFoundCommand names command

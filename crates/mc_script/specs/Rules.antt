@@ -1,4 +1,5 @@
--- The rules on a command's line, by their numbers: where a line of each kind breaks them. The words are those behind the first.
+-- The rules on a command's line, by their numbers: where a line of each kind breaks them. The words are those after
+-- the first.
 use Rattle.std.specs.Prelude.{ℕ, ◌==◌, ◌&&◌, ◌||◌, not, Bool, true, false, List, [], ◌∷◌, Option, Some, None, codes, drop, find, if◌then◌else◌, length, nat_le, nat_lt}
 use Rattle.std.specs.List.{list_any, slice_get}
 use Rattle.std.specs.Option.{is_none, is_some, option_and_then, option_map}
@@ -30,7 +31,8 @@ spelt_goal word =
 
 -- `on` or `off`
 abbrev pub spelt_switch : List ℕ → Option Bool
-spelt_switch word = if bytes_eq word (codes "on") then Some true else (if bytes_eq word (codes "off") then Some false else None)
+spelt_switch word =
+    if bytes_eq word (codes "on") then Some true else (if bytes_eq word (codes "off") then Some false else None)
 
 -- the word that opens a command
 abbrev pub command_word : List ℕ → Option CommandWord
@@ -62,7 +64,8 @@ has_no_program shape (Some who) = not (shape_of shape who).programmed
 
 -- both slots of a box are known, and are of two media
 abbrev pub differ_in_medium : List BoxShapeState → Option ℕ → Option ℕ → Option ℕ → Bool
-differ_in_medium shape (Some who) (Some a) (Some b) = not (is_same_medium (medium_at shape who a) (medium_at shape who b))
+differ_in_medium shape (Some who) (Some a) (Some b) =
+    not (is_same_medium (medium_at shape who a) (medium_at shape who b))
 differ_in_medium shape who a b = false
 
 -- ---- the rules of each kind
@@ -127,7 +130,8 @@ kind_rules names shape (Some Settle) words = settle_rules words
 kind_rules names shape None words = (WRONG_WORD, true) ∷ []
 
 abbrev pub command_rules : NameLists → List BoxShapeState → List (List ℕ) → List (ℕ × Bool)
-command_rules names shape words = kind_rules names shape (option_and_then command_word (slice_get words 0)) (drop 1 words)
+command_rules names shape words =
+    kind_rules names shape (option_and_then command_word (slice_get words 0)) (drop 1 words)
 
 -- ---- any line
 

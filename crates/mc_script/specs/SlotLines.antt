@@ -23,11 +23,13 @@ slot_rules names who slot no_value more =
     ∷ []
 
 -- what `BOX SLOT VALUE` says, or the first rule that it breaks
-abbrev pub ReadsSlot : {X : Type 0} → NameLists → Option ℕ → Option (List ℕ) → Option X → Option (List ℕ) → Result (SlotLine X) LineFault → Type 0
+abbrev pub ReadsSlot : {X : Type 0} → NameLists → Option ℕ → Option (List ℕ) → Option X → Option (List ℕ)
+    → Result (SlotLine X) LineFault → Type 0
 ReadsSlot names who slot value more result =
     let fault = least_broken (slot_rules names who slot (is_none value) more) in
     MatchResult result
-    (λ line. (who ≡ Some line.who) × (value ≡ Some line.value) × (slot_named names who slot ≡ Some line.local) × (fault ≡ None))
+    (λ line. (who ≡ Some line.who) × (value ≡ Some line.value) × (slot_named names who slot ≡ Some line.local)
+    × (fault ≡ None))
     (λ e. fault ≡ Some e.number)
 
 -- what is left to ask of two slots of a box
@@ -38,9 +40,12 @@ pair_rules shape who one other =
     ∷ []
 
 -- the words of a `link` line name these two slots, of which no more is left to ask
-pub record NamesTwoSlots (names : NameLists) (shape : List BoxShapeState) (words : List (List ℕ)) (pair : SlotLine ℕ) : Type 0 where
-  pub rules : least_broken (link_rules names shape words) ≡ least_broken (pair_rules shape pair.who pair.local pair.value)
-  pub spelt : command_by names (Some Link) words ≡ Some (Stimulus (record { who = pair.who; event = Set (NewLink pair.local pair.value) }))
+pub record NamesTwoSlots (names : NameLists) (shape : List BoxShapeState) (words : List (List ℕ))
+    (pair : SlotLine ℕ) : Type 0 where
+  pub rules : least_broken (link_rules names shape words)
+      ≡ least_broken (pair_rules shape pair.who pair.local pair.value)
+  pub spelt : command_by names (Some Link) words
+      ≡ Some (Stimulus (record { who = pair.who; event = Set (NewLink pair.local pair.value) }))
   pub who : pair.who < length shape
   pub one : pair.local < length (shape_of shape pair.who).media
   pub other : pair.value < length (shape_of shape pair.who).media

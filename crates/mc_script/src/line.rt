@@ -39,7 +39,7 @@ pub fn read_command<'a>(names: &Names, shape: &Shape, line: &'a [u8]) -> Result<
     }
 }
 
-/// Reads a command of a kind, by the words behind the first.
+/// Reads a command of a kind, by the words after the first.
 pub fn read_kind<'a>(
     names: &Names,
     shape: &Shape,

@@ -1,4 +1,4 @@
-//! The lines of each kind of command, by the words behind the first.
+//! The lines of each kind of command, by the words after the first.
 
 ghost use Rattle.std.specs.Prelude.{◌≡◌, ◌<◌, IfSome, MatchResult, None, Some, length};
 ghost use Rattle.std.specs.List.{slice_get};
@@ -113,7 +113,7 @@ pub fn tell_line<'a>(names: &Names, shape: &Shape, words: Words<'a>) -> Result<C
     Ok(stimulus(who, Event::Tell(told)))
 }
 
-/// Reads `settle`, behind which no word stands.
+/// Reads `settle`, after which no word stands.
 pub fn settle_line<'a>(mut words: Words<'a>) -> Result<Command, LineFault>
     ensures { ReadsAs result (least_broken (settle_rules words.entry)) (Some Command.Settle) }
 {
@@ -145,7 +145,7 @@ fn switch_line<'a>(
     slot_line(names, who, parts.second, on, parts.fourth)
 }
 
-// A slot of a box, and the value of the word behind it.
+// A slot of a box, and the value of the word after it.
 struct SlotLine<T> {
     who: u32,
     local: u8,

@@ -106,7 +106,7 @@ fn put_three(first: &[u8], second: &[u8], third: &[u8], out: &mut Vec<u8>) -> Re
     put_next(third, out)
 }
 
-// Appends a word behind a space.
+// Appends a word after a space.
 fn put_next(word: &[u8], out: &mut Vec<u8>) -> Result<(), AllocError>
     ensures printed { OnOk result (out.new.items ≡ out.old.items ++ (32 ∷ word.now)) }
     ensures before { take (length out.old.items) out.new.items ≡ out.old.items }

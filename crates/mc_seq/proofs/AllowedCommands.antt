@@ -86,7 +86,7 @@ box_there world batch i d below allowed =
 
 -- ---- of those that are left
 
--- what is left behind a turn that is taken out passes
+-- what is left after a turn that is taken out passes
 rest_by : (here : Bool) (p : Turn → Bool) (turn : Turn) (rest less : List Turn) → p turn ≡ true → list_all p rest ≡ true → list_all p less ≡ true → list_all p (if here then rest else turn ∷ less) ≡ true
 rest_by true p turn rest less one all fewer = all
 rest_by false p turn rest less one all fewer = both_there (p turn) (list_all p less) one fewer

@@ -20,7 +20,7 @@ use Rattle.mc_model.specs.Worlds.{WorldState, box_at, front, number, place, slot
 use Rattle.mc_laws.proofs.Numbers.{box_inside, number_is}
 use Rattle.mc_box.proofs.Options.{then_some}
 use Rattle.mc_laws.proofs.StepGoes.{below_test, front_step_goes, some_of}
-use Rattle.mc_seq.specs.Schedule.{Standing, candidates, drawn_turn, drawn_place, is_urgent, all_candidates, next_of, candidates_of, may_shift, shift_of, shift_turn, take_turn, waiting_take, takes_of}
+use Rattle.mc_seq.specs.Schedule.{ScheduleState, candidates, drawn_turn, drawn_place, is_urgent, all_candidates, next_of, candidates_of, may_shift, shift_of, shift_turn, take_turn, waiting_take, takes_of}
 use Rattle.mc_world.specs.Waiting.{take_waits}
 use Rattle.mc_seq.proofs.ForEach.{append_none, each_all, each_none, none_all, one_all}
 use Rattle.mc_seq.proofs.Fronts.{none_quiet}
@@ -104,7 +104,7 @@ got_all : (P : Turn → Type 0) (xs : List Turn) (k : ℕ) (x : Turn) → All P 
 got_all P xs k x all got = subst P (get_or_from_slice_get xs k x x got) (all k x (slice_get_within xs k x got))
 
 -- so is the one that is drawn
-pub drawn_listed : (now : Standing) (turn : Turn) → drawn_turn now ≡ Some turn → IsListed now.world now.left now.shifts (is_urgent now.left now.since) turn
+pub drawn_listed : (now : ScheduleState) (turn : Turn) → drawn_turn now ≡ Some turn → IsListed now.world now.left now.shifts (is_urgent now.left now.since) turn
 drawn_listed now turn is =
     got_all (IsListed now.world now.left now.shifts (is_urgent now.left now.since)) (candidates now) (drawn_place now.draws (length (candidates now))) turn
     (all_listed now.world now.left now.shifts (is_urgent now.left now.since)) is

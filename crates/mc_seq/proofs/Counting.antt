@@ -74,7 +74,7 @@ urgent_three world left shifts urgent boxes is count =
     ∙ (each_same (candidates_of world left shifts true) (command_candidates left) (length world.boxes) (λ who. append-nil (command_candidates left who))
     ∙ ap (next_commands left) (sym count))
 
--- or all three: the Shift stands behind the Takes, and is counted with the command
+-- or all three: the Shift stands after the Takes, and is counted with the command
 three_long : (world : WorldState) (left : List Turn) (shifts : List ℕ) (who : ℕ) → length (candidates_of world left shifts false who) ≡ length (others_of world left shifts who) + length (takes_of world who)
 three_long world left shifts who =
     let one = length-append (command_candidates left who) (takes_of world who ++ shift_of world shifts who) in
@@ -111,7 +111,7 @@ three_at_box world left shifts counts k who rest kept takes inside before within
     kth_of_mixed (candidates_of world left shifts.spare.items false) (others_of world left shifts.spare.items) (takes_of world) shifts.others counts (length world.boxes) k who rest
     (three_long world left shifts.spare.items) kept.counted (takes_each world counts takes) (subst (λ (n : ℕ). who < n) takes.long inside) before within
 
--- behind the next command: a Take
+-- after the next command: a Take
 pub behind_take : (world : WorldState) (shifts : List ℕ) (who k : ℕ) (turn : Turn) → slice_get (takes_of world who) k ≡ Some turn → slice_get (takes_of world who ++ shift_of world shifts who) k ≡ Some turn
 behind_take world shifts who k turn got = got_first (takes_of world who) (shift_of world shifts who) k turn got
 
@@ -129,7 +129,7 @@ pub behind_shift : (world : WorldState) (shifts : List ℕ) (who k : ℕ) → le
     → slice_get (takes_of world who ++ shift_of world shifts who) k ≡ Some (shift_turn who)
 behind_shift world shifts who k past inside = shift_by (nat_lt 0 (slice_index_or shifts who 0) && is_enabled (box_at world who) Shift) (takes_of world who) who k past inside
 
--- ---- behind a turn
+-- ---- after a turn
 
 -- a number passes its own test, and no other
 same_number : (a b : ℕ) → (a == b) ≡ true → a ≡ b
@@ -228,7 +228,7 @@ recounted world left old new turn spare but spare_is new_is others = record {
   });
 }
 
--- ---- behind a round
+-- ---- after a round
 
 pub kept_long : (shifts : Option Shifts) (world next : WorldState) (left retries : List Turn) → IsSound world → run world retries ≡ Some next → AreShiftsKept world left shifts → AreShiftsLong next shifts
 kept_long None world next left retries sound goes kept = still_none next world (run_keeps_shape world next retries sound goes) kept

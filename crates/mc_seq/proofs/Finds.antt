@@ -13,7 +13,7 @@ use Rattle.mc_world.specs.Waiting.{CountsTakes, bit, take_waits, waiting_count}
 use Rattle.mc_seq.specs.declared.commands.Commands.{Commands}
 use Rattle.mc_seq.proofs.ForEach.{each_same}
 use Rattle.mc_seq.proofs.Kth.{both_count, count_is, each_got, kth_is, kth_of_both}
-use Rattle.mc_seq.proofs.Sittings.{empty_is}
+use Rattle.mc_seq.proofs.SettlesSoFar.{empty_is}
 
 -- a slot gives as many Takes as signals that it can take now
 one_counted : (there : Bool) (who local : ℕ) → length (if there then take_turn who local ∷ [] else []) ≡ bit there

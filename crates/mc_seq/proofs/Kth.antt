@@ -13,7 +13,7 @@ got_before [] ys k x got = absurd (cc)
 got_before (t ∷ xs) ys zero x got = got
 got_before (t ∷ xs) ys (suc k) x got = got_before xs ys k x got
 
--- a place behind it
+-- a place after it
 got_behind : (xs ys : List Turn) (k j : ℕ) → j ≡ length xs + k → slice_get (xs ++ ys) j ≡ slice_get ys k
 got_behind [] ys k j is = ap (slice_get ys) (let e : j ≡ k = omega arith in e)
 got_behind (t ∷ xs) ys k zero is = absurd (omega arith)
@@ -121,7 +121,7 @@ kth_of_mixed h f g xs ys n k place rest long one two below before within =
     let of_two : get_or ys place 0 ≡ length (g place) = two.counts place below in
     found_is h n k place rest below (omega arith) (omega arith)
 
--- a place within the first of two lists, and behind it
+-- a place within the first of two lists, and after it
 pub got_first : (xs ys : List Turn) (k : ℕ) (x : Turn) → slice_get xs k ≡ Some x → slice_get (xs ++ ys) k ≡ Some x
 got_first xs ys k x got = got_before xs ys k x got
 

@@ -105,14 +105,14 @@ pub record IsMore (used more : ℕ → ℕ) (who : ℕ) : Type 0 where
   pub here : more who ≡ used who + 1
   pub others : (other : ℕ) → other ≢ who → more other ≡ used other
 
--- behind a turn of that box, of which some had come
+-- after a turn of that box, of which some had come
 own_lowered : (used more : ℕ → ℕ) (who : ℕ) → used who ≢ 0 → IsMore used more who → IsMore (lowered used who) (lowered more who) who
 own_lowered used more who some one = record {
   here = let a = lowered_same used who in let b = lowered_same more who in let c = one.here in omega arith;
   others = λ other apart. lowered_other more who other apart ∙ (one.others other apart ∙ sym (lowered_other used who other apart));
 }
 
--- behind a turn of that box, of which none had come, all is as it was
+-- after a turn of that box, of which none had come, all is as it was
 own_first : (used more : ℕ → ℕ) (who other : ℕ) → used who ≡ 0 → IsMore used more who → lowered more who other ≡ used other
 own_first used more who other none one = elim (cases_eq other who) [
   | inl same ↦
@@ -121,7 +121,7 @@ own_first used more who other none one = elim (cases_eq other who) [
   | inr apart ↦ lowered_other more who other apart ∙ one.others other apart
 ]
 
--- behind a turn of another box
+-- after a turn of another box
 other_lowered : (used more : ℕ → ℕ) (who turned : ℕ) → turned ≢ who → IsMore used more who → IsMore (lowered used turned) (lowered more turned) who
 other_lowered used more who turned apart one = record {
   here = lowered_other more turned who (λ same. apart (sym same)) ∙ (one.here ∙ ap (λ (n : ℕ). n + 1) (sym (lowered_other used turned who (λ same. apart (sym same)))));

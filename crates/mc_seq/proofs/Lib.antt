@@ -21,5 +21,5 @@ pub mod Scheduled
 pub mod Segments
 mod SetCounts
 pub mod Shifts
-mod Sittings
+mod SettlesSoFar
 mod Unprogrammed

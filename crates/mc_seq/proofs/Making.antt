@@ -5,7 +5,7 @@ use Rattle.mc_world.specs.declared.settled.Settled.{Settled}
 use Rattle.mc_seq.specs.Turns.{MadeAll}
 use Rattle.mc_seq.proofs.Runs.{run-append}
 
--- turns behind turns
+-- turns after turns
 pub made_more : (start now next : Settled) (one two : List Turn) → MadeAll start now one → MadeAll now next two → MadeAll start next (one ++ two)
 made_more start now next one two first second = record {
   ran = run-append one two start.world now.world first.ran ∙ second.ran;

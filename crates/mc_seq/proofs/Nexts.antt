@@ -9,7 +9,7 @@ use Rattle.mc_seq.specs.Schedule.{next_of, without_next}
 
 -- ---- by place
 
--- what is removed one place further on, behind a turn that stays
+-- what is removed one place further on, after a turn that stays
 at_by : (here : Bool) (t : Turn) (left less : List Turn) (n : ℕ) → remove left n ≡ less → remove (t ∷ left) (cond here 0 (suc n)) ≡ (if here then left else t ∷ less)
 at_by true t left less n is = refl
 at_by false t left less n is = ap (λ (turns : List Turn). t ∷ turns) is

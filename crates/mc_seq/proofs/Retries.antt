@@ -3,8 +3,8 @@ use Rattle.std.proofs.Common.{◌≡◌, ◌≢◌, ◌<◌, ◌==◌, ◌&&◌,
 use Rattle.std.proofs.lemmas.Bool.{cases_eq}
 use Rattle.std.proofs.lemmas.Grind.{common_steps}
 use Rattle.mc_box.specs.Boxes.{is_slot, box_owes}
-use Rattle.mc_turn.specs.Sums.{total}
-use Rattle.mc_turn.proofs.Sums.{total_none}
+use Rattle.mc_slot_laws.specs.Sums.{total}
+use Rattle.mc_slot_laws.proofs.Sums.{total_none}
 use Rattle.mc_model.specs.Settles.{is_retry_of, world_owes, takes_or_retries}
 use Rattle.mc_model.specs.Worlds.{WorldState, box_at}
 use Rattle.mc_laws.proofs.Numbers.{box_inside, slot_inside}

@@ -6,7 +6,7 @@ use Rattle.mc_model.specs.Worlds.{WorldState}
 use Rattle.mc_box.specs.declared.event.Turn.{Turn}
 use Rattle.mc_box.proofs.Options.{then_some}
 
--- the turns behind a run go on from its last world
+-- the turns after a run go on from its last world
 pub run-append : (one two : List Turn) (world next : WorldState) → run world one ≡ Some next → run world (one ++ two) ≡ run next two
 run-append [] two world next goes = let same : world ≡ next = cc in ap (λ (w : WorldState). run w two) same
 run-append (turn ∷ one) two world next goes =

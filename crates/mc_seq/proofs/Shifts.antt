@@ -16,7 +16,7 @@ use Rattle.mc_model.specs.Worlds.{WorldState, box_at}
 use Rattle.mc_seq.specs.Drawing.{turns_of_programs}
 use Rattle.mc_seq.specs.Draws.{RoundsAreFew, ShiftsAreFew}
 use Rattle.mc_seq.specs.Retries.{retries_by_box}
-use Rattle.mc_seq.specs.Schedule.{AreDrawn, Goes, Standing, drawn_turn, due_after, first_standing, shifts_by, standing_after}
+use Rattle.mc_seq.specs.Schedule.{AreDrawn, Goes, ScheduleState, drawn_turn, due_after, first_schedule, shifts_by, schedule_after}
 use Rattle.mc_box.specs.declared.limit.TheConstants.{SHIFT_LIMIT}
 use Rattle.mc_seq.proofs.AllowedCommands.{left_pass, next_pass}
 use Rattle.mc_seq.proofs.Candidates.{IsTakeOrShift, drawn_listed}
@@ -47,7 +47,7 @@ other_spare world shifts turn is shift = elim is [
 ]
 
 -- so is a drawn Shift
-pub drawn_spare : (now : Standing) (turn : Turn) → list_all is_ordered now.left ≡ true → drawn_turn now ≡ Some turn → is_shift turn.event ≡ true → 0 < slice_index_or now.shifts turn.who 0
+pub drawn_spare : (now : ScheduleState) (turn : Turn) → list_all is_ordered now.left ≡ true → drawn_turn now ≡ Some turn → is_shift turn.event ≡ true → 0 < slice_index_or now.shifts turn.who 0
 drawn_spare now turn all is shift = elim (drawn_listed now turn is) [
   | inl next ↦ absurd (command_apart turn.event (next_pass is_ordered turn.who now.left turn all next) shift)
   | inr other ↦ other_spare now.world now.shifts turn other.1 shift
@@ -89,23 +89,23 @@ other_leaves true who shifts due is = absurd (cc)
 other_leaves false who shifts due is = refl
 
 -- so no drawn turn raises it, and a Shift lowers it
-pub drawn_lowers : (now : Standing) (turn : Turn) (next : WorldState) → list_all is_ordered now.left ≡ true → drawn_turn now ≡ Some turn → is_shift turn.event ≡ true
-    → turns_of_programs (standing_after now turn next) < turns_of_programs now
+pub drawn_lowers : (now : ScheduleState) (turn : Turn) (next : WorldState) → list_all is_ordered now.left ≡ true → drawn_turn now ≡ Some turn → is_shift turn.event ≡ true
+    → turns_of_programs (schedule_after now turn next) < turns_of_programs now
 drawn_lowers now turn next all is shift = shift_lowers (is_shift turn.event) turn.who now.shifts now.due shift (drawn_spare now turn all is shift)
 
-drawn_leaves : (now : Standing) (turn : Turn) (next : WorldState) → is_shift turn.event ≡ false → turns_of_programs (standing_after now turn next) ≡ turns_of_programs now
+drawn_leaves : (now : ScheduleState) (turn : Turn) (next : WorldState) → is_shift turn.event ≡ false → turns_of_programs (schedule_after now turn next) ≡ turns_of_programs now
 drawn_leaves now turn next apart = other_leaves (is_shift turn.event) turn.who now.shifts now.due apart
 
-drawn_less : (b : Bool) (now : Standing) (turn : Turn) (next : WorldState) → is_shift turn.event ≡ b → list_all is_ordered now.left ≡ true → drawn_turn now ≡ Some turn
-    → turns_of_programs (standing_after now turn next) ≤ turns_of_programs now
+drawn_less : (b : Bool) (now : ScheduleState) (turn : Turn) (next : WorldState) → is_shift turn.event ≡ b → list_all is_ordered now.left ≡ true → drawn_turn now ≡ Some turn
+    → turns_of_programs (schedule_after now turn next) ≤ turns_of_programs now
 drawn_less true now turn next is all drawn = let less = drawn_lowers now turn next all drawn is in omega arith
 drawn_less false now turn next is all drawn = let same = drawn_leaves now turn next is in omega arith
 
-pub draws_fewer : (turns : List Turn) (now last : Standing) → list_all is_ordered now.left ≡ true → AreDrawn now turns last → turns_of_programs last ≤ turns_of_programs now
+pub draws_fewer : (turns : List Turn) (now last : ScheduleState) → list_all is_ordered now.left ≡ true → AreDrawn now turns last → turns_of_programs last ≤ turns_of_programs now
 draws_fewer [] now last all draws = let same : turns_of_programs now ≡ turns_of_programs last = ap turns_of_programs draws in omega arith
 draws_fewer (turn ∷ turns) now last all draws =
     let one = drawn_less (is_shift turn.event) now turn draws.0 refl all draws.2 in
-    let rest = draws_fewer turns (standing_after now turn draws.0) last (left_pass is_ordered turn now.left all) draws.4 in
+    let rest = draws_fewer turns (schedule_after now turn draws.0) last (left_pass is_ordered turn now.left all) draws.4 in
     omega arith
 
 -- ---- the Shifts of a box
@@ -114,7 +114,7 @@ draws_fewer (turn ∷ turns) now last all draws =
 count_more : (p : Turn → Bool) (turn : Turn) (turns : List Turn) → count_by p (turn ∷ turns) ≡ cond (p turn) 1 0 + count_by p turns
 count_more p turn turns = sum_by-cons (λ (t : Turn). cond (p t) 1 0) turn turns
 
--- turns behind turns
+-- turns after turns
 count_both : (p : Turn → Bool) (one two : List Turn) → count_by p (one ++ two) ≡ count_by p one + count_by p two
 count_both p one two = sum_by-append (λ (t : Turn). cond (p t) 1 0) one two
 
@@ -160,11 +160,11 @@ one_spent false at who shifts some = same_sum (get_or shifts who 0)
 one_spent true at who shifts some = one_here at who shifts (some refl)
 
 -- what a box has made and what it may make are what it might make
-pub drawn_spent : (turns : List Turn) (now last : Standing) (who : ℕ) → list_all is_ordered now.left ≡ true → AreDrawn now turns last
+pub drawn_spent : (turns : List Turn) (now last : ScheduleState) (who : ℕ) → list_all is_ordered now.left ≡ true → AreDrawn now turns last
     → slice_index_or last.shifts who 0 + count_by (is_shift_of who) turns ≡ slice_index_or now.shifts who 0
-drawn_spent [] now last who all draws = let same : slice_index_or now.shifts who 0 ≡ slice_index_or last.shifts who 0 = ap (λ (s : Standing). slice_index_or s.shifts who 0) draws in omega arith
+drawn_spent [] now last who all draws = let same : slice_index_or now.shifts who 0 ≡ slice_index_or last.shifts who 0 = ap (λ (s : ScheduleState). slice_index_or s.shifts who 0) draws in omega arith
 drawn_spent (turn ∷ turns) now last who all draws =
-    let rest = drawn_spent turns (standing_after now turn draws.0) last who (left_pass is_ordered turn now.left all) draws.4 in
+    let rest = drawn_spent turns (schedule_after now turn draws.0) last who (left_pass is_ordered turn now.left all) draws.4 in
     let one : slice_index_or (shifts_by turn now.shifts) who 0 + cond (is_shift_of who turn) 1 0 ≡ slice_index_or now.shifts who 0
     = one_spent (is_shift turn.event) turn.who who now.shifts (drawn_spare now turn all draws.2) in
     let more = count_more (is_shift_of who) turn turns in
@@ -190,16 +190,16 @@ none_counted (turn ∷ turns) who all =
     none_more (is_shift_of who turn) (count_by (is_shift_of who) (turn ∷ turns)) (count_by (is_shift_of who) turns)
     (ap (λ (b : Bool). b && turn.who == who) (no_shift_by turn.event parts.0)) (count_more (is_shift_of who) turn turns) (none_counted turns who parts.1)
 
-pub goes_spent : (rounds : ℕ) (turns : List Turn) (now last : Standing) (who : ℕ) → list_all is_ordered now.left ≡ true → Goes rounds now turns last
+pub goes_spent : (rounds : ℕ) (turns : List Turn) (now last : ScheduleState) (who : ℕ) → list_all is_ordered now.left ≡ true → Goes rounds now turns last
     → slice_index_or last.shifts who 0 + count_by (is_shift_of who) turns ≡ slice_index_or now.shifts who 0
 goes_spent zero turns now last who all goes = drawn_spent turns now last who all goes
 goes_spent (suc rounds) turns now last who all (first, rest, still, next, are, drew, round, more) =
     let owes : List Turn = retries_by_box still.world in
     let p : Turn → Bool = is_shift_of who in
     let begun : slice_index_or still.shifts who 0 + count_by (is_shift_of who) first ≡ slice_index_or now.shifts who 0 = drawn_spent first now still who all drew in
-    let ordered : list_all is_ordered next.left ≡ true = ap (λ (s : Standing). list_all is_ordered s.left) round.then_not ∙ drawn_pass is_ordered first now still all drew in
+    let ordered : list_all is_ordered next.left ≡ true = ap (λ (s : ScheduleState). list_all is_ordered s.left) round.then_not ∙ drawn_pass is_ordered first now still all drew in
     let behind : slice_index_or last.shifts who 0 + count_by (is_shift_of who) rest ≡ slice_index_or next.shifts who 0 = goes_spent rounds rest next last who ordered more in
-    let same : slice_index_or next.shifts who 0 ≡ slice_index_or still.shifts who 0 = ap (λ (s : Standing). slice_index_or s.shifts who 0) round.then_not in
+    let same : slice_index_or next.shifts who 0 ≡ slice_index_or still.shifts who 0 = ap (λ (s : ScheduleState). slice_index_or s.shifts who 0) round.then_not in
     let none : count_by (is_shift_of who) owes ≡ 0 = none_counted owes who (boxes_besides still.world (length still.world.boxes)) in
     let one : count_by (is_shift_of who) turns ≡ count_by (is_shift_of who) (first ++ (owes ++ rest)) = ap (count_by (is_shift_of who)) are in
     let two : count_by (is_shift_of who) (first ++ (owes ++ rest)) ≡ count_by (is_shift_of who) first + count_by (is_shift_of who) (owes ++ rest) = count_both (is_shift_of who) first (owes ++ rest) in
@@ -219,7 +219,7 @@ same_within (suc n) (suc k) x inside = same_within n k x (omega arith)
 
 pub shifts_are_few : ShiftsAreFew
 shifts_are_few world batch turns state rounds last allowed goes who =
-    let spent = goes_spent rounds turns (first_standing world batch state) last who (allowed_commands batch world allowed) goes in
+    let spent = goes_spent rounds turns (first_schedule world batch state) last who (allowed_commands batch world allowed) goes in
     let most : slice_index_or (replicate (length world.boxes) SHIFT_LIMIT) who 0 ≤ SHIFT_LIMIT = same_or_none (length world.boxes) who SHIFT_LIMIT in
     omega arith
 
@@ -233,27 +233,27 @@ due_once : (b due : Bool) → owed (b || due) ≤ owed due + cond b 1 0
 due_once true due = omega arith
 due_once false due = omega arith
 
-drawn_due : (turns : List Turn) (now last : Standing) → AreDrawn now turns last → owed last.due ≤ owed now.due + count_by any_shift turns
-drawn_due [] now last draws = let same : owed now.due ≡ owed last.due = ap (λ (s : Standing). owed s.due) draws in omega arith
+drawn_due : (turns : List Turn) (now last : ScheduleState) → AreDrawn now turns last → owed last.due ≤ owed now.due + count_by any_shift turns
+drawn_due [] now last draws = let same : owed now.due ≡ owed last.due = ap (λ (s : ScheduleState). owed s.due) draws in omega arith
 drawn_due (turn ∷ turns) now last draws =
-    let rest = drawn_due turns (standing_after now turn draws.0) last draws.4 in
+    let rest = drawn_due turns (schedule_after now turn draws.0) last draws.4 in
     let one : owed (due_after turn now.due) ≤ owed now.due + cond (is_shift turn.event) 1 0 = due_once (is_shift turn.event) now.due in
     let more = count_more any_shift turn turns in
     omega arith
 
 -- so rounds are no more than were due and Shifts
-rounds_by : (rounds : ℕ) (turns : List Turn) (now last : Standing) → Goes rounds now turns last → rounds ≤ count_by any_shift turns + owed now.due
+rounds_by : (rounds : ℕ) (turns : List Turn) (now last : ScheduleState) → Goes rounds now turns last → rounds ≤ count_by any_shift turns + owed now.due
 rounds_by zero turns now last goes = omega arith
 rounds_by (suc rounds) turns now last (first, rest, still, next, are, drew, round, more) =
     let owes : List Turn = retries_by_box still.world in
     let begun : owed still.due ≤ owed now.due + count_by any_shift first = drawn_due first now still drew in
     let behind : rounds ≤ count_by any_shift rest + owed next.due = rounds_by rounds rest next last more in
     let was : owed still.due ≡ 1 = ap owed round.was_due in
-    let none : owed next.due ≡ 0 = ap (λ (s : Standing). owed s.due) round.then_not in
+    let none : owed next.due ≡ 0 = ap (λ (s : ScheduleState). owed s.due) round.then_not in
     let one : count_by any_shift turns ≡ count_by any_shift (first ++ (owes ++ rest)) = ap (count_by any_shift) are in
     let two : count_by any_shift (first ++ (owes ++ rest)) ≡ count_by any_shift first + count_by any_shift (owes ++ rest) = count_both any_shift first (owes ++ rest) in
     let three : count_by any_shift (owes ++ rest) ≡ count_by any_shift owes + count_by any_shift rest = count_both any_shift owes rest in
     omega arith
 
 pub rounds_are_few : RoundsAreFew
-rounds_are_few world batch turns state rounds last goes = rounds_by rounds turns (first_standing world batch state) last goes
+rounds_are_few world batch turns state rounds last goes = rounds_by rounds turns (first_schedule world batch state) last goes

@@ -19,7 +19,8 @@ lowered used who other = if other == who then used other - 1 else used other
 -- a batch without the first commands of each box, so many for each
 abbrev pub left_after : (ℕ → ℕ) → List Turn → List Turn
 left_after used [] = []
-left_after used (turn ∷ rest) = if used turn.who == 0 then turn ∷ left_after used rest else left_after (lowered used turn.who) rest
+left_after used (turn ∷ rest) =
+    if used turn.who == 0 then turn ∷ left_after used rest else left_after (lowered used turn.who) rest
 
 -- lists by box, as code keeps them
 abbrev pub queues_of : List (Vec Turn Global) → List (List Turn)

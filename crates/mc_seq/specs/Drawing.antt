@@ -7,21 +7,22 @@ use Rattle.mc_model.specs.Paths.{has_ring}
 use Rattle.mc_model.specs.Rings.{IsFirstOnRing}
 use Rattle.mc_model.specs.Steps.{ends_version, run, step, heard_slot}
 use Rattle.mc_model.specs.Worlds.{WorldState}
-use Rattle.mc_seq.specs.Schedule.{AreDrawn, Goes, IsStill, Standing, candidates, drawn_turn, due_after, first_standing, left_by, shifts_by, standing_after, since_by}
+use Rattle.mc_seq.specs.Schedule.{AreDrawn, Goes, IsStill, ScheduleState, candidates, drawn_turn, due_after, first_schedule, left_by, shifts_by, schedule_after, since_by}
 use Rattle.mc_world.specs.declared.settled.Settled.{Settled}
 use Rattle.mc_seq.specs.Commands.{AreKeptFor, commands_left}
 use Rattle.mc_seq.specs.Restless.{IsFirstShifter}
 use Rattle.mc_seq.specs.Retries.{retries_by_box}
 use Rattle.mc_seq.specs.Spare.{AreShiftsKept, spare_of}
-use Rattle.mc_seq.specs.declared.drawing.Sitting.{Sitting}
+use Rattle.mc_seq.specs.declared.drawing.SettleSoFar.{SettleSoFar}
 use Rattle.mc_seq.specs.declared.stopping.Draw.{Draw}
 use Rattle.mc_seq.specs.declared.stopping.Draw.TheVariants.{Drawn, Nothing, Shifted, VersionEnd}
 use Rattle.mc_seq.specs.declared.stopping.Ending.{Ending}
 use Rattle.mc_seq.specs.declared.stopping.Ending.TheVariants.{LastVersion, Rest, Restless, Ring}
-use Rattle.mc_seq.specs.declared.plain.Sitting.{Sitting as PlainSitting}
+use Rattle.mc_seq.specs.declared.plain.SettleSoFar.{SettleSoFar as PlainSoFar}
 
--- a moment of a settle: its world and turns so far, the commands that are left, how many turns came since the last command or the beginning, how many Shifts each box may still make, and whether a round of retries is due
-pub record Moment : Type 0 where
+-- a so_far of a settle: its world and turns so far, the commands that are left, how many turns came since the last
+-- command or the beginning, how many Shifts each box may still make, and whether a round of retries is due
+pub record SoFar : Type 0 where
   pub settled : Settled
   pub left : List Turn
   pub since : ℕ
@@ -29,44 +30,59 @@ pub record Moment : Type 0 where
   pub due : Bool
 
 -- what is seen of it: where it stands, and its turns so far
-pub record Sight : Type 0 where
-  pub standing : Standing
+pub record DrawnSoFar : Type 0 where
+  pub schedule : ScheduleState
   pub turns : List Turn
 
 -- with the state of the draws
-abbrev pub sight_at : Moment → ℕ → Sight
-sight_at moment draws = record {
-  standing = record { world = moment.settled.world; left = moment.left; since = moment.since; draws = draws; shifts = moment.shifts; due = moment.due };
-  turns = moment.settled.turns.items;
+abbrev pub drawn_at : SoFar → ℕ → DrawnSoFar
+drawn_at so_far draws = record {
+  schedule = record {
+    world = so_far.settled.world;
+    left = so_far.left;
+    since = so_far.since;
+    draws = draws;
+    shifts =
+        so_far.shifts;
+    due = so_far.due;
+  };
+  turns = so_far.settled.turns.items;
 }
 
-abbrev pub moment_of : Sitting → Moment
-moment_of sitting = record {
-  settled = sitting.settled;
-  left = commands_left sitting.left;
-  since = sitting.since;
-  shifts = spare_of sitting.settled.world sitting.shifts;
-  due = sitting.due;
+abbrev pub so_far_of : SettleSoFar → SoFar
+so_far_of so_far = record {
+  settled = so_far.settled;
+  left = commands_left so_far.left;
+  since = so_far.since;
+  shifts = spare_of so_far.settled.world so_far.shifts;
+  due = so_far.due;
 }
 
-abbrev pub sight_of : Sitting → ℕ → Sight
-sight_of sitting draws = sight_at (moment_of sitting) draws
+abbrev pub drawn_of : SettleSoFar → ℕ → DrawnSoFar
+drawn_of so_far draws = drawn_at (so_far_of so_far) draws
 
--- what a sitting keeps of its counts
-pub record IsKept (sitting : Sitting) : Type 0 where
-  pub commands : AreKeptFor sitting.settled.world sitting.left
-  pub shifts : AreShiftsKept sitting.settled.world (commands_left sitting.left) sitting.shifts
+-- what a so_far keeps of its counts
+pub record IsKept (so_far : SettleSoFar) : Type 0 where
+  pub commands : AreKeptFor so_far.settled.world so_far.left
+  pub shifts : AreShiftsKept so_far.settled.world (commands_left so_far.left) so_far.shifts
 
--- the same for a sitting that lists all candidates
-abbrev pub plain_moment : PlainSitting → Moment
-plain_moment sitting = record { settled = sitting.settled; left = sitting.left.items; since = sitting.since; shifts = sitting.spare.items; due = sitting.due }
+-- the same for a so_far that lists all candidates
+abbrev pub plain_so_far : PlainSoFar → SoFar
+plain_so_far so_far =
+    record {
+      settled = so_far.settled;
+      left = so_far.left.items;
+      since = so_far.since;
+      shifts = so_far.spare.items;
+      due = so_far.due;
+    }
 
-abbrev pub plain_sight : PlainSitting → ℕ → Sight
-plain_sight sitting draws = sight_at (plain_moment sitting) draws
+abbrev pub plain_drawn : PlainSoFar → ℕ → DrawnSoFar
+plain_drawn so_far draws = drawn_at (plain_so_far so_far) draws
 
 -- at the beginning
-abbrev pub first_sight : WorldState → List Turn → ℕ → Sight
-first_sight world batch draws = record { standing = first_standing world batch draws; turns = [] }
+abbrev pub first_drawn : WorldState → List Turn → ℕ → DrawnSoFar
+first_drawn world batch draws = record { schedule = first_schedule world batch draws; turns = [] }
 
 -- ---- one turn
 
@@ -75,7 +91,7 @@ abbrev pub MayCome : WorldState → Turn → Type 0
 MayCome world turn = IsSome (step world turn) ⊎ IsTrue (ends_version world turn)
 
 -- a turn was made
-pub record TurnMade (old new : Moment) (turn : Turn) : Type 0 where
+pub record TurnMade (old new : SoFar) (turn : Turn) : Type 0 where
   pub goes : step old.settled.world turn ≡ Some new.settled.world
   pub left : new.left ≡ left_by turn old.left
   pub since : new.since ≡ since_by turn old.since
@@ -84,7 +100,7 @@ pub record TurnMade (old new : Moment) (turn : Turn) : Type 0 where
   pub logged : new.settled.turns.items ≡ old.settled.turns.items ++ turn ∷ []
 
 -- or it ends a version
-pub record TurnEnds (old new : Moment) (turn : Turn) (at : ℕ) : Type 0 where
+pub record TurnEnds (old new : SoFar) (turn : Turn) (at : ℕ) : Type 0 where
   pub version : IsTrue (ends_version old.settled.world turn)
   pub slot : heard_slot old.settled.world turn ≡ Some at
   pub world : new.settled.world ≡ old.settled.world
@@ -102,7 +118,7 @@ IsDrawOf turn Nothing = ⊥
 IsDrawOf turn (VersionEnd at) = ⊥
 
 -- what becomes of a turn
-abbrev pub TriedTurn : Moment → Moment → Turn → Draw → Type 0
+abbrev pub TriedTurn : SoFar → SoFar → Turn → Draw → Type 0
 TriedTurn old new turn Drawn = TurnMade old new turn × (is_shift turn.event ≡ false)
 TriedTurn old new turn Shifted = TurnMade old new turn × (is_shift turn.event ≡ true)
 TriedTurn old new turn Nothing = ⊥
@@ -111,90 +127,90 @@ TriedTurn old new turn (VersionEnd at) = TurnEnds old new turn at
 -- ---- one draw
 
 -- a draw picks the turn that the schedule draws, or nothing where nothing is listed, and then nothing is drawn
-abbrev pub Picks : Standing → ℕ → Option Turn → Type 0
+abbrev pub Picks : ScheduleState → ℕ → Option Turn → Type 0
 Picks now draws None = (candidates now ≡ []) × (draws ≡ now.draws)
 Picks now draws (Some turn) = (drawn_turn now ≡ Some turn) × (draws ≡ next_state now.draws)
 
 -- a drawn turn was made
-pub record DrewTurn (old new : Sight) : Type 0 where
+pub record DrewTurn (old new : DrawnSoFar) : Type 0 where
   pub turn : Turn
-  pub is_drawn : drawn_turn old.standing ≡ Some turn
-  pub goes : step old.standing.world turn ≡ Some new.standing.world
-  pub moves : new.standing ≡ standing_after old.standing turn new.standing.world
+  pub is_drawn : drawn_turn old.schedule ≡ Some turn
+  pub goes : step old.schedule.world turn ≡ Some new.schedule.world
+  pub moves : new.schedule ≡ schedule_after old.schedule turn new.schedule.world
   pub logged : new.turns ≡ old.turns ++ turn ∷ []
 
 -- a drawn turn ends a version
-pub record DrewVersionEnd (old new : Sight) (at : ℕ) : Type 0 where
+pub record DrewVersionEnd (old new : DrawnSoFar) (at : ℕ) : Type 0 where
   pub turn : Turn
-  pub is_drawn : drawn_turn old.standing ≡ Some turn
-  pub version : IsTrue (ends_version old.standing.world turn)
-  pub slot : heard_slot old.standing.world turn ≡ Some at
-  pub stays : new.standing ≡ record old.standing { draws = next_state old.standing.draws }
+  pub is_drawn : drawn_turn old.schedule ≡ Some turn
+  pub version : IsTrue (ends_version old.schedule.world turn)
+  pub slot : heard_slot old.schedule.world turn ≡ Some at
+  pub stays : new.schedule ≡ record old.schedule { draws = next_state old.schedule.draws }
   pub logged : new.turns ≡ old.turns
 
 -- what a draw comes to
-abbrev pub DrewOnce : Sight → Sight → Draw → Type 0
+abbrev pub DrewOnce : DrawnSoFar → DrawnSoFar → Draw → Type 0
 DrewOnce old new Drawn = (made : DrewTurn old new) × (is_shift made.turn.event ≡ false)
 DrewOnce old new Shifted = (made : DrewTurn old new) × (is_shift made.turn.event ≡ true)
-DrewOnce old new Nothing = (candidates old.standing ≡ []) × (new.standing ≡ old.standing) × (new.turns ≡ old.turns)
+DrewOnce old new Nothing = (candidates old.schedule ≡ []) × (new.schedule ≡ old.schedule) × (new.turns ≡ old.turns)
 DrewOnce old new (VersionEnd at) = DrewVersionEnd old new at
 
 -- ---- several draws
 
--- turns that are drawn lead from one standing to another, and are written down behind what was written before
-pub record DrewAll (old new : Sight) : Type 0 where
+-- turns that are drawn lead from one schedule to another, and are written down after what was written before
+pub record DrewAll (old new : DrawnSoFar) : Type 0 where
   pub turns : List Turn
-  pub draws : AreDrawn old.standing turns new.standing
+  pub draws : AreDrawn old.schedule turns new.schedule
   pub logged : new.turns ≡ old.turns ++ turns
 
 -- turns were drawn, and then one that ends a version
-pub record RanOut (old new : Sight) (at : ℕ) : Type 0 where
-  pub last : Sight
+pub record RanOut (old new : DrawnSoFar) (at : ℕ) : Type 0 where
+  pub last : DrawnSoFar
   pub drew : DrewAll old last
   pub ends : DrewVersionEnd last new at
 
 -- the commands were used up, or a version ended
-abbrev pub UsedUp : Sight → Sight → Option ℕ → Type 0
-UsedUp old new None = DrewAll old new × (new.standing.left ≡ [])
+abbrev pub UsedUp : DrawnSoFar → DrawnSoFar → Option ℕ → Type 0
+UsedUp old new None = DrewAll old new × (new.schedule.left ≡ [])
 UsedUp old new (Some at) = RanOut old new at
 
 -- turns were drawn until nothing is listed
-pub record CameToRest (old new : Sight) : Type 0 where
+pub record CameToRest (old new : DrawnSoFar) : Type 0 where
   pub drew : DrewAll old new
-  pub none : candidates new.standing ≡ []
-  pub left : new.standing.left ≡ []
-  pub free : has_ring new.standing.world ≡ false
+  pub none : candidates new.schedule ≡ []
+  pub left : new.schedule.left ≡ []
+  pub free : has_ring new.schedule.world ≡ false
 
 -- how many Shifts and rounds of retries may still come: each Shift makes a round due
-abbrev pub turns_of_programs : Standing → ℕ
+abbrev pub turns_of_programs : ScheduleState → ℕ
 turns_of_programs now = 2 * sum now.shifts + (if now.due then 1 else 0)
 
 -- or until a Shift was made
-pub record CameToShift (old new : Sight) : Type 0 where
+pub record CameToShift (old new : DrawnSoFar) : Type 0 where
   pub drew : DrewAll old new
-  pub left : new.standing.left ≡ []
-  pub fewer : turns_of_programs new.standing < turns_of_programs old.standing
+  pub left : new.schedule.left ≡ []
+  pub fewer : turns_of_programs new.schedule < turns_of_programs old.schedule
 
 -- whether a Shift was made
-abbrev pub DrewOn : Sight → Sight → Bool → Type 0
+abbrev pub DrewOn : DrawnSoFar → DrawnSoFar → Bool → Type 0
 DrewOn old new true = CameToShift old new
 DrewOn old new false = CameToRest old new
 
 -- turns were drawn until there is a ring, where the batch is used up
-pub record CameToRing (old new : Sight) (at : ℕ) : Type 0 where
+pub record CameToRing (old new : DrawnSoFar) (at : ℕ) : Type 0 where
   pub drew : DrewAll old new
-  pub left : new.standing.left ≡ []
-  pub least : IsFirstOnRing new.standing.world at
+  pub left : new.schedule.left ≡ []
+  pub least : IsFirstOnRing new.schedule.world at
 
 -- to a ring, or until nothing is listed
-abbrev pub CameTo : Sight → Sight → Option ℕ → Type 0
+abbrev pub CameTo : DrawnSoFar → DrawnSoFar → Option ℕ → Type 0
 CameTo old new None = CameToRest old new
 CameTo old new (Some at) = CameToRing old new at
 
 -- ---- rounds
 
 -- a round of retries was made
-pub record RoundMade (old new : Moment) : Type 0 where
+pub record RoundMade (old new : SoFar) : Type 0 where
   pub retries : run old.settled.world (retries_by_box old.settled.world) ≡ Some new.settled.world
   pub left : new.left ≡ old.left
   pub since : new.since ≡ old.since
@@ -202,35 +218,35 @@ pub record RoundMade (old new : Moment) : Type 0 where
   pub due : new.due ≡ false
   pub logged : new.settled.turns.items ≡ old.settled.turns.items ++ retries_by_box old.settled.world
 
--- rounds and drawn turns lead from one standing to another, and are written down
-pub record WentOn (old new : Sight) : Type 0 where
+-- rounds and drawn turns lead from one schedule to another, and are written down
+pub record WentOn (old new : DrawnSoFar) : Type 0 where
   pub rounds : ℕ
   pub turns : List Turn
-  pub goes : Goes rounds old.standing turns new.standing
+  pub goes : Goes rounds old.schedule turns new.schedule
   pub logged : new.turns ≡ old.turns ++ turns
 
 -- until nothing can come
-pub record WentToRest (old new : Sight) : Type 0 where
+pub record WentToRest (old new : DrawnSoFar) : Type 0 where
   pub went : WentOn old new
-  pub still : IsStill new.standing
-  pub not_due : new.standing.due ≡ false
+  pub still : IsStill new.schedule
+  pub not_due : new.schedule.due ≡ false
 
 -- or there is a ring
-pub record WentToRing (old new : Sight) (at : ℕ) : Type 0 where
+pub record WentToRing (old new : DrawnSoFar) (at : ℕ) : Type 0 where
   pub went : WentOn old new
-  pub left : new.standing.left ≡ []
-  pub least : IsFirstOnRing new.standing.world at
+  pub left : new.schedule.left ≡ []
+  pub least : IsFirstOnRing new.schedule.world at
 
 -- or this box has made all its Shifts and has one more enabled
-pub record WentRestless (old new : Sight) (at : ℕ) : Type 0 where
+pub record WentRestless (old new : DrawnSoFar) (at : ℕ) : Type 0 where
   pub went : WentOn old new
-  pub left : new.standing.left ≡ []
-  pub none : candidates new.standing ≡ []
-  pub free : has_ring new.standing.world ≡ false
-  pub first : IsFirstShifter new.standing.world at
+  pub left : new.schedule.left ≡ []
+  pub none : candidates new.schedule ≡ []
+  pub free : has_ring new.schedule.world ≡ false
+  pub first : IsFirstShifter new.schedule.world at
 
 -- how a settle ended
-abbrev pub Ended : Sight → Sight → Ending → Type 0
+abbrev pub Ended : DrawnSoFar → DrawnSoFar → Ending → Type 0
 Ended old new Rest = WentToRest old new
 Ended old new (Ring at) = WentToRing old new at
 Ended old new (Restless at) = WentRestless old new at

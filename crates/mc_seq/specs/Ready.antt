@@ -12,12 +12,16 @@ pub record CountsEach (f : ℕ → List Turn) (numbers : List ℕ) (limit : ℕ)
 
 -- where a search in the sums of the counts ends, there is the k-th
 abbrev pub KthIsFound : Type 0
-KthIsFound = (f : ℕ → List Turn) (numbers : List ℕ) (limit k who rest : ℕ) → CountsEach f numbers limit → who < length numbers → sum (take who numbers) + rest ≡ k
+KthIsFound =
+    (f : ℕ → List Turn) (numbers : List ℕ) (limit k who rest : ℕ) → CountsEach f numbers limit → who < length numbers
+    → sum (take who numbers) + rest ≡ k
     → rest < slice_index_or numbers who 0 → slice_get (for_each f limit) k ≡ slice_get (f who) rest
 
 -- and there are as many as their sum
 abbrev pub CountIsSum : Type 0
-CountIsSum = (f : ℕ → List Turn) (numbers : List ℕ) (limit : ℕ) → CountsEach f numbers limit → sum numbers ≡ length (for_each f limit)
+CountIsSum =
+    (f : ℕ → List Turn) (numbers : List ℕ) (limit : ℕ) → CountsEach f numbers limit
+    → sum numbers ≡ length (for_each f limit)
 
 -- the next commands of so many boxes, box by box
 abbrev pub next_commands : List Turn → ℕ → List Turn

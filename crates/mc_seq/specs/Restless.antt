@@ -19,7 +19,8 @@ abbrev pub IsFirstShifterOr : WorldState → Option ℕ → Type 0
 IsFirstShifterOr world (Some who) = IsFirstShifter world who
 IsFirstShifterOr world None = can_shift world ≡ false
 
--- behind the turns of a settle nothing is under way, and there is no ring, but a program can still go on: this box is the first whose program can, and it has made all its Shifts
+-- after the turns of a settle nothing is under way, and there is no ring, but a program can still go on: this box is
+-- the first whose program can, and it has made all its Shifts
 pub record IsRestless (turns : List Turn) (last : WorldState) (who : ℕ) : Type 0 where
   pub quiet : IsTrue (is_quiet last)
   pub no_ring : has_ring last ≡ false

@@ -23,4 +23,5 @@ retries_by_box world = for_each (retries_of world) (length world.boxes)
 
 -- each other box owes what it owed
 abbrev pub OthersOwe : (old new : WorldState) → ℕ → Type 0
-OthersOwe old new who = (other local : ℕ) → other ≢ who → box_owes (box_at new other) local ≡ box_owes (box_at old other) local
+OthersOwe old new who =
+    (other local : ℕ) → other ≢ who → box_owes (box_at new other) local ≡ box_owes (box_at old other) local

@@ -15,8 +15,10 @@ use Rattle.mc_seq.specs.ForEach.{for_each}
 use Rattle.mc_seq.specs.Retries.{retries_by_box}
 use Rattle.mc_box.specs.declared.limit.TheConstants.{SHIFT_LIMIT}
 
--- where a settle stands: its world, the commands that are left, how many turns came since its last command or its beginning, counted to 63, the state of the draws, how many Shifts each box may still make, and whether a round of retries is due: none was made yet, or a Shift came since the last one
-pub record Standing : Type 0 where
+-- where a settle stands: its world, the commands that are left, how many turns came since its last command or its
+-- beginning, counted to 63, the state of the draws, how many Shifts each box may still make, and whether a round of
+-- retries is due: none was made yet, or a Shift came since the last one
+pub record ScheduleState : Type 0 where
   pub world : WorldState
   pub left : List Turn
   pub since : ℕ
@@ -25,8 +27,17 @@ pub record Standing : Type 0 where
   pub due : Bool
 
 -- at the beginning all commands are left, and each box may make all its Shifts
-abbrev pub first_standing : WorldState → List Turn → ℕ → Standing
-first_standing world batch draws = record { world = world; left = batch; since = 0; draws = draws; shifts = replicate (length world.boxes) SHIFT_LIMIT; due = true }
+abbrev pub first_schedule : WorldState → List Turn → ℕ → ScheduleState
+first_schedule world batch draws =
+    record {
+      world = world;
+      left = batch;
+      since = 0;
+      draws = draws;
+      shifts = replicate
+          (length world.boxes) SHIFT_LIMIT;
+      due = true;
+    }
 
 -- ---- the candidates
 
@@ -66,13 +77,14 @@ is_urgent left since = not (length left == 0) && not (nat_lt since 63)
 
 -- the candidates of a box: its next command; then its Takes and its Shift, unless commands alone are listed
 abbrev pub candidates_of : WorldState → List Turn → (shifts : List ℕ) → Bool → ℕ → List Turn
-candidates_of world left shifts urgent who = command_candidates left who ++ (if urgent then [] else takes_of world who ++ shift_of world shifts who)
+candidates_of world left shifts urgent who =
+    command_candidates left who ++ (if urgent then [] else takes_of world who ++ shift_of world shifts who)
 
 -- the candidates of all boxes, box by box
 abbrev pub all_candidates : WorldState → List Turn → (shifts : List ℕ) → Bool → List Turn
 all_candidates world left shifts urgent = for_each (candidates_of world left shifts urgent) (length world.boxes)
 
-abbrev pub candidates : Standing → List Turn
+abbrev pub candidates : ScheduleState → List Turn
 candidates now = all_candidates now.world now.left now.shifts (is_urgent now.left now.since)
 
 -- ---- a turn
@@ -82,7 +94,7 @@ abbrev pub drawn_place : ℕ → ℕ → ℕ
 drawn_place draws count = next_state draws / 65536 % count
 
 -- the candidate that is drawn; none where there is none
-abbrev pub drawn_turn : Standing → Option Turn
+abbrev pub drawn_turn : ScheduleState → Option Turn
 drawn_turn now = slice_get (candidates now) (drawn_place now.draws (length (candidates now)))
 
 -- commands without the next one of a box
@@ -98,42 +110,54 @@ since_by turn since = if is_command turn.event then 0 else (if nat_lt since 63 t
 
 -- a Shift is one of those that its box may make
 abbrev pub shifts_by : Turn → List ℕ → List ℕ
-shifts_by turn shifts = if is_shift turn.event then slice_set shifts turn.who (slice_index_or shifts turn.who 0 - 1) else shifts
+shifts_by turn shifts =
+    if is_shift turn.event then slice_set shifts turn.who (slice_index_or shifts turn.who 0 - 1) else shifts
 
 -- and makes a round of retries due
 abbrev pub due_after : Turn → Bool → Bool
 due_after turn due = is_shift turn.event || due
 
--- the standing after a drawn turn that led to this world
-abbrev pub standing_after : Standing → Turn → WorldState → Standing
-standing_after now turn next = record { world = next; left = left_by turn now.left; since = since_by turn now.since; draws = next_state now.draws; shifts = shifts_by turn now.shifts; due = due_after turn now.due }
+-- the schedule after a drawn turn that led to this world
+abbrev pub schedule_after : ScheduleState → Turn → WorldState → ScheduleState
+schedule_after now turn next =
+    record {
+      world = next;
+      left = left_by turn now.left;
+      since = since_by turn now.since;
+      draws = next_state now.draws;
+      shifts = shifts_by turn now.shifts;
+      due = due_after turn now.due;
+    }
 
 -- where the batch is used up there is no ring
-abbrev pub MayGo : Standing → Type 0
+abbrev pub MayGo : ScheduleState → Type 0
 MayGo now = now.left ≡ [] → has_ring now.world ≡ false
 
--- turns that are drawn one after another lead from one standing to another
-abbrev pub AreDrawn : Standing → List Turn → Standing → Type 0
+-- turns that are drawn one after another lead from one schedule to another
+abbrev pub AreDrawn : ScheduleState → List Turn → ScheduleState → Type 0
 AreDrawn now [] last = now ≡ last
-AreDrawn now (turn ∷ turns) last = (next : WorldState) × MayGo now × (drawn_turn now ≡ Some turn) × (step now.world turn ≡ Some next) × AreDrawn (standing_after now turn next) turns last
+AreDrawn now (turn ∷ turns) last =
+    (next : WorldState) × MayGo now × (drawn_turn now ≡ Some turn) × (step now.world turn ≡ Some next)
+    × AreDrawn (schedule_after now turn next) turns last
 
 -- ---- rounds of retries
 
 -- nothing can come: nothing is listed, no box's program has an enabled transition, and there is no ring
-pub record IsStill (now : Standing) : Type 0 where
+pub record IsStill (now : ScheduleState) : Type 0 where
   pub none : candidates now ≡ []
   pub no_shift : can_shift now.world ≡ false
   pub no_ring : has_ring now.world ≡ false
 
 -- where a round is due, each owed retry is made, without draws, and then no round is due
-pub record MakesRound (now next : Standing) : Type 0 where
+pub record MakesRound (now next : ScheduleState) : Type 0 where
   pub still : IsStill now
   pub was_due : now.due ≡ true
   pub retries : run now.world (retries_by_box now.world) ≡ Some next.world
   pub then_not : next ≡ record now { world = next.world; due = false }
 
--- so many rounds, with drawn turns before each of them and behind the last, lead from one standing to another
-abbrev pub Goes : (rounds : ℕ) → Standing → List Turn → Standing → Type 0
+-- so many rounds, with drawn turns before each of them and after the last, lead from one schedule to another
+abbrev pub Goes : (rounds : ℕ) → ScheduleState → List Turn → ScheduleState → Type 0
 Goes zero now turns last = AreDrawn now turns last
-Goes (suc rounds) now turns last = (first : List Turn) × (rest : List Turn) × (still : Standing) × (next : Standing)
-    × (turns ≡ first ++ (retries_by_box still.world ++ rest)) × AreDrawn now first still × MakesRound still next × Goes rounds next rest last
+Goes (suc rounds) now turns last = (first : List Turn) × (rest : List Turn) × (still : ScheduleState) × (next : ScheduleState)
+    × (turns ≡ first ++ (retries_by_box still.world ++ rest)) × AreDrawn now first still × MakesRound still next
+    × Goes rounds next rest last

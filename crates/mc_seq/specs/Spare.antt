@@ -32,21 +32,23 @@ abbrev pub AreShiftsKept : WorldState → List Turn → Option Shifts → Type 0
 AreShiftsKept world left None = HasNoPrograms world
 AreShiftsKept world left (Some shifts) = AreShiftsCounted world left shifts
 
--- ---- behind a turn, before it is counted
+-- ---- after a turn, before it is counted
 
 -- counts are right but for one box
 pub record AreCountedBut (world : WorldState) (left : List Turn) (shifts : Shifts) (who : ℕ) : Type 0 where
   pub long : length shifts.spare.items ≡ length world.boxes
   pub others_long : length shifts.others ≡ length world.boxes
   pub there : who < length world.boxes
-  pub counts : (other : ℕ) → other < length world.boxes → other ≢ who → slice_index_or shifts.others other 0 ≡ length (others_of world left shifts.spare.items other)
+  pub counts : (other : ℕ) → other < length world.boxes → other ≢ who
+      → slice_index_or shifts.others other 0 ≡ length (others_of world left shifts.spare.items other)
 
 -- where no box has a program the turn is no Shift
 abbrev pub AreKeptBut : WorldState → List Turn → Option Shifts → Turn → Type 0
 AreKeptBut world left None turn = HasNoPrograms world × (is_shift turn.event ≡ false)
 AreKeptBut world left (Some shifts) turn = AreCountedBut world left shifts turn.who
 
--- behind a round of retries: there are as many of both as boxes
+-- after a round of retries: there are as many of both as boxes
 abbrev pub AreShiftsLong : WorldState → Option Shifts → Type 0
 AreShiftsLong world None = HasNoPrograms world
-AreShiftsLong world (Some shifts) = (length shifts.spare.items ≡ length world.boxes) × (length shifts.others ≡ length world.boxes)
+AreShiftsLong world (Some shifts) =
+    (length shifts.spare.items ≡ length world.boxes) × (length shifts.others ≡ length world.boxes)

@@ -8,7 +8,7 @@ ghost use Rattle.mc_model.specs.Settles.{IsSettled};
 ghost use Rattle.mc_seq.specs.Commands.{AreKept, AreKeptFor, commands_left};
 ghost use Rattle.mc_seq.specs.Draws.{SettlesByDraws, StopsByDraws};
 ghost use Rattle.mc_seq.specs.Drawing.{CameTo, DrewOn, DrewOnce, Ended, IsKept, MayCome, Picks, RoundMade, TriedTurn};
-ghost use Rattle.mc_seq.specs.Drawing.{UsedUp, first_sight, moment_of, sight_of};
+ghost use Rattle.mc_seq.specs.Drawing.{UsedUp, first_drawn, so_far_of, drawn_of};
 ghost use Rattle.mc_seq.specs.Restless.{IsFirstShifterOr};
 ghost use Rattle.mc_seq.specs.Schedule.{is_urgent, left_by, since_by};
 ghost use Rattle.mc_seq.specs.ShiftLimit.{KeepsShiftLimit};
@@ -29,7 +29,7 @@ use std::alloc::{AllocError, Global};
 // last command or the beginning, counted to 63, the Shifts that boxes may still make, where some box has a program, and
 // whether a round of retries is due.
 #[derive(Drop)]
-struct Sitting {
+struct SettleSoFar {
     settled: Settled,
     left: Commands,
     since: u8,
@@ -48,7 +48,7 @@ struct Sitting {
 /// for want of memory, and then the draws may have gone on.
 ///
 /// The world and the commands that are left keep how many candidates each box has, in trees of sums. So the time of a
-/// turn hangs on its box, and beside that on the network's size by its logarithm alone.
+/// turn depends on its box, and beside that on the network's size by its logarithm alone.
 pub fn settle_one(
     alloc: Global,
     world: World,
@@ -62,24 +62,24 @@ pub fn settle_one(
     ensures stops { IfErr result (StopsByDraws world batch.now draws.old.state draws.new.state) }
 {
     world.keeps();
-    let mut sitting = sit(alloc, world, batch)?;
-    let ended = settle(&mut sitting, draws);
-    let settled = settled_by(sitting);
+    let mut so_far = begin(alloc, world, batch)?;
+    let ended = settle(&mut so_far, draws);
+    let settled = settled_by(so_far);
     let ending = ended?;
     answer(settled, ending)
 }
 
 // Where a settle begins.
-fn sit(alloc: Global, world: World, batch: &[Turn]) -> Result<Sitting, AllocError>
+fn begin(alloc: Global, world: World, batch: &[Turn]) -> Result<SettleSoFar, AllocError>
     requires { AreAllowed world batch.now }
     ensures kept { IfOk result IsKept }
-    ensures begins { IfOk result (λ sitting. (draws : ℕ) → sight_of sitting draws ≡ first_sight world batch.now draws) }
+    ensures begins { IfOk result (λ so_far. (draws : ℕ) → drawn_of so_far draws ≡ first_drawn world batch.now draws) }
 {
     let left = all_commands(alloc, &world, batch)?;
     let shifts = all_shifts(alloc, &world, &left)?;
     let turns = Vec::new(alloc);
     let settled = Settled { world, turns };
-    Ok(Sitting {
+    Ok(SettleSoFar {
         settled,
         left,
         since: 0,
@@ -89,41 +89,41 @@ fn sit(alloc: Global, world: World, batch: &[Turn]) -> Result<Sitting, AllocErro
 }
 
 // The world and the turns of a settle.
-fn settled_by(sitting: Sitting) -> Settled
-    ensures { result ≡ sitting.settled }
+fn settled_by(so_far: SettleSoFar) -> Settled
+    ensures { result ≡ so_far.settled }
 {
-    let Sitting {
+    let SettleSoFar {
         settled,
         left: _,
         since: _,
         shifts: _,
         due: _,
-    } = sitting;
+    } = so_far;
     settled
 }
 
 // Makes all the turns of a settle.
-fn settle(sitting: &mut Sitting, draws: &mut Draws) -> Result<Ending, AllocError>
-    requires allowed { AreAllowed sitting.old.settled.world (commands_left sitting.old.left) }
-    requires kept { IsKept sitting.old }
-    ensures { IfOk result (Ended (sight_of sitting.old draws.old.state) (sight_of sitting.new draws.new.state)) }
+fn settle(so_far: &mut SettleSoFar, draws: &mut Draws) -> Result<Ending, AllocError>
+    requires allowed { AreAllowed so_far.old.settled.world (commands_left so_far.old.left) }
+    requires kept { IsKept so_far.old }
+    ensures { IfOk result (Ended (drawn_of so_far.old draws.old.state) (drawn_of so_far.new draws.new.state)) }
 {
-    if let Some(at) = use_up(sitting, draws)? {
+    if let Some(at) = use_up(so_far, draws)? {
         return Ok(Ending::LastVersion(at));
     }
-    finish(sitting, draws)
+    finish(so_far, draws)
 }
 
 // Draws until the batch is used up, or to the last version of a slot.
-fn use_up(sitting: &mut Sitting, draws: &mut Draws) -> Result<Option<u32>, AllocError>
-    requires allowed { AreAllowed sitting.old.settled.world (commands_left sitting.old.left) }
-    requires kept { IsKept sitting.old }
-    ensures drew { IfOk result (UsedUp (sight_of sitting.old draws.old.state) (sight_of sitting.new draws.new.state)) }
-    ensures kept { OnOk result (IsKept sitting.new) }
+fn use_up(so_far: &mut SettleSoFar, draws: &mut Draws) -> Result<Option<u32>, AllocError>
+    requires allowed { AreAllowed so_far.old.settled.world (commands_left so_far.old.left) }
+    requires kept { IsKept so_far.old }
+    ensures drew { IfOk result (UsedUp (drawn_of so_far.old draws.old.state) (drawn_of so_far.new draws.new.state)) }
+    ensures kept { OnOk result (IsKept so_far.new) }
 {
-    sitting.settled.world.keeps();
-    'commands: while sitting.left.count > 0 {
-        match draw_once(sitting, draws)? {
+    so_far.settled.world.keeps();
+    'commands: while so_far.left.count > 0 {
+        match draw_once(so_far, draws)? {
             Draw::Drawn | Draw::Shifted => {}
             Draw::Nothing => unreachable!(),
             Draw::VersionEnd(at) => return Ok(Some(at)),
@@ -132,88 +132,88 @@ fn use_up(sitting: &mut Sitting, draws: &mut Draws) -> Result<Option<u32>, Alloc
     Ok(None)
 }
 
-// Behind the batch: comes to rest again and again, with a round of retries between.
-fn finish(sitting: &mut Sitting, draws: &mut Draws) -> Result<Ending, AllocError>
-    requires used_up { commands_left sitting.old.left ≡ [] }
-    requires kept { IsKept sitting.old }
-    ensures { IfOk result (Ended (sight_of sitting.old draws.old.state) (sight_of sitting.new draws.new.state)) }
+// After the batch: comes to rest again and again, with a round of retries between.
+fn finish(so_far: &mut SettleSoFar, draws: &mut Draws) -> Result<Ending, AllocError>
+    requires used_up { commands_left so_far.old.left ≡ [] }
+    requires kept { IsKept so_far.old }
+    ensures { IfOk result (Ended (drawn_of so_far.old draws.old.state) (drawn_of so_far.new draws.new.state)) }
 {
     'rounds: loop {
-        if let Some(at) = come_to_rest(sitting, draws)? {
+        if let Some(at) = come_to_rest(so_far, draws)? {
             return Ok(Ending::Ring(at));
         }
-        if let Some(at) = shifter(sitting) {
+        if let Some(at) = shifter(so_far) {
             return Ok(Ending::Restless(at));
         }
-        if !sitting.due {
+        if !so_far.due {
             return Ok(Ending::Rest);
         }
-        make_round(sitting)?;
+        make_round(so_far)?;
     }
 }
 
 // The first box whose program has an enabled transition.
-fn shifter(sitting: &Sitting) -> Option<u32>
-    requires { IsKept sitting.now }
-    ensures { IsFirstShifterOr sitting.now.settled.world result }
+fn shifter(so_far: &SettleSoFar) -> Option<u32>
+    requires { IsKept so_far.now }
+    ensures { IsFirstShifterOr so_far.now.settled.world result }
 {
-    match sitting.shifts {
+    match so_far.shifts {
         None => None,
-        Some(_) => first_shifter(&sitting.settled.world),
+        Some(_) => first_shifter(&so_far.settled.world),
     }
 }
 
 // Makes each retry that is owed.
-fn make_round(sitting: &mut Sitting) -> Result<(), AllocError>
-    requires { IsKept sitting.old }
-    ensures made { OnOk result (RoundMade (moment_of sitting.old) (moment_of sitting.new)) }
-    ensures kept { OnOk result (IsKept sitting.new) }
+fn make_round(so_far: &mut SettleSoFar) -> Result<(), AllocError>
+    requires { IsKept so_far.old }
+    ensures made { OnOk result (RoundMade (so_far_of so_far.old) (so_far_of so_far.new)) }
+    ensures kept { OnOk result (IsKept so_far.new) }
 {
-    sitting.settled.world.keeps();
-    retry_by_box(&mut sitting.settled)?;
-    recount_all(&mut sitting.shifts, &sitting.settled.world, &sitting.left);
-    sitting.due = false;
+    so_far.settled.world.keeps();
+    retry_by_box(&mut so_far.settled)?;
+    recount_all(&mut so_far.shifts, &so_far.settled.world, &so_far.left);
+    so_far.due = false;
     Ok(())
 }
 
 // Draws until nothing is listed, or there is a ring, where the batch is used up. Only a Shift can make one.
-fn come_to_rest(sitting: &mut Sitting, draws: &mut Draws) -> Result<Option<u32>, AllocError>
-    requires used_up { commands_left sitting.old.left ≡ [] }
-    requires kept { IsKept sitting.old }
-    ensures came { IfOk result (CameTo (sight_of sitting.old draws.old.state) (sight_of sitting.new draws.new.state)) }
-    ensures kept { OnOk result (IsKept sitting.new) }
+fn come_to_rest(so_far: &mut SettleSoFar, draws: &mut Draws) -> Result<Option<u32>, AllocError>
+    requires used_up { commands_left so_far.old.left ≡ [] }
+    requires kept { IsKept so_far.old }
+    ensures came { IfOk result (CameTo (drawn_of so_far.old draws.old.state) (drawn_of so_far.new draws.new.state)) }
+    ensures kept { OnOk result (IsKept so_far.new) }
 {
     'stretches: loop {
-        if let Some(at) = find_ring(sitting) {
+        if let Some(at) = find_ring(so_far) {
             return Ok(Some(at));
         }
-        if !draw_on(sitting, draws)? {
+        if !draw_on(so_far, draws)? {
             return Ok(None);
         }
     }
 }
 
 // The least slot on a ring, if there is one.
-fn find_ring(sitting: &mut Sitting) -> Option<u32>
-    ensures same { sitting.new ≡ sitting.old }
-    ensures least { IsLeastOnRing sitting.old.settled.world result }
-    ensures has { has_ring sitting.old.settled.world ≡ is_some result }
+fn find_ring(so_far: &mut SettleSoFar) -> Option<u32>
+    ensures same { so_far.new ≡ so_far.old }
+    ensures least { IsLeastOnRing so_far.old.settled.world result }
+    ensures has { has_ring so_far.old.settled.world ≡ is_some result }
 {
-    sitting.settled.world.find_ring()
+    so_far.settled.world.find_ring()
 }
 
 // Draws until nothing is listed, or a Shift was made, where the batch is used up and there is no ring. Tells whether
 // one was.
-fn draw_on(sitting: &mut Sitting, draws: &mut Draws) -> Result<bool, AllocError>
-    requires used_up { commands_left sitting.old.left ≡ [] }
-    requires free { has_ring sitting.old.settled.world ≡ false }
-    requires kept { IsKept sitting.old }
-    ensures drew { IfOk result (DrewOn (sight_of sitting.old draws.old.state) (sight_of sitting.new draws.new.state)) }
-    ensures kept { OnOk result (IsKept sitting.new) }
+fn draw_on(so_far: &mut SettleSoFar, draws: &mut Draws) -> Result<bool, AllocError>
+    requires used_up { commands_left so_far.old.left ≡ [] }
+    requires free { has_ring so_far.old.settled.world ≡ false }
+    requires kept { IsKept so_far.old }
+    ensures drew { IfOk result (DrewOn (drawn_of so_far.old draws.old.state) (drawn_of so_far.new draws.new.state)) }
+    ensures kept { OnOk result (IsKept so_far.new) }
 {
-    sitting.settled.world.keeps();
+    so_far.settled.world.keeps();
     'takes: loop {
-        match draw_once(sitting, draws)? {
+        match draw_once(so_far, draws)? {
             Draw::Drawn => {}
             Draw::Shifted => return Ok(true),
             Draw::Nothing => return Ok(false),
@@ -223,40 +223,35 @@ fn draw_on(sitting: &mut Sitting, draws: &mut Draws) -> Result<bool, AllocError>
 }
 
 // Draws once, where anything is listed, and makes the turn that is drawn.
-fn draw_once(sitting: &mut Sitting, draws: &mut Draws) -> Result<Draw, AllocError>
-    requires allowed { AreAllowed sitting.old.settled.world (commands_left sitting.old.left) }
-    requires kept { IsKept sitting.old }
+fn draw_once(so_far: &mut SettleSoFar, draws: &mut Draws) -> Result<Draw, AllocError>
+    requires allowed { AreAllowed so_far.old.settled.world (commands_left so_far.old.left) }
+    requires kept { IsKept so_far.old }
     ensures drew { IfOk result
-        (DrewOnce (sight_of sitting.old draws.old.state) (sight_of sitting.new draws.new.state)) }
-    ensures kept { OnOk result (IsKept sitting.new) }
+        (DrewOnce (drawn_of so_far.old draws.old.state) (drawn_of so_far.new draws.new.state)) }
+    ensures kept { OnOk result (IsKept so_far.new) }
 {
-    sitting.settled.world.keeps();
-    match pick(sitting, draws) {
-        Some(turn) => try_turn(sitting, turn),
+    so_far.settled.world.keeps();
+    match pick(so_far, draws) {
+        Some(turn) => try_turn(so_far, turn),
         None => Ok(Draw::Nothing),
     }
 }
 
 // The candidate that is drawn; none where there is none, and then nothing is drawn.
-fn pick(sitting: &Sitting, draws: &mut Draws) -> Option<Turn>
-    requires { IsKept sitting.now }
-    ensures { Picks (sight_of sitting.now draws.old.state).standing draws.new.state result }
+fn pick(so_far: &SettleSoFar, draws: &mut Draws) -> Option<Turn>
+    requires { IsKept so_far.now }
+    ensures { Picks (drawn_of so_far.now draws.old.state).schedule draws.new.state result }
 {
-    let urgent = is_urgent(&sitting.left, sitting.since);
-    let count = candidate_count(
-        &sitting.settled.world,
-        &sitting.left,
-        &sitting.shifts,
-        urgent,
-    );
+    let urgent = is_urgent(&so_far.left, so_far.since);
+    let count = candidate_count(&so_far.settled.world, &so_far.left, &so_far.shifts, urgent);
     if count == 0 {
         return None;
     }
     let k = modulo(draws.draw(), count);
     Some(kth(
-        &sitting.settled.world,
-        &sitting.left,
-        &sitting.shifts,
+        &so_far.settled.world,
+        &so_far.left,
+        &so_far.shifts,
         urgent,
         k,
     ))
@@ -298,27 +293,27 @@ fn is_urgent(left: &Commands, since: u8) -> bool
 }
 
 // Makes a turn, unless it ends a version.
-fn try_turn(sitting: &mut Sitting, turn: Turn) -> Result<Draw, AllocError>
-    requires comes { MayCome sitting.old.settled.world turn }
-    requires kept { IsKept sitting.old }
-    ensures tried { IfOk result (TriedTurn (moment_of sitting.old) (moment_of sitting.new) turn) }
-    ensures kept { OnOk result (IsKept sitting.new) }
+fn try_turn(so_far: &mut SettleSoFar, turn: Turn) -> Result<Draw, AllocError>
+    requires comes { MayCome so_far.old.settled.world turn }
+    requires kept { IsKept so_far.old }
+    ensures tried { IfOk result (TriedTurn (so_far_of so_far.old) (so_far_of so_far.new) turn) }
+    ensures kept { OnOk result (IsKept so_far.new) }
 {
-    sitting.settled.world.keeps();
-    match sitting.settled.world.step(turn.who, turn.event) {
+    so_far.settled.world.keeps();
+    match so_far.settled.world.step(turn.who, turn.event) {
         Ok(()) => {
-            sitting.settled.turns.push(turn)?;
-            count(&mut sitting.left, &mut sitting.since, turn);
+            so_far.settled.turns.push(turn)?;
+            count(&mut so_far.left, &mut so_far.since, turn);
             Ok(count_programmed(
-                &mut sitting.shifts,
-                &mut sitting.due,
-                &sitting.settled.world,
-                &sitting.left,
+                &mut so_far.shifts,
+                &mut so_far.due,
+                &so_far.settled.world,
+                &so_far.left,
                 turn,
             ))
         }
         Err(StepFault::VersionEnd) => {
-            Ok(Draw::VersionEnd(heard_slot(&sitting.settled.world, turn)))
+            Ok(Draw::VersionEnd(heard_slot(&so_far.settled.world, turn)))
         }
         Err(StepFault::NoMemory(e)) => Err(e),
         Err(StepFault::NotEnabled) => unreachable!(),

@@ -196,7 +196,7 @@ fn kth_at_box(world: &World, left: &Commands, spare: &[u16], who: u32, k: u64) -
     }
 }
 
-// The k-th behind it: the Shift comes last.
+// The k-th after it: the Shift comes last.
 fn kth_behind(world: &World, spare: &[u16], who: u32, k: u64) -> Turn
     requires there { who < length world.now.boxes }
     requires inside { k < length (takes_of world.now who ++ shift_of world.now spare.now who) }

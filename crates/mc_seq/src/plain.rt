@@ -8,7 +8,7 @@ ghost use Rattle.mc_model.specs.Paths.{has_ring};
 ghost use Rattle.mc_model.specs.Settles.{IsSettled};
 ghost use Rattle.mc_seq.specs.Draws.{SettlesByDraws, StopsByDraws};
 ghost use Rattle.mc_seq.specs.Drawing.{CameTo, DrewOn, DrewOnce, Ended, MayCome, RoundMade, TriedTurn, UsedUp};
-ghost use Rattle.mc_seq.specs.Drawing.{first_sight, plain_moment, plain_sight};
+ghost use Rattle.mc_seq.specs.Drawing.{first_drawn, plain_so_far, plain_drawn};
 ghost use Rattle.mc_seq.specs.Schedule.{drawn_place, left_by, since_by, without_next};
 ghost use Rattle.mc_seq.specs.ShiftLimit.{KeepsShiftLimit};
 
@@ -28,7 +28,7 @@ use std::alloc::{AllocError, Global};
 // last command or the beginning, counted to 63, how many Shifts each box may still make, and whether a round of retries
 // is due.
 #[derive(Drop)]
-struct Sitting {
+struct SettleSoFar {
     settled: Settled,
     left: Vec<Turn>,
     since: u8,
@@ -50,22 +50,22 @@ pub fn settle_plainly(
     ensures stops { IfErr result (StopsByDraws world batch.now draws.old.state draws.new.state) }
 {
     world.keeps();
-    let mut sitting = sit(alloc, world, batch)?;
-    let ended = settle(alloc, &mut sitting, draws);
-    let settled = settled_by(sitting);
+    let mut so_far = begin(alloc, world, batch)?;
+    let ended = settle(alloc, &mut so_far, draws);
+    let settled = settled_by(so_far);
     let ending = ended?;
     answer(settled, ending)
 }
 
 // Where a settle begins.
-fn sit(alloc: Global, world: World, batch: &[Turn]) -> Result<Sitting, AllocError>
-    ensures { IfOk result (λ sitting. (draws : ℕ) → plain_sight sitting draws ≡ first_sight world batch.now draws) }
+fn begin(alloc: Global, world: World, batch: &[Turn]) -> Result<SettleSoFar, AllocError>
+    ensures { IfOk result (λ so_far. (draws : ℕ) → plain_drawn so_far draws ≡ first_drawn world batch.now draws) }
 {
     let left = copied(alloc, batch)?;
     let spare = vec![in alloc; SHIFT_LIMIT; world.boxes().len()]?;
     let turns = Vec::new(alloc);
     let settled = Settled { world, turns };
-    Ok(Sitting {
+    Ok(SettleSoFar {
         settled,
         left,
         since: 0,
@@ -82,42 +82,42 @@ fn copied(alloc: Global, batch: &[Turn]) -> Result<Vec<Turn>, AllocError>
 }
 
 // The world and the turns of a settle.
-fn settled_by(sitting: Sitting) -> Settled
-    ensures { result ≡ sitting.settled }
+fn settled_by(so_far: SettleSoFar) -> Settled
+    ensures { result ≡ so_far.settled }
 {
-    let Sitting {
+    let SettleSoFar {
         settled,
         left: _,
         since: _,
         spare: _,
         due: _,
-    } = sitting;
+    } = so_far;
     settled
 }
 
 // Makes all the turns of a settle.
-fn settle(alloc: Global, sitting: &mut Sitting, draws: &mut Draws) -> Result<Ending, AllocError>
-    requires { AreAllowed sitting.old.settled.world sitting.old.left.items }
-    ensures { IfOk result (Ended (plain_sight sitting.old draws.old.state) (plain_sight sitting.new draws.new.state)) }
+fn settle(alloc: Global, so_far: &mut SettleSoFar, draws: &mut Draws) -> Result<Ending, AllocError>
+    requires { AreAllowed so_far.old.settled.world so_far.old.left.items }
+    ensures { IfOk result (Ended (plain_drawn so_far.old draws.old.state) (plain_drawn so_far.new draws.new.state)) }
 {
-    if let Some(at) = use_up(alloc, sitting, draws)? {
+    if let Some(at) = use_up(alloc, so_far, draws)? {
         return Ok(Ending::LastVersion(at));
     }
-    finish(alloc, sitting, draws)
+    finish(alloc, so_far, draws)
 }
 
 // Draws until the batch is used up, or to the last version of a slot.
 fn use_up(
     alloc: Global,
-    sitting: &mut Sitting,
+    so_far: &mut SettleSoFar,
     draws: &mut Draws,
 ) -> Result<Option<u32>, AllocError>
-    requires { AreAllowed sitting.old.settled.world sitting.old.left.items }
-    ensures { IfOk result (UsedUp (plain_sight sitting.old draws.old.state) (plain_sight sitting.new draws.new.state)) }
+    requires { AreAllowed so_far.old.settled.world so_far.old.left.items }
+    ensures { IfOk result (UsedUp (plain_drawn so_far.old draws.old.state) (plain_drawn so_far.new draws.new.state)) }
 {
-    sitting.settled.world.keeps();
-    'commands: while !is_used_up(&sitting.left) {
-        match draw_once(alloc, sitting, draws)? {
+    so_far.settled.world.keeps();
+    'commands: while !is_used_up(&so_far.left) {
+        match draw_once(alloc, so_far, draws)? {
             Draw::Drawn | Draw::Shifted => {}
             Draw::Nothing => unreachable!(),
             Draw::VersionEnd(at) => return Ok(Some(at)),
@@ -133,48 +133,48 @@ fn is_used_up(left: &[Turn]) -> bool
     left.is_empty()
 }
 
-// Behind the batch: comes to rest again and again, with a round of retries between.
-fn finish(alloc: Global, sitting: &mut Sitting, draws: &mut Draws) -> Result<Ending, AllocError>
-    requires { sitting.old.left.items ≡ [] }
-    ensures { IfOk result (Ended (plain_sight sitting.old draws.old.state) (plain_sight sitting.new draws.new.state)) }
+// After the batch: comes to rest again and again, with a round of retries between.
+fn finish(alloc: Global, so_far: &mut SettleSoFar, draws: &mut Draws) -> Result<Ending, AllocError>
+    requires { so_far.old.left.items ≡ [] }
+    ensures { IfOk result (Ended (plain_drawn so_far.old draws.old.state) (plain_drawn so_far.new draws.new.state)) }
 {
     'rounds: loop {
-        if let Some(at) = come_to_rest(alloc, sitting, draws)? {
+        if let Some(at) = come_to_rest(alloc, so_far, draws)? {
             return Ok(Ending::Ring(at));
         }
-        if let Some(at) = first_shifter(&sitting.settled.world) {
+        if let Some(at) = first_shifter(&so_far.settled.world) {
             return Ok(Ending::Restless(at));
         }
-        if !sitting.due {
+        if !so_far.due {
             return Ok(Ending::Rest);
         }
-        make_round(sitting)?;
+        make_round(so_far)?;
     }
 }
 
 // Makes each retry that is owed.
-fn make_round(sitting: &mut Sitting) -> Result<(), AllocError>
-    ensures { OnOk result (RoundMade (plain_moment sitting.old) (plain_moment sitting.new)) }
+fn make_round(so_far: &mut SettleSoFar) -> Result<(), AllocError>
+    ensures { OnOk result (RoundMade (plain_so_far so_far.old) (plain_so_far so_far.new)) }
 {
-    retry_by_box(&mut sitting.settled)?;
-    sitting.due = false;
+    retry_by_box(&mut so_far.settled)?;
+    so_far.due = false;
     Ok(())
 }
 
 // Draws until nothing is listed, or there is a ring, where the batch is used up. Only a Shift can make one.
 fn come_to_rest(
     alloc: Global,
-    sitting: &mut Sitting,
+    so_far: &mut SettleSoFar,
     draws: &mut Draws,
 ) -> Result<Option<u32>, AllocError>
-    requires { sitting.old.left.items ≡ [] }
-    ensures { IfOk result (CameTo (plain_sight sitting.old draws.old.state) (plain_sight sitting.new draws.new.state)) }
+    requires { so_far.old.left.items ≡ [] }
+    ensures { IfOk result (CameTo (plain_drawn so_far.old draws.old.state) (plain_drawn so_far.new draws.new.state)) }
 {
     'stretches: loop {
-        if let Some(at) = sitting.settled.world.ring() {
+        if let Some(at) = so_far.settled.world.ring() {
             return Ok(Some(at));
         }
-        if !draw_on(alloc, sitting, draws)? {
+        if !draw_on(alloc, so_far, draws)? {
             return Ok(None);
         }
     }
@@ -182,14 +182,14 @@ fn come_to_rest(
 
 // Draws until nothing is listed, or a Shift was made, where the batch is used up and there is no ring. Tells whether
 // one was.
-fn draw_on(alloc: Global, sitting: &mut Sitting, draws: &mut Draws) -> Result<bool, AllocError>
-    requires used_up { sitting.old.left.items ≡ [] }
-    requires free { has_ring sitting.old.settled.world ≡ false }
-    ensures { IfOk result (DrewOn (plain_sight sitting.old draws.old.state) (plain_sight sitting.new draws.new.state)) }
+fn draw_on(alloc: Global, so_far: &mut SettleSoFar, draws: &mut Draws) -> Result<bool, AllocError>
+    requires used_up { so_far.old.left.items ≡ [] }
+    requires free { has_ring so_far.old.settled.world ≡ false }
+    ensures { IfOk result (DrewOn (plain_drawn so_far.old draws.old.state) (plain_drawn so_far.new draws.new.state)) }
 {
-    sitting.settled.world.keeps();
+    so_far.settled.world.keeps();
     'takes: loop {
-        match draw_once(alloc, sitting, draws)? {
+        match draw_once(alloc, so_far, draws)? {
             Draw::Drawn => {}
             Draw::Shifted => return Ok(true),
             Draw::Nothing => return Ok(false),
@@ -199,25 +199,25 @@ fn draw_on(alloc: Global, sitting: &mut Sitting, draws: &mut Draws) -> Result<bo
 }
 
 // Draws once, where anything is listed, and makes the turn that is drawn.
-fn draw_once(alloc: Global, sitting: &mut Sitting, draws: &mut Draws) -> Result<Draw, AllocError>
-    requires { AreAllowed sitting.old.settled.world sitting.old.left.items }
+fn draw_once(alloc: Global, so_far: &mut SettleSoFar, draws: &mut Draws) -> Result<Draw, AllocError>
+    requires { AreAllowed so_far.old.settled.world so_far.old.left.items }
     ensures { IfOk result
-        (DrewOnce (plain_sight sitting.old draws.old.state) (plain_sight sitting.new draws.new.state)) }
+        (DrewOnce (plain_drawn so_far.old draws.old.state) (plain_drawn so_far.new draws.new.state)) }
 {
-    sitting.settled.world.keeps();
-    let urgent = is_urgent(&sitting.left, sitting.since);
+    so_far.settled.world.keeps();
+    let urgent = is_urgent(&so_far.left, so_far.since);
     let list = all_candidates(
         alloc,
-        &sitting.settled.world,
-        &sitting.left,
-        &sitting.spare,
+        &so_far.settled.world,
+        &so_far.left,
+        &so_far.spare,
         urgent,
     )?;
     if list.is_empty() {
         return Ok(Draw::Nothing);
     }
     let turn = pick(&list, draws);
-    try_turn(sitting, turn)
+    try_turn(so_far, turn)
 }
 
 // The candidate that is drawn.
@@ -231,18 +231,18 @@ fn pick(list: &[Turn], draws: &mut Draws) -> Turn
 }
 
 // Makes a turn, unless it ends a version.
-fn try_turn(sitting: &mut Sitting, turn: Turn) -> Result<Draw, AllocError>
-    requires { MayCome sitting.old.settled.world turn }
-    ensures { IfOk result (TriedTurn (plain_moment sitting.old) (plain_moment sitting.new) turn) }
+fn try_turn(so_far: &mut SettleSoFar, turn: Turn) -> Result<Draw, AllocError>
+    requires { MayCome so_far.old.settled.world turn }
+    ensures { IfOk result (TriedTurn (plain_so_far so_far.old) (plain_so_far so_far.new) turn) }
 {
-    match sitting.settled.world.step(turn.who, turn.event) {
+    match so_far.settled.world.step(turn.who, turn.event) {
         Ok(()) => {
-            sitting.settled.turns.push(turn)?;
-            count(&mut sitting.left, &mut sitting.since, turn);
-            Ok(count_shift(&mut sitting.spare, &mut sitting.due, turn))
+            so_far.settled.turns.push(turn)?;
+            count(&mut so_far.left, &mut so_far.since, turn);
+            Ok(count_shift(&mut so_far.spare, &mut so_far.due, turn))
         }
         Err(StepFault::VersionEnd) => {
-            Ok(Draw::VersionEnd(heard_slot(&sitting.settled.world, turn)))
+            Ok(Draw::VersionEnd(heard_slot(&so_far.settled.world, turn)))
         }
         Err(StepFault::NoMemory(e)) => Err(e),
         Err(StepFault::NotEnabled) => unreachable!(),

@@ -206,7 +206,7 @@ fn lower_to(counts: &mut Sums, who: u32, count: u64)
     }
 }
 
-// Sets the counts of all boxes anew, behind a round of retries.
+// Sets the counts of all boxes anew, after a round of retries.
 pub fn recount_all(shifts: &mut Option<Shifts>, world: &World, left: &Commands)
     requires kept { AreKeptFor world.now left.now }
     requires long { AreShiftsLong world.now shifts.old }

@@ -96,7 +96,7 @@ pub first_leaves : (P : WorldState → Type 0) (world last : WorldState) (batch 
 first_leaves P world last batch turns batches passes sound none leave used =
     passes (commanded world batch) last (alike_back last (commanded world batch) (batch_is_left world last batch turns sound none used)) (leave 0 (omega arith))
 
--- and so do those behind it
+-- and so do those after it
 pub rest_leave : (P : WorldState → Type 0) (world last : WorldState) (batch turns : List Turn) (batches : List (List Turn)) → Passes P → IsSound world → HasNoPrograms world → EachLeaves P world (batch ∷ batches)
     → IsSettled world batch turns last → EachLeaves P last batches
 rest_leave P world last batch turns batches passes sound none leave settled k below =

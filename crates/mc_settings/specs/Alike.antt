@@ -15,9 +15,11 @@ pub record AreAlike (world other : WorldState) : Type 0 where
   pub shape : HasShape world other
   pub settings : (who : ℕ) → settings_of (box_at world who) ≡ settings_of (box_at other who)
   pub media : (who local : ℕ) → (slot_at (box_at world who) local).medium ≡ (slot_at (box_at other who) local).medium
-  pub sides : (who local : ℕ) → (slot_at (box_at world who) local).initiator ≡ (slot_at (box_at other who) local).initiator
+  pub sides : (who local : ℕ)
+      → (slot_at (box_at world who) local).initiator ≡ (slot_at (box_at other who) local).initiator
 
--- worlds with the same slots and tunnels, the same rings and paths, and the same goals, descriptors and senders at their slots, so that at each path the same is to be heard
+-- worlds with the same slots and tunnels, the same rings and paths, and the same goals, descriptors and senders at
+-- their slots, so that at each path the same is to be heard
 pub record HaveSamePaths (world other : WorldState) : Type 0 where
   pub places : places world ≡ places other
   pub tunnels : (s : ℕ) → tunnel_of world s ≡ tunnel_of other s

@@ -21,14 +21,16 @@ pub record RunsThrough (world : WorldState) (batch turns : List Turn) (last : Wo
 -- one settled segment for each batch, in order
 abbrev pub SettleAll : WorldState → List (List Turn) → WorldState → Type 0
 SettleAll world [] last = world ≡ last
-SettleAll world (batch ∷ batches) last = (turns : List Turn) × (next : WorldState) × IsSettled world batch turns next × SettleAll next batches last
+SettleAll world (batch ∷ batches) last =
+    (turns : List Turn) × (next : WorldState) × IsSettled world batch turns next × SettleAll next batches last
 
 -- the world as the commands of all batches make it
 abbrev pub commanded_by : WorldState → List (List Turn) → WorldState
 commanded_by world [] = world
 commanded_by world (batch ∷ batches) = commanded_by (commanded world batch) batches
 
--- each batch, as they come one after another, leaves such a world: its commands and those of the batches before it make one
+-- each batch, as they come one after another, leaves such a world: its commands and those of the batches before it make
+-- one
 abbrev pub EachLeaves : (WorldState → Type 0) → WorldState → List (List Turn) → Type 0
 EachLeaves P world batches = (k : ℕ) → k < length batches → P (commanded_by world (take (suc k) batches))
 

@@ -34,7 +34,8 @@ abbrev pub media_by : MediaChange → List SlotMedia → List SlotMedia
 media_by (Hear local on) media = media_with (with_hearing on) local media
 media_by (Talk local on) media = media_with (with_talking on) local media
 
--- what an event makes of the settings: a Set changes goals, a Hear or a Talk the media of its slot, and others leave both
+-- what an event makes of the settings: a Set changes goals, a Hear or a Talk the media of its slot, and others leave
+-- both
 abbrev pub set_by : Event → Settings → Settings
 set_by (Set change) settings = record settings { goals = change_goals settings.goals change }
 set_by (Media change) settings = record settings { media = media_by change settings.media }
@@ -51,4 +52,5 @@ box_commanded turns who box = with_settings box (set_by_all (commands_of who tur
 
 -- a world whose boxes have these settings, and are else as they were
 abbrev pub commanded : WorldState → List Turn → WorldState
-commanded world turns = record world { boxes = map (λ entry. box_commanded turns entry.0 entry.1) (enumerate_from 0 world.boxes) }
+commanded world turns =
+    record world { boxes = map (λ entry. box_commanded turns entry.0 entry.1) (enumerate_from 0 world.boxes) }

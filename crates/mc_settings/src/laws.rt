@@ -67,7 +67,7 @@ pub fn no_ring_is_met()
     ensures { NoRingIsMet }
 {}
 
-/// And after a settled segment of that batch the commands of the batches behind it leave none.
+/// And after a settled segment of that batch the commands of the batches after it leave none.
 pub fn no_ring_stays()
     ensures { NoRingStays }
 {}
@@ -95,7 +95,7 @@ pub fn decided_is_left()
     ensures { DecidedIsLeft }
 {}
 
-/// And after a settled segment of that batch the commands of the batches behind it leave none.
+/// And after a settled segment of that batch the commands of the batches after it leave none.
 pub fn decided_stays()
     ensures { DecidedStays }
 {}

@@ -25,4 +25,14 @@ pub none_blank : IsBlankFrom 0 no_entries
 none_blank k above = grind (arith, common_steps)
 
 abbrev pub no_codecs : CodecList
-no_codecs = record { len = 0; at = no_entries; places = none_places; short = none_short; known = none_known; distinct = none_distinct; blank = none_blank }
+no_codecs =
+    record {
+      len = 0;
+      at = no_entries;
+      places = none_places;
+      short = none_short;
+      known = none_known;
+      distinct =
+          none_distinct;
+      blank = none_blank;
+    }

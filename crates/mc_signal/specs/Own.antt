@@ -13,7 +13,8 @@ address_of who = who + 1
 abbrev pub port_of : ℕ → ℕ
 port_of local = 5000 + local
 
--- the newest descriptor of a device's slot: it offers the list that the device receives, and nothing where hearing is off
+-- the newest descriptor of a device's slot: it offers the list that the device receives, and nothing where hearing is
+-- off
 abbrev pub device_descriptor : (origin version addr port : ℕ) → Bool → CodecList → Descriptor
 device_descriptor origin version addr port hears receives = record {
   origin = origin;

@@ -57,7 +57,8 @@ Takes old signal answer new = FitsMedium old signal × TakesIn old.state old sig
 
 -- the function of sending and its table are one
 abbrev pub SendsByTable : Type 0
-SendsByTable = (slot : Slot) (signal : Signal) (after : Slot) → (slot_send slot signal ≡ Some after) ↔ MaySend slot signal after
+SendsByTable =
+    (slot : Slot) (signal : Signal) (after : Slot) → (slot_send slot signal ≡ Some after) ↔ MaySend slot signal after
 
 -- the function of taking and its table are one
 abbrev pub TakesByTable : Type 0

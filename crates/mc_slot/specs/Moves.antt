@@ -12,7 +12,17 @@ use Rattle.mc_slot.specs.declared.State.TheVariants.{Closed, Opening, Opened, Fl
 
 -- a closed slot, which keeps nothing
 abbrev pub closed_slot : Medium → Bool → Slot
-closed_slot medium initiator = record { state = Closed; medium = medium; initiator = initiator; sent = None; got = None; sel_out = None; sel_in = None }
+closed_slot medium initiator =
+    record {
+      state = Closed;
+      medium = medium;
+      initiator = initiator;
+      sent = None;
+      got = None;
+      sel_out = None;
+      sel_in =
+          None;
+    }
 
 -- a slot that enters a state and keeps nothing
 abbrev pub clear : Slot → State → Slot

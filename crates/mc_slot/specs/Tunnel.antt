@@ -36,7 +36,8 @@ abbrev pub Meet : Option Slot → Option Slot → Type 0
 Meet (Some a) (Some b) = Agree a b
 Meet a b = ⊥
 
--- each signal is lawful when its turn comes, the outlooks agree, closes and closeacks are counted, and each slot keeps what its state allows
+-- each signal is lawful when its turn comes, the outlooks agree, closes and closeacks are counted, and each slot keeps
+-- what its state allows
 pub record TunnelSound (a : Slot) (to_a : List Signal) (b : Slot) (to_b : List Signal) : Type 0 where
   pub medium : a.medium ≡ b.medium
   pub sides : a.initiator ≡ not b.initiator

@@ -121,7 +121,7 @@ build_more counts all level above sums several built =
       same = grouped_sum level above sums ∙ built.same;
     }
 
--- as code does it: the last level is put behind the others, and the next one is made of it
+-- as code does it: the last level is put after the others, and the next one is made of it
 pub build_pushed : (counts : List ℕ) (all levels : List (List ℕ)) (level above : List ℕ) → IsBuilt counts (all ++ level ∷ []) level → levels ≡ all ++ level ∷ [] → AreGroupSums level above → 1 < length level → IsBuilt counts (levels ++ above ∷ []) above
 build_pushed counts all levels level above built pushed sums several = subst (λ (l : List (List ℕ)). IsBuilt counts (l ++ above ∷ []) above) (sym pushed) (build_more counts (all ++ level ∷ []) level above sums several built)
 

@@ -48,7 +48,7 @@ before_set level group i v past =
     ap (λ (n : ℕ). slice_chunk (set level n v) FAN group) (sym place)
     ∙ (ap (take FAN) (drop-set-add (group * FAN) level (i - group * FAN) v) ∙ take-set-le FAN (drop (group * FAN) level) (i - group * FAN) v (omega arith))
 
--- nor one behind it
+-- nor one after it
 behind_set : (level : List ℕ) (group i v : ℕ) → i < group * FAN → slice_chunk (set level i v) FAN group ≡ slice_chunk level FAN group
 behind_set level group i v low = ap (take FAN) (drop-set-lt (group * FAN) level i v low)
 

@@ -155,7 +155,7 @@ group_fits levels depth place sums some inside =
     let all : sum (take (suc place * FAN) level) ≤ sum level = sum_by-take-le (λ (n : ℕ). n) level (suc place * FAN) in
     omega arith
 
--- so what is searched for lies there behind what stands before the group
+-- so what is searched for lies there after what stands before the group
 pub group_has : (levels : List (List ℕ)) (k depth place rest : ℕ) → AreSums levels → 0 < depth → IsAt levels k depth place rest
     → sum (take (place * FAN) (level_at levels (depth - 1))) + rest < sum (level_at levels (depth - 1))
 group_has levels k depth place rest sums some at =

@@ -6,7 +6,8 @@ use Rattle.std.specs.declared.alloc.Global.{Global}
 use Rattle.mc_sums.specs.declared.levels.TheConstants.{FAN}
 use Rattle.mc_sums.specs.declared.limit.TheConstants.{COUNT_LIMIT}
 
--- the level above another one: each of its numbers is the sum of a group of FAN neighbours there; the last group has what is left
+-- the level above another one: each of its numbers is the sum of a group of FAN neighbours there; the last group has
+-- what is left
 pub record AreGroupSums (level above : List ℕ) : Type 0 where
   pub long : length above ≡ div_ceil (length level) FAN
   pub each : (group : ℕ) → slice_index_or above group 0 ≡ sum (slice_chunk level FAN group)
@@ -37,7 +38,8 @@ levels_after levels depth place less more = slice_set levels depth (level_after 
 -- each level has the sums of the one below it, and the last has one number at most, the others more; places fit
 pub record AreSums (levels : List (List ℕ)) : Type 0 where
   pub some : 0 < length levels
-  pub groups : (depth : ℕ) → depth + 1 < length levels → AreGroupSums (level_at levels depth) (level_at levels (depth + 1))
+  pub groups : (depth : ℕ) → depth + 1 < length levels
+      → AreGroupSums (level_at levels depth) (level_at levels (depth + 1))
   pub few : (depth : ℕ) → length (level_at levels depth) ≤ 2 ^ 32
   pub many : (depth : ℕ) → depth + 1 < length levels → 1 < length (level_at levels depth)
   pub top : length (level_at levels (length levels - 1)) ≤ 1
@@ -67,5 +69,6 @@ abbrev pub LieBehind : (level other : List ℕ) → (first k : ℕ) → Type 0
 LieBehind level other first k = sum (take first level) + sum (take first other) + k < sum level + sum other
 
 pub record AreKth (level other : List ℕ) (first k place rest : ℕ) : Type 0 where
-  pub before : sum (take place level) + sum (take place other) + rest ≡ sum (take first level) + sum (take first other) + k
+  pub before : sum (take place level) + sum (take place other) + rest
+      ≡ sum (take first level) + sum (take first other) + k
   pub within : rest < slice_index_or level place 0 + slice_index_or other place 0

@@ -8,7 +8,7 @@ use std::alloc::{AllocError, Global};
 use std::marker::Model;
 
 /// Counts at places 0, 1, .., kept so that the k-th of all that is counted is found, and a count
-/// changed, in a time that hangs on the number of places by its logarithm alone. A count is at most
+/// changed, in a time that depends on the number of places by its logarithm alone. A count is at most
 /// `COUNT_LIMIT`, and there are at most 2^32 places.
 #[derive(Debug, Drop)]
 pub struct Sums {

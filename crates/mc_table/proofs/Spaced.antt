@@ -14,7 +14,7 @@ pub join-cons : (word : List ℕ) (words : List (Bor (List ℕ))) → join_with_
 join-cons word [] = rw (append-nil word) refl
 join-cons word (next ∷ words) = ap (λ (rest : List ℕ). word ++ 32 ∷ rest) (join-cons next.now words)
 
--- the first word, all others behind spaces, and a line end are the line
+-- the first word, all others after spaces, and a line end are the line
 pub line_is : (before first : List ℕ) (others : List (Bor (List ℕ))) (i : ℕ) → length others ≤ i
     → ((before ++ first) ++ flat_map behind_space (take i others)) ++ 10 ∷ [] ≡ before ++ line_of (first ∷ map bytes_of others)
 line_is before first others i past =
@@ -24,6 +24,6 @@ line_is before first others i past =
 pub begins : (before first more : List ℕ) → take (length before) ((before ++ first) ++ more) ≡ before
 begins before first more = rw (append_assoc before first more) (take_at before (first ++ more) (length before) refl)
 
--- and still is, where more comes behind it
+-- and still is, where more comes after it
 pub begins_more : (before first more last : List ℕ) → take (length before) (((before ++ first) ++ more) ++ last) ≡ before
 begins_more before first more last = rw (append_assoc (before ++ first) more last) (begins before first (more ++ last))

@@ -7,7 +7,7 @@ use mc_signal::Medium;
 use mc_slot::Goal;
 use mc_text::Names;
 
-/// The goals of a path's two ends, with a space before each and one behind both.
+/// The goals of a path's two ends, with a space before each and one after both.
 pub fn goals_words(low: Goal, high: Goal) -> &'static [u8]
     ensures { result.now ≡ 32 ∷ goal_word low ++ 32 ∷ goal_word high ++ 32 ∷ [] }
 {
@@ -24,7 +24,7 @@ pub fn goals_words(low: Goal, high: Goal) -> &'static [u8]
     }
 }
 
-/// Whether a path flows, its medium, and the line end behind them.
+/// Whether a path flows, its medium, and the line end after them.
 pub fn state_words(flowing: bool, medium: Medium) -> &'static [u8]
     ensures { result.now ≡ flow_word flowing ++ 32 ∷ medium_word medium ++ 10 ∷ [] }
 {

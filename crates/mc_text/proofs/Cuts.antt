@@ -27,7 +27,7 @@ first_or_end p bytes (Some place) is = sym (position_or_len_is p bytes place 0 (
 module _ (p : ℕ → Bool) where
   -- the first piece, and the others
   pub record IsCut (bytes : List ℕ) : Type 0 where
-    -- behind a byte that passes there are further pieces
+    -- after a byte that passes there are further pieces
     pub more : position_or_len p bytes < length bytes → slice_split p bytes ≡ before_first p bytes ∷ slice_split p (after_first p bytes)
     -- what begins with that byte begins with an empty piece
     pub stop : position_or_len p bytes < length bytes → slice_split p (drop (position_or_len p bytes) bytes) ≡ [] ∷ slice_split p (after_first p bytes)
@@ -65,7 +65,7 @@ module _ (p : ℕ → Bool) where
   some_pieces [] = ([], [], refl)
   some_pieces (byte ∷ bytes) = some_pieces-cons byte bytes (p byte) refl
 
-  -- a text that isn't empty has its first line, and those of what stands behind that line's end
+  -- a text that isn't empty has its first line, and those of what stands after that line's end
   pub first_line : (text : List ℕ) → 0 < length text → without_empty_last (slice_split p text) ≡ before_first p text ∷ without_empty_last (slice_split p (after_first p text))
   first_line text some =
       elim (cases_lt (position_or_len p text) (length text)) [
@@ -77,7 +77,7 @@ module _ (p : ℕ → Bool) where
             rw ((cut text).last le, gone, whole, has) refl
       ]
 
-  -- the line that begins at a place, and those behind its end
+  -- the line that begins at a place, and those after its end
   pub line_from : (text : List ℕ) (from len : ℕ) → from < length text → len ≡ position_or_len p (drop from text)
       → without_empty_last (slice_split p (drop from text)) ≡ slice_range text from (from + len) ∷ without_empty_last (slice_split p (drop (from + len + 1) text))
   line_from text from len within is =

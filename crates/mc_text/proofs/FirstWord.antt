@@ -49,7 +49,7 @@ module _ (p : ℕ → Bool) where
   stops-cons byte line true e others some = rw (e, one_suc) (others (let here : 1 + spaces line < suc (length line) = (rw e at some) in omega arith))
   stops-cons byte line false e others some = rw e (rw e (omega arith))
 
-  -- what stands behind the spaces in front is no space
+  -- what stands after the spaces in front is no space
   pub stops : (line : List ℕ) → spaces line < length line → 0 < first_len (drop (spaces line) line)
   stops [] some = absurd (omega arith)
   stops (byte ∷ line) some = stops-cons byte line (p byte) refl (stops line) some
@@ -66,13 +66,13 @@ module _ (p : ℕ → Bool) where
   pub cut_word : (line : List ℕ) (start len : ℕ) → position (λ byte. not (p byte)) line ≡ Some start → len ≡ first_len (drop start line) → pieces line ≡ take len (drop start line) ∷ pieces (drop len (drop start line))
   cut_word line start len found is = rw is (first_piece line start found).1
 
--- the first word behind `from` stands from `start` to `end`
+-- the first word after `from` stands from `start` to `end`
 pub record IsFirstWord (p : ℕ → Bool) (line : List ℕ) (from start end : ℕ) : Type 0 where
   pub some : start < end
   pub within : end ≤ length line
   pub next : pieces p (drop from line) ≡ slice_range line start end ∷ pieces p (drop end line)
 
--- places in what stands behind `from` are places in the line
+-- places in what stands after `from` are places in the line
 pub found_at : (p : ℕ → Bool) (line : List ℕ) (from start len : ℕ) → from ≤ length line → position (λ byte. not (p byte)) (drop from line) ≡ Some start → len ≡ first_len p (drop start (drop from line)) → len ≤ length (drop start (drop from line)) → IsFirstWord p line from (from + start) (from + start + len)
 found_at p line from start len inside found is short =
     let f = first_piece p (drop from line) start found in

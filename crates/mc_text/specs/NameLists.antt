@@ -29,7 +29,8 @@ slot_names names who = slice_index_or names.slots who []
 
 -- a slot and its box, as `box/slot`
 abbrev pub slot_word : NameLists → ℕ → ℕ → List ℕ
-slot_word names who slot = slice_index_or names.boxes who [] ++ codes "/" ++ slice_index_or (slot_names names who) slot []
+slot_word names who slot =
+    slice_index_or names.boxes who [] ++ codes "/" ++ slice_index_or (slot_names names who) slot []
 
 abbrev pub with_codec_name : NameLists → List ℕ → NameLists
 with_codec_name names name = record names { codecs = with_name names.codecs name }
@@ -39,19 +40,23 @@ abbrev pub with_box_name : NameLists → List ℕ → NameLists
 with_box_name names name = record names { boxes = with_name names.boxes name; slots = names.slots ++ [] ∷ [] }
 
 abbrev pub with_slot_name : NameLists → ℕ → List ℕ → NameLists
-with_slot_name names who name = record names { slots = slice_set names.slots who (with_name (slot_names names who) name) }
+with_slot_name names who name =
+    record names { slots = slice_set names.slots who (with_name (slot_names names who) name) }
 
 -- a told word is added once
 abbrev pub with_told_word : NameLists → List ℕ → NameLists
-with_told_word names name = if is_some (place_of names.told name) then names else record names { told = with_name names.told name }
+with_told_word names name =
+    if is_some (place_of names.told name) then names else record names { told = with_name names.told name }
 
 -- every one is a name, and none stands twice
 pub record AreNames (names : List (List ℕ)) : Type 0 where
   pub spelt : (i : ℕ) → i < length names → IsTrue (is_name (slice_index_or names i []))
-  pub distinct : (i j : ℕ) → i < j → j < length names → bytes_eq (slice_index_or names j []) (slice_index_or names i []) ≡ false
+  pub distinct : (i j : ℕ) → i < j → j < length names
+      → bytes_eq (slice_index_or names j []) (slice_index_or names i []) ≡ false
 
 -- no list has more names than it may have, and every box has its list of slots
-pub record HaveRoom (all_codecs all_boxes : List (List ℕ)) (all_slots : List (List (List ℕ))) (all_told : List (List ℕ)) : Type 0 where
+pub record HaveRoom (all_codecs all_boxes : List (List ℕ)) (all_slots : List (List (List ℕ)))
+    (all_told : List (List ℕ)) : Type 0 where
   pub listed : length all_slots ≡ length all_boxes
   pub codecs : length all_codecs ≤ CODEC_LIMIT
   pub boxes : length all_boxes ≤ BOX_LIMIT

@@ -28,7 +28,8 @@ is_name word = is_spelt word && nat_le (length word) NAME_LIMIT
 -- `0`, or 1 to 10 digits without a leading zero
 abbrev pub is_numeral : List ℕ → Bool
 is_numeral [] = false
-is_numeral (first ∷ others) = list_all is_digit (first ∷ others) && nat_lt (length others) 10 && (length others == 0 || not (first == 48))
+is_numeral (first ∷ others) =
+    list_all is_digit (first ∷ others) && nat_lt (length others) 10 && (length others == 0 || not (first == 48))
 
 -- the number that a word spells
 abbrev pub number_of : List ℕ → Option ℕ

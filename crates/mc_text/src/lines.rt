@@ -17,7 +17,7 @@ pub fn line_end(text: &[u8], from: usize) -> usize
     from + line_len(rest_of(text, from))
 }
 
-/// The first line of a text without its end, and what stands behind that end.
+/// The first line of a text without its end, and what stands after that end.
 #[inline]
 pub fn next_line(text: &[u8]) -> (&[u8], &[u8])
     requires { 0 < length text.now }

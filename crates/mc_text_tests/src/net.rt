@@ -17,7 +17,7 @@ const PHONES: &[u8] =
 
 const SENDERS: &[u8] = b"media 2\ncodec g711\ncodec g729\ndev alice g711 g729\n";
 
-// Two phones of which the first sends less than it receives, behind the version line.
+// Two phones of which the first sends less than it receives, after the version line.
 const SENDS: &[u8] =
     b"codec g711\ncodec g729\ndev alice g711 g729\nsend alice g729\ndev bob g729\nchan audio alice a bob a\nbegin\n";
 
@@ -53,7 +53,7 @@ pub fn rest_of(alloc: Global, parts: &[&[u8]], tail: Tail) -> Result<usize, Plac
     }
 }
 
-// Behind the first lines, the lines of each row are refused by its number and line.
+// After the first lines, the lines of each row are refused by its number and line.
 fn are_refused(rt: &impl Abort, alloc: Global, first: &[u8], rows: &[(&[u8], Place)]) {
     for (lines, want) in rows {
         is_equal(
@@ -64,7 +64,7 @@ fn are_refused(rt: &impl Abort, alloc: Global, first: &[u8], rows: &[(&[u8], Pla
     }
 }
 
-// Declarations behind the codecs.
+// Declarations after the codecs.
 const DECLARATIONS: [(&[u8], Place); 10] = [
     (b"", (16, 4)),
     (b"dev alice g723\n", (4, 4)),
@@ -81,7 +81,7 @@ const DECLARATIONS: [(&[u8], Place); 10] = [
     (b"feat f\nprog f s\nbegin\n", (15, 6)),
 ];
 
-// Commands behind the phones.
+// Commands after the phones.
 const COMMANDS: [(&[u8], Place); 6] = [
     (b"set alice a\n", (6, 8)),
     (b"set bob a hold\nsettle now\n", (7, 9)),
@@ -92,7 +92,7 @@ const COMMANDS: [(&[u8], Place); 6] = [
     (b"tell alice swap\n", (4, 8)),
 ];
 
-// Send lines behind their codecs and a device.
+// Send lines after their codecs and a device.
 const SEND_LINES: [(&[u8], Place); 9] = [
     (b"send alice g723\n", (4, 5)),
     (b"send carol g711\n", (4, 5)),
@@ -126,7 +126,7 @@ fn lines_break_these_rules(rt: HostRuntime) {
     are_refused(&rt, rt.alloc(), NINE, &SENT_CODECS);
 }
 
-// Behind the first lines, none of these has a fault.
+// After the first lines, none of these has a fault.
 fn have_no_fault(rt: &impl Abort, alloc: Global, first: &[u8], rows: &[&[u8]]) {
     for lines in rows {
         is_equal(
@@ -291,7 +291,7 @@ fn has_batch(rt: &impl Abort, batches: &[Batch]) {
     is_equal(rt, &&batches[0].turns[..], &&batch[..]);
 }
 
-// The two phones, with commands behind them.
+// The two phones, with commands after them.
 const DECLARED: &[u8] =
     b"media 1\ncodec g711\ncodec g729\ndev alice g711 g729\ndev bob g729\nchan audio alice a bob a\nbegin\nset alice a open\nset bob a hold\nsettle\nset alice a close";
 

@@ -9,7 +9,7 @@ fn phones() -> &'static [u8] {
     b"media 1\ndev alice\ndev bob\nchan audio alice a bob a\nbegin\n"
 }
 
-// Where what is read of a text ends, or its fault: where a journal may stand behind its commands, and where none may.
+// Where what is read of a text ends, or its fault: where a journal may stand after its commands, and where none may.
 type Ends = (Result<usize, Place>, Result<usize, Place>);
 
 // The text that is put together of these parts ends so.
@@ -19,8 +19,8 @@ fn ends_so(rt: &impl Abort, alloc: Global, parts: &[&[u8]], want: Ends) {
     is_equal(rt, &(with, without), &want);
 }
 
-// Commands of the two phones, what stands behind the line that ends them, and the line of the fault that they have
-// where no journal may stand behind them.
+// Commands of the two phones, what stands after the line that ends them, and the line of the fault that they have
+// where no journal may stand after them.
 const ENDED: [(&[u8], &[u8], u32); 5] = [
     (b"journal\n", b"", 6),
     (b"journal", b"", 6),
@@ -45,7 +45,7 @@ fn what_stands_behind_journal_is_not_read(rt: HostRuntime) {
     }
 }
 
-// Commands that no line ends, and their fault, whatever may stand behind them.
+// Commands that no line ends, and their fault, whatever may stand after them.
 const UNENDED: [(&[u8], Option<Place>); 4] = [
     (b"", None),
     (b"settle\n# journal\n", None),
@@ -61,7 +61,7 @@ fn a_text_may_lack_its_journal(rt: HostRuntime) {
     }
 }
 
-// Lines that have a fault, where a journal may stand behind the commands and where none may.
+// Lines that have a fault, where a journal may stand after the commands and where none may.
 const WITHOUT_PHONES: [(&[u8], Place, Place); 3] = [
     (b"journal\n", (17, 1), (17, 1)),
     (b"media 1\njournal\nbegin\n", (5, 2), (5, 2)),

@@ -1,4 +1,4 @@
--- `check` accepts what a run printed as its journal, behind the text of the run.
+-- `check` accepts what a run printed as its journal, after the text of the run.
 use Rattle.std.proofs.Common.{◌≡◌, ◌≤◌, ℕ, true, false, List, drop, length, map, Option, Some, refl, ap, sym, ◌∙◌, subst, append_assoc, arith}
 use Rattle.std.proofs.Math.Seq.{drop-append_seam}
 use Rattle.mc_box.specs.BoxShapes.{BoxShapeState}
@@ -28,7 +28,7 @@ use Rattle.mc_words.specs.declared.words.Mode.TheVariants.{Check, Conf, Gen, One
 
 -- ---- the same network
 
--- has the same lines of a journal behind a text
+-- has the same lines of a journal after a text
 same_lines : (text : List ℕ) (net other : Net) → IsSameNet net other → tail_lines net.names net.shape text net.rest ≡ tail_lines other.names other.shape text other.rest
 same_lines text net other same =
     ap (λ (names : NameLists). tail_lines names net.shape text net.rest) same.names
@@ -80,7 +80,7 @@ accepts text net journal declares good lines = record {
 
 -- ---- a printed journal
 
--- the network of a text with its journal, which begins behind the line `journal`
+-- the network of a text with its journal, which begins after the line `journal`
 abbrev next_net : List ℕ → Net → Net
 next_net text net = record net { rest = length (up_to_journal text) }
 

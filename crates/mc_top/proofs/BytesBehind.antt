@@ -1,4 +1,4 @@
--- The bytes of a journal behind a text: where the last line end stands, and how many lines there may be.
+-- The bytes of a journal after a text: where the last line end stands, and how many lines there may be.
 use Rattle.std.proofs.Common.{◌≡◌, ◌+◌, ◌-◌, ◌<◌, ◌≤◌, ◌==◌, ◌||◌, ℕ, Bool, true, false, not, List, [], ◌∷◌, drop, if◌then◌else◌, length, nat_lt, take, refl, ap, sym, ◌∙◌, arith}
 use Rattle.std.proofs.lemmas.List.{length-append, length-drop, length-map, length-take, length-take-le, take-take, take_all}
 use Rattle.std.proofs.lemmas.List.Splits.{length-slice_split}
@@ -20,7 +20,7 @@ use Rattle.mc_lines.specs.declared.limit.TheConstants.{JOURNAL_TEXT_LIMIT}
 abbrev is_inside : ℕ → Bool
 is_inside byte = not (is_line_end byte)
 
--- no line end stands at a place or behind it
+-- no line end stands at a place or after it
 pub record HasNoEndFrom (bytes : List ℕ) (end : ℕ) : Type 0 where
   pub within : end ≤ length bytes
   pub counted : suffix_len is_inside bytes ≡ (length bytes - end) + suffix_len is_inside (take end bytes)

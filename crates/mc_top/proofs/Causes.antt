@@ -19,15 +19,15 @@ use Rattle.mc_laws.specs.Chains.{ClosesNoChain}
 use Rattle.mc_top.specs.Words.{RestsByWords}
 use Rattle.mc_laws.specs.Versions.{PassesLast}
 use Rattle.mc_model.specs.Settles.{hears_in}
-use Rattle.mc_top.specs.declared.stop.Stop.{Stop}
-use Rattle.mc_top.specs.declared.stop.Stop.TheVariants.{Restless, Ring, VersionEnd}
+use Rattle.mc_top.specs.declared.stop.SettleStop.{SettleStop}
+use Rattle.mc_top.specs.declared.stop.SettleStop.TheVariants.{Restless, Ring, VersionEnd}
 use Rattle.mc_top.proofs.LastVersions.{none_passes, same_says, stopped_passes}
 use Rattle.mc_top.proofs.LeftRings.{stopped_leaves}
 use Rattle.mc_top.proofs.NamedRings.{closes_none}
 use Rattle.mc_top.proofs.ToldWords.{none_restless, words_rest}
 
 -- whatever the stop is
-pub ran_shows : (stop : Option Stop) (batches : List (List Turn)) (world : WorldState) (journal : List JournalLine) → IsSound world → IsJournalTo stop world batches journal → ShowsCause stop world batches
+pub ran_shows : (stop : Option SettleStop) (batches : List (List Turn)) (world : WorldState) (journal : List JournalLine) → IsSound world → IsJournalTo stop world batches journal → ShowsCause stop world batches
 ran_shows None batches world journal sound ran = tt
 ran_shows (Some (VersionEnd at)) batches world journal sound ran = stopped_passes batches world at journal sound ran
 ran_shows (Some (Ring at)) batches world journal sound ran =
@@ -36,7 +36,7 @@ ran_shows (Some (Restless at)) batches world journal sound ran =
     (λ unprogrammed. none_restless batches world at journal sound ran unprogrammed, λ rests. words_rest batches world at journal sound ran rests)
 
 -- what a stop shows doesn't hold of such a world
-none_shown : (stop : Stop) (world : WorldState) (batches : List (List Turn)) → (PassesLast world (λ who local. hears_in who local batches) → ⊥)
+none_shown : (stop : SettleStop) (world : WorldState) (batches : List (List Turn)) → (PassesLast world (λ who local. hears_in who local batches) → ⊥)
     → (HasNoPrograms world × LeavesNoRing world batches) ⊎ (RestsByWords world batches × ClosesNoChain world batches) → ShowsCause (Some stop) world batches → ⊥
 none_shown (VersionEnd at) world batches below either shows = below shows
 none_shown (Ring at) world batches below (inl (unprogrammed, none)) shows = shows.0 unprogrammed none
@@ -51,7 +51,7 @@ first_rests d world (inl (unprogrammed, none)) first = inl (unprogrammed_texts d
 first_rests d world (inr by_names) first = inr (by_names world first)
 
 -- no stop shows its cause in the network of such a text
-pub never_stops : (stop : Stop) (text : List ℕ) (d : Declared) (net : Net) → Says Nothing text d → MeetsNoLast d → AlwaysRests d → DeclaresNet Nothing text net
+pub never_stops : (stop : SettleStop) (text : List ℕ) (d : Declared) (net : Net) → Says Nothing text d → MeetsNoLast d → AlwaysRests d → DeclaresNet Nothing text net
     → ShowsCause (Some stop) net.world (map batch_turns net.batches.items) → ⊥
 never_stops stop text d net says none rests declares shows =
     let same = same_says text declares.declared d declares.says says in

@@ -6,7 +6,7 @@ use Rattle.mc_replay.specs.Journals.{HoldsAtSettles, IsJournal}
 use Rattle.mc_replay.specs.Segments.{EachKeepsShiftLimit}
 use Rattle.mc_top.specs.Journals.{IsJournalTo, IsStoppedJournal, ShowsCause}
 use Rattle.mc_top.specs.Drawn.{FollowsDraws}
-use Rattle.mc_program.proofs.Found.{found_within}
+use Rattle.mc_program_lines.proofs.Found.{found_within}
 use Rattle.mc_text.specs.NameLists.{place_of}
 use Rattle.std.specs.Option.{unwrap_or}
 use Rattle.mc_top.specs.Shown.{HasNamedBox}
@@ -27,8 +27,8 @@ use Rattle.mc_top.specs.Statuses.{IsDueForText, due_by, keeps_journal, stop_stat
 use Rattle.mc_top.specs.Top.{Delivers, Ends, StopsScript, ToldJournal}
 use Rattle.mc_script.specs.declared.command.JournalLine.{JournalLine}
 use Rattle.mc_top.specs.declared.report.Report.{Report}
-use Rattle.mc_top.specs.declared.stop.Stop.{Stop}
-use Rattle.mc_top.specs.declared.stop.Stop.TheVariants.{Restless, Ring, VersionEnd}
+use Rattle.mc_top.specs.declared.stop.SettleStop.{SettleStop}
+use Rattle.mc_top.specs.declared.stop.SettleStop.TheVariants.{Restless, Ring, VersionEnd}
 use Rattle.mc_words.specs.Commands.{prints_journal}
 use Rattle.mc_words.specs.declared.words.Mode.{Mode}
 use Rattle.mc_words.specs.declared.words.Mode.TheVariants.{Check, Conf, Gen, One, Run, Scene}
@@ -42,7 +42,7 @@ printed_by (Gen number size) net journal runs = refl
 printed_by (Scene scene) net journal runs = refl
 printed_by (Conf name) net journal runs = refl
 
--- a mode that runs a script reads a text behind whose commands nothing stands
+-- a mode that runs a script reads a text after whose commands nothing stands
 runs_reads : (mode : Mode) → checks mode ≡ false → tail_of mode ≡ Nothing
 runs_reads (Run asked) runs = refl
 runs_reads (One state asked) runs = refl
@@ -51,8 +51,8 @@ runs_reads (Gen number size) runs = refl
 runs_reads (Scene scene) runs = refl
 runs_reads (Conf name) runs = refl
 
--- behind the line of a stop stands no journal
-stopped_by : (report : Report) (asked : Bool) (stop : Stop) (names : NameLists) (world : WorldState) (journal : List JournalLine) → run_text report asked names world (Some stop) journal ≡ stop_line names world stop
+-- after the line of a stop stands no journal
+stopped_by : (report : Report) (asked : Bool) (stop : SettleStop) (names : NameLists) (world : WorldState) (journal : List JournalLine) → run_text report asked names world (Some stop) journal ≡ stop_line names world stop
 stopped_by report true stop names world journal = refl
 stopped_by report false stop names world journal = refl
 
@@ -83,7 +83,7 @@ ends_worked mode text net old new status due journal output runs declared boxed 
 }
 
 -- or the script stopped, and the line of the stop was
-stops_script : (mode : Mode) (text : List ℕ) (net : Net) (stop : Stop) (old new : Option (List ℕ)) (status due : ℕ) (journal : List JournalLine) (output : List ℕ)
+stops_script : (mode : Mode) (text : List ℕ) (net : Net) (stop : SettleStop) (old new : Option (List ℕ)) (status due : ℕ) (journal : List JournalLine) (output : List ℕ)
     → checks mode ≡ false → DeclaresNet (tail_of mode) text net → has_box mode net.names net.world ≡ true → IsSound net.world → IsStoppedJournal stop net.world (map batch_turns net.batches.items) journal → FollowsDraws (draws_from mode) (Some stop) net.world (map batch_turns net.batches.items) journal
     → ShowsCause (Some stop) net.world (map batch_turns net.batches.items) → EachKeepsShiftLimit journal → output ≡ stop_line net.names net.world stop → due ≡ stop_status stop → Delivers status (stop_status stop) old new output
     → StopsScript mode (Some text) old new status due journal
@@ -103,17 +103,17 @@ stops_script mode text net stop old new status due journal output runs declared 
 }
 
 -- the status of a stop is that of a fault, of a restless box or of a ring, and each keeps the journal
-stop_by : (stop : Stop) (due : ℕ) → due ≡ stop_status stop → (due ≡ 1) ⊎ (due ≡ 6) ⊎ (due ≡ 7)
+stop_by : (stop : SettleStop) (due : ℕ) → due ≡ stop_status stop → (due ≡ 1) ⊎ (due ≡ 6) ⊎ (due ≡ 7)
 stop_by (VersionEnd at) due is = inl is
 stop_by (Restless at) due is = inr (inl is)
 stop_by (Ring at) due is = inr (inr is)
 
-stop_keeps : (stop : Stop) (due : ℕ) → due ≡ stop_status stop → keeps_journal due ≡ false → ⊥
+stop_keeps : (stop : SettleStop) (due : ℕ) → due ≡ stop_status stop → keeps_journal due ≡ false → ⊥
 stop_keeps (VersionEnd at) due is some = let here : keeps_journal 1 ≡ false = subst (λ (n : ℕ). keeps_journal n ≡ false) is some in cc
 stop_keeps (Restless at) due is some = let here : keeps_journal 6 ≡ false = subst (λ (n : ℕ). keeps_journal n ≡ false) is some in cc
 stop_keeps (Ring at) due is some = let here : keeps_journal 7 ≡ false = subst (λ (n : ℕ). keeps_journal n ≡ false) is some in cc
 
-ends_at_stop : (mode : Mode) (text : List ℕ) (stop : Stop) (old new : Option (List ℕ)) (status due : ℕ) (journal : List JournalLine) → due ≡ stop_status stop
+ends_at_stop : (mode : Mode) (text : List ℕ) (stop : SettleStop) (old new : Option (List ℕ)) (status due : ℕ) (journal : List JournalLine) → due ≡ stop_status stop
     → StopsScript mode (Some text) old new status due journal → Ends mode (Some text) old new status due journal
 ends_at_stop mode text stop old new status due journal is stops =
     let either : (due ≡ 1) ⊎ (due ≡ 6) ⊎ (due ≡ 7) = stop_by stop due is in
@@ -128,7 +128,7 @@ ends_at_stop mode text stop old new status due journal is stops =
     }
 
 -- what a run printed, by what its mode reports and whether it asks for the journal
-pub run_is : (mode : Mode) (report : Report) (asked : Bool) (stop : Option Stop) (names : NameLists) (world : WorldState) (journal : List JournalLine) (text whole : List ℕ)
+pub run_is : (mode : Mode) (report : Report) (asked : Bool) (stop : Option SettleStop) (names : NameLists) (world : WorldState) (journal : List JournalLine) (text whole : List ℕ)
     → report ≡ report_of mode names → asked ≡ prints_journal mode → text ≡ script_text report names world stop journal → whole ≡ with_journal asked stop names journal text
     → whole ≡ run_text (report_of mode names) (prints_journal mode) names world stop journal
 run_is mode report asked stop names world journal text whole reported flag is printed =
@@ -137,14 +137,14 @@ run_is mode report asked stop names world journal text whole reported flag is pr
     ∙ ap (λ (t : List ℕ). with_journal (prints_journal mode) stop names journal t) (is ∙ ap (λ (r : Report). script_text r names world stop journal) reported))
 
 -- the status of a script may be due for a text
-pub due_for_text : (stop : Option Stop) (due : ℕ) → due ≡ due_by stop → IsDueForText due
+pub due_for_text : (stop : Option SettleStop) (due : ℕ) → due ≡ due_by stop → IsDueForText due
 due_for_text None due is = inl is
 due_for_text (Some (VersionEnd at)) due is = inr (inl is)
 due_for_text (Some (Restless at)) due is = inr (inr (inr (inl is)))
 due_for_text (Some (Ring at)) due is = inr (inr (inr (inr (inl is))))
 
 -- a script was run to its end, or to a stop
-pub ends_ran : (stop : Option Stop) (mode : Mode) (text : List ℕ) (net : Net) (old new : Option (List ℕ)) (status due : ℕ) (journal : List JournalLine) (output : List ℕ)
+pub ends_ran : (stop : Option SettleStop) (mode : Mode) (text : List ℕ) (net : Net) (old new : Option (List ℕ)) (status due : ℕ) (journal : List JournalLine) (output : List ℕ)
     → checks mode ≡ false → DeclaresNet (tail_of mode) text net → has_box mode net.names net.world ≡ true → IsSound net.world → IsJournalTo stop net.world (map batch_turns net.batches.items) journal → FollowsDraws (draws_from mode) stop net.world (map batch_turns net.batches.items) journal
     → HoldsAtSettles net.world journal → ShowsCause stop net.world (map batch_turns net.batches.items) → EachKeepsShiftLimit journal
     → output ≡ run_text (report_of mode net.names) (prints_journal mode) net.names net.world stop journal → due ≡ due_by stop → Delivers status (due_by stop) old new output → Ends mode (Some text) old new status due journal

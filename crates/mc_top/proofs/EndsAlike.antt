@@ -20,7 +20,7 @@ use Rattle.mc_top.specs.Statuses.{judges_text, stop_status}
 use Rattle.mc_top.specs.Top.{Delivers, Refused, RefusesCheck, StopsScript, Worked}
 use Rattle.mc_top.specs.declared.report.Report.TheVariants.{Paths}
 use Rattle.mc_top.specs.declared.status.TheConstants.{WORKED, FAULTY_TEXT, RESTLESS, RING, JOURNAL_FAULT, NO_BOX}
-use Rattle.mc_top.specs.declared.stop.Stop.{Stop}
+use Rattle.mc_top.specs.declared.stop.SettleStop.{SettleStop}
 use Rattle.mc_top.specs.declared.top.Done.{Done}
 use Rattle.mc_top.proofs.SeenNets.{Seen, declared_same, seen}
 use Rattle.mc_top.proofs.Told.{fault_of_same, good_has_none}
@@ -36,7 +36,7 @@ declared_sound tail text net number line declares fault = declares_or_faults tai
 -- ---- journals
 
 -- there is one drawn journal, and one stop or none, of two networks that are seen as one
-drawn_same : DrawnJournalIsOne → (net other : Net) (stop instead : Option Stop) (state : ℕ) (journal more : List JournalLine) → seen net ≡ seen other → IsSound other.world
+drawn_same : DrawnJournalIsOne → (net other : Net) (stop instead : Option SettleStop) (state : ℕ) (journal more : List JournalLine) → seen net ≡ seen other → IsSound other.world
     → IsDrawnJournal stop state net.world (map batch_turns net.batches.items) journal → IsDrawnJournal instead state other.world (map batch_turns other.batches.items) more → (stop ≡ instead) × (journal ≡ more)
 drawn_same one_journal net other stop instead state journal more same sound one two =
     one_journal stop instead state other.world (map batch_turns other.batches.items) journal more sound
@@ -127,7 +127,7 @@ module _ (one_journal : DrawnJournalIsOne) (state : ℕ) (asked : Bool) (text : 
       let stop : one.stop ≡ two.stop = let whole : Some one.stop ≡ Some two.stop = drawn.0 in cc in
       let due : done.due ≡ other.due = one.due_is ∙ (ap stop_status stop ∙ sym two.due_is) in
       alike old new from to done other other.due (stop_line one.net.names one.net.world one.stop) (stop_line two.net.names two.net.world two.stop) due refl drawn.1
-      (ap (λ (n : Seen). stop_line n.names n.world one.stop) same ∙ ap (λ (s : Stop). stop_line two.net.names two.net.world s) stop)
+      (ap (λ (n : Seen). stop_line n.names n.world one.stop) same ∙ ap (λ (s : SettleStop). stop_line two.net.names two.net.world s) stop)
       (subst (λ (n : ℕ). Delivers done.status n old new (stop_line one.net.names one.net.world one.stop)) due one.delivered) two.delivered
 
   worked_stopped : (old new from to : Option (List ℕ)) (status end due : ℕ) (journal more : List JournalLine) → Worked (One state asked) (Some text) old new status journal

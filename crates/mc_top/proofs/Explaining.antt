@@ -24,7 +24,7 @@ use Rattle.mc_top.specs.Printed.{fault_line, feature_words, journal_fault_line, 
 use Rattle.mc_top.specs.Statuses.{due_by}
 use Rattle.mc_top.specs.declared.report.Report.{Report}
 use Rattle.mc_top.specs.declared.run.Run.{Run as Ran}
-use Rattle.mc_top.specs.declared.stop.Stop.{Stop}
+use Rattle.mc_top.specs.declared.stop.SettleStop.{SettleStop}
 use Rattle.mc_top.specs.Reasons.{AreFeaturesOf, EndsFor, Explains, ExplainsDue, IsFaultByWords, IsFaultOf, IsFaultOfTold, IsJournalFaultOf, IsNoBox, IsTextFaultOf, PrintsStop, Told, of_box, of_journal, of_text, usage_reason}
 use Rattle.mc_top.specs.Top.{Delivers, IsTextFor, IsTextOf}
 use Rattle.mc_top.specs.declared.status.TheConstants.{FAULTY_TEXT, JOURNAL_FAULT, NO_BOX, USAGE}
@@ -105,7 +105,7 @@ told_for (Conf name) left text within is fault found = told_of Nothing left text
 -- ---- scripts and words
 
 -- what was printed for a stop has its word and a place
-pub prints_stop : (report : Report) (asked : Bool) (names : NameLists) (world : WorldState) (stop : Option Stop) (journal : List JournalLine) (output : List ℕ)
+pub prints_stop : (report : Report) (asked : Bool) (names : NameLists) (world : WorldState) (stop : Option SettleStop) (journal : List JournalLine) (output : List ℕ)
     → output ≡ run_text report asked names world stop journal → PrintsStop stop output
 prints_stop report asked names world None journal output is = tt
 prints_stop report true names world (Some stop) journal output is = (stop_place names world stop, is)

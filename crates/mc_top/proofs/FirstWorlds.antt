@@ -6,8 +6,8 @@ use Rattle.mc_model.specs.Worlds.{ChannelState, WorldState}
 use Rattle.mc_plan.specs.Layouts.{programmed, with_program}
 use Rattle.mc_plan.specs.Plans.{boxes_from, world_of}
 use Rattle.mc_plan.specs.declared.plan.BoxPlan.{BoxPlan}
-use Rattle.mc_program.specs.Finished.{program_of}
-use Rattle.mc_program.specs.Programs.{BlockState}
+use Rattle.mc_program_lines.specs.Finished.{program_of}
+use Rattle.mc_program_lines.specs.Programs.{BlockState}
 use Rattle.mc_net.specs.Nets.{with_programs}
 use Rattle.mc_top.specs.Words.{FirstWorldsAwaitWords}
 

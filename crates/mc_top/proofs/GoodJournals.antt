@@ -1,4 +1,4 @@
--- What is printed as the journal of a run is good, behind the commands of a text of the same network.
+-- What is printed as the journal of a run is good, after the commands of a text of the same network.
 use Rattle.std.proofs.Common.{◌≡◌, ◌||◌, ◌∙◌, ℕ, Bool, false, List, ap, drop, map, subst, sym}
 use Rattle.mc_journal.specs.Printed.{print_journal}
 use Rattle.mc_journal.specs.Readings.{has_bad_line, journal_lines}
@@ -14,7 +14,7 @@ use Rattle.mc_top.proofs.BytesBehind.{all_behind}
 use Rattle.mc_top.proofs.NamedJournals.{runs_are_read_back}
 use Rattle.mc_top.proofs.Told.{good_has_none}
 
--- the lines behind the commands are those that were printed
+-- the lines after the commands are those that were printed
 printed_bytes : (text : List ℕ) (net : Net) (journal : List JournalLine) → is_too_long text ≡ false → drop net.rest text ≡ print_journal net.names journal → journal_bytes text net.rest ≡ print_journal net.names journal
 printed_bytes text net journal short printed = all_behind text net.rest short ∙ printed
 

@@ -35,7 +35,7 @@ use Rattle.mc_text.specs.NameLists.{NameLists}
 use Rattle.mc_top.specs.JournalLaws.{RunsAreReadBack}
 use Rattle.mc_replay.specs.Journals.{IsJournal, lines_for}
 use Rattle.mc_top.specs.Journals.{IsJournalTo}
-use Rattle.mc_top.specs.declared.stop.Stop.{Stop}
+use Rattle.mc_top.specs.declared.stop.SettleStop.{SettleStop}
 use Rattle.mc_top.proofs.Running.{after_settle, names_kept}
 
 -- ---- one turn
@@ -168,10 +168,10 @@ journal_named tail text net journal declares sound settled =
     (journal_readable net.names net.shape (map batch_turns net.batches.items) net.world journal sound named.world named.commands settled)
 
 -- those of a script that came to its end
-pub ran_named : (stop : Option Stop) (tail : Tail) (text : List ℕ) (net : Net) (journal : List JournalLine) → DeclaresNet tail text net → IsSound net.world → IsJournalTo stop net.world (map batch_turns net.batches.items) journal → stop ≡ None
+pub ran_named : (stop : Option SettleStop) (tail : Tail) (text : List ℕ) (net : Net) (journal : List JournalLine) → DeclaresNet tail text net → IsSound net.world → IsJournalTo stop net.world (map batch_turns net.batches.items) journal → stop ≡ None
     → All (IsNamedLine net.names) journal
 ran_named stop tail text net journal declares sound ran none =
-    journal_named tail text net journal declares sound (subst (λ (s : Option Stop). IsJournalTo s net.world (map batch_turns net.batches.items) journal) none ran)
+    journal_named tail text net journal declares sound (subst (λ (s : Option SettleStop). IsJournalTo s net.world (map batch_turns net.batches.items) journal) none ran)
 
 -- and are read again
 pub runs_are_read_back : RunsAreReadBack

@@ -17,39 +17,39 @@ use Rattle.mc_seq.proofs.OneSchedule.{AreOne, IsOver, ended_over, goes_one, rest
 use Rattle.mc_seq.specs.Draws.{IsScheduled, ScheduleIsOne, StopsAtRing, StopsAtVersion, StopsRestless}
 use Rattle.mc_seq.specs.Restless.{IsFirstShifter}
 use Rattle.mc_seq.specs.Retries.{retries_by_box}
-use Rattle.mc_seq.specs.Schedule.{AreDrawn, Goes, Standing, candidates, drawn_place, drawn_turn, first_standing, standing_after}
+use Rattle.mc_seq.specs.Schedule.{AreDrawn, Goes, ScheduleState, candidates, drawn_place, drawn_turn, first_schedule, schedule_after}
 use Rattle.mc_top.specs.Drawn.{DrawnJournalIsOne, EndsWithin, IsDrawnJournal, StopsBy}
 use Rattle.mc_replay.specs.Journals.{lines_for}
-use Rattle.mc_top.specs.declared.stop.Stop.{Stop}
-use Rattle.mc_top.specs.declared.stop.Stop.TheVariants.{Restless, Ring, VersionEnd}
+use Rattle.mc_top.specs.declared.stop.SettleStop.{SettleStop}
+use Rattle.mc_top.specs.declared.stop.SettleStop.TheVariants.{Restless, Ring, VersionEnd}
 use Rattle.mc_top.proofs.Shifters.{first_can}
 use Rattle.mc_top.proofs.UsedUp.{used_up}
 
 -- ---- soundness
 
-drawn_sound : (turns : List Turn) (now last : Standing) → IsSound now.world → AreDrawn now turns last → IsSound last.world
-drawn_sound [] now last sound draws = subst (λ (s : Standing). IsSound s.world) draws sound
-drawn_sound (turn ∷ turns) now last sound draws = drawn_sound turns (standing_after now turn draws.0) last (step_keeps_sound now.world draws.0 turn sound draws.3) draws.4
+drawn_sound : (turns : List Turn) (now last : ScheduleState) → IsSound now.world → AreDrawn now turns last → IsSound last.world
+drawn_sound [] now last sound draws = subst (λ (s : ScheduleState). IsSound s.world) draws sound
+drawn_sound (turn ∷ turns) now last sound draws = drawn_sound turns (schedule_after now turn draws.0) last (step_keeps_sound now.world draws.0 turn sound draws.3) draws.4
 
-goes_sound : (rounds : ℕ) (turns : List Turn) (now last : Standing) → IsSound now.world → Goes rounds now turns last → IsSound last.world
+goes_sound : (rounds : ℕ) (turns : List Turn) (now last : ScheduleState) → IsSound now.world → Goes rounds now turns last → IsSound last.world
 goes_sound zero turns now last sound goes = drawn_sound turns now last sound goes
 goes_sound (suc rounds) turns now last sound (first, rest, still, next, is, draws, round, later) =
     goes_sound rounds rest next last (run_keeps_sound still.world next.world (retries_by_box still.world) (drawn_sound first now still sound draws) round.retries) later
 
 -- a settle by draws leaves a sound world
 scheduled_sound : (world last : WorldState) (batch turns : List Turn) (state end : ℕ) → IsSound world → IsScheduled world batch state turns last end → IsSound last
-scheduled_sound world last batch turns state end sound is = subst IsSound is.to_last (goes_sound is.rounds turns (first_standing world batch state) is.ended sound is.goes)
+scheduled_sound world last batch turns state end sound is = subst IsSound is.to_last (goes_sound is.rounds turns (first_schedule world batch state) is.ended sound is.goes)
 
 -- ---- how a settle by draws is over
 
 -- turns by the schedule lead to where nothing goes on
-record GoesToEnd (world : WorldState) (batch turns : List Turn) (state : ℕ) (last : Standing) : Type 0 where
+record GoesToEnd (world : WorldState) (batch turns : List Turn) (state : ℕ) (last : ScheduleState) : Type 0 where
   pub rounds : ℕ
-  pub goes : Goes rounds (first_standing world batch state) turns last
+  pub goes : Goes rounds (first_schedule world batch state) turns last
   pub over : IsOver last
 
-one_end : (world : WorldState) (batch turns more : List Turn) (state : ℕ) (last other : Standing) → GoesToEnd world batch turns state last → GoesToEnd world batch more state other → AreOne turns more last other
-one_end world batch turns more state last other one two = goes_one one.rounds two.rounds turns more (first_standing world batch state) last other one.goes one.over two.goes two.over
+one_end : (world : WorldState) (batch turns more : List Turn) (state : ℕ) (last other : ScheduleState) → GoesToEnd world batch turns state last → GoesToEnd world batch more state other → AreOne turns more last other
+one_end world batch turns more state last other one two = goes_one one.rounds two.rounds turns more (first_schedule world batch state) last other one.goes one.over two.goes two.over
 
 settled_end : (world last : WorldState) (batch turns : List Turn) (state end : ℕ) → (is : IsScheduled world batch state turns last end) → GoesToEnd world batch turns state is.ended
 settled_end world last batch turns state end is = record { rounds = is.rounds; goes = is.goes; over = ended_over is.ended is.still is.not_due }
@@ -75,7 +75,7 @@ restless_end world batch turns state end at stops = record {
 }
 
 -- where nothing is listed nothing is drawn
-none_drawn : (now : Standing) (turn : Turn) → candidates now ≡ [] → drawn_turn now ≡ Some turn → ⊥
+none_drawn : (now : ScheduleState) (turn : Turn) → candidates now ≡ [] → drawn_turn now ≡ Some turn → ⊥
 none_drawn now turn none is =
     let nothing : drawn_turn now ≡ None = ap (λ (l : List Turn). slice_get l (drawn_place now.draws (length l))) none in
     cc (nothing, is)
@@ -115,31 +115,31 @@ none_next batch turns last at used meets =
     past_end (commands_of meets.turn.who batch) meets.turn
     (subst (λ (made : List Turn). slice_get (commands_of meets.turn.who batch) (length made) ≡ Some meets.turn) (used meets.turn.who) meets.next)
 
-record IsSameStop (stop other : Stop) (turns more : List Turn) : Type 0 where
+record IsSameStop (stop other : SettleStop) (turns more : List Turn) : Type 0 where
   pub stops : stop ≡ other
   pub turns_same : turns ≡ more
 
 two_versions : (world : WorldState) (batch turns more : List Turn) (state end until a b : ℕ) → StopsAtVersion world batch state turns end a → StopsAtVersion world batch state more until b → IsSameStop (VersionEnd a) (VersionEnd b) turns more
 two_versions world batch turns more state end until a b one two =
     let same = one_end world batch turns more state one.last two.last (version_end world batch turns state end a one) (version_end world batch more state until b two) in
-    let turn = same_turn (drawn_turn two.last) one.meets.turn two.meets.turn (subst (λ (s : Standing). drawn_turn s ≡ Some one.meets.turn) same.stands one.is_drawn) two.is_drawn in
+    let turn = same_turn (drawn_turn two.last) one.meets.turn two.meets.turn (subst (λ (s : ScheduleState). drawn_turn s ≡ Some one.meets.turn) same.stands one.is_drawn) two.is_drawn in
     let heard : heard_slot two.last.world two.meets.turn ≡ Some a =
-    subst (λ (t : Turn). heard_slot two.last.world t ≡ Some a) turn (subst (λ (s : Standing). heard_slot s.world one.meets.turn ≡ Some a) same.stands one.meets.slot) in
+    subst (λ (t : Turn). heard_slot two.last.world t ≡ Some a) turn (subst (λ (s : ScheduleState). heard_slot s.world one.meets.turn ≡ Some a) same.stands one.meets.slot) in
     record { stops = ap VersionEnd (same_at (heard_slot two.last.world two.meets.turn) a b heard two.meets.slot); turns_same = same.turns }
 
 two_rings : (world : WorldState) (batch turns more : List Turn) (state end until a b : ℕ) → IsSound world → StopsAtRing world batch state turns end a → StopsAtRing world batch state more until b → IsSameStop (Ring a) (Ring b) turns more
 two_rings world batch turns more state end until a b sound one two =
     let same = one_end world batch turns more state one.last two.last (ring_end world batch turns state end a sound one) (ring_end world batch more state until b sound two) in
-    record { stops = ap Ring (least_one two.last.world a b (subst (λ (s : Standing). IsFirstOnRing s.world a) same.stands one.least) two.least); turns_same = same.turns }
+    record { stops = ap Ring (least_one two.last.world a b (subst (λ (s : ScheduleState). IsFirstOnRing s.world a) same.stands one.least) two.least); turns_same = same.turns }
 
 two_restless : (world : WorldState) (batch turns more : List Turn) (state end until a b : ℕ) → StopsRestless world batch state turns end a → StopsRestless world batch state more until b → IsSameStop (Restless a) (Restless b) turns more
 two_restless world batch turns more state end until a b one two =
     let same = one_end world batch turns more state one.last two.last (restless_end world batch turns state end a one) (restless_end world batch more state until b two) in
-    record { stops = ap Restless (first_one two.last.world a b (subst (λ (s : Standing). IsFirstShifter s.world a) same.stands one.restless.first) two.restless.first); turns_same = same.turns }
+    record { stops = ap Restless (first_one two.last.world a b (subst (λ (s : ScheduleState). IsFirstShifter s.world a) same.stands one.restless.first) two.restless.first); turns_same = same.turns }
 
 -- a settle doesn't stop at the last version where the batch is used up
-version_apart : (world : WorldState) (batch turns more : List Turn) (state end a rounds : ℕ) (last : Standing) → StopsAtVersion world batch state turns end a
-    → Goes rounds (first_standing world batch state) more last → IsOver last → last.left ≡ [] → IsStopped world batch more last.world → ⊥
+version_apart : (world : WorldState) (batch turns more : List Turn) (state end a rounds : ℕ) (last : ScheduleState) → StopsAtVersion world batch state turns end a
+    → Goes rounds (first_schedule world batch state) more last → IsOver last → last.left ≡ [] → IsStopped world batch more last.world → ⊥
 version_apart world batch turns more state end a rounds last one goes over left stopped =
     let same = one_end world batch turns more state one.last last (version_end world batch turns state end a one) (record { rounds = rounds; goes = goes; over = over }) in
     none_next batch more one.last.world a (λ who. used_up world batch more state rounds last goes left stopped who)
@@ -157,9 +157,9 @@ version_restless world batch turns more state end until a b one two =
 ring_restless : (world : WorldState) (batch turns more : List Turn) (state end until a b : ℕ) → IsSound world → StopsAtRing world batch state turns end a → StopsRestless world batch state more until b → ⊥
 ring_restless world batch turns more state end until a b sound one two =
     let same = one_end world batch turns more state one.last two.last (ring_end world batch turns state end a sound one) (restless_end world batch more state until b two) in
-    some_none (has_ring two.last.world) (subst (λ (s : Standing). has_ring s.world ≡ true) same.stands (ring_there world one.last.world batch turns a sound one.stopped one.least)) two.restless.no_ring
+    some_none (has_ring two.last.world) (subst (λ (s : ScheduleState). has_ring s.world ≡ true) same.stands (ring_there world one.last.world batch turns a sound one.stopped one.least)) two.restless.no_ring
 
-same_stop : (stop other : Stop) (world : WorldState) (batch turns more : List Turn) (state end until : ℕ) → IsSound world → StopsBy stop world batch state turns end → StopsBy other world batch state more until → IsSameStop stop other turns more
+same_stop : (stop other : SettleStop) (world : WorldState) (batch turns more : List Turn) (state end until : ℕ) → IsSound world → StopsBy stop world batch state turns end → StopsBy other world batch state more until → IsSameStop stop other turns more
 same_stop (VersionEnd a) (VersionEnd b) world batch turns more state end until sound one two = two_versions world batch turns more state end until a b one two
 same_stop (VersionEnd a) (Ring b) world batch turns more state end until sound one two = absurd (version_ring world batch turns more state end until a b sound one two)
 same_stop (VersionEnd a) (Restless b) world batch turns more state end until sound one two = absurd (version_restless world batch turns more state end until a b one two)
@@ -173,28 +173,28 @@ same_stop (Restless a) (Restless b) world batch turns more state end until sound
 -- ---- a stop and an end
 
 -- a batch that stops isn't settled
-stop_apart : (stop : Stop) (world last : WorldState) (batch turns more : List Turn) (state end until : ℕ) → IsSound world → StopsBy stop world batch state turns end → IsScheduled world batch state more last until → ⊥
+stop_apart : (stop : SettleStop) (world last : WorldState) (batch turns more : List Turn) (state end until : ℕ) → IsSound world → StopsBy stop world batch state turns end → IsScheduled world batch state more last until → ⊥
 stop_apart (VersionEnd at) world last batch turns more state end until sound one two =
     let same = one_end world batch turns more state one.last two.ended (version_end world batch turns state end at one) (settled_end world last batch more state until two) in
-    none_drawn two.ended one.meets.turn two.still.none (subst (λ (s : Standing). drawn_turn s ≡ Some one.meets.turn) same.stands one.is_drawn)
+    none_drawn two.ended one.meets.turn two.still.none (subst (λ (s : ScheduleState). drawn_turn s ≡ Some one.meets.turn) same.stands one.is_drawn)
 stop_apart (Ring at) world last batch turns more state end until sound one two =
     let same = one_end world batch turns more state one.last two.ended (ring_end world batch turns state end at sound one) (settled_end world last batch more state until two) in
-    some_none (has_ring two.ended.world) (subst (λ (s : Standing). has_ring s.world ≡ true) same.stands (ring_there world one.last.world batch turns at sound one.stopped one.least)) two.still.no_ring
+    some_none (has_ring two.ended.world) (subst (λ (s : ScheduleState). has_ring s.world ≡ true) same.stands (ring_there world one.last.world batch turns at sound one.stopped one.least)) two.still.no_ring
 stop_apart (Restless at) world last batch turns more state end until sound one two =
     let same = one_end world batch turns more state one.last two.ended (restless_end world batch turns state end at one) (settled_end world last batch more state until two) in
-    some_none (can_shift two.ended.world) (subst (λ (s : Standing). can_shift s.world ≡ true) same.stands (first_can one.last.world at one.restless.first)) two.still.no_shift
+    some_none (can_shift two.ended.world) (subst (λ (s : ScheduleState). can_shift s.world ≡ true) same.stands (first_can one.last.world at one.restless.first)) two.still.no_shift
 
-within_apart : (stop : Option Stop) (world last : WorldState) (batch more : List Turn) (state until : ℕ) (journal : List JournalLine) → IsSound world → EndsWithin stop state world batch journal → IsScheduled world batch state more last until → ⊥
+within_apart : (stop : Option SettleStop) (world last : WorldState) (batch more : List Turn) (state until : ℕ) (journal : List JournalLine) → IsSound world → EndsWithin stop state world batch journal → IsScheduled world batch state more last until → ⊥
 within_apart None world last batch more state until journal sound one two = one
 within_apart (Some stop) world last batch more state until journal sound (turns, end, is, stops) two = stop_apart stop world last batch turns more state end until sound stops two
 
-within_one : (stop other : Option Stop) (world : WorldState) (batch : List Turn) (state : ℕ) (journal more : List JournalLine) → IsSound world → EndsWithin stop state world batch journal → EndsWithin other state world batch more
+within_one : (stop other : Option SettleStop) (world : WorldState) (batch : List Turn) (state : ℕ) (journal more : List JournalLine) → IsSound world → EndsWithin stop state world batch journal → EndsWithin other state world batch more
     → (stop ≡ other) × (journal ≡ more)
 within_one None other world batch state journal more sound one two = absurd one
 within_one (Some stop) None world batch state journal more sound one two = absurd two
 within_one (Some stop) (Some other) world batch state journal more sound (turns, end, is, stops) (next, until, are, ends) =
     let same = same_stop stop other world batch turns next state end until sound stops ends in
-    (ap (λ (s : Stop). Some s) same.stops, is ∙ (ap (map Made) same.turns_same ∙ sym are))
+    (ap (λ (s : SettleStop). Some s) same.stops, is ∙ (ap (map Made) same.turns_same ∙ sym are))
 
 -- ---- journals
 

@@ -19,8 +19,8 @@ use Rattle.mc_model.specs.Steps.{run}
 use Rattle.mc_model.specs.Worlds.{WorldState, goal_of, slot_count, slot_of}
 use Rattle.mc_path_laws.specs.PathLaws.{AreIn}
 use Rattle.mc_net.specs.Nets.{batches_of}
-use Rattle.mc_program.specs.Finished.{program_of}
-use Rattle.mc_program.specs.Programs.{BlockState}
+use Rattle.mc_program_lines.specs.Finished.{program_of}
+use Rattle.mc_program_lines.specs.Programs.{BlockState}
 use Rattle.mc_program_laws.specs.Told.{OwesNoRetry, ShiftsFirst, settings_in}
 use Rattle.mc_replay.specs.Journals.{IsJournal}
 use Rattle.mc_scene_laws.specs.SceneTexts.{prepaid_declared}

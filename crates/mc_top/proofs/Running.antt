@@ -29,7 +29,7 @@ use Rattle.mc_top.specs.Printed.{at_settles}
 use Rattle.mc_top.specs.Scripts.{FollowSchedule, ScriptState, Settling, first_state}
 use Rattle.mc_script.specs.declared.command.JournalLine.{JournalLine}
 use Rattle.mc_script.specs.declared.command.JournalLine.TheVariants.{Turn as Made, Settled}
-use Rattle.mc_top.specs.declared.stop.Stop.{Stop}
+use Rattle.mc_top.specs.declared.stop.SettleStop.{SettleStop}
 
 -- ---- shapes
 
@@ -66,7 +66,7 @@ printed_after (turn ∷ turns) print number world last rest goes =
     ap (λ (w : WorldState). at_settles print number w (map Made turns ++ rest)) (replayed_is world one.0 turn one.1) ∙ printed_after turns print number one.0 last rest one.2
 
 -- at each settle of a journal that stops the paths are as the table says, as they are in one that doesn't
-stopped_holds : (stop : Stop) (waiting : List (List Turn)) (world : WorldState) (journal : List JournalLine) → IsSound world → IsStoppedJournal stop world waiting journal → HoldsAtSettles world journal
+stopped_holds : (stop : SettleStop) (waiting : List (List Turn)) (world : WorldState) (journal : List JournalLine) → IsSound world → IsStoppedJournal stop world waiting journal → HoldsAtSettles world journal
 stopped_holds stop [] world journal sound stopped = absurd stopped
 stopped_holds stop (batch ∷ waiting) world journal sound (inl here) =
     subst (λ (lines : List JournalLine). HoldsAtSettles world lines) (append-nil (map Made here.turns) ∙ sym here.lines) (holds_after here.turns world here.last [] here.stopped.runs tt)
@@ -75,7 +75,7 @@ stopped_holds stop (batch ∷ waiting) world journal sound (inr (turns, last, re
     (stopped_holds stop waiting last rest (run_keeps_sound world last turns sound settled.runs) later)
 
 -- whichever it is
-pub ran_holds : (stop : Option Stop) (batches : List (List Turn)) (world : WorldState) (journal : List JournalLine) → IsSound world → IsJournalTo stop world batches journal → HoldsAtSettles world journal
+pub ran_holds : (stop : Option SettleStop) (batches : List (List Turn)) (world : WorldState) (journal : List JournalLine) → IsSound world → IsJournalTo stop world batches journal → HoldsAtSettles world journal
 ran_holds None batches world journal sound ran = journals_hold world batches journal sound ran
 ran_holds (Some stop) batches world journal sound ran = stopped_holds stop batches world journal sound ran
 
@@ -97,7 +97,7 @@ limit_more turns journal more so_far kept others =
     subst (λ (lines : List JournalLine). EachKeepsShiftLimit lines) (sym (append_assoc journal (lines_for turns) more)) (so_far (lines_for turns ++ more) (limit_settled turns more kept others))
 
 -- or one that is settled before a stop
-stop_more : (stop : Stop) (start world last : WorldState) (all rest : List (List Turn)) (batch turns : List Turn) (journal : List JournalLine)
+stop_more : (stop : SettleStop) (start world last : WorldState) (all rest : List (List Turn)) (batch turns : List Turn) (journal : List JournalLine)
     → ((more : List JournalLine) → IsStoppedJournal stop world (batch ∷ rest) more → IsStoppedJournal stop start all (journal ++ more))
     → IsSettled world batch turns last
     → (more : List JournalLine) → IsStoppedJournal stop last rest more → IsStoppedJournal stop start all ((journal ++ lines_for turns) ++ more)
@@ -106,14 +106,14 @@ stop_more stop start world last all rest batch turns journal so_far settled more
     (so_far (lines_for turns ++ more) (inr (turns, last, more, refl, settled, later)))
 
 -- what the draws decide begins with the turns that follow their schedule, and goes on with what they decide from there
-drawn_then : (stop : Option Stop) (world last : WorldState) (draws after : Option ℕ) (rest : List (List Turn)) (batch turns : List Turn) (more : List JournalLine) → FollowSchedule draws after world batch turns last
+drawn_then : (stop : Option SettleStop) (world last : WorldState) (draws after : Option ℕ) (rest : List (List Turn)) (batch turns : List Turn) (more : List JournalLine) → FollowSchedule draws after world batch turns last
     → FollowsDraws after stop last rest more → FollowsDraws draws stop world (batch ∷ rest) (lines_for turns ++ more)
 drawn_then stop world last None after rest batch turns more scheduled later = tt
 drawn_then stop world last (Some state) None rest batch turns more scheduled later = absurd scheduled
 drawn_then stop world last (Some state) (Some end) rest batch turns more scheduled later = inr (turns, last, end, more, refl, scheduled, later)
 
 -- or by draws, where there are some, to whichever end
-drawn_more : (stop : Option Stop) (start world last : WorldState) (first draws after : Option ℕ) (all rest : List (List Turn)) (batch turns : List Turn) (journal : List JournalLine)
+drawn_more : (stop : Option SettleStop) (start world last : WorldState) (first draws after : Option ℕ) (all rest : List (List Turn)) (batch turns : List Turn) (journal : List JournalLine)
     → ((more : List JournalLine) → FollowsDraws draws stop world (batch ∷ rest) more → FollowsDraws first stop start all (journal ++ more))
     → FollowSchedule draws after world batch turns last
     → (more : List JournalLine) → FollowsDraws after stop last rest more → FollowsDraws first stop start all ((journal ++ lines_for turns) ++ more)
@@ -121,7 +121,7 @@ drawn_more stop start world last first draws after all rest batch turns journal 
     subst (λ (lines : List JournalLine). FollowsDraws first stop start all lines) (sym (append_assoc journal (lines_for turns) more))
     (so_far (lines_for turns ++ more) (drawn_then stop world last draws after rest batch turns more scheduled later))
 
--- and what is printed of it, behind what stands in front
+-- and what is printed of it, after what stands in front
 pub print_more : (start world last : WorldState) (print : ℕ → WorldState → List ℕ) (batch turns : List Turn) (number : ℕ) (journal : List JournalLine) (opening out : List ℕ)
     → ((more : List JournalLine) → opening ++ at_settles print 1 start (journal ++ more) ≡ out ++ at_settles print number world more)
     → IsSettled world batch turns last
@@ -142,8 +142,8 @@ pub record GoesOn (print : ℕ → WorldState → List ℕ) (opening : List ℕ)
   pub shape : HasShape now.world start
   pub journal : (more : List JournalLine) → IsJournal now.world rest more → IsJournal start all (now.journal ++ more)
   pub shift_limit : (more : List JournalLine) → EachKeepsShiftLimit more → EachKeepsShiftLimit (now.journal ++ more)
-  pub stops : (stop : Stop) (more : List JournalLine) → IsStoppedJournal stop now.world rest more → IsStoppedJournal stop start all (now.journal ++ more)
-  pub drawn : (stop : Option Stop) (more : List JournalLine) → FollowsDraws now.draws stop now.world rest more → FollowsDraws first stop start all (now.journal ++ more)
+  pub stops : (stop : SettleStop) (more : List JournalLine) → IsStoppedJournal stop now.world rest more → IsStoppedJournal stop start all (now.journal ++ more)
+  pub drawn : (stop : Option SettleStop) (more : List JournalLine) → FollowsDraws now.draws stop now.world rest more → FollowsDraws first stop start all (now.journal ++ more)
   pub output : (more : List JournalLine) → opening ++ at_settles print 1 start (now.journal ++ more) ≡ now.output ++ at_settles print (count + 1) now.world more
 
 -- a settle that follows
@@ -169,7 +169,7 @@ goes_settled print opening start first all rest count batch now next s on = reco
       ∙ ap (λ (text : List ℕ). text ++ at_settles print (count + 1 + 1) next.world more) (sym s.output));
 }
 
--- the next batch, and those behind it
+-- the next batch, and those after it
 pub next_left : (i : ℕ) (all : List Batch) (none : Batch) → i < length all → map batch_turns (drop i all) ≡ batch_turns (slice_index_or all i none) ∷ map batch_turns (drop (i + 1) all)
 next_left i all none within = ap (λ (left : List Batch). map batch_turns left) (drop-cons all i none within ∙ ap (λ (n : ℕ). slice_index_or all i none ∷ drop n all) (sym (add-one i)))
 

@@ -8,8 +8,8 @@ use Rattle.mc_model.specs.Worlds.{WorldState}
 use Rattle.mc_net.specs.Nets.{IsFirstWorld, batch_turns, batches_of}
 use Rattle.mc_net.specs.Texts.{Says}
 use Rattle.mc_net.specs.declared.net.Net.{Net}
-use Rattle.mc_program.specs.Finished.{program_of}
-use Rattle.mc_program.specs.Programs.{BlockState}
+use Rattle.mc_program_lines.specs.Finished.{program_of}
+use Rattle.mc_program_lines.specs.Programs.{BlockState}
 use Rattle.mc_replay.specs.Journals.{IsJournal}
 use Rattle.mc_scene.specs.Outputs.{scene_output}
 use Rattle.mc_scene.specs.Scenes.{scene_text}

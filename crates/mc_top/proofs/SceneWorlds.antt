@@ -32,8 +32,8 @@ use Rattle.mc_plan.specs.Plans.{PlanState, box_from, world_of}
 use Rattle.mc_plan.specs.Layouts.{programmed}
 use Rattle.mc_plan.specs.Setups.{setups_of}
 use Rattle.mc_plan.specs.declared.plan.BoxPlan.{BoxPlan}
-use Rattle.mc_program.specs.Finished.{program_of}
-use Rattle.mc_program.specs.Programs.{BlockState}
+use Rattle.mc_program_lines.specs.Finished.{program_of}
+use Rattle.mc_program_lines.specs.Programs.{BlockState}
 use Rattle.mc_program_laws.specs.Told.{IsOnlyProgram, ProgramStands}
 use Rattle.mc_scene_laws.specs.SceneTexts.{device_with}
 use Rattle.mc_settings.specs.Settings.{Settings, set_by_all, settings_of}

@@ -30,7 +30,7 @@ use Rattle.mc_view.specs.declared.PathView.{PathView}
 
 -- ---- replaying
 
--- what is shown behind the turns of a run is shown where the run leads
+-- what is shown after the turns of a run is shown where the run leads
 pub shown_behind : (Shows : WorldState → List PathView → Type 0) (turns : List Turn) (world last : WorldState) (rest : List JournalLine) (shown : List (List PathView)) → run world turns ≡ Some last
     → AreShown Shows world (map Made turns ++ rest) shown → AreShown Shows last rest shown
 shown_behind Shows [] world last rest shown goes are = let same : world ≡ last = cc in subst (λ (w : WorldState). AreShown Shows w rest shown) same are
@@ -52,7 +52,7 @@ pub record IsPrintable (names : NameLists) (number : ℕ) (world : WorldState) (
   pub named : All (All (IsNamedView names)) shown
   pub text : shown_text names number shown ≡ journal_text names number world lines
 
--- at a mark, if so is what is shown behind it
+-- at a mark, if so is what is shown after it
 at_mark : (names : NameLists) (number : ℕ) (world last : WorldState) (lines rest : List JournalLine) (shown : List (List PathView)) → IsAfterSettle names last → All (PathHolds last) (paths last)
     → journal_text names number world lines ≡ settle_text names number last ++ journal_text names (number + 1) last rest
     → ((more : List (List PathView)) → AreShown ShowsPaths last rest more → IsPrintable names (number + 1) last rest more)
@@ -87,7 +87,7 @@ journal_printable (batch ∷ batches) names number world lines shown sound all (
 
 -- ---- settle by settle, as code keeps what is shown
 
--- the first settle that is left, and those behind it
+-- the first settle that is left, and those after it
 first_left : (names : NameLists) (all : List (Vec PathView Global)) (i : ℕ) (none : Vec PathView Global) → i < length all
     → shown_text names (i + 1) (views_of (drop i all)) ≡ print_settle names (i + 1) (slice_index_or all i none).items ++ shown_text names (i + 1 + 1) (views_of (drop (i + 1) all))
 first_left names all i none within =

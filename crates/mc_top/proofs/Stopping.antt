@@ -30,8 +30,8 @@ use Rattle.mc_top.specs.Printed.{box_word, place_word, report_text, script_text,
 use Rattle.mc_top.specs.Scripts.{ScriptState}
 use Rattle.mc_top.specs.declared.report.Report.{Report}
 use Rattle.mc_top.specs.declared.run.Run.{Run}
-use Rattle.mc_top.specs.declared.stop.Stop.{Stop}
-use Rattle.mc_top.specs.declared.stop.Stop.TheVariants.{Restless, Ring, VersionEnd}
+use Rattle.mc_top.specs.declared.stop.SettleStop.{SettleStop}
+use Rattle.mc_top.specs.declared.stop.SettleStop.TheVariants.{Restless, Ring, VersionEnd}
 use Rattle.mc_top.proofs.Running.{GoesOn, next_left}
 
 -- ---- names
@@ -156,7 +156,7 @@ slot_line_same : (names : NameLists) (now start : WorldState) (word : List ℕ) 
 slot_line_same names now start word s shape =
     ap (λ (channels : List ChannelState). line_of (word ∷ slot_word names (slice_index_or (places_among channels) s (0, 0)).0 (slice_index_or (places_among channels) s (0, 0)).1 ∷ [])) shape.channels
 
-stop_line_same : (names : NameLists) (now start : WorldState) (stop : Stop) → HasShape now start → stop_line names now stop ≡ stop_line names start stop
+stop_line_same : (names : NameLists) (now start : WorldState) (stop : SettleStop) → HasShape now start → stop_line names now stop ≡ stop_line names start stop
 stop_line_same names now start (VersionEnd at) shape = slot_line_same names now start (stop_word (VersionEnd at)) at shape
 stop_line_same names now start (Ring at) shape = slot_line_same names now start (stop_word (Ring at)) at shape
 stop_line_same names now start (Restless at) shape = refl
@@ -168,7 +168,7 @@ pub record EndsAtStop (report : Report) (names : NameLists) (start : WorldState)
   pub output : run.output.items ≡ script_text report names start run.stop run.journal.items
 
 -- the turns up to a stop are what is left of the draws' journal, where there are draws
-drawn_to : (draws : Option ℕ) (stop : Stop) (world : WorldState) (batch turns : List Turn) (rest : List (List Turn)) → IfSome draws (λ state. (end : ℕ) × StopsBy stop world batch state turns end)
+drawn_to : (draws : Option ℕ) (stop : SettleStop) (world : WorldState) (batch turns : List Turn) (rest : List (List Turn)) → IfSome draws (λ state. (end : ℕ) × StopsBy stop world batch state turns end)
     → FollowsDraws draws (Some stop) world (batch ∷ rest) (map Made turns)
 drawn_to None stop world batch turns rest by = tt
 drawn_to (Some state) stop world batch turns rest by = inl (turns, by.0, refl, by.1)
@@ -183,10 +183,10 @@ stops_here report names opening start first all rest count batch now run s on =
     subst (λ (lines : List JournalLine). FollowsDraws first (Some s.stop) start all lines) (sym s.journal)
     (on.drawn (Some s.stop) (map Made s.turns) (drawn_to now.draws s.stop now.world batch s.turns rest s.scheduled)) in
     record {
-      ran = subst (λ (o : Option Stop). IsJournalTo o start all run.journal.items) (sym s.is) here;
-      drawn = subst (λ (o : Option Stop). FollowsDraws first o start all run.journal.items) (sym s.is) drawn;
+      ran = subst (λ (o : Option SettleStop). IsJournalTo o start all run.journal.items) (sym s.is) here;
+      drawn = subst (λ (o : Option SettleStop). FollowsDraws first o start all run.journal.items) (sym s.is) drawn;
       shift_limit = subst (λ (lines : List JournalLine). EachKeepsShiftLimit lines) (sym s.journal) (on.shift_limit (map Made s.turns) (limit_made s.turns s.shift_limit));
-      output = s.output ∙ (stop_line_same names now.world start s.stop on.shape ∙ ap (λ (o : Option Stop). script_text report names start o run.journal.items) (sym s.is));
+      output = s.output ∙ (stop_line_same names now.world start s.stop on.shape ∙ ap (λ (o : Option SettleStop). script_text report names start o run.journal.items) (sym s.is));
     }
 
 -- by the batch's place

@@ -19,7 +19,7 @@ use Rattle.mc_top.specs.Behind.{HasGoodJournal, HasJournal, HasJournalFault, has
 use Rattle.mc_top.specs.Journals.{ShowsCause}
 use Rattle.mc_top.specs.Top.{Ends, IsTextOf, RefusesBox, RefusesCheck, StopsScript, ToldDeclares, ToldFault, ToldJournal}
 use Rattle.mc_top.specs.Modes.{CanCheck, CanConfer, CanRun, checks, has_feature, tail_of}
-use Rattle.mc_top.specs.declared.stop.Stop.{Stop}
+use Rattle.mc_top.specs.declared.stop.SettleStop.{SettleStop}
 use Rattle.mc_top.specs.Rings.{AlwaysRests}
 use Rattle.mc_top.proofs.BytesBehind.{bad_alike, lines_alike}
 use Rattle.mc_top.proofs.Causes.{never_stops}
@@ -40,7 +40,7 @@ pub told_declares : (tail : Tail) (told : Option (List ℕ)) (text : List ℕ) (
 told_declares tail None text net read declares = tt
 told_declares tail (Some all) text net read declares = nets_of_the_first_bytes tail all net (subst (λ (t : List ℕ). DeclaresNet tail t net) read declares)
 
--- the journal behind what was read is the one behind what was left
+-- the journal after what was read is the one after what was left
 has_all : (all : List ℕ) (net : Net) (journal : List JournalLine) → HasJournal (first_bytes Journal all) net journal → HasJournal all net journal
 has_all all net journal has = record {
   lines = has.lines ∙ lines_alike net.names net.shape all net.rest;
@@ -52,7 +52,7 @@ told_journal Nothing told text net journal read has = tt
 told_journal Journal None text net journal read has = tt
 told_journal Journal (Some all) text net journal read has = has_all all net journal (subst (λ (t : List ℕ). HasJournal t net journal) read has)
 
--- the fault of what was read as the journal behind a text
+-- the fault of what was read as the journal after a text
 pub fault_behind : (text : List ℕ) (net : Net) (lines : List JournalLine) (bad : Bool) (number turn : ℕ) → lines ≡ tail_lines net.names net.shape text net.rest → bad ≡ has_bad_tail net.names net.shape text net.rest
     → IsJournalFault net.world (map batch_turns net.batches.items) lines bad number turn → HasJournalFault text net number turn
 fault_behind text net lines bad number turn are is fault =
@@ -87,7 +87,7 @@ stops_told mode told old new text status due journal read stops = record {
   delivered = stops.delivered;
 }
 
--- a journal that was refused is that behind what was left
+-- a journal that was refused is that after what was left
 refuses_told : (told old new : Option (List ℕ)) (text : List ℕ) (status : ℕ) (journal : List JournalLine) → IsTextOf Journal told text → RefusesCheck (Some text) old new status journal → RefusesCheck told old new status journal
 refuses_told told old new text status journal read refused = record {
   net = refused.net;
@@ -99,7 +99,7 @@ refuses_told told old new text status journal read refused = record {
   no_journal = refused.no_journal;
 }
 
--- a mode that checks reads a text with a journal behind its commands
+-- a mode that checks reads a text with a journal after its commands
 checks_read : (mode : Mode) → checks mode ≡ true → tail_of mode ≡ Journal
 checks_read (Check why) is = refl
 checks_read mode is = absurd (cc)
@@ -175,18 +175,18 @@ fault_says tail (Some all) text d number line fault is says =
 fault_works : (mode : Mode) (told : Option (List ℕ)) (text : List ℕ) (number line : ℕ) → ToldFault (tail_of mode) told number line → told ≡ Some text → WorksOn mode text → ⊥
 fault_works mode told text number line fault is works = let says = says_some mode text works in fault_says (tail_of mode) told text says.0 number line fault is says.1
 
-stop_says : (told : Option (List ℕ)) (text : List ℕ) (d : Declared) (net : Net) (stop : Stop) → ToldDeclares Nothing told net → told ≡ Some text → Says Nothing text d → MeetsNoLast d → AlwaysRests d
+stop_says : (told : Option (List ℕ)) (text : List ℕ) (d : Declared) (net : Net) (stop : SettleStop) → ToldDeclares Nothing told net → told ≡ Some text → Says Nothing text d → MeetsNoLast d → AlwaysRests d
     → ShowsCause (Some stop) net.world (map batch_turns net.batches.items) → ⊥
 stop_says None text d net stop declares is says none rests shows = cc
 stop_says (Some all) text d net stop declares is says none rests shows =
     let same : all ≡ text = cc in
     never_stops stop text d net says none rests (subst (λ (t : List ℕ). DeclaresNet Nothing t net) same declares) shows
 
-can_run : (told : Option (List ℕ)) (text : List ℕ) (net : Net) (stop : Stop) → ToldDeclares Nothing told net → told ≡ Some text → CanRun text → ShowsCause (Some stop) net.world (map batch_turns net.batches.items) → ⊥
+can_run : (told : Option (List ℕ)) (text : List ℕ) (net : Net) (stop : SettleStop) → ToldDeclares Nothing told net → told ≡ Some text → CanRun text → ShowsCause (Some stop) net.world (map batch_turns net.batches.items) → ⊥
 can_run told text net stop declares is can shows = stop_says told text can.0 net stop declares is can.1 can.2 can.3 shows
 
 -- nor does its script stop, in a mode that runs one
-stop_works : (mode : Mode) (told : Option (List ℕ)) (text : List ℕ) (net : Net) (stop : Stop) → checks mode ≡ false → ToldDeclares (tail_of mode) told net → told ≡ Some text → WorksOn mode text
+stop_works : (mode : Mode) (told : Option (List ℕ)) (text : List ℕ) (net : Net) (stop : SettleStop) → checks mode ≡ false → ToldDeclares (tail_of mode) told net → told ≡ Some text → WorksOn mode text
     → ShowsCause (Some stop) net.world (map batch_turns net.batches.items) → ⊥
 stop_works (Run asked) told text net stop runs declares is works shows = can_run told text net stop declares is works shows
 stop_works (One first asked) told text net stop runs declares is works shows = can_run told text net stop declares is works shows

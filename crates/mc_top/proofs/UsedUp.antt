@@ -7,7 +7,7 @@ use Rattle.mc_box.specs.declared.event.Turn.{Turn}
 use Rattle.mc_model.specs.Settles.{IsStopped, commands_of}
 use Rattle.mc_model.specs.Worlds.{WorldState}
 use Rattle.mc_seq.specs.Retries.{retries_by_box}
-use Rattle.mc_seq.specs.Schedule.{AreDrawn, Goes, MakesRound, Standing, first_standing, standing_after, without_next}
+use Rattle.mc_seq.specs.Schedule.{AreDrawn, Goes, MakesRound, ScheduleState, first_schedule, schedule_after, without_next}
 
 -- how many of the turns are commands of a box
 abbrev count_of : ℕ → List Turn → ℕ
@@ -50,11 +50,11 @@ turn_by true turn left who = without_count left who turn.who
 turn_by false turn left who = omega arith
 
 -- nor do drawn turns
-drawn_counts : (turns : List Turn) (now last : Standing) (who : ℕ) → AreDrawn now turns last → count_of who now.left ≤ count_of who turns + count_of who last.left
-drawn_counts [] now last who draws = subst (λ (s : Standing). count_of who now.left ≤ 0 + count_of who s.left) draws (omega arith)
+drawn_counts : (turns : List Turn) (now last : ScheduleState) (who : ℕ) → AreDrawn now turns last → count_of who now.left ≤ count_of who turns + count_of who last.left
+drawn_counts [] now last who draws = subst (λ (s : ScheduleState). count_of who now.left ≤ 0 + count_of who s.left) draws (omega arith)
 drawn_counts (turn ∷ turns) now last who draws =
     let here = turn_by (is_command turn.event) turn now.left who in
-    let later = drawn_counts turns (standing_after now turn draws.0) last who draws.4 in
+    let later = drawn_counts turns (schedule_after now turn draws.0) last who draws.4 in
     let apart = one_head (is_command turn.event && turn.who == who) turn (commands_of who turns) in
     omega arith
 
@@ -68,11 +68,11 @@ both_counts (turn ∷ one) two who =
     omega arith
 
 -- a round lets none go
-round_counts : (still next : Standing) (who : ℕ) → MakesRound still next → count_of who still.left ≡ count_of who next.left
-round_counts still next who round = sym (ap (λ (s : Standing). count_of who s.left) round.then_not)
+round_counts : (still next : ScheduleState) (who : ℕ) → MakesRound still next → count_of who still.left ≡ count_of who next.left
+round_counts still next who round = sym (ap (λ (s : ScheduleState). count_of who s.left) round.then_not)
 
--- nor do rounds with drawn turns before and behind them
-goes_counts : (rounds : ℕ) (turns : List Turn) (now last : Standing) (who : ℕ) → Goes rounds now turns last → count_of who now.left ≤ count_of who turns + count_of who last.left
+-- nor do rounds with drawn turns before and after them
+goes_counts : (rounds : ℕ) (turns : List Turn) (now last : ScheduleState) (who : ℕ) → Goes rounds now turns last → count_of who now.left ≤ count_of who turns + count_of who last.left
 goes_counts zero turns now last who goes = drawn_counts turns now last who goes
 goes_counts (suc rounds) turns now last who (first, rest, still, next, is, draws, round, later) =
     let before = drawn_counts first now still who draws in
@@ -83,9 +83,9 @@ goes_counts (suc rounds) turns now last who (first, rest, still, next, is, draws
     omega arith
 
 -- so where none is left all were made
-pub used_up : (world : WorldState) (batch turns : List Turn) (state rounds : ℕ) (last : Standing) → Goes rounds (first_standing world batch state) turns last → last.left ≡ [] → IsStopped world batch turns last.world
+pub used_up : (world : WorldState) (batch turns : List Turn) (state rounds : ℕ) (last : ScheduleState) → Goes rounds (first_schedule world batch state) turns last → last.left ≡ [] → IsStopped world batch turns last.world
     → (who : ℕ) → commands_of who turns ≡ commands_of who batch
 used_up world batch turns state rounds last goes none stopped who =
-    let counts = goes_counts rounds turns (first_standing world batch state) last who goes in
+    let counts = goes_counts rounds turns (first_schedule world batch state) last who goes in
     let empty : count_of who last.left ≡ 0 = ap (count_of who) none in
     stopped.commands who ∙ take_all (count_of who turns) (commands_of who batch) (omega arith)

@@ -28,7 +28,9 @@ pub record EndAlike (old new from to : Option (List ℕ)) (done other : Done) : 
 
 -- any two calls in this mode end alike on one text that both judged
 abbrev pub AlwaysEndsAlike : Mode → Type 0
-AlwaysEndsAlike mode = (text : List ℕ) (old new from to : Option (List ℕ)) (done other : Done) → Judges mode text old new done → Judges mode text from to other → EndAlike old new from to done other
+AlwaysEndsAlike mode =
+    (text : List ℕ) (old new from to : Option (List ℕ)) (done other : Done) → Judges mode text old new done
+    → Judges mode text from to other → EndAlike old new from to done other
 
 -- so do those of `one`, by its words and the text: also where boxes have programs, and paths are hold against hold
 abbrev pub OneEndsAlike : Type 0
@@ -40,10 +42,14 @@ CheckEndsAlike = (why : Bool) → AlwaysEndsAlike (Check why)
 
 -- a text whose journal is good for one call of `check` or `why` is refused by none
 abbrev pub GoodIsNotRefused : Type 0
-GoodIsNotRefused = (why also : Bool) (text : List ℕ) (old new from to : Option (List ℕ)) (done other : Done) → EndsAs (Check why) (Some text) old new done → EndsAs (Check also) (Some text) from to other
+GoodIsNotRefused =
+    (why also : Bool) (text : List ℕ) (old new from to : Option (List ℕ)) (done other : Done)
+    → EndsAs (Check why) (Some text) old new done → EndsAs (Check also) (Some text) from to other
     → done.due ≡ WORKED → other.due ≡ JOURNAL_FAULT → ⊥
 
 -- what two calls of `gen` print is decided by its words, whichever journals they keep
 abbrev pub GenPrintsAlike : Type 0
-GenPrintsAlike = (number size : ℕ) (old new from to : Option (List ℕ)) (done other : Done) → IsWithinLimits (Gen number size)
-    → Judges (Gen number size) (generated number size) old new done → Judges (Gen number size) (generated number size) from to other → PrintAlike old new from to done other
+GenPrintsAlike =
+    (number size : ℕ) (old new from to : Option (List ℕ)) (done other : Done) → IsWithinLimits (Gen number size)
+    → Judges (Gen number size) (generated number size) old new done
+    → Judges (Gen number size) (generated number size) from to other → PrintAlike old new from to done other

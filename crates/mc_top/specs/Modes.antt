@@ -68,7 +68,7 @@ text_for (Gen number size) left = Some (generated number size)
 text_for (Scene scene) left = Some (scene_text scene)
 text_for (Conf name) left = left
 
--- what may stand behind the commands of that text
+-- what may stand after the commands of that text
 abbrev pub tail_of : Mode → Tail
 tail_of (Run journal) = Nothing
 tail_of (One state journal) = Nothing
@@ -112,7 +112,7 @@ box_number names name = unwrap_or (place_of names.boxes name) 0
 abbrev pub CanRun : List ℕ → Type 0
 CanRun text = (d : Declared) × Says Nothing text d × MeetsNoLast d × AlwaysRests d
 
--- a text declares a network, and the journal behind its commands settles all batches
+-- a text declares a network, and the journal after its commands settles all batches
 pub record CanCheck (text : List ℕ) : Type 0 where
   pub net : Net
   pub declares : DeclaresNet Journal text net

@@ -18,14 +18,14 @@ use Rattle.mc_top.specs.declared.report.Report.{Report}
 use Rattle.mc_top.specs.declared.run.Outcome.{Outcome}
 use Rattle.mc_top.specs.declared.run.Outcome.TheVariants.{Settled, Stopped}
 use Rattle.mc_top.specs.declared.run.Run.{Run}
-use Rattle.mc_top.specs.declared.stop.Stop.{Stop}
-use Rattle.mc_top.specs.declared.stop.Stop.TheVariants.{Restless, Ring, VersionEnd}
+use Rattle.mc_top.specs.declared.stop.SettleStop.{SettleStop}
+use Rattle.mc_top.specs.declared.stop.SettleStop.TheVariants.{Restless, Ring, VersionEnd}
 
 -- turns were made and kept; then the batch stopped, and the one line of the stop was printed
 pub record Stopping (names : NameLists) (batch : List Turn) (old : ScriptState) (run : Run) : Type 0 where
   pub turns : List Turn
   pub last : WorldState
-  pub stop : Stop
+  pub stop : SettleStop
   pub stopped : IsStopped old.world batch turns last
   pub shift_limit : KeepsShiftLimit turns
   pub cause : IsCause stop batch turns last
@@ -50,15 +50,19 @@ IsNamedFault names (AtRing stopped) = IsNamedPlace names stopped.place
 IsNamedFault names (NeverRests stopped) = stopped.at < length names.boxes
 IsNamedFault names (NoMemory e) = Unit {0}
 
--- a script ended at this stop: turns were kept behind its journal, and one line is what it prints
-pub record EndsAt (stop : Stop) (place : List ℕ) (turns : List Turn) (before : List JournalLine) (run : Run) : Type 0 where
+-- a script ended at this stop: turns were kept after its journal, and one line is what it prints
+pub record EndsAt (stop : SettleStop) (place : List ℕ) (turns : List Turn) (before : List JournalLine)
+    (run : Run) : Type 0 where
   pub journal : run.journal.items ≡ before ++ map Made turns
   pub output : run.output.items ≡ line_of (stop_word stop ∷ place ∷ [])
   pub is : run.stop ≡ Some stop
 
 -- it ended as its settle did
 abbrev pub EndsBy : NameLists → (journal : List JournalLine) → SettleFault → Run → Type 0
-EndsBy names journal (EndsVersion stopped) run = EndsAt (VersionEnd stopped.at) (slot_word names stopped.place.0 stopped.place.1) stopped.turns.items journal run
-EndsBy names journal (AtRing stopped) run = EndsAt (Ring stopped.at) (slot_word names stopped.place.0 stopped.place.1) stopped.turns.items journal run
-EndsBy names journal (NeverRests stopped) run = EndsAt (Restless stopped.at) (box_word names stopped.at) stopped.turns.items journal run
+EndsBy names journal (EndsVersion stopped) run =
+    EndsAt (VersionEnd stopped.at) (slot_word names stopped.place.0 stopped.place.1) stopped.turns.items journal run
+EndsBy names journal (AtRing stopped) run =
+    EndsAt (Ring stopped.at) (slot_word names stopped.place.0 stopped.place.1) stopped.turns.items journal run
+EndsBy names journal (NeverRests stopped) run =
+    EndsAt (Restless stopped.at) (box_word names stopped.at) stopped.turns.items journal run
 EndsBy names journal (NoMemory e) run = ⊥

@@ -23,8 +23,8 @@ use Rattle.mc_script.specs.declared.command.JournalLine.TheVariants.{Turn as Mad
 use Rattle.mc_top.specs.Summaries.{heading_text, summary_text}
 use Rattle.mc_top.specs.declared.report.Report.{Report}
 use Rattle.mc_top.specs.declared.report.Report.TheVariants.{Conference, Paths, Summary}
-use Rattle.mc_top.specs.declared.stop.Stop.{Stop}
-use Rattle.mc_top.specs.declared.stop.Stop.TheVariants.{Restless, Ring, VersionEnd}
+use Rattle.mc_top.specs.declared.stop.SettleStop.{SettleStop}
+use Rattle.mc_top.specs.declared.stop.SettleStop.TheVariants.{Restless, Ring, VersionEnd}
 
 -- ---- words
 
@@ -67,7 +67,8 @@ path_text names world path = path_line names world path ++ hears_lines (path_sta
 
 -- a settle by its number: each path once, in the order of the lower end slots
 abbrev pub settle_text : NameLists → ℕ → WorldState → List ℕ
-settle_text names number world = line_of (codes "settle" ∷ decimal number ∷ []) ++ flat_map (path_text names world) (paths world)
+settle_text names number world =
+    line_of (codes "settle" ∷ decimal number ∷ []) ++ flat_map (path_text names world) (paths world)
 
 -- ---- journals
 
@@ -87,25 +88,32 @@ summaries_text number world journal = at_settles summary_text number world journ
 
 -- ---- why paths closed
 
--- why a slot is closed after some turns of a world: the number of the turn from which its last close came, or that it never became closed
+-- why a slot is closed after some turns of a world: the number of the turn from which its last close came, or that it
+-- never became closed
 abbrev pub why_line : NameLists → WorldState → List Turn → WorldState → ℕ → List ℕ
-why_line names first turns world s = line_of (codes "why" ∷ place_word names world s ∷ why_word (why first turns s) ∷ [])
+why_line names first turns world s =
+    line_of (codes "why" ∷ place_word names world s ∷ why_word (why first turns s) ∷ [])
 
 -- both ends of a path, where it doesn't flow
 abbrev pub why_lines : State → NameLists → WorldState → List Turn → WorldState → PathEnds → List ℕ
 why_lines Flowing names first turns world path = []
-why_lines state names first turns world path = why_line names first turns world path.low ++ why_line names first turns world path.high
+why_lines state names first turns world path =
+    why_line names first turns world path.low ++ why_line names first turns world path.high
 
 -- the ends of all closed paths, in their order
 abbrev pub whys_text : NameLists → WorldState → List Turn → WorldState → List ℕ
-whys_text names first turns world = flat_map (λ path. why_lines (path_state world path) names first turns world path) (paths world)
+whys_text names first turns world =
+    flat_map (λ path. why_lines (path_state world path) names first turns world path) (paths world)
 
--- the settles that replaying a journal from a world gives, each with its paths, and then why those closed that are closed: by the turns of the whole journal, of which these were made in a first world
+-- the settles that replaying a journal from a world gives, each with its paths, and then why those closed that are
+-- closed: by the turns of the whole journal, of which these were made in a first world
 abbrev pub told_text : NameLists → ℕ → WorldState → List Turn → WorldState → List JournalLine → List ℕ
 told_text names number first turns world [] = []
-told_text names number first turns world (Made turn ∷ journal) = told_text names number first (turns ++ turn ∷ []) (next_world world turn) journal
+told_text names number first turns world (Made turn ∷ journal) =
+    told_text names number first (turns ++ turn ∷ []) (next_world world turn) journal
 told_text names number first turns world (Settled ∷ journal) =
-    (settle_text names number world ++ whys_text names first turns world) ++ told_text names (number + 1) first turns world journal
+    (settle_text names number world ++ whys_text names first turns world)
+    ++ told_text names (number + 1) first turns world journal
 
 -- what is printed for a journal that is checked, with why paths closed or without it
 abbrev pub checked_text : (why : Bool) → NameLists → WorldState → List JournalLine → List ℕ
@@ -114,7 +122,8 @@ checked_text true names world journal = told_text names 1 world [] world journal
 
 -- whom a mixer at a box would let each party hear at a settle, after its paths
 abbrev pub conference_text : NameLists → (who : ℕ) → ℕ → WorldState → List ℕ
-conference_text names who number world = settle_text names number world ++ print_conf names who (map (view_of world) (paths world))
+conference_text names who number world =
+    settle_text names number world ++ print_conf names who (map (view_of world) (paths world))
 
 -- the settles of a journal, each with its paths and a conference
 abbrev pub conferences_text : NameLists → (who : ℕ) → ℕ → WorldState → List JournalLine → List ℕ
@@ -137,24 +146,25 @@ opening_text (Conference who) world = []
 -- ---- a stop
 
 -- the word for why a script stopped
-abbrev pub stop_word : Stop → List ℕ
+abbrev pub stop_word : SettleStop → List ℕ
 stop_word (VersionEnd at) = codes "version"
 stop_word (Ring at) = codes "ring"
 stop_word (Restless at) = codes "restless"
 
 -- where it stopped: a slot by its place in the first world, or a box
-abbrev pub stop_place : NameLists → WorldState → Stop → List ℕ
+abbrev pub stop_place : NameLists → WorldState → SettleStop → List ℕ
 stop_place names world (VersionEnd at) = place_word names world at
 stop_place names world (Ring at) = place_word names world at
 stop_place names world (Restless at) = box_word names at
 
 -- the one line for a script that stopped
-abbrev pub stop_line : NameLists → WorldState → Stop → List ℕ
+abbrev pub stop_line : NameLists → WorldState → SettleStop → List ℕ
 stop_line names world stop = line_of (stop_word stop ∷ stop_place names world stop ∷ [])
 
 -- what is printed for a journal from a world: what is reported at its settles, or for a stop that line alone
-abbrev pub script_text : Report → NameLists → WorldState → Option Stop → List JournalLine → List ℕ
-script_text report names world None journal = opening_text report world ++ at_settles (report_text report names) 1 world journal
+abbrev pub script_text : Report → NameLists → WorldState → Option SettleStop → List JournalLine → List ℕ
+script_text report names world None journal =
+    opening_text report world ++ at_settles (report_text report names) 1 world journal
 script_text report names world (Some stop) journal = stop_line names world stop
 
 -- ---- the journal itself
@@ -163,14 +173,15 @@ script_text report names world (Some stop) journal = stop_line names world stop
 abbrev pub journal_part : NameLists → List JournalLine → List ℕ
 journal_part names journal = line_of (codes "journal" ∷ []) ++ print_journal names journal
 
--- behind what was printed, where it is asked for and the script came to its end
-abbrev pub with_journal : (asked : Bool) → Option Stop → NameLists → List JournalLine → List ℕ → List ℕ
+-- after what was printed, where it is asked for and the script came to its end
+abbrev pub with_journal : (asked : Bool) → Option SettleStop → NameLists → List JournalLine → List ℕ → List ℕ
 with_journal true None names journal text = text ++ journal_part names journal
 with_journal asked stop names journal text = text
 
 -- all that is printed for a script
-abbrev pub run_text : Report → (asked : Bool) → NameLists → WorldState → Option Stop → List JournalLine → List ℕ
-run_text report asked names world stop journal = with_journal asked stop names journal (script_text report names world stop journal)
+abbrev pub run_text : Report → (asked : Bool) → NameLists → WorldState → Option SettleStop → List JournalLine → List ℕ
+run_text report asked names world stop journal =
+    with_journal asked stop names journal (script_text report names world stop journal)
 
 -- ---- a faulty text
 

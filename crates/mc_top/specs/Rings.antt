@@ -13,8 +13,11 @@ MakesNoRing d = (world : WorldState) → IsFirstWorld d world → LeavesNoRing w
 
 -- in the first world of a text each program goes by words, and no chain of links and tunnels can be closed
 abbrev pub GoesByNames : Declared → Type 0
-GoesByNames d = (world : WorldState) → IsFirstWorld d world → RestsByWords world (batches_of d.commands) × ClosesNoChain world (batches_of d.commands)
+GoesByNames d =
+    (world : WorldState) → IsFirstWorld d world
+    → RestsByWords world (batches_of d.commands) × ClosesNoChain world (batches_of d.commands)
 
--- each batch of a text comes to rest: no program was declared, and no batch leaves a ring; or what stands in the text shows it, whatever its programs do
+-- each batch of a text comes to rest: no program was declared, and no batch leaves a ring; or what stands in the text
+-- shows it, whatever its programs do
 abbrev pub AlwaysRests : Declared → Type 0
 AlwaysRests d = (IsUnprogrammed d × MakesNoRing d) ⊎ GoesByNames d

@@ -13,5 +13,8 @@ use Rattle.mc_top.specs.Printed.{journal_text}
 
 -- each journal that settles the batches of a scene prints its stated output
 abbrev pub ScenesPrintTheSame : Type 0
-ScenesPrintTheSame = (scene : Scene) (net : Net) (journal : List JournalLine) → DeclaresNet Nothing (scene_text scene) net → IsSound net.world
-    → IsJournal net.world (map batch_turns net.batches.items) journal → journal_text net.names 1 net.world journal ≡ scene_output scene
+ScenesPrintTheSame =
+    (scene : Scene) (net : Net) (journal : List JournalLine) → DeclaresNet Nothing (scene_text scene) net
+    → IsSound net.world
+    → IsJournal net.world (map batch_turns net.batches.items) journal
+    → journal_text net.names 1 net.world journal ≡ scene_output scene

@@ -37,7 +37,8 @@ FollowSchedule (Some state) None world batch turns last = ⊥
 FollowSchedule (Some state) (Some end) world batch turns last = IsScheduled world batch state turns last end
 
 -- a batch was settled, and that was kept, and printed under the settle's number
-pub record Settling (print : ℕ → WorldState → List ℕ) (number : ℕ) (batch : List Turn) (old new : ScriptState) : Type 0 where
+pub record Settling (print : ℕ → WorldState → List ℕ) (number : ℕ) (batch : List Turn)
+    (old new : ScriptState) : Type 0 where
   pub turns : List Turn
   pub settled : IsSettled old.world batch turns new.world
   pub shift_limit : KeepsShiftLimit turns

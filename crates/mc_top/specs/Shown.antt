@@ -25,7 +25,8 @@ shown_text names number (views ∷ shown) = print_settle names number views ++ s
 abbrev pub printed_text : NameLists → ℕ → List (List PathView) → List (List (Option ℕ)) → List ℕ
 printed_text names number [] told = []
 printed_text names number (views ∷ shown) [] = []
-printed_text names number (views ∷ shown) (whys ∷ told) = (print_settle names number views ++ print_whys names views whys) ++ printed_text names (number + 1) shown told
+printed_text names number (views ∷ shown) (whys ∷ told) =
+    (print_settle names number views ++ print_whys names views whys) ++ printed_text names (number + 1) shown told
 
 -- what a run prints for what is shown at a settle, by the settle's number
 abbrev pub print_report : Report → NameLists → ℕ → List PathView → List ℕ

@@ -1,36 +1,43 @@
 -- What is said of the statuses with which a call ends.
 use Rattle.std.specs.Prelude.{ℕ, ◌≡◌, ◌⊎◌, ◌==◌, ◌||◌, Bool, Option, Some, None}
 use Rattle.mc_top.specs.declared.status.TheConstants.{WORKED, FAULTY_TEXT, VERSION_END, USAGE, NO_MEMORY, READ_FAULT, RESTLESS, RING, JOURNAL_FAULT, NO_BOX}
-use Rattle.mc_top.specs.declared.stop.Stop.{Stop}
-use Rattle.mc_top.specs.declared.stop.Stop.TheVariants.{Restless, Ring, VersionEnd}
+use Rattle.mc_top.specs.declared.stop.SettleStop.{SettleStop}
+use Rattle.mc_top.specs.declared.stop.SettleStop.TheVariants.{Restless, Ring, VersionEnd}
 
 -- the status may be due: each may but that of a fault in writing
 abbrev pub IsDue : ℕ → Type 0
-IsDue due = (due ≡ WORKED) ⊎ (due ≡ FAULTY_TEXT) ⊎ (due ≡ USAGE) ⊎ (due ≡ NO_MEMORY) ⊎ (due ≡ READ_FAULT) ⊎ (due ≡ RESTLESS) ⊎ (due ≡ RING) ⊎ (due ≡ JOURNAL_FAULT) ⊎ (due ≡ NO_BOX)
+IsDue due =
+    (due ≡ WORKED) ⊎ (due ≡ FAULTY_TEXT) ⊎ (due ≡ USAGE) ⊎ (due ≡ NO_MEMORY) ⊎ (due ≡ READ_FAULT) ⊎ (due ≡ RESTLESS)
+    ⊎ (due ≡ RING) ⊎ (due ≡ JOURNAL_FAULT) ⊎ (due ≡ NO_BOX)
 
 -- the status may be due where the words are a mode's
 abbrev pub IsDueForMode : ℕ → Type 0
-IsDueForMode due = (due ≡ WORKED) ⊎ (due ≡ FAULTY_TEXT) ⊎ (due ≡ NO_MEMORY) ⊎ (due ≡ READ_FAULT) ⊎ (due ≡ RESTLESS) ⊎ (due ≡ RING) ⊎ (due ≡ JOURNAL_FAULT) ⊎ (due ≡ NO_BOX)
+IsDueForMode due =
+    (due ≡ WORKED) ⊎ (due ≡ FAULTY_TEXT) ⊎ (due ≡ NO_MEMORY) ⊎ (due ≡ READ_FAULT) ⊎ (due ≡ RESTLESS) ⊎ (due ≡ RING)
+    ⊎ (due ≡ JOURNAL_FAULT) ⊎ (due ≡ NO_BOX)
 
 -- the status may be due for a text that was read whole; that of a stop at the last version is that of a fault
 abbrev pub IsDueForText : ℕ → Type 0
-IsDueForText due = (due ≡ WORKED) ⊎ (due ≡ FAULTY_TEXT) ⊎ (due ≡ NO_MEMORY) ⊎ (due ≡ RESTLESS) ⊎ (due ≡ RING) ⊎ (due ≡ JOURNAL_FAULT) ⊎ (due ≡ NO_BOX)
+IsDueForText due =
+    (due ≡ WORKED) ⊎ (due ≡ FAULTY_TEXT) ⊎ (due ≡ NO_MEMORY) ⊎ (due ≡ RESTLESS) ⊎ (due ≡ RING) ⊎ (due ≡ JOURNAL_FAULT)
+    ⊎ (due ≡ NO_BOX)
 
 -- the text was read, and it was found to have a fault or none
 abbrev pub judges_text : ℕ → Bool
-judges_text due = due == WORKED || due == FAULTY_TEXT || due == RESTLESS || due == RING || due == JOURNAL_FAULT || due == NO_BOX
+judges_text due =
+    due == WORKED || due == FAULTY_TEXT || due == RESTLESS || due == RING || due == JOURNAL_FAULT || due == NO_BOX
 
 -- what was settled, checked or made up to a stop, is in the journal
 abbrev pub keeps_journal : ℕ → Bool
 keeps_journal due = due == WORKED || due == VERSION_END || due == RESTLESS || due == RING
 
 -- the status with which a call ends whose script stopped
-abbrev pub stop_status : Stop → ℕ
+abbrev pub stop_status : SettleStop → ℕ
 stop_status (VersionEnd at) = VERSION_END
 stop_status (Ring at) = RING
 stop_status (Restless at) = RESTLESS
 
 -- the status that is due for a script that was run to its end, or to a stop
-abbrev pub due_by : Option Stop → ℕ
+abbrev pub due_by : Option SettleStop → ℕ
 due_by None = WORKED
 due_by (Some stop) = stop_status stop

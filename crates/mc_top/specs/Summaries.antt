@@ -18,7 +18,9 @@ closed_paths world = count_by (λ path. not (is_flowing (path_state world path))
 
 -- how many ends of paths hear a codec, by the path table
 abbrev pub hearing_path_ends : WorldState → ℕ
-hearing_path_ends world = sum_by (λ path. heard_ends (is_flowing (path_state world path)) (low_hears world path) (high_hears world path)) (paths world)
+hearing_path_ends world =
+    sum_by (λ path. heard_ends (is_flowing (path_state world path)) (low_hears world path) (high_hears world path))
+    (paths world)
 
 -- a settle by its number, in one line: how many paths flow and are closed, and how many ends hear a codec
 abbrev pub summary_text : ℕ → WorldState → List ℕ

@@ -29,15 +29,25 @@ abbrev pub HasNoConference : Report → Type 0
 HasNoConference (Conference who) = ⊥
 HasNoConference report = Unit {0}
 
--- two runs of one text report the same, settle by settle, if no box has a program and no batch leaves a path of hold against hold
+-- two runs of one text report the same, settle by settle, if no box has a program and no batch leaves a path of hold
+-- against hold
 abbrev pub TextAloneDecides : Type 0
-TextAloneDecides = (report : Report) (tail : Tail) (text : List ℕ) (net other : Net) (first second : List JournalLine) → HasNoConference report → SettlesText tail text net first → SettlesText tail text other second
-    → HasNoPrograms net.world → LeavesDecided net.world (map batch_turns net.batches.items) → script_text report net.names net.world None first ≡ script_text report other.names other.world None second
+TextAloneDecides =
+    (report : Report) (tail : Tail) (text : List ℕ) (net other : Net) (first second : List JournalLine)
+    → HasNoConference report → SettlesText tail text net first → SettlesText tail text other second
+    → HasNoPrograms net.world → LeavesDecided net.world (map batch_turns net.batches.items)
+    → script_text report net.names net.world None first ≡ script_text report other.names other.world None second
 
--- so two calls that did their work on one text print the same, under the same premises, in whichever modes that read it in the same way and report the same of it, where neither prints its journal or tells why paths closed
+-- so two calls that did their work on one text print the same, under the same premises, in whichever modes that read it
+-- in the same way and report the same of it, where neither prints its journal or tells why paths closed
 abbrev pub CallsPrintSame : Type 0
-CallsPrintSame = (text : List ℕ) (first second : List JournalLine) (mode instead : Mode) (old new from to : Option (List ℕ)) (status end : ℕ)
-    → tail_of mode ≡ tail_of instead → ((names : NameLists) → report_of mode names ≡ report_of instead names) → ((names : NameLists) → HasNoConference (report_of mode names)) → IsFalse (prints_journal mode) → IsFalse (prints_journal instead)
+CallsPrintSame =
+    (text : List ℕ) (first second : List JournalLine) (mode instead : Mode) (old new from to : Option (List ℕ))
+    (status end : ℕ)
+    → tail_of mode ≡ tail_of instead → ((names : NameLists) → report_of mode names ≡ report_of instead names)
+    → ((names : NameLists) → HasNoConference (report_of mode names)) → IsFalse (prints_journal mode)
+    → IsFalse (prints_journal instead)
     → IsFalse (tells_why mode) → IsFalse (tells_why instead)
     → (one : Worked mode (Some text) old new status first) (two : Worked instead (Some text) from to end second)
-    → HasNoPrograms one.net.world → LeavesDecided one.net.world (map batch_turns one.net.batches.items) → output_of mode one.net first ≡ output_of instead two.net second
+    → HasNoPrograms one.net.world → LeavesDecided one.net.world (map batch_turns one.net.batches.items)
+    → output_of mode one.net first ≡ output_of instead two.net second

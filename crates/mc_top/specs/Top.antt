@@ -23,7 +23,7 @@ use Rattle.mc_scene.specs.Generated.{generated}
 use Rattle.mc_scene.specs.Scenes.{scene_text}
 use Rattle.mc_script.specs.declared.command.JournalLine.{JournalLine}
 use Rattle.mc_top.specs.declared.status.TheConstants.{WORKED, FAULTY_TEXT, USAGE, NO_MEMORY, READ_FAULT, RESTLESS, RING, WRITE_FAULT, JOURNAL_FAULT, NO_BOX}
-use Rattle.mc_top.specs.declared.stop.Stop.{Stop}
+use Rattle.mc_top.specs.declared.stop.SettleStop.{SettleStop}
 use Rattle.mc_top.specs.declared.top.Done.{Done}
 use Rattle.mc_words.specs.declared.words.Mode.{Mode}
 use Rattle.mc_words.specs.declared.words.Mode.TheVariants.{Check, Conf, Gen, One, Run, Scene}
@@ -56,7 +56,8 @@ ReadsFor mode old new text = IsTrue (reads mode) → ReadsWhole (tail_of mode) o
 abbrev pub IsTextOf : Tail → Option (List ℕ) → List ℕ → Type 0
 IsTextOf tail told text = IfSome told (λ all. text ≡ first_bytes tail all)
 
--- this is the text that a mode works on, or its first bytes, where it is told; that of a mode that doesn't read is its own
+-- this is the text that a mode works on, or its first bytes, where it is told; that of a mode that doesn't read is its
+-- own
 abbrev pub IsTextFor : Mode → (left : Option (List ℕ)) → List ℕ → Type 0
 IsTextFor (Run journal) left text = IsTextOf Nothing left text
 IsTextFor (One state journal) left text = IsTextOf Nothing left text
@@ -65,7 +66,10 @@ IsTextFor (Gen number size) left text = text ≡ generated number size
 IsTextFor (Scene scene) left text = text ≡ scene_text scene
 IsTextFor (Conf name) left text = IsTextOf Nothing left text
 
--- The journal is one settled segment for each settle, in order, all of them one run from the network's first world: the interleaving of the boxes. At each settle the two end slots of every path are in the state that the path table gives, and where it flows each has the other's newest descriptor and the choice for its own. Which interleaving it is the draws decide, from their first state on, where there are draws: in a sound world there is no other such journal
+-- The journal is one settled segment for each settle, in order, all of them one run from the network's first world: the
+-- interleaving of the boxes. At each settle the two end slots of every path are in the state that the path table gives,
+-- and where it flows each has the other's newest descriptor and the choice for its own. Which interleaving it is the
+-- draws decide, from their first state on, where there are draws: in a sound world there is no other such journal
 pub record Settles (net : Net) (draws : Option ℕ) (journal : List JournalLine) : Type 0 where
   pub sound : IsSound net.world
   pub settled : IsJournal net.world (map batch_turns net.batches.items) journal
@@ -76,19 +80,26 @@ pub record Settles (net : Net) (draws : Option ℕ) (journal : List JournalLine)
 abbrev pub ToldDeclares : Tail → Option (List ℕ) → Net → Type 0
 ToldDeclares tail told net = IfSome told (λ text. DeclaresNet tail text net)
 
--- the first fault of what is told of a text is this one: a line breaks the rule of this number and none with a lesser one, and no line before it breaks a rule
+-- the first fault of what is told of a text is this one: a line breaks the rule of this number and none with a lesser
+-- one, and no line before it breaks a rule
 abbrev pub ToldFault : Tail → Option (List ℕ) → ℕ → ℕ → Type 0
 ToldFault tail told number line = IfSome told (λ text. IsFault tail text number line)
 
--- where a journal stands behind the commands, it is the one that is told, and no line of it is bad
+-- where a journal stands after the commands, it is the one that is told, and no line of it is bad
 abbrev pub ToldJournal : Tail → Option (List ℕ) → Net → List JournalLine → Type 0
 ToldJournal Nothing told net journal = Unit {0}
 ToldJournal Journal told net journal = IfSome told (λ text. HasJournal text net journal)
 
--- A mode did its work: it settled the network that the text declares, or checked the journal behind it, and delivered what it prints for the worlds that replaying the journal gives.
+-- A mode did its work: it settled the network that the text declares, or checked the journal after it, and delivered
+-- what it prints for the worlds that replaying the journal gives.
 --
--- The headline, for every network, script and interleaving of the boxes: each path line that is printed after a settle is the table's answer for its two end goals, closed where an end closes, flowing where one opens and none closes, either of the two for hold against hold; and a flowing line's media are those of the two ends' newest descriptors. In no segment of the journal that a run makes does a box make more Shifts than the limit; one that is checked may have more
-pub record Worked (mode : Mode) (told old new : Option (List ℕ)) (status : ℕ) (journal : List JournalLine) : Type 0 where
+-- The headline, for every network, script and interleaving of the boxes: each path line that is printed after a settle
+-- is the table's answer for its two end goals, closed where an end closes, flowing where one opens and none closes,
+-- either of the two for hold against hold; and a flowing line's media are those of the two ends' newest descriptors. In
+-- no segment of the journal that a run makes does a box make more Shifts than the limit; one that is checked may have
+-- more
+pub record Worked (mode : Mode) (told old new : Option (List ℕ)) (status : ℕ)
+    (journal : List JournalLine) : Type 0 where
   pub net : Net
   pub declared : ToldDeclares (tail_of mode) told net
   pub box : IsTrue (has_box mode net.names net.world)
@@ -98,14 +109,16 @@ pub record Worked (mode : Mode) (told old new : Option (List ℕ)) (status : ℕ
   pub delivered : Delivers status WORKED old new (output_of mode net journal)
 
 -- a mode refused the text, and delivered the one line that names its first fault
-pub record Refused (mode : Mode) (told old new : Option (List ℕ)) (status : ℕ) (journal : List JournalLine) : Type 0 where
+pub record Refused (mode : Mode) (told old new : Option (List ℕ)) (status : ℕ)
+    (journal : List JournalLine) : Type 0 where
   pub number : ℕ
   pub line : ℕ
   pub fault : ToldFault (tail_of mode) told number line
   pub delivered : Delivers status FAULTY_TEXT old new (fault_line number line)
   pub no_journal : journal ≡ []
 
--- the journal behind the commands has a fault, and the one line that names its first one was delivered. A journal that is good has none
+-- the journal after the commands has a fault, and the one line that names its first one was delivered. A journal that
+-- is good has none
 pub record RefusesCheck (told old new : Option (List ℕ)) (status : ℕ) (journal : List JournalLine) : Type 0 where
   pub net : Net
   pub number : ℕ
@@ -115,18 +128,24 @@ pub record RefusesCheck (told old new : Option (List ℕ)) (status : ℕ) (journ
   pub delivered : Delivers status JOURNAL_FAULT old new (journal_fault_line number turn)
   pub no_journal : journal ≡ []
 
--- the network that the text declares has no feature of the name that a mode is about, and the one line that says so was delivered. Nothing was settled
-pub record RefusesBox (mode : Mode) (told old new : Option (List ℕ)) (status : ℕ) (journal : List JournalLine) : Type 0 where
+-- the network that the text declares has no feature of the name that a mode is about, and the one line that says so was
+-- delivered. Nothing was settled
+pub record RefusesBox (mode : Mode) (told old new : Option (List ℕ)) (status : ℕ)
+    (journal : List JournalLine) : Type 0 where
   pub net : Net
   pub declared : ToldDeclares (tail_of mode) told net
   pub none : IsFalse (has_box mode net.names net.world)
   pub delivered : Delivers status NO_BOX old new (no_box_line (name_for mode))
   pub no_journal : journal ≡ []
 
--- The script of the network that the text declares stopped, and the one line that says where was delivered. The journal is the settled segments before, and the turns up to the stop: replayed, they lead to a world that shows the cause. Where the mode draws, the draws decide which turns these are. In no segment, nor up to the stop, does a box make more Shifts than the limit
-pub record StopsScript (mode : Mode) (told old new : Option (List ℕ)) (status due : ℕ) (journal : List JournalLine) : Type 0 where
+-- The script of the network that the text declares stopped, and the one line that says where was delivered. The journal
+-- is the settled segments before, and the turns up to the stop: replayed, they lead to a world that shows the cause.
+-- Where the mode draws, the draws decide which turns these are. In no segment, nor up to the stop, does a box make more
+-- Shifts than the limit
+pub record StopsScript (mode : Mode) (told old new : Option (List ℕ)) (status due : ℕ)
+    (journal : List JournalLine) : Type 0 where
   pub net : Net
-  pub stop : Stop
+  pub stop : SettleStop
   pub runs : IsFalse (checks mode)
   pub declared : ToldDeclares (tail_of mode) told net
   pub box : IsTrue (has_box mode net.names net.world)
@@ -139,9 +158,11 @@ pub record StopsScript (mode : Mode) (told old new : Option (List ℕ)) (status 
   pub delivered : Delivers status due old new (stop_line net.names net.world stop)
 
 -- what a mode printed and kept, for the text that it was told
-pub record Ends (mode : Mode) (told old new : Option (List ℕ)) (status due : ℕ) (journal : List JournalLine) : Type 0 where
+pub record Ends (mode : Mode) (told old new : Option (List ℕ)) (status due : ℕ)
+    (journal : List JournalLine) : Type 0 where
   pub worked : due ≡ WORKED → Worked mode told old new status journal
-  pub refused : due ≡ FAULTY_TEXT → Refused mode told old new status journal ⊎ StopsScript mode told old new status due journal
+  pub refused : due ≡ FAULTY_TEXT
+      → Refused mode told old new status journal ⊎ StopsScript mode told old new status due journal
   pub at_stop : (due ≡ RESTLESS) ⊎ (due ≡ RING) → StopsScript mode told old new status due journal
   pub check_refused : due ≡ JOURNAL_FAULT → IsTrue (checks mode) × RefusesCheck told old new status journal
   pub no_box : due ≡ NO_BOX → RefusesBox mode told old new status journal

@@ -21,4 +21,5 @@ pub record RestsByWords (world : WorldState) (batches : List (List Turn)) : Type
 
 -- in the first world of a text no word is told yet
 abbrev pub FirstWorldsAwaitWords : Type 0
-FirstWorldsAwaitWords = (d : Declared) (world : WorldState) → IsFirstWorld d world → (who : ℕ) → (box_at world who).told ≡ None
+FirstWorldsAwaitWords =
+    (d : Declared) (world : WorldState) → IsFirstWorld d world → (who : ℕ) → (box_at world who).told ≡ None

@@ -1,4 +1,4 @@
-// The journal that stands behind the commands of a text.
+// The journal that stands after the commands of a text.
 
 ghost use Rattle.std.specs.Prelude.{◌≡◌, ◌-◌, ◌<◌, ◌≤◌, ◌^◌, IfOk, drop, length};
 ghost use Rattle.std.specs.List.{before_last};

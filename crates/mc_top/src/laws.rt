@@ -72,7 +72,7 @@ pub fn runs_are_read_back()
     ensures { RunsAreReadBack }
 {}
 
-/// Behind the commands of a text of the same network that journal is good, within the limit of the text, and so has no
+/// After the commands of a text of the same network that journal is good, within the limit of the text, and so has no
 /// fault: `check` accepts it.
 pub fn printed_journals_are_good()
     ensures { PrintedJournalsAreGood }

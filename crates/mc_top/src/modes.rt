@@ -11,7 +11,7 @@ use mc_text::{Draws, Names};
 use mc_words::Mode;
 use mc_world::World;
 
-/// What may stand behind the commands of a mode's text.
+/// What may stand after the commands of a mode's text.
 pub fn tail_of(mode: Mode) -> Tail
     ensures { result ≡ tail_of mode }
 {

@@ -6,7 +6,7 @@ ghost use Rattle.mc_table.specs.Words.{line_of};
 ghost use Rattle.mc_text.specs.NameLists.{slot_names, slot_word};
 ghost use Rattle.mc_top.specs.Printed.{box_word, fault_line, journal_fault_line, journal_part, no_box_line, stop_word};
 
-use crate::stop::Stop;
+use crate::stop::SettleStop;
 use mc_journal::print_journal;
 use mc_net::TextFault;
 use mc_script::JournalLine;
@@ -33,7 +33,7 @@ pub fn put_journal(
 pub fn print_stop(
     alloc: Global,
     names: &Names,
-    stop: Stop,
+    stop: SettleStop,
     place: (u32, u8),
 ) -> Result<Vec<u8>, AllocError>
     requires who { place.0 < length names.now.boxes }
@@ -60,13 +60,13 @@ pub fn print_restless(alloc: Global, names: &Names, who: u32) -> Result<Vec<u8>,
 }
 
 // The word for why a script stopped.
-fn stop_word(stop: Stop) -> &'static [u8]
+fn stop_word(stop: SettleStop) -> &'static [u8]
     ensures { result.now ≡ stop_word stop }
 {
     match stop {
-        Stop::VersionEnd(_) => b"version",
-        Stop::Ring(_) => b"ring",
-        Stop::Restless(_) => b"restless",
+        SettleStop::VersionEnd(_) => b"version",
+        SettleStop::Ring(_) => b"ring",
+        SettleStop::Restless(_) => b"restless",
     }
 }
 

@@ -10,7 +10,7 @@ ghost use Rattle.mc_top.specs.Reasons.{ExplainsDue, HasPlace, IsFaultOf, IsNoBox
 ghost use Rattle.mc_top.specs.Statuses.{due_by};
 
 use crate::run::Run;
-use crate::stop::Stop;
+use crate::stop::SettleStop;
 use mc_box::Kind;
 use mc_explain::Reason;
 use mc_script::JournalLine;
@@ -27,15 +27,15 @@ pub fn reason_of(alloc: Global, run: &Run) -> Result<Reason, AllocError>
     let settle = marks_in(&run.journal) + 1;
     match run.stop {
         None => Ok(Reason::Worked),
-        Some(Stop::VersionEnd(_)) => {
+        Some(SettleStop::VersionEnd(_)) => {
             let place = Vec::from_slice(alloc, place_in(b"version", &run.output))?;
             Ok(Reason::VersionEnd { place, settle })
         }
-        Some(Stop::Ring(_)) => {
+        Some(SettleStop::Ring(_)) => {
             let place = Vec::from_slice(alloc, place_in(b"ring", &run.output))?;
             Ok(Reason::Ring { place, settle })
         }
-        Some(Stop::Restless(_)) => {
+        Some(SettleStop::Restless(_)) => {
             let place = Vec::from_slice(alloc, place_in(b"restless", &run.output))?;
             Ok(Reason::Restless { place, settle })
         }

@@ -18,12 +18,12 @@ ghost use Rattle.mc_top.specs.Outcomes.{CameOf, EndsAt, EndsBy, IsNamedFault};
 ghost use Rattle.mc_top.specs.Printed.{box_word, script_text, stop_word, with_journal};
 ghost use Rattle.mc_top.specs.Scripts.{first_state, network_draws, network_world};
 ghost use Rattle.mc_top.specs.Shown.{HasNamedBox, print_report};
-ghost use Rattle.mc_top.specs.declared.stop.Stop.TheVariants.{Restless};
+ghost use Rattle.mc_top.specs.declared.stop.SettleStop.TheVariants.{Restless};
 
 use crate::print::{print_restless, print_stop, put_journal};
 use crate::report::{Report, print_opening, put_report};
 use crate::script_network::ScriptNetwork;
-use crate::stop::Stop;
+use crate::stop::SettleStop;
 use mc_box::Turn;
 use mc_io::Gate;
 use mc_script::{Batch, JournalLine};
@@ -40,7 +40,7 @@ use std::thread::Threads;
 pub struct Run {
     pub output: Vec<u8>,
     pub journal: Vec<JournalLine>,
-    pub stop: Option<Stop>,
+    pub stop: Option<SettleStop>,
 }
 
 // A script while it runs: its network, with its draws, if it has some, and what was kept and printed so far.
@@ -154,11 +154,11 @@ fn stop_by(
 {
     match fault {
         SettleFault::VersionEnd(stopped) => {
-            let stop = Stop::VersionEnd(stopped.at);
+            let stop = SettleStop::VersionEnd(stopped.at);
             stop_at(alloc, names, journal, stop, stopped)
         }
         SettleFault::Ring(stopped) => {
-            let stop = Stop::Ring(stopped.at);
+            let stop = SettleStop::Ring(stopped.at);
             stop_at(alloc, names, journal, stop, stopped)
         }
         SettleFault::Restless(stopped) => stop_restless(alloc, names, journal, stopped),
@@ -171,7 +171,7 @@ fn stop_at(
     alloc: Global,
     names: &Names,
     journal: Vec<JournalLine>,
-    stop: Stop,
+    stop: SettleStop,
     stopped: Stopped,
 ) -> Result<Run, AllocError>
     requires who { stopped.place.0 < length names.now.boxes }
@@ -195,12 +195,17 @@ fn stop_restless(
         stopped.turns.items journal.items run) }
 {
     let output = print_restless(alloc, names, stopped.at)?;
-    end_at(Stop::Restless(stopped.at), &stopped.turns, output, journal)
+    end_at(
+        SettleStop::Restless(stopped.at),
+        &stopped.turns,
+        output,
+        journal,
+    )
 }
 
-// Ends a script at a stop, behind these turns.
+// Ends a script at a stop, after these turns.
 fn end_at(
-    stop: Stop,
+    stop: SettleStop,
     turns: &[Turn],
     output: Vec<u8>,
     mut journal: Vec<JournalLine>,
@@ -286,7 +291,7 @@ pub fn run_script<R: Threads + Sync, G: Gate + Sync>(
     })
 }
 
-/// Behind what a script printed its journal, where it is asked for and the script came to its end.
+/// After what a script printed its journal, where it is asked for and the script came to its end.
 pub fn with_journal(alloc: Global, asked: bool, names: &Names, run: Run) -> Result<Run, AllocError>
     requires { run.stop ≡ None → All (IsNamedLine names.now) run.journal.items }
     ensures journal { IfOk result (λ whole. whole.journal ≡ run.journal) }

@@ -45,7 +45,7 @@ use crate::status::{
 use crate::stop::due_by;
 use mc_box::Shape;
 use mc_explain::Reason;
-use mc_io::{Gate, ReadFault, Sink, Source, read_up_to, write_whole};
+use mc_io::{Gate, Sink, Source, SourceFault, read_up_to, write_whole};
 use mc_net::{JOURNAL_TEXT_LIMIT, Net, NetFault, TEXT_LIMIT, TextFault, fault_detail, read_net};
 use mc_replay::ReplayFault;
 use mc_scene::{generated, scene_text};
@@ -70,7 +70,7 @@ pub struct Done {
 }
 
 /// The text that a mode works on: what the source has left, up to one byte more than the limit, or the mode's own.
-pub fn text_of<S: Source>(alloc: Global, mode: Mode, source: &mut S) -> Result<Vec<u8>, ReadFault>
+pub fn text_of<S: Source>(alloc: Global, mode: Mode, source: &mut S) -> Result<Vec<u8>, SourceFault>
     requires { IsWithinLimits mode }
     ensures text { IfOk result (λ text. IsTextFor mode (S.left source.old) text.items) }
     ensures whole { IfOk result (λ text. ReadsFor mode (S.left source.old) (S.left source.new) text.items) }
@@ -201,7 +201,7 @@ pub fn refuse_text<K: Sink>(
     }
 }
 
-// Runs a script. Behind what it prints stands its journal, where the mode asks for it: all that is in the journal of a
+// Runs a script. After what it prints stands its journal, where the mode asks for it: all that is in the journal of a
 // script that comes to its end is named.
 fn run_by_mode<R: Threads + Sync, G: Gate + Sync>(
     rt: &R,
@@ -430,7 +430,7 @@ fn check_whys(
     }
 }
 
-// Checks the journal behind a text by a network's names, shapes, world and commands. Its lines, behind what is printed
+// Checks the journal after a text by a network's names, shapes, world and commands. Its lines, after what is printed
 // for them.
 fn check_lines(
     alloc: Global,
@@ -493,7 +493,7 @@ pub fn check_by_net(
     check_lines(alloc, why, text, &names, &shape, world, &batches, rest)
 }
 
-// Checks the journal behind a text by the network that the text declares, and writes what is printed for it.
+// Checks the journal after a text by the network that the text declares, and writes what is printed for it.
 fn check_net<K: Sink>(alloc: Global, why: bool, text: &[u8], net: Net, sink: &mut K) -> Done
     requires short { length text.now ≤ read_limit Journal }
     requires declares { DeclaresNet Journal text.now net }
@@ -591,8 +591,8 @@ fn run_mode<R: Threads + Sync, S: Source, K: Sink, G: Gate + Sync>(
 {
     match text_of(alloc, mode, source) {
         Ok(text) => run_text(rt, alloc, gate, mode, &text, sink),
-        Err(ReadFault::Failed) => give_up(alloc, READ_FAULT, Reason::ReadFault),
-        Err(ReadFault::NoMemory(_)) => give_up(alloc, NO_MEMORY, Reason::NoMemory),
+        Err(SourceFault::Failed) => give_up(alloc, READ_FAULT, Reason::ReadFault),
+        Err(SourceFault::NoMemory(_)) => give_up(alloc, NO_MEMORY, Reason::NoMemory),
     }
 }
 
@@ -629,11 +629,11 @@ fn usage_reason(words: &[String]) -> Reason
 
 /// Does what the words ask for with the text that the source has left, and writes what is to be printed.
 ///
-/// The order is: words, reading, the text, its settles or the journal behind it, writing. Nothing is written before
+/// The order is: words, reading, the text, its settles or the journal after it, writing. Nothing is written before
 /// all output is built. At most one byte more than the limit of the mode's text is read, and nothing where the words
 /// ask for no reading.
 ///
-/// `check` is due to end with `JOURNAL_FAULT` exactly where the text declares a network and the journal behind it has
+/// `check` is due to end with `JOURNAL_FAULT` exactly where the text declares a network and the journal after it has
 /// a fault, but for want of memory: with `WORKED` the journal is good, a good journal has no fault, and with
 /// `JOURNAL_FAULT` there is one.
 pub fn media_top<R: Threads + Sync, S: Source, K: Sink, G: Gate + Sync>(

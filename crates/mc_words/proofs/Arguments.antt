@@ -1,6 +1,6 @@
 -- What the words ask for, by the arguments that they are.
 use Rattle.std.proofs.Common.{◌≡◌, ◌∙◌, ℕ, ◌≤◌, Bool, IfNone, IfSome, List, Option, Some, None, ap, arith, length, subst, sym}
-use Rattle.mc_arguments.specs.Arguments.{AreArguments, AreFew, words_met}
+use Rattle.mc_words.specs.Arguments.{AreArguments, AreFew, words_met}
 use Rattle.mc_words.specs.declared.words.Mode.{Mode}
 use Rattle.mc_words.specs.declared.words.Mode.TheVariants as mode
 use Rattle.mc_words.specs.Commands.{Asks, AsksFor, Spells, plain_words}

@@ -1,3 +1,8 @@
 mod BoxNames
 pub mod Arguments
 pub mod OneMode
+pub mod Rows
+pub mod Given
+pub mod OneWord
+pub mod Walks
+pub mod Parsed

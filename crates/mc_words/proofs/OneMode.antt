@@ -29,7 +29,7 @@ mode_word (mode.Gen number size) = codes "gen"
 mode_word (mode.Scene scene) = codes "scene"
 mode_word (mode.Conf name) = codes "conf"
 
--- and the words behind it
+-- and the words after it
 begins : (m : Mode) (words : List (List ℕ)) → Spells m words → (rest : List (List ℕ)) × (words ≡ mode_word m ∷ rest)
 begins (mode.Run journal) words is = ([], is)
 begins (mode.One state journal) words (word, is, spelt) = (word ∷ [], is)

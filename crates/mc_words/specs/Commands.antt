@@ -1,7 +1,15 @@
 -- What the words of the command line ask for.
 use Rattle.std.specs.Prelude.{◌≡◌, ◌≤◌, ℕ, Bool, false, true, List, [], ◌∷◌, IsTrue, Some, codes, map, string_bytes, String, take}
 use Rattle.std.specs.declared.alloc.Global.{Global}
-pub use Rattle.mc_arguments.specs.Arguments.{HasNoOtherFlag, begins_with_dash, has_journal_flag, is_dashes, is_journal_flag, is_other_flag, plain_words}
+pub use Rattle.mc_words.specs.Arguments.{
+  HasNoOtherFlag,
+  begins_with_dash,
+  has_journal_flag,
+  is_dashes,
+  is_journal_flag,
+  is_other_flag,
+  plain_words,
+}
 use Rattle.mc_text.specs.Spelling.{is_name, number_of}
 use Rattle.mc_scene.specs.declared.limit.TheConstants.{NUMBER_LIMIT, SIZE_LIMIT}
 use Rattle.mc_scene.specs.declared.scenes.Scene.{Scene}
@@ -31,9 +39,11 @@ bytes_of name = take name.len name.at
 -- plain words ask for a mode
 abbrev pub Spells : Mode → List (List ℕ) → Type 0
 Spells (mode.Run journal) words = words ≡ codes "run" ∷ []
-Spells (mode.One state journal) words = (word : List ℕ) × (words ≡ codes "one" ∷ word ∷ []) × SpellsWithin NUMBER_LIMIT word state
+Spells (mode.One state journal) words =
+    (word : List ℕ) × (words ≡ codes "one" ∷ word ∷ []) × SpellsWithin NUMBER_LIMIT word state
 Spells (mode.Check why) words = words ≡ check_word why ∷ []
-Spells (mode.Gen number size) words = (word : List ℕ) × (size_word : List ℕ) × (words ≡ codes "gen" ∷ word ∷ size_word ∷ [])
+Spells (mode.Gen number size) words =
+    (word : List ℕ) × (size_word : List ℕ) × (words ≡ codes "gen" ∷ word ∷ size_word ∷ [])
     × SpellsWithin NUMBER_LIMIT word number × SpellsWithin SIZE_LIMIT size_word size × (1 ≤ size)
 Spells (mode.Scene scene) words = words ≡ codes "scene" ∷ scene_word scene ∷ []
 Spells (mode.Conf name) words = (words ≡ codes "conf" ∷ bytes_of name ∷ []) × IsTrue (is_name (bytes_of name))
@@ -58,7 +68,8 @@ AsksFor mode journal words = Spells mode words × (prints_journal mode ≡ journ
 
 -- plain words ask for a mode, with the flag where it prints the journal, and no other flag stands among them
 abbrev pub Asks : List (List ℕ) → Mode → Type 0
-Asks words mode = Spells mode (plain_words words) × (prints_journal mode ≡ has_journal_flag words) × HasNoOtherFlag words
+Asks words mode =
+    Spells mode (plain_words words) × (prints_journal mode ≡ has_journal_flag words) × HasNoOtherFlag words
 
 -- the words of the command line ask for a mode
 abbrev pub IsCommand : List (String Global) → Mode → Type 0
@@ -66,4 +77,5 @@ IsCommand words mode = Asks (map string_bytes words) mode
 
 -- no list of words asks for two modes
 abbrev pub WordsAskForOneMode : Type 0
-WordsAskForOneMode = (words : List (String Global)) (mode other : Mode) → IsCommand words mode → IsCommand words other → mode ≡ other
+WordsAskForOneMode =
+    (words : List (String Global)) (mode other : Mode) → IsCommand words mode → IsCommand words other → mode ≡ other

@@ -1,3 +1,5 @@
 pub mod BoxNames
 pub mod Commands
 pub mod Help
+pub mod Arguments
+pub mod Parser

@@ -1,9 +1,11 @@
 //! What the words of the command line ask for.
 #![tactic(auto)]
 
+mod arguments;
 mod box_name;
 mod help;
 pub mod laws;
+mod parser;
 mod words;
 
 pub use box_name::BoxName;

@@ -4,10 +4,10 @@ ghost use Rattle.std.specs.Prelude.{◌≡◌, ◌≤◌, ◌∷◌, [], ℕ, If
 ghost use Rattle.mc_words.specs.declared.words.Mode.{Mode};
 ghost use Rattle.mc_words.specs.Commands.{AsksFor, IsCommand, SpellsWithin, bytes_of, name_for, prints_journal, scene_word};
 ghost use Rattle.mc_text.specs.Spelling.{is_name};
-ghost use Rattle.mc_arguments.specs.Arguments.{words_met};
+ghost use Rattle.mc_words.specs.Arguments.{words_met};
 
+use crate::arguments::read_arguments;
 use crate::box_name::BoxName;
-use mc_arguments::read_arguments;
 use mc_scene::Scene;
 use mc_scene::limit::{NUMBER_LIMIT, SIZE_LIMIT};
 use mc_text::{is_name, read_number};
@@ -16,11 +16,11 @@ use std::alloc::{AllocError, Global};
 /// What the program is to do.
 #[derive(Clone, Copy, Debug, PartialEq, Eq)]
 pub enum Mode {
-    /// Reads a text, settles its calls, and prints them; and behind them the journal, if it is asked for.
+    /// Reads a text, settles its calls, and prints them; and after them the journal, if it is asked for.
     Run { journal: bool },
     /// The same, by draws that begin at a state.
     One { state: u32, journal: bool },
-    /// Reads a text with a journal behind its commands, checks the journal, and prints what it settles; and why closed
+    /// Reads a text with a journal after its commands, checks the journal, and prints what it settles; and why closed
     /// paths closed, if it is asked for.
     Check { why: bool },
     /// Runs a text of so many chains, drawn by a number.
@@ -59,7 +59,7 @@ impl Mode {
 }
 
 /// The mode that the words ask for. None where they ask for none; an error where memory is wanting. A first `--` says
-/// nothing but that the words behind it are plain; in front of it `--journal` may stand anywhere, and more than once.
+/// nothing but that the words after it are plain; in front of it `--journal` may stand anywhere, and more than once.
 pub fn read_mode(alloc: Global, words: &[String]) -> Result<Option<Mode>, AllocError>
     ensures some { IfOk result (λ read. IfSome read (IsCommand words.now)) }
     ensures none { IfOk result (λ read. IfNone read ((mode : Mode) → ¬ IsCommand words.now mode)) }

@@ -12,7 +12,7 @@ use Rattle.mc_slot.specs.declared.Cause.TheVariants.{Push}
 use Rattle.mc_slot.specs.declared.Slot.{Slot}
 use Rattle.mc_slot.specs.declared.SlotGoal.{SlotGoal}
 use Rattle.mc_slot.specs.declared.SlotGoal.TheVariants.{End, Link}
-use Rattle.mc_tunnel.proofs.Steps.{took_medium}
+use Rattle.mc_slot_laws.proofs.Steps.{took_medium}
 use Rattle.mc_box.specs.Acting.{Acted, BoxActs, sends, takes}
 use Rattle.mc_box.specs.BoxEvents.{BoxStep, box_event, goal_step_by, is_enabled}
 use Rattle.mc_box.specs.BoxShapes.{box_shape}

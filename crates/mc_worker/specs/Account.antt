@@ -33,7 +33,9 @@ logged claimed = record { stamp = claimed.entry.stamp; event = claimed.entry.eve
 abbrev pub ClaimsWithin : Claimed → Type 0
 ClaimsWithin claimed = claim_of claimed.entry.taken claimed.claim ≤ STAMP_LIMIT
 
--- these entries lead from the one worker to the other: their events make the one box into the other; each stamp is one more than the greater of the one before and of what was taken; at each channel end what came was taken and what was sent went away, in order; the stimuli were used in order; and no ring was exchanged
+-- these entries lead from the one worker to the other: their events make the one box into the other; each stamp is one
+-- more than the greater of the one before and of what was taken; at each channel end what came was taken and what was
+-- sent went away, in order; the stimuli were used in order; and no ring was exchanged
 pub record IsWork (a b : Worker) (log : List Claimed) : Type 0 where
   pub made : AreMade a.part (entries_of log) b.part
   pub stamps : AreStamped a.stamp log
@@ -64,7 +66,9 @@ owed_below box (suc slot) = owed_below box slot ++ owed_retry_of box slot
 abbrev pub retries_below : Bool → BoxState → ℕ → List Event
 retries_below retries box below = if retries then owed_below box below else []
 
--- and they begin with a retry of each slot that owed one, where retries are asked for, up to a stop for memory; no other retry comes, and the shifts stay within their limit. It is said of one round or of several; of one, IsRound says that nothing comes after retries that were cut short
+-- and they begin with a retry of each slot that owed one, where retries are asked for, up to a stop for memory; no
+-- other retry comes, and the shifts stay within their limit. It is said of one round or of several; of one, IsRound
+-- says that nothing comes after retries that were cut short
 pub record IsAccount (retries cut : Bool) (a b : Worker) (log : List Claimed) : Type 0 where
   pub work : IsWork a b log
   pub first : List Claimed
@@ -76,9 +80,12 @@ pub record IsAccount (retries cut : Bool) (a b : Worker) (log : List Claimed) : 
   pub no_other : events_that is_retry rest ≡ []
   pub few_shifts : b.shifts ≤ SHIFT_LIMIT
 
--- the accounts of two calls, between which only further stimuli came, and of which the second makes no retries, are one account
+-- the accounts of two calls, between which only further stimuli came, and of which the second makes no retries, are one
+-- account
 abbrev pub JoinAccounts : Type 0
-JoinAccounts = (retries cut cut_2 : Bool) (a b c : Worker) (before between : Queue Event) (added : List Event) (log log_2 : List Claimed)
+JoinAccounts =
+    (retries cut cut_2 : Bool) (a b c : Worker) (before between : Queue Event) (added : List Event)
+    (log log_2 : List Claimed)
     → before.items ≡ a.stimuli.items ++ added → between.items ≡ b.stimuli.items ++ added
     → IsAccount retries cut a b log → IsAccount false cut_2 (record b { stimuli = between }) c log_2
     → IsAccount retries cut (record a { stimuli = before }) c (log ++ log_2)
@@ -92,7 +99,8 @@ pub record HasEnd (count : ℕ) (places : List (ℕ × ℕ)) (slot : ℕ) : Type
   pub there : end < count
   pub at : tunnels_at places end slot ≡ Some tunnel
 
--- where each slot of a sound box has a place, at an end that is there, each signal that made entries send is of a slot with such an end: so it is in what they send there
+-- where each slot of a sound box has a place, at an end that is there, each signal that made entries send is of a slot
+-- with such an end: so it is in what they send there
 abbrev pub SendingsHaveEnds : Type 0
 SendingsHaveEnds = (count : ℕ) (places : List (ℕ × ℕ)) (box last : BoxState) (entries : List Entry)
     → IsSoundBox box → length places ≡ length box.slots → AreAtEnds count places → AreMade box entries last

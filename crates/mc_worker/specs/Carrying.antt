@@ -1,4 +1,5 @@
--- What is carried from one box to another when their rounds are over: all that is under way at a channel end goes into the inbox at the far end.
+-- What is carried from one box to another when their rounds are over: all that is under way at a channel end goes into
+-- the inbox at the far end.
 use Rattle.std.specs.Prelude.{◌≡◌, List, [], ◌++◌, drop, length, map}
 use mathlib.Core.List.{IsPrefix}
 use Rattle.mc_port.specs.Ends.{without_stamp}
@@ -10,9 +11,11 @@ use Rattle.mc_worker.specs.Ends.{InAccount, InEnd, OutAccount, OutEnd}
 abbrev pub left_between : OutEnd → InEnd → List Stamped
 left_between out taking = drop (length taking.got) out.given
 
--- what is under way from the one end to the other: what waits in the inbox, then what the ring has, then what had no place there
+-- what is under way from the one end to the other: what waits in the inbox, then what the ring has, then what had no
+-- place there
 abbrev pub under_way_between : OutEnd → InEnd → List Tagged
-under_way_between out taking = taking.inbox ++ (map without_stamp (left_between out taking) ++ map without_stamp out.outbox)
+under_way_between out taking =
+    taking.inbox ++ (map without_stamp (left_between out taking) ++ map without_stamp out.outbox)
 
 -- all that was under way is in the inbox, in order; the ring and the outbox are empty
 pub record IsBroughtIn (out out_after : OutEnd) (taking taking_after : InEnd) : Type 0 where
@@ -27,9 +30,11 @@ pub record IsBroughtIn (out out_after : OutEnd) (taking taking_after : InEnd) : 
   pub order : taking.got ++ left_between out taking ≡ out.given
   pub knew : IsPrefix taking.known (left_between out taking)
 
--- over the turns of both ends and the carrying behind them, what was taken and what waits then are what waited before and what was sent, in order
+-- over the turns of both ends and the carrying after them, what was taken and what waits then are what waited before
+-- and what was sent, in order
 abbrev pub CarryingKeepsOrder : Type 0
-CarryingKeepsOrder = (out out_before out_after : OutEnd) (taking taking_before taking_after : InEnd) (sent taken : List Stamped)
+CarryingKeepsOrder =
+    (out out_before out_after : OutEnd) (taking taking_before taking_after : InEnd) (sent taken : List Stamped)
     → OutAccount out out_before sent → InAccount taking taking_before taken → taking.got ≡ out.given → out.outbox ≡ []
     → IsBroughtIn out_before out_after taking_before taking_after
     → map without_stamp taken ++ taking_after.inbox ≡ taking.inbox ++ map without_stamp sent

@@ -11,14 +11,16 @@ use Rattle.mc_worker.specs.Boxes.{box_of}
 
 -- ---- the way out
 
--- what waits in the outbox, what the ring was given, how many places are known to be free, and how often the ring handed something back
+-- what waits in the outbox, what the ring was given, how many places are known to be free, and how often the ring
+-- handed something back
 pub record OutEnd : Type 0 where
   pub outbox : List Stamped
   pub given : List Stamped
   pub free : ℕ
   pub back : ℕ
 
--- how often the ring has handed something back, once an outbox got these: the first of them, where nothing waited before it
+-- how often the ring has handed something back, once an outbox got these: the first of them, where nothing waited
+-- before it
 abbrev pub back_after : List Stamped → List Stamped → ℕ → ℕ
 back_after [] outbox count = count
 back_after (item ∷ kept) [] count = one_more_back count

@@ -17,7 +17,8 @@ key place = place.0 * TUNNEL_LIMIT + place.1
 
 -- the table has the slot of each place
 abbrev pub IsTable : List (ℕ × ℕ) → List ℕ → Type 0
-IsTable places table = (slot : ℕ) (place : ℕ × ℕ) → slice_get places slot ≡ Some place → slice_index table (key place) ≡ slot
+IsTable places table =
+    (slot : ℕ) (place : ℕ × ℕ) → slice_get places slot ≡ Some place → slice_index table (key place) ≡ slot
 
 -- the places are at ends that are there
 abbrev pub AreAtEnds : ℕ → List (ℕ × ℕ) → Type 0

@@ -33,7 +33,8 @@ pub record IsReady (worker : Worker) : Type 0 where
   pub shifts : worker.shifts ≤ SHIFT_LIMIT
 
 -- a worker as new, with these parts: nothing waits at its ends, no command is left, and no turn was made
-pub record IsNewWorker (box : BoxState) (places : List (ℕ × ℕ)) (taking : List InPort) (giving : List OutPort) (worker : Worker) : Type 0 where
+pub record IsNewWorker (box : BoxState) (places : List (ℕ × ℕ)) (taking : List InPort) (giving : List OutPort)
+    (worker : Worker) : Type 0 where
   pub part : worker.part ≡ box
   pub place : worker.place ≡ places
   pub ins : worker.ins.items ≡ taking

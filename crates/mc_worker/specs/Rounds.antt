@@ -29,7 +29,8 @@ CantShift worker = (is_enabled worker.part Shift ≡ false) ⊎ (worker.shifts �
 abbrev pub IsStrange : Worker → ℕ → Stamped → Type 0
 IsStrange worker end item =
     (STAMP_LIMIT < item.stamp)
-    ⊎ ((slot : ℕ) → slice_get worker.place slot ≡ Some (end, item.tunnel) → slot_take (slot_at worker.part slot) item.signal ≡ None)
+    ⊎ ((slot : ℕ) → slice_get worker.place slot ≡ Some (end, item.tunnel)
+    → slot_take (slot_at worker.part slot) item.signal ≡ None)
 
 -- a Hear of this slot, which is at the last version
 abbrev pub IsLastHear : BoxState → ℕ → Event → Type 0
@@ -41,8 +42,10 @@ abbrev pub HasStopped : (Idle : Type 0) → Worker → Stop → Type 0
 HasStopped Idle worker Rested = (worker.stimuli.items ≡ []) × CantShift worker × Idle
 HasStopped Idle worker Spent = ⊥
 HasStopped Idle worker (NoMemory error) = Unit {0}
-HasStopped Idle worker (VersionEnd slot) = MatchOption (slice_get worker.stimuli.items 0) ⊥ (λ event. IsLastHear worker.part slot event)
-HasStopped Idle worker (Strange end tunnel) = MatchOption (next_in (in_at worker end)) ⊥ (λ item. (item.tunnel ≡ tunnel) × IsStrange worker end item)
+HasStopped Idle worker (VersionEnd slot) =
+    MatchOption (slice_get worker.stimuli.items 0) ⊥ (λ event. IsLastHear worker.part slot event)
+HasStopped Idle worker (Strange end tunnel) =
+    MatchOption (next_in (in_at worker end)) ⊥ (λ item. (item.tunnel ≡ tunnel) × IsStrange worker end item)
 
 -- why a turn wasn't made, where the round has come so far: it has passed all ends where nothing is left
 abbrev pub HasStoppedAt : Progress → Worker → Stop → Type 0
@@ -54,7 +57,8 @@ AllIdle a b = (end : ℕ) → end < length b.ins.items → IsIdle (in_at a end) 
 
 -- ---- a round
 
--- the account of a round with its numbers: the owed retries come first, all of them; or memory was wanting for one of them, and nothing else was made. Where a stimulus waits, the first entry that isn't a retry is the first stimulus
+-- the account of a round with its numbers: the owed retries come first, all of them; or memory was wanting for one of
+-- them, and nothing else was made. Where a stimulus waits, the first entry that isn't a retry is the first stimulus
 pub record IsRound (retries : Bool) (a b : Worker) (end : RoundEnd) : Type 0 where
   pub log : List Claimed
   pub account : IsAccount retries (is_memory end.stop) a b log
@@ -75,10 +79,12 @@ pub record OwesRetry (box : BoxState) : Type 0 where
 pub data HasWork (retries : Bool) (worker : Worker) : Type 0 where
   by_stimulus : worker.stimuli.items ≢ [] → HasWork retries worker
   by_shift : worker.shifts < SHIFT_LIMIT → IsTrue (is_enabled worker.part Shift) → HasWork retries worker
-  by_signal : (end : ℕ) (item : Stamped) → end < length worker.ins.items → next_in (in_at worker end) ≡ Some item → HasWork retries worker
+  by_signal : (end : ℕ) (item : Stamped) → end < length worker.ins.items → next_in (in_at worker end) ≡ Some item
+      → HasWork retries worker
   by_retry : IsTrue retries → OwesRetry worker.part → HasWork retries worker
 
--- the same before any ring is looked at: a command, a shift, a signal in an inbox, or, where retries are asked for, one that is owed
+-- the same before any ring is looked at: a command, a shift, a signal in an inbox, or, where retries are asked for, one
+-- that is owed
 pub data HasWaitingWork (retries : Bool) (worker : Worker) : Type 0 where
   waiting_stimulus : worker.stimuli.items ≢ [] → HasWaitingWork retries worker
   waiting_shift : worker.shifts < SHIFT_LIMIT → IsTrue (is_enabled worker.part Shift) → HasWaitingWork retries worker

@@ -24,13 +24,31 @@ use Rattle.mc_worker.specs.declared.worker.Worker.{Worker}
 -- taking an item by a slot
 abbrev pub take_entry : Worker → ℕ → Stamped → List (ℕ × Signal) → BoxState → Claimed
 take_entry worker slot item sent after = record {
-  entry = record { stamp = max worker.stamp item.stamp + 1; event = Take slot; taken = Some (without_stamp item); sent = sent; after = after };
+  entry = record {
+    stamp = max worker.stamp item.stamp
+        + 1;
+    event = Take slot;
+    taken = Some (without_stamp item);
+    sent = sent;
+    after = after;
+  };
   claim = item.stamp;
 }
 
 -- any other event
 abbrev pub act_entry : Worker → Event → List (ℕ × Signal) → BoxState → Claimed
-act_entry worker event sent after = record { entry = record { stamp = worker.stamp + 1; event = event; taken = None; sent = sent; after = after }; claim = 0 }
+act_entry worker event sent after =
+    record {
+      entry = record {
+        stamp = worker.stamp
+            + 1;
+        event = event;
+        taken = None;
+        sent = sent;
+        after = after;
+      };
+      claim = 0;
+    }
 
 -- a slot took an item, and so many signals were sent
 pub record IsTaken (a b : Worker) (slot : ℕ) (item : Stamped) (count : ℕ) : Type 0 where
@@ -56,7 +74,8 @@ pub record AreAdded (old new : Progress) (log : List Claimed) : Type 0 where
 abbrev pub turn_sends_limit : ℕ
 turn_sends_limit = 2 * SLOT_LIMIT
 
--- a worker in a round: it is ready for a turn, the numbers are within their limits, and no inbox has something where channel ends were passed
+-- a worker in a round: it is ready for a turn, the numbers are within their limits, and no inbox has something where
+-- channel ends were passed
 pub record IsUnderWay (worker : Worker) (progress : Progress) : Type 0 where
   pub ready : IsReady worker
   pub turns : progress.turns ≤ TURN_LIMIT

@@ -15,7 +15,7 @@ use mc_port::{InPort, OutPort};
 use std::alloc::AllocError;
 
 /// Moves what is under way at a channel end of one box to the far end, which is of another box: all that the ring still
-/// has, and then what is in the outbox, goes behind what the inbox has. Whether the inbox has something then. It fails
+/// has, and then what is in the outbox, goes after what the inbox has. Whether the inbox has something then. It fails
 /// only for want of memory, and loses nothing then: what it didn't move is carried when it is called again.
 pub fn carry(from: &mut Worker, end: u8, to: &mut Worker, far: u8) -> Result<bool, AllocError>
     requires ready_from { IsReady from.old }

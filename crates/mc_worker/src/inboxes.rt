@@ -94,7 +94,7 @@ impl Inboxes {
         self.waiting.count()
     }
 
-    /// Moves what a ring still has, and then what an outbox has, behind what an inbox has. Whether the inbox has
+    /// Moves what a ring still has, and then what an outbox has, after what an inbox has. Whether the inbox has
     /// something then. It fails only for want of memory, and loses nothing then.
     pub(crate) fn bring_in(
         &mut self,

@@ -13,7 +13,7 @@ pub fn sendings_have_ends()
     ensures { SendingsHaveEnds }
 {}
 
-/// Over the turns of both boxes of a channel and the carrying behind them, what was taken at an end and what waits
+/// Over the turns of both boxes of a channel and the carrying after them, what was taken at an end and what waits
 /// there then are what waited there before and what was sent to it, in order.
 pub fn carrying_keeps_order()
     ensures { CarryingKeepsOrder }

@@ -81,7 +81,7 @@ impl Outboxes {
         Ok(())
     }
 
-    /// Moves all that an outbox has behind what a lane has, without its stamps. It fails only for want of memory, and
+    /// Moves all that an outbox has after what a lane has, without its stamps. It fails only for want of memory, and
     /// moves nothing then.
     pub(crate) fn move_all(&mut self, end: u8, into: &mut Lane<Tagged>) -> Result<(), AllocError>
         requires { end < length self.old.boxes }
@@ -118,7 +118,7 @@ fn move_at(
     move_lane(&mut lanes[at], into)
 }
 
-// Moves all that a lane has behind what another one has, without its stamps.
+// Moves all that a lane has after what another one has, without its stamps.
 fn move_lane(from: &mut Lane<Stamped>, into: &mut Lane<Tagged>) -> Result<(), AllocError>
     ensures emptied { OnOk result (from.new.items ≡ []) }
     ensures moved { OnOk result (into.new.items ≡ into.old.items ++ map without_stamp from.old.items) }

@@ -78,7 +78,7 @@ impl Worker {
         })
     }
 
-    /// Adds a command, which the shape of the box enables, behind those that are left. It fails only for want of
+    /// Adds a command, which the shape of the box enables, after those that are left. It fails only for want of
     /// memory, and adds nothing then.
     pub fn add(&mut self, command: Event) -> Result<(), AllocError>
         requires ready { IsReady self.old }

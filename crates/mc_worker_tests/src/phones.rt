@@ -70,7 +70,7 @@ pub fn worker(
 }
 
 /// A round. Of its contract only that is said which another round asks for, since all that is said of a call is carried
-/// through the proof of what stands behind it.
+/// through the proof of what stands after it.
 pub fn round(phone: &mut Worker) -> RoundEnd
     requires ready { IsReady phone.old }
     requires stamp { phone.old.stamp ≤ FIRST_STAMP_LIMIT }

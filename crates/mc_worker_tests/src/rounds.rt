@@ -75,7 +75,7 @@ fn far(version: u32) -> Descriptor {
     }
 }
 
-// An open, and 64 describes behind it.
+// An open, and 64 describes after it.
 fn many_signals(alloc: Global) -> Result<Lane<Tagged>, AllocError> {
     let mut lane = Lane::new(alloc);
     lane.reserve(65)?;

@@ -5,9 +5,9 @@ use Rattle.std.proofs.Math.ListN.{replicate, set, get_or-eq_default}
 use Rattle.std.proofs.lemmas.Bool.{cases_eq, cases_lt}
 use Rattle.std.proofs.lemmas.List.{get_or-replicate, get_or-set_other, get_or-set_same, get_or_read, length-map, length-replicate, length-set}
 use Rattle.std.proofs.lemmas.Option.{slice_get-get_or, slice_get_within}
-use Rattle.mc_turn.specs.Sums.{total}
+use Rattle.mc_slot_laws.specs.Sums.{total}
 use Rattle.mc_box.specs.declared.limit.TheConstants.{SLOT_LIMIT}
-use Rattle.mc_turn.proofs.Sums.{total_none, total_one, total_same}
+use Rattle.mc_slot_laws.proofs.Sums.{total_none, total_one, total_same}
 use Rattle.mc_world.specs.Lanes.{HasNumbers, numbers_of}
 use Rattle.mc_world.specs.Waiting.{AreFlagsCounted, bit, flag_count, flag_of}
 use Rattle.mc_world.specs.declared.topology.Topology.{Topology}

@@ -26,7 +26,7 @@ front_once : (lane : List Tagged) (one other : ℕ) → is_some (front_for one l
 front_once [] one other is apart = refl
 front_once (tagged ∷ rest) one other is apart = grind (arith, common_steps)
 
--- and stays while signals come behind it
+-- and stays while signals come after it
 front_stays : (lane more : List Tagged) (tunnel : ℕ) → lane ≢ [] → front_for tunnel (lane ++ more) ≡ front_for tunnel lane
 front_stays [] more tunnel some = absurd (some refl)
 front_stays (tagged ∷ rest) more tunnel some = refl
@@ -87,7 +87,7 @@ flags_begun topology lanes flags count k s tagged rest laid flagged lane none he
       ]))
 ]
 
--- signals come behind others
+-- signals come after others
 pub flags_stay : (topology : Topology) (lanes : List (List Tagged)) (flags : List Bool) (k : ℕ) (more : List Tagged) → AreFlagged topology lanes flags → k < length lanes → get_or lanes k [] ≢ []
     → AreFlagged topology (set lanes k (get_or lanes k [] ++ more)) flags
 flags_stay topology lanes flags k more flagged lane some t inside =
@@ -142,7 +142,7 @@ next_is topology count s lane tagged laid below is served =
       for = subst (λ (t : ℕ). IsForBy topology (lane_by topology s) tagged t) (run_is s first.0 (tunnel_by topology s) (tunnel_by topology first.0) tagged.tunnel run first.1.within) first.1;
     }
 
--- nothing is behind it
+-- nothing is after it
 pub flags_last : (topology : Topology) (lanes : List (List Tagged)) (old new : List Bool) (count s : ℕ) (rest : List Tagged) → IsLaid topology count → AreFlagged topology lanes old → s < length topology.places.items
     → s < length old → lane_by topology s < length lanes → waits_by topology lanes s ≡ true → new ≡ set old s false → rest ≡ [] → AreFlagged topology (set lanes (lane_by topology s) rest) new
 flags_last topology lanes old new count s rest laid flagged below here lane waits is none =

@@ -10,8 +10,8 @@ use Rattle.mc_lane.specs.Queue.{Queue}
 use Rattle.mc_signal.specs.declared.Medium.{Medium}
 use Rattle.mc_signal.specs.declared.Signal.{Signal}
 use Rattle.mc_signal.specs.declared.Tagged.{Tagged}
-use Rattle.mc_turn.specs.Sums.{total}
-use Rattle.mc_turn.proofs.Sums.{total_same}
+use Rattle.mc_slot_laws.specs.Sums.{total}
+use Rattle.mc_slot_laws.proofs.Sums.{total_same}
 use Rattle.mc_box.specs.Boxes.{BoxState, first_media, no_box, with_new_slot}
 use Rattle.mc_box.specs.declared.setup.SlotMedia.{SlotMedia}
 use Rattle.mc_box.specs.declared.setup.SlotSetup.{SlotSetup}

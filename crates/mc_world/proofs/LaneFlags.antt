@@ -46,7 +46,7 @@ none_left : (lane : List Tagged) (front : Option Tagged) → front ≡ slice_get
 none_left [] front is none = refl
 none_left (tagged ∷ rest) front is none = absurd (cc)
 
--- nothing is behind it
+-- nothing is after it
 pub taken_last : (topology : Topology) (lanes : List Lane) (waiting after : Waiting) (s k : ℕ) (d new : Lane) (front : Option Tagged) → TakesFront topology lanes waiting s k d new
     → front ≡ slice_get new.items 0 → front ≡ None → after.flags.items ≡ set waiting.flags.items s false → AreFlagsCounted topology after → IsWaiting topology (signals_of (set lanes k new)) after
 taken_last topology lanes waiting after s k d new front takes front_is none flags counted = record {
@@ -133,7 +133,7 @@ come_first topology lanes waiting after s k tunnel signal d new comes empty flag
           (omega (arith, comes.here, comes.table.counted.flags)) (record { inside = comes.here; leads = refl; within = refl })));
     }
 
--- or it is behind others
+-- or it is after others
 pub come_behind : (topology : Topology) (lanes : List Lane) (waiting : Waiting) (s k tunnel : ℕ) (signal : Signal) (d new : Lane) → Comes topology lanes waiting s k tunnel signal d new
     → (length (get_or lanes k d).items == 0) ≡ false → IsWaiting topology (signals_of (set lanes k new)) waiting
 come_behind topology lanes waiting s k tunnel signal d new comes some = record {

@@ -9,7 +9,7 @@ use Rattle.std.proofs.lemmas.Option.{slice_get_within}
 use Rattle.mc_signal.specs.declared.Tagged.{Tagged}
 use Rattle.mc_box.specs.Boxes.{BoxState, no_box}
 use Rattle.mc_box.specs.declared.limit.TheConstants.{SLOT_LIMIT}
-use Rattle.mc_turn.proofs.Sums.{total_same}
+use Rattle.mc_slot_laws.proofs.Sums.{total_same}
 use Rattle.mc_laws.proofs.Numbers.{number_is}
 use Rattle.mc_model.specs.Worlds.{WorldState, all_tunnels, box_at, front, front_for, is_place, number, place, tunnel_of}
 use Rattle.mc_world.specs.Lanes.{lane_by, numbers_of, tunnel_by}

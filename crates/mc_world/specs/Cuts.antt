@@ -10,11 +10,17 @@ use Rattle.mc_world.specs.declared.topology.Topology.{Topology}
 
 -- each of so many slots is found by its place
 abbrev pub EachFound : Topology → ℕ → Type 0
-EachFound topology count = (s : ℕ) → s < count → slice_get (numbers_of topology (slice_index_or topology.places.items s (0, 0)).0) (slice_index_or topology.places.items s (0, 0)).1 ≡ Some s
+EachFound topology count =
+    (s : ℕ) → s < count
+    → slice_get (numbers_of topology (slice_index_or topology.places.items s (0, 0)).0)
+    (slice_index_or topology.places.items s (0, 0)).1
+    ≡ Some s
 
 -- each number of a home is that of the slot with this place, and there are few
 abbrev pub PlacedUpTo : Topology → ℕ → ℕ → Type 0
-PlacedUpTo topology who count = (local s : ℕ) → local < count → slice_get (numbers_of topology who) local ≡ Some s → slice_get topology.places.items s ≡ Some (who, local)
+PlacedUpTo topology who count =
+    (local s : ℕ) → local < count → slice_get (numbers_of topology who) local ≡ Some s
+    → slice_get topology.places.items s ≡ Some (who, local)
 
 pub record EachPlaced (topology : Topology) (who : ℕ) : Type 0 where
   pub few : length (numbers_of topology who) ≤ SLOT_LIMIT
@@ -34,12 +40,16 @@ pub record FitsBoxes (topology : Topology) (boxes : List BoxState) : Type 0 wher
   pub placed : ArePlaced topology
   pub slots : HaveSlots topology boxes
 
--- so many slots of each of so many homes stand at these places: no two at one, each home's first ones, and none is left out
+-- so many slots of each of so many homes stand at these places: no two at one, each home's first ones, and none is left
+-- out
 pub record HasPlaces (places : List (ℕ × ℕ)) (homes : ℕ) (count : ℕ → ℕ) : Type 0 where
   pub placed : (s : ℕ) → s < length places → (slice_index_or places s (0, 0)).0 < homes
-  pub locals : (s : ℕ) → s < length places → (slice_index_or places s (0, 0)).1 < count (slice_index_or places s (0, 0)).0
-  pub once : (s t : ℕ) → s < length places → t < length places → slice_index_or places s (0, 0) ≡ slice_index_or places t (0, 0) → s ≡ t
-  pub all : (who local : ℕ) → who < homes → local < count who → (s : ℕ) × (s < length places) × (slice_index_or places s (0, 0) ≡ (who, local))
+  pub locals : (s : ℕ) → s < length places
+      → (slice_index_or places s (0, 0)).1 < count (slice_index_or places s (0, 0)).0
+  pub once : (s t : ℕ) → s < length places → t < length places
+      → slice_index_or places s (0, 0) ≡ slice_index_or places t (0, 0) → s ≡ t
+  pub all : (who local : ℕ) → who < homes → local < count who
+      → (s : ℕ) × (s < length places) × (slice_index_or places s (0, 0) ≡ (who, local))
   pub few : (who : ℕ) → who < homes → count who ≤ SLOT_LIMIT
 
 -- boxes, and all channels that touch them, with so many homes: each box has its home, and as many slots as stand there
@@ -59,5 +69,7 @@ pub record PutsAt (old new : List ℕ) (local slot : ℕ) : Type 0 where
 
 -- the first slots have been put, and no home has more numbers than it is to have
 pub record AreFilled (places : List (ℕ × ℕ)) (count : ℕ → ℕ) (n : ℕ) (tables : List (List ℕ)) : Type 0 where
-  pub found : (s : ℕ) → s < n → slice_get (slice_index_or tables (slice_index_or places s (0, 0)).0 []) (slice_index_or places s (0, 0)).1 ≡ Some s
+  pub found : (s : ℕ) → s < n
+      → slice_get (slice_index_or tables (slice_index_or places s (0, 0)).0 []) (slice_index_or places s (0, 0)).1
+      ≡ Some s
   pub most : (who : ℕ) → length (slice_index_or tables who []) ≤ count who

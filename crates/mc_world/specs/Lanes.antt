@@ -50,26 +50,37 @@ tunnel_by topology s = (slice_index_or topology.tunnels.items (s / 2) (0, 0)).1
 
 -- each slot is found by its box and local number, and by no others, and each box has only so many
 pub record HasNumbers (topology : Topology) : Type 0 where
-  pub found : (who local : ℕ) → slice_get (numbers_of topology who) local ≡ position (is_place (who, local)) topology.places.items
-  pub once : (s : ℕ) → s < length topology.places.items → position (is_place (slice_index_or topology.places.items s (0, 0))) topology.places.items ≡ Some s
+  pub found : (who local : ℕ)
+      → slice_get (numbers_of topology who) local ≡ position (is_place (who, local)) topology.places.items
+  pub once : (s : ℕ) → s < length topology.places.items
+      → position (is_place (slice_index_or topology.places.items s (0, 0))) topology.places.items ≡ Some s
   pub few : (who : ℕ) → length (numbers_of topology who) ≤ SLOT_LIMIT
 
--- each tunnel has its two slots, whose numbers fit, and its channel two of so many lanes, slots have their numbers, and those to which one lane leads are of one box, and follow each other as their tunnels do
+-- each tunnel has its two slots, whose numbers fit, and its channel two of so many lanes, slots have their numbers, and
+-- those to which one lane leads are of one box, and follow each other as their tunnels do
 pub record IsLaid (topology : Topology) (count : ℕ) : Type 0 where
   pub slots : length topology.places.items ≡ 2 * length topology.tunnels.items
   pub fit : length topology.places.items ≤ 2 ^ 32
-  pub lanes : (t : ℕ) → t < length topology.tunnels.items → 2 * (slice_index_or topology.tunnels.items t (0, 0)).0 + 1 < count
+  pub lanes : (t : ℕ) → t < length topology.tunnels.items
+      → 2 * (slice_index_or topology.tunnels.items t (0, 0)).0 + 1 < count
   pub numbers : HasNumbers topology
-  pub home : (s t : ℕ) → s < length topology.places.items → t < length topology.places.items → lane_by topology s ≡ lane_by topology t → (slice_index_or topology.places.items s (0, 0)).0 ≡ (slice_index_or topology.places.items t (0, 0)).0
-  pub follow : (s t : ℕ) → s < length topology.places.items → t < length topology.places.items → lane_by topology s ≡ lane_by topology t → s + 2 * tunnel_by topology t ≡ t + 2 * tunnel_by topology s
+  pub home : (s t : ℕ) → s < length topology.places.items → t < length topology.places.items
+      → lane_by topology s ≡ lane_by topology t
+      → (slice_index_or topology.places.items s (0, 0)).0 ≡ (slice_index_or topology.places.items t (0, 0)).0
+  pub follow : (s t : ℕ) → s < length topology.places.items → t < length topology.places.items
+      → lane_by topology s ≡ lane_by topology t → s + 2 * tunnel_by topology t ≡ t + 2 * tunnel_by topology s
 
 -- a signal goes with its tunnel to the end of the lane that leads to a slot
 abbrev pub with_sending : Topology → List (List Tagged) → Signal → ℕ → List (List Tagged)
-with_sending topology lanes signal s = slice_set lanes (lane_by topology s) (slice_index_or lanes (lane_by topology s) [] ++ record { tunnel = tunnel_by topology s; signal = signal } ∷ [])
+with_sending topology lanes signal s =
+    slice_set lanes (lane_by topology s)
+    (slice_index_or lanes (lane_by topology s) [] ++ record { tunnel = tunnel_by topology s; signal = signal } ∷ [])
 
 -- what a box sends by one of its slots goes to the far slot
 abbrev pub one_sent : Topology → ℕ → List (List Tagged) → ℕ × Signal → List (List Tagged)
-one_sent topology who lanes sending = unwrap_or (option_map (λ s. with_sending topology lanes sending.1 (far s)) (position (is_place (who, sending.0)) topology.places.items)) lanes
+one_sent topology who lanes sending =
+    unwrap_or (option_map (λ s. with_sending topology lanes sending.1 (far s))
+    (position (is_place (who, sending.0)) topology.places.items)) lanes
 
 -- and so does all that it sends, in the order of sending
 abbrev pub all_sent : Topology → ℕ → List (List Tagged) → List (ℕ × Signal) → List (List Tagged)
@@ -91,7 +102,8 @@ HasRoomAway lanes topology s count = HasRoom lanes (lane_by topology (far s)) co
 
 -- which is a box's with this local number
 abbrev pub HasRoomFor : List (Queue Tagged) → Topology → ℕ → ℕ → ℕ → Type 0
-HasRoomFor lanes topology who local count = (s : ℕ) → slice_get (numbers_of topology who) local ≡ Some s → HasRoomAway lanes topology s count
+HasRoomFor lanes topology who local count =
+    (s : ℕ) → slice_get (numbers_of topology who) local ≡ Some s → HasRoomAway lanes topology s count
 
 -- for each slot by which a box sends
 abbrev pub HasRoomFrom : List (Queue Tagged) → Topology → ℕ → List (ℕ × Signal) → ℕ → Type 0

@@ -12,11 +12,14 @@ use Rattle.mc_world.specs.declared.lanes.Senders.{Senders}
 use Rattle.mc_world.specs.declared.topology.Topology.{Topology}
 
 -- an event happens to a box, and what it sends goes away from these lanes on
-pub record MakesEvent (topology : Topology) (who : ℕ) (box after : BoxState) (event : Event) (signal : Option Signal) (before lanes : List (List Tagged)) : Type 0 where
+pub record MakesEvent (topology : Topology) (who : ℕ) (box after : BoxState) (event : Event) (signal : Option Signal)
+    (before lanes : List (List Tagged)) : Type 0 where
   pub sent : List (ℕ × Signal)
   pub goes : box_event box event signal ≡ Some (record { sent = sent; after = after })
   pub lanes_are : lanes ≡ all_sent topology who before sent
 
 -- where the slot that takes is linked with one that has a number, that is the other sender's
 abbrev pub IsBeside : Topology → ℕ → BoxState → Senders → Type 0
-IsBeside topology who box senders = (other s : ℕ) → goal_at box senders.own.0 ≡ Link other → slice_get (numbers_of topology who) other ≡ Some s → senders.partner.1 ≡ s
+IsBeside topology who box senders =
+    (other s : ℕ) → goal_at box senders.own.0 ≡ Link other → slice_get (numbers_of topology who) other ≡ Some s
+    → senders.partner.1 ≡ s

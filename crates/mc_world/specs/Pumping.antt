@@ -19,7 +19,8 @@ pub record IsOutgoing (world : WorldState) (out : Outgoing) : Type 0 where
   pub tunnel : out.tunnel ≡ (tunnel_of world out.slot).within
   pub front : front world out.slot ≡ Some out.signal
   pub there : out.lane < length world.lanes
-  pub first : slice_index_or world.lanes out.lane [] ≡ record { tunnel = out.tunnel; signal = out.signal } ∷ drop 1 (slice_index_or world.lanes out.lane [])
+  pub first : slice_index_or world.lanes out.lane []
+      ≡ record { tunnel = out.tunnel; signal = out.signal } ∷ drop 1 (slice_index_or world.lanes out.lane [])
 
 -- the first signal of a lane leaves it
 abbrev pub without_first : WorldState → ℕ → WorldState
@@ -27,8 +28,11 @@ without_first world lane = record world { lanes = without_front world.lanes lane
 
 -- a signal goes to the end of a lane
 abbrev pub with_last : WorldState → ℕ → Tagged → WorldState
-with_last world lane tagged = record world { lanes = slice_set world.lanes lane (slice_index_or world.lanes lane [] ++ tagged ∷ []) }
+with_last world lane tagged =
+    record world { lanes = slice_set world.lanes lane (slice_index_or world.lanes lane [] ++ tagged ∷ []) }
 
--- whether there is a slot with this number, to which this lane leads, and whose tunnel has this number within its channel
+-- whether there is a slot with this number, to which this lane leads, and whose tunnel has this number within its
+-- channel
 abbrev pub is_slot_at : WorldState → ℕ → ℕ → ℕ → Bool
-is_slot_at world lane tunnel slot = nat_lt slot (slot_count world) && (lane_of world slot == lane && (tunnel_of world slot).within == tunnel)
+is_slot_at world lane tunnel slot =
+    nat_lt slot (slot_count world) && (lane_of world slot == lane && (tunnel_of world slot).within == tunnel)

@@ -1,4 +1,5 @@
--- What an engine keeps: the tables beside its boxes and channels, and that each signal under way is for some slot. Of soundness nothing is asked, so boxes may be missing.
+-- What an engine keeps: the tables beside its boxes and channels, and that each signal under way is for some slot. Of
+-- soundness nothing is asked, so boxes may be missing.
 use Rattle.std.specs.Prelude.{◌≡◌, ◌<◌, ◌≤◌, ◌*◌, ℕ, List, [], ◌∷◌, length, slice_index_or}
 use Rattle.mc_signal.specs.declared.Tagged.{Tagged}
 use Rattle.mc_box.specs.Boxes.{BoxState, no_box}
@@ -10,7 +11,8 @@ use Rattle.mc_world.specs.declared.network.engine.Engine.TheInside.{Inside}
 use Rattle.mc_world.specs.declared.topology.Topology.{Topology}
 
 abbrev pub running_state : Inside → WorldState
-running_state inside = record { boxes = inside.boxes.items; channels = inside.channels.items; lanes = signals_of inside.lanes.items }
+running_state inside =
+    record { boxes = inside.boxes.items; channels = inside.channels.items; lanes = signals_of inside.lanes.items }
 
 -- each of these signals of a lane is for some slot
 abbrev pub AllServedBy : Topology → ℕ → List Tagged → Type 0
@@ -23,9 +25,11 @@ AreServed topology lanes = (lane : ℕ) → AllServedBy topology lane (slice_ind
 
 -- each box that is there has as many numbers as slots
 abbrev pub HasSlots : Topology → List BoxState → Type 0
-HasSlots topology boxes = (who : ℕ) → who < length boxes → length (numbers_of topology who) ≡ length (slice_index_or boxes who no_box).slots
+HasSlots topology boxes =
+    (who : ℕ) → who < length boxes → length (numbers_of topology who) ≡ length (slice_index_or boxes who no_box).slots
 
--- the channels are within the limits, the tables are theirs, for these boxes and maybe others, flags and counts say what waits, and nothing is left of what was sent last
+-- the channels are within the limits, the tables are theirs, for these boxes and maybe others, flags and counts say
+-- what waits, and nothing is left of what was sent last
 pub record IsRunning (inside : Inside) : Type 0 where
   pub channels : AreChannels inside.channels.items
   pub topology : IsTopologyOf inside.topology inside.channels.items (length inside.topology.numbers.items)

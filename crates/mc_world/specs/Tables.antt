@@ -11,7 +11,13 @@ use Rattle.mc_world.specs.declared.network.World.TheInside.{Inside}
 use Rattle.mc_world.specs.declared.topology.Topology.{Topology}
 
 abbrev pub world_state : Inside → WorldState
-world_state inside = record { boxes = inside.boxes.items; channels = inside.channels.items; lanes = map (λ lane. lane.items) inside.lanes.items }
+world_state inside =
+    record {
+      boxes = inside.boxes.items;
+      channels = inside.channels.items;
+      lanes = map
+          (λ lane. lane.items) inside.lanes.items;
+    }
 
 -- the channel of a tunnel, and its number within the channel
 abbrev pub channel_of : TunnelPlace → ℕ × ℕ
@@ -21,15 +27,19 @@ channel_of tunnel = (tunnel.channel, tunnel.within)
 abbrev pub tunnels_by : ℕ → List Tunnel → List (ℕ × ℕ)
 tunnels_by channel tunnels = map channel_of (tunnels_within channel 0 tunnels)
 
--- the tables of these channels and of so many boxes: places and channels are found by number, numbers of slots by their boxes, and those numbers fit
+-- the tables of these channels and of so many boxes: places and channels are found by number, numbers of slots by their
+-- boxes, and those numbers fit
 pub record IsTopologyOf (topology : Topology) (channels : List ChannelState) (boxes : ℕ) : Type 0 where
   pub places : topology.places.items ≡ places_among channels
   pub tunnels : topology.tunnels.items ≡ map channel_of (tunnels_from 0 channels)
-  pub found : (who local : ℕ) → slice_get (numbers_of topology who) local ≡ position (is_place (who, local)) topology.places.items
+  pub found : (who local : ℕ)
+      → slice_get (numbers_of topology who) local ≡ position (is_place (who, local)) topology.places.items
   pub few : length topology.places.items ≤ 2 ^ 32
   pub homes : length topology.numbers.items ≡ boxes
 
--- the channels are within the limits, the tables are those of the channels and boxes, each channel has its two lanes, flags and counts say what waits on these, nothing is left of what was sent last, the world is sound, and it has no ring where that is remembered
+-- the channels are within the limits, the tables are those of the channels and boxes, each channel has its two lanes,
+-- flags and counts say what waits on these, nothing is left of what was sent last, the world is sound, and it has no
+-- ring where that is remembered
 pub record HasTables (inside : Inside) : Type 0 where
   pub channels : AreChannels inside.channels.items
   pub topology : IsTopologyOf inside.topology inside.channels.items (length inside.boxes.items)

@@ -3,7 +3,7 @@ use Rattle.std.specs.Prelude.{ℕ, Bool, false, if◌then◌else◌, ◌≡◌, 
 use Rattle.std.specs.List.{slice_get}
 use Rattle.std.specs.Option.{is_some, option_and_then}
 use Rattle.mc_signal.specs.declared.Tagged.{Tagged}
-use Rattle.mc_turn.specs.Sums.{total}
+use Rattle.mc_slot_laws.specs.Sums.{total}
 use Rattle.mc_box.specs.declared.limit.TheConstants.{SLOT_LIMIT}
 use Rattle.mc_model.specs.Worlds.{WorldState, box_at, front, front_for, number}
 use Rattle.mc_world.specs.Lanes.{lane_by, numbers_of, tunnel_by}
@@ -27,7 +27,8 @@ waiting_count world who count = total (λ local. bit (take_waits world who local
 -- these are the counts of all boxes, each of all slots of the box
 pub record CountsTakes (world : WorldState) (counts : List ℕ) : Type 0 where
   pub long : length counts ≡ length world.boxes
-  pub each : (who : ℕ) → who < length world.boxes → slice_index_or counts who 0 ≡ waiting_count world who (length (box_at world who).slots)
+  pub each : (who : ℕ) → who < length world.boxes
+      → slice_index_or counts who 0 ≡ waiting_count world who (length (box_at world who).slots)
   pub few : (who : ℕ) → slice_index_or counts who 0 ≤ SLOT_LIMIT
 
 -- ---- by the tables of a world
@@ -54,17 +55,21 @@ flag_of flags (Some s) = slice_index_or flags s false
 
 -- how many of a box's first slots have one
 abbrev pub flag_count : Topology → List Bool → ℕ → ℕ → ℕ
-flag_count topology flags who count = total (λ local. bit (flag_of flags (slice_get (numbers_of topology who) local))) count
+flag_count topology flags who count =
+    total (λ local. bit (flag_of flags (slice_get (numbers_of topology who) local))) count
 
 -- each slot has its flag, and each box the count of the flags of its slots
 pub record AreFlagsCounted (topology : Topology) (waiting : Waiting) : Type 0 where
   pub flags : length waiting.flags.items ≡ length topology.places.items
   pub takes : length waiting.takes ≡ length topology.numbers.items
-  pub each : (who : ℕ) → who < length topology.numbers.items → slice_index_or waiting.takes who 0 ≡ flag_count topology waiting.flags.items who (length (numbers_of topology who))
+  pub each : (who : ℕ) → who < length topology.numbers.items
+      → slice_index_or waiting.takes who 0
+      ≡ flag_count topology waiting.flags.items who (length (numbers_of topology who))
 
 -- a slot's flag says whether the front of its lane is for it
 abbrev pub AreFlagged : Topology → List (List Tagged) → List Bool → Type 0
-AreFlagged topology lanes flags = (s : ℕ) → s < length topology.places.items → slice_index_or flags s false ≡ waits_by topology lanes s
+AreFlagged topology lanes flags =
+    (s : ℕ) → s < length topology.places.items → slice_index_or flags s false ≡ waits_by topology lanes s
 
 -- flags and counts are those of these lanes
 pub record IsWaiting (topology : Topology) (lanes : List (List Tagged)) (waiting : Waiting) : Type 0 where

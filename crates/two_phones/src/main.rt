@@ -14,7 +14,7 @@ use std::{env, io};
 
 const USAGE: u8 = 2;
 
-// How many times the word behind the program's name asks for.
+// How many times the word after the program's name asks for.
 fn asked<R: Env + AllocGlobal>(rt: &R) -> Option<u32> {
     let mut words = env::args(rt).ok()?.skip(1);
     let times = words.next()?.parse::<u32>().ok()?;

@@ -16,8 +16,8 @@ use crate::section::{Keyword, Section};
 use crate::wanting::plan_wanting;
 use mc_box::{BoxShape, Kind};
 use mc_plan::BoxPlan;
-use mc_program::ReadFault;
-use mc_program::word_list::has_repeat;
+use mc_program_lines::ReadFault;
+use mc_program_lines::word_list::has_repeat;
 use mc_script::LineFault;
 use mc_script::places::{is_misspelt, is_overlong};
 use mc_script::rule::{

@@ -16,7 +16,7 @@ use crate::section::{Keyword, Section};
 use crate::wanting::plan_wanting;
 use mc_box::Shape;
 use mc_plan::PlanFault;
-use mc_program::{ReadFault, name_wanting};
+use mc_program_lines::{ReadFault, name_wanting};
 use mc_script::LineFault;
 use mc_script::places::{is_misspelt, is_overlong, known_box};
 use mc_script::rule::{
@@ -112,7 +112,7 @@ impl Reader {
                 number: GIVEN_TWICE,
             });
         }
-        // asked before the length of the names, which comes behind it
+        // asked before the length of the names, which comes after it
         self.check_join(line.from, line.to, line.medium)?;
         if is_overlong(Some(line.slot)) || is_overlong(Some(line.far_slot)) {
             return Err(LineFault {
@@ -218,7 +218,7 @@ impl Reader {
                 number: GIVEN_TWICE,
             });
         }
-        // asked before the length of the names, which comes behind it
+        // asked before the length of the names, which comes after it
         self.check_widen()?;
         if is_overlong(Some(line.slot)) || is_overlong(Some(line.far_slot)) {
             return Err(LineFault {

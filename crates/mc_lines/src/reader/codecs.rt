@@ -8,7 +8,7 @@ ghost use Rattle.mc_lines.specs.LineReadings.{ReadsCodec, ReadsKind};
 use crate::places::overlong;
 use crate::reader::Reader;
 use crate::section::{Keyword, Section};
-use mc_program::ReadFault;
+use mc_program_lines::ReadFault;
 use mc_script::LineFault;
 use mc_script::places::{is_misspelt, is_overlong};
 use mc_script::rule::{EXTRA_WORD, MISSING_WORD, WRONG_WORD};

@@ -9,14 +9,14 @@ ghost use Rattle.mc_lines.specs.Rules.{command_line_rules};
 use crate::limit::COMMAND_LIMIT;
 use crate::reader::Reader;
 use crate::section::{Keyword, Section};
-use mc_program::ReadFault;
+use mc_program_lines::ReadFault;
 use mc_script::keyword::CommandWord;
 use mc_script::rule::{EXTRA_WORD, LIMIT_PASSED, UNFINISHED, WRONG_WORD};
 use mc_script::{Command, LineFault, read_kind};
 use mc_text::Words;
 
 impl Reader {
-    /// Reads `begin`, behind which no word stands.
+    /// Reads `begin`, after which no word stands.
     pub fn read_begin<'a>(&mut self, mut words: Words<'a>) -> Result<(), ReadFault>
         requires { IsInForm self.old }
         ensures declared { ReadsKind self.old Keyword.Begin words.entry result self.new }
@@ -36,7 +36,7 @@ impl Reader {
         Ok(())
     }
 
-    /// Reads `journal`, behind which no word stands. It ends the commands.
+    /// Reads `journal`, after which no word stands. It ends the commands.
     pub fn read_journal<'a>(&mut self, mut words: Words<'a>) -> Result<(), ReadFault>
         requires { IsInForm self.old }
         ensures declared { ReadsKind self.old Keyword.Journal words.entry result self.new }
@@ -69,7 +69,7 @@ impl Reader {
         Ok(command)
     }
 
-    /// Reads a command of a kind, by the words behind the first.
+    /// Reads a command of a kind, by the words after the first.
     pub fn read_command<'a>(&mut self, kind: CommandWord, words: Words<'a>) -> Result<(), ReadFault>
         requires { IsInForm self.old }
         ensures declared { ReadsCommandLine self.old kind words.entry result self.new }

@@ -9,7 +9,7 @@ ghost use Rattle.mc_lines.specs.Rules.{is_program_link};
 use crate::reader::Reader;
 use crate::section::{Keyword, Section};
 use mc_box::Shape;
-use mc_program::{Block, ReadFault, program_line, state_line};
+use mc_program_lines::{Block, ReadFault, program_line, state_line};
 use mc_script::LineFault;
 use mc_script::keyword::CommandWord;
 use mc_script::rule::WRONG_WORD;

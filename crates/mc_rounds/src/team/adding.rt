@@ -8,7 +8,7 @@ use crate::team::boxes::TeamBoxes;
 use mc_box::Turn;
 use std::alloc::AllocError;
 
-/// Adds a command for a box behind those that it has. It fails only for want of memory, and adds nothing then.
+/// Adds a command for a box after those that it has. It fails only for want of memory, and adds nothing then.
 pub fn add(team: &mut TeamBoxes, turn: Turn) -> Result<(), AllocError>
     requires team { IsTeam team.old }
     requires allowed { IsTrue (is_allowed (team_state team.old).world turn) }

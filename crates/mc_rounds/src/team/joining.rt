@@ -6,20 +6,20 @@ ghost use Rattle.mc_rounds.specs.Layouts.{IsEndAdded, IsLayoutSoFar, inner_lists
 ghost use Rattle.mc_model.specs.Sound.{IsNumbered};
 ghost use Rattle.mc_model.specs.Worlds.{AreChannels, first_world};
 
-use crate::team::layout::{LaneEnds, Layout};
+use crate::team::layout::{LaneEnds, TeamLayout};
 use crate::team::placing::place_tunnels;
 use mc_box::MediaBox;
 use mc_model::Channel;
 use mc_port::{InPort, OutPort, pair};
 use std::alloc::{AllocError, Global};
 
-/// Joins the two boxes of a channel, behind all channels before it.
+/// Joins the two boxes of a channel, after all channels before it.
 pub fn join(
     alloc: Global,
     boxes: &[MediaBox],
     channels: &[Channel],
     number: usize,
-    layout: &mut Layout,
+    layout: &mut TeamLayout,
 ) -> Result<(), AllocError>
     requires numbered { IsNumbered (first_world boxes.now channels.now) }
     requires channels { AreChannels channels.now }
@@ -52,7 +52,7 @@ pub fn join(
 
 // A box gets one channel end more. Its number.
 fn add_end(
-    layout: &mut Layout,
+    layout: &mut TeamLayout,
     who: u32,
     lane: u32,
     taking: InPort,

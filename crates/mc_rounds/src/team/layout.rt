@@ -24,7 +24,7 @@ pub struct LaneEnds {
 /// The channel ends of the boxes of a network. A box has one for each channel that joins it, or two where a channel
 /// joins it to itself, numbered in the order of the channels.
 #[derive(Drop)]
-pub struct Layout {
+pub struct TeamLayout {
     /// The ends of each lane. Lane `2k` leads to the initiator's end of channel `k`, and lane `2k + 1` to the other.
     pub lanes: Vec<LaneEnds>,
     /// Of each box, by channel end, the lane that leads to it.
@@ -42,7 +42,7 @@ pub fn lay_out(
     alloc: Global,
     boxes: &[MediaBox],
     channels: &[Channel],
-) -> Result<Layout, AllocError>
+) -> Result<TeamLayout, AllocError>
     requires numbered { IsNumbered (first_world boxes.now channels.now) }
     requires channels { AreChannels channels.now }
     requires small { All (λ one. length one.slots ≤ SLOT_LIMIT) boxes.now }
@@ -56,11 +56,11 @@ pub fn lay_out(
 }
 
 // Boxes that nothing joins, whose slots have no places yet.
-fn bare(alloc: Global, boxes: &[MediaBox]) -> Result<Layout, AllocError>
+fn bare(alloc: Global, boxes: &[MediaBox]) -> Result<TeamLayout, AllocError>
     ensures { IfOk result (IsLayoutSoFar boxes.now []) }
 {
     let count = boxes.len();
-    Ok(Layout {
+    Ok(TeamLayout {
         lanes: Vec::new(alloc),
         ends: empty_lists(alloc, count)?,
         places: bare_places(alloc, boxes)?,

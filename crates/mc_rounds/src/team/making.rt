@@ -10,7 +10,7 @@ ghost use Rattle.mc_model.specs.Worlds.{AreChannels};
 ghost use Rattle.mc_worker.specs.Boxes.{box_of, items_of};
 
 use crate::team::boxes::TeamBoxes;
-use crate::team::layout::{Layout, lay_out};
+use crate::team::layout::{TeamLayout, lay_out};
 use crate::team::member::Member;
 use mc_box::MediaBox;
 use mc_lane::Lane;
@@ -53,7 +53,7 @@ fn make_member(
     alloc: Global,
     part: MediaBox,
     who: usize,
-    layout: &mut Layout,
+    layout: &mut TeamLayout,
     lanes: &mut Vec<Lane<Tagged>>,
 ) -> Result<Member, AllocError>
     requires { CanMake layout.old (length lanes.old.items) (length part.slots) who }

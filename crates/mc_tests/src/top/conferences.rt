@@ -42,7 +42,7 @@ const ALL_PAIRS: &str = "conf m legs 3\n\
     mix carol/a alice/a g711\n\
     mix carol/a bob/a g711\n";
 
-// The commands of the three, what is printed behind their paths, and the words' box.
+// The commands of the three, what is printed after their paths, and the words' box.
 const THREE: [(&str, &str); 3] = [
     ("settle\n", ALL_PAIRS),
     // bob is muted, and carol doesn't hear
@@ -50,7 +50,7 @@ const THREE: [(&str, &str); 3] = [
         "talk bob a off\nhear carol a off\nsettle\n",
         "conf m legs 3\nmix alice/a carol/a g711\nmix bob/a alice/a g711\nmix bob/a carol/a g711\n",
     ),
-    // nothing is run behind the last settle
+    // nothing is run after the last settle
     ("settle\ntalk bob a off\n", ALL_PAIRS),
 ];
 

@@ -132,7 +132,7 @@ fn a_refused_call_is_asked_again_once(rt: HostRuntime) -> Result<(), AllocError>
     )
 }
 
-// Behind the six draws of the first settle come 23010, 7419, 16212 and 4086: alice's command of two candidates, bob's
+// After the six draws of the first settle come 23010, 7419, 16212 and 4086: alice's command of two candidates, bob's
 // Take before his command, alice's Take before it, and then it. From the first draws on, bob's command would come
 // second.
 #[test]

@@ -1,4 +1,4 @@
-// Journals: what `--journal` prints behind the settles, and what `check` says of a text with a journal.
+// Journals: what `--journal` prints after the settles, and what `check` says of a text with a journal.
 
 use super::{
     CALLED, PHONES, Piece, Row, answered, are_answered, is_answered_in_pieces, is_equal_at,
@@ -110,7 +110,7 @@ pub const FEATURE_PRINTED: &str = "settle 1\n\
     settle 2\n\
     path alice/a bob/a open close closed audio\n";
 
-// A text, what stands behind it, the status, and what is printed.
+// A text, what stands after it, the status, and what is printed.
 const CHECKED: [Row; 26] = [
     (
         CALLED,
@@ -237,7 +237,7 @@ const CHECKED: [Row; 26] = [
         8,
         "fault 31 turn 5\n",
     ),
-    // A turn behind the last settle.
+    // A turn after the last settle.
     (
         CALLED,
         "journal\n\
@@ -252,7 +252,7 @@ const CHECKED: [Row; 26] = [
         8,
         "fault 33 turn 7\n",
     ),
-    // A settle too many, a bad line behind the last settle, and a command left out.
+    // A settle too many, a bad line after the last settle, and a command left out.
     (
         CALLED,
         "journal\n\
@@ -373,7 +373,7 @@ const CHECKED: [Row; 26] = [
         8,
         "fault 33 turn 17\n",
     ),
-    // A signal behind another tunnel's is not taken: the front of the lane is for the first tunnel.
+    // A signal after another tunnel's is not taken: the front of the lane is for the first tunnel.
     (
         VIDEO,
         "journal\n\
@@ -416,7 +416,7 @@ fn a_journal_past_the_limit_has_a_bad_line(rt: HostRuntime) -> Result<(), AllocE
     )
 }
 
-// The text with what a call with these words on it writes behind what is printed.
+// The text with what a call with these words on it writes after what is printed.
 fn with_journal<R: Threads + Sync + Abort>(
     rt: &R,
     alloc: Global,
@@ -431,7 +431,7 @@ fn with_journal<R: Threads + Sync + Abort>(
     Ok(checked)
 }
 
-/// A call with these words on a text prints this and a journal, which `check` accepts behind the text.
+/// A call with these words on a text prints this and a journal, which `check` accepts after the text.
 pub fn is_accepted<R: Threads + Sync + Abort>(
     rt: &R,
     alloc: Global,

@@ -61,7 +61,7 @@ const SCRIPTS: [Row; 7] = [
         0,
         "settle 1\npath alice/a bob/a close close closed audio\n",
     ),
-    // behind the last settle nothing is run
+    // after the last settle nothing is run
     (
         PHONES,
         "settle\nhear alice a off\n",

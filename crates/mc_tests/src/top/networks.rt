@@ -91,7 +91,7 @@ const RING: &str = "media 1\n\
     link y a b\n\
     settle\n";
 
-// Behind two phones, which settle before, so that the ring isn't at the first slots.
+// After two phones, which settle before, so that the ring isn't at the first slots.
 const LATER_RING: &str = "media 1\n\
     dev d\n\
     dev e\n\

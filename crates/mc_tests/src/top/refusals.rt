@@ -63,7 +63,7 @@ const PHONE_ROWS: [Fault; 36] = [
     ("begin\nset alice a open", "set alice a open\nbegin", 5, 8),
     ("begin\nset alice a open", "set alice z open\nbegin", 11, 7),
     ("begin\n", "", 16, 10),
-    // Commands behind the last settle are read, and a last line without its end.
+    // Commands after the last settle are read, and a last line without its end.
     ("settle", "settle\nset carol a open", 4, 11),
     ("settle\n", "sleep", 5, 10),
     // Bytes that no line has, not even a comment.
@@ -72,7 +72,7 @@ const PHONE_ROWS: [Fault; 36] = [
     ("codec g729", "# caf\u{e9}\ncodec g729", 3, 3),
     ("settle", "settle now\u{7f}", 3, 10),
     ("settle", "settle\n\0", 3, 11),
-    // A fault on a later line, behind lines that break no rule.
+    // A fault on a later line, after lines that break no rule.
     ("dev bob g729", "dev bob 1 g729\nfeat f\nfeat f", 9, 7),
     ("settle", "hear alice a off\nsettle now", 7, 11),
     ("begin", "chan video alice v bob v", 16, 11),

@@ -14,7 +14,7 @@ use mc_model::Channel;
 use mc_signal::Tagged;
 use std::alloc::{AllocError, Global};
 
-/// The parts of a world: its boxes, its channels and what is under way, with the tables that hang on the channels
+/// The parts of a world: its boxes, its channels and what is under way, with the tables that depend on the channels
 /// alone. They are changed freely, and moved out and back; `World::from_parts` says what it asks of them. The tables
 /// tell of slots while boxes and channels are elsewhere.
 #[derive(Debug, Drop)]

@@ -1,6 +1,6 @@
 use Rattle.std.proofs.Common.{◌≡◌, ◌≤◌, ℕ}
 use Rattle.mc_box.specs.Boxes.{box_owes}
-use Rattle.mc_turn.specs.Sums.{total}
+use Rattle.mc_slot_laws.specs.Sums.{total}
 use Rattle.mc_world.specs.Waiting.{bit}
 use Rattle.mc_replay.proofs.counts.owed_in.Given as goal
 

@@ -22,7 +22,7 @@ loop-place-preserved c =
     ∙ ap (λ (so_far : List ℕ). so_far ++ line c.args.chain.now place) c.loop-place.invariant
     ∙ sym (each_more (line c.args.chain.now) (string_bytes c.args.text.now) place)
 
--- all channels to features stand there behind the loop
+-- all channels to features stand there after the loop
 all_features : (c : goal.After-writeln-2) → string_bytes c.loop-place.text ≡ string_bytes c.args.text.now ++ flat_map (line c.args.chain.now) (range_with_len 0 c.args.chain.now.features)
 all_features c =
     let same : c.loop-place.place ≡ c.args.chain.now.features = omega (arith, c.loop-place-test.false, c.loop-place.auto.place-end) in

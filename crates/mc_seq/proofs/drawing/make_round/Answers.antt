@@ -9,12 +9,12 @@ pub recount_all-requires-clause-kept : goal.recount_all-requires-clause-kept
 recount_all-requires-clause-kept c = record {
   kept = c.requires.commands.kept;
   boxes = c.requires.commands.boxes
-      ∙ sym (run_keeps_shape c.args.sitting.now.settled.world c.retry_by_box.new.settled.world (retries_by_box c.args.sitting.now.settled.world) c.keeps.ensures.sound c.in_ok-retry_by_box.ensures.made.ran).boxes;
+      ∙ sym (run_keeps_shape c.args.so_far.now.settled.world c.retry_by_box.new.settled.world (retries_by_box c.args.so_far.now.settled.world) c.keeps.ensures.sound c.in_ok-retry_by_box.ensures.made.ran).boxes;
 }
 
 pub recount_all-requires-clause-long : goal.recount_all-requires-clause-long
 recount_all-requires-clause-long c =
-    kept_long c.args.sitting.now.shifts c.args.sitting.now.settled.world c.retry_by_box.new.settled.world (commands_left c.args.sitting.now.left) (retries_by_box c.args.sitting.now.settled.world) c.keeps.ensures.sound
+    kept_long c.args.so_far.now.shifts c.args.so_far.now.settled.world c.retry_by_box.new.settled.world (commands_left c.args.so_far.now.left) (retries_by_box c.args.so_far.now.settled.world) c.keeps.ensures.sound
     c.in_ok-retry_by_box.ensures.made.ran c.requires.shifts
 
 pub returns-clause-made : goal.returns-clause-made
@@ -23,8 +23,8 @@ returns-clause-made c = record {
   left = refl;
   since = refl;
   shifts = c.recount_all.ensures.spare
-      ∙ spare_same c.args.sitting.now.shifts c.args.sitting.now.settled.world c.retry_by_box.new.settled.world
-      (run_keeps_shape c.args.sitting.now.settled.world c.retry_by_box.new.settled.world (retries_by_box c.args.sitting.now.settled.world) c.keeps.ensures.sound c.in_ok-retry_by_box.ensures.made.ran).boxes;
+      ∙ spare_same c.args.so_far.now.shifts c.args.so_far.now.settled.world c.retry_by_box.new.settled.world
+      (run_keeps_shape c.args.so_far.now.settled.world c.retry_by_box.new.settled.world (retries_by_box c.args.so_far.now.settled.world) c.keeps.ensures.sound c.in_ok-retry_by_box.ensures.made.ran).boxes;
   due = refl;
   logged = c.in_ok-retry_by_box.ensures.made.logged;
 }
@@ -34,7 +34,7 @@ returns-clause-kept c = record {
   commands = record {
     kept = c.requires.commands.kept;
     boxes = c.requires.commands.boxes
-        ∙ sym (run_keeps_shape c.args.sitting.now.settled.world c.retry_by_box.new.settled.world (retries_by_box c.args.sitting.now.settled.world) c.keeps.ensures.sound c.in_ok-retry_by_box.ensures.made.ran).boxes;
+        ∙ sym (run_keeps_shape c.args.so_far.now.settled.world c.retry_by_box.new.settled.world (retries_by_box c.args.so_far.now.settled.world) c.keeps.ensures.sound c.in_ok-retry_by_box.ensures.made.ran).boxes;
   };
   shifts = c.recount_all.ensures.kept;
 }

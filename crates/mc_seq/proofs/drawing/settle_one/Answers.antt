@@ -1,44 +1,44 @@
 use Rattle.std.proofs.Common.{ap, subst, sym}
 use Rattle.mc_model.specs.Shapes.{AreAllowed}
 use Rattle.mc_world.specs.declared.settled.Settled.{Settled}
-use Rattle.mc_seq.specs.Drawing.{Ended, Sight, sight_of}
+use Rattle.mc_seq.specs.Drawing.{Ended, DrawnSoFar, drawn_of}
 use Rattle.mc_seq.specs.Places.{IsInside}
 use Rattle.mc_seq.proofs.Endings.{EndsAs, answers_limit, answers_scheduled, answers_settled, answers_stops, ended_inside}
 use Rattle.mc_seq.proofs.drawing.settle_one.Goals as goal
 
 pub settle-ended-requires-clause-allowed : goal.settle-ended-requires-clause-allowed
-settle-ended-requires-clause-allowed c = subst (λ (s : Sight). AreAllowed s.standing.world s.standing.left) (sym (c.in_ok-sitting.ensures.begins 0)) c.requires
+settle-ended-requires-clause-allowed c = subst (λ (s : DrawnSoFar). AreAllowed s.schedule.world s.schedule.left) (sym (c.in_ok-so_far.ensures.begins 0)) c.requires
 
 pub answer-requires : goal.answer-requires
 answer-requires c =
-    let start : Sight = sight_of c.in_ok-sitting.sitting c.args.draws.now.state in
-    let last : Sight = sight_of c.settle-ended.new.sitting c.settle-ended.new.draws.state in
+    let start : DrawnSoFar = drawn_of c.in_ok-so_far.so_far c.args.draws.now.state in
+    let last : DrawnSoFar = drawn_of c.settle-ended.new.so_far c.settle-ended.new.draws.state in
     subst (λ (s : Settled). IsInside s.world c.in_ok-ending.ending) (sym c.settled_by-settled.ensures) (ended_inside c.in_ok-ending.ending start last c.in_ok-ending.ensures)
 
 -- it ends as its turns led it
-ends_is : (c : goal.After-answer) → EndsAs c.args.world c.args.batch.now c.args.draws.now.state (sight_of c.settle-ended.new.sitting c.settle-ended.new.draws.state) c.settled_by-settled.result c.in_ok-ending.ending
+ends_is : (c : goal.After-answer) → EndsAs c.args.world c.args.batch.now c.args.draws.now.state (drawn_of c.settle-ended.new.so_far c.settle-ended.new.draws.state) c.settled_by-settled.result c.in_ok-ending.ending
 ends_is c =
-    let last : Sight = sight_of c.settle-ended.new.sitting c.settle-ended.new.draws.state in
+    let last : DrawnSoFar = drawn_of c.settle-ended.new.so_far c.settle-ended.new.draws.state in
     record {
       sound = c.keeps.ensures.sound;
       allowed = c.requires;
-      ended = subst (λ (s : Sight). Ended s last c.in_ok-ending.ending) (c.in_ok-sitting.ensures.begins c.args.draws.now.state) c.in_ok-ending.ensures;
+      ended = subst (λ (s : DrawnSoFar). Ended s last c.in_ok-ending.ending) (c.in_ok-so_far.ensures.begins c.args.draws.now.state) c.in_ok-ending.ensures;
       world_is = ap (λ (s : Settled). s.world) c.settled_by-settled.ensures;
       turns_are = ap (λ (s : Settled). s.turns.items) c.settled_by-settled.ensures;
     }
 
 pub returns-clause-scheduled : goal.returns-clause-scheduled
 returns-clause-scheduled c =
-    answers_scheduled c.answer.result c.in_ok-ending.ending c.args.world c.args.batch.now c.args.draws.now.state (sight_of c.settle-ended.new.sitting c.settle-ended.new.draws.state) c.settled_by-settled.result (ends_is c) c.answer.ensures
+    answers_scheduled c.answer.result c.in_ok-ending.ending c.args.world c.args.batch.now c.args.draws.now.state (drawn_of c.settle-ended.new.so_far c.settle-ended.new.draws.state) c.settled_by-settled.result (ends_is c) c.answer.ensures
 
 pub returns-clause-settled : goal.returns-clause-settled
 returns-clause-settled c =
-    answers_settled c.answer.result c.in_ok-ending.ending c.args.world c.args.batch.now c.args.draws.now.state (sight_of c.settle-ended.new.sitting c.settle-ended.new.draws.state) c.settled_by-settled.result (ends_is c) c.answer.ensures
+    answers_settled c.answer.result c.in_ok-ending.ending c.args.world c.args.batch.now c.args.draws.now.state (drawn_of c.settle-ended.new.so_far c.settle-ended.new.draws.state) c.settled_by-settled.result (ends_is c) c.answer.ensures
 
 pub returns-clause-shift_limit : goal.returns-clause-shift_limit
 returns-clause-shift_limit c =
-    answers_limit c.answer.result c.in_ok-ending.ending c.args.world c.args.batch.now c.args.draws.now.state (sight_of c.settle-ended.new.sitting c.settle-ended.new.draws.state) c.settled_by-settled.result (ends_is c) c.answer.ensures
+    answers_limit c.answer.result c.in_ok-ending.ending c.args.world c.args.batch.now c.args.draws.now.state (drawn_of c.settle-ended.new.so_far c.settle-ended.new.draws.state) c.settled_by-settled.result (ends_is c) c.answer.ensures
 
 pub returns-clause-stops : goal.returns-clause-stops
 returns-clause-stops c =
-    answers_stops c.answer.result c.in_ok-ending.ending c.args.world c.args.batch.now c.args.draws.now.state (sight_of c.settle-ended.new.sitting c.settle-ended.new.draws.state) c.settled_by-settled.result (ends_is c) c.answer.ensures
+    answers_stops c.answer.result c.in_ok-ending.ending c.args.world c.args.batch.now c.args.draws.now.state (drawn_of c.settle-ended.new.so_far c.settle-ended.new.draws.state) c.settled_by-settled.result (ends_is c) c.answer.ensures

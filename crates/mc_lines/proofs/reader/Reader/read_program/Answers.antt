@@ -1,6 +1,6 @@
 use Rattle.std.proofs.Common.{map, sym, subst}
 use Rattle.mc_script.specs.Places.{Fits}
-use Rattle.mc_program.specs.Programs.{FitsBox}
+use Rattle.mc_program_lines.specs.Programs.{FitsBox}
 use Rattle.mc_lines.specs.BoxLines.{box_seen}
 use Rattle.mc_lines.specs.Forms.{NamesEach}
 use Rattle.mc_lines.specs.SoFar.{Declared}

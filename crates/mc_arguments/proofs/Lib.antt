@@ -1,5 +1,0 @@
-pub mod Rows
-pub mod Given
-pub mod OneWord
-pub mod Walks
-pub mod Parsed

@@ -1,0 +1,9 @@
+pub mod Alike
+pub mod Sending
+pub mod Steps
+pub mod Taking
+pub mod Walks
+pub mod EndPays
+pub mod EndRests
+pub mod Sums
+pub mod Weighing

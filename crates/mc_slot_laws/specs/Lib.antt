@@ -1,0 +1,4 @@
+pub mod TunnelLaws
+pub mod Sums
+pub mod Turns
+pub mod Weights

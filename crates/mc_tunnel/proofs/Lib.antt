@@ -1,5 +1,0 @@
-pub mod Alike
-pub mod Sending
-pub mod Steps
-pub mod Taking
-pub mod Walks

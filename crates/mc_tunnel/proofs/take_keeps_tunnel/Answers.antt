@@ -1,5 +1,0 @@
-use Rattle.mc_tunnel.proofs.Taking.{take_keeps}
-use Rattle.mc_tunnel.proofs.take_keeps_tunnel.Goals as goal
-
-pub returns : goal.returns
-returns c = take_keeps

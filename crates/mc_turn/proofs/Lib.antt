@@ -1,4 +1,0 @@
-pub mod EndPays
-pub mod EndRests
-pub mod Sums
-pub mod Weighing
