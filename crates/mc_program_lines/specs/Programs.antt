@@ -155,8 +155,11 @@ part_link_rules names shape who part words =
     (MISSING_WORD, is_none (slice_get words 1))
     ∷ (EXTRA_WORD, is_some (slice_get words 2))
     ∷ (GIVEN_TWICE, has_goal part a || has_goal part b)
-    ∷ (NO_SUCH_SLOT, lacks (slot_names names who) (slice_get words 0)
-    || lacks (slot_names names who) (slice_get words 1))
+    ∷ (
+      NO_SUCH_SLOT,
+      lacks (slot_names names who) (slice_get words 0)
+          || lacks (slot_names names who) (slice_get words 1),
+    )
     ∷ (SAME_SLOT, are_same a b)
     ∷ (TWO_MEDIA, differ_in_medium shape (Some who) a b)
     ∷ []
@@ -257,8 +260,11 @@ abbrev pub told_after : NameLists → List (List ℕ) → PartState → List (Li
 told_after names states part words = do
   word ← slice_get words 0
   target ← spelt_value (place_of states) (slice_get words 1)
-  Some (with_told_word names word, with_transition part
-  (record { guard = Told (told_place names word); target = target }))
+  Some (
+    with_told_word names word,
+    with_transition part
+        (record { guard = Told (told_place names word); target = target }),
+  )
 
 abbrev pub when_kind_after : NameLists → ℕ → List (List ℕ) → PartState → Option WaitWord → List (List ℕ)
     → Option (NameLists × PartState)

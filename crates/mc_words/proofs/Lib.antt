@@ -1,5 +1,5 @@
 mod BoxNames
-pub mod Arguments
+pub mod WordsGiven
 pub mod OneMode
 pub mod Rows
 pub mod Given

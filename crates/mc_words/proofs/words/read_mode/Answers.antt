@@ -1,6 +1,6 @@
 use Rattle.std.proofs.Common.{map, option_map, rules, string_bytes}
 use Rattle.mc_words.specs.Arguments.{AreArguments, AreFew}
-use Rattle.mc_words.proofs.Arguments.{asks_for_few, asks_if_none, asks_if_some}
+use Rattle.mc_words.proofs.WordsGiven.{asks_for_few, asks_if_none, asks_if_some}
 use Rattle.mc_words.proofs.words.read_mode.Goals as goal
 
 pub returns-clause-some : goal.returns-clause-some
