@@ -4,7 +4,9 @@ ghost use Rattle.std.specs.Prelude.{◌≡◌, [], length};
 ghost use Rattle.crossbeam_queue.specs.Passes.{view};
 ghost use Rattle.mc_desk.specs.Histories.{AreIndexed, Asking, Taking};
 
-use crate::log::{Asks, Ended, History, LastOperator, Leaves, Log, NextOperator, Takes};
+use crate::log::{
+    Asks, History, LastOperator, Leaves, Log, NextOperator, OperatorEnded, TakesRequest,
+};
 use crate::request::Request;
 use crossbeam_queue::{Pass, RuledArrayQueue};
 use mc_box::Event;
@@ -164,7 +166,7 @@ impl Desk {
         ensures next { IfSome result (λ request. IsNextRequest self.now taker.old request) }
         ensures none { IfNone result (WasEmpty self.now taker.new) }
     {
-        self.queue.pop_as::<Takes, R>(rt, &mut taker.pass)
+        self.queue.pop_as::<TakesRequest, R>(rt, &mut taker.pass)
     }
 
     /// What is left on the desk, put into an empty lane with room for it, the oldest first. It wants all operators
@@ -201,7 +203,7 @@ impl Desk {
     {
         for operator in operators {
             let Operator { pass, .. } = operator;
-            self.queue.absorb::<Ended>(taker, pass);
+            self.queue.absorb::<OperatorEnded>(taker, pass);
         }
     }
 

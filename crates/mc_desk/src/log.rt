@@ -47,15 +47,15 @@ impl Lesson<Request, Log> for Asks {
 }
 
 // The box takes a request.
-pub struct Takes;
+pub struct TakesRequest;
 
-impl Outcome<Request, Log> for Takes {
+impl Outcome<Request, Log> for TakesRequest {
     ghost use Rattle.mc_desk.specs.Histories.{HasTaken};
 
     ghost then = { HasTaken };
 }
 
-impl Lesson<Request, Log> for Takes {
+impl Lesson<Request, Log> for TakesRequest {
     ghost use Rattle.mc_desk.specs.Histories.{WasSeen};
 
     ghost fact = { WasSeen };
@@ -101,9 +101,9 @@ impl Split<Log> for LastOperator {
 }
 
 // The pass of an operator that has ended is back.
-pub struct Ended;
+pub struct OperatorEnded;
 
-impl Join<Log> for Ended {
+impl Join<Log> for OperatorEnded {
     ghost use Rattle.mc_desk.specs.Histories.{with_known, nobody};
 
     ghost both = { with_known };

@@ -18,9 +18,9 @@ pub struct Account {
 }
 
 // Each word is the sum of one count over all seats that no other one took in.
-pub struct Tally;
+pub struct TallyRule;
 
-impl TableRule<(), Account, ()> for Tally {
+impl TableRule<(), Account, ()> for TallyRule {
     ghost use Rattle.mc_flight.specs.Tallies.{IsTallied, account};
     ghost use Rattle.mc_flight.specs.declared.limit.TheConstants.{SEAT_LIMIT};
 
@@ -30,18 +30,18 @@ impl TableRule<(), Account, ()> for Tally {
 }
 
 // A seat counts signals as sent.
-pub struct Sends;
+pub struct CountsSent;
 
-impl Play<(), Account> for Sends {
+impl Play<(), Account> for CountsSent {
     ghost use Rattle.mc_flight.specs.Tallies.{SentMore};
 
     ghost then = { SentMore };
 }
 
 // A seat counts signals as taken.
-pub struct Takes;
+pub struct CountsTaken;
 
-impl Play<(), Account> for Takes {
+impl Play<(), Account> for CountsTaken {
     ghost use Rattle.mc_flight.specs.Tallies.{TookMore};
 
     ghost then = { TookMore };

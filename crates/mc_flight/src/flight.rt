@@ -3,7 +3,7 @@
 ghost use Rattle.std.specs.Prelude.{◌≡◌, ◌<◌, ◌≤◌, [], false};
 ghost use Rattle.mc_flight.specs.declared.limit.TheConstants.{SEAT_LIMIT};
 
-use crate::account::{Account, BothSeats, NextSeat, Reads, Sends, Takes, Tally};
+use crate::account::{Account, BothSeats, CountsSent, CountsTaken, NextSeat, Reads, TallyRule};
 use atomic_table::{Seat, Table};
 use std::alloc::{AllocError, Global};
 use std::mem;
@@ -18,7 +18,7 @@ const TAKEN: usize = 1;
 /// Each thread raises them with a seat of its own, and `close` tells both totals once all seats are back.
 #[derive(Drop)]
 pub struct Flight {
-    table: Table<(), Account, (), Tally, Global>,
+    table: Table<(), Account, (), TallyRule, Global>,
     seats: u32,
     ghost words: { table.shared.table_id.words ≡ 2 },
     ghost no_slots: { table.shared.table_id.slots ≡ 0 },
@@ -94,7 +94,7 @@ impl Flight {
     {
         self.table
             .shared
-            .fetch_add::<Sends>(&mut seat.seat, SENT, n as u64);
+            .fetch_add::<CountsSent>(&mut seat.seat, SENT, n as u64);
     }
 
     /// Counts so many signals as taken. With one seat at most 2^48 signals may be counted so in all.
@@ -107,7 +107,7 @@ impl Flight {
     {
         self.table
             .shared
-            .fetch_add::<Takes>(&mut seat.seat, TAKEN, n as u64);
+            .fetch_add::<CountsTaken>(&mut seat.seat, TAKEN, n as u64);
     }
 
     /// How many signals were counted as sent with all seats, at one moment of the call: at least those of this seat,
