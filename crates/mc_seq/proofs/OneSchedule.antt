@@ -99,7 +99,7 @@ pub record AreOne (one two : List Turn) (last other : ScheduleState) : Type 0 wh
 same_world : (world n m : WorldState) (s t : Turn) → s ≡ t → step world s ≡ Some n → step world t ≡ Some m → n ≡ m
 same_world world n m s t is one two = cc
 
--- from one schedule the same turns are drawn, up to one at which no turn can be made
+-- from one state of it the same turns are drawn, up to one at which no turn can be made
 pub drawn_one : (one two : List Turn) (now last other : ScheduleState) → AreDrawn now one last → DrawsNone last → AreDrawn now two other → DrawsNone other → AreOne one two last other
 drawn_one [] [] now last other first none second nothing = record { turns = refl; stands = sym first ∙ second }
 drawn_one [] (t ∷ two) now last other first none second nothing = absurd (subst DrawsNone (sym first) none t second.0 second.1 second.2 second.3)
@@ -116,7 +116,7 @@ drawn_one (s ∷ one) (t ∷ two) now last other first none second nothing =
 same_run : (world other n m : WorldState) → world ≡ other → run world (retries_by_box world) ≡ Some n → run other (retries_by_box other) ≡ Some m → n ≡ m
 same_run world other n m is one two = let both : run world (retries_by_box world) ≡ run other (retries_by_box other) = ap (λ (w : WorldState). run w (retries_by_box w)) is in cc
 
--- and one schedule
+-- and one state
 same_round : (still again next other : ScheduleState) → still ≡ again → MakesRound still next → MakesRound again other → next ≡ other
 same_round still again next other is one two =
     let worlds : next.world ≡ other.world = same_run still.world again.world next.world other.world (ap (λ (s : ScheduleState). s.world) is) one.retries two.retries in
@@ -124,7 +124,7 @@ same_round still again next other is one two =
     ∙ (ap (λ (w : WorldState). let s : ScheduleState = record still { world = w; due = false } in s) worlds
     ∙ (ap (λ (t : ScheduleState). let s : ScheduleState = record t { world = other.world; due = false } in s) is ∙ sym two.then_not))
 
--- so the schedule leads from one schedule to one end
+-- so the schedule leads from one state to one end
 pub goes_one : (rounds others : ℕ) (one two : List Turn) (now last other : ScheduleState) → Goes rounds now one last → IsOver last → Goes others now two other → IsOver other → AreOne one two last other
 goes_one zero zero one two now last other first over second ends = drawn_one one two now last other first over.no_turn second ends.no_turn
 goes_one zero (suc others) one two now last other first over (head, rest, still, next, are, drew, round, more) ends =

@@ -121,7 +121,7 @@ goes_used rounds world batch turns state last allowed goes left who =
     ∙ (ap (λ (l : List Turn). commands_of who turns ++ commands_of who l) (sym left)
     ∙ goes_commands rounds turns (first_schedule world batch state) last who (allowed_commands batch world allowed) goes)
 
--- ---- what is known of a schedule at which nothing is listed
+-- ---- what is known of a state at which nothing is listed
 
 pub record AtEnd (world : WorldState) (last : ScheduleState) : Type 0 where
   pub sound : IsSound last.world

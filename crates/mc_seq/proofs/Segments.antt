@@ -1,4 +1,4 @@
--- Segments: turns up to a so_far at which the world rests, and Takes and retries after it.
+-- Segments: turns up to a moment at which the world rests, and Takes and retries after it.
 use Rattle.std.proofs.Common.{◌≡◌, ◌==◌, ◌&&◌, ◌++◌, cond, if◌then◌else◌, not, ℕ, Bool, true, false, List, [], ◌∷◌, Option, Some, IsTrue, length, take, count_by, append-nil, length-append, refl, ap, sym, ◌∙◌, arith}
 use Rattle.std.specs.List.{list_all}
 use Rattle.std.specs.Option.{unwrap_or}
@@ -65,7 +65,7 @@ pub record Resting (world : WorldState) : Type 0 where
 resting_rests : (world : WorldState) → Resting world → IsTrue (rests world)
 resting_rests world resting = rests_by (is_quiet world) (can_shift world) resting.quiet resting.no_shift
 
--- from the turns before the so_far at which the world rests, and those after it
+-- from the turns before the moment at which the world rests, and those after it
 pub settled_at : (world rested last : WorldState) (batch begun rest : List Turn) → Resting rested → Resting last → has_ring last ≡ false → run world begun ≡ Some rested → run rested rest ≡ Some last
     → ((who : ℕ) → commands_of who begun ≡ commands_of who batch)
     → ((who local : ℕ) → count_by (is_retry_of who local) rest ≡ (if world_owes rested who local then 1 else 0)) → all_besides rest ≡ true
@@ -78,7 +78,7 @@ settled_at world rested last batch begun rest resting_then resting free ran goes
       commands = λ who. commands_before begun rest who besides ∙ used who;
       at_rest = resting_rests last resting;
       no_ring = free;
-      so_far = length begun;
+      moment = length begun;
       last_rest = record {
         within = rw (length-append begun rest) (omega arith);
         at_rest = rw at (resting_rests rested resting_then);

@@ -20,7 +20,7 @@ use Rattle.mc_seq.specs.declared.stopping.Ending.{Ending}
 use Rattle.mc_seq.specs.declared.stopping.Ending.TheVariants.{LastVersion, Rest, Restless, Ring}
 use Rattle.mc_seq.specs.declared.plain.SettleSoFar.{SettleSoFar as PlainSoFar}
 
--- a so_far of a settle: its world and turns so far, the commands that are left, how many turns came since the last
+-- a settle so far: its world and turns so far, the commands that are left, how many turns came since the last
 -- command or the beginning, how many Shifts each box may still make, and whether a round of retries is due
 pub record SoFar : Type 0 where
   pub settled : Settled
@@ -61,12 +61,12 @@ so_far_of so_far = record {
 abbrev pub drawn_of : SettleSoFar → ℕ → DrawnSoFar
 drawn_of so_far draws = drawn_at (so_far_of so_far) draws
 
--- what a so_far keeps of its counts
+-- what a settle keeps so far of its counts
 pub record IsKept (so_far : SettleSoFar) : Type 0 where
   pub commands : AreKeptFor so_far.settled.world so_far.left
   pub shifts : AreShiftsKept so_far.settled.world (commands_left so_far.left) so_far.shifts
 
--- the same for a so_far that lists all candidates
+-- the same for a settle that lists all candidates
 abbrev pub plain_so_far : PlainSoFar → SoFar
 plain_so_far so_far =
     record {
@@ -157,7 +157,7 @@ DrewOnce old new (VersionEnd at) = DrewVersionEnd old new at
 
 -- ---- several draws
 
--- turns that are drawn lead from one schedule to another, and are written down after what was written before
+-- turns that are drawn lead from one state to another, and are written down after what was written before
 pub record DrewAll (old new : DrawnSoFar) : Type 0 where
   pub turns : List Turn
   pub draws : AreDrawn old.schedule turns new.schedule
@@ -218,7 +218,7 @@ pub record RoundMade (old new : SoFar) : Type 0 where
   pub due : new.due ≡ false
   pub logged : new.settled.turns.items ≡ old.settled.turns.items ++ retries_by_box old.settled.world
 
--- rounds and drawn turns lead from one schedule to another, and are written down
+-- rounds and drawn turns lead from one state to another, and are written down
 pub record WentOn (old new : DrawnSoFar) : Type 0 where
   pub rounds : ℕ
   pub turns : List Turn

@@ -117,7 +117,7 @@ shifts_by turn shifts =
 abbrev pub due_after : Turn → Bool → Bool
 due_after turn due = is_shift turn.event || due
 
--- the schedule after a drawn turn that led to this world
+-- the state after a drawn turn that led to this world
 abbrev pub schedule_after : ScheduleState → Turn → WorldState → ScheduleState
 schedule_after now turn next =
     record {
@@ -133,7 +133,7 @@ schedule_after now turn next =
 abbrev pub MayGo : ScheduleState → Type 0
 MayGo now = now.left ≡ [] → has_ring now.world ≡ false
 
--- turns that are drawn one after another lead from one schedule to another
+-- turns that are drawn one after another lead from one state to another
 abbrev pub AreDrawn : ScheduleState → List Turn → ScheduleState → Type 0
 AreDrawn now [] last = now ≡ last
 AreDrawn now (turn ∷ turns) last =
@@ -155,7 +155,7 @@ pub record MakesRound (now next : ScheduleState) : Type 0 where
   pub retries : run now.world (retries_by_box now.world) ≡ Some next.world
   pub then_not : next ≡ record now { world = next.world; due = false }
 
--- so many rounds, with drawn turns before each of them and after the last, lead from one schedule to another
+-- so many rounds, with drawn turns before each of them and after the last, lead from one state to another
 abbrev pub Goes : (rounds : ℕ) → ScheduleState → List Turn → ScheduleState → Type 0
 Goes zero now turns last = AreDrawn now turns last
 Goes (suc rounds) now turns last = (first : List Turn) × (rest : List Turn) × (still : ScheduleState) × (next : ScheduleState)
