@@ -2,7 +2,7 @@
 // standard input, and writes to standard output or standard error. The environment says which:
 //   FAIL   memory, thread, read, write (to standard output) or tell (to standard error)
 //   AT     which call of that kind, counted from 1; 0 for none
-//   HOW    once: this call fails; on: this one and all behind it; short: it takes one byte; nothing: it takes none, and
+//   HOW    once: this call fails; on: this one and all after it; short: it takes one byte; nothing: it takes none, and
 //          doesn't fail; interrupted: it fails as one does that a signal interrupts
 //   PIECE  the most bytes that a read or a write takes, in each call; 0 for as many as are asked for
 //   TOLD   a descriptor to which a byte is written where a call was made to do otherwise than it would
