@@ -16,7 +16,7 @@ use Rattle.mc_program_lines.specs.declared.part.WaitWord.{WaitWord}
 use Rattle.mc_program_lines.specs.declared.part.WaitWord.TheVariants as waits
 use Rattle.mc_lines.specs.DetailLaws.{Tells, TellsByRule, is_of_a_word}
 use Rattle.mc_lines.specs.Details.{detail_of, first_misspelt, first_undeclared, has_version, no_slot_place, opening, passed_limit, target_place, undeclared_place, wrong_in_name, wrong_in_wait, wrong_word}
-use Rattle.mc_lines.specs.Rules.{also_rules, words_rules, begin_rules, begins_digit, block_in, channel_rules, codec_rules, codec_words, command_line_rules, device_rules, feature_rules, is_late, is_program_link, is_skipped, is_version, journal_rules, kind_of, line_words_rules, lists_undeclared, open_block, program_link_rules, program_rules, rank, rules_by, send_line_rules, send_rules, shapes, spelt_medium, state_rules, has_journal}
+use Rattle.mc_lines.specs.Rules.{also_rules, words_rules, begin_rules, begins_digit, block_in, channel_rules, codec_rules, codec_words, command_line_rules, device_rules, feature_rules, is_late, is_program_link, is_skipped, is_version, journal_rules, kind_of, line_words_rules, lists_undeclared, open_block, program_link_rules, program_rules, rank, rules_by, send_line_rules, send_rules, shapes, spelt_medium, state_rules, has_growth, has_journal, grow_rules, is_pending}
 use Rattle.mc_lines.specs.SoFar.{Declared}
 use Rattle.mc_lines.specs.declared.detail.Detail.{Detail}
 use Rattle.mc_lines.specs.declared.detail.Detail.TheVariants as detail
@@ -175,6 +175,11 @@ undeclared_kind d (Some keyword.Journal) words broken = by (d.begun && has_journ
     by : (may : Bool) → least_broken (journal_rules may words) ≡ Some UNDECLARED → 1 ≤ length words
     by false broken = absurd (let is = is_broken UNDECLARED ((WRONG_WORD, true) ∷ []) broken in cc)
     by true broken = absurd (let is = is_broken UNDECLARED (journal_rules true words) broken in cc)
+undeclared_kind d (Some keyword.Grow) words broken = by (d.begun && has_growth d.tail) broken
+  where
+    by : (may : Bool) → least_broken (grow_rules may (is_pending d.commands) words) ≡ Some UNDECLARED → 1 ≤ length words
+    by false broken = absurd (let is = is_broken UNDECLARED ((WRONG_WORD, true) ∷ []) broken in cc)
+    by true broken = absurd (let is = is_broken UNDECLARED (grow_rules true (is_pending d.commands) words) broken in cc)
 undeclared_kind d (Some (keyword.Command kind)) words broken = by (is_program_link d.section kind) refl
   where
     by : (linked : Bool) → is_program_link d.section kind ≡ linked → undeclared_place d (Some (keyword.Command kind)) words ≤ length words
@@ -418,6 +423,11 @@ slot_kind d (Some keyword.Journal) words broken = by (d.begun && has_journal d.t
     by : (may : Bool) → least_broken (journal_rules may words) ≡ Some NO_SUCH_SLOT → 2 ≤ length words
     by false broken = absurd (let is = is_broken NO_SUCH_SLOT ((WRONG_WORD, true) ∷ []) broken in cc)
     by true broken = absurd (let is = is_broken NO_SUCH_SLOT (journal_rules true words) broken in cc)
+slot_kind d (Some keyword.Grow) words broken = by (d.begun && has_growth d.tail) broken
+  where
+    by : (may : Bool) → least_broken (grow_rules may (is_pending d.commands) words) ≡ Some NO_SUCH_SLOT → 2 ≤ length words
+    by false broken = absurd (let is = is_broken NO_SUCH_SLOT ((WRONG_WORD, true) ∷ []) broken in cc)
+    by true broken = absurd (let is = is_broken NO_SUCH_SLOT (grow_rules true (is_pending d.commands) words) broken in cc)
 slot_kind d (Some (keyword.Command kind)) words broken = by (is_program_link d.section kind) refl
   where
     by : (linked : Bool) → is_program_link d.section kind ≡ linked → no_slot_place d (Some (keyword.Command kind)) words ≤ length words
@@ -460,6 +470,11 @@ limit_kind d (Some keyword.Journal) words broken = by (d.begun && has_journal d.
     by : (may : Bool) → least_broken (journal_rules may words) ≡ Some LIMIT_PASSED → ⊥
     by false broken = let is = is_broken LIMIT_PASSED ((WRONG_WORD, true) ∷ []) broken in cc
     by true broken = let is = is_broken LIMIT_PASSED (journal_rules true words) broken in cc
+limit_kind d (Some keyword.Grow) words broken = by (d.begun && has_growth d.tail) broken
+  where
+    by : (may : Bool) → least_broken (grow_rules may (is_pending d.commands) words) ≡ Some LIMIT_PASSED → ⊥
+    by false broken = let is = is_broken LIMIT_PASSED ((WRONG_WORD, true) ∷ []) broken in cc
+    by true broken = let is = is_broken LIMIT_PASSED (grow_rules true (is_pending d.commands) words) broken in cc
 limit_kind d (Some (keyword.Command kind)) words broken = tt
 limit_kind d (Some keyword.Media) words broken = let is = is_broken LIMIT_PASSED ((WRONG_WORD, true) ∷ []) broken in cc
 limit_kind d None words broken = let is = is_broken LIMIT_PASSED ((WRONG_WORD, true) ∷ []) broken in cc

@@ -1,3 +1,4 @@
+pub mod AlsoBroken
 pub mod Blocks
 pub mod BrokenRules
 pub mod CodecLists

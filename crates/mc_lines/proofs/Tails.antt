@@ -70,6 +70,7 @@ kind_tail d keyword.When words = of_chained d.tail (λ block. when_after d block
     (λ block. of_mapped d.tail (λ (after : NameLists × BlockState). with_block (record d { names = after.0 }) after.1) (block_when_after d.names block words) (λ after. refl))
 kind_tail d keyword.Begin words = refl
 kind_tail d keyword.Journal words = refl
+kind_tail d keyword.Grow words = refl
 kind_tail d (keyword.Command kind) words = command_tail d (is_program_link d.section kind) kind words
 
 by_kind : (d : Declared) (kind : Option Keyword) (words : List (List ℕ)) → HasTail d.tail (after_by d kind words)

@@ -2,6 +2,8 @@ pub mod BoxLines
 pub mod DetailLaws
 pub mod Details
 pub mod Forms
+pub mod Joins
+pub mod JoinReadings
 pub mod LineReadings
 pub mod Listing
 pub mod Meaning

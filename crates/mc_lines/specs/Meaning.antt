@@ -199,6 +199,7 @@ after_by d (Some keyword.Goal) words =
 after_by d (Some keyword.When) words = option_and_then (λ block. when_after d block words) (open_block d)
 after_by d (Some keyword.Begin) words = Some (begin_after d)
 after_by d (Some keyword.Journal) words = Some d
+after_by d (Some keyword.Grow) words = Some d
 after_by d (Some (keyword.Command kind)) words =
     if is_program_link d.section kind then program_link_after d words else command_after d kind words
 after_by d other words = None

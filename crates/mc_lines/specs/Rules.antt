@@ -13,9 +13,11 @@ use Rattle.mc_text.specs.declared.limit.TheConstants.{BOX_LIMIT, CODEC_LIMIT, SL
 use Rattle.mc_box.specs.BoxShapes.{BoxShapeState}
 use Rattle.mc_script.specs.Places.{are_same, box_named, has, is_misspelt, is_no, is_overlong, lacks}
 use Rattle.mc_script.specs.Rules.{begins_hash, byte_rules, command_word, is_no_device, kind_rules, least_broken}
+use Rattle.mc_script.specs.declared.command.Command.{Command}
+use Rattle.mc_script.specs.declared.command.Command.TheVariants.{Stimulus}
 use Rattle.mc_script.specs.declared.keyword.CommandWord.{CommandWord}
 use Rattle.mc_script.specs.declared.keyword.CommandWord.TheVariants as command
-use Rattle.mc_script.specs.declared.rule.TheConstants.{EXTRA_WORD, GIVEN_TWICE, LIMIT_PASSED, MISSING_WORD, NAME_TOO_LONG, NO_BEGIN, NO_VERSION_LINE, SAME_BOX, TEXT_TOO_LONG, UNDECLARED, UNFINISHED, WRONG_VERSION, WRONG_WORD}
+use Rattle.mc_script.specs.declared.rule.TheConstants.{EXTRA_WORD, GIVEN_TWICE, LIMIT_PASSED, MISSING_WORD, NAME_TOO_LONG, NOT_SETTLED, NO_BEGIN, NO_VERSION_LINE, SAME_BOX, TEXT_TOO_LONG, UNDECLARED, UNFINISHED, WRONG_VERSION, WRONG_WORD}
 use Rattle.mc_program_lines.specs.Programs.{BlockState, block_goal_rules, block_link_rules, block_when_rules, in_block, is_unfinished_block, new_part_rules, new_program_rules}
 use Rattle.mc_lines.specs.SoFar.{Declared}
 use Rattle.mc_program_lines.specs.WordLists.{has_repeat}
@@ -24,7 +26,7 @@ use Rattle.mc_lines.specs.declared.section.Keyword.TheVariants as keyword
 use Rattle.mc_lines.specs.declared.section.Section.{Section}
 use Rattle.mc_lines.specs.declared.section.Section.TheVariants as section
 use Rattle.mc_lines.specs.declared.tail.Tail.{Tail}
-use Rattle.mc_lines.specs.declared.tail.Tail.TheVariants.{Nothing, Journal}
+use Rattle.mc_lines.specs.declared.tail.Tail.TheVariants.{Nothing, Journal, Grow}
 use Rattle.mc_plan.specs.Plans.{last_channel}
 use Rattle.mc_plan.specs.declared.limit.TheConstants.{CHANNEL_LIMIT}
 use Rattle.mc_model.specs.declared.channel.TheConstants.{TUNNEL_LIMIT}
@@ -36,6 +38,7 @@ use Rattle.mc_lines.specs.declared.limit.TheConstants.{COMMAND_LIMIT, JOURNAL_TE
 abbrev pub text_limit : Tail → ℕ
 text_limit Nothing = TEXT_LIMIT
 text_limit Journal = JOURNAL_TEXT_LIMIT
+text_limit Grow = TEXT_LIMIT
 
 -- how many bytes are read at most: one more than the limit
 abbrev pub read_limit : Tail → ℕ
@@ -47,15 +50,28 @@ read_limit tail = text_limit tail + 1
 abbrev pub has_journal : Tail → Bool
 has_journal Nothing = false
 has_journal Journal = true
+has_journal Grow = false
+
+-- lines by which the network grows may
+abbrev pub has_growth : Tail → Bool
+has_growth Grow = true
+has_growth other = false
 
 -- `journal`, the only word
 abbrev pub is_journal : List (List ℕ) → Bool
 is_journal (first ∷ []) = bytes_eq first (codes "journal")
 is_journal words = false
 
--- the line ends the commands of a text: its only word is `journal`, and a journal may stand after it
+-- `grow`, the only word
+abbrev pub is_grow : List (List ℕ) → Bool
+is_grow (first ∷ []) = bytes_eq first (codes "grow")
+is_grow words = false
+
+-- the line ends the commands of a text: its only word is the one that does, where something may stand after them
 abbrev pub ends_commands : Tail → List ℕ → Bool
-ends_commands tail line = has_journal tail && is_journal (words line)
+ends_commands Nothing line = false
+ends_commands Journal line = is_journal (words line)
+ends_commands Grow line = is_grow (words line)
 
 -- ---- sections and first words
 
@@ -73,6 +89,13 @@ rank section.Commands = 6
 abbrev pub is_late : Declared → Section → Bool
 is_late d s = nat_lt (rank s) (rank d.section)
 
+-- a word that opens a line after `begin`
+abbrev pub keyword_of_script : List ℕ → Option Keyword
+keyword_of_script word =
+    if bytes_eq word (codes "journal") then Some keyword.Journal
+    else (if bytes_eq word (codes "grow") then Some keyword.Grow
+    else option_map (λ kind. keyword.Command kind) (command_word word))
+
 -- a word that opens a line after the channels
 abbrev pub keyword_of_program : List ℕ → Option Keyword
 keyword_of_program word =
@@ -81,10 +104,9 @@ keyword_of_program word =
     else (if bytes_eq word (codes "goal") then Some keyword.Goal
     else (if bytes_eq word (codes "when") then Some keyword.When
     else (if bytes_eq word (codes "begin") then Some keyword.Begin
-    else (if bytes_eq word (codes "journal") then Some keyword.Journal
-    else option_map (λ kind. keyword.Command kind) (command_word word))))))
+    else keyword_of_script word))))
 
--- the word that opens a line; where `send` and `journal` do so the rules of their lines say
+-- the word that opens a line; where `send`, `journal` and `grow` do so the rules of their lines say
 abbrev pub keyword_of : List ℕ → Option Keyword
 keyword_of word =
     if bytes_eq word (codes "media") then Some keyword.Media
@@ -279,6 +301,21 @@ abbrev pub journal_rules : Bool → List (List ℕ) → List (ℕ × Bool)
 journal_rules false words = (WRONG_WORD, true) ∷ []
 journal_rules true words = (EXTRA_WORD, is_some (slice_get words 0)) ∷ []
 
+-- some command is one, and no settle
+abbrev pub awaits_settle : Option Command → Bool
+awaits_settle (Some (Stimulus turn)) = true
+awaits_settle other = false
+
+-- commands came since the last settle
+abbrev pub is_pending : List Command → Bool
+is_pending commands = awaits_settle (slice_get commands (length commands - 1))
+
+-- `grow` opens a line after `begin` and after a settle, where lines by which the network grows may stand after the
+-- commands
+abbrev pub grow_rules : (may pending : Bool) → List (List ℕ) → List (ℕ × Bool)
+grow_rules false pending words = (WRONG_WORD, true) ∷ []
+grow_rules true pending words = (EXTRA_WORD, is_some (slice_get words 0)) ∷ (NOT_SETTLED, pending) ∷ []
+
 -- a command, wherever it stands
 abbrev pub command_line_rules : Declared → CommandWord → List (List ℕ) → List (ℕ × Bool)
 command_line_rules d kind words =
@@ -310,6 +347,7 @@ rules_by d (Some keyword.Goal) words = in_block (λ block. block_goal_rules d.na
 rules_by d (Some keyword.When) words = in_block (λ block. block_when_rules d.names block words) (open_block d)
 rules_by d (Some keyword.Begin) words = begin_rules d words
 rules_by d (Some keyword.Journal) words = journal_rules (d.begun && has_journal d.tail) words
+rules_by d (Some keyword.Grow) words = grow_rules (d.begun && has_growth d.tail) (is_pending d.commands) words
 rules_by d (Some (keyword.Command kind)) words =
     if is_program_link d.section kind then program_link_rules d words else command_line_rules d kind words
 rules_by d other words = (WRONG_WORD, true) ∷ []

@@ -1,13 +1,13 @@
 //! The words that open lines.
 
 ghost use Rattle.std.specs.Prelude.{◌≡◌};
-ghost use Rattle.mc_lines.specs.Rules.{keyword_of, keyword_of_program};
+ghost use Rattle.mc_lines.specs.Rules.{keyword_of, keyword_of_program, keyword_of_script};
 
 use crate::section::Keyword;
 use mc_script::keyword::command_word;
 
-/// The kind of line that a word opens. None where it opens none. Where `send` and `journal` open one is for the rules
-/// of their lines to say.
+/// The kind of line that a word opens. None where it opens none. Where `send`, `journal` and `grow` open one is for the
+/// rules of their lines to say.
 pub fn keyword_of(word: &[u8]) -> Option<Keyword>
     ensures { result ≡ keyword_of word.now }
 {
@@ -44,8 +44,19 @@ fn keyword_of_program(word: &[u8]) -> Option<Keyword>
         Some(Keyword::When)
     } else if word == b"begin".as_slice() {
         Some(Keyword::Begin)
-    } else if word == b"journal".as_slice() {
+    } else {
+        keyword_of_script(word)
+    }
+}
+
+// The kind of line that a word opens after `begin`.
+fn keyword_of_script(word: &[u8]) -> Option<Keyword>
+    ensures { result ≡ keyword_of_script word.now }
+{
+    if word == b"journal".as_slice() {
         Some(Keyword::Journal)
+    } else if word == b"grow".as_slice() {
+        Some(Keyword::Grow)
     } else {
         command_word(word).map(Keyword::Command)
     }

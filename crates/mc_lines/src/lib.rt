@@ -14,6 +14,6 @@ mod wanting;
 
 pub use detail::{Detail, Limit, Why};
 pub use keyword::keyword_of;
-pub use reader::{Declarations, Reader};
+pub use reader::{ChannelLine, Declarations, Reader, lesser};
 pub use section::{Keyword, Section};
 pub use tail::{Tail, ends_commands};

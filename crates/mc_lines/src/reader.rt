@@ -13,6 +13,7 @@ mod channels;
 mod codecs;
 mod commands;
 mod details;
+mod joins;
 mod programs;
 mod sends;
 
@@ -20,6 +21,8 @@ use crate::keyword::keyword_of;
 use crate::places::{is_second, is_version};
 use crate::section::{Keyword, Section};
 use crate::tail::Tail;
+pub use channels::ChannelLine;
+pub use joins::lesser;
 use mc_box::Shape;
 use mc_plan::Plan;
 use mc_program_lines::{Block, ReadFault, is_unfinished};
@@ -127,8 +130,8 @@ impl Reader {
         is_unfinished(self.open_block())
     }
 
-    // Reads a line of this kind. The words are those after the first.
-    fn read_kind<'a>(&mut self, kind: Keyword, words: Words<'a>) -> Result<(), ReadFault>
+    /// Reads a line of this kind. The words are those after the first.
+    pub fn read_kind<'a>(&mut self, kind: Keyword, words: Words<'a>) -> Result<(), ReadFault>
         requires { IsInForm self.old }
         ensures declared { ReadsKind self.old kind words.entry result self.new }
         ensures in_form { OnOk result (IsInForm self.new) }
@@ -147,6 +150,7 @@ impl Reader {
             Keyword::When => self.read_when(words),
             Keyword::Begin => self.read_begin(words),
             Keyword::Journal => self.read_journal(words),
+            Keyword::Grow => self.read_grow(words),
             Keyword::Command(kind) => self.read_command_word(kind, words),
         }
     }

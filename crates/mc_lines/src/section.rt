@@ -51,6 +51,8 @@ pub enum Keyword {
     Begin,
     /// It opens a line only where a journal may stand after the commands.
     Journal,
+    /// It opens a line only where lines by which the network grows may stand after the commands.
+    Grow,
     /// The word of a command. In the programs `link` opens a part's line.
     Command(CommandWord),
 }

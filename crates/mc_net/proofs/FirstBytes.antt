@@ -11,7 +11,6 @@ use Rattle.mc_lines.specs.SoFar.{Declared}
 use Rattle.mc_lines.specs.declared.tail.Tail.{Tail}
 use Rattle.mc_lines.specs.declared.tail.Tail.TheVariants.{Nothing}
 use Rattle.mc_net.specs.Nets.{DeclaresNet}
-use Rattle.mc_net.specs.declared.net.Net.{Net}
 use Rattle.mc_net.specs.TextLaws.{BlocksOfTheFirstBytes, FaultsOfTheFirstBytes, NetsOfTheFirstBytes, SaysTheWhole, first_bytes}
 use Rattle.mc_net.specs.Texts.{IsFault, at_line, at_end, Says, bytes_before, declared_by, fault_at, text_end, text_lines, up_to}
 use Rattle.mc_net.proofs.Faults.{not_both, same_value}

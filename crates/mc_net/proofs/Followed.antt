@@ -10,7 +10,7 @@ use Rattle.std.specs.Option.{option_and_then, option_map, unwrap_or}
 use Rattle.std.specs.Str.{bytes_eq}
 use Rattle.mc_lines.proofs.FirstBroken.{all_before, all_behind, of_words}
 use Rattle.mc_lines.specs.Meaning.{after_by, also_after, channel_after, codec_number, command_after, device_in, line_after, program_link_after, programmed_shape, unless_skipped, when_after, with_block, with_joined, with_new_box, with_new_codec, with_new_feature, with_send_line, with_widened, words_after}
-use Rattle.mc_lines.specs.Rules.{end_fault, end_rules, ends_commands, has_journal, is_journal, is_program_link, is_skipped, journal_rules, kind_of, line_fault, line_words_rules, open_block, passes_limit, rules_by, spelt_medium, text_limit, words_rules}
+use Rattle.mc_lines.specs.Rules.{end_fault, end_rules, ends_commands, grow_rules, has_growth, has_journal, is_journal, is_pending, is_program_link, is_skipped, journal_rules, kind_of, line_fault, line_words_rules, open_block, passes_limit, rules_by, spelt_medium, text_limit, words_rules}
 use Rattle.mc_lines.specs.SoFar.{Declared}
 use Rattle.mc_lines.specs.declared.section.Keyword.{Keyword}
 use Rattle.mc_lines.specs.declared.section.Keyword.TheVariants as keyword
@@ -191,6 +191,7 @@ module _ (d : Declared) (words : List (List ℕ)) where
       (λ block. of_mapped (λ (after : NameLists × BlockState). with_block (record d { names = after.0 }) after.1) (λ (after : NameLists × BlockState). with_block (record (under d) { names = after.0 }) after.1) (block_when_after d.names block words) (λ after. refl))
   kind_same keyword.Begin = refl
   kind_same keyword.Journal = refl
+  kind_same keyword.Grow = refl
   kind_same (keyword.Command kind) = command_same (is_program_link d.section kind) kind
 
   by_kind : (kind : Option Keyword) → after_by (under d) kind words ≡ option_map under (after_by d kind words)
@@ -218,6 +219,12 @@ no_journal : (begun : Bool) (tail : Tail) (words : List (List ℕ)) → tail ≡
 no_journal true tail words none kept = let clash : Some WRONG_WORD ≡ None = rw none at kept in cc
 no_journal false tail words none kept = let clash : Some WRONG_WORD ≡ None = kept in cc
 
+-- nor does `grow`
+no_growth : (begun pending : Bool) (tail : Tail) (words : List (List ℕ)) → tail ≡ Nothing
+    → least_broken (grow_rules (begun && has_growth tail) pending words) ≡ None → ⊥
+no_growth true pending tail words none kept = let clash : Some WRONG_WORD ≡ None = rw none at kept in cc
+no_growth false pending tail words none kept = let clash : Some WRONG_WORD ≡ None = kept in cc
+
 -- a text within its limit has no line that passes it
 no_passing : (total before : ℕ) (line : List ℕ) → total ≤ text_limit Journal → passes_limit (text_limit Journal) total before line ≡ false
 no_passing total before line within = let short : nat_lt (text_limit Journal) total ≡ false = grind arith in rw short refl
@@ -239,6 +246,7 @@ module _ (d : Declared) (none : d.tail ≡ Nothing) where
   kept_kind (Some keyword.When) words kept = kept
   kept_kind (Some keyword.Begin) words kept = kept
   kept_kind (Some keyword.Journal) words kept = absurd (no_journal d.begun d.tail words none kept)
+  kept_kind (Some keyword.Grow) words kept = absurd (no_growth d.begun (is_pending d.commands) d.tail words none kept)
   kept_kind (Some (keyword.Command kind)) words kept = kept
 
   kept_words : (versioned : Bool) (ws : List (List ℕ)) → least_broken (words_rules versioned d ws) ≡ None → least_broken (words_rules versioned (under d) ws) ≡ None

@@ -322,6 +322,7 @@ module _ (d : Declared) (words : List (List ℕ)) where
   kind_there keyword.When kept = when_line_there kept
   kind_there keyword.Begin kept = refl
   kind_there keyword.Journal kept = refl
+  kind_there keyword.Grow kept = refl
   kind_there (keyword.Command kind) kept = command_line_there (is_program_link d.section kind) kind kept
 
 -- ---- lines

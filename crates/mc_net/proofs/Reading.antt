@@ -1,5 +1,6 @@
 -- Reading the lines of a text, one after the other.
-use Rattle.std.proofs.Common.{◌≡◌, ◌⊎◌, inl, inr, ℕ, zero, suc, ◌+◌, ◌<◌, ◌≤◌, Bool, true, false, ◌&&◌, nat_le, nat_lt, List, [], ◌∷◌, ◌++◌, length, drop, Option, Some, None, Err, if◌then◌else◌, min, slice_index_or, refl, sym, ap, subst, ◌∙◌, arith}
+use Rattle.std.proofs.Common.{◌≡◌, ◌⊎◌, inl, inr, ℕ, zero, suc, ◌+◌, ◌<◌, ◌≤◌, Bool, true, false, ◌&&◌, nat_le, nat_lt, List, [], ◌∷◌, ◌++◌, length, drop, Option, Some, None, Err, if◌then◌else◌, min, slice_index_or, refl, ap, subst, ◌∙◌, arith}
+use Rattle.std.proofs.Math.Nat.{min-le_left}
 use Rattle.std.proofs.lemmas.Bool.{cases_lt}
 use Rattle.mc_text.specs.Lines.{lines, words}
 use Rattle.mc_script.specs.Rules.{byte_rules}
@@ -7,10 +8,10 @@ use Rattle.mc_lines.specs.Meaning.{line_after}
 use Rattle.mc_lines.specs.Rules.{end_fault, is_skipped, line_fault, line_words_rules, passes_limit, text_limit}
 use Rattle.mc_lines.specs.SoFar.{Declared}
 use Rattle.mc_lines.specs.declared.tail.Tail.{Tail}
-use Rattle.mc_lines.specs.declared.tail.Tail.TheVariants.{Nothing, Journal}
+use Rattle.mc_lines.specs.declared.tail.Tail.TheVariants.{Nothing, Journal, Grow}
 use Rattle.mc_lines.proofs.Tails.{tail_stays}
 use Rattle.mc_program_lines.proofs.KeptRules.{first_kept}
-use Rattle.mc_net.specs.Reading.{ReadsHere, fault_behind, last_fault}
+use Rattle.mc_net.specs.Reading.{IsEndOf, ReadsHere, fault_behind, last_fault}
 use Rattle.mc_net.specs.declared.fault.NetFault.{NetFault}
 use Rattle.mc_net.specs.declared.fault.NetFault.TheVariants.{Line, NoMemory}
 use Rattle.mc_net.specs.declared.fault.TextFault.{TextFault}
@@ -39,13 +40,13 @@ at_place (y ∷ ys) x others zero default here = cc
 at_place (y ∷ ys) x others (suc k) default here = at_place ys x others k default here
 
 -- the lines after it
-behind_place : {A : Type 0} (xs : List A) (x : A) (others : List A) (k : ℕ) → x ∷ others ≡ drop k xs → others ≡ drop (suc k) xs
+pub behind_place : {A : Type 0} (xs : List A) (x : A) (others : List A) (k : ℕ) → x ∷ others ≡ drop k xs → others ≡ drop (suc k) xs
 behind_place [] x others zero here = absurd cc
 behind_place [] x others (suc k) here = absurd cc
 behind_place (y ∷ ys) x others zero here = cc
 behind_place (y ∷ ys) x others (suc k) here = behind_place ys x others k here
 
-within_place : {A : Type 0} (xs : List A) (x : A) (others : List A) (k : ℕ) → x ∷ others ≡ drop k xs → k < length xs
+pub within_place : {A : Type 0} (xs : List A) (x : A) (others : List A) (k : ℕ) → x ∷ others ≡ drop k xs → k < length xs
 within_place [] x others zero here = absurd cc
 within_place [] x others (suc k) here = absurd cc
 within_place (y ∷ ys) x others zero here = omega arith
@@ -86,7 +87,7 @@ not_past tail total before d line same kept =
     (first_kept 1 (passes_limit (text_limit d.tail) total before line) (byte_rules line ++ line_words_rules (is_skipped (words line)) d (words line)) kept)
 
 -- a line that doesn't pass the limit leaves less than the limit after it
-short_still : (limit total before line : ℕ) → (nat_lt limit total && nat_le before limit && nat_le limit (before + line)) ≡ false → limit < total → before ≤ limit → before + (line + 1) ≤ limit
+pub short_still : (limit total before line : ℕ) → (nat_lt limit total && nat_le before limit && nat_le limit (before + line)) ≡ false → limit < total → before ≤ limit → before + (line + 1) ≤ limit
 short_still limit total before line kept long short =
     let below : before + line < limit = grind arith in
     omega arith
@@ -95,6 +96,7 @@ short_still limit total before line kept long short =
 pub no_limit_is_greater : (tail : Tail) → text_limit tail ≤ JOURNAL_TEXT_LIMIT
 no_limit_is_greater Nothing = omega arith
 no_limit_is_greater Journal = omega arith
+no_limit_is_greater Grow = omega arith
 
 at_most : (tail : Tail) (total next : ℕ) → next ≤ total + 1 → (text_limit tail < total → next ≤ text_limit tail) → next ≤ JOURNAL_TEXT_LIMIT + 1
 at_most tail total next small long = by (cases_lt (text_limit tail) total)
@@ -196,6 +198,21 @@ ends_there tail text number before d read =
     let all : read.count ≡ length (text_lines tail text) = all_read (text_lines tail text) read.count read.rest read.so_far in
     let counted : before ≡ bytes_before (text_lines tail text) (length (text_lines tail text)) = subst (λ (n : ℕ). before ≡ bytes_before (text_lines tail text) n) all read.counted in
     ap (λ (n : ℕ). min n (length text)) counted
+
+-- and it is the place after it
+pub end_is : (tail : Tail) (text : List ℕ) (number before least : ℕ) (d : Declared) → HasRead tail text number before d []
+    → least ≡ min before (length text) → IsEndOf tail text (record { before = least; line = number })
+end_is tail text number before least d read is =
+    let all : read.count ≡ length (text_lines tail text) = all_read (text_lines tail text) read.count read.rest read.so_far in
+    let numbered = read.numbered in
+    let few = read.few in
+    let within = read.within in
+    record {
+      before = is ∙ ends_there tail text number before d read;
+      line = omega arith;
+      few = omega arith;
+      short = λ long. let most = read.short long in let below : least ≤ before = rw is (min-le_left before (length text)) in omega arith;
+    }
 
 -- the lines that are still to be read
 pub lines_of_rest : (test : List ℕ → Bool) (ends : Bool) (rest others : List ℕ) → rest ≡ (if ends then [] else others) → (if ends then [] else up_to test (lines others)) ≡ up_to test (lines rest)

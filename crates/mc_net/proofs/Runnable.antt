@@ -648,6 +648,7 @@ kind_runs d after keyword.Goal words runs kept means = goal_runs d after words r
 kind_runs d after keyword.When words runs kept means = when_runs d after words runs kept means
 kind_runs d after keyword.Begin words runs kept means = let same : after ≡ begin_after d = cc in subst (λ (x : Declared). IsRunnable x) (sym same) (begin_runs d words runs kept)
 kind_runs d after keyword.Journal words runs kept means = let same : after ≡ d = cc in subst (λ (x : Declared). IsRunnable x) (sym same) runs
+kind_runs d after keyword.Grow words runs kept means = let same : after ≡ d = cc in subst (λ (x : Declared). IsRunnable x) (sym same) runs
 kind_runs d after (keyword.Command kind) words runs kept means = word_runs d after (is_program_link d.section kind) kind words runs kept means
 
 -- ---- whole lines and texts

@@ -1,5 +1,5 @@
 -- Where a text ends, and which lines stand after it.
-use Rattle.std.proofs.Common.{◌≡◌, ℕ, zero, suc, ◌+◌, ◌<◌, ◌≤◌, Bool, true, false, not, if◌then◌else◌, List, [], ◌∷◌, ◌++◌, length, drop, min, refl, sym, ap, ◌∙◌, arith}
+use Rattle.std.proofs.Common.{◌≡◌, ℕ, zero, suc, ◌+◌, ◌<◌, ◌≤◌, Bool, true, false, not, List, [], ◌∷◌, ◌++◌, length, drop, min, refl, sym, ap, ◌∙◌, arith}
 use Rattle.std.proofs.Math.Nat.{min-eq_right}
 use Rattle.std.proofs.lemmas.Grind.{common_steps}
 use Rattle.std.proofs.lemmas.List.{drop-drop, drop_min, length-take-le}
@@ -8,10 +8,9 @@ use Rattle.std.specs.List.{after_first, before_first, position_or_len, slice_spl
 use Rattle.mc_text.specs.Lines.{has_bytes, is_line_end, lines, without_empty_last}
 use Rattle.mc_text.proofs.Cuts.{first_line}
 use Rattle.mc_lines.specs.Rules.{ends_commands}
-use Rattle.mc_lines.specs.declared.tail.Tail.{Tail}
 use Rattle.mc_lines.specs.declared.tail.Tail.TheVariants.{Nothing}
 use Rattle.mc_net.specs.TextLaws.{LinesBehind, UnendedTexts}
-use Rattle.mc_net.specs.Texts.{bytes_before, text_end, text_lines, up_to}
+use Rattle.mc_net.specs.Texts.{bytes_before, text_lines, up_to}
 use Rattle.mc_net.proofs.FirstBytes.{all_bytes, all_lines, extent, extent_of_pieces}
 
 -- ---- all lines

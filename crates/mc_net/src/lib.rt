@@ -12,3 +12,4 @@ pub use fault::{NetFault, TextFault};
 pub use mc_lines::limit::{JOURNAL_TEXT_LIMIT, TEXT_LIMIT};
 pub use mc_lines::{Detail, Limit, Tail, Why};
 pub use net::{Net, read_blocks, read_net};
+pub use text::{Place, read_text};

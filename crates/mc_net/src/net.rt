@@ -42,9 +42,9 @@ pub fn read_net(alloc: Global, text: &[u8], tail: Tail) -> Result<Net, NetFault>
     ensures within { IfOk result (λ net. net.rest ≤ length text.now) }
     ensures refused { IfErr result (RefusesText tail text.now) }
 {
-    let (reader, rest) = read_text(alloc, text, tail)?;
+    let (reader, end) = read_text(alloc, text, tail)?;
     let parts = reader.into_parts();
-    Ok(make_net(alloc, parts, rest)?)
+    Ok(make_net(alloc, parts, end.before)?)
 }
 
 /// Reads a text, and answers the blocks of lines with the programs that it declares: one for each box with a program.

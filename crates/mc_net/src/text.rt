@@ -4,8 +4,8 @@ ghost use Rattle.std.specs.Prelude.{◌≡◌, ◌+◌, ◌<◌, ◌≤◌, ◌^
 ghost use Rattle.mc_lines.specs.Forms.{IsInForm};
 ghost use Rattle.mc_lines.specs.Rules.{ends_commands};
 ghost use Rattle.mc_lines.specs.SoFar.{nothing};
-ghost use Rattle.mc_net.specs.Reading.{ReadsHere, last_fault};
-ghost use Rattle.mc_net.specs.Texts.{RefusesText, Says, text_end};
+ghost use Rattle.mc_net.specs.Reading.{IsEndOf, ReadsHere, last_fault};
+ghost use Rattle.mc_net.specs.Texts.{RefusesText, Says};
 
 use crate::fault::{NetFault, TextFault};
 use mc_lines::{Reader, Tail, ends_commands};
@@ -36,10 +36,10 @@ impl Place {
 
 /// Reads a text up to the line that ends its commands, or to its end. It must be in the grammar. Also answers where
 /// what wasn't read begins.
-pub fn read_text(alloc: Global, text: &[u8], tail: Tail) -> Result<(Reader, usize), NetFault>
+pub fn read_text(alloc: Global, text: &[u8], tail: Tail) -> Result<(Reader, Place), NetFault>
     ensures says { IfOk result (λ both. Says tail text.now both.0) }
     ensures in_form { IfOk result (λ both. IsInForm both.0) }
-    ensures end { IfOk result (λ both. both.1 ≡ text_end tail text.now) }
+    ensures end { IfOk result (λ both. IsEndOf tail text.now both.1) }
     ensures refused { IfErr result (RefusesText tail text.now) }
 {
     let mut reader = Reader::new(alloc, tail);
@@ -55,12 +55,12 @@ pub fn read_text(alloc: Global, text: &[u8], tail: Tail) -> Result<(Reader, usiz
 
 // Reads the lines of a text, and finds no fault at its end. Answers where what wasn't read begins. The reader isn't
 // dropped here, which would be dear to prove in a loop.
-fn read_lines(reader: &mut Reader, text: &[u8], tail: Tail) -> Result<usize, NetFault>
+fn read_lines(reader: &mut Reader, text: &[u8], tail: Tail) -> Result<Place, NetFault>
     requires nothing { reader.old ≡ nothing tail }
     requires in_form { IsInForm reader.old }
     ensures says { OnOk result (Says tail text.now reader.new) }
     ensures in_form { OnOk result (IsInForm reader.new) }
-    ensures end { IfOk result (λ end. end ≡ text_end tail text.now) }
+    ensures end { IfOk result (IsEndOf tail text.now) }
     ensures refused { IfErr result (RefusesText tail text.now) }
 {
     let mut place = Place { before: 0, line: 1 };
@@ -73,7 +73,10 @@ fn read_lines(reader: &mut Reader, text: &[u8], tail: Tail) -> Result<usize, Net
     }
     match last_fault(reader, place.line) {
         Some(fault) => Err(NetFault::Line(fault)),
-        None => Ok(place.before.min(text.len())),
+        None => Ok(Place {
+            before: place.before.min(text.len()),
+            line: place.line,
+        }),
     }
 }
 

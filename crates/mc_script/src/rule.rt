@@ -53,3 +53,6 @@ pub const NO_VERSION_LINE: u8 = 17;
 
 /// A name has at most 16 bytes.
 pub const NAME_TOO_LONG: u8 = 18;
+
+/// No command came since the last settle.
+pub const NOT_SETTLED: u8 = 20;

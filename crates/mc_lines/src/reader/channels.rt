@@ -29,11 +29,11 @@ use std::alloc::AllocError;
 /// What a `chan` line declares: its medium, its two boxes, and the names of the slot that each gets.
 #[derive(Drop)]
 pub struct ChannelLine<'a> {
-    medium: Medium,
-    from: u32,
-    slot: &'a [u8],
-    to: u32,
-    far_slot: &'a [u8],
+    pub medium: Medium,
+    pub from: u32,
+    pub slot: &'a [u8],
+    pub to: u32,
+    pub far_slot: &'a [u8],
 }
 
 impl Reader {
@@ -100,8 +100,8 @@ impl Reader {
         Ok(())
     }
 
-    // What a `chan` line declares.
-    fn channel_line<'a>(&self, words: Words<'a>) -> Result<ChannelLine<'a>, LineFault>
+    /// What a `chan` line declares.
+    pub fn channel_line<'a>(&self, words: Words<'a>) -> Result<ChannelLine<'a>, LineFault>
         requires { IsInForm self.now }
         ensures read { SpellsKind (channel_seen self.now) (λ line. []) self.now Keyword.Chan words.entry result }
         ensures can_join { IfOk result (CanJoin self.now) }
@@ -269,8 +269,8 @@ impl Reader {
         Ok(())
     }
 
-    // Joins two boxes by one more channel of one tunnel.
-    fn join(&mut self, from: u32, to: u32, medium: Medium) -> Result<(), AllocError>
+    /// Joins two boxes by one more channel of one tunnel.
+    pub fn join(&mut self, from: u32, to: u32, medium: Medium) -> Result<(), AllocError>
         requires in_form { IsInForm self.old }
         requires near { from < length self.old.names.boxes }
         requires far { to < length self.old.names.boxes }
@@ -283,8 +283,8 @@ impl Reader {
         Ok(())
     }
 
-    // Adds the two slots of a line to their boxes, each as its last.
-    fn add_slots<'a>(&mut self, line: &ChannelLine<'a>) -> Result<(), AllocError>
+    /// Adds the two slots of a line to their boxes, each as its last.
+    pub fn add_slots<'a>(&mut self, line: &ChannelLine<'a>) -> Result<(), AllocError>
         requires known { KnowsEnds self.old line.now }
         requires may { MayAddSlots self.old.names line.now }
         requires near { IsTrue (is_name line.now.slot.now) }

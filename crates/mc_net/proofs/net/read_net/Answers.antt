@@ -1,4 +1,4 @@
-use Rattle.std.proofs.Common.{◌≤◌, ℕ, length, min, sym, ◌∙◌, subst}
+use Rattle.std.proofs.Common.{◌≤◌, ℕ, length, sym, ◌∙◌, subst}
 use Rattle.std.proofs.Math.Nat.{min-le_right}
 use Rattle.mc_net.specs.Texts.{bytes_before, text_lines}
 use Rattle.mc_net.proofs.Declaring.{AreOf, net_declares}
@@ -18,7 +18,7 @@ are_of c = record {
 
 pub returns-clause-declares : goal.returns-clause-declares
 returns-clause-declares c =
-    net_declares c.args.tail c.args.text.now c.in_ok-reader.reader c.into_parts-parts.result c.in_ok-make_net.field-0 c.in_ok-reader.rest c.in_ok-reader.ensures.says (are_of c) c.in_ok-reader.ensures.end c.in_ok-make_net.ensures
+    net_declares c.args.tail c.args.text.now c.in_ok-reader.reader c.into_parts-parts.result c.in_ok-make_net.field-0 c.in_ok-reader.end.before c.in_ok-reader.ensures.says (are_of c) c.in_ok-reader.ensures.end.before c.in_ok-make_net.ensures
 
 pub returns-clause-named : goal.returns-clause-named
 returns-clause-named c =
@@ -36,7 +36,7 @@ pub returns-clause-within : goal.returns-clause-within
 returns-clause-within c =
     let tail = c.args.tail in
     let text = c.args.text.now in
-    let is = c.in_ok-make_net.ensures.rest ∙ c.in_ok-reader.ensures.end in
+    let is = c.in_ok-make_net.ensures.rest ∙ c.in_ok-reader.ensures.end.before in
     subst (λ (n : ℕ). n ≤ length c.args.text.now) (sym is) (min-le_right (bytes_before (text_lines tail text) (length (text_lines tail text))) (length text))
 
 pub make_net-requires : goal.make_net-requires

@@ -1,11 +1,11 @@
-use Rattle.std.proofs.Common.{◌≡◌, ◌+◌, ◌≤◌, ◌<◌, ◌∷◌, [], List, ℕ, if◌then◌else◌, length, refl, sym, ap, ◌∙◌, subst, arith}
+use Rattle.std.proofs.Common.{◌≡◌, ◌+◌, ◌≤◌, ◌<◌, ◌∷◌, [], List, ℕ, if◌then◌else◌, length, refl, sym, ap, subst, arith}
 use Rattle.std.proofs.lemmas.Grind.{common_steps}
 use Rattle.std.proofs.lemmas.List.{nil_from_length}
 use Rattle.std.proofs.lemmas.Result.{err_from_is_err_and}
 use Rattle.mc_text.specs.Lines.{lines}
 use Rattle.mc_lines.specs.Rules.{ends_commands}
 use Rattle.mc_net.specs.Texts.{up_to}
-use Rattle.mc_net.proofs.Reading.{HasRead, ends_there, lines_of_rest, one_more, refused_behind, refused_by, rest_is, says_all}
+use Rattle.mc_net.proofs.Reading.{HasRead, end_is, lines_of_rest, one_more, refused_behind, refused_by, rest_is, says_all}
 use Rattle.mc_net.proofs.text.read_lines.Goals as goal
 
 pub returns-in_err-read_here-clause-refused : goal.returns-in_err-read_here-clause-refused
@@ -51,4 +51,4 @@ returns-in-None-clause-says c =
 pub returns-in-None-clause-end : goal.returns-in-None-clause-end
 returns-in-None-clause-end c =
     let gone : c.loop-rest.rest.now ≡ [] = nil_from_length _ (grind (arith, c.loop-rest-test.ensures)) in
-    c.min.ensures ∙ ends_there c.args.tail c.args.text.now c.loop-rest.place.line c.loop-rest.place.before c.loop-rest.reader (rw gone at c.loop-rest.invariant.read)
+    end_is c.args.tail c.args.text.now c.loop-rest.place.line c.loop-rest.place.before c.min.result c.loop-rest.reader (rw gone at c.loop-rest.invariant.read) c.min.ensures
