@@ -6,7 +6,7 @@ use Rattle.mc_script.specs.declared.command.JournalLine.{JournalLine}
 use Rattle.mc_net.specs.Nets.{DeclaresNet, batch_turns}
 use Rattle.mc_lines.specs.SoFar.{Declared}
 use Rattle.mc_lines.specs.declared.tail.Tail.{Tail}
-use Rattle.mc_lines.specs.declared.tail.Tail.TheVariants.{Nothing, Journal}
+use Rattle.mc_lines.specs.declared.tail.Tail.TheVariants.{Nothing, Journal, Grow}
 use Rattle.mc_net.specs.TextLaws.{first_bytes}
 use Rattle.mc_net.specs.Texts.{IsFault, Says}
 use Rattle.mc_net.specs.Versions.{MeetsNoLast}
@@ -49,6 +49,7 @@ has_all all net journal has = record {
 
 pub told_journal : (tail : Tail) (told : Option (List ℕ)) (text : List ℕ) (net : Net) (journal : List JournalLine) → IsTextOf tail told text → ToldJournal tail (Some text) net journal → ToldJournal tail told net journal
 told_journal Nothing told text net journal read has = tt
+told_journal Grow told text net journal read has = tt
 told_journal Journal None text net journal read has = tt
 told_journal Journal (Some all) text net journal read has = has_all all net journal (subst (λ (t : List ℕ). HasJournal t net journal) read has)
 

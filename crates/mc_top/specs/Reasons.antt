@@ -7,7 +7,7 @@ use Rattle.mc_explain.specs.declared.reason.Reason.{Reason}
 use Rattle.mc_explain.specs.declared.reason.Reason.TheVariants as reason
 use Rattle.mc_lines.specs.declared.detail.Detail.{Detail}
 use Rattle.mc_lines.specs.declared.tail.Tail.{Tail}
-use Rattle.mc_lines.specs.declared.tail.Tail.TheVariants.{Nothing, Journal}
+use Rattle.mc_lines.specs.declared.tail.Tail.TheVariants.{Nothing, Journal, Grow}
 use Rattle.mc_net.specs.Details.{fault_detail}
 use Rattle.mc_net.specs.Nets.{DeclaresNet}
 use Rattle.mc_net.specs.TextLaws.{first_bytes}
@@ -45,6 +45,7 @@ IsTextFaultOf tail text number line shown detail =
 -- none where no journal may follow
 abbrev pub IsJournalFaultOf : Tail → (text : List ℕ) → (line : ℕ) → (shown : List ℕ) → Type 0
 IsJournalFaultOf Nothing text line shown = ⊥
+IsJournalFaultOf Grow text line shown = ⊥
 IsJournalFaultOf Journal text line shown =
     (net : Net) × DeclaresNet Journal text net × IsLineOfFault text net line × (shown ≡ line_at line text)
 

@@ -7,7 +7,7 @@ use Rattle.mc_model.specs.Sound.{IsSound}
 use Rattle.mc_net.specs.Nets.{DeclaresNet, batch_turns}
 use Rattle.mc_lines.specs.Rules.{read_limit, text_limit}
 use Rattle.mc_lines.specs.declared.tail.Tail.{Tail}
-use Rattle.mc_lines.specs.declared.tail.Tail.TheVariants.{Nothing, Journal}
+use Rattle.mc_lines.specs.declared.tail.Tail.TheVariants.{Nothing, Journal, Grow}
 use Rattle.mc_net.specs.TextLaws.{first_bytes}
 use Rattle.mc_net.specs.Texts.{IsFault}
 use Rattle.mc_net.specs.declared.net.Net.{Net}
@@ -89,6 +89,7 @@ ToldFault tail told number line = IfSome told (λ text. IsFault tail text number
 abbrev pub ToldJournal : Tail → Option (List ℕ) → Net → List JournalLine → Type 0
 ToldJournal Nothing told net journal = Unit {0}
 ToldJournal Journal told net journal = IfSome told (λ text. HasJournal text net journal)
+ToldJournal Grow told net journal = Unit {0}
 
 -- A mode did its work: it settled the network that the text declares, or checked the journal after it, and delivered
 -- what it prints for the worlds that replaying the journal gives.
