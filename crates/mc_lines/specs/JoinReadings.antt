@@ -23,6 +23,8 @@ SpellsJoin d words (Err e) = least_broken (join_rules d words) ≡ Some e.number
 -- and what it declares is declared now; memory runs out only where it breaks none
 abbrev pub ReadsJoin : Declared → List (List ℕ) → Result ChannelLine ReadFault → Declared → Type 0
 ReadsJoin d words (Ok line) now =
-    (least_broken (join_rules d words) ≡ None) × (channel_after d words ≡ Some (channel_seen d line)) × (now ≡ join_seen d line)
+    (least_broken (join_rules d words) ≡ None)
+    × (channel_after d words ≡ Some (channel_seen d line))
+    × (now ≡ join_seen d line)
 ReadsJoin d words (Err (Line e)) now = least_broken (join_rules d words) ≡ Some e.number
 ReadsJoin d words (Err (NoMemory e)) now = least_broken (join_rules d words) ≡ None

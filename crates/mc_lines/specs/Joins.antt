@@ -24,7 +24,8 @@ has_program shape (Some who) = (shape_of shape who).programmed
 -- a box that a `join` line names has a program
 abbrev pub names_programmed : Declared → List (List ℕ) → Bool
 names_programmed d words =
-    has_program d.shape (box_named d.names (slice_get words 1)) || has_program d.shape (box_named d.names (slice_get words 3))
+    has_program d.shape (box_named d.names (slice_get words 1))
+    || has_program d.shape (box_named d.names (slice_get words 3))
 
 -- where channels are declared
 abbrev pub among_channels : Declared → Declared
@@ -42,7 +43,8 @@ join_rules d words =
 
 -- whether a channel may join: no box of it has a program, and commands were settled
 abbrev pub check_joins : (programmed pending : Bool) → Result (Unit {0}) LineFault
-check_joins programmed pending = if programmed then Err (record { number = WRONG_WORD }) else unless pending NOT_SETTLED tt
+check_joins programmed pending =
+    if programmed then Err (record { number = WRONG_WORD }) else unless pending NOT_SETTLED tt
 
 -- what is declared after a `join` line
 abbrev pub join_seen : Declared → ChannelLine → Declared
