@@ -1,0 +1,5 @@
+pub mod Commands
+pub mod Earlier
+pub mod Joins
+pub mod Lines
+pub mod Reading

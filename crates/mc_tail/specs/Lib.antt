@@ -1,0 +1,5 @@
+pub mod Meaning
+pub mod Readings
+pub mod Rules
+pub mod SoFar
+pub mod Tails
