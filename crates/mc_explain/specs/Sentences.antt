@@ -1,7 +1,7 @@
 -- What each rule says to a person, and each stop.
 use Rattle.std.specs.Prelude.{ℕ, ◌==◌, List, [], ◌∷◌, codes, if◌then◌else◌}
 use Rattle.mc_replay.specs.declared.rule.TheConstants.{ENDS_EARLY, NOT_ENABLED, NOT_NEXT, NOT_SETTLED, NO_LINE}
-use Rattle.mc_script.specs.declared.rule.TheConstants.{EXTRA_WORD, GIVEN_TWICE, LIMIT_PASSED, LINE_TOO_LONG, MISSING_WORD, NAME_TOO_LONG, NO_BEGIN, NO_SUCH_SLOT, NO_VERSION_LINE, SAME_BOX, SAME_SLOT, STRANGE_BYTE, TEXT_TOO_LONG, TWO_MEDIA, UNDECLARED, UNFINISHED, WRONG_VERSION, WRONG_WORD}
+use Rattle.mc_script.specs.declared.rule.TheConstants.{EXTRA_WORD, GIVEN_TWICE, LIMIT_PASSED, LINE_TOO_LONG, MISSING_WORD, NAME_TOO_LONG, NOT_SETTLED as NOT_SETTLED_BEFORE, NO_BEGIN, NO_SUCH_SLOT, NO_VERSION_LINE, SAME_BOX, SAME_SLOT, STRANGE_BYTE, TEXT_TOO_LONG, TWO_MEDIA, UNDECLARED, UNFINISHED, WRONG_VERSION, WRONG_WORD}
 
 -- the sentence of the rule of this number, among rules with theirs
 abbrev pub sentence_in : List (ℕ × List ℕ) → ℕ → List ℕ
@@ -40,6 +40,7 @@ text_rules = (
     ∷ (NO_BEGIN, codes "the text ends without a line begin, which must stand after what it declares, also where no command follows")
     ∷ (NO_VERSION_LINE, codes "the first line of a text must be media 1 or media 2")
     ∷ (NAME_TOO_LONG, codes "a new name has more than 16 bytes")
+    ∷ (NOT_SETTLED_BEFORE, codes "commands stand before this line without a settle after them")
     ∷ []
 
 -- the rules on journals

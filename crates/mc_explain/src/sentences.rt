@@ -7,7 +7,7 @@ use mc_replay::rule as journal;
 use mc_script::rule as text;
 
 // The rules on the lines of a text.
-const TEXT_RULES: [(u8, &str); 18] = [
+const TEXT_RULES: [(u8, &str); 19] = [
     (
         text::TEXT_TOO_LONG,
         "the text is too long: it may have 1048576 bytes, and under check and why 16777216 with its journal",
@@ -59,6 +59,10 @@ const TEXT_RULES: [(u8, &str); 18] = [
         "the first line of a text must be media 1 or media 2",
     ),
     (text::NAME_TOO_LONG, "a new name has more than 16 bytes"),
+    (
+        text::NOT_SETTLED,
+        "commands stand before this line without a settle after them",
+    ),
 ];
 
 // The rules on journals.

@@ -6,6 +6,8 @@ mod commands;
 #[cfg(test)]
 mod equal;
 #[cfg(test)]
+mod grow;
+#[cfg(test)]
 mod look;
 #[cfg(test)]
 mod net;

@@ -32,8 +32,8 @@ pub fn net_of(alloc: Global, text: &[u8], tail: Tail) -> Result<Net, NetFault> {
     read_net(alloc, text, tail)
 }
 
-// A text that is put together of these parts.
-fn joined(alloc: Global, parts: &[&[u8]]) -> Result<Vec<u8>, AllocError> {
+/// A text that is put together of these parts.
+pub fn joined(alloc: Global, parts: &[&[u8]]) -> Result<Vec<u8>, AllocError> {
     let mut text = Vec::new(alloc);
     for part in parts {
         text.extend_from_slice(*part)?;
