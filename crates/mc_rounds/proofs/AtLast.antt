@@ -11,7 +11,7 @@ use Rattle.mc_model.specs.Sound.{IsSound}
 use Rattle.mc_model.specs.Worlds.{WorldState, number}
 use Rattle.mc_network.specs.States.{IsAtLast, NetworkState}
 use Rattle.mc_seq.proofs.Hears.{hears_somewhere}
-use Rattle.mc_seq.specs.declared.stopping.Ending.TheVariants.{LastVersion}
+use Rattle.mc_seq.specs.declared.stopping.SettleStop.TheVariants as stops
 use Rattle.mc_rounds.proofs.Retried.{limit_played, ran_on}
 use Rattle.mc_rounds.specs.Playing.{Plays}
 use Rattle.mc_rounds.specs.Settling.{EndsSettle, HasBatch}
@@ -40,7 +40,7 @@ mapped_first who (one ∷ events) event is =
 -- the turns were stopped, and the Hear comes next
 pub ends_at_last : (world : WorldState) (batch turns : List Turn) (start now : NetworkState) (at : ℕ × ℕ) (slot : ℕ)
     → HasBatch world batch start → Plays start now turns → IsAtLast now at
-    → number now.world at.0 at.1 ≡ Some slot → EndsSettle world batch turns now.world (LastVersion slot)
+    → number now.world at.0 at.1 ≡ Some slot → EndsSettle world batch turns now.world (Some (stops.VersionEnd slot))
 ends_at_last world batch turns start now at slot has p last there =
     let hear : Event = Media (Hear at.1 last.on) in
     let left : (who : ℕ) → commands_of who turns ++ map (turn_of who) (now.stimuli who) ≡ commands_of who batch =

@@ -1,5 +1,5 @@
 -- What a settle answers, by how its turns ended.
-use Rattle.std.proofs.Common.{◌≡◌, ℕ, List, Result, Ok, Err, IfOk, IfErr, Some, slice_index_or, ap, sym, ◌∙◌, subst}
+use Rattle.std.proofs.Common.{◌≡◌, ℕ, List, Result, Ok, Err, IfOk, IfErr, Option, Some, None, slice_index_or, ap, sym, ◌∙◌, subst}
 use Rattle.std.specs.declared.alloc.Global.{Global}
 use Rattle.std.specs.declared.vec.Vec.{Vec}
 use Rattle.mc_box.specs.declared.event.Turn.{Turn}
@@ -16,15 +16,15 @@ use Rattle.mc_seq.specs.declared.fault.SettleFault.{SettleFault}
 use Rattle.mc_seq.specs.declared.fault.SettleFault.TheVariants.{NoMemory, Restless, Ring, VersionEnd}
 use Rattle.mc_seq.specs.declared.fault.Stopped.{Stopped}
 use Rattle.mc_seq.specs.declared.fault.StoppedBox.{StoppedBox}
-use Rattle.mc_seq.specs.declared.stopping.Ending.{Ending}
-use Rattle.mc_seq.specs.declared.stopping.Ending.TheVariants.{LastVersion, Rest, Restless as RestlessEnd, Ring as RingEnd}
+use Rattle.mc_seq.specs.declared.stopping.SettleStop.{SettleStop}
+use Rattle.mc_seq.specs.declared.stopping.SettleStop.TheVariants as stops
 use Rattle.mc_rounds.specs.Answers.{Answered, TellsSlot}
 use Rattle.mc_rounds.specs.Settling.{EndsSettle, SettlesInLimit}
 use Rattle.mc_rounds.specs.Stops.{Stops, StopsAtLast, StopsOnRing, StopsUnrested}
 
 -- a settle from this world ended so, in this network
 pub record EndsAs (world : WorldState) (batch : List Turn) (network : CutNetwork) (turns : Vec Turn Global)
-    (ending : Ending) : Type 0 where
+    (ending : Option SettleStop) : Type 0 where
   pub sound : IsSound world
   pub cut : IsCutNetwork network
   pub ended : EndsSettle world batch turns.items (network_state network).world ending
@@ -50,21 +50,21 @@ pub record Settles (world : WorldState) (batch : List Turn) (done : CutNetwork �
   pub settles : SettlesInLimit world batch done.1.items (network_state done.0).world
 
 -- at rest the batch is settled, within the limit of Shifts
-answers_rest : (ending : Ending) (world : WorldState) (batch : List Turn) (network : CutNetwork)
+answers_rest : (ending : Option SettleStop) (world : WorldState) (batch : List Turn) (network : CutNetwork)
     (turns : Vec Turn Global) (done : CutNetwork × Vec Turn Global) → EndsAs world batch network turns ending
     → Answered network turns ending (Ok done) → Settles world batch done
-answers_rest Rest world batch network turns done ends answered =
+answers_rest None world batch network turns done ends answered =
     subst (Settles world batch) (sym answered) (record { cut = ends.cut; settles = ends.ended })
-answers_rest (RingEnd at) world batch network turns done ends answered = absurd answered
-answers_rest (RestlessEnd at) world batch network turns done ends answered = absurd answered
-answers_rest (LastVersion at) world batch network turns done ends answered = absurd answered
+answers_rest (Some (stops.Ring at)) world batch network turns done ends answered = absurd answered
+answers_rest (Some (stops.Restless at)) world batch network turns done ends answered = absurd answered
+answers_rest (Some (stops.VersionEnd at)) world batch network turns done ends answered = absurd answered
 
 -- at a ring the first slot on one is told
-answers_ring : (ending : Ending) (world : WorldState) (batch : List Turn) (network : CutNetwork)
+answers_ring : (ending : Option SettleStop) (world : WorldState) (batch : List Turn) (network : CutNetwork)
     (turns : Vec Turn Global) (stop : Stopped) → EndsAs world batch network turns ending
     → Answered network turns ending (Err (Ring stop)) → Stops world batch (Ring stop)
-answers_ring Rest world batch network turns stop ends answered = absurd answered
-answers_ring (RingEnd at) world batch network turns stop ends answered = (
+answers_ring None world batch network turns stop ends answered = absurd answered
+answers_ring (Some (stops.Ring at)) world batch network turns stop ends answered = (
   subst (λ (a : ℕ). StopsOnRing world batch stop.turns.items a) (sym answered.at_is)
       (subst (λ (t : List Turn). StopsOnRing world batch t at) (sym answered.turns_are)
       (record {
@@ -76,16 +76,16 @@ answers_ring (RingEnd at) world batch network turns stop ends answered = (
       })),
   told_place world (network_state network).world batch turns.items at stop ends.sound ends.ended.0 answered,
 )
-answers_ring (RestlessEnd at) world batch network turns stop ends answered = absurd answered
-answers_ring (LastVersion at) world batch network turns stop ends answered = absurd answered
+answers_ring (Some (stops.Restless at)) world batch network turns stop ends answered = absurd answered
+answers_ring (Some (stops.VersionEnd at)) world batch network turns stop ends answered = absurd answered
 
 -- where a box never came to rest that box is told
-answers_restless : (ending : Ending) (world : WorldState) (batch : List Turn) (network : CutNetwork)
+answers_restless : (ending : Option SettleStop) (world : WorldState) (batch : List Turn) (network : CutNetwork)
     (turns : Vec Turn Global) (stop : StoppedBox) → EndsAs world batch network turns ending
     → Answered network turns ending (Err (Restless stop)) → Stops world batch (Restless stop)
-answers_restless Rest world batch network turns stop ends answered = absurd answered
-answers_restless (RingEnd at) world batch network turns stop ends answered = absurd answered
-answers_restless (RestlessEnd at) world batch network turns stop ends answered =
+answers_restless None world batch network turns stop ends answered = absurd answered
+answers_restless (Some (stops.Ring at)) world batch network turns stop ends answered = absurd answered
+answers_restless (Some (stops.Restless at)) world batch network turns stop ends answered =
     subst (λ (a : ℕ). StopsUnrested world batch stop.turns.items a) (sym answered.at_is)
     (subst (λ (t : List Turn). StopsUnrested world batch t at) (sym answered.turns_are)
     (record {
@@ -95,16 +95,16 @@ answers_restless (RestlessEnd at) world batch network turns stop ends answered =
       used_up = ends.ended.1;
       restless = ends.ended.2;
     }))
-answers_restless (LastVersion at) world batch network turns stop ends answered = absurd answered
+answers_restless (Some (stops.VersionEnd at)) world batch network turns stop ends answered = absurd answered
 
 -- at a last version the slot whose Hear is next is told
-answers_version : (ending : Ending) (world : WorldState) (batch : List Turn) (network : CutNetwork)
+answers_version : (ending : Option SettleStop) (world : WorldState) (batch : List Turn) (network : CutNetwork)
     (turns : Vec Turn Global) (stop : Stopped) → EndsAs world batch network turns ending
     → Answered network turns ending (Err (VersionEnd stop)) → Stops world batch (VersionEnd stop)
-answers_version Rest world batch network turns stop ends answered = absurd answered
-answers_version (RingEnd at) world batch network turns stop ends answered = absurd answered
-answers_version (RestlessEnd at) world batch network turns stop ends answered = absurd answered
-answers_version (LastVersion at) world batch network turns stop ends answered = (
+answers_version None world batch network turns stop ends answered = absurd answered
+answers_version (Some (stops.Ring at)) world batch network turns stop ends answered = absurd answered
+answers_version (Some (stops.Restless at)) world batch network turns stop ends answered = absurd answered
+answers_version (Some (stops.VersionEnd at)) world batch network turns stop ends answered = (
   subst (λ (a : ℕ). StopsAtLast world batch stop.turns.items a) (sym answered.at_is)
       (subst (λ (t : List Turn). StopsAtLast world batch t at) (sym answered.turns_are)
       (record {
@@ -117,7 +117,7 @@ answers_version (LastVersion at) world batch network turns stop ends answered = 
 )
 
 -- so each fault tells its cause
-answers_fault : (fault : SettleFault) (ending : Ending) (world : WorldState) (batch : List Turn) (network : CutNetwork)
+answers_fault : (fault : SettleFault) (ending : Option SettleStop) (world : WorldState) (batch : List Turn) (network : CutNetwork)
     (turns : Vec Turn Global) → EndsAs world batch network turns ending
     → Answered network turns ending (Err fault) → Stops world batch fault
 answers_fault (Ring stop) ending world batch network turns ends answered =
@@ -129,7 +129,7 @@ answers_fault (VersionEnd stop) ending world batch network turns ends answered =
 answers_fault (NoMemory e) ending world batch network turns ends answered = tt
 
 -- at rest it is settled
-answers_settled : (result : Result (CutNetwork × Vec Turn Global) SettleFault) (ending : Ending) (world : WorldState)
+answers_settled : (result : Result (CutNetwork × Vec Turn Global) SettleFault) (ending : Option SettleStop) (world : WorldState)
     (batch : List Turn) (network : CutNetwork) (turns : Vec Turn Global) → EndsAs world batch network turns ending
     → Answered network turns ending result → IfOk result (Settles world batch)
 answers_settled (Ok done) ending world batch network turns ends answered =
@@ -137,7 +137,7 @@ answers_settled (Ok done) ending world batch network turns ends answered =
 answers_settled (Err fault) ending world batch network turns ends answered = tt
 
 -- and else its cause is told
-pub answers_stops : (result : Result (CutNetwork × Vec Turn Global) SettleFault) (ending : Ending) (world : WorldState)
+pub answers_stops : (result : Result (CutNetwork × Vec Turn Global) SettleFault) (ending : Option SettleStop) (world : WorldState)
     (batch : List Turn) (network : CutNetwork) (turns : Vec Turn Global) → EndsAs world batch network turns ending
     → Answered network turns ending result → IfErr result (Stops world batch)
 answers_stops (Ok done) ending world batch network turns ends answered = tt
@@ -152,14 +152,14 @@ settles_parts : {A : Type 0} (P : A → Type 0) (Q : A → Type 0) (result : Res
 settles_parts P Q (Ok done) gives settles = gives done settles
 settles_parts P Q (Err fault) gives settles = tt
 
-pub answers_cut : (result : Result (CutNetwork × Vec Turn Global) SettleFault) (ending : Ending) (world : WorldState)
+pub answers_cut : (result : Result (CutNetwork × Vec Turn Global) SettleFault) (ending : Option SettleStop) (world : WorldState)
     (batch : List Turn) (network : CutNetwork) (turns : Vec Turn Global) → EndsAs world batch network turns ending
     → Answered network turns ending result → IfOk result (λ done. IsCutNetwork done.0)
 answers_cut result ending world batch network turns ends answered =
     settles_parts (Settles world batch) (λ done. IsCutNetwork done.0) result (λ done settles. settles.cut)
     (answers_settled result ending world batch network turns ends answered)
 
-pub answers_done : (result : Result (CutNetwork × Vec Turn Global) SettleFault) (ending : Ending) (world : WorldState)
+pub answers_done : (result : Result (CutNetwork × Vec Turn Global) SettleFault) (ending : Option SettleStop) (world : WorldState)
     (batch : List Turn) (network : CutNetwork) (turns : Vec Turn Global) → EndsAs world batch network turns ending
     → Answered network turns ending result
     → IfOk result (λ done. IsSettled world batch done.1.items (network_state done.0).world)
@@ -168,7 +168,7 @@ answers_done result ending world batch network turns ends answered =
     (λ done settles. settles.settles.settled)
     (answers_settled result ending world batch network turns ends answered)
 
-pub answers_limit : (result : Result (CutNetwork × Vec Turn Global) SettleFault) (ending : Ending) (world : WorldState)
+pub answers_limit : (result : Result (CutNetwork × Vec Turn Global) SettleFault) (ending : Option SettleStop) (world : WorldState)
     (batch : List Turn) (network : CutNetwork) (turns : Vec Turn Global) → EndsAs world batch network turns ending
     → Answered network turns ending result → IfOk result (λ done. KeepsShiftLimit done.1.items)
 answers_limit result ending world batch network turns ends answered =

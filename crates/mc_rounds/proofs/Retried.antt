@@ -19,8 +19,8 @@ use Rattle.mc_network.specs.States.{by_program, by_signal, IsFirstShifter, IsFir
 use Rattle.mc_seq.proofs.Runs.{run-append}
 use Rattle.mc_seq.proofs.Segments.{Resting, settled_at}
 use Rattle.mc_seq.specs.ShiftLimit.{KeepsShiftLimit}
-use Rattle.mc_seq.specs.declared.stopping.Ending.{Ending}
-use Rattle.mc_seq.specs.declared.stopping.Ending.TheVariants.{Rest, Restless, Ring}
+use Rattle.mc_seq.specs.declared.stopping.SettleStop.{SettleStop}
+use Rattle.mc_seq.specs.declared.stopping.SettleStop.TheVariants as stops
 use Rattle.mc_settings.specs.Batches.{UseUp}
 use Rattle.mc_rounds.proofs.Plays.{count_both, fewer_shifts, no_more_shifts, none_made, none_still, phase_plays, plays_more}
 use Rattle.mc_rounds.proofs.TurnKinds.{either_false, takes_and_retries, takes_besides, takes_unretried}
@@ -148,12 +148,12 @@ went_rest first b c begun before after due shifted ring went came world batch st
 -- ---- its ends
 
 -- what a settle has come to, whatever led to where it stood first
-abbrev pub EndsFrom : NetworkState → (begun after : List Turn) → WorldState → Ending → Type 0
+abbrev pub EndsFrom : NetworkState → (begun after : List Turn) → WorldState → Option SettleStop → Type 0
 EndsFrom first begun after last ending = (world : WorldState) (batch : List Turn) (start : NetworkState)
     → HasBatch world batch start → Plays start first begun → EndsSettle world batch after last ending
 
 -- so it has come to that from the batch that led there
-pub ends_for : {E : Type 0} (result : Result Ending E) (first start : NetworkState) (begun after : List Turn)
+pub ends_for : {E : Type 0} (result : Result (Option SettleStop) E) (first start : NetworkState) (begun after : List Turn)
     (last world : WorldState) (batch : List Turn) → HasBatch world batch start → Plays start first begun
     → IfOk result (EndsFrom first begun after last) → IfOk result (EndsSettle world batch after last)
 ends_for (Ok ending) first start begun after last world batch has p ends = ends world batch start has p
@@ -162,7 +162,7 @@ ends_for (Err e) first start begun after last world batch has p ends = tt
 -- at a ring
 pub ends_at_ring : (first c : NetworkState) (begun after : List Turn) (due : Bool) (at : ℕ)
     → HasWentOn first begun c after due → NoneLeft c → IsFirstOnRing c.world at
-    → EndsFrom first begun after c.world (Ring at)
+    → EndsFrom first begun after c.world (Some (stops.Ring at))
 ends_at_ring first c begun after due at went none ring world batch start has p =
     let so_far = went world batch start has p in (
       stopped_at world batch after start c has so_far.plays none,
@@ -181,7 +181,7 @@ all_made shifts count limit is few most = elim (cases_lt shifts limit) [
 -- so the settle ends there as restless
 pub ends_restless : (first c : NetworkState) (begun after : List Turn) (due : Bool) (at : ℕ)
     → HasWentOn first begun c after due → NoneLeft c → HasNoWork c → has_ring c.world ≡ false
-    → IsFirstShifter c.world at → EndsFrom first begun after c.world (Restless at)
+    → IsFirstShifter c.world at → EndsFrom first begun after c.world (Some (stops.Restless at))
 ends_restless first c begun after due at went none idle free shifter world batch start has p =
     let so_far = went world batch start has p in
     let counted : c.shifts at ≡ 0 + count_by (is_shift_of at) after =
@@ -201,7 +201,7 @@ ends_restless first c begun after due at went none idle free shifter world batch
 -- and at a rest after a phase of retries
 pub ends_settled : (first c : NetworkState) (begun after : List Turn) → HasWentOn first begun c after false
     → HasNoWork c → has_ring c.world ≡ false → can_shift c.world ≡ false
-    → EndsFrom first begun after c.world Rest
+    → EndsFrom first begun after c.world None
 ends_settled first c begun after went idle free unshifted world batch start has p =
     let so_far = went world batch start has p in
     let rested = so_far.retried refl in
@@ -214,10 +214,10 @@ ends_settled first c begun after went idle free unshifted world batch start has 
     }
 
 -- in a network that is kept
-pub ends_kept : (first c d : NetworkState) (begun after : List Turn) → d ≡ c → EndsFrom first begun after c.world Rest
-    → EndsFrom first begun after d.world Rest
+pub ends_kept : (first c d : NetworkState) (begun after : List Turn) → d ≡ c → EndsFrom first begun after c.world None
+    → EndsFrom first begun after d.world None
 ends_kept first c d begun after same ends =
-    subst (λ (state : NetworkState). EndsFrom first begun after state.world Rest) (sym same) ends
+    subst (λ (state : NetworkState). EndsFrom first begun after state.world None) (sym same) ends
 
 -- ---- a phase of retries after a rest
 

@@ -1,5 +1,5 @@
 -- How a settle by phases ends.
-use Rattle.std.specs.Prelude.{◌≡◌, ◌*◌, ◌+◌, ℕ, Bool, if◌then◌else◌, List, map}
+use Rattle.std.specs.Prelude.{◌≡◌, ◌*◌, ◌+◌, ℕ, Bool, if◌then◌else◌, List, map, Option, Some, None}
 use Rattle.std.specs.List.{list_any}
 use Rattle.mc_box.specs.BoxEvents.{turn_of}
 use Rattle.mc_box.specs.LinkFree.{is_linking}
@@ -11,8 +11,8 @@ use Rattle.mc_model.specs.Worlds.{WorldState}
 use Rattle.mc_network.specs.States.{NetworkState}
 use Rattle.mc_seq.specs.Restless.{IsRestless}
 use Rattle.mc_seq.specs.ShiftLimit.{KeepsShiftLimit}
-use Rattle.mc_seq.specs.declared.stopping.Ending.{Ending}
-use Rattle.mc_seq.specs.declared.stopping.Ending.TheVariants.{LastVersion, Rest, Restless, Ring}
+use Rattle.mc_seq.specs.declared.stopping.SettleStop.{SettleStop}
+use Rattle.mc_seq.specs.declared.stopping.SettleStop.TheVariants as stops
 use Rattle.mc_settings.specs.Batches.{UseUp}
 use Rattle.mc_rounds.specs.Playing.{spare_shifts}
 
@@ -33,13 +33,14 @@ pub record SettlesInLimit (world : WorldState) (batch turns : List Turn) (last :
   pub shift_limit : KeepsShiftLimit turns
 
 -- how the turns so far ended, at this world
-abbrev pub EndsSettle : WorldState → (batch turns : List Turn) → (last : WorldState) → Ending → Type 0
-EndsSettle world batch turns last Rest = SettlesInLimit world batch turns last
-EndsSettle world batch turns last (Ring at) = IsStopped world batch turns last × UseUp batch turns
+abbrev pub EndsSettle : WorldState → (batch turns : List Turn) → (last : WorldState) → Option SettleStop → Type 0
+EndsSettle world batch turns last None = SettlesInLimit world batch turns last
+EndsSettle world batch turns last (Some (stops.Ring at)) = IsStopped world batch turns last × UseUp batch turns
     × IsFirstOnRing last at × KeepsShiftLimit turns
-EndsSettle world batch turns last (Restless at) = IsStopped world batch turns last × UseUp batch turns
+EndsSettle world batch turns last (Some (stops.Restless at)) = IsStopped world batch turns last × UseUp batch turns
     × IsRestless turns last at × KeepsShiftLimit turns
-EndsSettle world batch turns last (LastVersion at) = IsStopped world batch turns last × MeetsLast batch turns last at
+EndsSettle world batch turns last (Some (stops.VersionEnd at)) =
+    IsStopped world batch turns last × MeetsLast batch turns last at
     × KeepsShiftLimit turns
 
 -- what may still come: two for each Shift, and one where a phase of retries is due

@@ -7,22 +7,24 @@ ghost use Rattle.mc_rounds.specs.Answers.{Answered, TellsSlot};
 
 use mc_box::Turn;
 use mc_network::CutNetwork;
-use mc_seq::{Ending, SettleFault, Stopped, StoppedBox};
+use mc_seq::{SettleFault, SettleStop, Stopped, StoppedBox};
 
 /// The network with the turns of its settle, or why it stopped, with the turns until then.
 pub fn answer(
     network: CutNetwork,
     turns: Vec<Turn>,
-    ending: Ending,
+    ending: Option<SettleStop>,
 ) -> Result<(CutNetwork, Vec<Turn>), SettleFault>
     requires { IsCutNetwork network }
     ensures { Answered network turns ending result }
 {
     match ending {
-        Ending::Rest => Ok((network, turns)),
-        Ending::Ring(at) => Err(SettleFault::Ring(stop_at(&network, turns, at))),
-        Ending::Restless(at) => Err(SettleFault::Restless(StoppedBox { at, turns })),
-        Ending::LastVersion(at) => Err(SettleFault::VersionEnd(stop_at(&network, turns, at))),
+        None => Ok((network, turns)),
+        Some(SettleStop::Ring(at)) => Err(SettleFault::Ring(stop_at(&network, turns, at))),
+        Some(SettleStop::Restless(at)) => Err(SettleFault::Restless(StoppedBox { at, turns })),
+        Some(SettleStop::VersionEnd(at)) => Err(SettleFault::VersionEnd(stop_at(
+            &network, turns, at,
+        ))),
     }
 }
 

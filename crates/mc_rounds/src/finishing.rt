@@ -19,7 +19,7 @@ use crate::shifting::first_shifter_since;
 use mc_box::Turn;
 use mc_io::Gate;
 use mc_network::{CutNetwork, Known, end_settle};
-use mc_seq::Ending;
+use mc_seq::SettleStop;
 use std::alloc::{AllocError, Global};
 use std::thread::Threads;
 
@@ -33,7 +33,7 @@ pub fn finish<R: Threads + Sync, G: Gate + Sync>(
     known: Known,
     network: &mut CutNetwork,
     turns: &mut Vec<Turn>,
-) -> Result<Ending, AllocError>
+) -> Result<Option<SettleStop>, AllocError>
     requires cut { IsCutNetwork network.old }
     requires used_up { NoneLeft (network_state network.old) }
     requires since { IsKnownSince known turns.old.items (network_state network.old) }
@@ -48,14 +48,14 @@ pub fn finish<R: Threads + Sync, G: Gate + Sync>(
     'rests: loop {
         let rest = come_to_rest(rt, alloc, gate, short, linked, network, turns)?;
         if let Some(at) = rest.ring {
-            return Ok(Ending::Ring(at));
+            return Ok(Some(SettleStop::Ring(at)));
         }
         if let Some(at) = first_shifter_since(network, known, turns) {
-            return Ok(Ending::Restless(at));
+            return Ok(Some(SettleStop::Restless(at)));
         }
         if !is_due(due, rest.shifted) {
             keep_rest(network, known, turns);
-            return Ok(Ending::Rest);
+            return Ok(None);
         }
         due = retry(rt, gate, short, known, network, turns)?;
         linked = due;

@@ -17,7 +17,7 @@ use crate::finishing::finish;
 use mc_box::{Change, Event, Turn};
 use mc_io::Gate;
 use mc_network::{CutNetwork, slot_number};
-use mc_seq::{Ending, SettleFault};
+use mc_seq::{SettleFault, SettleStop};
 use std::alloc::{AllocError, Global};
 use std::thread::Threads;
 
@@ -57,7 +57,7 @@ fn run_batch<R: Threads + Sync, G: Gate + Sync>(
     batch: &[Turn],
     network: &mut CutNetwork,
     turns: &mut Vec<Turn>,
-) -> Result<Ending, AllocError>
+) -> Result<Option<SettleStop>, AllocError>
     requires cut { IsCutNetwork network.old }
     requires allowed { AreAllowed (network_state network.old).world batch.now }
     requires none_yet { turns.old.items ≡ [] }
@@ -69,7 +69,7 @@ fn run_batch<R: Threads + Sync, G: Gate + Sync>(
     let short = may_link(network.programs, batch);
     begin(network, batch)?;
     match use_up(rt, gate, short, network, turns)? {
-        Some((who, local)) => Ok(Ending::LastVersion(number(network, who, local))),
+        Some((who, local)) => Ok(Some(SettleStop::VersionEnd(number(network, who, local)))),
         None => finish(rt, alloc, gate, known, network, turns),
     }
 }

@@ -30,8 +30,8 @@ use Rattle.mc_seq.specs.declared.fault.SettleFault.TheVariants.{NoMemory, Restle
 use Rattle.mc_seq.specs.declared.fault.Stopped.{Stopped}
 use Rattle.mc_seq.specs.declared.fault.StoppedBox.{StoppedBox}
 use Rattle.mc_box.specs.declared.limit.TheConstants.{SHIFT_LIMIT}
-use Rattle.mc_seq.specs.declared.stopping.Ending.{Ending}
-use Rattle.mc_seq.specs.declared.stopping.Ending.TheVariants.{LastVersion, Rest, Restless as RestlessEnd, Ring as RingEnd}
+use Rattle.mc_seq.specs.declared.stopping.SettleStop.{SettleStop}
+use Rattle.mc_seq.specs.declared.stopping.SettleStop.TheVariants as stops
 use Rattle.mc_seq.proofs.Candidates.{listed_spent}
 use Rattle.mc_seq.proofs.Rounds.{end_is, goes_both, goes_round, goes_run, goes_stopped, schedule_settles}
 use Rattle.mc_seq.proofs.Scheduled.{allowed_commands, drawn_both, drawn_commands, drawn_pass, ends_next, is_ordered, next_is}
@@ -155,11 +155,11 @@ pub restless_is : (start now next : DrawnSoFar) (at : ℕ) → WentOn start now 
 restless_is start now next at went came first = record { went = went_drew start now next went came.drew; left = came.left; none = came.none; free = came.free; first = first }
 
 -- and after drawn turns
-pub ended_more : (ending : Ending) (start now next : DrawnSoFar) → DrewAll start now → Ended now next ending → Ended start next ending
-ended_more Rest start now next drew ended = record { went = drew_went start now next drew ended.went; still = ended.still; not_due = ended.not_due }
-ended_more (RingEnd at) start now next drew ended = record { went = drew_went start now next drew ended.went; left = ended.left; least = ended.least }
-ended_more (RestlessEnd at) start now next drew ended = record { went = drew_went start now next drew ended.went; left = ended.left; none = ended.none; free = ended.free; first = ended.first }
-ended_more (LastVersion at) start now next drew ended = record { last = ended.last; drew = drew_more start now ended.last drew ended.drew; ends = ended.ends }
+pub ended_more : (ending : Option SettleStop) (start now next : DrawnSoFar) → DrewAll start now → Ended now next ending → Ended start next ending
+ended_more None start now next drew ended = record { went = drew_went start now next drew ended.went; still = ended.still; not_due = ended.not_due }
+ended_more (Some (stops.Ring at)) start now next drew ended = record { went = drew_went start now next drew ended.went; left = ended.left; least = ended.least }
+ended_more (Some (stops.Restless at)) start now next drew ended = record { went = drew_went start now next drew ended.went; left = ended.left; none = ended.none; free = ended.free; first = ended.first }
+ended_more (Some (stops.VersionEnd at)) start now next drew ended = record { last = ended.last; drew = drew_more start now ended.last drew ended.drew; ends = ended.ends }
 
 -- ---- what was written down from the beginning
 
@@ -272,11 +272,11 @@ out_inside start used at out =
     subst (λ (w : WorldState). at < slot_count w) (sym (ap (λ (s : ScheduleState). s.world) out.ends.stays)) (heard_inside out.last.schedule.world out.ends.turn at out.ends.slot)
 
 -- so is that of each ending
-pub ended_inside : (ending : Ending) (start last : DrawnSoFar) → Ended start last ending → IsInside last.schedule.world ending
-ended_inside Rest start last ended = tt
-ended_inside (RingEnd at) start last ended = ended.least.inside
-ended_inside (RestlessEnd at) start last ended = tt
-ended_inside (LastVersion at) start last ended = out_inside start last at ended
+pub ended_inside : (ending : Option SettleStop) (start last : DrawnSoFar) → Ended start last ending → IsInside last.schedule.world ending
+ended_inside None start last ended = tt
+ended_inside (Some (stops.Ring at)) start last ended = ended.least.inside
+ended_inside (Some (stops.Restless at)) start last ended = tt
+ended_inside (Some (stops.VersionEnd at)) start last ended = out_inside start last at ended
 
 -- its place is what it was
 version_placed : (world : WorldState) (batch : List Turn) (state at : ℕ) (used : DrawnSoFar) → IsSound world → RanOut (first_drawn world batch state) used at → place used.schedule.world at ≡ place world at
@@ -296,54 +296,54 @@ told_place world settled last at stop world_is tells placed =
 -- ---- what a settle answers
 
 -- what it ended with, beside what it answers of it
-pub record EndsAs (world : WorldState) (batch : List Turn) (state : ℕ) (last : DrawnSoFar) (settled : Settled) (ending : Ending) : Type 0 where
+pub record EndsAs (world : WorldState) (batch : List Turn) (state : ℕ) (last : DrawnSoFar) (settled : Settled) (ending : Option SettleStop) : Type 0 where
   pub sound : IsSound world
   pub allowed : AreAllowed world batch
   pub ended : Ended (first_drawn world batch state) last ending
   pub world_is : settled.world ≡ last.schedule.world
   pub turns_are : settled.turns.items ≡ last.turns
 
-answers_rest : (ending : Ending) (world : WorldState) (batch : List Turn) (state : ℕ) (last : DrawnSoFar) (settled done : Settled) → EndsAs world batch state last settled ending → Answered settled ending (Ok done)
+answers_rest : (ending : Option SettleStop) (world : WorldState) (batch : List Turn) (state : ℕ) (last : DrawnSoFar) (settled done : Settled) → EndsAs world batch state last settled ending → Answered settled ending (Ok done)
     → SettlesByDraws world batch state last.schedule.draws done
-answers_rest Rest world batch state last settled done ends answered =
+answers_rest None world batch state last settled done ends answered =
     scheduled_is world batch state last done ends.ended (ap (λ (s : Settled). s.world) answered ∙ ends.world_is) (ap (λ (s : Settled). s.turns.items) answered ∙ ends.turns_are)
-answers_rest (RingEnd at) world batch state last settled done ends answered = absurd (answered)
-answers_rest (RestlessEnd at) world batch state last settled done ends answered = absurd (answered)
-answers_rest (LastVersion at) world batch state last settled done ends answered = absurd (answered)
+answers_rest (Some (stops.Ring at)) world batch state last settled done ends answered = absurd (answered)
+answers_rest (Some (stops.Restless at)) world batch state last settled done ends answered = absurd (answered)
+answers_rest (Some (stops.VersionEnd at)) world batch state last settled done ends answered = absurd (answered)
 
-answers_ring : (ending : Ending) (world : WorldState) (batch : List Turn) (state : ℕ) (last : DrawnSoFar) (settled : Settled) (stop : Stopped) → EndsAs world batch state last settled ending → Answered settled ending (Err (Ring stop))
+answers_ring : (ending : Option SettleStop) (world : WorldState) (batch : List Turn) (state : ℕ) (last : DrawnSoFar) (settled : Settled) (stop : Stopped) → EndsAs world batch state last settled ending → Answered settled ending (Err (Ring stop))
     → StopsByDraws world batch state last.schedule.draws (Ring stop)
-answers_ring Rest world batch state last settled stop ends answered = absurd (answered)
-answers_ring (RingEnd at) world batch state last settled stop ends answered = (
+answers_ring None world batch state last settled stop ends answered = absurd (answered)
+answers_ring (Some (stops.Ring at)) world batch state last settled stop ends answered = (
   subst (λ (a : ℕ). StopsAtRing world batch state stop.turns.items last.schedule.draws a) (sym answered.at_is)
       (subst (λ (t : List Turn). StopsAtRing world batch state t last.schedule.draws at) (sym (answered.turns ∙ ends.turns_are)) (stops_at_ring world batch state at last ends.allowed ends.ended)),
   told_place world settled last at stop ends.world_is answered (ring_placed world batch state at last ends.sound ends.ended.went),
 )
-answers_ring (RestlessEnd at) world batch state last settled stop ends answered = absurd (answered)
-answers_ring (LastVersion at) world batch state last settled stop ends answered = absurd (answered)
+answers_ring (Some (stops.Restless at)) world batch state last settled stop ends answered = absurd (answered)
+answers_ring (Some (stops.VersionEnd at)) world batch state last settled stop ends answered = absurd (answered)
 
-answers_restless : (ending : Ending) (world : WorldState) (batch : List Turn) (state : ℕ) (last : DrawnSoFar) (settled : Settled) (stop : StoppedBox) → EndsAs world batch state last settled ending
+answers_restless : (ending : Option SettleStop) (world : WorldState) (batch : List Turn) (state : ℕ) (last : DrawnSoFar) (settled : Settled) (stop : StoppedBox) → EndsAs world batch state last settled ending
     → Answered settled ending (Err (Restless stop)) → StopsByDraws world batch state last.schedule.draws (Restless stop)
-answers_restless Rest world batch state last settled stop ends answered = absurd (answered)
-answers_restless (RingEnd at) world batch state last settled stop ends answered = absurd (answered)
-answers_restless (RestlessEnd at) world batch state last settled stop ends answered =
+answers_restless None world batch state last settled stop ends answered = absurd (answered)
+answers_restless (Some (stops.Ring at)) world batch state last settled stop ends answered = absurd (answered)
+answers_restless (Some (stops.Restless at)) world batch state last settled stop ends answered =
     subst (λ (a : ℕ). StopsRestless world batch state stop.turns.items last.schedule.draws a) (sym answered.at_is)
     (subst (λ (t : List Turn). StopsRestless world batch state t last.schedule.draws at) (sym (answered.turns ∙ ends.turns_are)) (stops_restless world batch state at last ends.sound ends.allowed ends.ended))
-answers_restless (LastVersion at) world batch state last settled stop ends answered = absurd (answered)
+answers_restless (Some (stops.VersionEnd at)) world batch state last settled stop ends answered = absurd (answered)
 
-answers_version : (ending : Ending) (world : WorldState) (batch : List Turn) (state : ℕ) (last : DrawnSoFar) (settled : Settled) (stop : Stopped) → EndsAs world batch state last settled ending
+answers_version : (ending : Option SettleStop) (world : WorldState) (batch : List Turn) (state : ℕ) (last : DrawnSoFar) (settled : Settled) (stop : Stopped) → EndsAs world batch state last settled ending
     → Answered settled ending (Err (VersionEnd stop)) → StopsByDraws world batch state last.schedule.draws (VersionEnd stop)
-answers_version Rest world batch state last settled stop ends answered = absurd (answered)
-answers_version (RingEnd at) world batch state last settled stop ends answered = absurd (answered)
-answers_version (RestlessEnd at) world batch state last settled stop ends answered = absurd (answered)
-answers_version (LastVersion at) world batch state last settled stop ends answered = (
+answers_version None world batch state last settled stop ends answered = absurd (answered)
+answers_version (Some (stops.Ring at)) world batch state last settled stop ends answered = absurd (answered)
+answers_version (Some (stops.Restless at)) world batch state last settled stop ends answered = absurd (answered)
+answers_version (Some (stops.VersionEnd at)) world batch state last settled stop ends answered = (
   subst (λ (a : ℕ). StopsAtVersion world batch state stop.turns.items last.schedule.draws a) (sym answered.at_is)
       (subst (λ (t : List Turn). StopsAtVersion world batch state t last.schedule.draws at) (sym (answered.turns ∙ ends.turns_are)) (stops_at_version world batch state at last ends.allowed ends.ended)),
   told_place world settled last at stop ends.world_is answered (version_placed world batch state at last ends.sound ends.ended),
 )
 
 -- all of it
-pub answers_scheduled : (result : Result Settled SettleFault) (ending : Ending) (world : WorldState) (batch : List Turn) (state : ℕ) (last : DrawnSoFar) (settled : Settled) → EndsAs world batch state last settled ending
+pub answers_scheduled : (result : Result Settled SettleFault) (ending : Option SettleStop) (world : WorldState) (batch : List Turn) (state : ℕ) (last : DrawnSoFar) (settled : Settled) → EndsAs world batch state last settled ending
     → Answered settled ending result → IfOk result (SettlesByDraws world batch state last.schedule.draws)
 answers_scheduled (Ok done) ending world batch state last settled ends answered = answers_rest ending world batch state last settled done ends answered
 answers_scheduled (Err fault) ending world batch state last settled ends answered = tt
@@ -352,26 +352,26 @@ answers_scheduled (Err fault) ending world batch state last settled ends answere
 limit_kept : (world : WorldState) (batch turns : List Turn) (state end : ℕ) (last : WorldState) → AreAllowed world batch → IsScheduled world batch state turns last end → KeepsShiftLimit turns
 limit_kept world batch turns state end last allowed s = shifts_are_few world batch turns state s.rounds s.ended allowed s.goes
 
-pub answers_limit : (result : Result Settled SettleFault) (ending : Ending) (world : WorldState) (batch : List Turn) (state : ℕ) (last : DrawnSoFar) (settled : Settled) → EndsAs world batch state last settled ending
+pub answers_limit : (result : Result Settled SettleFault) (ending : Option SettleStop) (world : WorldState) (batch : List Turn) (state : ℕ) (last : DrawnSoFar) (settled : Settled) → EndsAs world batch state last settled ending
     → Answered settled ending result → IfOk result (λ done. KeepsShiftLimit done.turns.items)
 answers_limit (Ok done) ending world batch state last settled ends answered =
     limit_kept world batch done.turns.items state last.schedule.draws done.world ends.allowed (answers_rest ending world batch state last settled done ends answered)
 answers_limit (Err fault) ending world batch state last settled ends answered = tt
 
-pub answers_settled : (result : Result Settled SettleFault) (ending : Ending) (world : WorldState) (batch : List Turn) (state : ℕ) (last : DrawnSoFar) (settled : Settled) → EndsAs world batch state last settled ending
+pub answers_settled : (result : Result Settled SettleFault) (ending : Option SettleStop) (world : WorldState) (batch : List Turn) (state : ℕ) (last : DrawnSoFar) (settled : Settled) → EndsAs world batch state last settled ending
     → Answered settled ending result → IfOk result (λ done. IsSettled world batch done.turns.items done.world)
 answers_settled (Ok done) ending world batch state last settled ends answered =
     schedule_settles world done.world batch done.turns.items state last.schedule.draws ends.sound ends.allowed (answers_rest ending world batch state last settled done ends answered)
 answers_settled (Err fault) ending world batch state last settled ends answered = tt
 
-answers_fault : (fault : SettleFault) (ending : Ending) (world : WorldState) (batch : List Turn) (state : ℕ) (last : DrawnSoFar) (settled : Settled) → EndsAs world batch state last settled ending
+answers_fault : (fault : SettleFault) (ending : Option SettleStop) (world : WorldState) (batch : List Turn) (state : ℕ) (last : DrawnSoFar) (settled : Settled) → EndsAs world batch state last settled ending
     → Answered settled ending (Err fault) → StopsByDraws world batch state last.schedule.draws fault
 answers_fault (Ring stop) ending world batch state last settled ends answered = answers_ring ending world batch state last settled stop ends answered
 answers_fault (Restless stop) ending world batch state last settled ends answered = answers_restless ending world batch state last settled stop ends answered
 answers_fault (VersionEnd stop) ending world batch state last settled ends answered = answers_version ending world batch state last settled stop ends answered
 answers_fault (NoMemory e) ending world batch state last settled ends answered = tt
 
-pub answers_stops : (result : Result Settled SettleFault) (ending : Ending) (world : WorldState) (batch : List Turn) (state : ℕ) (last : DrawnSoFar) (settled : Settled) → EndsAs world batch state last settled ending
+pub answers_stops : (result : Result Settled SettleFault) (ending : Option SettleStop) (world : WorldState) (batch : List Turn) (state : ℕ) (last : DrawnSoFar) (settled : Settled) → EndsAs world batch state last settled ending
     → Answered settled ending result → IfErr result (StopsByDraws world batch state last.schedule.draws)
 answers_stops (Ok done) ending world batch state last settled ends answered = tt
 answers_stops (Err fault) ending world batch state last settled ends answered = answers_fault fault ending world batch state last settled ends answered

@@ -16,8 +16,8 @@ use Rattle.mc_seq.specs.Spare.{AreShiftsKept, spare_of}
 use Rattle.mc_seq.specs.declared.drawing.SettleSoFar.{SettleSoFar}
 use Rattle.mc_seq.specs.declared.stopping.Draw.{Draw}
 use Rattle.mc_seq.specs.declared.stopping.Draw.TheVariants.{Drawn, Nothing, Shifted, VersionEnd}
-use Rattle.mc_seq.specs.declared.stopping.Ending.{Ending}
-use Rattle.mc_seq.specs.declared.stopping.Ending.TheVariants.{LastVersion, Rest, Restless, Ring}
+use Rattle.mc_seq.specs.declared.stopping.SettleStop.{SettleStop}
+use Rattle.mc_seq.specs.declared.stopping.SettleStop.TheVariants as stops
 use Rattle.mc_seq.specs.declared.plain.SettleSoFar.{SettleSoFar as PlainSoFar}
 
 -- a settle so far: its world and turns so far, the commands that are left, how many turns came since the last
@@ -246,8 +246,8 @@ pub record WentRestless (old new : DrawnSoFar) (at : ℕ) : Type 0 where
   pub first : IsFirstShifter new.schedule.world at
 
 -- how a settle ended
-abbrev pub Ended : DrawnSoFar → DrawnSoFar → Ending → Type 0
-Ended old new Rest = WentToRest old new
-Ended old new (Ring at) = WentToRing old new at
-Ended old new (Restless at) = WentRestless old new at
-Ended old new (LastVersion at) = RanOut old new at
+abbrev pub Ended : DrawnSoFar → DrawnSoFar → Option SettleStop → Type 0
+Ended old new None = WentToRest old new
+Ended old new (Some (stops.Ring at)) = WentToRing old new at
+Ended old new (Some (stops.Restless at)) = WentRestless old new at
+Ended old new (Some (stops.VersionEnd at)) = RanOut old new at

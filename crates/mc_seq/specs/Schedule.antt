@@ -158,6 +158,7 @@ pub record MakesRound (now next : ScheduleState) : Type 0 where
 -- so many rounds, with drawn turns before each of them and after the last, lead from one state to another
 abbrev pub Goes : (rounds : ℕ) → ScheduleState → List Turn → ScheduleState → Type 0
 Goes zero now turns last = AreDrawn now turns last
-Goes (suc rounds) now turns last = (first : List Turn) × (rest : List Turn) × (still : ScheduleState) × (next : ScheduleState)
+Goes (suc rounds) now turns last =
+    (first : List Turn) × (rest : List Turn) × (still : ScheduleState) × (next : ScheduleState)
     × (turns ≡ first ++ (retries_by_box still.world ++ rest)) × AreDrawn now first still × MakesRound still next
     × Goes rounds next rest last

@@ -19,7 +19,7 @@ use crate::fault::SettleFault;
 use crate::finding::{candidate_count, kth};
 use crate::retrying::retry_by_box;
 use crate::shifting::{Shifts, all_shifts, count_programmed, recount_all};
-use crate::stopping::{Draw, Ending, answer, first_shifter, heard_slot};
+use crate::stopping::{Draw, SettleStop, answer, first_shifter, heard_slot};
 use mc_box::Turn;
 use mc_text::Draws;
 use mc_world::{Settled, StepFault, World};
@@ -103,13 +103,13 @@ fn settled_by(so_far: SettleSoFar) -> Settled
 }
 
 // Makes all the turns of a settle.
-fn settle(so_far: &mut SettleSoFar, draws: &mut Draws) -> Result<Ending, AllocError>
+fn settle(so_far: &mut SettleSoFar, draws: &mut Draws) -> Result<Option<SettleStop>, AllocError>
     requires allowed { AreAllowed so_far.old.settled.world (commands_left so_far.old.left) }
     requires kept { IsKept so_far.old }
     ensures { IfOk result (Ended (drawn_of so_far.old draws.old.state) (drawn_of so_far.new draws.new.state)) }
 {
     if let Some(at) = use_up(so_far, draws)? {
-        return Ok(Ending::LastVersion(at));
+        return Ok(Some(SettleStop::VersionEnd(at)));
     }
     finish(so_far, draws)
 }
@@ -133,20 +133,20 @@ fn use_up(so_far: &mut SettleSoFar, draws: &mut Draws) -> Result<Option<u32>, Al
 }
 
 // After the batch: comes to rest again and again, with a round of retries between.
-fn finish(so_far: &mut SettleSoFar, draws: &mut Draws) -> Result<Ending, AllocError>
+fn finish(so_far: &mut SettleSoFar, draws: &mut Draws) -> Result<Option<SettleStop>, AllocError>
     requires used_up { commands_left so_far.old.left ≡ [] }
     requires kept { IsKept so_far.old }
     ensures { IfOk result (Ended (drawn_of so_far.old draws.old.state) (drawn_of so_far.new draws.new.state)) }
 {
     'rounds: loop {
         if let Some(at) = come_to_rest(so_far, draws)? {
-            return Ok(Ending::Ring(at));
+            return Ok(Some(SettleStop::Ring(at)));
         }
         if let Some(at) = shifter(so_far) {
-            return Ok(Ending::Restless(at));
+            return Ok(Some(SettleStop::Restless(at)));
         }
         if !so_far.due {
-            return Ok(Ending::Rest);
+            return Ok(None);
         }
         make_round(so_far)?;
     }

@@ -20,5 +20,5 @@ pub use drawing::settle_one;
 pub use fault::{SettleFault, Stopped, StoppedBox};
 pub use plain::settle_plainly;
 pub use retrying::retry_by_box;
-pub use stopping::{Ending, answer, heard_slot};
+pub use stopping::{SettleStop, answer, heard_slot};
 pub use turns::make;

@@ -17,7 +17,7 @@ use crate::fault::SettleFault;
 use crate::listing::{all_candidates, is_urgent};
 use crate::retrying::retry_by_box;
 use crate::shifting::count_shift;
-use crate::stopping::{Draw, Ending, answer, first_shifter, heard_slot};
+use crate::stopping::{Draw, SettleStop, answer, first_shifter, heard_slot};
 use mc_box::Turn;
 use mc_box::limit::SHIFT_LIMIT;
 use mc_text::Draws;
@@ -96,12 +96,16 @@ fn settled_by(so_far: SettleSoFar) -> Settled
 }
 
 // Makes all the turns of a settle.
-fn settle(alloc: Global, so_far: &mut SettleSoFar, draws: &mut Draws) -> Result<Ending, AllocError>
+fn settle(
+    alloc: Global,
+    so_far: &mut SettleSoFar,
+    draws: &mut Draws,
+) -> Result<Option<SettleStop>, AllocError>
     requires { AreAllowed so_far.old.settled.world so_far.old.left.items }
     ensures { IfOk result (Ended (plain_drawn so_far.old draws.old.state) (plain_drawn so_far.new draws.new.state)) }
 {
     if let Some(at) = use_up(alloc, so_far, draws)? {
-        return Ok(Ending::LastVersion(at));
+        return Ok(Some(SettleStop::VersionEnd(at)));
     }
     finish(alloc, so_far, draws)
 }
@@ -134,19 +138,23 @@ fn is_used_up(left: &[Turn]) -> bool
 }
 
 // After the batch: comes to rest again and again, with a round of retries between.
-fn finish(alloc: Global, so_far: &mut SettleSoFar, draws: &mut Draws) -> Result<Ending, AllocError>
+fn finish(
+    alloc: Global,
+    so_far: &mut SettleSoFar,
+    draws: &mut Draws,
+) -> Result<Option<SettleStop>, AllocError>
     requires { so_far.old.left.items ≡ [] }
     ensures { IfOk result (Ended (plain_drawn so_far.old draws.old.state) (plain_drawn so_far.new draws.new.state)) }
 {
     'rounds: loop {
         if let Some(at) = come_to_rest(alloc, so_far, draws)? {
-            return Ok(Ending::Ring(at));
+            return Ok(Some(SettleStop::Ring(at)));
         }
         if let Some(at) = first_shifter(&so_far.settled.world) {
-            return Ok(Ending::Restless(at));
+            return Ok(Some(SettleStop::Restless(at)));
         }
         if !so_far.due {
-            return Ok(Ending::Rest);
+            return Ok(None);
         }
         make_round(so_far)?;
     }

@@ -24,30 +24,29 @@ pub enum Draw {
     VersionEnd(u32),
 }
 
-/// How a settle ends.
-#[derive(Clone, Copy, PartialEq, Eq, Debug)]
-pub enum Ending {
-    /// Nothing can come, and no round of retries is due.
-    Rest,
-    /// This is the least slot on a ring.
+/// Why a settle stopped before its end.
+#[derive(Clone, Copy, Debug, PartialEq, Eq)]
+pub enum SettleStop {
+    /// The next command of a box was a Hear of this slot, by its number, whose descriptor has the last version.
+    VersionEnd(u32),
+    /// A batch, or Shifts after it, left a ring of links; of the slots on one this is the least, by its number.
     Ring(u32),
-    /// This box has made all its Shifts, and has one more enabled.
+    /// The program of this box, by its number, doesn't come to rest in a settle: nothing is under way, and the box has
+    /// made all the Shifts that it may make in a settle and has one more enabled. It is the least box that has.
     Restless(u32),
-    /// The next command is the Hear of this slot, which has the last version.
-    LastVersion(u32),
 }
 
 /// What a settle answers at its end: the world with its turns, or why it stopped, with the turns until then.
 #[inline]
-pub fn answer(settled: Settled, ending: Ending) -> Result<Settled, SettleFault>
+pub fn answer(settled: Settled, ending: Option<SettleStop>) -> Result<Settled, SettleFault>
     requires { IsInside settled.world ending }
     ensures { Answered settled ending result }
 {
     match ending {
-        Ending::Rest => Ok(settled),
-        Ending::Ring(at) => Err(SettleFault::Ring(stop_at(settled, at))),
-        Ending::Restless(at) => Err(SettleFault::Restless(stop_at_box(settled, at))),
-        Ending::LastVersion(at) => Err(SettleFault::VersionEnd(stop_at(settled, at))),
+        None => Ok(settled),
+        Some(SettleStop::Ring(at)) => Err(SettleFault::Ring(stop_at(settled, at))),
+        Some(SettleStop::Restless(at)) => Err(SettleFault::Restless(stop_at_box(settled, at))),
+        Some(SettleStop::VersionEnd(at)) => Err(SettleFault::VersionEnd(stop_at(settled, at))),
     }
 }
 

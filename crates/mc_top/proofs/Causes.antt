@@ -19,8 +19,8 @@ use Rattle.mc_laws.specs.Chains.{ClosesNoChain}
 use Rattle.mc_top.specs.Words.{RestsByWords}
 use Rattle.mc_laws.specs.Versions.{PassesLast}
 use Rattle.mc_model.specs.Settles.{hears_in}
-use Rattle.mc_top.specs.declared.stop.SettleStop.{SettleStop}
-use Rattle.mc_top.specs.declared.stop.SettleStop.TheVariants.{Restless, Ring, VersionEnd}
+use Rattle.mc_seq.specs.declared.stopping.SettleStop.{SettleStop}
+use Rattle.mc_seq.specs.declared.stopping.SettleStop.TheVariants.{Restless, Ring, VersionEnd}
 use Rattle.mc_top.proofs.LastVersions.{none_passes, same_says, stopped_passes}
 use Rattle.mc_top.proofs.LeftRings.{stopped_leaves}
 use Rattle.mc_top.proofs.NamedRings.{closes_none}

@@ -20,7 +20,7 @@ use Rattle.mc_top.specs.Statuses.{judges_text, stop_status}
 use Rattle.mc_top.specs.Top.{Delivers, Refused, RefusesCheck, StopsScript, Worked}
 use Rattle.mc_top.specs.declared.report.Report.TheVariants.{Paths}
 use Rattle.mc_top.specs.declared.status.TheConstants.{WORKED, FAULTY_TEXT, RESTLESS, RING, JOURNAL_FAULT, NO_BOX}
-use Rattle.mc_top.specs.declared.stop.SettleStop.{SettleStop}
+use Rattle.mc_seq.specs.declared.stopping.SettleStop.{SettleStop}
 use Rattle.mc_top.specs.declared.top.Done.{Done}
 use Rattle.mc_top.proofs.SeenNets.{Seen, declared_same, seen}
 use Rattle.mc_top.proofs.Told.{fault_of_same, good_has_none}

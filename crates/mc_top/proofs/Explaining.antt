@@ -24,7 +24,7 @@ use Rattle.mc_top.specs.Printed.{fault_line, feature_words, journal_fault_line, 
 use Rattle.mc_top.specs.Statuses.{due_by}
 use Rattle.mc_top.specs.declared.report.Report.{Report}
 use Rattle.mc_top.specs.declared.run.Run.{Run as Ran}
-use Rattle.mc_top.specs.declared.stop.SettleStop.{SettleStop}
+use Rattle.mc_seq.specs.declared.stopping.SettleStop.{SettleStop}
 use Rattle.mc_top.specs.Reasons.{AreFeaturesOf, EndsFor, Explains, ExplainsDue, IsFaultByWords, IsFaultOf, IsFaultOfTold, IsJournalFaultOf, IsNoBox, IsTextFaultOf, PrintsStop, Told, of_box, of_journal, of_text, usage_reason}
 use Rattle.mc_top.specs.Top.{Delivers, IsTextFor, IsTextOf}
 use Rattle.mc_top.specs.declared.status.TheConstants.{FAULTY_TEXT, JOURNAL_FAULT, NO_BOX, USAGE}

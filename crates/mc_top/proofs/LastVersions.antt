@@ -22,7 +22,7 @@ use Rattle.mc_net.specs.declared.net.Net.{Net}
 use Rattle.mc_net.proofs.Versions.{first_versions}
 use Rattle.mc_script.specs.declared.command.JournalLine.{JournalLine}
 use Rattle.mc_top.specs.Journals.{IsStoppedJournal}
-use Rattle.mc_top.specs.declared.stop.SettleStop.TheVariants.{VersionEnd}
+use Rattle.mc_seq.specs.declared.stopping.SettleStop.TheVariants.{VersionEnd}
 
 -- one batch before the others
 hears_more : (who local : ℕ) (batch : List Turn) (batches : List (List Turn)) → hears_in who local (batch ∷ batches) ≡ hears_of who local batch + hears_in who local batches

@@ -11,7 +11,7 @@ use Rattle.mc_script.specs.declared.command.JournalLine.{JournalLine}
 use Rattle.mc_settings.specs.Batches.{LeavesNoRing}
 use Rattle.mc_settings.proofs.BatchesLeft.{no_ring_is_met, no_ring_stays}
 use Rattle.mc_top.specs.Journals.{IsStoppedJournal}
-use Rattle.mc_top.specs.declared.stop.SettleStop.TheVariants.{Ring}
+use Rattle.mc_seq.specs.declared.stopping.SettleStop.TheVariants.{Ring}
 
 -- in the first of the batches, or in a later one
 pub stopped_leaves : (batches : List (List Turn)) (world : WorldState) (at : ℕ) (journal : List JournalLine) → IsSound world → HasNoPrograms world → IsStoppedJournal (Ring at) world batches journal → LeavesNoRing world batches → ⊥

@@ -35,7 +35,7 @@ use Rattle.mc_text.specs.NameLists.{NameLists}
 use Rattle.mc_top.specs.JournalLaws.{RunsAreReadBack}
 use Rattle.mc_replay.specs.Journals.{IsJournal, lines_for}
 use Rattle.mc_top.specs.Journals.{IsJournalTo}
-use Rattle.mc_top.specs.declared.stop.SettleStop.{SettleStop}
+use Rattle.mc_seq.specs.declared.stopping.SettleStop.{SettleStop}
 use Rattle.mc_top.proofs.Running.{after_settle, names_kept}
 
 -- ---- one turn

@@ -10,7 +10,7 @@ use Rattle.mc_model.specs.Sound.{IsSound}
 use Rattle.mc_model.specs.Worlds.{WorldState}
 use Rattle.mc_script.specs.declared.command.JournalLine.{JournalLine}
 use Rattle.mc_top.specs.Journals.{IsStoppedJournal}
-use Rattle.mc_top.specs.declared.stop.SettleStop.TheVariants.{Ring}
+use Rattle.mc_seq.specs.declared.stopping.SettleStop.TheVariants.{Ring}
 
 -- in the first of the batches that are left, or in a later one
 closes_by : (all batches : List (List Turn)) (start world : WorldState) (at : ℕ) (journal : List JournalLine) → IsSound world → LinksAreNamed start all world → AllByRecursion (Contains all) batches → ClosesNoChain start all

@@ -20,8 +20,8 @@ use Rattle.mc_seq.specs.Retries.{retries_by_box}
 use Rattle.mc_seq.specs.Schedule.{AreDrawn, Goes, ScheduleState, candidates, drawn_place, drawn_turn, first_schedule, schedule_after}
 use Rattle.mc_top.specs.Drawn.{DrawnJournalIsOne, EndsWithin, IsDrawnJournal, StopsBy}
 use Rattle.mc_replay.specs.Journals.{lines_for}
-use Rattle.mc_top.specs.declared.stop.SettleStop.{SettleStop}
-use Rattle.mc_top.specs.declared.stop.SettleStop.TheVariants.{Restless, Ring, VersionEnd}
+use Rattle.mc_seq.specs.declared.stopping.SettleStop.{SettleStop}
+use Rattle.mc_seq.specs.declared.stopping.SettleStop.TheVariants.{Restless, Ring, VersionEnd}
 use Rattle.mc_top.proofs.Shifters.{first_can}
 use Rattle.mc_top.proofs.UsedUp.{used_up}
 

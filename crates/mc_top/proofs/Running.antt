@@ -29,7 +29,7 @@ use Rattle.mc_top.specs.Printed.{at_settles}
 use Rattle.mc_top.specs.Scripts.{FollowSchedule, ScriptState, Settling, first_state}
 use Rattle.mc_script.specs.declared.command.JournalLine.{JournalLine}
 use Rattle.mc_script.specs.declared.command.JournalLine.TheVariants.{Turn as Made, Settled}
-use Rattle.mc_top.specs.declared.stop.SettleStop.{SettleStop}
+use Rattle.mc_seq.specs.declared.stopping.SettleStop.{SettleStop}
 
 -- ---- shapes
 

@@ -30,8 +30,8 @@ use Rattle.mc_top.specs.Printed.{box_word, place_word, report_text, script_text,
 use Rattle.mc_top.specs.Scripts.{ScriptState}
 use Rattle.mc_top.specs.declared.report.Report.{Report}
 use Rattle.mc_top.specs.declared.run.Run.{Run}
-use Rattle.mc_top.specs.declared.stop.SettleStop.{SettleStop}
-use Rattle.mc_top.specs.declared.stop.SettleStop.TheVariants.{Restless, Ring, VersionEnd}
+use Rattle.mc_seq.specs.declared.stopping.SettleStop.{SettleStop}
+use Rattle.mc_seq.specs.declared.stopping.SettleStop.TheVariants.{Restless, Ring, VersionEnd}
 use Rattle.mc_top.proofs.Running.{GoesOn, next_left}
 
 -- ---- names

@@ -19,7 +19,7 @@ use Rattle.mc_top.specs.Behind.{HasGoodJournal, HasJournal, HasJournalFault, has
 use Rattle.mc_top.specs.Journals.{ShowsCause}
 use Rattle.mc_top.specs.Top.{Ends, IsTextOf, RefusesBox, RefusesCheck, StopsScript, ToldDeclares, ToldFault, ToldJournal}
 use Rattle.mc_top.specs.Modes.{CanCheck, CanConfer, CanRun, checks, has_feature, tail_of}
-use Rattle.mc_top.specs.declared.stop.SettleStop.{SettleStop}
+use Rattle.mc_seq.specs.declared.stopping.SettleStop.{SettleStop}
 use Rattle.mc_top.specs.Rings.{AlwaysRests}
 use Rattle.mc_top.proofs.BytesBehind.{bad_alike, lines_alike}
 use Rattle.mc_top.proofs.Causes.{never_stops}

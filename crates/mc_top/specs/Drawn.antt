@@ -10,8 +10,8 @@ use Rattle.mc_seq.specs.Draws.{IsScheduled, StopsAtRing, StopsAtVersion, StopsBy
 use Rattle.mc_seq.specs.declared.fault.SettleFault.{SettleFault}
 use Rattle.mc_replay.specs.Journals.{lines_for}
 use Rattle.mc_text.specs.declared.draws.Draws.{Draws}
-use Rattle.mc_top.specs.declared.stop.SettleStop.{SettleStop}
-use Rattle.mc_top.specs.declared.stop.SettleStop.TheVariants.{Restless, Ring, VersionEnd}
+use Rattle.mc_seq.specs.declared.stopping.SettleStop.{SettleStop}
+use Rattle.mc_seq.specs.declared.stopping.SettleStop.TheVariants.{Restless, Ring, VersionEnd}
 
 -- the state of the draws, where there are some
 abbrev pub draws_state : Option Draws → Option ℕ

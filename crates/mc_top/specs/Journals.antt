@@ -13,8 +13,8 @@ use Rattle.mc_script.specs.declared.command.JournalLine.{JournalLine}
 use Rattle.mc_script.specs.declared.command.JournalLine.TheVariants.{Turn as Made}
 use Rattle.mc_laws.specs.Chains.{ClosesNoChain}
 use Rattle.mc_top.specs.Words.{RestsByWords}
-use Rattle.mc_top.specs.declared.stop.SettleStop.{SettleStop}
-use Rattle.mc_top.specs.declared.stop.SettleStop.TheVariants.{Restless, Ring, VersionEnd}
+use Rattle.mc_seq.specs.declared.stopping.SettleStop.{SettleStop}
+use Rattle.mc_seq.specs.declared.stopping.SettleStop.TheVariants.{Restless, Ring, VersionEnd}
 
 -- why a script stops, after turns of a batch that leave a world: at the last version; or where the batch is used up,
 -- at the least slot on a ring, or at the first box whose program can still go on, and has made all its Shifts

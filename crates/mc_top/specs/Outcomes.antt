@@ -18,8 +18,8 @@ use Rattle.mc_top.specs.declared.report.Report.{Report}
 use Rattle.mc_top.specs.declared.run.Outcome.{Outcome}
 use Rattle.mc_top.specs.declared.run.Outcome.TheVariants.{Settled, Stopped}
 use Rattle.mc_top.specs.declared.run.Run.{Run}
-use Rattle.mc_top.specs.declared.stop.SettleStop.{SettleStop}
-use Rattle.mc_top.specs.declared.stop.SettleStop.TheVariants.{Restless, Ring, VersionEnd}
+use Rattle.mc_seq.specs.declared.stopping.SettleStop.{SettleStop}
+use Rattle.mc_seq.specs.declared.stopping.SettleStop.TheVariants.{Restless, Ring, VersionEnd}
 
 -- turns were made and kept; then the batch stopped, and the one line of the stop was printed
 pub record Stopping (names : NameLists) (batch : List Turn) (old : ScriptState) (run : Run) : Type 0 where

@@ -20,7 +20,7 @@ use Rattle.mc_top.specs.Behind.{IsLineOfFault}
 use Rattle.mc_top.specs.Modes.{tail_of, text_for}
 use Rattle.mc_top.specs.Printed.{fault_line, feature_words, journal_fault_line, no_box_line, stop_word}
 use Rattle.mc_top.specs.declared.status.TheConstants.{WORKED, FAULTY_TEXT, VERSION_END, USAGE, NO_MEMORY, READ_FAULT, RESTLESS, RING, WRITE_FAULT, JOURNAL_FAULT, NO_BOX}
-use Rattle.mc_top.specs.declared.stop.SettleStop.{SettleStop}
+use Rattle.mc_seq.specs.declared.stopping.SettleStop.{SettleStop}
 use Rattle.mc_top.specs.declared.top.Done.{Done}
 use Rattle.mc_words.specs.Commands.{IsCommand}
 use Rattle.mc_words.specs.Help.{asks_for_help}

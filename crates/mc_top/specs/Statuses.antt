@@ -1,8 +1,8 @@
 -- What is said of the statuses with which a call ends.
 use Rattle.std.specs.Prelude.{ℕ, ◌≡◌, ◌⊎◌, ◌==◌, ◌||◌, Bool, Option, Some, None}
 use Rattle.mc_top.specs.declared.status.TheConstants.{WORKED, FAULTY_TEXT, VERSION_END, USAGE, NO_MEMORY, READ_FAULT, RESTLESS, RING, JOURNAL_FAULT, NO_BOX}
-use Rattle.mc_top.specs.declared.stop.SettleStop.{SettleStop}
-use Rattle.mc_top.specs.declared.stop.SettleStop.TheVariants.{Restless, Ring, VersionEnd}
+use Rattle.mc_seq.specs.declared.stopping.SettleStop.{SettleStop}
+use Rattle.mc_seq.specs.declared.stopping.SettleStop.TheVariants.{Restless, Ring, VersionEnd}
 
 -- the status may be due: each may but that of a fault in writing
 abbrev pub IsDue : ℕ → Type 0

@@ -17,10 +17,10 @@ mod top;
 mod viewer;
 
 pub use checking::{TailFault, TailPlace};
+pub use mc_seq::SettleStop;
 pub use mc_words::{Mode, read_mode};
 pub use report::Report;
 pub use run::{Run, run_script};
-pub use stop::SettleStop;
 pub use top::{
     Done, check_by_net, deliver, give_up, media_top, refuse_tail, refuse_text, refuse_words,
     text_of,

@@ -6,10 +6,10 @@ ghost use Rattle.mc_table.specs.Words.{line_of};
 ghost use Rattle.mc_text.specs.NameLists.{slot_names, slot_word};
 ghost use Rattle.mc_top.specs.Printed.{box_word, fault_line, journal_fault_line, journal_part, no_box_line, stop_word};
 
-use crate::stop::SettleStop;
 use mc_journal::print_journal;
 use mc_net::TextFault;
 use mc_script::JournalLine;
+use mc_seq::SettleStop;
 use mc_table::put_line;
 use mc_text::Names;
 use std::alloc::{AllocError, Global};

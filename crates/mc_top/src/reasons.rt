@@ -10,10 +10,10 @@ ghost use Rattle.mc_top.specs.Reasons.{ExplainsDue, HasPlace, IsFaultOf, IsNoBox
 ghost use Rattle.mc_top.specs.Statuses.{due_by};
 
 use crate::run::Run;
-use crate::stop::SettleStop;
 use mc_box::Kind;
 use mc_explain::Reason;
 use mc_script::JournalLine;
+use mc_seq::SettleStop;
 use mc_text::Names;
 use mc_world::World;
 use std::alloc::{AllocError, Global};

@@ -18,16 +18,15 @@ ghost use Rattle.mc_top.specs.Outcomes.{CameOf, EndsAt, EndsBy, IsNamedFault};
 ghost use Rattle.mc_top.specs.Printed.{box_word, script_text, stop_word, with_journal};
 ghost use Rattle.mc_top.specs.Scripts.{first_state, network_draws, network_world};
 ghost use Rattle.mc_top.specs.Shown.{HasNamedBox, print_report};
-ghost use Rattle.mc_top.specs.declared.stop.SettleStop.TheVariants.{Restless};
+ghost use Rattle.mc_seq.specs.declared.stopping.SettleStop.TheVariants.{Restless};
 
 use crate::print::{print_restless, print_stop, put_journal};
 use crate::report::{Report, print_opening, put_report};
 use crate::script_network::ScriptNetwork;
-use crate::stop::SettleStop;
 use mc_box::Turn;
 use mc_io::Gate;
 use mc_script::{Batch, JournalLine};
-use mc_seq::{SettleFault, Stopped, StoppedBox};
+use mc_seq::{SettleFault, SettleStop, Stopped, StoppedBox};
 use mc_text::limit::BOX_LIMIT;
 use mc_text::{Draws, Names};
 use mc_world::World;
