@@ -120,8 +120,8 @@ next_pass p who (t ∷ left) turn all found =
     next_pass_by (t.who == who) p t turn (next_of who left) parts.0 (next_pass p who left turn parts.1) found
 
 -- what is listed can happen, or is a Hear at the last version
-pub listed_comes : (world : WorldState) (left : List Turn) (shifts : List ℕ) (urgent : Bool) (turn : Turn) → IsSound world → AreAllowed world left → IsListed world left shifts urgent turn → MayCome world turn
-listed_comes world left shifts urgent turn sound allowed is = elim is [
+pub listed_comes : (world : WorldState) (left : List Turn) (shifts : List ℕ) (only_commands : Bool) (turn : Turn) → IsSound world → AreAllowed world left → IsListed world left shifts only_commands turn → MayCome world turn
+listed_comes world left shifts only_commands turn sound allowed is = elim is [
   | inl next ↦ command_goes world turn sound (next_pass (is_allowed world) turn.who left turn allowed next)
   | inr other ↦ elim other.1 [
     | inl take ↦ inl (take_goes world turn sound take)

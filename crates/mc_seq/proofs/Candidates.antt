@@ -20,7 +20,7 @@ use Rattle.mc_model.specs.Worlds.{WorldState, box_at, front, number, place, slot
 use Rattle.mc_laws.proofs.Numbers.{box_inside, number_is}
 use Rattle.mc_box.proofs.Options.{then_some}
 use Rattle.mc_laws.proofs.StepGoes.{below_test, front_step_goes, some_of}
-use Rattle.mc_seq.specs.Schedule.{ScheduleState, candidates, drawn_turn, drawn_place, is_urgent, all_candidates, next_of, candidates_of, may_shift, shift_of, shift_turn, take_turn, waiting_take, takes_of}
+use Rattle.mc_seq.specs.Schedule.{ScheduleState, candidates, drawn_turn, drawn_place, commands_only, all_candidates, next_of, candidates_of, may_shift, shift_of, shift_turn, take_turn, waiting_take, takes_of}
 use Rattle.mc_world.specs.Waiting.{take_waits}
 use Rattle.mc_seq.proofs.ForEach.{append_none, each_all, each_none, none_all, one_all}
 use Rattle.mc_seq.proofs.Fronts.{none_quiet}
@@ -45,7 +45,7 @@ IsTakeOrShift world shifts turn = IsTake world turn ⊎ IsShift world shifts tur
 
 -- what a listed turn is: the next command of its box, or, where not only commands are listed, a Take that waits or a Shift
 abbrev pub IsListed : WorldState → List Turn → (shifts : List ℕ) → Bool → Turn → Type 0
-IsListed world left shifts urgent turn = (next_of turn.who left ≡ Some turn) ⊎ ((urgent ≡ false) × IsTakeOrShift world shifts turn)
+IsListed world left shifts only_commands turn = (next_of turn.who left ≡ Some turn) ⊎ ((only_commands ≡ false) × IsTakeOrShift world shifts turn)
 
 -- what is found passes the test
 found_by : (b : Bool) (p : Turn → Bool) (t x : Turn) (later : Option Turn) → p t ≡ b → cond b (Some t) later ≡ Some x → (later ≡ Some x → p x ≡ true) → p x ≡ true
@@ -81,7 +81,7 @@ shift_by true world left shifts who inside is = one_all (IsListed world left shi
 shift_by false world left shifts who inside is = none_all (IsListed world left shifts false)
 
 -- so are the Takes and the Shift of a box
-takes_by : (urgent : Bool) (world : WorldState) (left : List Turn) (shifts : List ℕ) (who : ℕ) → who < length world.boxes → All (IsListed world left shifts urgent) (if urgent then [] else takes_of world who ++ shift_of world shifts who)
+takes_by : (only_commands : Bool) (world : WorldState) (left : List Turn) (shifts : List ℕ) (who : ℕ) → who < length world.boxes → All (IsListed world left shifts only_commands) (if only_commands then [] else takes_of world who ++ shift_of world shifts who)
 takes_by true world left shifts who inside = none_all (IsListed world left shifts true)
 takes_by false world left shifts who inside =
     All-append (IsListed world left shifts false) (takes_of world who) (shift_of world shifts who)
@@ -89,25 +89,25 @@ takes_by false world left shifts who inside =
     (shift_by (may_shift world shifts who) world left shifts who inside refl)
 
 -- each candidate of a box is listed
-box_listed : (world : WorldState) (left : List Turn) (shifts : List ℕ) (urgent : Bool) (who : ℕ) → who < length world.boxes → All (IsListed world left shifts urgent) (candidates_of world left shifts urgent who)
-box_listed world left shifts urgent who inside =
-    All-append (IsListed world left shifts urgent) (option_to_list (next_of who left)) (if urgent then [] else takes_of world who ++ shift_of world shifts who)
-    (option_all (IsListed world left shifts urgent) (next_of who left) (λ turn is. inl (ap (λ (w : ℕ). next_of w left) (next_who who left turn is) ∙ is)))
-    (takes_by urgent world left shifts who inside)
+box_listed : (world : WorldState) (left : List Turn) (shifts : List ℕ) (only_commands : Bool) (who : ℕ) → who < length world.boxes → All (IsListed world left shifts only_commands) (candidates_of world left shifts only_commands who)
+box_listed world left shifts only_commands who inside =
+    All-append (IsListed world left shifts only_commands) (option_to_list (next_of who left)) (if only_commands then [] else takes_of world who ++ shift_of world shifts who)
+    (option_all (IsListed world left shifts only_commands) (next_of who left) (λ turn is. inl (ap (λ (w : ℕ). next_of w left) (next_who who left turn is) ∙ is)))
+    (takes_by only_commands world left shifts who inside)
 
 -- and so is each candidate of all boxes
-pub all_listed : (world : WorldState) (left : List Turn) (shifts : List ℕ) (urgent : Bool) → All (IsListed world left shifts urgent) (all_candidates world left shifts urgent)
-all_listed world left shifts urgent = each_all (IsListed world left shifts urgent) (candidates_of world left shifts urgent) (length world.boxes) (λ who below. box_listed world left shifts urgent who below)
+pub all_listed : (world : WorldState) (left : List Turn) (shifts : List ℕ) (only_commands : Bool) → All (IsListed world left shifts only_commands) (all_candidates world left shifts only_commands)
+all_listed world left shifts only_commands = each_all (IsListed world left shifts only_commands) (candidates_of world left shifts only_commands) (length world.boxes) (λ who below. box_listed world left shifts only_commands who below)
 
 -- what holds of all holds of the one at a place
 got_all : (P : Turn → Type 0) (xs : List Turn) (k : ℕ) (x : Turn) → All P xs → slice_get xs k ≡ Some x → P x
 got_all P xs k x all got = subst P (get_or_from_slice_get xs k x x got) (all k x (slice_get_within xs k x got))
 
 -- so is the one that is drawn
-pub drawn_listed : (now : ScheduleState) (turn : Turn) → drawn_turn now ≡ Some turn → IsListed now.world now.left now.shifts (is_urgent now.left now.since) turn
+pub drawn_listed : (now : ScheduleState) (turn : Turn) → drawn_turn now ≡ Some turn → IsListed now.world now.left now.shifts (commands_only now.left now.since) turn
 drawn_listed now turn is =
-    got_all (IsListed now.world now.left now.shifts (is_urgent now.left now.since)) (candidates now) (drawn_place now.draws (length (candidates now))) turn
-    (all_listed now.world now.left now.shifts (is_urgent now.left now.since)) is
+    got_all (IsListed now.world now.left now.shifts (commands_only now.left now.since)) (candidates now) (drawn_place now.draws (length (candidates now))) turn
+    (all_listed now.world now.left now.shifts (commands_only now.left now.since)) is
 
 -- ---- a Take goes
 
@@ -157,13 +157,13 @@ first_by true t later is none = cc
 first_by false t later is none = cc
 
 -- each command that is left is listed with its box
-pub none_left : (world : WorldState) (left : List Turn) (shifts : List ℕ) (urgent : Bool) → AreAllowed world left → all_candidates world left shifts urgent ≡ [] → left ≡ []
-none_left world [] shifts urgent allowed none = refl
-none_left world (turn ∷ left) shifts urgent allowed none =
+pub none_left : (world : WorldState) (left : List Turn) (shifts : List ℕ) (only_commands : Bool) → AreAllowed world left → all_candidates world left shifts only_commands ≡ [] → left ≡ []
+none_left world [] shifts only_commands allowed none = refl
+none_left world (turn ∷ left) shifts only_commands allowed none =
     let parts = and_parts (is_allowed world turn) (list_all (is_allowed world) left) allowed in
     let inside = box_inside world turn.who (allowed_parts world turn parts.0).below in
-    let box = each_none (candidates_of world (turn ∷ left) shifts urgent) (length world.boxes) turn.who none inside in
-    let next = (append_none (option_to_list (next_of turn.who (turn ∷ left))) (if urgent then [] else takes_of world turn.who ++ shift_of world shifts turn.who) box).0 in
+    let box = each_none (candidates_of world (turn ∷ left) shifts only_commands) (length world.boxes) turn.who none inside in
+    let next = (append_none (option_to_list (next_of turn.who (turn ∷ left))) (if only_commands then [] else takes_of world turn.who ++ shift_of world shifts turn.who) box).0 in
     absurd (first_by (turn.who == turn.who) turn (find (λ t. t.who == turn.who) left) (self_test turn.who) next)
 
 -- where no Take is listed none waits

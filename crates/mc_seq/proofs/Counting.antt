@@ -45,13 +45,13 @@ pub no_shift_of : (world : WorldState) (shifts : List ℕ) (who : ℕ) → HasNo
 no_shift_of world shifts who none = none_by (nat_lt 0 (slice_index_or shifts who 0)) (is_enabled (box_at world who) Shift) who (none_enabled (box_at world who) (none who))
 
 -- so its candidates are its next command and its Takes
-two_by : (urgent : Bool) (world : WorldState) (left : List Turn) (shifts : List ℕ) (who : ℕ) → HasNoPrograms world → candidates_of world left shifts urgent who ≡ two_candidates world left urgent who
+two_by : (only_commands : Bool) (world : WorldState) (left : List Turn) (shifts : List ℕ) (who : ℕ) → HasNoPrograms world → candidates_of world left shifts only_commands who ≡ two_candidates world left only_commands who
 two_by true world left shifts who none = refl
 two_by false world left shifts who none =
     ap (λ (l : List Turn). command_candidates left who ++ l) (ap (λ (l : List Turn). takes_of world who ++ l) (no_shift_of world shifts who none) ∙ append-nil (takes_of world who))
 
-pub two_is : (world : WorldState) (left : List Turn) (shifts : List ℕ) (urgent : Bool) → HasNoPrograms world → all_candidates world left shifts urgent ≡ all_of_two world left urgent
-two_is world left shifts urgent none = each_same (candidates_of world left shifts urgent) (two_candidates world left urgent) (length world.boxes) (λ who. two_by urgent world left shifts who none)
+pub two_is : (world : WorldState) (left : List Turn) (shifts : List ℕ) (only_commands : Bool) → HasNoPrograms world → all_candidates world left shifts only_commands ≡ all_of_two world left only_commands
+two_is world left shifts only_commands none = each_same (candidates_of world left shifts only_commands) (two_candidates world left only_commands) (length world.boxes) (λ who. two_by only_commands world left shifts who none)
 
 -- and no program can go on
 neither_can : (a b : Bool) → a ≡ false → b ≡ false → (a || b) ≡ false
@@ -68,8 +68,8 @@ can_none world none = none_can world.boxes no_box none
 -- ---- where some box has one
 
 -- next commands alone
-pub urgent_three : (world : WorldState) (left : List Turn) (shifts : List ℕ) (urgent : Bool) (boxes : ℕ) → urgent ≡ true → boxes ≡ length world.boxes → all_candidates world left shifts urgent ≡ next_commands left boxes
-urgent_three world left shifts urgent boxes is count =
+pub urgent_three : (world : WorldState) (left : List Turn) (shifts : List ℕ) (only_commands : Bool) (boxes : ℕ) → only_commands ≡ true → boxes ≡ length world.boxes → all_candidates world left shifts only_commands ≡ next_commands left boxes
+urgent_three world left shifts only_commands boxes is count =
     ap (all_candidates world left shifts) is
     ∙ (each_same (candidates_of world left shifts true) (command_candidates left) (length world.boxes) (λ who. append-nil (command_candidates left who))
     ∙ ap (next_commands left) (sym count))
@@ -82,8 +82,8 @@ three_long world left shifts who =
     let three = length-append (command_candidates left who) (shift_of world shifts who) in
     omega arith
 
-pub calm_three : (world : WorldState) (left : List Turn) (shifts : List ℕ) (urgent : Bool) → urgent ≡ false → all_candidates world left shifts urgent ≡ all_candidates world left shifts false
-calm_three world left shifts urgent is = ap (all_candidates world left shifts) is
+pub calm_three : (world : WorldState) (left : List Turn) (shifts : List ℕ) (only_commands : Bool) → only_commands ≡ false → all_candidates world left shifts only_commands ≡ all_candidates world left shifts false
+calm_three world left shifts only_commands is = ap (all_candidates world left shifts) is
 
 pub three_sum : (world : WorldState) (left : List Turn) (shifts : Shifts) (counts : List ℕ) → AreShiftsCounted world left shifts → CountsTakes world counts
     → sum shifts.others + sum counts ≡ length (all_candidates world left shifts.spare.items false)
@@ -286,12 +286,12 @@ takes_alone world left spare who none =
     ∙ (ap (λ (l : List Turn). takes_of world who ++ l) parts.1 ∙ append-nil (takes_of world who))
 
 -- so where these are none in all, the candidates are the Takes
-pub only_takes : (world : WorldState) (left : List Turn) (shifts : Shifts) (urgent : Bool) → AreShiftsCounted world left shifts → urgent ≡ false → sum shifts.others ≡ 0
-    → all_candidates world left shifts.spare.items urgent ≡ all_takes world
-only_takes world left shifts urgent counted calm none =
+pub only_takes : (world : WorldState) (left : List Turn) (shifts : Shifts) (only_commands : Bool) → AreShiftsCounted world left shifts → only_commands ≡ false → sum shifts.others ≡ 0
+    → all_candidates world left shifts.spare.items only_commands ≡ all_takes world
+only_takes world left shifts only_commands counted calm none =
     let spare : List ℕ = shifts.spare.items in
     let all : for_each (others_of world left spare) (length world.boxes) ≡ []
     = none_long (for_each (others_of world left spare) (length world.boxes)) (sym (count_is (others_of world left spare) shifts.others (length world.boxes) counted.counted) ∙ none) in
-    calm_three world left spare urgent calm
+    calm_three world left spare only_commands calm
     ∙ each_alike (candidates_of world left spare false) (takes_of world) (length world.boxes)
     (λ who below. takes_alone world left spare who (each_none (others_of world left spare) (length world.boxes) who all below))

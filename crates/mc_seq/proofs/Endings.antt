@@ -1,5 +1,5 @@
 -- A settle from its beginning to its end: what its loops did one after another, and what it answers then.
-use Rattle.std.proofs.Common.{◌≡◌, ◌<◌, ◌≤◌, ◌+◌, ◌++◌, ℕ, zero, suc, true, false, List, [], length, count_by, replicate, Some, None, Result, Ok, Err, IfOk, IfErr, position, sum, append_assoc, refl, ap, sym, ◌∙◌, subst, arith}
+use Rattle.std.proofs.Common.{◌≡◌, ◌<◌, ◌≤◌, ◌+◌, ◌++◌, ℕ, zero, suc, true, false, List, [], length, count_by, replicate, Option, Some, None, Result, Ok, Err, IfOk, IfErr, position, sum, append_assoc, refl, ap, sym, ◌∙◌, subst, arith}
 use Rattle.std.specs.Prelude.{slice_index_or}
 use Rattle.std.specs.List.{list_all, list_any}
 use Rattle.std.proofs.lemmas.List.Quantifiers.{position-Some}
@@ -23,7 +23,7 @@ use Rattle.mc_seq.specs.Draws.{IsScheduled, SettlesByDraws, StopsAtRing, StopsAt
 use Rattle.mc_seq.specs.Places.{Answered, IsInside, IsPlaced, TellsSlot}
 use Rattle.mc_seq.specs.Restless.{IsFirstShifter}
 use Rattle.mc_seq.specs.Retries.{retries_by_box}
-use Rattle.mc_seq.specs.Schedule.{AreDrawn, Goes, IsStill, MakesRound, ScheduleState, all_candidates, first_schedule, is_urgent}
+use Rattle.mc_seq.specs.Schedule.{AreDrawn, Goes, IsStill, MakesRound, ScheduleState, all_candidates, first_schedule, commands_only}
 use Rattle.mc_seq.specs.ShiftLimit.{KeepsShiftLimit}
 use Rattle.mc_seq.specs.declared.fault.SettleFault.{SettleFault}
 use Rattle.mc_seq.specs.declared.fault.SettleFault.TheVariants.{NoMemory, Restless, Ring, VersionEnd}
@@ -204,7 +204,7 @@ stops_restless : (world : WorldState) (batch : List Turn) (state at : ℕ) (last
 stops_restless world batch state at last sound allowed ended =
     let goes = first_goes world batch state last ended.went in
     let ran : run world last.turns ≡ Some last.schedule.world = goes_run ended.went.rounds last.turns (first_schedule world batch state) last.schedule goes in
-    let nothing = subst (λ (l : List Turn). all_candidates last.schedule.world l last.schedule.shifts (is_urgent l last.schedule.since) ≡ []) ended.left ended.none in
+    let nothing = subst (λ (l : List Turn). all_candidates last.schedule.world l last.schedule.shifts (commands_only l last.schedule.since) ≡ []) ended.left ended.none in
     let spent : slice_index_or last.schedule.shifts at 0 ≡ 0 = listed_spent last.schedule.world last.schedule.shifts at nothing ended.first.inside ended.first.can in
     let all : slice_index_or last.schedule.shifts at 0 + count_by (is_shift_of at) last.turns ≡ slice_index_or (replicate (length world.boxes) SHIFT_LIMIT) at 0
     = goes_spent ended.went.rounds last.turns (first_schedule world batch state) last.schedule at (allowed_commands batch world allowed) goes in

@@ -57,23 +57,23 @@ still_got k x same got = ap (λ (l : List Turn). slice_get l k) same ∙ got
 -- ---- what is listed
 
 -- next commands alone
-pub urgent_is : (world : WorldState) (commands : Commands) (urgent : Bool) → AreKeptFor world commands → urgent ≡ true
-    → all_of_two world (commands_left commands) urgent ≡ next_commands (commands_left commands) (length commands.queues.items)
-urgent_is world commands urgent kept is =
+pub urgent_is : (world : WorldState) (commands : Commands) (only_commands : Bool) → AreKeptFor world commands → only_commands ≡ true
+    → all_of_two world (commands_left commands) only_commands ≡ next_commands (commands_left commands) (length commands.queues.items)
+urgent_is world commands only_commands kept is =
     ap (all_of_two world (commands_left commands)) is
     ∙ (each_same (two_candidates world (commands_left commands) true) (command_candidates (commands_left commands)) (length world.boxes) (λ who. append-nil (command_candidates (commands_left commands) who))
     ∙ ap (next_commands (commands_left commands)) (sym kept.boxes))
 
 -- Takes alone, where no command is left
-pub used_up_is : (world : WorldState) (commands : Commands) (urgent : Bool) → AreKeptFor world commands → urgent ≡ false → commands.count ≡ 0 → all_of_two world (commands_left commands) urgent ≡ all_takes world
-used_up_is world commands urgent kept is none =
+pub used_up_is : (world : WorldState) (commands : Commands) (only_commands : Bool) → AreKeptFor world commands → only_commands ≡ false → commands.count ≡ 0 → all_of_two world (commands_left commands) only_commands ≡ all_takes world
+used_up_is world commands only_commands kept is none =
     ap (all_of_two world (commands_left commands)) is
     ∙ (ap (λ (left : List Turn). all_of_two world left false) (empty_is (commands_left commands) (sym kept.kept.counted ∙ none))
     ∙ each_same (two_candidates world [] false) (takes_of world) (length world.boxes) (λ who. refl))
 
 -- or both
-pub calm_is : (world : WorldState) (left : List Turn) (urgent : Bool) → urgent ≡ false → all_of_two world left urgent ≡ all_of_two world left false
-calm_is world left urgent is = ap (all_of_two world left) is
+pub calm_is : (world : WorldState) (left : List Turn) (only_commands : Bool) → only_commands ≡ false → all_of_two world left only_commands ≡ all_of_two world left false
+calm_is world left only_commands is = ap (all_of_two world left) is
 
 -- ---- how many there are
 

@@ -15,7 +15,7 @@ use Rattle.mc_laws.proofs.ShapesKept.{run_keeps_shape}
 use Rattle.mc_laws.proofs.StepKeeps.{run_keeps_sound}
 use Rattle.mc_seq.specs.Draws.{ScheduleSettles}
 use Rattle.mc_seq.specs.Retries.{retries_by_box}
-use Rattle.mc_seq.specs.Schedule.{AreDrawn, Goes, IsStill, MakesRound, ScheduleState, candidates, first_schedule, is_urgent}
+use Rattle.mc_seq.specs.Schedule.{AreDrawn, Goes, IsStill, MakesRound, ScheduleState, candidates, first_schedule, commands_only}
 use Rattle.mc_seq.proofs.AllowedCommands.{all_kept}
 use Rattle.mc_seq.proofs.Candidates.{none_left}
 use Rattle.mc_seq.proofs.Retries.{boxes_besides, once_by_box}
@@ -134,7 +134,7 @@ end_is rounds world batch turns state last sound allowed goes none =
     let ran : run world turns ≡ Some last.world = goes_run rounds turns (first_schedule world batch state) last goes in
     let kept = run_keeps_sound world last.world turns sound ran in
     let still = all_kept last.left world last.world sound kept (run_keeps_shape world last.world turns sound ran) (goes_pass rounds (is_allowed world) turns (first_schedule world batch state) last allowed goes) in
-    let left = none_left last.world last.left last.shifts (is_urgent last.left last.since) still none in
+    let left = none_left last.world last.left last.shifts (commands_only last.left last.since) still none in
     record { sound = kept; left = left; quiet = rested_quiet last kept left none }
 
 -- ---- the last round

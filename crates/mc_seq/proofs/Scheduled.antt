@@ -14,7 +14,7 @@ use Rattle.mc_model.specs.Sound.{IsSound}
 use Rattle.mc_model.specs.Steps.{ends_version, run}
 use Rattle.mc_model.specs.Unprogrammed.{ShiftNone}
 use Rattle.mc_model.specs.Worlds.{WorldState}
-use Rattle.mc_seq.specs.Schedule.{AreDrawn, ScheduleState, candidates, drawn_turn, is_urgent, left_by, all_candidates, next_of, schedule_after, without_next}
+use Rattle.mc_seq.specs.Schedule.{AreDrawn, ScheduleState, candidates, drawn_turn, commands_only, left_by, all_candidates, next_of, schedule_after, without_next}
 use Rattle.mc_seq.proofs.Candidates.{IsListed, drawn_listed, listed_quiet, take_same}
 use Rattle.mc_seq.proofs.AllowedCommands.{left_pass, next_pass}
 use Rattle.mc_seq.proofs.Nexts.{next_first}
@@ -47,9 +47,9 @@ allowed_commands (turn ∷ left) world allowed =
     both_there (is_ordered turn) (list_all is_ordered left) (allowed_parts world turn parts.0).command (allowed_commands left world parts.1)
 
 -- a drawn turn and what is left after it are the commands that were left, box by box
-moved_commands : (world : WorldState) (left : List Turn) (shifts : List ℕ) (urgent : Bool) (turn : Turn) (who : ℕ) → list_all is_ordered left ≡ true → IsListed world left shifts urgent turn
+moved_commands : (world : WorldState) (left : List Turn) (shifts : List ℕ) (only_commands : Bool) (turn : Turn) (who : ℕ) → list_all is_ordered left ≡ true → IsListed world left shifts only_commands turn
     → commands_of who (turn ∷ []) ++ commands_of who (left_by turn left) ≡ commands_of who left
-moved_commands world left shifts urgent turn who all is = elim is [
+moved_commands world left shifts only_commands turn who all is = elim is [
   | inl next ↦
       ap (λ (b : Bool). commands_of who (turn ∷ []) ++ commands_of who (if b then without_next turn.who left else left)) (next_pass is_ordered turn.who left turn all next)
       ∙ next_first left turn who next
@@ -65,7 +65,7 @@ drawn_commands (turn ∷ turns) now last who all draws =
     ap (λ (l : List Turn). l ++ commands_of who last.left) (filter-append (λ (t : Turn). is_command t.event && t.who == who) (turn ∷ []) turns)
     ∙ (append_assoc (commands_of who (turn ∷ [])) (commands_of who turns) (commands_of who last.left)
     ∙ (ap (λ (l : List Turn). commands_of who (turn ∷ []) ++ l) (drawn_commands turns (schedule_after now turn draws.0) last who (left_pass is_ordered turn now.left all) draws.4)
-    ∙ moved_commands now.world now.left now.shifts (is_urgent now.left now.since) turn who all (drawn_listed now turn draws.2)))
+    ∙ moved_commands now.world now.left now.shifts (commands_only now.left now.since) turn who all (drawn_listed now turn draws.2)))
 
 -- ---- where the batch is used up
 
@@ -115,7 +115,7 @@ drawn_undue (turn ∷ turns) now last draws not_due =
 -- nothing is under way where nothing is listed
 pub rested_quiet : (now : ScheduleState) → IsSound now.world → now.left ≡ [] → candidates now ≡ [] → IsTrue (is_quiet now.world)
 rested_quiet now sound left none =
-    listed_quiet now.world now.shifts sound (subst (λ (l : List Turn). all_candidates now.world l now.shifts (is_urgent l now.since) ≡ []) left none)
+    listed_quiet now.world now.shifts sound (subst (λ (l : List Turn). all_candidates now.world l now.shifts (commands_only l now.since) ≡ []) left none)
 
 -- drawn turns after drawn turns
 pub drawn_both : (one two : List Turn) (now next last : ScheduleState) → AreDrawn now one next → AreDrawn next two last → AreDrawn now (one ++ two) last

@@ -18,9 +18,9 @@ use Rattle.mc_laws.proofs.Lowers.{take_lowers, take_stays_free}
 use Rattle.mc_laws.proofs.ShapesKept.{step_keeps_shape}
 use Rattle.mc_laws.proofs.StepKeeps.{step_keeps_sound}
 use Rattle.mc_seq.specs.Drawing.{CameToRest, DrewAll, DrewOnce, DrewTurn, DrewVersionEnd, IsDrawOf, SoFar, RanOut, DrawnSoFar, TriedTurn, TurnMade, drawn_at}
-use Rattle.mc_seq.specs.Schedule.{AreDrawn, MayGo, ScheduleState, candidates, drawn_turn, drawn_place, is_urgent, left_by, all_candidates, next_of, since_by, without_next}
-use Rattle.mc_seq.specs.declared.stopping.Draw.{Draw}
-use Rattle.mc_seq.specs.declared.stopping.Draw.TheVariants.{Drawn, Nothing, Shifted, VersionEnd}
+use Rattle.mc_seq.specs.Schedule.{AreDrawn, MayGo, ScheduleState, candidates, drawn_turn, drawn_place, commands_only, left_by, all_candidates, next_of, since_by, without_next}
+use Rattle.mc_seq.specs.declared.stopping.DrawOutcome.{DrawOutcome}
+use Rattle.mc_seq.specs.declared.stopping.DrawOutcome.TheVariants.{Drawn, Nothing, Shifted, VersionEnd}
 use Rattle.mc_seq.proofs.Candidates.{IsListed, IsTake, IsTakeOrShift, drawn_listed, none_left, take_same}
 use Rattle.mc_seq.proofs.AllowedCommands.{all_kept, left_pass, next_pass}
 use Rattle.mc_seq.proofs.Nexts.{without_less}
@@ -56,7 +56,7 @@ schedule_is {world} {next} {left} {less} {since} {counted} {draws} {state} {shif
     ∙ ap (λ (b : Bool). let s : ScheduleState = record { world = world; left = left; since = since; draws = draws; shifts = shifts; due = b } in s) six))))
 
 -- a turn that was made is called as it is
-pub tried_is : (d : Draw) (old new : SoFar) (turn : Turn) → IsDrawOf turn d → TurnMade old new turn → TriedTurn old new turn d
+pub tried_is : (d : DrawOutcome) (old new : SoFar) (turn : Turn) → IsDrawOf turn d → TurnMade old new turn → TriedTurn old new turn d
 tried_is Drawn old new turn is made = (made, is)
 tried_is Shifted old new turn is made = (made, is)
 tried_is Nothing old new turn is made = absurd (is)
@@ -72,7 +72,7 @@ drew_turn old new draws state turn is moved made = record {
   logged = made.logged;
 }
 
-pub drew_by : (d : Draw) (old new : SoFar) (draws state : ℕ) (turn : Turn) → drawn_turn (drawn_at old draws).schedule ≡ Some turn → state ≡ next_state draws → TriedTurn old new turn d
+pub drew_by : (d : DrawOutcome) (old new : SoFar) (draws state : ℕ) (turn : Turn) → drawn_turn (drawn_at old draws).schedule ≡ Some turn → state ≡ next_state draws → TriedTurn old new turn d
     → DrewOnce (drawn_at old draws) (drawn_at new state) d
 unfolding drew_turn
 drew_by Drawn old new draws state turn is moved tried = (drew_turn old new draws state turn is moved tried.0, tried.1)
@@ -88,7 +88,7 @@ drew_by (VersionEnd at) old new draws state turn is moved tried = record {
 }
 
 -- a turn that was made was drawn, whatever it is
-pub made_by : (d : Draw) (now next : DrawnSoFar) → (d ≡ Drawn) ⊎ (d ≡ Shifted) → DrewOnce now next d → DrewTurn now next
+pub made_by : (d : DrawOutcome) (now next : DrawnSoFar) → (d ≡ Drawn) ⊎ (d ≡ Shifted) → DrewOnce now next d → DrewTurn now next
 made_by Drawn now next is drew = drew.0
 made_by Shifted now next is drew = drew.0
 made_by Nothing now next is drew = elim is [
@@ -103,7 +103,7 @@ made_by (VersionEnd at) now next is drew = elim is [
 -- ---- while commands are left
 
 -- what a drawn turn is
-pub made_listed : (now next : DrawnSoFar) → (made : DrewTurn now next) → IsListed now.schedule.world now.schedule.left now.schedule.shifts (is_urgent now.schedule.left now.schedule.since) made.turn
+pub made_listed : (now next : DrawnSoFar) → (made : DrewTurn now next) → IsListed now.schedule.world now.schedule.left now.schedule.shifts (commands_only now.schedule.left now.schedule.since) made.turn
 made_listed now next made = drawn_listed now.schedule made.turn made.is_drawn
 
 -- a drawn turn leaves a sound world
@@ -165,7 +165,7 @@ take_down turn left since is few =
     (subst (λ (b : Bool). turns_to_come left (if b then since + 1 else since) < turns_to_come left since) (sym few) (lower_take (length left) since (few_by since 63 few)))
 
 -- each listed turn is a command or none
-pub listed_lowers : (world : WorldState) (turn : Turn) (left : List Turn) (shifts : List ℕ) (since : ℕ) → AreAllowed world left → length left ≢ 0 → IsListed world left shifts (is_urgent left since) turn
+pub listed_lowers : (world : WorldState) (turn : Turn) (left : List Turn) (shifts : List ℕ) (since : ℕ) → AreAllowed world left → length left ≢ 0 → IsListed world left shifts (commands_only left since) turn
     → turns_to_come (left_by turn left) (since_by turn since) < turns_to_come left since
 listed_lowers world turn left shifts since allowed some is = elim is [
   | inl next ↦ command_lowers turn left since (allowed_parts world turn (next_pass (is_allowed world) turn.who left turn allowed next)).command next
@@ -181,7 +181,7 @@ made_lowers now next made allowed some =
 
 -- where commands are left, something is listed
 pub some_listed : (now : ScheduleState) → AreAllowed now.world now.left → length now.left ≢ 0 → candidates now ≡ [] → ⊥
-some_listed now allowed some none = some (ap length (none_left now.world now.left now.shifts (is_urgent now.left now.since) allowed none))
+some_listed now allowed some none = some (ap length (none_left now.world now.left now.shifts (commands_only now.left now.since) allowed none))
 
 -- while commands are left a ring stops nothing
 pub left_goes : (now : ScheduleState) → length now.left ≢ 0 → MayGo now
@@ -195,15 +195,15 @@ empty_is (x ∷ xs) is = absurd (omega arith)
 -- ---- where the batch is used up
 
 -- what is listed there is a Take that waits, or a Shift
-other_by : (world : WorldState) (left : List Turn) (shifts : List ℕ) (urgent : Bool) (turn : Turn) → left ≡ [] → IsListed world left shifts urgent turn → IsTakeOrShift world shifts turn
-other_by world left shifts urgent turn none is = elim is [
+other_by : (world : WorldState) (left : List Turn) (shifts : List ℕ) (only_commands : Bool) (turn : Turn) → left ≡ [] → IsListed world left shifts only_commands turn → IsTakeOrShift world shifts turn
+other_by world left shifts only_commands turn none is = elim is [
   | inl next ↦ absurd (let there : next_of turn.who [] ≡ Some turn = subst (λ (l : List Turn). next_of turn.who l ≡ Some turn) none next in cc (there))
   | inr other ↦ other.1
 ]
 
 -- so is what is drawn
 pub drawn_other : (now : ScheduleState) (turn : Turn) → now.left ≡ [] → drawn_turn now ≡ Some turn → IsTakeOrShift now.world now.shifts turn
-drawn_other now turn none is = other_by now.world now.left now.shifts (is_urgent now.left now.since) turn none (drawn_listed now turn is)
+drawn_other now turn none is = other_by now.world now.left now.shifts (commands_only now.left now.since) turn none (drawn_listed now turn is)
 
 -- what is no Shift of the two is a Take
 no_shift : (world : WorldState) (shifts : List ℕ) (turn : Turn) → IsTakeOrShift world shifts turn → is_shift turn.event ≡ false → IsTake world turn
@@ -249,12 +249,12 @@ made_none now next made none =
 -- ---- what is picked
 
 -- a list that code looked at is the list of candidates
-pub list_is : (now : ScheduleState) (list seen looked : List Turn) (spare : List ℕ) (urgent : Bool) → list ≡ all_candidates now.world seen spare urgent → seen ≡ now.left → spare ≡ now.shifts → urgent ≡ is_urgent looked now.since → looked ≡ now.left → list ≡ candidates now
-list_is now list seen looked spare urgent is left shifts by looks =
+pub list_is : (now : ScheduleState) (list seen looked : List Turn) (spare : List ℕ) (only_commands : Bool) → list ≡ all_candidates now.world seen spare only_commands → seen ≡ now.left → spare ≡ now.shifts → only_commands ≡ commands_only looked now.since → looked ≡ now.left → list ≡ candidates now
+list_is now list seen looked spare only_commands is left shifts by looks =
     is
-    ∙ (ap (λ (l : List Turn). all_candidates now.world l spare urgent) left
-    ∙ (ap (λ (l : List ℕ). all_candidates now.world now.left l urgent) shifts
-    ∙ ap (all_candidates now.world now.left now.shifts) (by ∙ ap (λ (l : List Turn). is_urgent l now.since) looks)))
+    ∙ (ap (λ (l : List Turn). all_candidates now.world l spare only_commands) left
+    ∙ (ap (λ (l : List ℕ). all_candidates now.world now.left l only_commands) shifts
+    ∙ ap (all_candidates now.world now.left now.shifts) (by ∙ ap (λ (l : List Turn). commands_only l now.since) looks)))
 
 -- what was picked of it is drawn
 pub picked : (now : ScheduleState) (shown : List Turn) (turn : Turn) → shown ≡ candidates now → slice_get shown (drawn_place now.draws (length shown)) ≡ Some turn → drawn_turn now ≡ Some turn

@@ -14,8 +14,8 @@ use Rattle.mc_seq.specs.Restless.{IsFirstShifter}
 use Rattle.mc_seq.specs.Retries.{retries_by_box}
 use Rattle.mc_seq.specs.Spare.{AreShiftsKept, spare_of}
 use Rattle.mc_seq.specs.declared.drawing.SettleSoFar.{SettleSoFar}
-use Rattle.mc_seq.specs.declared.stopping.Draw.{Draw}
-use Rattle.mc_seq.specs.declared.stopping.Draw.TheVariants.{Drawn, Nothing, Shifted, VersionEnd}
+use Rattle.mc_seq.specs.declared.stopping.DrawOutcome.{DrawOutcome}
+use Rattle.mc_seq.specs.declared.stopping.DrawOutcome.TheVariants.{Drawn, Nothing, Shifted, VersionEnd}
 use Rattle.mc_seq.specs.declared.stopping.SettleStop.{SettleStop}
 use Rattle.mc_seq.specs.declared.stopping.SettleStop.TheVariants as stops
 use Rattle.mc_seq.specs.declared.plain.SettleSoFar.{SettleSoFar as PlainSoFar}
@@ -111,14 +111,14 @@ pub record TurnEnds (old new : SoFar) (turn : Turn) (at : ℕ) : Type 0 where
   pub logged : new.settled.turns.items ≡ old.settled.turns.items
 
 -- what a turn that was made is called
-abbrev pub IsDrawOf : Turn → Draw → Type 0
+abbrev pub IsDrawOf : Turn → DrawOutcome → Type 0
 IsDrawOf turn Drawn = is_shift turn.event ≡ false
 IsDrawOf turn Shifted = is_shift turn.event ≡ true
 IsDrawOf turn Nothing = ⊥
 IsDrawOf turn (VersionEnd at) = ⊥
 
 -- what becomes of a turn
-abbrev pub TriedTurn : SoFar → SoFar → Turn → Draw → Type 0
+abbrev pub TriedTurn : SoFar → SoFar → Turn → DrawOutcome → Type 0
 TriedTurn old new turn Drawn = TurnMade old new turn × (is_shift turn.event ≡ false)
 TriedTurn old new turn Shifted = TurnMade old new turn × (is_shift turn.event ≡ true)
 TriedTurn old new turn Nothing = ⊥
@@ -149,7 +149,7 @@ pub record DrewVersionEnd (old new : DrawnSoFar) (at : ℕ) : Type 0 where
   pub logged : new.turns ≡ old.turns
 
 -- what a draw comes to
-abbrev pub DrewOnce : DrawnSoFar → DrawnSoFar → Draw → Type 0
+abbrev pub DrewOnce : DrawnSoFar → DrawnSoFar → DrawOutcome → Type 0
 DrewOnce old new Drawn = (made : DrewTurn old new) × (is_shift made.turn.event ≡ false)
 DrewOnce old new Shifted = (made : DrewTurn old new) × (is_shift made.turn.event ≡ true)
 DrewOnce old new Nothing = (candidates old.schedule ≡ []) × (new.schedule ≡ old.schedule) × (new.turns ≡ old.turns)

@@ -33,8 +33,9 @@ all_takes world = for_each (takes_of world) (length world.boxes)
 
 -- the candidates of a box without a program: its next command, and then its Takes
 abbrev pub two_candidates : WorldState → List Turn → Bool → ℕ → List Turn
-two_candidates world left urgent who = command_candidates left who ++ (if urgent then [] else takes_of world who)
+two_candidates world left only_commands who =
+    command_candidates left who ++ (if only_commands then [] else takes_of world who)
 
 -- of all boxes, where none has a program
 abbrev pub all_of_two : WorldState → List Turn → Bool → List Turn
-all_of_two world left urgent = for_each (two_candidates world left urgent) (length world.boxes)
+all_of_two world left only_commands = for_each (two_candidates world left only_commands) (length world.boxes)

@@ -72,20 +72,21 @@ abbrev pub shift_of : WorldState → List ℕ → ℕ → List Turn
 shift_of world shifts who = if may_shift world shifts who then shift_turn who ∷ [] else []
 
 -- whether commands alone are listed: some are left, and the last 63 turns were none
-abbrev pub is_urgent : List Turn → ℕ → Bool
-is_urgent left since = not (length left == 0) && not (nat_lt since 63)
+abbrev pub commands_only : List Turn → ℕ → Bool
+commands_only left since = not (length left == 0) && not (nat_lt since 63)
 
 -- the candidates of a box: its next command; then its Takes and its Shift, unless commands alone are listed
 abbrev pub candidates_of : WorldState → List Turn → (shifts : List ℕ) → Bool → ℕ → List Turn
-candidates_of world left shifts urgent who =
-    command_candidates left who ++ (if urgent then [] else takes_of world who ++ shift_of world shifts who)
+candidates_of world left shifts only_commands who =
+    command_candidates left who ++ (if only_commands then [] else takes_of world who ++ shift_of world shifts who)
 
 -- the candidates of all boxes, box by box
 abbrev pub all_candidates : WorldState → List Turn → (shifts : List ℕ) → Bool → List Turn
-all_candidates world left shifts urgent = for_each (candidates_of world left shifts urgent) (length world.boxes)
+all_candidates world left shifts only_commands =
+    for_each (candidates_of world left shifts only_commands) (length world.boxes)
 
 abbrev pub candidates : ScheduleState → List Turn
-candidates now = all_candidates now.world now.left now.shifts (is_urgent now.left now.since)
+candidates now = all_candidates now.world now.left now.shifts (commands_only now.left now.since)
 
 -- ---- a turn
 

@@ -10,7 +10,7 @@ ghost use Rattle.mc_seq.specs.Draws.{SettlesByDraws, StopsByDraws};
 ghost use Rattle.mc_seq.specs.Drawing.{CameTo, DrewOn, DrewOnce, Ended, IsKept, MayCome, Picks, RoundMade, TriedTurn};
 ghost use Rattle.mc_seq.specs.Drawing.{UsedUp, first_drawn, so_far_of, drawn_of};
 ghost use Rattle.mc_seq.specs.Restless.{IsFirstShifterOr};
-ghost use Rattle.mc_seq.specs.Schedule.{is_urgent, left_by, since_by};
+ghost use Rattle.mc_seq.specs.Schedule.{commands_only, left_by, since_by};
 ghost use Rattle.mc_seq.specs.ShiftLimit.{KeepsShiftLimit};
 
 use crate::batches::is_command;
@@ -19,7 +19,7 @@ use crate::fault::SettleFault;
 use crate::finding::{candidate_count, kth};
 use crate::retrying::retry_by_box;
 use crate::shifting::{Shifts, all_shifts, count_programmed, recount_all};
-use crate::stopping::{Draw, SettleStop, answer, first_shifter, heard_slot};
+use crate::stopping::{DrawOutcome, SettleStop, answer, first_shifter, heard_slot};
 use mc_box::Turn;
 use mc_text::Draws;
 use mc_world::{Settled, StepFault, World};
@@ -124,9 +124,9 @@ fn use_up(so_far: &mut SettleSoFar, draws: &mut Draws) -> Result<Option<u32>, Al
     so_far.settled.world.keeps();
     'commands: while so_far.left.count > 0 {
         match draw_once(so_far, draws)? {
-            Draw::Drawn | Draw::Shifted => {}
-            Draw::Nothing => unreachable!(),
-            Draw::VersionEnd(at) => return Ok(Some(at)),
+            DrawOutcome::Drawn | DrawOutcome::Shifted => {}
+            DrawOutcome::Nothing => unreachable!(),
+            DrawOutcome::VersionEnd(at) => return Ok(Some(at)),
         }
     }
     Ok(None)
@@ -214,16 +214,16 @@ fn draw_on(so_far: &mut SettleSoFar, draws: &mut Draws) -> Result<bool, AllocErr
     so_far.settled.world.keeps();
     'takes: loop {
         match draw_once(so_far, draws)? {
-            Draw::Drawn => {}
-            Draw::Shifted => return Ok(true),
-            Draw::Nothing => return Ok(false),
-            Draw::VersionEnd(_) => unreachable!(),
+            DrawOutcome::Drawn => {}
+            DrawOutcome::Shifted => return Ok(true),
+            DrawOutcome::Nothing => return Ok(false),
+            DrawOutcome::VersionEnd(_) => unreachable!(),
         }
     }
 }
 
 // Draws once, where anything is listed, and makes the turn that is drawn.
-fn draw_once(so_far: &mut SettleSoFar, draws: &mut Draws) -> Result<Draw, AllocError>
+fn draw_once(so_far: &mut SettleSoFar, draws: &mut Draws) -> Result<DrawOutcome, AllocError>
     requires allowed { AreAllowed so_far.old.settled.world (commands_left so_far.old.left) }
     requires kept { IsKept so_far.old }
     ensures drew { IfOk result
@@ -233,7 +233,7 @@ fn draw_once(so_far: &mut SettleSoFar, draws: &mut Draws) -> Result<Draw, AllocE
     so_far.settled.world.keeps();
     match pick(so_far, draws) {
         Some(turn) => try_turn(so_far, turn),
-        None => Ok(Draw::Nothing),
+        None => Ok(DrawOutcome::Nothing),
     }
 }
 
@@ -242,8 +242,13 @@ fn pick(so_far: &SettleSoFar, draws: &mut Draws) -> Option<Turn>
     requires { IsKept so_far.now }
     ensures { Picks (drawn_of so_far.now draws.old.state).schedule draws.new.state result }
 {
-    let urgent = is_urgent(&so_far.left, so_far.since);
-    let count = candidate_count(&so_far.settled.world, &so_far.left, &so_far.shifts, urgent);
+    let only_commands = commands_only(&so_far.left, so_far.since);
+    let count = candidate_count(
+        &so_far.settled.world,
+        &so_far.left,
+        &so_far.shifts,
+        only_commands,
+    );
     if count == 0 {
         return None;
     }
@@ -252,7 +257,7 @@ fn pick(so_far: &SettleSoFar, draws: &mut Draws) -> Option<Turn>
         &so_far.settled.world,
         &so_far.left,
         &so_far.shifts,
-        urgent,
+        only_commands,
         k,
     ))
 }
@@ -285,15 +290,15 @@ fn short_modulo(draw: u32, count: u64) -> u64
 }
 
 // Whether commands alone are listed.
-fn is_urgent(left: &Commands, since: u8) -> bool
+fn commands_only(left: &Commands, since: u8) -> bool
     requires { AreKept left.now }
-    ensures { result ≡ is_urgent (commands_left left.now) since }
+    ensures { result ≡ commands_only (commands_left left.now) since }
 {
     left.count != 0 && !(since < 63)
 }
 
 // Makes a turn, unless it ends a version.
-fn try_turn(so_far: &mut SettleSoFar, turn: Turn) -> Result<Draw, AllocError>
+fn try_turn(so_far: &mut SettleSoFar, turn: Turn) -> Result<DrawOutcome, AllocError>
     requires comes { MayCome so_far.old.settled.world turn }
     requires kept { IsKept so_far.old }
     ensures tried { IfOk result (TriedTurn (so_far_of so_far.old) (so_far_of so_far.new) turn) }
@@ -313,7 +318,7 @@ fn try_turn(so_far: &mut SettleSoFar, turn: Turn) -> Result<Draw, AllocError>
             ))
         }
         Err(StepFault::VersionEnd) => {
-            Ok(Draw::VersionEnd(heard_slot(&so_far.settled.world, turn)))
+            Ok(DrawOutcome::VersionEnd(heard_slot(&so_far.settled.world, turn)))
         }
         Err(StepFault::NoMemory(e)) => Err(e),
         Err(StepFault::NotEnabled) => unreachable!(),

@@ -13,42 +13,53 @@ use mc_world::World;
 
 /// How many candidates there are.
 #[inline]
-pub fn candidate_count(world: &World, left: &Commands, shifts: &Option<Shifts>, urgent: bool) -> u64
+pub fn candidate_count(
+    world: &World,
+    left: &Commands,
+    shifts: &Option<Shifts>,
+    only_commands: bool,
+) -> u64
     requires kept { AreKeptFor world.now left.now }
     requires shifts { AreShiftsKept world.now (commands_left left.now) shifts.now }
     ensures { result
-        ≡ length (all_candidates world.now (commands_left left.now) (spare_of world.now shifts.now) urgent) }
+        ≡ length (all_candidates world.now (commands_left left.now) (spare_of world.now shifts.now) only_commands) }
 {
     match shifts {
-        None => count_of_two(world, left, urgent),
-        Some(counted) => count_of_three(world, left, counted, urgent),
+        None => count_of_two(world, left, only_commands),
+        Some(counted) => count_of_three(world, left, counted, only_commands),
     }
 }
 
 /// The k-th candidate.
 #[inline]
-pub fn kth(world: &World, left: &Commands, shifts: &Option<Shifts>, urgent: bool, k: u64) -> Turn
+pub fn kth(
+    world: &World,
+    left: &Commands,
+    shifts: &Option<Shifts>,
+    only_commands: bool,
+    k: u64,
+) -> Turn
     requires kept { AreKeptFor world.now left.now }
     requires shifts { AreShiftsKept world.now (commands_left left.now) shifts.now }
     requires inside { k
-        < length (all_candidates world.now (commands_left left.now) (spare_of world.now shifts.now) urgent) }
-    ensures { slice_get (all_candidates world.now (commands_left left.now) (spare_of world.now shifts.now) urgent) k
+        < length (all_candidates world.now (commands_left left.now) (spare_of world.now shifts.now) only_commands) }
+    ensures { slice_get (all_candidates world.now (commands_left left.now) (spare_of world.now shifts.now) only_commands) k
         ≡ Some result }
 {
     match shifts {
-        None => kth_of_two(world, left, urgent, k),
-        Some(counted) => kth_of_three(world, left, counted, urgent, k),
+        None => kth_of_two(world, left, only_commands, k),
+        Some(counted) => kth_of_three(world, left, counted, only_commands, k),
     }
 }
 
 // ---- where no box has a program
 
 // How many next commands and Takes there are.
-fn count_of_two(world: &World, left: &Commands, urgent: bool) -> u64
+fn count_of_two(world: &World, left: &Commands, only_commands: bool) -> u64
     requires { AreKeptFor world.now left.now }
-    ensures { result ≡ length (all_of_two world.now (commands_left left.now) urgent) }
+    ensures { result ≡ length (all_of_two world.now (commands_left left.now) only_commands) }
 {
-    if urgent {
+    if only_commands {
         return left.next.total();
     }
     let takes = world.takes();
@@ -61,12 +72,12 @@ fn count_of_two(world: &World, left: &Commands, urgent: bool) -> u64
 }
 
 // The k-th of them.
-fn kth_of_two(world: &World, left: &Commands, urgent: bool, k: u64) -> Turn
+fn kth_of_two(world: &World, left: &Commands, only_commands: bool, k: u64) -> Turn
     requires kept { AreKeptFor world.now left.now }
-    requires inside { k < length (all_of_two world.now (commands_left left.now) urgent) }
-    ensures { slice_get (all_of_two world.now (commands_left left.now) urgent) k ≡ Some result }
+    requires inside { k < length (all_of_two world.now (commands_left left.now) only_commands) }
+    ensures { slice_get (all_of_two world.now (commands_left left.now) only_commands) k ≡ Some result }
 {
-    if urgent {
+    if only_commands {
         return kth_command(left, k);
     }
     if left.count == 0 {
@@ -142,12 +153,12 @@ fn kth_take_of(world: &World, who: u32, k: u64) -> Turn
 
 // How many next commands, Takes and Shifts there are.
 #[inline(never)]
-fn count_of_three(world: &World, left: &Commands, shifts: &Shifts, urgent: bool) -> u64
+fn count_of_three(world: &World, left: &Commands, shifts: &Shifts, only_commands: bool) -> u64
     requires kept { AreKeptFor world.now left.now }
     requires shifts { AreShiftsCounted world.now (commands_left left.now) shifts.now }
-    ensures { result ≡ length (all_candidates world.now (commands_left left.now) shifts.now.spare.items urgent) }
+    ensures { result ≡ length (all_candidates world.now (commands_left left.now) shifts.now.spare.items only_commands) }
 {
-    if urgent {
+    if only_commands {
         return left.next.total();
     }
     let takes = world.takes();
@@ -158,14 +169,20 @@ fn count_of_three(world: &World, left: &Commands, shifts: &Shifts, urgent: bool)
 
 // The k-th of them.
 #[inline(never)]
-fn kth_of_three(world: &World, left: &Commands, shifts: &Shifts, urgent: bool, k: u64) -> Turn
+fn kth_of_three(
+    world: &World,
+    left: &Commands,
+    shifts: &Shifts,
+    only_commands: bool,
+    k: u64,
+) -> Turn
     requires kept { AreKeptFor world.now left.now }
     requires shifts { AreShiftsCounted world.now (commands_left left.now) shifts.now }
-    requires inside { k < length (all_candidates world.now (commands_left left.now) shifts.now.spare.items urgent) }
-    ensures { slice_get (all_candidates world.now (commands_left left.now) shifts.now.spare.items urgent) k
+    requires inside { k < length (all_candidates world.now (commands_left left.now) shifts.now.spare.items only_commands) }
+    ensures { slice_get (all_candidates world.now (commands_left left.now) shifts.now.spare.items only_commands) k
         ≡ Some result }
 {
-    if urgent {
+    if only_commands {
         return kth_command(left, k);
     }
     let others = shifts.others.total();

@@ -1,7 +1,7 @@
 // What can come next in a settle by draws.
 
 ghost use Rattle.std.specs.Prelude.{◌≡◌, ◌<◌, ◌++◌, length, OnOk, IfOk};
-ghost use Rattle.mc_seq.specs.Schedule.{all_candidates, candidates_of, is_urgent, next_of};
+ghost use Rattle.mc_seq.specs.Schedule.{all_candidates, candidates_of, commands_only, next_of};
 ghost use Rattle.mc_seq.specs.Schedule.{shift_of, takes_of, waiting_take};
 ghost use Rattle.mc_world.specs.Waiting.{take_waits};
 
@@ -72,17 +72,17 @@ fn list_box(
     world: &World,
     left: &[Turn],
     spare: &[u16],
-    urgent: bool,
+    only_commands: bool,
     who: u32,
     list: &mut Vec<Turn>,
 ) -> Result<(), AllocError>
     requires { who < length world.now.boxes }
-    ensures { OnOk result (list.new.items ≡ list.old.items ++ candidates_of world.now left.now spare.now urgent who) }
+    ensures { OnOk result (list.new.items ≡ list.old.items ++ candidates_of world.now left.now spare.now only_commands who) }
 {
     if let Some(turn) = next_of(who, left) {
         list.push(turn)?;
     }
-    if urgent {
+    if only_commands {
         return Ok(());
     }
     list_takes(world, who, list)?;
@@ -95,21 +95,21 @@ pub fn all_candidates(
     world: &World,
     left: &[Turn],
     spare: &[u16],
-    urgent: bool,
+    only_commands: bool,
 ) -> Result<Vec<Turn>, AllocError>
-    ensures { IfOk result (λ list. list.items ≡ all_candidates world.now left.now spare.now urgent) }
+    ensures { IfOk result (λ list. list.items ≡ all_candidates world.now left.now spare.now only_commands) }
 {
     world.keeps();
     let mut list = Vec::new(alloc);
     for who in 0..world.boxes().len() {
-        list_box(world, left, spare, urgent, who as u32, &mut list)?;
+        list_box(world, left, spare, only_commands, who as u32, &mut list)?;
     }
     Ok(list)
 }
 
 // Whether commands alone are listed.
-pub fn is_urgent(left: &[Turn], since: u8) -> bool
-    ensures { result ≡ is_urgent left.now since }
+pub fn commands_only(left: &[Turn], since: u8) -> bool
+    ensures { result ≡ commands_only left.now since }
 {
     !left.is_empty() && !(since < 63)
 }

@@ -14,10 +14,10 @@ ghost use Rattle.mc_seq.specs.ShiftLimit.{KeepsShiftLimit};
 
 use crate::batches::is_command;
 use crate::fault::SettleFault;
-use crate::listing::{all_candidates, is_urgent};
+use crate::listing::{all_candidates, commands_only};
 use crate::retrying::retry_by_box;
 use crate::shifting::count_shift;
-use crate::stopping::{Draw, SettleStop, answer, first_shifter, heard_slot};
+use crate::stopping::{DrawOutcome, SettleStop, answer, first_shifter, heard_slot};
 use mc_box::Turn;
 use mc_box::limit::SHIFT_LIMIT;
 use mc_text::Draws;
@@ -122,9 +122,9 @@ fn use_up(
     so_far.settled.world.keeps();
     'commands: while !is_used_up(&so_far.left) {
         match draw_once(alloc, so_far, draws)? {
-            Draw::Drawn | Draw::Shifted => {}
-            Draw::Nothing => unreachable!(),
-            Draw::VersionEnd(at) => return Ok(Some(at)),
+            DrawOutcome::Drawn | DrawOutcome::Shifted => {}
+            DrawOutcome::Nothing => unreachable!(),
+            DrawOutcome::VersionEnd(at) => return Ok(Some(at)),
         }
     }
     Ok(None)
@@ -198,31 +198,35 @@ fn draw_on(alloc: Global, so_far: &mut SettleSoFar, draws: &mut Draws) -> Result
     so_far.settled.world.keeps();
     'takes: loop {
         match draw_once(alloc, so_far, draws)? {
-            Draw::Drawn => {}
-            Draw::Shifted => return Ok(true),
-            Draw::Nothing => return Ok(false),
-            Draw::VersionEnd(_) => unreachable!(),
+            DrawOutcome::Drawn => {}
+            DrawOutcome::Shifted => return Ok(true),
+            DrawOutcome::Nothing => return Ok(false),
+            DrawOutcome::VersionEnd(_) => unreachable!(),
         }
     }
 }
 
 // Draws once, where anything is listed, and makes the turn that is drawn.
-fn draw_once(alloc: Global, so_far: &mut SettleSoFar, draws: &mut Draws) -> Result<Draw, AllocError>
+fn draw_once(
+    alloc: Global,
+    so_far: &mut SettleSoFar,
+    draws: &mut Draws,
+) -> Result<DrawOutcome, AllocError>
     requires { AreAllowed so_far.old.settled.world so_far.old.left.items }
     ensures { IfOk result
         (DrewOnce (plain_drawn so_far.old draws.old.state) (plain_drawn so_far.new draws.new.state)) }
 {
     so_far.settled.world.keeps();
-    let urgent = is_urgent(&so_far.left, so_far.since);
+    let only_commands = commands_only(&so_far.left, so_far.since);
     let list = all_candidates(
         alloc,
         &so_far.settled.world,
         &so_far.left,
         &so_far.spare,
-        urgent,
+        only_commands,
     )?;
     if list.is_empty() {
-        return Ok(Draw::Nothing);
+        return Ok(DrawOutcome::Nothing);
     }
     let turn = pick(&list, draws);
     try_turn(so_far, turn)
@@ -239,7 +243,7 @@ fn pick(list: &[Turn], draws: &mut Draws) -> Turn
 }
 
 // Makes a turn, unless it ends a version.
-fn try_turn(so_far: &mut SettleSoFar, turn: Turn) -> Result<Draw, AllocError>
+fn try_turn(so_far: &mut SettleSoFar, turn: Turn) -> Result<DrawOutcome, AllocError>
     requires { MayCome so_far.old.settled.world turn }
     ensures { IfOk result (TriedTurn (plain_so_far so_far.old) (plain_so_far so_far.new) turn) }
 {
@@ -250,7 +254,7 @@ fn try_turn(so_far: &mut SettleSoFar, turn: Turn) -> Result<Draw, AllocError>
             Ok(count_shift(&mut so_far.spare, &mut so_far.due, turn))
         }
         Err(StepFault::VersionEnd) => {
-            Ok(Draw::VersionEnd(heard_slot(&so_far.settled.world, turn)))
+            Ok(DrawOutcome::VersionEnd(heard_slot(&so_far.settled.world, turn)))
         }
         Err(StepFault::NoMemory(e)) => Err(e),
         Err(StepFault::NotEnabled) => unreachable!(),

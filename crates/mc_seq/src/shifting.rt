@@ -11,7 +11,7 @@ ghost use Rattle.mc_seq.specs.Spare.{all_spare, others_of, spare_of};
 
 use crate::batches::has_programs;
 use crate::commands::{Commands, next_command};
-use crate::stopping::Draw;
+use crate::stopping::DrawOutcome;
 use mc_box::limit::SHIFT_LIMIT;
 use mc_box::{Event, Turn};
 use mc_sums::Sums;
@@ -104,7 +104,7 @@ pub fn count_programmed(
     world: &World,
     left: &Commands,
     turn: Turn,
-) -> Draw
+) -> DrawOutcome
     requires kept { AreKeptFor world.now left.now }
     requires but { AreKeptBut world.now (commands_left left.now) shifts.old turn }
     ensures kept { AreShiftsKept world.now (commands_left left.now) shifts.new }
@@ -113,7 +113,7 @@ pub fn count_programmed(
     ensures draw { IsDrawOf turn result }
 {
     match shifts {
-        None => Draw::Drawn,
+        None => DrawOutcome::Drawn,
         Some(counted) => count_among(counted, due, world, left, turn),
     }
 }
@@ -126,7 +126,7 @@ fn count_among(
     world: &World,
     left: &Commands,
     turn: Turn,
-) -> Draw
+) -> DrawOutcome
     requires kept { AreKeptFor world.now left.now }
     requires but { AreCountedBut world.now (commands_left left.now) shifts.old turn.who }
     ensures kept { AreShiftsCounted world.now (commands_left left.now) shifts.new }
@@ -140,7 +140,7 @@ fn count_among(
 }
 
 // A Shift is one of those that its box may make, and makes a round of retries due.
-pub fn count_shift(spare: &mut Vec<u16>, due: &mut bool, turn: Turn) -> Draw
+pub fn count_shift(spare: &mut Vec<u16>, due: &mut bool, turn: Turn) -> DrawOutcome
     ensures spare { spare.new.items ≡ shifts_by turn spare.old.items }
     ensures due { due.new ≡ due_after turn due.old }
     ensures draw { IsDrawOf turn result }
@@ -148,9 +148,9 @@ pub fn count_shift(spare: &mut Vec<u16>, due: &mut bool, turn: Turn) -> Draw
     if is_shift(turn.event) {
         lower_spare(spare, turn.who);
         *due = true;
-        return Draw::Shifted;
+        return DrawOutcome::Shifted;
     }
-    Draw::Drawn
+    DrawOutcome::Drawn
 }
 
 // Whether an event is a Shift.

@@ -13,7 +13,7 @@ use mc_world::{Settled, World};
 
 // What a draw comes to.
 #[derive(Clone, Copy)]
-pub enum Draw {
+pub enum DrawOutcome {
     // A turn was drawn, and made; it was no Shift.
     Drawn,
     // A Shift was drawn, and made.
