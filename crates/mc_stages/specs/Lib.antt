@@ -1,0 +1,4 @@
+pub mod Growing
+pub mod Plans
+pub mod StageLaws
+pub mod StageRuns
