@@ -1,22 +1,34 @@
--- What is known of a network between two settles.
-use Rattle.std.proofs.Common.{◌≡◌, ◌<◌, ◌≤◌, inl, inr, ℕ, Bool, true, false, IsTrue, Some, List, length, get_or, slice_get, sym, ◌∙◌, subst, arith, true≢false}
-use Rattle.std.proofs.lemmas.Bool.{cases_lt}
-use Rattle.std.proofs.lemmas.Grind.{common_steps}
-use Rattle.mc_box.specs.declared.limit.TheConstants.{SHIFT_LIMIT}
-use Rattle.mc_part.specs.Parts.{shifts_of}
-use Rattle.mc_part.specs.Phases.{EachOf}
+-- What is known of a network within a settle and between two.
+use Rattle.std.proofs.Common.{◌≡◌, ◌<◌, ◌||◌, ℕ, Bool, true, false, IsTrue, Some, List, length, slice_get, drop, get_or, refl, ap, sym, ◌∙◌, subst, arith, Vec, Global}
+use Rattle.std.specs.List.{AllByRecursion}
+use Rattle.std.specs.Vec.{with_items}
+use Rattle.std.proofs.lemmas.List.{with_items_is}
+use Rattle.std.proofs.lemmas.Option.{slice_get_within}
+use Rattle.mc_box.specs.declared.event.Event.{Event}
+use Rattle.mc_box.specs.declared.event.Turn.{Turn}
+use Rattle.mc_model.specs.Paths.{has_ring}
+use Rattle.mc_model.specs.Shapes.{is_allowed}
+use Rattle.mc_model.specs.Worlds.{WorldState}
+use Rattle.mc_part.specs.Cuts.{home_at}
+use Rattle.mc_part.specs.Knowing.{OwesNone}
+use Rattle.mc_part.specs.Parts.{IsWithin, shifts_of, stimuli_of}
+use Rattle.mc_part.specs.Phases.{EachChanged, EachOf, IsKnown}
+use Rattle.mc_part.specs.Running.{AreCalm}
+use Rattle.mc_part.specs.declared.part.Part.{Part}
 use Rattle.mc_part.specs.declared.part_run.PartRun.{PartRun}
-use Rattle.mc_network.specs.Commanding.{HasNoShifts, HasSpare}
-use Rattle.mc_network.specs.Networks.{IsCutNetwork, network_state}
-use Rattle.mc_network.specs.States.{HoldsOf, NetworkState}
+use Rattle.mc_network.specs.Commanding.{AreRecommanded, HasNoShifts, HasNoneOwed, IsKnownAnew}
+use Rattle.mc_network.specs.Networks.{IsCutNetwork, network_state, world_in}
+use Rattle.mc_network.specs.States.{NoneOwes, no_shifts, no_stimuli}
 use Rattle.mc_network.specs.declared.network.CutNetwork.{CutNetwork}
-use Rattle.mc_network.specs.declared.network.Known.{Known}
-use Rattle.mc_network.specs.declared.network.TheConstants.{NOTHING_KNOWN}
-use Rattle.mc_network.proofs.Progressed.{number_of, shifts_at}
+use Rattle.mc_network.proofs.PartsBy.{run_there}
+use Rattle.mc_network.proofs.Progressed.{home_of, shifts_at}
+use Rattle.mc_network.proofs.Recommanded.{cut_same, world_same}
+use Rattle.mc_network.proofs.Swapped.{maps_same}
+use Rattle.mc_network.proofs.Working.{owed_at}
 
--- another thing is known
-pub known_else : (n : CutNetwork) (known : Known) → IsCutNetwork n → HoldsOf known (network_state n) → IsCutNetwork (record n { known = known })
-known_else n known cut holds = record {
+-- no slot stands on a ring
+pub free_now : (n : CutNetwork) → IsCutNetwork n → has_ring (world_in n) ≡ false → IsCutNetwork (record n { free = true })
+free_now n cut free = record {
   frame = cut.frame;
   few = cut.few;
   some = cut.some;
@@ -35,23 +47,107 @@ known_else n known cut holds = record {
   idle = cut.idle;
   calm = cut.calm;
   sound = cut.sound;
-  known = holds;
+  free = λ on. free;
 }
 
--- ---- counts of Shifts
+-- ---- the parts as they are read
 
-past_counts : (counts : List ℕ) (who : ℕ) → length counts ≤ who → get_or counts who 0 ≡ 0
-past_counts counts who past = grind (arith, common_steps)
+pub known_as : (n : CutNetwork) (read : List PartRun) → IsCutNetwork n → read ≡ n.runs.items → EachOf IsKnown read
+known_as n read cut is = subst (λ (l : List PartRun). EachOf IsKnown l) (sym is) (λ i run there. (cut.idle i run there).known)
 
--- where no box has made a Shift, none of a part has
-pub no_shifts_in : (n : CutNetwork) → IsCutNetwork n → ((who : ℕ) → (network_state n).shifts who ≡ 0) → EachOf HasNoShifts n.runs.items
-no_shifts_in n cut none i run there who = elim (cases_lt who (length run.part.engine.boxes)) [
-  | inl here ↦ let number = number_of n cut i who run there here in sym (shifts_at n number.who i who run cut number.home) ∙ none number.who
-  | inr past ↦ let counts = (cut.idle i run there).within.counts in past_counts run.part.shifts.items who (omega (arith, past, counts))
-]
+-- where no box of any part has made a Shift, none has
+pub none_shifted : (n : CutNetwork) (read : List PartRun) → IsCutNetwork n → read ≡ n.runs.items → EachOf HasNoShifts read
+    → (who : ℕ) → (network_state n).shifts who ≡ 0
+none_shifted n read cut is none who =
+    let home = home_of n cut who in
+    shifts_at n who (home_at n.assigned.items who).0 (home_at n.assigned.items who).1 home.0 cut home.1
+    ∙ none (home_at n.assigned.items who).0 home.0
+    (ap (λ (l : List PartRun). slice_get l (home_at n.assigned.items who).0) is ∙ home.1.there)
+    (home_at n.assigned.items who).1
 
-pub unshifted_as : (n : CutNetwork) (read : List PartRun) → IsCutNetwork n → read ≡ n.runs.items → IsTrue n.known.unshifted → EachOf HasNoShifts read
-unshifted_as n read cut is unshifted = subst (λ (l : List PartRun). EachOf HasNoShifts l) (sym is) (no_shifts_in n cut (cut.known.shifts unshifted))
+-- and no slot owes a retry where none of any part does
+none_owed_in : (n : CutNetwork) → IsCutNetwork n → EachOf HasNoneOwed n.runs.items → NoneOwes (network_state n)
+none_owed_in n cut none who local =
+    let home = home_of n cut who in
+    sym (owed_at n cut who local)
+    ∙ none (home_at n.assigned.items who).0 home.0 home.1.there (home_at n.assigned.items who).1 local
 
-pub spare_of : (runs : List PartRun) → EachOf HasNoShifts runs → EachOf HasSpare runs
-spare_of runs none i run there who = let zero_is : shifts_of run.part who ≡ 0 = none i run there who in omega (arith, zero_is)
+-- ---- parts that were looked over
+
+looked_over : (n : CutNetwork) (runs : Vec PartRun Global) → EachChanged IsKnownAnew n.runs.items runs.items → AreRecommanded n.runs.items runs.items
+looked_over n runs looks = record {
+  count = looks.count;
+  each = λ i a b p q.
+      let part : b.part ≡ a.part = ap (λ (r : PartRun). r.part) (looks.each i a b p q).kept in
+      record {
+        engine = ap (λ (q : Part). q.engine) part;
+        ports = ap (λ (q : Part). q.ports) part;
+        log = ap (λ (q : Part). q.log) part;
+        stamp = ap (λ (q : Part). q.stamp) part;
+        heard = ap (λ (q : Part). q.heard) part;
+      };
+}
+
+before : (n : CutNetwork) (runs : Vec PartRun Global) → EachChanged IsKnownAnew n.runs.items runs.items → (i : ℕ) (b : PartRun)
+    → slice_get runs.items i ≡ Some b → (a : PartRun) × ((slice_get n.runs.items i ≡ Some a) × (b.part ≡ a.part))
+before n runs looks i b there =
+    let a = run_there n.runs.items i (subst (λ (k : ℕ). i < k) looks.count (slice_get_within runs.items i b there)) in
+    (a.0, (a.1, ap (λ (r : PartRun). r.part) (looks.each i a.0 b a.1 there).kept))
+
+pub looked_cut : (n : CutNetwork) (runs : Vec PartRun Global) → IsCutNetwork n → EachChanged IsKnownAnew n.runs.items runs.items
+    → IsCutNetwork (record n { runs = runs })
+looked_cut n runs cut looks =
+    cut_same n runs n.calm cut (looked_over n runs looks) (record {
+      within = λ i b there.
+          let a = before n runs looks i b there in subst (λ (q : Part). IsWithin q) (sym a.1.1) (cut.idle i a.0 a.1.0).within;
+      allowed = λ i b there.
+          let a = before n runs looks i b there in
+          subst (λ (q : Part). AllByRecursion (λ (turn : Turn). IsTrue (is_allowed q.engine turn)) (drop q.used q.commands.items))
+          (sym a.1.1) (cut.idle i a.0 a.1.0).allowed;
+      calm_is = λ on i b there.
+          let a = before n runs looks i b there in subst (λ (q : Part). AreCalm q) (sym a.1.1) (cut.calm on i a.0 a.1.0);
+      known = λ i b there.
+          let a = before n runs looks i b there in (looks.each i a.0 b a.1.0 there).known;
+    })
+
+pub looked_state : (n : CutNetwork) (runs : Vec PartRun Global) → EachChanged IsKnownAnew n.runs.items runs.items
+    → network_state (record n { runs = runs }) ≡ network_state n
+looked_state n runs looks =
+    let m : CutNetwork = record n { runs = runs } in
+    let world : world_in m ≡ world_in n = world_same n runs n.calm (looked_over n runs looks) in
+    let stimuli : (network_state m).stimuli ≡ (network_state n).stimuli =
+    ap (λ (l : List (ℕ → List Event)). λ (who : ℕ). get_or l (home_at n.assigned.items who).0 no_stimuli (home_at n.assigned.items who).1)
+    (maps_same (λ (run : PartRun). stimuli_of run.part) (λ (run : PartRun). stimuli_of run.part) runs.items n.runs.items looks.count
+    (λ i b a q p. ap (λ (r : PartRun). stimuli_of r.part) (looks.each i a b p q).kept)) in
+    let shifts : (network_state m).shifts ≡ (network_state n).shifts =
+    ap (λ (l : List (ℕ → ℕ)). λ (who : ℕ). get_or l (home_at n.assigned.items who).0 no_shifts (home_at n.assigned.items who).1)
+    (maps_same (λ (run : PartRun). shifts_of run.part) (λ (run : PartRun). shifts_of run.part) runs.items n.runs.items looks.count
+    (λ i b a q p. ap (λ (r : PartRun). shifts_of r.part) (looks.each i a b p q).kept)) in
+    ap (λ (w : WorldState). record { world = w; stimuli = (network_state m).stimuli; shifts = (network_state m).shifts }) world
+    ∙ (ap (λ (f : ℕ → List Event). record { world = world_in n; stimuli = f; shifts = (network_state m).shifts }) stimuli
+    ∙ ap (λ (f : ℕ → ℕ). record { world = world_in n; stimuli = (network_state n).stimuli; shifts = f }) shifts)
+
+pub read_new : (n : CutNetwork) (read new : List PartRun) → read ≡ n.runs.items → EachChanged IsKnownAnew read new
+    → (with_items n.runs new).items ≡ new
+read_new n read new is looks =
+    with_items_is n.runs new (looks.count ∙ (ap (λ (l : List PartRun). length l) is ∙ sym n.runs.ok.0))
+
+pub looked_vec : (n : CutNetwork) (read new : List PartRun) → read ≡ n.runs.items → EachChanged IsKnownAnew read new
+    → EachChanged IsKnownAnew n.runs.items (with_items n.runs new).items
+looked_vec n read new is looks =
+    subst (λ (l : List PartRun). EachChanged IsKnownAnew n.runs.items l)
+    (sym (read_new n read new is looks)) (subst (λ (l : List PartRun). EachChanged IsKnownAnew l new) is looks)
+
+pub known_anew : (old new : List PartRun) → EachChanged IsKnownAnew old new → EachOf IsKnown new
+known_anew old new looks i b there =
+    let a = run_there old i (subst (λ (k : ℕ). i < k) looks.count (slice_get_within new i b there)) in
+    (looks.each i a.0 b a.1 there).known
+
+pub none_owed_by : (n : CutNetwork) (read new : List PartRun) → IsCutNetwork n → read ≡ n.runs.items → EachChanged IsKnownAnew read new
+    → EachOf HasNoneOwed new → NoneOwes (network_state n)
+none_owed_by n read new cut is looks none =
+    none_owed_in n cut (λ i a there.
+    let below : i < length new = subst (λ (k : ℕ). i < k) (sym (looks.count ∙ ap (λ (l : List PartRun). length l) is)) (slice_get_within n.runs.items i a there) in
+    let b = run_there new i below in
+    let same : b.0.part ≡ a.part = ap (λ (r : PartRun). r.part) (looks.each i a b.0 (ap (λ (l : List PartRun). slice_get l i) is ∙ there) b.1).kept in
+    subst (λ (q : Part). (who : ℕ) → OwesNone q.engine who) same (none i b.0 b.1))

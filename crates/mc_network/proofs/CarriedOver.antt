@@ -14,10 +14,10 @@ use Rattle.mc_network.proofs.Lists.{get_other, one_of, same_or_not, set_apart, s
 -- ---- runs
 
 pub same_run : (a : PartRun) → IsSameRun a a
-same_run a = record { part = as_before a.part; active = refl; ended = refl }
+same_run a = record { part = as_before a.part; active = refl; ended = refl; known = refl }
 
 pub same_run_on : (a b c : PartRun) → IsSameRun a b → IsSameRun b c → IsSameRun a c
-same_run_on a b c one two = record { part = as_before_on a.part b.part c.part one.part two.part; active = two.active ∙ one.active; ended = two.ended ∙ one.ended }
+same_run_on a b c one two = record { part = as_before_on a.part b.part c.part one.part two.part; active = two.active ∙ one.active; ended = two.ended ∙ one.ended; known = two.known ∙ one.known }
 
 pub runs_both : (from from_2 to to_2 : PartRun) (s t : ℕ) (from_1 to_1 : Part) → CarriesAll from.part from_1 to.part to_1 s t → CarriesAll to_1 to_2.part from_1 from_2.part t s
     → from_2 ≡ record from { part = from_2.part } → to_2 ≡ record to { part = to_2.part } → CarriesBoth from from_2 to to_2 s t
@@ -26,8 +26,8 @@ runs_both from from_2 to to_2 s t from_1 to_1 one two kept kept_2 =
     record {
       there = both.there;
       back = both.back;
-      from_same = record { part = both.from_same; active = ap (λ (r : PartRun). r.active) kept; ended = ap (λ (r : PartRun). r.ended) kept };
-      to_same = record { part = both.to_same; active = ap (λ (r : PartRun). r.active) kept_2; ended = ap (λ (r : PartRun). r.ended) kept_2 };
+      from_same = record { part = both.from_same; active = ap (λ (r : PartRun). r.active) kept; ended = ap (λ (r : PartRun). r.ended) kept; known = ap (λ (r : PartRun). r.known) kept };
+      to_same = record { part = both.to_same; active = ap (λ (r : PartRun). r.active) kept_2; ended = ap (λ (r : PartRun). r.ended) kept_2; known = ap (λ (r : PartRun). r.known) kept_2 };
       from_others = both.from_others;
       to_others = both.to_others;
     }

@@ -20,6 +20,7 @@ use Rattle.mc_model.specs.Shapes.{is_allowed}
 use Rattle.mc_model.specs.Worlds.{WorldState, box_at}
 use Rattle.mc_part.specs.Parts.{IsWithin, events_for, shifts_of, state_of, stimuli_of}
 use Rattle.mc_merge.specs.Account.{PartState}
+use Rattle.mc_part.specs.Phases.{IsKnown}
 use Rattle.mc_part.specs.Running.{AreCalm}
 use Rattle.mc_part.specs.declared.part.Part.{Part}
 use Rattle.mc_part.specs.declared.part_run.PartRun.{PartRun}
@@ -27,11 +28,11 @@ use Rattle.mc_network.specs.Commanding.{AddsAt, AreRecommanded, HasAdded, IsReco
 use Rattle.mc_network.specs.Networks.{IsCutNetwork, IsIdle, network_state, states_among, turn_budget, world_in}
 use Rattle.mc_network.specs.States.{NetworkState, with_command}
 use Rattle.mc_network.specs.declared.network.CutNetwork.{CutNetwork}
-use Rattle.mc_network.specs.declared.network.TheConstants.{NOTHING_KNOWN}
 use Rattle.mc_network.proofs.Lists.{get_other, on_ok, one_of, same_or_not, set_here, set_length}
 use Rattle.mc_network.proofs.NetworkBoxes.{base_count, box_count, state_there}
 use Rattle.mc_network.proofs.Progressed.{box_is, home_of, shifts_at, stimuli_at}
 use Rattle.mc_network.proofs.Recommanded.{cut_same, world_same}
+use Rattle.mc_network.proofs.StillKnown.{still_known}
 
 -- ---- lists
 
@@ -116,7 +117,7 @@ either old new p more adds i c is = elim (same_or_not i p) [
 pub added_cut : (n : CutNetwork) (runs : Vec PartRun Global) (p : ℕ) (more : List Turn) → IsCutNetwork n
     → (adds : AddsAt n.runs.items runs.items p more)
     → AllByRecursion (λ (turn : Turn). IsTrue (is_allowed adds.a.part.engine turn)) more
-    → IsCutNetwork (record n { runs = runs; known = NOTHING_KNOWN })
+    → IsCutNetwork (record n { runs = runs })
 added_cut n runs p more cut adds allowed =
     let idle : IsIdle (turn_budget (length n.runs.items)) adds.a = cut.idle p adds.a adds.there in
     let engine : adds.b.part.engine ≡ adds.a.part.engine = ap (λ (q : Part). q.engine) adds.added.kept in
@@ -142,6 +143,12 @@ added_cut n runs p more cut adds allowed =
             subst (λ (x : PartRun). AreCalm x.part) (sym is)
             (calm_same adds.a.part adds.b.part more adds.added (cut.calm on p adds.a adds.there))
         | is_other apart was ↦ cut.calm on i c was
+      ];
+      known = λ i c there. elim (either n.runs.items runs.items p more adds i c there) [
+        | is_added same is ↦ subst (λ (x : PartRun). IsKnown x) (sym is) (still_known adds.a adds.b
+            (ap (λ (q : Part). q.engine.boxes) adds.added.kept) (ap (λ (q : Part). q.shifts) adds.added.kept)
+            (ap (λ (r : PartRun). r.known) adds.run) idle.known)
+        | is_other apart was ↦ (cut.idle i c was).known
       ];
     })
 
@@ -228,12 +235,12 @@ no_more test event is = ap (λ (b : Bool). (if b then event ∷ [] else []) ++ [
 
 -- the commands of each box, where one gets more
 stimuli_by : (n : CutNetwork) (runs : Vec PartRun Global) (turn : Turn) (who : ℕ) → IsCutNetwork n
-    → IsCutNetwork (record n { runs = runs; known = NOTHING_KNOWN }) → turn.who < length n.assigned.items
+    → IsCutNetwork (record n { runs = runs }) → turn.who < length n.assigned.items
     → AddsAt n.runs.items runs.items (home_at n.assigned.items turn.who).0 (command_at n.assigned.items turn ∷ [])
-    → (network_state (record n { runs = runs; known = NOTHING_KNOWN })).stimuli who
+    → (network_state (record n { runs = runs })).stimuli who
     ≡ (network_state n).stimuli who ++ (if turn.who == who then turn.event ∷ [] else [])
 stimuli_by n runs turn who cut new inside adds =
-    let m : CutNetwork = record n { runs = runs; known = NOTHING_KNOWN } in
+    let m : CutNetwork = record n { runs = runs } in
     let assigned = n.assigned.items in
     let old = home_of n cut who in
     let home = home_of m new who in
@@ -282,10 +289,10 @@ stimuli_by n runs turn who cut new inside adds =
 
 -- and where none does
 stimuli_kept : (n : CutNetwork) (runs : Vec PartRun Global) (p who : ℕ) → IsCutNetwork n
-    → IsCutNetwork (record n { runs = runs; known = NOTHING_KNOWN }) → AddsAt n.runs.items runs.items p []
-    → (network_state (record n { runs = runs; known = NOTHING_KNOWN })).stimuli who ≡ (network_state n).stimuli who
+    → IsCutNetwork (record n { runs = runs }) → AddsAt n.runs.items runs.items p []
+    → (network_state (record n { runs = runs })).stimuli who ≡ (network_state n).stimuli who
 stimuli_kept n runs p who cut new adds =
-    let m : CutNetwork = record n { runs = runs; known = NOTHING_KNOWN } in
+    let m : CutNetwork = record n { runs = runs } in
     let assigned = n.assigned.items in
     let old = home_of n cut who in
     let home = home_of m new who in
@@ -310,10 +317,10 @@ stimuli_kept n runs p who cut new adds =
 
 -- Shifts stay in any case
 shifts_kept : (n : CutNetwork) (runs : Vec PartRun Global) (p who : ℕ) (more : List Turn) → IsCutNetwork n
-    → IsCutNetwork (record n { runs = runs; known = NOTHING_KNOWN }) → AddsAt n.runs.items runs.items p more
-    → (network_state (record n { runs = runs; known = NOTHING_KNOWN })).shifts who ≡ (network_state n).shifts who
+    → IsCutNetwork (record n { runs = runs }) → AddsAt n.runs.items runs.items p more
+    → (network_state (record n { runs = runs })).shifts who ≡ (network_state n).shifts who
 shifts_kept n runs p who more cut new adds =
-    let m : CutNetwork = record n { runs = runs; known = NOTHING_KNOWN } in
+    let m : CutNetwork = record n { runs = runs } in
     let assigned = n.assigned.items in
     let old = home_of n cut who in
     let home = home_of m new who in
@@ -343,23 +350,23 @@ state_is a b world stimuli shifts =
 
 -- with a command more
 pub added_state : (n : CutNetwork) (runs : Vec PartRun Global) (turn : Turn) → IsCutNetwork n
-    → IsCutNetwork (record n { runs = runs; known = NOTHING_KNOWN }) → turn.who < length n.assigned.items
+    → IsCutNetwork (record n { runs = runs }) → turn.who < length n.assigned.items
     → AddsAt n.runs.items runs.items (home_at n.assigned.items turn.who).0 (command_at n.assigned.items turn ∷ [])
-    → network_state (record n { runs = runs; known = NOTHING_KNOWN }) ≡ with_command (network_state n) turn
+    → network_state (record n { runs = runs }) ≡ with_command (network_state n) turn
 added_state n runs turn cut new inside adds =
     let p : ℕ = (home_at n.assigned.items turn.who).0 in
     let more : List Turn = command_at n.assigned.items turn ∷ [] in
-    state_is (network_state (record n { runs = runs; known = NOTHING_KNOWN })) (with_command (network_state n) turn)
+    state_is (network_state (record n { runs = runs })) (with_command (network_state n) turn)
     (world_same n runs n.calm (recommands n.runs.items runs.items p more adds))
     (fun_ext (λ who. stimuli_by n runs turn who cut new inside adds))
     (fun_ext (λ who. shifts_kept n runs p who more cut new adds))
 
 -- or as it was
 pub kept_state : (n : CutNetwork) (runs : Vec PartRun Global) (p : ℕ) → IsCutNetwork n
-    → IsCutNetwork (record n { runs = runs; known = NOTHING_KNOWN }) → AddsAt n.runs.items runs.items p []
-    → network_state (record n { runs = runs; known = NOTHING_KNOWN }) ≡ network_state n
+    → IsCutNetwork (record n { runs = runs }) → AddsAt n.runs.items runs.items p []
+    → network_state (record n { runs = runs }) ≡ network_state n
 kept_state n runs p cut new adds =
-    state_is (network_state (record n { runs = runs; known = NOTHING_KNOWN })) (network_state n)
+    state_is (network_state (record n { runs = runs })) (network_state n)
     (world_same n runs n.calm (recommands n.runs.items runs.items p [] adds))
     (fun_ext (λ who. stimuli_kept n runs p who cut new adds))
     (fun_ext (λ who. shifts_kept n runs p who [] cut new adds))
@@ -449,7 +456,7 @@ pub cut_after : (n : CutNetwork) (runs : Vec PartRun Global) (turn : Turn) (part
     (r : Result (Unit {0}) AllocError) → IsCutNetwork n → IsTrue (is_allowed (world_in n) turn)
     → IsPlaceRead n turn.who part number
     → OnOk r (AddsAt n.runs.items runs.items part (record { who = number; event = turn.event } ∷ []))
-    → OnErr r (AddsAt n.runs.items runs.items part []) → IsCutNetwork (record n { runs = runs; known = NOTHING_KNOWN })
+    → OnErr r (AddsAt n.runs.items runs.items part []) → IsCutNetwork (record n { runs = runs })
 cut_after n runs turn part number r cut allowed read ok err = elim (by_result r ok err) [
   | inl adds ↦
       let by = adds_by n runs.items turn part number read adds in
@@ -459,15 +466,15 @@ cut_after n runs turn part number r cut allowed read ok err = elim (by_result r 
 ]
 
 pub added_after : (n : CutNetwork) (runs : Vec PartRun Global) (turn : Turn) (part number : ℕ)
-    (r : Result (Unit {0}) AllocError) → IsCutNetwork n → IsCutNetwork (record n { runs = runs; known = NOTHING_KNOWN })
+    (r : Result (Unit {0}) AllocError) → IsCutNetwork n → IsCutNetwork (record n { runs = runs })
     → IsTrue (is_allowed (world_in n) turn) → IsPlaceRead n turn.who part number
     → OnOk r (AddsAt n.runs.items runs.items part (record { who = number; event = turn.event } ∷ []))
-    → OnOk r (network_state (record n { runs = runs; known = NOTHING_KNOWN }) ≡ with_command (network_state n) turn)
+    → OnOk r (network_state (record n { runs = runs }) ≡ with_command (network_state n) turn)
 added_after n runs turn part number r cut new allowed read ok =
     on_ok r (λ adds. added_state n runs turn cut new (allowed_inside n turn allowed)
     (adds_by n runs.items turn part number read adds)) ok
 
 pub kept_after : (n : CutNetwork) (runs : Vec PartRun Global) (part : ℕ) (r : Result (Unit {0}) AllocError)
-    → IsCutNetwork n → IsCutNetwork (record n { runs = runs; known = NOTHING_KNOWN }) → OnErr r (AddsAt n.runs.items runs.items part [])
-    → OnErr r (network_state (record n { runs = runs; known = NOTHING_KNOWN }) ≡ network_state n)
+    → IsCutNetwork n → IsCutNetwork (record n { runs = runs }) → OnErr r (AddsAt n.runs.items runs.items part [])
+    → OnErr r (network_state (record n { runs = runs }) ≡ network_state n)
 kept_after n runs part r cut new err = on_err r (λ adds. kept_state n runs part cut new adds) err

@@ -23,7 +23,6 @@ use Rattle.mc_network.specs.Commanding.{AreRecommanded, HasBegunSettle, HasSpare
 use Rattle.mc_network.specs.Networks.{IsCutNetwork, network_state, world_in}
 use Rattle.mc_network.specs.States.{HasCommands, NoneLeft, new_state, no_shifts, no_stimuli}
 use Rattle.mc_network.specs.declared.network.CutNetwork.{CutNetwork}
-use Rattle.mc_network.specs.declared.network.TheConstants.{NOTHING_KNOWN}
 use Rattle.mc_network.proofs.PartsBy.{run_there}
 use Rattle.mc_network.proofs.Played.{to_turns}
 use Rattle.mc_network.proofs.Progressed.{command_here, home_of, number_of, shifts_at, stimuli_at}
@@ -41,7 +40,7 @@ calm_again a b begun calm spare who inside = elim (calm who (subst (λ (w : Worl
   | inr most ↦ absurd (let fewer : shifts_of a.part who < SHIFT_LIMIT = spare who in omega (arith, most, fewer))
 ]
 
-pub begun_cut : (n : CutNetwork) (runs : Vec PartRun Global) (calm : Bool) → IsCutNetwork n → EachChanged HasBegunSettle n.runs.items runs.items → (IsTrue calm → IsTrue n.calm) → (IsTrue calm → EachOf HasSpare n.runs.items) → IsCutNetwork (record n { runs = runs; calm = calm; known = NOTHING_KNOWN })
+pub begun_cut : (n : CutNetwork) (runs : Vec PartRun Global) (calm : Bool) → IsCutNetwork n → EachChanged HasBegunSettle n.runs.items runs.items → (IsTrue calm → IsTrue n.calm) → (IsTrue calm → EachOf HasSpare n.runs.items) → IsCutNetwork (record n { runs = runs; calm = calm })
 begun_cut n runs calm cut begun was spare =
     cut_same n runs calm cut (recommands n.runs.items runs.items begun) (record {
       within = λ i b there. let a = before i b there in (begun.each i a.0 b a.1 there).within (cut.idle i a.0 a.1).within;
@@ -50,15 +49,16 @@ begun_cut n runs calm cut begun was spare =
           to_turns (λ (who : ℕ) (event : Event). IsTrue (is_allowed b.part.engine (record { who = who; event = event }))) (drop b.part.used b.part.commands.items)
           (λ who. subst (λ (l : List Event). AllByRecursion (λ (event : Event). IsTrue (is_allowed b.part.engine (record { who = who; event = event }))) l) (sym ((begun.each i a.0 b a.1 there).left who)) tt);
       calm_is = λ on i b there. let a = before i b there in calm_again a.0 b (begun.each i a.0 b a.1 there) (cut.calm (was on) i a.0 a.1) (spare on i a.0 a.1);
+      known = λ i b there. let a = before i b there in (begun.each i a.0 b a.1 there).known (cut.idle i a.0 a.1).known;
     })
   where
     before : (i : ℕ) (b : PartRun) → slice_get runs.items i ≡ Some b → (a : PartRun) × (slice_get n.runs.items i ≡ Some a)
     before i b there = run_there n.runs.items i (subst (λ (k : ℕ). i < k) begun.count (slice_get_within runs.items i b there))
 
-pub begun_state : (n : CutNetwork) (runs : Vec PartRun Global) (calm : Bool) → IsCutNetwork n → EachChanged HasBegunSettle n.runs.items runs.items → IsCutNetwork (record n { runs = runs; calm = calm; known = NOTHING_KNOWN })
-    → network_state (record n { runs = runs; calm = calm; known = NOTHING_KNOWN }) ≡ new_state (network_state n).world
+pub begun_state : (n : CutNetwork) (runs : Vec PartRun Global) (calm : Bool) → IsCutNetwork n → EachChanged HasBegunSettle n.runs.items runs.items → IsCutNetwork (record n { runs = runs; calm = calm })
+    → network_state (record n { runs = runs; calm = calm }) ≡ new_state (network_state n).world
 begun_state n runs calm cut begun new =
-    let m : CutNetwork = record n { runs = runs; calm = calm; known = NOTHING_KNOWN } in
+    let m : CutNetwork = record n { runs = runs; calm = calm } in
     let world : world_in m ≡ world_in n = world_same n runs calm (recommands n.runs.items runs.items begun) in
     let stimuli : (network_state m).stimuli ≡ no_stimuli = fun_ext (λ who.
     let home = home_of m new who in

@@ -1,5 +1,5 @@
 -- A network that was cut into parts.
-use Rattle.std.proofs.Common.{◌≡◌, ◌<◌, ◌≤◌, ◌*◌, inl, inr, All, Bool, true, false, IsTrue, ℕ, zero, suc, Some, List, [], ◌∷◌, drop, length, get_or, map, replicate, refl, ap, ap₂, sym, ◌∙◌, subst, arith}
+use Rattle.std.proofs.Common.{◌≡◌, ◌<◌, ◌≤◌, ◌*◌, inl, inr, All, Bool, true, false, IsTrue, ℕ, zero, suc, Some, List, [], ◌∷◌, drop, length, get_or, map, replicate, refl, ap, ap₂, sym, ◌∙◌, subst, arith, true≢false}
 use Rattle.std.proofs.Math.Path.{fun_ext}
 use Rattle.std.proofs.lemmas.Bool.{cases_lt}
 use Rattle.std.proofs.lemmas.List.{ext_get_or, get_or-map, length-map, length-replicate}
@@ -20,18 +20,15 @@ use Rattle.mc_model.specs.Sound.{IsSound}
 use Rattle.mc_model.specs.Worlds.{ChannelState, WorldState, box_at, first_world}
 use Rattle.mc_network.specs.Laying.{AreLaid, AreWhole, AreWired, IsDivision, IsLaid, numbered_port, ports_in}
 use Rattle.mc_network.specs.Networks.{IsCutNetwork, IsIdle, ShareClock, channels_of, network_state, shifts_among, stimuli_among, turn_budget}
-use Rattle.mc_network.specs.States.{HoldsOf, NetworkState, new_state, no_shifts, no_stimuli}
+use Rattle.mc_network.specs.States.{NetworkState, new_state, no_shifts, no_stimuli}
 use Rattle.mc_network.specs.declared.limit.TheConstants.{NETWORK_LIMIT}
 use Rattle.mc_network.specs.declared.network.Crossing.{Crossing}
 use Rattle.mc_network.specs.declared.network.CutNetwork.{CutNetwork}
-use Rattle.mc_network.specs.declared.network.Known.{Known}
-use Rattle.mc_network.specs.declared.network.TheConstants.{NOTHING_KNOWN}
 use Rattle.mc_network.proofs.Joining.{all_joined, all_sides}
 use Rattle.mc_network.proofs.LaidOut.{HaveLaid, IsRunAt, are_layout, boxes_at, channels_at, map_past, map_there, none_waits, run_at, stand_for_world, world_of}
 use Rattle.mc_network.proofs.PartsLaid.{ports_few}
 use Rattle.mc_network.proofs.PortSlots.{tables_by}
 use Rattle.mc_network.proofs.Together.{share_is}
-use Rattle.mc_network.proofs.Unknown.{nothing_holds}
 use Rattle.mc_part.specs.Parts.{LeadsAway, events_for, shifts_of, stimuli_of}
 use Rattle.mc_part.specs.Ports.{LeadAway, sides}
 use Rattle.mc_part.specs.Running.{AreCalm}
@@ -105,6 +102,7 @@ is_idle boxes channels lanes assigned lists runs part budget run have one are ro
   stamp = one.fresh.stamp;
   heard = one.fresh.heard;
   room = subst (λ (n : ℕ). SLOT_LIMIT * n ≤ budget) (sym (ap length one.boxes_are ∙ length-map (members assigned part) (box_at (first_world boxes channels)))) room;
+  known = one.fresh.known;
   allowed = all_of_none (λ (turn : Turn). IsTrue (is_allowed run.part.engine turn)) run.part.used run.part.commands.items one.fresh.commands;
 }
 
@@ -171,7 +169,7 @@ pub record IsLaidOut (boxes : List BoxState) (lanes : List (List Tagged)) (lists
   pub none_logged : (part : ℕ) → log_at (logs_of network.logs.items) part ≡ []
   pub clocks : All (ShareClock (clocks_of network.logs.items)) network.crossings.items
   pub calm : IsTrue network.calm → (who : ℕ) → who < length boxes → is_enabled (get_or boxes who no_box) Shift ≡ false
-  pub known : network.known ≡ NOTHING_KNOWN
+  pub free : network.free ≡ false
 
 laid_run : (boxes : List BoxState) (channels : List ChannelState) (lanes : List (List Tagged)) (assigned : List ℕ) (lists : List (List Port)) (runs : List PartRun) (part : ℕ) (run : PartRun)
     → HaveLaid boxes channels lanes assigned lists runs → slice_get runs part ≡ Some run → IsLaid assigned channels lanes part (boxes_in (first_world boxes channels) assigned part) (ports_in lists part) run
@@ -227,7 +225,7 @@ is_cut_network boxes lanes lists network out =
           (all_sides assigned channels (length runs) lists network.crossings.items out.wired part below) (out.room part below);
       calm = λ is part run there. is_calm boxes channels lanes assigned lists runs part run out.have (laid_run boxes channels lanes assigned lists runs part run out.have there) (out.calm is);
       sound = subst IsSound (sym (world_is boxes lanes lists network out)) out.sound;
-      known = subst (λ (k : Known). HoldsOf k (network_state network)) (sym out.known) (nothing_holds (network_state network));
+      free = λ on. absurd (true≢false (sym on ∙ out.free));
     }
 
 -- ---- as it is known once all is made
@@ -239,8 +237,8 @@ pub is_laid_out : (boxes : List BoxState) (lanes laid_lanes : List (List Tagged)
     → AreWired network.assigned.items wired_channels count (length wired_channels) lists network.crossings.items → wired_channels ≡ channels_of network
     → AreLaid network.assigned.items laid_channels laid_lanes (share_of boxes network.assigned.items) lists count network.runs.items → laid_channels ≡ channels_of network → laid_lanes ≡ lanes
     → numbers_of network.logs.items ≡ part_numbers network.assigned.items count → ((part : ℕ) → log_at (logs_of network.logs.items) part ≡ []) → All (ShareClock (clocks_of network.logs.items)) crossings
-    → crossings ≡ network.crossings.items → (IsTrue network.calm → (who : ℕ) → who < length boxes → is_enabled (get_or boxes who no_box) Shift ≡ false) → network.known ≡ NOTHING_KNOWN → IsLaidOut boxes lanes lists network
-is_laid_out boxes lanes laid_lanes lists network count wired_channels laid_channels crossings sound frame few whole lane_count each division wired wired_is laid laid_is lanes_is logs none clocks crossings_is calm known =
+    → crossings ≡ network.crossings.items → (IsTrue network.calm → (who : ℕ) → who < length boxes → is_enabled (get_or boxes who no_box) Shift ≡ false) → network.free ≡ false → IsLaidOut boxes lanes lists network
+is_laid_out boxes lanes laid_lanes lists network count wired_channels laid_channels crossings sound frame few whole lane_count each division wired wired_is laid laid_is lanes_is logs none clocks crossings_is calm free =
     let assigned : List ℕ = network.assigned.items in
     let channels : List ChannelState = channels_of network in
     let runs : List PartRun = network.runs.items in
@@ -269,5 +267,5 @@ is_laid_out boxes lanes laid_lanes lists network count wired_channels laid_chann
       none_logged = none;
       clocks = subst (λ (l : List Crossing). All (ShareClock (clocks_of network.logs.items)) l) crossings_is clocks;
       calm = calm;
-      known = known;
+      free = free;
     }

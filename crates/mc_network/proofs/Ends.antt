@@ -32,6 +32,7 @@ wakes : (every : Bool) (a b c : PartRun) → IsChosen every a b → WakesUp b c 
 wakes every a b c chosen woken = record {
   part = woken.part ∙ chosen.part;
   ended = woken.ended ∙ chosen.ended;
+  known = woken.known ∙ chosen.known;
   idle = λ off. subst (λ (p : Part). HasNothing every p) (sym woken.part) (chosen.idle (woken.active off));
 }
 
@@ -42,4 +43,26 @@ woken every old now next chosen woke = record {
       let inside : i < length now = subst (λ (n : ℕ). i < n) (sym chosen.count) (slice_get_within old i a p) in
       let b = run_there now i inside in
       wakes every a b.0 c (chosen.each i a b.0 p b.1) (woke.each i b.0 c b.1 q);
+}
+
+-- one more is chosen
+pub chosen_more : (every : Bool) (old now : List PartRun) (k : ℕ) (a x : PartRun) → slice_get now k ≡ Some a → IsChosen every a x
+    → ChosenSoFar every k old now → ChosenSoFar every (k + 1) old (slice_set now k x)
+chosen_more every old now k a x there chosen so_far = record {
+  count = set_length now k x ∙ so_far.count;
+  done = λ i b c below at_old at_new. elim (same_or_not i k) [
+    | inl same ↦
+        let b_is : a ≡ b = one_of (slice_get old i) a b (ap (λ (n : ℕ). slice_get old n) same ∙ sym (so_far.rest k (omega arith)) ∙ there) at_old in
+        let c_is : x ≡ c = one_of (slice_get (slice_set now k x) i) x c (ap (λ (n : ℕ). slice_get (slice_set now k x) n) same ∙ set_here now k a x there) at_new in
+        subst (λ (r : PartRun). IsChosen every r c) b_is (subst (λ (r : PartRun). IsChosen every a r) c_is chosen)
+    | inr off ↦ so_far.done i b c (omega (arith, below, off)) at_old (sym (get_other now k i x off) ∙ at_new)
+  ];
+  rest = λ i above. get_other now k i x (λ same. omega (arith, above, same)) ∙ so_far.rest i (omega (arith, above));
+}
+
+-- and then all are
+pub all_chosen : (every : Bool) (old now : List PartRun) (k : ℕ) → length now ≤ k → ChosenSoFar every k old now → AreChosen every old now
+all_chosen every old now k past so_far = record {
+  count = so_far.count;
+  each = λ i a b p q. so_far.done i a b (let below = slice_get_within now i b q in omega (arith, below, past)) p q;
 }

@@ -1,5 +1,5 @@
 -- The network after a phase.
-use Rattle.std.proofs.Common.{◌≡◌, ◌<◌, ◌≤◌, ◌+◌, ◌*◌, Bool, ℕ, All, IsTrue, Some, List, drop, length, map, get_or, slice_get, ap, sym, ◌∙◌, subst, arith, Vec, Global}
+use Rattle.std.proofs.Common.{◌≡◌, ◌<◌, ◌≤◌, ◌+◌, ◌*◌, Bool, false, true≢false, ℕ, All, IsTrue, Some, List, drop, length, map, get_or, slice_get, ap, sym, ◌∙◌, subst, arith, Vec, Global}
 use Rattle.std.specs.List.{AllByRecursion}
 use Rattle.std.proofs.lemmas.List.{length-map}
 use Rattle.std.proofs.lemmas.Option.{slice_get_within}
@@ -29,7 +29,6 @@ use Rattle.mc_network.specs.Networks.{AreJoined, HasCrossing, IsCutNetwork, IsId
 use Rattle.mc_network.specs.Phasing.{HasCrossed, IsClosed}
 use Rattle.mc_network.specs.declared.network.Crossing.{Crossing}
 use Rattle.mc_network.specs.declared.network.CutNetwork.{CutNetwork}
-use Rattle.mc_network.specs.declared.network.TheConstants.{NOTHING_KNOWN}
 use Rattle.mc_network.proofs.Carryable.{comes_as, goes_as}
 use Rattle.mc_network.proofs.CarriedLanes.{same_tables}
 use Rattle.mc_network.proofs.Closed.{ClosedAt, Phased, carried_over, closed_at, closed_count, drained, goes_on, keeps_sound, opened_at}
@@ -37,7 +36,7 @@ use Rattle.mc_network.proofs.Drained.{IsLike}
 use Rattle.mc_network.proofs.Lists.{one_of, there_at}
 use Rattle.mc_network.proofs.PartsBy.{parts_by, run_there, states_are, tables_are}
 use Rattle.mc_network.proofs.Phased.{HasNone, joined_of, none_of, went_run}
-use Rattle.mc_network.proofs.Unknown.{nothing_holds}
+use Rattle.mc_network.proofs.StillKnown.{still_known}
 use Rattle.mc_network.proofs.Ways.{IsPortAfter, port_after}
 
 -- ---- ports
@@ -148,6 +147,9 @@ idle_after n retries every budget chosen gone carried closed logs_2 before after
       stamp = stamp;
       heard = heard;
       room = subst (λ (k : ℕ). SLOT_LIMIT * k ≤ turn_budget (length n.runs.items)) (sym (boxes ∙ at.ran.runs.run.spanned.work.box_count)) idle.room;
+      known = still_known at.ran.c d like.boxes shifts (ap (λ (r : PartRun). r.known) shut.kept ∙ moved.known)
+          (at.ran.went.known (still_known x at.ran.b (ap (λ (q : Part). q.engine.boxes) at.ran.chose.part)
+          (ap (λ (q : Part). q.shifts) at.ran.chose.part) at.ran.chose.known idle.known));
       allowed = allowed i x d opened.1 there;
     }
 
@@ -165,7 +167,7 @@ same_boxes n retries every budget chosen gone carried closed logs_2 before after
     ap (λ (l : List BoxState). length l) ((carried_over n retries every budget chosen gone carried closed logs_2 before after none p).boxes part) ∙ (went_run n retries every budget chosen gone none p.went part).run.spanned.work.box_count
 
 pub cut_after : (n : CutNetwork) (retries every : Bool) (budget : ℕ) (chosen gone carried : List PartRun) (runs : Vec PartRun Global) (logs : Vec PartLog Global) (calm : Bool) (before after : List Turn)
-    → Phased n retries every budget chosen gone carried runs.items logs.items before after → Finished n runs logs calm → IsCutNetwork (record n { runs = runs; logs = logs; calm = calm; known = NOTHING_KNOWN })
+    → Phased n retries every budget chosen gone carried runs.items logs.items before after → Finished n runs logs calm → IsCutNetwork (record n { runs = runs; logs = logs; calm = calm; free = false })
 cut_after n retries every budget chosen gone carried runs logs calm before after p finished =
     let cut = p.went.cut in
     let none : HasNone n = none_of n cut in
@@ -198,6 +200,6 @@ cut_after n retries every budget chosen gone carried runs logs calm before after
       idle = subst (λ (k : ℕ). EachOf (IsIdle (turn_budget k)) runs.items) (sym count)
           (idle_after n retries every budget chosen gone carried runs.items logs.items before after p (λ i x d there there_2. finished.allowed i d there_2));
       calm = finished.calm_is;
-      known = nothing_holds (network_state (record n { runs = runs; logs = logs; calm = calm; known = NOTHING_KNOWN }));
+      free = λ on. absurd (true≢false (sym on));
       sound = subst (λ (states : ℕ → PartState). IsSound (stands_for (base_of n) (network_layout n) states)) (sym (states_are none.none runs.items)) (keeps_sound n retries every budget chosen gone carried runs.items logs.items before after none p);
     }

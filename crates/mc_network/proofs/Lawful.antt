@@ -26,7 +26,6 @@ use Rattle.mc_part.proofs.Turned.{can_act}
 use Rattle.mc_network.specs.Networks.{IsCutNetwork}
 use Rattle.mc_network.specs.Phasing.{EndsLawfully, HasPlayed, IsChosen}
 use Rattle.mc_network.specs.declared.network.CutNetwork.{CutNetwork}
-use Rattle.mc_network.specs.declared.network.TheConstants.{NOTHING_KNOWN}
 use Rattle.mc_network.proofs.Closed.{ClosedAt, Phased, closed_at, opened_at}
 use Rattle.mc_network.proofs.Drained.{IsLike}
 use Rattle.mc_network.proofs.Lists.{one_of}
@@ -104,7 +103,7 @@ pub lawful_after : (n : CutNetwork) (retries : Bool) (runs : Vec PartRun Global)
 lawful_after n retries runs logs before after cut played i d there =
     let gone : List PartRun = played.gone in
     let p : Phased n retries played.every played.budget played.chosen gone played.carried runs.items logs.items before after = phased n retries runs.items logs.items before after cut played in
-    let m : CutNetwork = record n { runs = runs; logs = logs; calm = false; known = NOTHING_KNOWN } in
+    let m : CutNetwork = record n { runs = runs; logs = logs; calm = false; free = false } in
     let cut_2 : IsCutNetwork m = cut_by n retries runs logs false before after cut played (λ on. absurd (true≢false (sym on))) in
     let opened = opened_at n retries played.every played.budget played.chosen gone played.carried runs.items logs.items before after p i d there in
     let x : PartRun = opened.0 in

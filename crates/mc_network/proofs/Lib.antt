@@ -34,6 +34,7 @@ pub mod PortSlots
 mod Progressed
 mod Recommanded
 mod Shapes
+mod StillKnown
 mod Strange
 mod Strays
 mod Swapped
@@ -41,7 +42,6 @@ mod CommandAdded
 pub mod SoundWorlds
 pub mod Tables
 pub mod Together
-mod Unknown
 mod Ways
 pub mod WholeWorlds
 pub mod Wires

@@ -67,7 +67,7 @@ pub laid_part : (assigned : List ℕ) (channels : List ChannelState) (lanes : Li
     → firsts ≡ first_slots (channels_in assigned channels part) → n ≡ length boxes → AreNumbered n firsts ports numbered → engine ≡ first_world boxes own
     → AreFilled assigned channels lanes part (channel_numbers assigned channels part) (length (channel_numbers assigned channels part)) filled.lanes
     → filled ≡ record engine { lanes = filled.lanes } → length filled.lanes ≡ length engine.lanes
-    → IfOk r (λ run. run.part.engine ≡ filled) → IfOk r (λ run. run.part.ports.items ≡ numbered) → IfOk r (λ run. IsFresh run.part) → IfOk r (IsLaid assigned channels lanes part boxes ports)
+    → IfOk r (λ run. run.part.engine ≡ filled) → IfOk r (λ run. run.part.ports.items ≡ numbered) → IfOk r IsFresh → IfOk r (IsLaid assigned channels lanes part boxes ports)
 laid_part assigned channels lanes part boxes ports (Err e) engine filled own firsts n numbered own_is firsts_is n_is are engine_is fill kept count run_is ports_is fresh = tt
 laid_part assigned channels lanes part boxes ports (Ok run) engine filled own firsts n numbered own_is firsts_is n_is are engine_is fill kept count run_is ports_is fresh = record {
   boxes_are = ap (λ (w : WorldState). w.boxes) (run_is ∙ kept) ∙ ap (λ (w : WorldState). w.boxes) engine_is;

@@ -1,5 +1,5 @@
 -- What a phase comes to.
-use Rattle.std.proofs.Common.{◌≡◌, Bool, ℕ, IsTrue, IfOk, IfSome, OnOk, Some, None, Option, List, map, length, Result, Ok, Err, ap, sym, ◌∙◌, subst, Vec, Global}
+use Rattle.std.proofs.Common.{◌≡◌, Bool, false, ℕ, IsTrue, IfOk, IfSome, OnOk, Some, None, Option, List, map, length, Result, Ok, Err, ap, sym, ◌∙◌, subst, Vec, Global}
 use Rattle.std.specs.Vec.{with_items}
 use Rattle.std.proofs.lemmas.List.{with_items_is}
 use Rattle.mc_box.specs.declared.event.Turn.{Turn}
@@ -12,7 +12,6 @@ use Rattle.mc_network.specs.Phasing.{EndAs, EndsCalm, EndsWell, HasPlayed}
 use Rattle.mc_network.specs.States.{IsAtLast, PlaysOn}
 use Rattle.mc_network.specs.declared.network.Crossing.{Crossing}
 use Rattle.mc_network.specs.declared.network.CutNetwork.{CutNetwork}
-use Rattle.mc_network.specs.declared.network.TheConstants.{NOTHING_KNOWN}
 use Rattle.mc_network.proofs.Closed.{Phased}
 use Rattle.mc_network.proofs.Finished.{cut_after}
 use Rattle.mc_network.proofs.PhaseTurns.{plays_state}
@@ -30,7 +29,7 @@ phased n retries new logs_2 before after cut played = record {
 }
 
 pub cut_by : (n : CutNetwork) (retries : Bool) (runs : Vec PartRun Global) (logs : Vec PartLog Global) (calm : Bool) (before after : List Turn) → IsCutNetwork n → HasPlayed retries n.calm n.crossings.items n.runs.items runs.items n.logs.items logs.items before after
-    → (IsTrue calm → EachOf (λ (run : PartRun). EndsCalm n.calm run.ended) runs.items) → IsCutNetwork (record n { runs = runs; logs = logs; calm = calm; known = NOTHING_KNOWN })
+    → (IsTrue calm → EachOf (λ (run : PartRun). EndsCalm n.calm run.ended) runs.items) → IsCutNetwork (record n { runs = runs; logs = logs; calm = calm; free = false })
 cut_by n retries runs logs calm before after cut played calm_is =
     let p = phased n retries runs.items logs.items before after cut played in
     cut_after n retries played.every played.budget played.chosen played.gone played.carried runs logs calm before after p (record {
@@ -40,10 +39,10 @@ cut_by n retries runs logs calm before after cut played calm_is =
 
 plays_by : (n : CutNetwork) (retries : Bool) (runs : Vec PartRun Global) (logs : Vec PartLog Global) (calm : Bool) (before after : List Turn) → IsCutNetwork n → HasPlayed retries n.calm n.crossings.items n.runs.items runs.items n.logs.items logs.items before after
     → (IsTrue calm → EachOf (λ (run : PartRun). EndsCalm n.calm run.ended) runs.items) → (last : Option (ℕ × ℕ)) → EndAs (numbers_of logs.items) runs.items last
-    → PlaysOn retries (network_state n) (network_state (record n { runs = runs; logs = logs; calm = calm; known = NOTHING_KNOWN })) before after last
+    → PlaysOn retries (network_state n) (network_state (record n { runs = runs; logs = logs; calm = calm; free = false })) before after last
 plays_by n retries runs logs calm before after cut played calm_is last ends =
     let p = phased n retries runs.items logs.items before after cut played in
-    let new : IsCutNetwork (record n { runs = runs; logs = logs; calm = calm; known = NOTHING_KNOWN }) = cut_by n retries runs logs calm before after cut played calm_is in
+    let new : IsCutNetwork (record n { runs = runs; logs = logs; calm = calm; free = false }) = cut_by n retries runs logs calm before after cut played calm_is in
     record {
       made = map (turn_in (numbers_of n.logs.items)) played.merged.woven;
       added = played.merged.added;
@@ -58,7 +57,7 @@ plays_by n retries runs logs calm before after cut played calm_is last ends =
     well : (last : Option (ℕ × ℕ)) → last ≡ None → EndAs (numbers_of logs.items) runs.items last → EachOf (λ (run : PartRun). EndsWell run.ended) runs.items
     well last none ends = subst (λ (o : Option (ℕ × ℕ)). EndAs (numbers_of logs.items) runs.items o) none ends
 
-    last_by : (last : Option (ℕ × ℕ)) → EndAs (numbers_of logs.items) runs.items last → IfSome last (IsAtLast (network_state (record n { runs = runs; logs = logs; calm = calm; known = NOTHING_KNOWN })))
+    last_by : (last : Option (ℕ × ℕ)) → EndAs (numbers_of logs.items) runs.items last → IfSome last (IsAtLast (network_state (record n { runs = runs; logs = logs; calm = calm; free = false })))
     last_by None ends = tt
     last_by (Some at) ends =
         at_last n retries played.every played.budget played.chosen played.gone played.carried runs logs calm before after (phased n retries runs.items logs.items before after cut played)
@@ -66,7 +65,7 @@ plays_by n retries runs logs calm before after cut played calm_is last ends =
 
 pub played_by : {E : Type 0} (result : Result (Option (ℕ × ℕ)) E) (n : CutNetwork) (retries : Bool) (runs : Vec PartRun Global) (logs : Vec PartLog Global) (calm : Bool) (before after : List Turn) → IsCutNetwork n
     → HasPlayed retries n.calm n.crossings.items n.runs.items runs.items n.logs.items logs.items before after → (IsTrue calm → EachOf (λ (run : PartRun). EndsCalm n.calm run.ended) runs.items) → IfOk result (EndAs (numbers_of logs.items) runs.items)
-    → IfOk result (PlaysOn retries (network_state n) (network_state (record n { runs = runs; logs = logs; calm = calm; known = NOTHING_KNOWN })) before after)
+    → IfOk result (PlaysOn retries (network_state n) (network_state (record n { runs = runs; logs = logs; calm = calm; free = false })) before after)
 played_by (Ok last) n retries runs logs calm before after cut played calm_is ends = plays_by n retries runs logs calm before after cut played calm_is last ends
 played_by (Err e) n retries runs logs calm before after cut played calm_is ends = tt
 

@@ -1,5 +1,5 @@
 -- A phase as a settle sees it.
-use Rattle.std.proofs.Common.{◌≡◌, inl, inr, ◌<◌, Bool, ℕ, zero, suc, List, [], ◌∷◌, length, map, get_or, refl, ap, sym, ◌∙◌, subst, arith, Vec, Global}
+use Rattle.std.proofs.Common.{◌≡◌, inl, inr, ◌<◌, Bool, false, ℕ, zero, suc, List, [], ◌∷◌, length, map, get_or, refl, ap, sym, ◌∙◌, subst, arith, Vec, Global}
 use Rattle.std.proofs.Math.Path.{fun_ext}
 use Rattle.std.proofs.lemmas.Bool.{cases_lt}
 use Rattle.std.proofs.lemmas.List.{get_or_past}
@@ -18,7 +18,6 @@ use Rattle.mc_part.specs.declared.part_run.PartRun.{PartRun}
 use Rattle.mc_network.specs.Networks.{IsCutNetwork, base_of, network_layout, network_state}
 use Rattle.mc_network.specs.States.{no_shifts, no_stimuli}
 use Rattle.mc_network.specs.declared.network.CutNetwork.{CutNetwork}
-use Rattle.mc_network.specs.declared.network.TheConstants.{NOTHING_KNOWN}
 use Rattle.mc_network.proofs.Closed.{Phased, drained}
 use Rattle.mc_network.proofs.PartsBy.{by_parts, parts_by, states_are}
 use Rattle.mc_network.proofs.Phased.{HasNone, none_of}
@@ -53,12 +52,12 @@ counts_in n retries every budget chosen gone carried closed logs_2 before after 
     (λ i c d q r. let keeps = keeps_counts n retries every budget chosen gone carried closed logs_2 before after p i c d q r in (same_stimuli c.part d.part keeps who, same_shifts c.part d.part keeps who)) (refl, refl) part
 
 -- in the words of a settle
-pub plays_state : (n : CutNetwork) (retries every : Bool) (budget : ℕ) (chosen gone carried : List PartRun) (runs : Vec PartRun Global) (logs : Vec PartLog Global) (calm : Bool) (before after : List Turn) → (p : Phased n retries every budget chosen gone carried runs.items logs.items before after) → (after_cut : IsCutNetwork (record n { runs = runs; logs = logs; calm = calm; known = NOTHING_KNOWN }))
-    → PlaysPhase retries (network_state n).world (network_state (record n { runs = runs; logs = logs; calm = calm; known = NOTHING_KNOWN })).world (map (turn_in (numbers_of n.logs.items)) p.merged.woven)
-    (network_state n).stimuli (network_state (record n { runs = runs; logs = logs; calm = calm; known = NOTHING_KNOWN })).stimuli (network_state n).shifts (network_state (record n { runs = runs; logs = logs; calm = calm; known = NOTHING_KNOWN })).shifts
+pub plays_state : (n : CutNetwork) (retries every : Bool) (budget : ℕ) (chosen gone carried : List PartRun) (runs : Vec PartRun Global) (logs : Vec PartLog Global) (calm : Bool) (before after : List Turn) → (p : Phased n retries every budget chosen gone carried runs.items logs.items before after) → (after_cut : IsCutNetwork (record n { runs = runs; logs = logs; calm = calm; free = false }))
+    → PlaysPhase retries (network_state n).world (network_state (record n { runs = runs; logs = logs; calm = calm; free = false })).world (map (turn_in (numbers_of n.logs.items)) p.merged.woven)
+    (network_state n).stimuli (network_state (record n { runs = runs; logs = logs; calm = calm; free = false })).stimuli (network_state n).shifts (network_state (record n { runs = runs; logs = logs; calm = calm; free = false })).shifts
 plays_state n retries every budget chosen gone carried runs logs calm before after p after_cut =
     let none : HasNone n = none_of n p.went.cut in
-    let m : CutNetwork = record n { runs = runs; logs = logs; calm = calm; known = NOTHING_KNOWN } in
+    let m : CutNetwork = record n { runs = runs; logs = logs; calm = calm; free = false } in
     let made : List Turn = map (turn_in (numbers_of n.logs.items)) p.merged.woven in
     let stimuli : stimuli_in (network_layout n) (parts_by none.none gone) ≡ (network_state m).stimuli =
     fun_ext (λ who. sym (counts_in n retries every budget chosen gone carried runs.items logs.items before after none.none p (home_at n.assigned.items who).0 (home_at n.assigned.items who).1).0) ∙ stimuli_are m none.none after_cut in

@@ -41,7 +41,6 @@ use Rattle.mc_network.specs.Networks.{IsCutNetwork, base_of, network_layout, net
 use Rattle.mc_network.specs.Phasing.{EndsWell, HasNothing, IsChosen, StopsAtLast, logs_in}
 use Rattle.mc_network.specs.States.{HasCommands, IsAtLast, UsesOne}
 use Rattle.mc_network.specs.declared.network.CutNetwork.{CutNetwork}
-use Rattle.mc_network.specs.declared.network.TheConstants.{NOTHING_KNOWN}
 use Rattle.mc_network.proofs.Closed.{ClosedAt, Phased, closed_at, homes_in, opened_at}
 use Rattle.mc_network.proofs.Drained.{IsLike}
 use Rattle.mc_network.proofs.Lists.{one_of}
@@ -133,9 +132,9 @@ met_by n retries every budget i who local x b c chose went ended false is = absu
 first_of : (event : Event) (rest all : List Event) → all ≡ event ∷ rest → slice_get all 0 ≡ Some event
 first_of event rest all is = ap (λ (l : List Event). slice_get l 0) is
 
-pub at_last : (n : CutNetwork) (retries every : Bool) (budget : ℕ) (chosen gone carried : List PartRun) (runs : Vec PartRun Global) (logs : Vec PartLog Global) (calm : Bool) (before after : List Turn) → Phased n retries every budget chosen gone carried runs.items logs.items before after → IsCutNetwork (record n { runs = runs; logs = logs; calm = calm; known = NOTHING_KNOWN }) → (at : ℕ × ℕ) → StopsAtLast (numbers_of logs.items) runs.items at → IsAtLast (network_state (record n { runs = runs; logs = logs; calm = calm; known = NOTHING_KNOWN })) at
+pub at_last : (n : CutNetwork) (retries every : Bool) (budget : ℕ) (chosen gone carried : List PartRun) (runs : Vec PartRun Global) (logs : Vec PartLog Global) (calm : Bool) (before after : List Turn) → Phased n retries every budget chosen gone carried runs.items logs.items before after → IsCutNetwork (record n { runs = runs; logs = logs; calm = calm; free = false }) → (at : ℕ × ℕ) → StopsAtLast (numbers_of logs.items) runs.items at → IsAtLast (network_state (record n { runs = runs; logs = logs; calm = calm; free = false })) at
 at_last n retries every budget chosen gone carried runs logs calm before after p cut at stops =
-    let m : CutNetwork = (record n { runs = runs; logs = logs; calm = calm; known = NOTHING_KNOWN }) in
+    let m : CutNetwork = (record n { runs = runs; logs = logs; calm = calm; free = false }) in
     let opened = opened_at n retries every budget chosen gone carried runs.items logs.items before after p stops.part stops.run stops.there in
     let x : PartRun = opened.0 in
     let closed : ClosedAt gone runs.items n retries every budget chosen stops.part x = closed_at n retries every budget chosen gone carried runs.items logs.items before after p stops.part x opened.1 in
@@ -222,9 +221,9 @@ ended_at n retries every budget chosen gone carried closed logs_2 before after p
     let same : d.0.ended ≡ c.ended = ap (λ (r : PartRun). r.ended) (p.merged.closed.each i mid.0 d.0 mid.1 d.1).kept ∙ (p.over.same.each i c mid.0 there mid.1).ended in
     subst (λ (o : Option (Result Ended PartStop)). EndsWell o) same (well i d.0 d.1)
 
-pub used_one : (n : CutNetwork) (retries every : Bool) (budget : ℕ) (chosen gone carried : List PartRun) (runs : Vec PartRun Global) (logs : Vec PartLog Global) (calm : Bool) (before after : List Turn) → Phased n retries every budget chosen gone carried runs.items logs.items before after → IsCutNetwork (record n { runs = runs; logs = logs; calm = calm; known = NOTHING_KNOWN }) → (0 < turn_budget (length n.runs.items) → 0 < budget) → EachOf (λ (run : PartRun). EndsWell run.ended) runs.items → retries ≡ false → HasCommands (network_state n) → UsesOne (network_state n) (network_state (record n { runs = runs; logs = logs; calm = calm; known = NOTHING_KNOWN }))
+pub used_one : (n : CutNetwork) (retries every : Bool) (budget : ℕ) (chosen gone carried : List PartRun) (runs : Vec PartRun Global) (logs : Vec PartLog Global) (calm : Bool) (before after : List Turn) → Phased n retries every budget chosen gone carried runs.items logs.items before after → IsCutNetwork (record n { runs = runs; logs = logs; calm = calm; free = false }) → (0 < turn_budget (length n.runs.items) → 0 < budget) → EachOf (λ (run : PartRun). EndsWell run.ended) runs.items → retries ≡ false → HasCommands (network_state n) → UsesOne (network_state n) (network_state (record n { runs = runs; logs = logs; calm = calm; free = false }))
 used_one n retries every budget chosen gone carried runs logs calm before after p cut room well off commands =
-    let m : CutNetwork = (record n { runs = runs; logs = logs; calm = calm; known = NOTHING_KNOWN }) in
+    let m : CutNetwork = (record n { runs = runs; logs = logs; calm = calm; free = false }) in
     let old = p.went.cut in
     let home = home_of n old commands.0 in
     let x : PartRun = home.0 in

@@ -4,6 +4,7 @@ use Rattle.std.specs.List.{AllByRecursion}
 use Rattle.std.proofs.lemmas.Option.{slice_get_within}
 use Rattle.mc_box.specs.declared.event.Turn.{Turn}
 use Rattle.mc_box.specs.declared.limit.TheConstants.{SLOT_LIMIT}
+use Rattle.mc_model.specs.Paths.{has_ring}
 use Rattle.mc_model.specs.Shapes.{is_allowed}
 use Rattle.mc_model.specs.Sound.{IsSound}
 use Rattle.mc_model.specs.Worlds.{WorldState}
@@ -13,7 +14,7 @@ use Rattle.mc_merge.specs.declared.log.Made.{Made}
 use Rattle.mc_part.specs.Cuts.{part_numbers}
 use Rattle.mc_lane.specs.Queue.{Queue}
 use Rattle.mc_part.specs.Parts.{IsWithin, state_of, tables_of}
-use Rattle.mc_part.specs.Phases.{EachOf}
+use Rattle.mc_part.specs.Phases.{EachOf, IsKnown}
 use Rattle.mc_part.specs.Ports.{LeadAway, rings_of, sides}
 use Rattle.mc_part.specs.Running.{AreCalm}
 use Rattle.mc_part.specs.declared.part.Part.{Part}
@@ -22,11 +23,9 @@ use Rattle.mc_part.specs.declared.port.Port.{Port}
 use Rattle.mc_network.specs.Networks.{AreJoined, IsCutNetwork, IsIdle, IsJoined, base_of, network_layout, network_state, no_part, no_tables, states_among, tables_among, turn_budget, world_in}
 use Rattle.mc_network.specs.Commanding.{AreRecommanded, IsRecommanded}
 use Rattle.mc_network.specs.declared.network.CutNetwork.{CutNetwork}
-use Rattle.mc_network.specs.declared.network.TheConstants.{NOTHING_KNOWN}
 use Rattle.mc_network.proofs.Finished.{KeepsPorts, joined_after}
 use Rattle.mc_network.proofs.PartsBy.{run_there}
 use Rattle.mc_network.proofs.Swapped.{maps_same}
-use Rattle.mc_network.proofs.Unknown.{nothing_holds}
 
 pub states_same : (old new : List PartRun) → AreRecommanded old new → states_among new ≡ states_among old
 states_same old new same = ap (λ (l : List PartState). λ part. get_or l part no_part) (maps_same (λ (run : PartRun). state_of run.part) (λ (run : PartRun). state_of run.part) new old same.count (λ i b a q p.
@@ -55,11 +54,12 @@ pub record AreFit (runs : List PartRun) (calm : Bool) : Type 0 where
   pub within : (i : ℕ) (b : PartRun) → slice_get runs i ≡ Some b → IsWithin b.part
   pub allowed : (i : ℕ) (b : PartRun) → slice_get runs i ≡ Some b → AllByRecursion (λ (turn : Turn). IsTrue (is_allowed b.part.engine turn)) (drop b.part.used b.part.commands.items)
   pub calm_is : IsTrue calm → EachOf (λ (run : PartRun). AreCalm run.part) runs
+  pub known : EachOf IsKnown runs
 
-pub world_same : (n : CutNetwork) (runs : Vec PartRun Global) (calm : Bool) → AreRecommanded n.runs.items runs.items → world_in (record n { runs = runs; calm = calm; known = NOTHING_KNOWN }) ≡ world_in n
+pub world_same : (n : CutNetwork) (runs : Vec PartRun Global) (calm : Bool) → AreRecommanded n.runs.items runs.items → world_in (record n { runs = runs; calm = calm }) ≡ world_in n
 world_same n runs calm same = ap (λ (states : ℕ → PartState). stands_for (base_of n) (network_layout n) states) (states_same n.runs.items runs.items same)
 
-pub cut_same : (n : CutNetwork) (runs : Vec PartRun Global) (calm : Bool) → IsCutNetwork n → AreRecommanded n.runs.items runs.items → AreFit runs.items calm → IsCutNetwork (record n { runs = runs; calm = calm; known = NOTHING_KNOWN })
+pub cut_same : (n : CutNetwork) (runs : Vec PartRun Global) (calm : Bool) → IsCutNetwork n → AreRecommanded n.runs.items runs.items → AreFit runs.items calm → IsCutNetwork (record n { runs = runs; calm = calm })
 cut_same n runs calm cut same fit =
     let states : states_among runs.items ≡ states_among n.runs.items = states_same n.runs.items runs.items same in
     let tables : tables_among runs.items ≡ tables_among n.runs.items = tables_same n.runs.items runs.items same in
@@ -107,9 +107,10 @@ cut_same n runs calm cut same fit =
             stamp = is.stamp ∙ idle.stamp;
             heard = is.heard ∙ idle.heard;
             room = subst (λ (w : WorldState). SLOT_LIMIT * length w.boxes ≤ turn_budget (length runs.items)) (sym is.engine) (subst (λ (k : ℕ). SLOT_LIMIT * length a.0.part.engine.boxes ≤ turn_budget k) (sym same.count) idle.room);
+            known = fit.known i b there;
             allowed = fit.allowed i b there;
           };
       calm = fit.calm_is;
-      known = nothing_holds (network_state (record n { runs = runs; calm = calm; known = NOTHING_KNOWN }));
+      free = λ on. ap has_ring (world_same n runs calm same) ∙ cut.free on;
       sound = subst (λ (f : ℕ → PartState). IsSound (stands_for (base_of n) (network_layout n) f)) (sym states) cut.sound;
     }

@@ -38,7 +38,6 @@ use Rattle.mc_part.specs.declared.part_run.PartRun.{PartRun}
 use Rattle.mc_part.proofs.Networks.{homes_of, phase_of, ran_of}
 use Rattle.mc_network.specs.Networks.{IsCutNetwork, base_of, network_layout, world_in}
 use Rattle.mc_network.specs.declared.network.CutNetwork.{CutNetwork}
-use Rattle.mc_network.specs.declared.network.TheConstants.{NOTHING_KNOWN}
 use Rattle.mc_network.proofs.Closed.{Phased, carried_over, homes_in, parts_of}
 use Rattle.mc_network.proofs.Drained.{IsLike}
 use Rattle.mc_network.proofs.PartsBy.{part_is, parts_by}
@@ -208,10 +207,10 @@ lawful_front n retries every budget chosen gone carried closed logs_2 before aft
 -- ---- of a part that ran, and the one after the phase
 
 pub none_meets_strange : (n : CutNetwork) (retries every : Bool) (budget : ℕ) (chosen gone carried : List PartRun) (runs : Vec PartRun Global) (logs : Vec PartLog Global) (before after : List Turn) → Phased n retries every budget chosen gone carried runs.items logs.items before after
-    → IsCutNetwork (record n { runs = runs; logs = logs; calm = false; known = NOTHING_KNOWN }) → (i who local : ℕ) (x c d : PartRun) → slice_get n.runs.items i ≡ Some x → slice_get gone i ≡ Some c → slice_get runs.items i ≡ Some d → c.part.engine.channels ≡ x.part.engine.channels
+    → IsCutNetwork (record n { runs = runs; logs = logs; calm = false; free = false }) → (i who local : ℕ) (x c d : PartRun) → slice_get n.runs.items i ≡ Some x → slice_get gone i ≡ Some c → slice_get runs.items i ≡ Some d → c.part.engine.channels ≡ x.part.engine.channels
     → length c.part.engine.boxes ≡ length x.part.engine.boxes → IsLike c.part d.part → MeetsStrange c.part who local → ⊥
 none_meets_strange n retries every budget chosen gone carried runs logs before after p cut_2 i who local x c d there c_there d_there channels boxes like meets =
-    let m : CutNetwork = record n { runs = runs; logs = logs; calm = false; known = NOTHING_KNOWN } in
+    let m : CutNetwork = record n { runs = runs; logs = logs; calm = false; free = false } in
     let none : HasNone n = none_of n p.went.cut in
     let front : HasFront c.part.engine who local = front_of c.part.engine who local meets.waits in
     let tables : tables_of c.part ≡ tables_of x.part = ap (λ (channels : List ChannelState). record { boxes = []; channels = channels; lanes = [] }) channels in

@@ -133,6 +133,18 @@ owed_one true true on owes = refl
 owed_one true false on owes = absurd (true≢false (sym owes))
 owed_one false owes on is = absurd (true≢false (sym on))
 
+-- a slot owes a retry in the network, where it does in its part
+pub owed_at : (n : CutNetwork) (cut : IsCutNetwork n) (who local : ℕ)
+    → world_owes (home_of n cut who).0.part.engine (home_at n.assigned.items who).1 local ≡ world_owes (world_in n) who local
+owed_at n cut who local =
+    let none = (none_of n cut).none in
+    let home = home_of n cut who in
+    let part : ℕ = (home_at n.assigned.items who).0 in
+    let at : ℕ = (home_at n.assigned.items who).1 in
+    ap (λ (p : Part). world_owes p.engine at local) (sym (part_is none n.runs.items part home.0 home.1.there))
+    ∙ (sym (owed_same (base_of n) (network_layout n) (parts_by none n.runs.items) who local (parts_of n none cut))
+    ∙ ap (λ (w : WorldState). world_owes w who local) (world_is n none))
+
 pub works_of : (n : CutNetwork) (retries : Bool) → IsCutNetwork n → HasWork retries (network_state n) → Works n retries
 works_of n retries cut (by_command who some) =
     let home = home_of n cut who in
@@ -156,14 +168,10 @@ works_of n retries cut (by_program who inside fewer enabled) =
     }
 works_of n retries cut (by_signal quiet) = by_waiting n retries cut quiet
 works_of n retries cut (by_retry on who local owes) =
-    let none = (none_of n cut).none in
     let home = home_of n cut who in
     let part : ℕ = (home_at n.assigned.items who).0 in
     let at : ℕ = (home_at n.assigned.items who).1 in
-    let same : world_owes (world_by (base_of n) (network_layout n) (parts_by none n.runs.items)) who local ≡ world_owes (parts_by none n.runs.items part).engine at local =
-    owed_same (base_of n) (network_layout n) (parts_by none n.runs.items) who local (parts_of n none cut) in
-    let owes_2 : world_owes home.0.part.engine at local ≡ true =
-    ap (λ (p : Part). world_owes p.engine at local) (sym (part_is none n.runs.items part home.0 home.1.there)) ∙ (sym same ∙ (ap (λ (w : WorldState). world_owes w who local) (world_is n none) ∙ owes)) in
+    let owes_2 : world_owes home.0.part.engine at local ≡ true = owed_at n cut who local ∙ owes in
     let here : at < length home.0.part.engine.boxes =
     ltb-true at (length home.0.part.engine.boxes) (first_true (nat_lt at (length home.0.part.engine.boxes)) (is_slot (box_at home.0.part.engine at) local) (box_owes (box_at home.0.part.engine at) local) owes_2) in
     record { i = part; x = home.0; there = home.1.there; at = at; here = here; work = inr (inr (inl (at, (local, owed_one retries (world_owes home.0.part.engine at local) on owes_2)))) }

@@ -3,7 +3,9 @@ use Rattle.std.specs.Prelude.{◌≡◌, ◌<◌, ◌≤◌, ◌++◌, ℕ, List
 use Rattle.mc_box.specs.declared.event.Turn.{Turn}
 use Rattle.mc_part.specs.Cuts.{home_at}
 use Rattle.mc_box.specs.declared.limit.TheConstants.{SHIFT_LIMIT}
+use Rattle.mc_part.specs.Knowing.{OwesNone}
 use Rattle.mc_part.specs.Parts.{IsWithin, shifts_of}
+use Rattle.mc_part.specs.Phases.{IsKnown}
 use Rattle.mc_part.specs.Running.{NoneLeft}
 use Rattle.mc_part.specs.declared.part.Part.{Part}
 use Rattle.mc_part.specs.declared.part_run.PartRun.{PartRun}
@@ -27,6 +29,7 @@ pub record HasBegunSettle (a b : PartRun) : Type 0 where
   pub left : NoneLeft b.part
   pub shifts : (who : ℕ) → shifts_of b.part who ≡ 0
   pub within : IsWithin a.part → IsWithin b.part
+  pub known : IsKnown a → IsKnown b
 
 -- no box of a part has made a Shift
 abbrev pub HasNoShifts : PartRun → Type 0
@@ -35,6 +38,15 @@ HasNoShifts run = (who : ℕ) → shifts_of run.part who ≡ 0
 -- no box of a part has made all its Shifts
 abbrev pub HasSpare : PartRun → Type 0
 HasSpare run = (who : ℕ) → shifts_of run.part who < SHIFT_LIMIT
+
+-- no slot of a part owes a retry
+abbrev pub HasNoneOwed : PartRun → Type 0
+HasNoneOwed run = (who : ℕ) → OwesNone run.part.engine who
+
+-- of a run nothing changes but what is known of it, which is so
+pub record IsKnownAnew (a b : PartRun) : Type 0 where
+  pub kept : b ≡ record a { known = b.known }
+  pub known : IsKnown b
 
 -- some part has a command that isn't made
 pub record IsLeftIn (runs : List PartRun) : Type 0 where

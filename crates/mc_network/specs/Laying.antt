@@ -16,7 +16,7 @@ use Rattle.mc_network.specs.declared.wiring.Wiring.{Wiring}
 use Rattle.mc_part.specs.Carrying.{AreFor}
 use Rattle.mc_part.specs.Ports.{sides}
 use Rattle.mc_part.specs.declared.limit.TheConstants.{STAMP_LIMIT}
-use Rattle.mc_part.specs.declared.part.Part.{Part}
+use Rattle.mc_part.specs.Phases.{IsKnown}
 use Rattle.mc_part.specs.declared.part_run.PartRun.{PartRun}
 use Rattle.mc_part.specs.declared.port.Port.{Port}
 use Rattle.mc_port.specs.Ends.{IsPair, given, received}
@@ -173,13 +173,14 @@ pub record AreNumbered (boxes : ℕ) (firsts : List ℕ) (old new : List Port) :
 -- ---- parts
 
 -- nothing was made, and no command is left
-pub record IsFresh (part : Part) : Type 0 where
-  pub log : part.log.items ≡ []
-  pub stamp : part.stamp ≡ 0
-  pub heard : part.heard ≡ 0
-  pub commands : part.commands.items ≡ []
-  pub counts : length part.shifts.items ≡ length part.engine.boxes
-  pub shifts : (who : ℕ) → slice_index_or part.shifts.items who 0 ≡ 0
+pub record IsFresh (run : PartRun) : Type 0 where
+  pub log : run.part.log.items ≡ []
+  pub stamp : run.part.stamp ≡ 0
+  pub heard : run.part.heard ≡ 0
+  pub commands : run.part.commands.items ≡ []
+  pub counts : length run.part.shifts.items ≡ length run.part.engine.boxes
+  pub shifts : (who : ℕ) → slice_index_or run.part.shifts.items who 0 ≡ 0
+  pub known : IsKnown run
 
 -- a part as it is laid out of these boxes, with these ports
 pub record IsLaid (assigned : List ℕ) (channels : List ChannelState) (lanes : List (List Tagged)) (part : ℕ)
@@ -191,7 +192,7 @@ pub record IsLaid (assigned : List ℕ) (channels : List ChannelState) (lanes : 
       (length (channel_numbers assigned channels part)) run.part.engine.lanes
   pub ports_are : AreNumbered (length boxes) (first_slots (channels_in assigned channels part)) ports
       run.part.ports.items
-  pub fresh : IsFresh run.part
+  pub fresh : IsFresh run
 
 -- each of so many parts is laid out of its boxes
 pub record AreLaid (assigned : List ℕ) (channels : List ChannelState) (lanes : List (List Tagged))

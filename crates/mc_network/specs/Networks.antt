@@ -1,5 +1,5 @@
 -- A network that is cut into parts: the world that its parts stand for, and what it keeps between phases.
-use Rattle.std.specs.Prelude.{◌≡◌, ◌⊎◌, ◌<◌, ◌≤◌, ◌*◌, ◌/◌, ℕ, All, Bool, not, IsTrue, List, [], drop, filter, length, map, replicate, slice_get, slice_index_or, Some}
+use Rattle.std.specs.Prelude.{◌≡◌, ◌⊎◌, ◌<◌, ◌≤◌, ◌*◌, ◌/◌, ℕ, All, Bool, false, not, IsTrue, List, [], drop, filter, length, map, replicate, slice_get, slice_index_or, Some}
 use Rattle.std.specs.List.{AllByRecursion, range_with_len}
 use Rattle.mc_box.specs.Boxes.{no_box}
 use Rattle.mc_box.specs.declared.event.Event.{Event}
@@ -8,16 +8,17 @@ use Rattle.mc_box.specs.declared.limit.TheConstants.{SLOT_LIMIT}
 use Rattle.mc_part.specs.Cuts.{channels_in, home_at, is_part, layout_of, members, part_numbers, part_of, place_in}
 use Rattle.mc_part.specs.Cutting.{AreNumbersIn}
 use Rattle.mc_merge.specs.Lanes.{absent_channel}
+use Rattle.mc_model.specs.Paths.{has_ring}
 use Rattle.mc_model.specs.Shapes.{is_allowed}
 use Rattle.mc_model.specs.Sound.{IsSound}
 use Rattle.mc_model.specs.Worlds.{ChannelState, WorldState, channel_number_limit}
-use Rattle.mc_network.specs.States.{HoldsOf, NetworkState, no_shifts, no_stimuli}
+use Rattle.mc_network.specs.States.{NetworkState, no_shifts, no_stimuli}
 use Rattle.mc_network.specs.declared.limit.TheConstants.{NETWORK_LIMIT}
 use Rattle.mc_network.specs.declared.network.Crossing.{Crossing}
 use Rattle.mc_network.specs.declared.network.CutNetwork.{CutNetwork}
 use Rattle.mc_part.specs.Carrying.{AllComeIn, AllGoOut, tunnel_count}
 use Rattle.mc_part.specs.Parts.{IsWithin, LeadsAway, shifts_of, state_of, stimuli_of, tables_of}
-use Rattle.mc_part.specs.Phases.{EachOf}
+use Rattle.mc_part.specs.Phases.{EachOf, IsKnown}
 use Rattle.mc_part.specs.Running.{AreCalm}
 use Rattle.mc_part.specs.declared.limit.TheConstants.{STAMP_LIMIT}
 use Rattle.mc_part.specs.declared.part.Part.{Part}
@@ -145,6 +146,7 @@ pub record IsIdle (budget : ℕ) (run : PartRun) : Type 0 where
   pub stamp : run.part.stamp ≡ 0
   pub heard : run.part.heard ≡ 0
   pub room : SLOT_LIMIT * length run.part.engine.boxes ≤ budget
+  pub known : IsKnown run
   -- each command that is left has a box that is there, whose shape allows it
   pub allowed : AllByRecursion (λ (turn : Turn). IsTrue (is_allowed run.part.engine turn))
       (drop run.part.used run.part.commands.items)
@@ -178,4 +180,4 @@ pub record IsCutNetwork (network : CutNetwork) : Type 0 where
   pub idle : EachOf (IsIdle (turn_budget (length network.runs.items))) network.runs.items
   pub calm : IsTrue network.calm → EachOf (λ (run : PartRun). AreCalm run.part) network.runs.items
   pub sound : IsSound (world_in network)
-  pub known : HoldsOf network.known (network_state network)
+  pub free : IsTrue network.free → has_ring (world_in network) ≡ false

@@ -37,6 +37,7 @@ pub record HasNothing (every : Bool) (part : Part) : Type 0 where
 pub record IsChosen (every : Bool) (a b : PartRun) : Type 0 where
   pub part : b.part ≡ a.part
   pub ended : b.ended ≡ None
+  pub known : b.known ≡ a.known
   pub idle : b.active ≡ false → HasNothing every b.part
 
 abbrev pub AreChosen : Bool → List PartRun → List PartRun → Type 0
@@ -46,6 +47,7 @@ AreChosen every old new = EachChanged (IsChosen every) old new
 pub record WakesUp (a b : PartRun) : Type 0 where
   pub part : b.part ≡ a.part
   pub ended : b.ended ≡ a.ended
+  pub known : b.known ≡ a.known
   pub active : b.active ≡ false → a.active ≡ false
 
 -- ---- what is carried over
@@ -102,6 +104,7 @@ pub record IsSameRun (a b : PartRun) : Type 0 where
   pub part : IsAsBefore a.part b.part
   pub active : b.active ≡ a.active
   pub ended : b.ended ≡ a.ended
+  pub known : b.known ≡ a.known
 
 -- both lanes of a channel are carried over between two parts, and nothing else changes
 pub record CarriesBoth (from from_2 to to_2 : PartRun) (from_port to_port : ℕ) : Type 0 where

@@ -6,11 +6,9 @@ use Rattle.mc_box.specs.declared.event.Event.TheVariants.{Media, Shift}
 use Rattle.mc_box.specs.declared.event.MediaChange.TheVariants.{Hear}
 use Rattle.mc_box.specs.declared.event.Turn.{Turn}
 use Rattle.mc_box.specs.declared.limit.TheConstants.{SHIFT_LIMIT}
-use Rattle.mc_model.specs.Paths.{has_ring}
 use Rattle.mc_model.specs.Settles.{can_shift, is_quiet, world_owes}
 use Rattle.mc_model.specs.Worlds.{WorldState, box_at}
 use Rattle.mc_merge.specs.Phases.{PlaysPhase}
-use Rattle.mc_network.specs.declared.network.Known.{Known}
 use Rattle.mc_world.specs.StepAnswers.{LacksVersion}
 
 -- its world, the commands that are left to each box, and how many Shifts each has made in the settle
@@ -46,13 +44,6 @@ HasCommands state = (who : ℕ) × (state.stimuli who ≢ [])
 -- no slot owes a retry
 abbrev pub NoneOwes : NetworkState → Type 0
 NoneOwes state = (who local : ℕ) → world_owes state.world who local ≡ false
-
--- what is known of a network is so
-pub record HoldsOf (known : Known) (state : NetworkState) : Type 0 where
-  pub calm : IsTrue known.rested → can_shift state.world ≡ false
-  pub free : IsTrue known.rested → has_ring state.world ≡ false
-  pub owes : IsTrue known.unowed → NoneOwes state
-  pub shifts : IsTrue known.unshifted → (who : ℕ) → state.shifts who ≡ 0
 
 -- the program of this box has an enabled transition, and that of no box before it
 pub record IsFirstShifter (world : WorldState) (who : ℕ) : Type 0 where

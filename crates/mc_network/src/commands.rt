@@ -4,12 +4,12 @@ ghost use Rattle.std.specs.Prelude.{◌≡◌, ◌<◌, ◌≤◌, ◌∷◌, �
 ghost use Rattle.mc_box.specs.BoxEvents.{is_command};
 ghost use Rattle.mc_box.specs.declared.limit.TheConstants.{SHIFT_LIMIT};
 ghost use Rattle.mc_model.specs.Shapes.{is_allowed};
-ghost use Rattle.mc_network.specs.Commanding.{AddsAt, HasAdded, HasBegunSettle, HasNoShifts, HasSpare, IsLeftIn, IsNoneLeft};
+ghost use Rattle.mc_network.specs.Commanding.{AddsAt, HasAdded, HasBegunSettle, HasSpare, IsLeftIn, IsNoneLeft};
 ghost use Rattle.mc_network.specs.Networks.{IsCutNetwork, network_state};
 ghost use Rattle.mc_network.specs.States.{HasCommands, NoneLeft, new_state, with_command};
-ghost use Rattle.mc_part.specs.Phases.{EachChanged, EachOf};
+ghost use Rattle.mc_part.specs.Phases.{EachChanged, EachOf, IsKnown};
 
-use crate::network::{CutNetwork, NOTHING_KNOWN};
+use crate::network::CutNetwork;
 use mc_box::Turn;
 use mc_box::limit::SHIFT_LIMIT;
 use mc_part::{Part, PartRun};
@@ -21,31 +21,34 @@ pub fn begin_settle(network: &mut CutNetwork)
     ensures cut { IsCutNetwork network.new }
     ensures state { network_state network.new ≡ new_state (network_state network.old).world }
 {
-    let unshifted = network.known.unshifted;
-    network.calm = stays_calm(unshifted, network.calm, &network.runs);
-    begin_parts(unshifted, &mut network.runs);
-    network.known = NOTHING_KNOWN;
+    network.calm = stays_calm(network.calm, &network.runs);
+    begin_parts(&mut network.runs);
 }
 
 // Whether no box can make a Shift once it has all its Shifts again.
-fn stays_calm(unshifted: bool, calm: bool, runs: &[PartRun]) -> bool
-    requires { IsTrue unshifted → EachOf HasNoShifts runs.now }
+fn stays_calm(calm: bool, runs: &[PartRun]) -> bool
+    requires { EachOf IsKnown runs.now }
     ensures calm { IsTrue result → IsTrue calm }
     ensures spare { IsTrue result → EachOf HasSpare runs.now }
 {
-    if unshifted {
-        return calm;
-    }
     for run in runs {
-        if !has_spare(&run.part.shifts) {
+        if !has_spare(run) {
             return false;
         }
     }
     calm
 }
 
+// Whether no box of a part has made all its Shifts.
+fn has_spare(run: &PartRun) -> bool
+    requires { IsKnown run.now }
+    ensures { IsTrue result → HasSpare run.now }
+{
+    run.known.unshifted || are_below(&run.part.shifts)
+}
+
 // Whether none of these counts is at the limit.
-fn has_spare(counts: &[u32]) -> bool
+fn are_below(counts: &[u32]) -> bool
     ensures { IsTrue result → (who : ℕ) → slice_index_or counts.now who 0 < SHIFT_LIMIT }
 {
     for place in 0..counts.len() {
@@ -57,21 +60,22 @@ fn has_spare(counts: &[u32]) -> bool
 }
 
 // No command is left in any part.
-fn begin_parts(unshifted: bool, runs: &mut [PartRun])
-    requires { IsTrue unshifted → EachOf HasNoShifts runs.old }
+fn begin_parts(runs: &mut [PartRun])
+    requires { EachOf IsKnown runs.old }
     ensures { EachChanged HasBegunSettle runs.old runs.new }
 {
     for place in 0..runs.len() {
-        begin_part(unshifted, &mut runs[place]);
+        begin_part(&mut runs[place]);
     }
 }
 
 // The same of one part.
-fn begin_part(unshifted: bool, run: &mut PartRun)
-    requires { IsTrue unshifted → HasNoShifts run.old }
+fn begin_part(run: &mut PartRun)
+    requires { IsKnown run.old }
     ensures { HasBegunSettle run.old run.new }
 {
-    run.part.begin_settle(unshifted);
+    run.part.begin_settle(run.known.unshifted);
+    run.known.unshifted = true;
 }
 
 /// Gives a box a command more, which its shape allows, after those that it has. It fails only for want of memory, and
@@ -86,7 +90,6 @@ pub fn add_command(network: &mut CutNetwork, turn: Turn) -> Result<(), AllocErro
     let part = network.assigned[turn.who as usize];
     let who = network.numbers[turn.who as usize];
     let event = turn.event;
-    network.known = NOTHING_KNOWN;
     add_at(&mut network.runs, part, Turn { who, event })
 }
 

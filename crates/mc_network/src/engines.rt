@@ -16,7 +16,7 @@ use crate::filling::fill;
 use mc_box::MediaBox;
 use mc_lane::Lane;
 use mc_model::Channel;
-use mc_part::{Part, PartRun, Port, channels_in, share};
+use mc_part::{Known, Part, PartRun, Port, channels_in, share};
 use mc_signal::Tagged;
 use mc_world::{CutFault, Engine, engine_of};
 use std::alloc::{AllocError, Global};
@@ -151,7 +151,7 @@ fn run_of(
     requires { count ≡ length engine.boxes }
     ensures engine { IfOk result (λ run. run.part.engine ≡ engine) }
     ensures ports { IfOk result (λ run. run.part.ports.items ≡ ports.items) }
-    ensures fresh { IfOk result (λ run. IsFresh run.part) }
+    ensures fresh { IfOk result IsFresh }
 {
     let shifts = vec![in alloc; 0; count]?;
     let part = Part {
@@ -168,6 +168,10 @@ fn run_of(
         part,
         active: false,
         ended: None,
+        known: Known {
+            unowed: false,
+            unshifted: true,
+        },
     })
 }
 

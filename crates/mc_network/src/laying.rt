@@ -11,7 +11,7 @@ ghost use Rattle.mc_network.specs.declared.limit.TheConstants.{NETWORK_LIMIT};
 use crate::dividing::divide;
 use crate::engines::lay_parts;
 use crate::logs::lay_logs;
-use crate::network::{CutNetwork, NOTHING_KNOWN};
+use crate::network::CutNetwork;
 use crate::wiring::{Wiring, wire};
 use mc_box::{Event, MediaBox};
 use mc_part::PartRun;
@@ -44,7 +44,7 @@ pub fn cut_network(alloc: Global, world: World, most: usize) -> Result<CutNetwor
         crossings,
         calm,
         programs,
-        known: NOTHING_KNOWN,
+        free: false,
     })
 }
 

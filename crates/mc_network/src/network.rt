@@ -13,24 +13,6 @@ pub struct Crossing {
     pub to_port: u32,
 }
 
-/// What is known of a network, so that a settle needn't look for it at each box.
-#[derive(Clone, Copy, PartialEq, Eq, Debug)]
-pub struct Known {
-    /// No box can make a Shift, and no slot stands on a ring.
-    pub rested: bool,
-    /// No slot owes a retry.
-    pub unowed: bool,
-    /// No box has made a Shift in the settle.
-    pub unshifted: bool,
-}
-
-/// Of a network that goes on nothing is known.
-pub const NOTHING_KNOWN: Known = Known {
-    rested: false,
-    unowed: false,
-    unshifted: false,
-};
-
 /// A network cut into parts, between two phases.
 #[derive(Drop)]
 pub struct CutNetwork {
@@ -49,6 +31,6 @@ pub struct CutNetwork {
     pub calm: bool,
     /// Whether some box has a program.
     pub programs: bool,
-    /// What is known of it between two settles.
-    pub known: Known,
+    /// Whether it is known that no slot stands on a ring.
+    pub free: bool,
 }

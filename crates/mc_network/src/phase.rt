@@ -12,7 +12,7 @@ ghost use Rattle.mc_merge.specs.Wholes.{numbers_in};
 use crate::carrying_over::carry_over;
 use crate::choosing::choose;
 use crate::merging::merge_logs;
-use crate::network::{Crossing, CutNetwork, NOTHING_KNOWN};
+use crate::network::{Crossing, CutNetwork};
 use mc_box::Turn;
 use mc_io::Gate;
 use mc_part::limit::STAMP_LIMIT;
@@ -55,7 +55,7 @@ pub fn run_phase<R: Threads + Sync, G: Gate + Sync>(
         turns,
     )?;
     network.calm = are_calm(network.calm, &network.runs);
-    network.known = NOTHING_KNOWN;
+    network.free = false;
     first_end(&network.logs, &network.runs)
 }
 

@@ -2,7 +2,7 @@
 
 use crate::equal::is_equal;
 use crate::fault::TestFault;
-use crate::networks::{add, device, feature, link_through, row, two_features};
+use crate::networks::{add, device, feature, link_through, row, step, two_features};
 use crate::programs::flipping;
 use crate::settles::{
     BACK, CALLS, Case, Ending, LINK, OPEN, Outcome, PROGRAMS, drawn_case, ended, outcome_of,
@@ -385,5 +385,97 @@ fn any_two_of_three_parts_run_at_once(rt: HostRuntime) -> Result<(), TestFault> 
         is_equal(&rt, &done.ending, &Ending::Rest);
         assert!(rt; !gate.missed.load(Ordering::SeqCst));
     }
+    Ok(())
+}
+
+// ---- a long call that one phone ends
+
+// The first phone ends the call, and opens it again.
+const CLOSES: Turn = Turn {
+    who: 0,
+    event: Event::Set(Change::End(0, Goal::Close)),
+};
+
+// A box far behind the middle. Before the call's end comes to it, the half that it stands in has made more turns than go
+// between two times at which it carries over what crosses.
+const FAR: u32 = 240;
+
+// How often the call is ended at most. Each time a half may have given up waiting before the other one answers.
+const TRIES: u32 = 256;
+
+// Holds the far box before its turns for a while, until a box of the first half comes to a turn, and says whether one did.
+// On one thread none could.
+#[derive(Drop)]
+struct HalvesGate {
+    near: AtomicU64,
+    met: AtomicBool,
+}
+
+impl HalvesGate {
+    fn new() -> HalvesGate {
+        HalvesGate {
+            near: AtomicU64::new(0),
+            met: AtomicBool::new(false),
+        }
+    }
+
+    // Whether a box of the first half comes to a turn within so many looks.
+    fn is_joined(&self) -> bool {
+        let before = self.near.load(Ordering::SeqCst);
+        for _ in 0..HOLD {
+            if self.near.load(Ordering::SeqCst) != before {
+                return true;
+            }
+            spin_loop();
+        }
+        false
+    }
+}
+
+impl Gate for HalvesGate {
+    fn reached(&self, who: u32, _turn: u32) {
+        if who < 128 {
+            let _ = self.near.fetch_add(1, Ordering::SeqCst);
+        } else if who == FAR && self.is_joined() {
+            self.met.store(true, Ordering::SeqCst);
+        }
+    }
+}
+
+// How long the far box is held at most.
+const HOLD: u32 = 1 << 16;
+
+// A batch of one command settles, with turns that the gate is told of.
+fn settle_one<R: Threads + Sync + AllocGlobal>(
+    rt: &R,
+    gate: &HalvesGate,
+    world: World,
+    command: Turn,
+) -> Result<World, TestFault> {
+    let batch = [command];
+    if !fits(&world, &batch) || world.boxes().len() > NETWORK_LIMIT {
+        return Err(TestFault::NoMemory(AllocError));
+    }
+    match settle_world(rt, rt.alloc(), gate, world, 2, &batch) {
+        Ok(done) => Ok(done.world),
+        Err(_) => Err(TestFault::NoMemory(AllocError)),
+    }
+}
+
+// A call through 254 features, of which one phone alone is told something, is settled on two threads side by side: while
+// one of them is at a turn the other comes to one.
+#[test]
+fn a_long_call_of_one_command_takes_two_threads(rt: HostRuntime) -> Result<(), TestFault> {
+    let gate = HalvesGate::new();
+    let mut world = long_call(&rt)?;
+    step(&mut world, 255, Event::Set(Change::End(0, Goal::Hold)))?;
+    for _try in 0..TRIES {
+        world = settle_one(&rt, &gate, world, OPEN)?;
+        world = settle_one(&rt, &gate, world, CLOSES)?;
+        if gate.met.load(Ordering::SeqCst) {
+            return Ok(());
+        }
+    }
+    assert!(rt; gate.met.load(Ordering::SeqCst));
     Ok(())
 }

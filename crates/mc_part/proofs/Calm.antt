@@ -174,12 +174,15 @@ count_none : (n m : ℕ) (entries : List Entry) → entries ≡ [] → m ≡ n +
 count_none n m [] is counted = counted ∙ add-zero n
 count_none n m (entry ∷ entries) is counted = absurd (cc)
 
+-- a box that made no turn stays as it is
+pub stays_at : (a b : Part) (retries : ℕ → ℕ → ℕ) (runs : Runs a b retries) (who : ℕ) → own_log who runs.run.log ≡ [] → (box_at b.engine who ≡ box_at a.engine who) × (shifts_of b who ≡ shifts_of a who)
+stays_at a b retries runs who none = (
+  sym (by_none (own_log who runs.run.log) (box_at a.engine who) (box_at b.engine who) none (runs.run.spanned.work.made who)),
+  count_none (shifts_of a who) (shifts_of b who) (own_log who runs.run.log) none (runs.run.uses who).shifts_are,
+)
+
 pub stays_idle : (a b : Part) (retries : ℕ → ℕ → ℕ) (runs : Runs a b retries) → runs.run.log ≡ [] → (who : ℕ) → (box_at b.engine who ≡ box_at a.engine who) × (shifts_of b who ≡ shifts_of a who)
-stays_idle a b retries runs same who =
-    let none : own_log who runs.run.log ≡ [] = no_own runs.run.log who same in (
-      sym (by_none (own_log who runs.run.log) (box_at a.engine who) (box_at b.engine who) none (runs.run.spanned.work.made who)),
-      count_none (shifts_of a who) (shifts_of b who) (own_log who runs.run.log) none (runs.run.uses who).shifts_are,
-    )
+stays_idle a b retries runs same who = stays_at a b retries runs who (no_own runs.run.log who same)
 
 pub still_calm : (a b : Part) → Runs a b no_retries → b.log.items ≡ a.log.items → AreCalm a → AreCalm b
 still_calm a b runs same calm who inside =

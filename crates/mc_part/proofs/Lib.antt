@@ -8,6 +8,7 @@ pub mod Going
 pub mod Halving
 pub mod Layouts
 pub mod Leads
+pub mod Learned
 pub mod Members
 pub mod Networks
 pub mod Numbers

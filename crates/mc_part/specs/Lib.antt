@@ -3,6 +3,7 @@ pub mod CutLaws
 pub mod Cuts
 pub mod Cutting
 pub mod Drains
+pub mod Knowing
 pub mod Networks
 pub mod Parts
 pub mod Phases

@@ -1,5 +1,6 @@
 -- What parts do in a phase.
 use Rattle.std.specs.Prelude.{◌≡◌, ◌<◌, ◌≤◌, ◌^◌, ℕ, Bool, true, false, IsFalse, IsTrue, List, length, max, slice_get, Result, Some}
+use Rattle.mc_part.specs.Knowing.{HoldsOf}
 use Rattle.mc_part.specs.Parts.{IsWithin, LeadsAway}
 use Rattle.mc_part.specs.Running.{AreCalmFrom, EndsAs, HasRoom, Progresses, RunsAs, UsesAs}
 use Rattle.mc_part.specs.declared.stop.Ended.{Ended}
@@ -14,6 +15,10 @@ EachOf {A = A} P items = (i : ℕ) (item : A) → slice_get items i ≡ Some ite
 pub record EachChanged {A : Type 0} (R : A → A → Type 0) (old new : List A) : Type 0 where
   pub count : length new ≡ length old
   pub each : (i : ℕ) (a b : A) → slice_get old i ≡ Some a → slice_get new i ≡ Some b → R a b
+
+-- what is known of a part is so
+abbrev pub IsKnown : PartRun → Type 0
+IsKnown run = HoldsOf run.known run.part
 
 -- a part may run: the channels of its ports lead away, its stamps and counts fit, no box but those that have commands
 -- can shift, unless each is to be tried, and retries fit into the budget
@@ -45,6 +50,7 @@ pub record HasGone (retries : Bool) (budget : ℕ) (a b : PartRun) : Type 0 wher
   pub active : b.active ≡ a.active
   pub idle : a.active ≡ false → b ≡ a
   pub ended : a.active ≡ true → HasEnded retries budget a b
+  pub known : IsKnown a → IsKnown b
 
 abbrev pub HaveGone : Bool → ℕ → List PartRun → List PartRun → Type 0
 HaveGone retries budget old new = EachChanged (HasGone retries budget) old new

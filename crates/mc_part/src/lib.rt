@@ -5,6 +5,7 @@
 mod carrying;
 mod channels;
 mod homes;
+mod knowing;
 pub mod laws;
 pub mod limit;
 mod part;
@@ -22,6 +23,7 @@ mod stop;
 pub use carrying::carry;
 pub use channels::channels_in;
 pub use homes::{Homes, homes_of};
+pub use knowing::{Known, owes_some};
 pub use mc_merge::{Made, PartLog, merge};
 pub use part::Part;
 pub use part_run::PartRun;

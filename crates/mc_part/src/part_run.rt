@@ -1,21 +1,23 @@
 // A part in a phase.
 
-ghost use Rattle.std.specs.Prelude.{◌≤◌};
+ghost use Rattle.std.specs.Prelude.{◌≡◌, ◌≤◌, ◌&&◌, is_ok};
 ghost use Rattle.mc_part.specs.declared.limit.TheConstants.{STAMP_LIMIT};
 ghost use Rattle.mc_part.specs.Phases.{HasGone, IsReady};
 
+use crate::knowing::{Known, learn};
 use crate::part::Part;
 use crate::running::run_part;
 use crate::stop::{Ended, PartStop};
 use mc_io::Gate;
 use std::sync::atomic::AtomicU64;
 
-/// A part, whether it has something to do or may get it, and how its run ended.
+/// A part, whether it has something to do or may get it, how its run ended, and what is known of it.
 #[derive(Drop)]
 pub struct PartRun {
     pub part: Part,
     pub active: bool,
     pub ended: Option<Result<Ended, PartStop>>,
+    pub known: Known,
 }
 
 /// Runs a part, if it has something to do.
@@ -32,8 +34,18 @@ pub(crate) fn run_one<G: Gate>(
     ensures { HasGone retries budget run.old run.new }
 {
     if run.active {
-        run.ended = Some(run_part(&mut run.part, gate, retries, every, budget, busy));
+        let ended = run_part(&mut run.part, gate, retries, every, budget, busy);
+        let retried = has_retried(retries, &ended);
+        run.known = learn(&run.part, run.known, retried);
+        run.ended = Some(ended);
     }
+}
+
+// Whether a run has made each retry that was owed.
+fn has_retried(retries: bool, ended: &Result<Ended, PartStop>) -> bool
+    ensures { result ≡ (retries && is_ok ended.now) }
+{
+    retries && ended.is_ok()
 }
 
 /// Whether some part has something to do.

@@ -7,7 +7,6 @@ mod commands;
 mod finishing;
 mod in_parts;
 pub mod limit;
-mod owing;
 mod playing;
 mod resting;
 mod settling;

@@ -6,12 +6,10 @@ ghost use Rattle.mc_model.specs.Paths.{has_ring};
 ghost use Rattle.mc_network.specs.Networks.{IsCutNetwork, network_state};
 ghost use Rattle.mc_network.specs.States.{NoneLeft};
 ghost use Rattle.mc_rounds.specs.Playing.{GoesOn, Retries, some_shift};
-ghost use Rattle.mc_rounds.specs.Since.{IsKnownSince};
 
-use crate::owing::owes_retry;
 use mc_box::{Event, Turn};
 use mc_io::Gate;
-use mc_network::{CutNetwork, Known, run_phase};
+use mc_network::{CutNetwork, owes_retry, run_phase};
 use std::alloc::AllocError;
 use std::thread::Threads;
 
@@ -51,18 +49,16 @@ pub fn retry<R: Threads + Sync, G: Gate + Sync>(
     rt: &R,
     gate: &G,
     short: bool,
-    known: Known,
     network: &mut CutNetwork,
     turns: &mut Vec<Turn>,
 ) -> Result<bool, AllocError>
     requires cut { IsCutNetwork network.old }
     requires used_up { NoneLeft (network_state network.old) }
-    requires since { IsKnownSince known turns.old.items (network_state network.old) }
     ensures cut { OnOk result (IsCutNetwork network.new) }
     ensures retried { IfOk result (Retries (network_state network.old) (network_state network.new)
         turns.old.items turns.new.items) }
 {
-    if !owes_retry(network, known, turns) {
+    if !owes_retry(network) {
         return Ok(false);
     }
     let before = turns.len();
@@ -79,8 +75,8 @@ pub fn has_shift(turns: &[Turn]) -> bool
     turns.iter().any(|turn| is_shift(turn.event))
 }
 
-// Whether an event is a Shift.
-fn is_shift(event: Event) -> bool
+/// Whether an event is a Shift.
+pub fn is_shift(event: Event) -> bool
     ensures { result ≡ is_shift event }
 {
     matches!(event, Event::Shift)

@@ -1,6 +1,6 @@
 // A settle of a batch.
 
-ghost use Rattle.std.specs.Prelude.{◌≡◌, ◌||◌, [], IfErr, IfOk, OnOk, Some};
+ghost use Rattle.std.specs.Prelude.{◌≡◌, ◌||◌, [], false, IfErr, IfOk, IsTrue, OnOk, Some};
 ghost use Rattle.mc_box.specs.LinkFree.{is_linking};
 ghost use Rattle.mc_model.specs.Settles.{IsSettled};
 ghost use Rattle.mc_model.specs.Shapes.{AreAllowed};
@@ -65,12 +65,15 @@ fn run_batch<R: Threads + Sync, G: Gate + Sync>(
     ensures ended { IfOk result (EndsSettle (network_state network.old).world batch.now turns.new.items
         (network_state network.new).world) }
 {
-    let known = network.known;
+    let free = network.free;
     let short = may_link(network.programs, batch);
     begin(network, batch)?;
     match use_up(rt, gate, short, network, turns)? {
         Some((who, local)) => Ok(Some(SettleStop::VersionEnd(number(network, who, local)))),
-        None => finish(rt, alloc, gate, known, network, turns),
+        None => {
+            let linked = may_be_linked(free, turns);
+            finish(rt, alloc, gate, linked, network, turns)
+        }
     }
 }
 
@@ -93,8 +96,16 @@ fn may_link(programs: bool, batch: &[Turn]) -> bool
     programs || sets_link(batch)
 }
 
-/// Whether one of these turns may link slots.
-pub fn sets_link(turns: &[Turn]) -> bool
+// Whether slots may stand on a ring: they were linked by these turns, or before them.
+fn may_be_linked(free: bool, turns: &[Turn]) -> bool
+    ensures free { result ≡ false → IsTrue free }
+    ensures links { result ≡ false → sets_link turns.now ≡ false }
+{
+    !free || sets_link(turns)
+}
+
+// Whether one of these turns may link slots.
+fn sets_link(turns: &[Turn]) -> bool
     ensures { result ≡ sets_link turns.now }
 {
     turns.iter().any(|turn| is_linking(turn.event))

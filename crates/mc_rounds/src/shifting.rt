@@ -1,47 +1,63 @@
 // Whether a box can make a Shift at a rest.
 
 ghost use Rattle.std.specs.Prelude.{◌≡◌, false, IsTrue};
+ghost use Rattle.mc_box.specs.BoxEvents.{is_shift};
 ghost use Rattle.mc_model.specs.Settles.{can_shift};
 ghost use Rattle.mc_network.specs.Networks.{IsCutNetwork, network_state};
 ghost use Rattle.mc_network.specs.States.{IsFirstShifterOr};
-ghost use Rattle.mc_rounds.specs.Since.{EachHasNone, IsKnownSince, ShiftsNone};
+ghost use Rattle.mc_rounds.specs.Playing.{HasNoWork};
+ghost use Rattle.mc_rounds.specs.Since.{CountsShifts, ShiftedHaveNone, ShiftsNone};
 
+use crate::playing::is_shift;
 use mc_box::{Event, Turn};
-use mc_network::{CutNetwork, Known, box_of, first_shifter};
+use mc_network::{CutNetwork, box_of, first_shifter, has_shifted};
 
-/// The first box whose program has an enabled transition. Where none had one when the settle began, the boxes are looked
-/// over only if one that has made a turn has.
-pub fn first_shifter_since(network: &CutNetwork, known: Known, turns: &[Turn]) -> Option<u32>
+/// The first box whose program has an enabled transition at a rest. It has made all its Shifts in the settle, so without
+/// a Shift no box is looked at, and else the boxes are looked over only if one of those that have made a Shift has.
+pub fn first_shifter_since(network: &CutNetwork, turns: &[Turn]) -> Option<u32>
     requires cut { IsCutNetwork network.now }
-    requires since { IsKnownSince known turns.now (network_state network.now) }
+    requires idle { HasNoWork (network_state network.now) }
+    requires counted { CountsShifts turns.now (network_state network.now) }
     ensures { IsFirstShifterOr (network_state network.now).world result }
 {
-    if is_still(network, known, turns) {
-        return None;
+    if may_shift(network, turns) {
+        return first_shifter(network);
     }
-    first_shifter(network)
+    None
 }
 
-// Whether none has, as far as that can be told by the boxes that have made turns.
-fn is_still(network: &CutNetwork, known: Known, turns: &[Turn]) -> bool
+// Whether a box may have one, as far as that can be told by the boxes that have made Shifts.
+fn may_shift(network: &CutNetwork, turns: &[Turn]) -> bool
     requires cut { IsCutNetwork network.now }
-    requires since { IsKnownSince known turns.now (network_state network.now) }
-    ensures { IsTrue result → can_shift (network_state network.now).world ≡ false }
+    requires idle { HasNoWork (network_state network.now) }
+    requires counted { CountsShifts turns.now (network_state network.now) }
+    ensures { result ≡ false → can_shift (network_state network.now).world ≡ false }
 {
-    known.rested && !turned_can_shift(network, turns)
+    if !has_shifted(network) {
+        return false;
+    }
+    shifted_can_shift(network, turns)
 }
 
-// Whether a box that has one of these turns has.
-fn turned_can_shift(network: &CutNetwork, turns: &[Turn]) -> bool
+// Whether a box that has made one of these Shifts has.
+fn shifted_can_shift(network: &CutNetwork, turns: &[Turn]) -> bool
     requires { IsCutNetwork network.now }
-    ensures { result ≡ false → EachHasNone (ShiftsNone (network_state network.now).world) turns.now }
+    ensures { result ≡ false → ShiftedHaveNone (network_state network.now).world turns.now }
 {
     for at in 0..turns.len() {
-        if can_shift_at(network, turns[at].who) {
+        if has_shifter(network, turns[at]) {
             return true;
         }
     }
     false
+}
+
+// Whether a turn is a Shift, and its box has.
+fn has_shifter(network: &CutNetwork, turn: Turn) -> bool
+    requires { IsCutNetwork network.now }
+    ensures { result ≡ false → IsTrue (is_shift turn.event) → ShiftsNone (network_state network.now).world turn.who }
+{
+    is_shift(turn.event) && can_shift_at(network, turn.who)
 }
 
 // Whether this box has.

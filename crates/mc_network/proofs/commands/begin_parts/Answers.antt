@@ -5,8 +5,8 @@ use Rattle.mc_network.proofs.Lists.{there_at}
 use Rattle.mc_network.proofs.commands.begin_parts.Goals as goal
 
 pub begin_part-requires : goal.begin_part-requires
-begin_part-requires c unshifted =
-    c.requires unshifted c.loop-place.place _ (sym (c.loop-place.invariant.rest c.loop-place.place (omega arith)) ∙ there_at c.loop-place.runs c.loop-place.place c.index-runs-place.result (omega arith))
+begin_part-requires c =
+    c.requires c.loop-place.place _ (sym (c.loop-place.invariant.rest c.loop-place.place (omega arith)) ∙ there_at c.loop-place.runs c.loop-place.place c.index-runs-place.result (omega arith))
 
 pub loop-place-preserved : goal.loop-place-preserved
 loop-place-preserved c =

@@ -1,13 +1,13 @@
 use Rattle.std.specs.Vec.{with_items}
 use Rattle.mc_network.proofs.CommandsLeft.{begun_cut, begun_state, begun_vec, spare_as}
-use Rattle.mc_network.proofs.BetweenSettles.{unshifted_as}
+use Rattle.mc_network.proofs.BetweenSettles.{known_as}
 use Rattle.mc_network.proofs.commands.begin_settle.Goals as goal
 
 pub stays_calm-network-requires : goal.stays_calm-network-requires
-stays_calm-network-requires c = unshifted_as c.args.network.now c.deref.result.now c.requires c.deref.ensures.value
+stays_calm-network-requires c = known_as c.args.network.now c.deref.result.now c.requires c.deref.ensures.value
 
 pub begin_parts-requires : goal.begin_parts-requires
-begin_parts-requires c = unshifted_as c.args.network.now c.deref_mut.result.now c.requires c.deref_mut.ensures.value
+begin_parts-requires c = known_as c.args.network.now c.deref_mut.result.now c.requires c.deref_mut.ensures.value
 
 pub returns-clause-cut : goal.returns-clause-cut
 returns-clause-cut c =

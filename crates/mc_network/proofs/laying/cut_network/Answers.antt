@@ -16,7 +16,6 @@ use Rattle.mc_network.specs.Laying.{AreWhole}
 use Rattle.mc_network.specs.States.{new_state}
 use Rattle.mc_network.specs.declared.limit.TheConstants.{NETWORK_LIMIT}
 use Rattle.mc_network.specs.declared.network.CutNetwork.{CutNetwork}
-use Rattle.mc_network.specs.declared.network.TheConstants.{NOTHING_KNOWN}
 use Rattle.mc_part.specs.Cuts.{starts_in}
 use Rattle.mc_part.specs.declared.port.Port.{Port}
 use Rattle.mc_signal.specs.declared.Tagged.{Tagged}
@@ -67,7 +66,7 @@ returns c =
       crossings = c.in_ok-ports.field-0.crossings;
       calm = c.none_shifts-calm.result;
       programs = c.some_program-programs.result;
-      known = NOTHING_KNOWN;
+      free = false;
     } in
     let boxes : List BoxState = c.replace-boxes.result.items in
     let channels : List ChannelState = c.into_parts-frame.result.channels.items in

@@ -4,7 +4,7 @@ use Rattle.mc_network.specs.Networks.{IsCutNetwork, network_state}
 use Rattle.mc_network.specs.States.{NoneLeft}
 use Rattle.mc_rounds.proofs.Retried.{HasWentOn}
 use Rattle.mc_rounds.specs.Settling.{rests_left}
-use Rattle.mc_rounds.specs.Since.{IsKnownSince}
+use Rattle.mc_rounds.specs.Since.{CountsShifts}
 use Rattle.mc_rounds.proofs.finishing.finish.Given as goal
 
 -- phases led here, and where none of retries is due one was made at a rest
@@ -12,7 +12,7 @@ abbrev pub invariant-rests : goal.invariant-rests
 invariant-rests g l = record {
   cut : IsCutNetwork l.network;
   none : NoneLeft (network_state l.network);
-  since : IsKnownSince l.known l.turns.items (network_state l.network);
+  counted : CountsShifts l.turns.items (network_state l.network);
   free : l.linked ≡ false → has_ring (network_state l.network).world ≡ false;
   went : HasWentOn (network_state l.initial.network) l.initial.turns.items (network_state l.network) l.turns.items
       l.due;
