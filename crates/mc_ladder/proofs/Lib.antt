@@ -1,7 +1,7 @@
 mod Added
 mod Drawing
+mod Mapped
 pub mod Named
 pub mod Numbered
 mod Sending
-mod Stops
 mod Taken

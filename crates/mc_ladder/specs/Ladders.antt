@@ -1,50 +1,69 @@
--- A whole ladder: for each turn of a journal its row, and for each settle its paths, in the order of the journal.
-use Rattle.std.specs.Prelude.{ℕ, ◌+◌, ◌%◌, ◌==◌, if◌then◌else◌, List, [], ◌∷◌, ◌++◌}
+-- A whole ladder: for each turn of a journal that is drawn its row, and for each settle its paths, in the order of the journal.
+use Rattle.std.specs.Prelude.{ℕ, ◌+◌, ◌%◌, ◌==◌, if◌then◌else◌, List, [], ◌∷◌, ◌++◌, codes}
+use Rattle.std.specs.Fmt.{decimal}
 use Rattle.mc_model.specs.Worlds.{WorldState}
 use Rattle.mc_program_lines.specs.Programs.{BlockState}
 use Rattle.mc_script.specs.declared.command.JournalLine.{JournalLine}
 use Rattle.mc_script.specs.declared.command.JournalLine.TheVariants.{Turn as Made, Settled}
+use Rattle.mc_table.specs.Words.{line_of}
 use Rattle.mc_text.specs.NameLists.{NameLists}
+pub use Rattle.mc_ladder_choice.specs.Entries.{world_after}
+use Rattle.mc_ladder_choice.specs.Choices.{ChoiceState, chosen, is_whole, shown_paths}
+use Rattle.mc_ladder_choice.specs.Entries.{Entry}
+use Rattle.mc_ladder_choice.specs.Surveys.{SurveyState, survey_of}
+use Rattle.mc_ladder_choice.specs.declared.count.Count.{Count}
 use Rattle.mc_ladder.specs.declared.glyph.Style.{Style}
-use Rattle.mc_ladder.specs.declared.ladder.Count.{Count}
 use Rattle.mc_ladder.specs.declared.ladder.TheConstants.{HEADS_EVERY}
+use Rattle.mc_ladder.specs.Columns.{drawn_columns}
 use Rattle.mc_ladder.specs.Frames.{FrameState, frame_of}
 use Rattle.mc_ladder.specs.Heads.{heads}
-use Rattle.mc_ladder.specs.Rows.{next_world, turn_row}
+use Rattle.mc_ladder.specs.Rows.{turn_row}
 use Rattle.mc_ladder.specs.Settling.{settle_rows}
 
--- nothing was drawn yet
-abbrev pub first_count : Count
-first_count = record { turns = 0; settles = 0; within = 0 }
-
--- after one line more
-abbrev pub count_after : Count → JournalLine → Count
-count_after count (Made turn) = record { turns = count.turns + 1; settles = count.settles; within = count.within + 1 }
-count_after count Settled = record { turns = count.turns; settles = count.settles + 1; within = 0 }
-
--- the world after a line
-abbrev pub world_after : WorldState → JournalLine → WorldState
-world_after world (Made turn) = next_world world turn
-world_after world Settled = world
-
 -- heads stand before the first turn of each settle, and again before each that comes after forty more
-abbrev pub heads_due : FrameState → NameLists → Count → List ℕ
-heads_due frame names count = if count.within % HEADS_EVERY == 0 then heads frame names else []
+abbrev pub heads_due : FrameState → NameLists → (within : ℕ) → List ℕ
+heads_due frame names within = if within % HEADS_EVERY == 0 then heads frame names else []
 
--- what is drawn for a line
-abbrev pub line_rows : FrameState → NameLists → List BlockState → WorldState → Count → JournalLine → List ℕ
-line_rows frame names blocks world count (Made turn) =
-    heads_due frame names count ++ turn_row frame names blocks world turn (count.turns + 1)
-line_rows frame names blocks world count Settled = settle_rows frame names world (count.settles + 1)
+-- how many turns of a settle are drawn, after one line more
+abbrev pub within_after : (within : ℕ) → JournalLine → ℕ
+within_after within (Made turn) = within + 1
+within_after within Settled = 0
 
--- what is drawn for the lines of a journal, in a world and after so many lines
-abbrev pub ladder_from : FrameState → NameLists → List BlockState → WorldState → Count → List JournalLine → List ℕ
-ladder_from frame names blocks world count [] = []
-ladder_from frame names blocks world count (line ∷ lines) =
-    line_rows frame names blocks world count line
-    ++ ladder_from frame names blocks (world_after world line) (count_after count line) lines
+-- what is drawn for a line, after so many turns of its settle
+abbrev pub line_rows : FrameState → NameLists → List BlockState → ChoiceState → WorldState → Count → (within : ℕ)
+    → JournalLine → List ℕ
+line_rows frame names blocks choice world count within (Made turn) =
+    heads_due frame names within ++ turn_row frame names blocks world turn (count.turns + 1)
+line_rows frame names blocks choice world count within Settled =
+    settle_rows frame names world (shown_paths choice world) (count.settles + 1)
 
--- the ladder of a journal, from the first world of a network on
-abbrev pub ladder_text : Style → NameLists → List BlockState → WorldState → List JournalLine → List ℕ
-ladder_text style names blocks world journal =
-    ladder_from (frame_of style names world) names blocks world first_count journal
+abbrev pub entry_rows : FrameState → NameLists → List BlockState → ChoiceState → (within : ℕ) → Entry → List ℕ
+entry_rows frame names blocks choice within entry =
+    line_rows frame names blocks choice entry.world entry.count within entry.line
+
+-- what is drawn for these entries, one after another
+abbrev pub rows_of : FrameState → NameLists → List BlockState → ChoiceState → (within : ℕ) → List Entry → List ℕ
+rows_of frame names blocks choice within [] = []
+rows_of frame names blocks choice within (entry ∷ entries) =
+    entry_rows frame names blocks choice within entry
+    ++ rows_of frame names blocks choice (within_after within entry.line) entries
+
+-- how many turns are drawn, of how many, where it may not be all
+abbrev pub count_line : ChoiceState → SurveyState → List ℕ
+count_line choice found =
+    if is_whole choice then [] else line_of (decimal found.drawn ∷ codes "of" ∷ decimal found.turns ∷ codes "turns" ∷ [])
+
+-- the frame for what is drawn
+abbrev pub drawn_frame : Style → NameLists → WorldState → ChoiceState → SurveyState → FrameState
+drawn_frame style names world choice found = frame_of style names world (drawn_columns choice found names world)
+
+-- the ladder of what is drawn of a journal, of which this is found, from the first world of a network on
+abbrev pub ladder_by : Style → NameLists → List BlockState → WorldState → ChoiceState → SurveyState → List JournalLine
+    → List ℕ
+ladder_by style names blocks world choice found journal =
+    count_line choice found
+    ++ rows_of (drawn_frame style names world choice found) names blocks choice 0 (chosen choice world journal)
+
+abbrev pub ladder_text : Style → NameLists → List BlockState → WorldState → ChoiceState → List JournalLine → List ℕ
+ladder_text style names blocks world choice journal =
+    ladder_by style names blocks world choice (survey_of choice world journal) journal

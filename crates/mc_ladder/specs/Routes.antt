@@ -1,9 +1,9 @@
 -- The lanes of a path: from its one end to its other, over each box that it goes through.
-use Rattle.std.specs.Prelude.{ℕ, ◌==◌, ◌&&◌, ◌||◌, Bool, if◌then◌else◌, nat_lt, List, [], ◌∷◌, ◌++◌}
-use Rattle.std.specs.List.{flat_map, list_any}
-use Rattle.mc_model.specs.Paths.{whole_walk}
-use Rattle.mc_model.specs.Worlds.{WorldState, far, place, slot_count}
+use Rattle.std.specs.Prelude.{ℕ, ◌==◌, ◌&&◌, ◌||◌, Bool, if◌then◌else◌, nat_lt, List, ◌++◌, map}
+use Rattle.std.specs.List.{list_any}
+use Rattle.mc_model.specs.Worlds.{WorldState}
 use Rattle.mc_view.specs.declared.PathView.{PathView}
+use Rattle.mc_ladder_choice.specs.Boxes.{path_boxes}
 use Rattle.mc_ladder.specs.declared.glyph.Glyph.{Glyph}
 use Rattle.mc_ladder.specs.declared.glyph.Glyph.TheVariants.{Blank, Line, End, Through, Double, DoubleCrossing, Dot}
 use Rattle.mc_ladder.specs.declared.glyph.Style.{Style}
@@ -19,21 +19,9 @@ abbrev pub ends_of : List ℕ → PathView → Ends
 ends_of columns view =
     record { low = column_of columns view.low.who; high = column_of columns view.high.who; flowing = view.flowing }
 
--- the column of a slot's box
-abbrev pub stop_of : List ℕ → WorldState → ℕ → ℕ
-stop_of columns world s = column_of columns (place world s).0
-
--- the columns of both slots of a tunnel, by the slot from which a path goes over it
-abbrev pub stops_at : List ℕ → WorldState → ℕ → List ℕ
-stops_at columns world s = stop_of columns world s ∷ stop_of columns world (far s) ∷ []
-
--- the columns of all slots on the path from a slot
-abbrev pub stops_from : List ℕ → WorldState → ℕ → List ℕ
-stops_from columns world low = flat_map (stops_at columns world) (whole_walk world low)
-
--- the same; none where there is no such slot
+-- the columns of the boxes on the path from a slot
 abbrev pub path_columns : List ℕ → WorldState → ℕ → List ℕ
-path_columns columns world low = if nat_lt low (slot_count world) then stops_from columns world low else []
+path_columns columns world low = map (column_of columns) (path_boxes world low)
 
 -- it stops at a column
 abbrev pub is_stop : List ℕ → ℕ → Bool

@@ -5,12 +5,11 @@ use Rattle.mc_box.specs.declared.event.Event.{Event}
 use Rattle.mc_box.specs.declared.event.Event.TheVariants.{Take, Set, Media, Tell, Retry, Shift}
 use Rattle.mc_box.specs.declared.event.MediaChange.TheVariants.{Hear, Talk}
 use Rattle.mc_box.specs.declared.event.Turn.{Turn}
-use Rattle.std.specs.Option.{unwrap_or}
-use Rattle.mc_model.specs.Steps.{step}
 use Rattle.mc_model.specs.Worlds.{WorldState, box_at, place}
 use Rattle.mc_program_lines.specs.Programs.{BlockState}
 use Rattle.mc_script.specs.Meaning.{goal_word, slot_name, switch_word}
 use Rattle.mc_text.specs.NameLists.{NameLists}
+pub use Rattle.mc_ladder_choice.specs.Entries.{next_world}
 use Rattle.mc_ladder.specs.declared.arrow.Arrow.{Arrow}
 use Rattle.mc_ladder.specs.declared.glyph.Glyph.{Glyph}
 use Rattle.mc_ladder.specs.declared.glyph.Glyph.TheVariants.{Square, Down, Up}
@@ -111,10 +110,6 @@ command_row frame names turn state number =
     command_lanes frame.style frame.columns turn number ++ command_tail frame names turn state
 
 -- ---- the state of a program
-
--- the world after a turn of a journal
-abbrev pub next_world : WorldState → Turn → WorldState
-next_world world turn = unwrap_or (step world turn) world
 
 -- the number of the state that a box is at
 abbrev pub state_at : WorldState → ℕ → Option ℕ

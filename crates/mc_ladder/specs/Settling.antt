@@ -1,10 +1,8 @@
 -- A settle: between two rules, each path, and who hears what on it.
-use Rattle.std.specs.Prelude.{ℕ, Bool, true, false, List, [], ◌∷◌, ◌++◌, codes, length, map}
+use Rattle.std.specs.Prelude.{ℕ, Bool, true, false, List, [], ◌∷◌, ◌++◌, codes, length}
 use Rattle.std.specs.Fmt.{decimal}
 use Rattle.std.specs.List.{flat_map}
-use Rattle.mc_model.specs.Paths.{paths}
 use Rattle.mc_model.specs.Worlds.{WorldState}
-use Rattle.mc_path.specs.Views.{view_of}
 use Rattle.mc_table.specs.Shown.{hearing_line, view_line}
 use Rattle.mc_table.specs.Words.{line_of}
 use Rattle.mc_text.specs.NameLists.{NameLists}
@@ -50,8 +48,7 @@ titled_rule frame number =
 abbrev pub rule_row : FrameState → List ℕ
 rule_row frame = rule_lanes frame.style (length frame.columns) ++ 10 ∷ []
 
--- a settle of a world, with its number: each path once, in the order of the lower end slots
-abbrev pub settle_rows : FrameState → NameLists → WorldState → (number : ℕ) → List ℕ
-settle_rows frame names world number =
-    titled_rule frame number ++ flat_map (path_rows frame names world) (map (view_of world) (paths world))
-    ++ rule_row frame
+-- a settle of a world, with its number: these paths, each once, in their order
+abbrev pub settle_rows : FrameState → NameLists → WorldState → List PathView → (number : ℕ) → List ℕ
+settle_rows frame names world views number =
+    titled_rule frame number ++ flat_map (path_rows frame names world) views ++ rule_row frame

@@ -1,29 +1,12 @@
 // The columns of a ladder: a box for each.
 
-ghost use Rattle.std.specs.Prelude.{◌≡◌, ◌==◌, [], position, IfOk, OnOk};
-ghost use Rattle.mc_ladder.specs.Columns.{channel_boxes, column_of, columns_of, is_among, with_all_new, with_each_box, with_new};
+ghost use Rattle.std.specs.Prelude.{◌≡◌, ◌++◌, ◌==◌, if◌then◌else◌, [], ◌∷◌, filter, position, IfOk, OnOk};
+ghost use Rattle.mc_ladder.specs.Columns.{channel_boxes, column_of, columns_among, columns_of, drawn_columns, is_among, with_all_new, with_each_box};
 
+use mc_ladder_choice::{Choice, Survey, add_new, is_among};
 use mc_text::Names;
 use mc_world::World;
 use std::alloc::{AllocError, Global};
-
-// Whether a box has a column.
-fn is_among(columns: &[u32], who: u32) -> bool
-    ensures { result ≡ is_among columns.now who }
-{
-    columns.iter().any(|other| *other == who)
-}
-
-// A box that has no column yet gets the next one.
-fn add_new(who: u32, columns: &mut Vec<u32>) -> Result<(), AllocError>
-    ensures { OnOk result (columns.new.items ≡ with_new columns.old.items who) }
-{
-    if is_among(columns, who) {
-        return Ok(());
-    }
-    columns.push(who)?;
-    Ok(())
-}
 
 // The boxes that channels join, in the order in which these name them first.
 fn joined_boxes(alloc: Global, world: &World) -> Result<Vec<u32>, AllocError>
@@ -54,6 +37,47 @@ pub fn columns_of(alloc: Global, names: &Names, world: &World) -> Result<Vec<u32
     let mut columns = joined_boxes(alloc, world)?;
     add_others(names, &mut columns)?;
     Ok(columns)
+}
+
+// Appends a column whose box is among these.
+fn add_found(boxes: &[u32], who: u32, columns: &mut Vec<u32>) -> Result<(), AllocError>
+    ensures { OnOk result (columns.new.items
+        ≡ columns.old.items ++ (if is_among boxes.now who then who ∷ [] else [])) }
+{
+    if is_among(boxes, who) {
+        columns.push(who)?;
+    }
+    Ok(())
+}
+
+// The columns whose boxes are among these.
+fn columns_found(alloc: Global, boxes: &[u32], columns: &[u32]) -> Result<Vec<u32>, AllocError>
+    ensures { IfOk result (λ kept. kept.items ≡ filter (λ who. is_among boxes.now who) columns.now) }
+{
+    let mut kept = Vec::new(alloc);
+    for who in columns {
+        add_found(boxes, *who, &mut kept)?;
+    }
+    Ok(kept)
+}
+
+/// The boxes that are drawn, in the order of their columns: all, or, where boxes are asked for, these and those that take
+/// part in what is drawn with them.
+pub fn drawn_columns(
+    alloc: Global,
+    choice: &Choice,
+    found: &Survey,
+    names: &Names,
+    world: &World,
+) -> Result<Vec<u32>, AllocError>
+    ensures { IfOk result (λ columns. columns.items
+        ≡ drawn_columns choice.now found.now names.now world.now) }
+{
+    let columns = columns_of(alloc, names, world)?;
+    if choice.is_of_all_boxes() {
+        return Ok(columns);
+    }
+    columns_found(alloc, &found.boxes, &columns)
 }
 
 // The place of a box among the columns.

@@ -1,17 +1,15 @@
 // What all rows of a ladder have in common.
 
-ghost use Rattle.std.specs.Prelude.{◌≡◌, ◌<◌, ◌≤◌, ◌+◌, ◌*◌, length, IfOk};
+ghost use Rattle.std.specs.Prelude.{◌≡◌, ◌<◌, ◌≤◌, ◌+◌, ◌*◌, length};
 ghost use Rattle.mc_ladder.specs.Frames.{frame_of, has_long_name};
 ghost use Rattle.mc_ladder.specs.Placing.{place_width, place_word, take_cells, widest_name};
 ghost use Rattle.mc_model.specs.Worlds.{slot_count};
 ghost use Rattle.mc_text.specs.declared.limit.TheConstants.{NAME_LIMIT};
 
-use crate::column::columns_of;
 use crate::glyph::Style;
 use crate::place::{box_word, place_of, slot_word};
 use mc_text::Names;
 use mc_world::World;
-use std::alloc::{AllocError, Global};
 use std::marker::Model;
 
 // The most bytes of a name for which all heads find room in one line.
@@ -36,21 +34,16 @@ impl Model for Frame {
 }
 
 impl Frame {
-    /// The frame for a network.
-    pub fn new(
-        alloc: Global,
-        style: Style,
-        names: &Names,
-        world: &World,
-    ) -> Result<Frame, AllocError>
-        ensures { IfOk result (λ frame. frame ≡ frame_of style names.now world.now) }
+    /// The frame for these columns of a network.
+    pub fn new(style: Style, names: &Names, world: &World, columns: Vec<u32>) -> Frame
+        ensures { result ≡ frame_of style names.now world.now columns.items }
     {
-        Ok(Frame {
+        Frame {
             style,
-            columns: columns_of(alloc, names, world)?,
+            columns,
             width: place_width(style, names, world),
             long: has_long_name(names),
-        })
+        }
     }
 }
 

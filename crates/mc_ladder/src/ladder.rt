@@ -1,15 +1,21 @@
 // A whole ladder.
 
-ghost use Rattle.std.specs.Prelude.{◌≡◌, ◌+◌, ◌-◌, ◌<◌, ◌^◌, ◌++◌, length, IfOk, OnOk};
-ghost use Rattle.mc_ladder.specs.Ladders.{count_after, first_count, heads_due, ladder_from, ladder_text, line_rows, world_after};
+ghost use Rattle.std.specs.Prelude.{◌≡◌, ◌+◌, ◌-◌, ◌<◌, ◌^◌, ◌++◌, if◌then◌else◌, [], length, IfOk, OnOk};
+ghost use Rattle.mc_ladder.specs.Ladders.{count_line, drawn_frame, heads_due, ladder_text, line_rows, rows_of, within_after, world_after};
+ghost use Rattle.mc_ladder_choice.specs.Choices.{chosen, is_chosen};
+ghost use Rattle.mc_ladder_choice.specs.Entries.{entry_at};
+ghost use Rattle.mc_ladder_choice.specs.Surveys.{survey_of};
 
+use crate::column::drawn_columns;
 use crate::frame::Frame;
 use crate::glyph::Style;
 use crate::heads::put_heads;
 use crate::settle::put_settle;
 use crate::turn::put_turn;
+use mc_ladder_choice::{Choice, Count, Survey, pass};
 use mc_program_lines::Block;
 use mc_script::JournalLine;
+use mc_table::put_line;
 use mc_text::Names;
 use mc_world::World;
 use std::alloc::{AllocError, Global};
@@ -17,50 +23,30 @@ use std::alloc::{AllocError, Global};
 // After so many turns of a settle the heads stand again.
 pub const HEADS_EVERY: u32 = 40;
 
-// How many turns and settles of a journal were drawn, and how many turns of the settle that is drawn now.
-#[derive(Clone, Copy)]
-pub struct Count {
-    pub turns: u32,
-    pub settles: u32,
-    pub within: u32,
-}
-
-impl Count {
-    // After one line more.
-    fn after(self, line: &JournalLine) -> Count
-        requires turns { self.turns + 1 < 2 ^ 32 }
-        requires settles { self.settles + 1 < 2 ^ 32 }
-        requires within { self.within + 1 < 2 ^ 32 }
-        ensures { result ≡ count_after self line.now }
-    {
-        match line {
-            JournalLine::Turn(_) => Count {
-                turns: self.turns + 1,
-                settles: self.settles,
-                within: self.within + 1,
-            },
-            JournalLine::Settled => Count {
-                turns: self.turns,
-                settles: self.settles + 1,
-                within: 0,
-            },
-        }
-    }
-}
-
 // Appends the heads, where they are due before a turn.
 fn put_due_heads(
     frame: &Frame,
     names: &Names,
-    count: Count,
+    within: u32,
     out: &mut Vec<u8>,
 ) -> Result<(), AllocError>
-    ensures { OnOk result (out.new.items ≡ out.old.items ++ heads_due frame.now names.now count) }
+    ensures { OnOk result (out.new.items ≡ out.old.items ++ heads_due frame.now names.now within) }
 {
-    if count.within % HEADS_EVERY == 0 {
+    if within % HEADS_EVERY == 0 {
         put_heads(frame, names, out)
     } else {
         Ok(())
+    }
+}
+
+// How many turns of a settle are drawn, after one line more.
+fn within_after(within: u32, line: &JournalLine) -> u32
+    requires { within + 1 < 2 ^ 32 }
+    ensures { result ≡ within_after within line.now }
+{
+    match line {
+        JournalLine::Turn(_) => within + 1,
+        JournalLine::Settled => 0,
     }
 }
 
@@ -70,20 +56,22 @@ fn put_rows(
     frame: &Frame,
     names: &Names,
     blocks: &[Block],
+    choice: &Choice,
     world: &mut World,
     count: Count,
+    within: u32,
     line: &JournalLine,
     out: &mut Vec<u8>,
 ) -> Result<(), AllocError>
     requires turns { count.turns + 1 < 2 ^ 32 }
     requires settles { count.settles + 1 < 2 ^ 32 }
     ensures rows { OnOk result (out.new.items
-        ≡ out.old.items ++ line_rows frame.now names.now blocks.now world.old count line.now) }
+        ≡ out.old.items ++ line_rows frame.now names.now blocks.now choice.now world.old count within line.now) }
     ensures made { OnOk result (world.new ≡ world_after world.old line.now) }
 {
     match line {
         JournalLine::Turn(turn) => {
-            put_due_heads(frame, names, count, out)?;
+            put_due_heads(frame, names, within, out)?;
             put_turn(
                 alloc,
                 frame,
@@ -95,51 +83,128 @@ fn put_rows(
                 out,
             )
         }
-        JournalLine::Settled => put_settle(alloc, frame, names, world, count.settles + 1, out),
+        JournalLine::Settled => {
+            let views = choice.shown_paths(alloc, world)?;
+            put_settle(alloc, frame, names, world, &views, count.settles + 1, out)
+        }
     }
 }
 
-// Appends what is drawn for the lines of a journal, from its beginning on.
+// The same, if the line is drawn. Answers how many turns of its settle are drawn then.
+fn put_chosen(
+    alloc: Global,
+    frame: &Frame,
+    names: &Names,
+    blocks: &[Block],
+    choice: &Choice,
+    world: &mut World,
+    count: Count,
+    within: u32,
+    line: &JournalLine,
+    out: &mut Vec<u8>,
+) -> Result<u32, AllocError>
+    requires turns { count.turns + 1 < 2 ^ 32 }
+    requires settles { count.settles + 1 < 2 ^ 32 }
+    requires within { within + 1 < 2 ^ 32 }
+    ensures rows { OnOk result (out.new.items ≡ out.old.items
+        ++ (if is_chosen choice.now (entry_at world.old count line.now)
+        then line_rows frame.now names.now blocks.now choice.now world.old count within line.now else [])) }
+    ensures made { OnOk result (world.new ≡ world_after world.old line.now) }
+    ensures within { IfOk result (λ next. next ≡ (if is_chosen choice.now (entry_at world.old count line.now)
+        then within_after within line.now else within)) }
+{
+    if choice.takes(alloc, world, count, line)? {
+        put_rows(
+            alloc, frame, names, blocks, choice, world, count, within, line, out,
+        )?;
+        Ok(within_after(within, line))
+    } else {
+        pass(world, line)?;
+        Ok(within)
+    }
+}
+
+// Appends what is drawn of a journal, from its beginning on.
 fn put_lines(
     alloc: Global,
     frame: &Frame,
     names: &Names,
     blocks: &[Block],
+    choice: &Choice,
     world: &mut World,
     journal: &[JournalLine],
     out: &mut Vec<u8>,
 ) -> Result<(), AllocError>
     requires { length journal.now < 2 ^ 32 - 1 }
-    ensures { OnOk result (out.new.items
-        ≡ out.old.items ++ ladder_from frame.now names.now blocks.now world.old first_count journal.now) }
+    ensures { OnOk result (out.new.items ≡ out.old.items
+        ++ rows_of frame.now names.now blocks.now choice.now 0 (chosen choice.now world.old journal.now)) }
 {
-    let mut count = Count {
-        turns: 0,
-        settles: 0,
-        within: 0,
-    };
+    let mut count = Count::new();
+    let mut within = 0;
     for line in journal {
-        put_rows(alloc, frame, names, blocks, world, count, line, out)?;
+        within = put_chosen(
+            alloc, frame, names, blocks, choice, world, count, within, line, out,
+        )?;
         count = count.after(line);
     }
     Ok(())
 }
 
-/// The ladder of a journal: the rows of its turns and settles, from the first world of a network on, whose boxes, slots,
-/// codecs and told words have these names, and whose programs these blocks declare.
+// Appends how many turns are drawn, of how many, where it may not be all.
+fn put_count(
+    alloc: Global,
+    choice: &Choice,
+    found: &Survey,
+    out: &mut Vec<u8>,
+) -> Result<(), AllocError>
+    ensures { OnOk result (out.new.items ≡ out.old.items ++ count_line choice.now found.now) }
+{
+    if choice.is_whole() {
+        return Ok(());
+    }
+    let drawn = format!(in alloc; "{}", found.drawn)?;
+    let turns = format!(in alloc; "{}", found.turns)?;
+    put_line(drawn.as_bytes(), &[b"of", turns.as_bytes(), b"turns"], out)
+}
+
+// The frame for what is drawn.
+fn drawn_frame(
+    alloc: Global,
+    style: Style,
+    names: &Names,
+    world: &World,
+    choice: &Choice,
+    found: &Survey,
+) -> Result<Frame, AllocError>
+    ensures { IfOk result (λ frame. frame ≡ drawn_frame style names.now world.now choice.now found.now) }
+{
+    let columns = drawn_columns(alloc, choice, found, names, world)?;
+    Ok(Frame::new(style, names, world, columns))
+}
+
+/// The ladder of what is drawn of a journal, of which this was found before: the rows of its turns and settles, from the
+/// first world of a network on, whose boxes, slots, codecs and told words have these names, and whose programs these
+/// blocks declare.
 pub fn draw_ladder(
     alloc: Global,
     style: Style,
     names: &Names,
     blocks: &[Block],
+    choice: &Choice,
+    found: &Survey,
     world: &mut World,
     journal: &[JournalLine],
 ) -> Result<Vec<u8>, AllocError>
-    requires { length journal.now < 2 ^ 32 - 1 }
-    ensures { IfOk result (λ text. text.items ≡ ladder_text style names.now blocks.now world.old journal.now) }
+    requires few { length journal.now < 2 ^ 32 - 1 }
+    requires found { found.now ≡ survey_of choice.now world.old journal.now }
+    ensures { IfOk result (λ text. text.items
+        ≡ ladder_text style names.now blocks.now world.old choice.now journal.now) }
 {
-    let frame = Frame::new(alloc, style, names, world)?;
+    let frame = drawn_frame(alloc, style, names, world, choice, found)?;
     let mut out = Vec::new(alloc);
-    put_lines(alloc, &frame, names, blocks, world, journal, &mut out)?;
+    put_count(alloc, choice, found, &mut out)?;
+    put_lines(
+        alloc, &frame, names, blocks, choice, world, journal, &mut out,
+    )?;
     Ok(out)
 }

@@ -1,13 +1,13 @@
 // The lanes of a path: from its one end to its other, over each box that it goes through.
 
-ghost use Rattle.std.specs.Prelude.{◌≡◌, ◌<◌, ◌++◌, IfOk, OnOk};
-ghost use Rattle.mc_ladder.specs.Routes.{ends_of, goes_over, is_between, is_stop, path_cell, path_column, path_columns, path_gap, path_glyph, path_lanes, stop_of, stops_after, stops_at, stops_before, stops_from};
-ghost use Rattle.mc_model.specs.Worlds.{slot_count};
+ghost use Rattle.std.specs.Prelude.{◌≡◌, ◌++◌, map, IfOk, OnOk};
+ghost use Rattle.mc_ladder.specs.Columns.{column_of};
+ghost use Rattle.mc_ladder.specs.Routes.{ends_of, goes_over, is_between, is_stop, path_cell, path_column, path_columns, path_gap, path_glyph, path_lanes, stops_after, stops_before};
 
 use crate::column::column_of;
 use crate::glyph::{Glyph, Style, put_cell, put_cells};
 use crate::lanes::GAP;
-use crate::place::place_of;
+use mc_ladder_choice::path_boxes;
 use mc_view::PathView;
 use mc_world::World;
 use std::alloc::{AllocError, Global};
@@ -96,52 +96,6 @@ fn goes_over(stops: &[usize], column: usize) -> bool
 
 // ---- the columns
 
-// The column of a slot's box.
-fn stop_of(columns: &[u32], world: &World, slot: u32) -> usize
-    ensures { result ≡ stop_of columns.now world.now slot }
-{
-    let (who, _) = place_of(world, slot);
-    column_of(columns, who)
-}
-
-// Adds the columns of both slots of a tunnel.
-fn add_stops(
-    columns: &[u32],
-    world: &World,
-    slot: u32,
-    stops: &mut Vec<usize>,
-) -> Result<(), AllocError>
-    requires { slot < slot_count world.now }
-    ensures { OnOk result (stops.new.items ≡ stops.old.items ++ stops_at columns.now world.now slot) }
-{
-    stops.push(stop_of(columns, world, slot))?;
-    stops.push(stop_of(columns, world, world.far(slot)))?;
-    Ok(())
-}
-
-// The columns of the slots on the walk from a slot.
-fn stops_from(
-    alloc: Global,
-    columns: &[u32],
-    world: &World,
-    low: u32,
-) -> Result<Vec<usize>, AllocError>
-    requires { low < slot_count world.now }
-    ensures { IfOk result (λ stops. stops.items ≡ stops_from columns.now world.now low) }
-{
-    world.keeps();
-    let mut stops = Vec::new(alloc);
-    let mut at = low;
-    for _done in 0..world.slot_count() / 2 {
-        add_stops(columns, world, at, &mut stops)?;
-        match world.partner(world.far(at)) {
-            Some(next) => at = next,
-            None => return Ok(stops),
-        }
-    }
-    Ok(stops)
-}
-
 /// The columns at which a path stops, by its lower end.
 pub fn path_columns(
     alloc: Global,
@@ -151,11 +105,19 @@ pub fn path_columns(
 ) -> Result<Vec<usize>, AllocError>
     ensures { IfOk result (λ stops. stops.items ≡ path_columns columns.now world.now low) }
 {
-    if (low as usize) < world.slot_count() {
-        stops_from(alloc, columns, world, low)
-    } else {
-        Ok(Vec::new(alloc))
+    let boxes = path_boxes(alloc, world, low)?;
+    stops_of(alloc, columns, &boxes)
+}
+
+// The columns of these boxes.
+fn stops_of(alloc: Global, columns: &[u32], boxes: &[u32]) -> Result<Vec<usize>, AllocError>
+    ensures { IfOk result (λ stops. stops.items ≡ map (column_of columns.now) boxes.now) }
+{
+    let mut stops = Vec::new(alloc);
+    for who in boxes {
+        stops.push(column_of(columns, *who))?;
     }
+    Ok(stops)
 }
 
 // ---- the lanes

@@ -1,11 +1,9 @@
 // A settle: between two rules, each path, and who hears what on it.
 
-ghost use Rattle.std.specs.Prelude.{◌≡◌, ◌++◌, ◌∷◌, [], codes, map, IfOk, OnOk};
+ghost use Rattle.std.specs.Prelude.{◌≡◌, ◌++◌, ◌∷◌, [], codes, IfOk, OnOk};
 ghost use Rattle.std.specs.Fmt.{decimal};
 ghost use Rattle.std.specs.List.{flat_map};
 ghost use Rattle.mc_ladder.specs.Settling.{bare_row, hears_rows, path_row, path_rows, route_lanes, rule_row, settle_rows, titled_rule};
-ghost use Rattle.mc_model.specs.Paths.{paths};
-ghost use Rattle.mc_path.specs.Views.{view_of};
 ghost use Rattle.mc_table.specs.Shown.{end_word, hearing_line, view_line};
 ghost use Rattle.mc_table.specs.Words.{flow_word, line_of, medium_word};
 
@@ -14,7 +12,6 @@ use crate::glyph::{Glyph, Style, put_cells};
 use crate::lanes::{MARGIN, put_bare, put_rule};
 use crate::path::{ends_of, path_columns, put_path};
 use crate::place::{codec_word, slot_place};
-use mc_path::paths;
 use mc_script::goal_word;
 use mc_signal::Medium;
 use mc_table::put_line;
@@ -202,19 +199,20 @@ fn put_end(frame: &Frame, out: &mut Vec<u8>) -> Result<(), AllocError>
     Ok(())
 }
 
-// Appends a settle: its paths between two rules.
+// Appends a settle: these paths between two rules.
 pub fn put_settle(
     alloc: Global,
     frame: &Frame,
     names: &Names,
     world: &World,
+    views: &[PathView],
     number: u32,
     out: &mut Vec<u8>,
 ) -> Result<(), AllocError>
-    ensures { OnOk result (out.new.items ≡ out.old.items ++ settle_rows frame.now names.now world.now number) }
+    ensures { OnOk result (out.new.items
+        ≡ out.old.items ++ settle_rows frame.now names.now world.now views.now number) }
 {
-    let views = paths(alloc, world)?;
     put_title(alloc, frame, number, out)?;
-    put_all_rows(alloc, frame, names, world, &views, out)?;
+    put_all_rows(alloc, frame, names, world, views, out)?;
     put_end(frame, out)
 }

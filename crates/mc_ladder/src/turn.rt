@@ -16,10 +16,11 @@ use crate::place::{
 use crate::signal::{put_signal, put_word, signal_word};
 use crate::taking::{Taking, taking_of};
 use mc_box::{Change, Event, MediaChange, Turn};
+use mc_ladder_choice::make;
 use mc_program_lines::Block;
 use mc_script::goal_word;
 use mc_text::Names;
-use mc_world::{StepFault, World};
+use mc_world::World;
 use std::alloc::{AllocError, Global};
 
 // ---- a Take
@@ -301,18 +302,6 @@ pub fn state_word(blocks: &[Block], who: u32, at: Option<u32>) -> &[u8]
 }
 
 // ---- a turn
-
-/// Makes a turn. One that can't happen changes nothing.
-pub fn make(world: &mut World, turn: Turn) -> Result<(), AllocError>
-    ensures { OnOk result (world.new ≡ next_world world.old turn) }
-{
-    match world.step(turn.who, turn.event) {
-        Ok(()) => Ok(()),
-        Err(StepFault::NoMemory(wanting)) => Err(wanting),
-        Err(StepFault::NotEnabled) => Ok(()),
-        Err(StepFault::VersionEnd) => Ok(()),
-    }
-}
 
 // Appends the row of a turn, and makes the turn.
 pub fn put_turn(

@@ -1,16 +1,17 @@
--- A whole picture: for each turn of a journal its row, and for each settle its paths, in the order of the journal.
-use Rattle.std.specs.Prelude.{ℕ, ◌+◌, List, [], ◌∷◌, ◌++◌, codes, length, map}
-use Rattle.mc_model.specs.Paths.{paths}
+-- A whole picture: for each turn of a journal that is drawn its row, and for each settle its paths, in the order of the journal.
+use Rattle.std.specs.Prelude.{ℕ, ◌+◌, if◌then◌else◌, List, [], ◌∷◌, ◌++◌, codes, length}
+use Rattle.std.specs.Fmt.{decimal}
 use Rattle.mc_model.specs.Worlds.{WorldState}
-use Rattle.mc_path.specs.Views.{view_of}
 use Rattle.mc_program_lines.specs.Programs.{BlockState}
 use Rattle.mc_script.specs.declared.command.JournalLine.{JournalLine}
 use Rattle.mc_script.specs.declared.command.JournalLine.TheVariants.{Turn as Made, Settled}
 use Rattle.mc_text.specs.NameLists.{NameLists}
-use Rattle.mc_view.specs.declared.PathView.{PathView}
-use Rattle.mc_ladder.specs.Columns.{columns_of}
-use Rattle.mc_ladder.specs.Ladders.{world_after}
-use Rattle.mc_ladder_svg.specs.declared.drawing.Place.{Place}
+use Rattle.mc_ladder_choice.specs.Choices.{ChoiceState, chosen, is_whole, shown_paths}
+use Rattle.mc_ladder_choice.specs.Entries.{Entry}
+use Rattle.mc_ladder_choice.specs.Surveys.{SurveyState, survey_of}
+use Rattle.mc_ladder_choice.specs.declared.count.Count.{Count}
+use Rattle.mc_ladder.specs.Columns.{drawn_columns}
+use Rattle.mc_ladder_svg.specs.Elements.{text_at}
 use Rattle.mc_ladder_svg.specs.Heads.{heads}
 use Rattle.mc_ladder_svg.specs.Measures.{settle_height}
 use Rattle.mc_ladder_svg.specs.Settles.{settle_block}
@@ -18,53 +19,75 @@ use Rattle.mc_ladder_svg.specs.Sheets.{opening}
 use Rattle.mc_ladder_svg.specs.Turns.{turn_row}
 
 -- the first row begins below the heads
-abbrev pub first_place : Place
-first_place = record { turns = 0; settles = 0; y = 44 }
+abbrev pub first_y : ℕ
+first_y = 44
 
--- the place after a turn
-abbrev pub turn_place : Place → Place
-turn_place place = record { turns = place.turns + 1; settles = place.settles; y = place.y + 26 }
+-- the height of what is drawn for a line
+abbrev pub line_height : ChoiceState → WorldState → JournalLine → ℕ
+line_height choice world (Made turn) = 26
+line_height choice world Settled = settle_height (length (shown_paths choice world))
 
--- the place after a settle with so many paths
-abbrev pub settle_place : Place → (paths : ℕ) → Place
-settle_place place paths =
-    record { turns = place.turns; settles = place.settles + 1; y = place.y + settle_height paths }
+-- what is drawn for a line, from a height on
+abbrev pub line_rows : List ℕ → NameLists → List BlockState → ChoiceState → WorldState → Count → (y : ℕ) → JournalLine
+    → List ℕ
+line_rows columns names blocks choice world count y (Made turn) =
+    turn_row columns names blocks world turn (record { number = count.turns + 1; y = y })
+line_rows columns names blocks choice world count y Settled =
+    settle_block columns names world (shown_paths choice world) (record { number = count.settles + 1; y = y })
 
--- the paths of a world, as they are shown
-abbrev pub views_of : WorldState → List PathView
-views_of world = map (view_of world) (paths world)
+abbrev pub entry_rows : List ℕ → NameLists → List BlockState → ChoiceState → (y : ℕ) → Entry → List ℕ
+entry_rows columns names blocks choice y entry =
+    line_rows columns names blocks choice entry.world entry.count y entry.line
 
--- the place after a line
-abbrev pub place_after : WorldState → Place → JournalLine → Place
-place_after world place (Made turn) = turn_place place
-place_after world place Settled = settle_place place (length (views_of world))
+abbrev pub entry_height : ChoiceState → Entry → ℕ
+entry_height choice entry = line_height choice entry.world entry.line
 
--- what is drawn for a line
-abbrev pub line_rows : List ℕ → NameLists → List BlockState → WorldState → Place → JournalLine → List ℕ
-line_rows columns names blocks world place (Made turn) =
-    turn_row columns names blocks world turn (record { number = place.turns + 1; y = place.y })
-line_rows columns names blocks world place Settled =
-    settle_block columns names world (views_of world) (record { number = place.settles + 1; y = place.y })
+-- what is drawn for these entries, one below another
+abbrev pub rows_of : List ℕ → NameLists → List BlockState → ChoiceState → (y : ℕ) → List Entry → List ℕ
+rows_of columns names blocks choice y [] = []
+rows_of columns names blocks choice y (entry ∷ entries) =
+    entry_rows columns names blocks choice y entry
+    ++ rows_of columns names blocks choice (y + entry_height choice entry) entries
 
--- what is drawn for the lines of a journal, in a world and from a place on
-abbrev pub rows_from : List ℕ → NameLists → List BlockState → WorldState → Place → List JournalLine → List ℕ
-rows_from columns names blocks world place [] = []
-rows_from columns names blocks world place (line ∷ lines) =
-    line_rows columns names blocks world place line
-    ++ rows_from columns names blocks (world_after world line) (place_after world place line) lines
+-- the height at which the last of them ends
+abbrev pub end_of : ChoiceState → (y : ℕ) → List Entry → ℕ
+end_of choice y [] = y
+end_of choice y (entry ∷ entries) = end_of choice (y + entry_height choice entry) entries
 
--- the place after them
-abbrev pub place_at_end : WorldState → Place → List JournalLine → Place
-place_at_end world place [] = place
-place_at_end world place (line ∷ lines) = place_at_end (world_after world line) (place_after world place line) lines
+-- left of the heads, a number and what it counts
+abbrev pub count_text : (y number : ℕ) → (word : List ℕ) → List ℕ
+count_text y number word = text_at (codes "d") 6 y (decimal number ++ 32 ∷ word)
+
+-- how many turns are drawn, of how many
+abbrev pub count_words : (drawn turns : ℕ) → List ℕ
+count_words drawn turns = count_text 19 drawn (codes "of") ++ count_text 33 turns (codes "turns") ++ codes "\n"
+
+-- where it may not be all
+abbrev pub count_note : ChoiceState → SurveyState → List ℕ
+count_note choice found = if is_whole choice then [] else count_words found.drawn found.turns
 
 -- a picture with these heads and rows, where the last row ends at a height
 abbrev pub picture : (columns : ℕ) → (heads rows : List ℕ) → (end : ℕ) → List ℕ
 picture columns heads rows end = opening columns end ++ heads ++ rows ++ codes "</svg>\n"
 
--- the ladder of a journal as SVG, from the first world of a network on
-abbrev pub ladder_svg : NameLists → List BlockState → WorldState → List JournalLine → List ℕ
-ladder_svg names blocks world journal =
-    picture (length (columns_of names world)) (heads names world (columns_of names world))
-    (rows_from (columns_of names world) names blocks world first_place journal)
-    (place_at_end world first_place journal).y
+-- the heads, and what stands beside them
+abbrev pub top_row : (columns : List ℕ) → NameLists → WorldState → ChoiceState → SurveyState → List ℕ
+top_row columns names world choice found = heads names world columns ++ count_note choice found
+
+-- the ladder over these columns of what is drawn of a journal, of which this is found
+abbrev pub ladder_by : (columns : List ℕ) → NameLists → List BlockState → WorldState → ChoiceState → SurveyState
+    → List JournalLine → List ℕ
+ladder_by columns names blocks world choice found journal =
+    picture (length columns) (top_row columns names world choice found)
+    (rows_of columns names blocks choice first_y (chosen choice world journal))
+    (end_of choice first_y (chosen choice world journal))
+
+-- the same by the survey
+abbrev pub surveyed_svg : NameLists → List BlockState → WorldState → ChoiceState → SurveyState → List JournalLine → List ℕ
+surveyed_svg names blocks world choice found journal =
+    ladder_by (drawn_columns choice found names world) names blocks world choice found journal
+
+-- the ladder of what is drawn of a journal as SVG, from the first world of a network on
+abbrev pub ladder_svg : NameLists → List BlockState → WorldState → ChoiceState → List JournalLine → List ℕ
+ladder_svg names blocks world choice journal =
+    surveyed_svg names blocks world choice (survey_of choice world journal) journal

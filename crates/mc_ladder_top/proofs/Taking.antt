@@ -1,14 +1,16 @@
 -- What the parser answers for the words.
-use Rattle.std.proofs.Common.{◌≡◌, ◌∙◌, inl, inr, ℕ, true, refl, sym, ap, ap₂, subst, List, [], None, Some, IfNone, codes, map, nat_lt, string_bytes}
-use Rattle.std.specs.Prelude.{IfSome, String}
+use Rattle.std.proofs.Common.{◌≡◌, ◌∙◌, inl, inr, ℕ, Bor, true, refl, sym, ap, ap₂, subst, List, [], None, Some, IfNone, codes, map, nat_lt, string_bytes}
+use Rattle.std.specs.Prelude.{IfSome, String, option_map}
+use Rattle.std.specs.Option.{unwrap_or}
 use Rattle.std.specs.declared.alloc.Global.{Global}
 use Rattle.std.specs.declared.option.Option.{Option}
-use Rattle.clap.specs.Words.{App, HasKind, HasMatchesOf, IsAmong, Text, count_of, fault_of, found_of, is_simple, is_simple_and_free, kind_of, matches_of, rows_of}
+use Rattle.clap.specs.Words.{App, HasKind, HasMatchesOf, IsAmong, Row, Text, all_of, count_of, fault_of, found_of, is_simple, is_simple_and_free, kind_of, matches_of, rows_of}
 use Rattle.clap.specs.declared.error.Error.{Error}
 use Rattle.clap.specs.declared.error.kind.ErrorKind.TheVariants.{OutOfMemory}
 use Rattle.clap.specs.declared.parser.matches.ArgMatches.{ArgMatches}
-use Rattle.mc_ladder_top.specs.Words.{AreTaken, AskFor, AskForAny, ladder_command, picture_of}
-use Rattle.mc_ladder_top.specs.declared.picture.Picture.{Picture}
+use Rattle.mc_ladder_top.specs.Words.{AreTaken, AskFor, AskForAny, ladder_command, picture_of, request_by, settles_of}
+use Rattle.mc_ladder_top.specs.Requests.{Requested, asked}
+use Rattle.mc_ladder_top.specs.declared.words.Request.{Request}
 
 -- its matches and its faults are known exactly
 is_free : is_simple_and_free ladder_command ≡ true
@@ -24,24 +26,45 @@ taken app words m is passes matches =
       (matches simple).0 ∙ ap (λ (a : App). matches_of a words) is,
     )
 
--- so they ask for this picture, if for any
-pub asked : (words : List (String Global)) (m : ArgMatches) (ascii svg : ℕ) (picture : Option Picture)
+-- what the rows of a parse ask for
+abbrev rows_ask : List Row → Option Requested
+rows_ask rows =
+    request_by (picture_of (nat_lt 0 (count_of (codes "ascii") rows)) (nat_lt 0 (count_of (codes "svg") rows))) (settles_of (unwrap_or (all_of (codes "settles") rows) [])) (unwrap_or (all_of (codes "box") rows) [])
+
+by_values : (rows : List Row) (ascii svg : ℕ) (settles boxes : List Text) → ascii ≡ count_of (codes "ascii") rows → svg ≡ count_of (codes "svg") rows
+    → settles ≡ unwrap_or (all_of (codes "settles") rows) [] → boxes ≡ unwrap_or (all_of (codes "box") rows) []
+    → request_by (picture_of (nat_lt 0 ascii) (nat_lt 0 svg)) (settles_of settles) boxes ≡ rows_ask rows
+by_values rows ascii svg settles boxes a s t b = rw (a, s, t, b) refl
+
+-- so they ask for this, if for anything
+pub asks_for_it : (words : List (String Global)) (m : ArgMatches) (ascii svg : ℕ) (settles boxes : List Text) (request : Option Requested)
     → (fault_of ladder_command (map string_bytes words) ≡ []) × (rows_of (found_of m) ≡ matches_of ladder_command (map string_bytes words))
-    → ascii ≡ count_of (codes "ascii") (rows_of (found_of m)) → svg ≡ count_of (codes "svg") (rows_of (found_of m)) → picture ≡ picture_of (nat_lt 0 ascii) (nat_lt 0 svg)
-    → AskForAny (map string_bytes words) picture
-asked words m ascii svg picture (takes, rows) ascii_is svg_is is = (
+    → ascii ≡ count_of (codes "ascii") (rows_of (found_of m)) → svg ≡ count_of (codes "svg") (rows_of (found_of m))
+    → settles ≡ unwrap_or (all_of (codes "settles") (rows_of (found_of m))) [] → boxes ≡ unwrap_or (all_of (codes "box") (rows_of (found_of m))) []
+    → request ≡ request_by (picture_of (nat_lt 0 ascii) (nat_lt 0 svg)) (settles_of settles) boxes
+    → AskForAny (map string_bytes words) request
+asks_for_it words m ascii svg settles boxes request (takes, rows) ascii_is svg_is settles_are boxes_are is = (
   takes,
-  sym (is ∙ ap₂ (λ (a s : ℕ). picture_of (nat_lt 0 a) (nat_lt 0 s)) (ascii_is ∙ ap (count_of (codes "ascii")) rows) (svg_is ∙ ap (count_of (codes "svg")) rows)),
+  sym (is ∙ (by_values (rows_of (found_of m)) ascii svg settles boxes ascii_is svg_is settles_are boxes_are ∙ ap rows_ask rows)),
 )
 
-pub asked_some : (words : List (String Global)) (picture : Option Picture) → AskForAny (map string_bytes words) picture → IfSome picture (AskFor words)
-asked_some words None asks = tt
-asked_some words (Some picture) asks = asks
+pub asked_some : (words : List (String Global)) (read : Option Request) (request : Option Requested) → option_map (λ r. asked r) read ≡ request → AskForAny (map string_bytes words) request
+    → IfSome read (λ r. AskFor words (asked r))
+asked_some words None request is asks = tt
+asked_some words (Some r) request is asks = subst (AskForAny (map string_bytes words)) (sym is) asks
 
--- where they ask for none, they aren't taken
-pub asked_none : (words : List (String Global)) (picture : Option Picture) → AskForAny (map string_bytes words) picture → IfNone picture (AreTaken words → ⊥)
-asked_none words None asks = λ taken. let no : None ≡ Some taken.0 = sym asks.1 ∙ taken.1.1 in cc
-asked_none words (Some picture) asks = tt
+-- where they ask for nothing, they aren't taken
+pub asked_none : (words : List (String Global)) (read : Option Request) (request : Option Requested) → option_map (λ r. asked r) read ≡ request → AskForAny (map string_bytes words) request
+    → IfNone read (AreTaken words → ⊥)
+asked_none words None request is asks = λ taken. let no : None ≡ Some taken.0 = is ∙ (sym asks.1 ∙ taken.1.1) in cc
+asked_none words (Some r) request is asks = tt
+
+-- the values of an option that was met, or none
+pub values_are : (found : Option (Bor (List (Bor (List ℕ))))) (none values : Bor (List (Bor (List ℕ)))) (all : Option (List Text)) → values ≡ unwrap_or found none → none.now ≡ []
+    → option_map (λ v. map (λ value. value.now) v.now) found ≡ all → map (λ value. value.now) values.now ≡ unwrap_or all []
+values_are None none values all is empty e =
+    ap (λ v. map (λ value. value.now) v.now) is ∙ (ap (λ v. map (λ value. value.now) v) empty ∙ ap (λ (o : Option (List Text)). unwrap_or o []) e)
+values_are (Some v) none values all is empty e = ap (λ v. map (λ value. value.now) v.now) is ∙ ap (λ (o : Option (List Text)). unwrap_or o []) e
 
 -- where it gives an error that isn't want of memory, they aren't taken
 pub refused : (app : App) (words : List (String Global)) (e : Error) → app ≡ ladder_command → (is_simple_and_free app ≡ true → HasKind (fault_of app (map string_bytes words)) e)

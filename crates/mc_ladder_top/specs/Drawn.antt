@@ -11,23 +11,30 @@ use Rattle.mc_program_lines.specs.Programs.{BlockState}
 use Rattle.mc_script.specs.declared.command.JournalLine.{JournalLine}
 use Rattle.mc_text.specs.NameLists.{NameLists}
 use Rattle.mc_model.specs.Worlds.{WorldState}
+use Rattle.mc_ladder_choice.specs.Choices.{ChoiceState}
 use Rattle.mc_ladder_top.specs.declared.picture.Picture.{Picture}
 use Rattle.mc_ladder_top.specs.declared.picture.Picture.TheVariants.{Text, Svg}
+use Rattle.mc_ladder_top.specs.Requests.{Requested, choice_of}
 
--- the ladder of a journal in this form, from the first world of a network on
-abbrev pub picture_bytes : Picture → NameLists → List BlockState → WorldState → List JournalLine → List ℕ
-picture_bytes (Text style) names blocks world journal = ladder_text style names blocks world journal
-picture_bytes Svg names blocks world journal = ladder_svg names blocks world journal
+-- the ladder of what is chosen of a journal, in this form, from the first world of a network on
+abbrev pub picture_bytes : Picture → NameLists → List BlockState → WorldState → ChoiceState → List JournalLine → List ℕ
+picture_bytes (Text style) names blocks world choice journal = ladder_text style names blocks world choice journal
+picture_bytes Svg names blocks world choice journal = ladder_svg names blocks world choice journal
+
+-- the ladder that is asked for
+abbrev pub drawn_bytes : Requested → NameLists → List BlockState → WorldState → List JournalLine → List ℕ
+drawn_bytes request names blocks world journal =
+    picture_bytes request.picture names blocks world (choice_of names request) journal
 
 -- the text is in the grammar
 abbrev pub IsInGrammar : List ℕ → Type 0
 IsInGrammar text = (d : Declared) × Says Journal text d
 
--- the output is the ladder of the journal in this form, with the network that the text declares and the blocks of its
+-- the output is the ladder of the journal that is asked for, with the network that the text declares and the blocks of its
 -- programs
-pub record IsLadder (picture : Picture) (text : List ℕ) (journal : List JournalLine) (output : List ℕ) : Type 0 where
+pub record IsLadder (request : Requested) (text : List ℕ) (journal : List JournalLine) (output : List ℕ) : Type 0 where
   pub net : Net
   pub blocks : List BlockState
   pub declares : DeclaresNet Journal text net
   pub gives : DeclaresBlocks Journal text blocks
-  pub drawn : output ≡ picture_bytes picture net.names blocks net.world journal
+  pub drawn : output ≡ drawn_bytes request net.names blocks net.world journal

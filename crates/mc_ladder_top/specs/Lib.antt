@@ -1,3 +1,4 @@
 pub mod Drawn
+pub mod Requests
 pub mod Top
 pub mod Words

@@ -2,19 +2,27 @@
 
 ghost use Rattle.std.specs.Prelude.{◌≡◌, ◌-◌, ◌<◌, ◌≤◌, ◌^◌, false, length, map, IfErr, IfOk};
 ghost use Rattle.mc_ladder_top.specs.Drawn.{IsInGrammar, IsLadder, picture_bytes};
+ghost use Rattle.mc_ladder_top.specs.Requests.{asked, choice_of};
+ghost use Rattle.mc_ladder_choice.specs.Surveys.{survey_of};
 ghost use Rattle.mc_lines.specs.Rules.{read_limit};
 ghost use Rattle.mc_lines.specs.declared.tail.Tail.TheVariants.{Journal};
 ghost use Rattle.mc_model.specs.Shapes.{AreAllAllowed};
 ghost use Rattle.mc_net.specs.Nets.{DeclaresBlocks, DeclaresNet, NamesAll, batch_turns};
+ghost use Rattle.mc_net.specs.declared.net.Net.{Net};
 ghost use Rattle.mc_replay.specs.Journals.{IsJournal};
 ghost use Rattle.mc_top.specs.Behind.{HasJournal};
 ghost use Rattle.mc_top.specs.Refusals.{RefusesCheckBy};
 
+use crate::choosing::choice_of;
 use crate::picture::{Picture, draw};
+use crate::words::Request;
+use mc_ladder_choice::{Choice, Survey, look_through};
 use mc_net::{Net, NetFault, Tail, read_blocks, read_net};
 use mc_program_lines::Block;
 use mc_script::JournalLine;
+use mc_text::Names;
 use mc_top::{TailFault, check_by_net};
+use mc_world::World;
 use std::alloc::{AllocError, Global};
 
 // What was drawn: the ladder, and the journal that it shows.
@@ -24,10 +32,10 @@ pub struct Drawn {
     pub journal: Vec<JournalLine>,
 }
 
-// Checks the journal after a text by the network that the text declares, and draws it.
+// Checks the journal after a text by the network that the text declares, and draws what is asked for of it.
 pub fn draw_checked(
     alloc: Global,
-    picture: Picture,
+    request: &Request,
     text: &[u8],
     net: Net,
 ) -> Result<Drawn, TailFault>
@@ -35,49 +43,113 @@ pub fn draw_checked(
     requires declares { DeclaresNet Journal text.now net }
     requires named { NamesAll net.names net.world }
     requires allowed { AreAllAllowed net.world (map batch_turns net.batches.items) }
-    ensures ladder { IfOk result (λ drawn. IsLadder picture text.now drawn.journal.items drawn.ladder.items) }
+    ensures ladder { IfOk result (λ drawn. IsLadder (asked request.now) text.now drawn.journal.items drawn.ladder.items) }
     ensures has { IfOk result (λ drawn. HasJournal text.now net drawn.journal.items) }
     ensures journal { IfOk result (λ drawn.
         IsJournal net.world (map batch_turns net.batches.items) drawn.journal.items) }
     ensures refused { IfErr result (RefusesCheckBy text.now net) }
 {
     let (_, journal) = check_by_net(alloc, false, text, net)?;
-    match draw_journal(alloc, picture, text, &journal) {
+    match draw_journal(alloc, request, text, &journal) {
         Ok(ladder) => Ok(Drawn { ladder, journal }),
         Err(wanting) => Err(TailFault::NoMemory(wanting)),
     }
 }
 
-// Draws the journal after a text. The check has used up the network that was read for it, so the text is read anew.
+// Draws the journal after a text. The check has used up the network that was read for it, so the text is read anew: once
+// to look through the journal, and once to draw.
 fn draw_journal(
     alloc: Global,
-    picture: Picture,
+    request: &Request,
     text: &[u8],
     journal: &[JournalLine],
 ) -> Result<Vec<u8>, AllocError>
     requires declared { IsInGrammar text.now }
     requires few { length journal.now < 2 ^ 32 - 1 }
-    ensures { IfOk result (λ ladder. IsLadder picture text.now journal.now ladder.items) }
+    ensures { IfOk result (λ ladder. IsLadder (asked request.now) text.now journal.now ladder.items) }
 {
+    let chosen = choose_in_text(alloc, request, text, journal)?;
     let blocks = blocks_of(alloc, text)?;
     let net = net_of(alloc, text)?;
-    draw_net(alloc, picture, &blocks, net, journal)
+    draw_net(alloc, request.picture, &chosen, &blocks, net, journal)
 }
 
-// Draws a journal by a network and the blocks of its programs.
+// What is chosen of a journal, and what was found of it.
+#[derive(Drop)]
+struct Chosen {
+    choice: Choice,
+    found: Survey,
+}
+
+// What is asked for of the journal after a text.
+fn choose_in_text(
+    alloc: Global,
+    request: &Request,
+    text: &[u8],
+    journal: &[JournalLine],
+) -> Result<Chosen, AllocError>
+    requires declared { IsInGrammar text.now }
+    requires few { length journal.now < 2 ^ 32 - 1 }
+    ensures choice { IfOk result (λ chosen. (net : Net) → DeclaresNet Journal text.now net
+        → chosen.choice ≡ choice_of net.names (asked request.now)) }
+    ensures found { IfOk result (λ chosen. (net : Net) → DeclaresNet Journal text.now net
+        → chosen.found ≡ survey_of chosen.choice net.world journal.now) }
+{
+    let net = net_of(alloc, text)?;
+    choose_by_net(alloc, request, net, journal)
+}
+
+// The same by a network.
+fn choose_by_net(
+    alloc: Global,
+    request: &Request,
+    mut net: Net,
+    journal: &[JournalLine],
+) -> Result<Chosen, AllocError>
+    requires { length journal.now < 2 ^ 32 - 1 }
+    ensures choice { IfOk result (λ chosen. chosen.choice ≡ choice_of net.names (asked request.now)) }
+    ensures found { IfOk result (λ chosen. chosen.found ≡ survey_of chosen.choice net.world journal.now) }
+{
+    let chosen = choose(alloc, request, &net.names, &mut net.world, journal);
+    // by name, since what drops at a return is proved part by part
+    drop(net);
+    chosen
+}
+
+// The same by names, and the first world.
+fn choose(
+    alloc: Global,
+    request: &Request,
+    names: &Names,
+    world: &mut World,
+    journal: &[JournalLine],
+) -> Result<Chosen, AllocError>
+    requires { length journal.now < 2 ^ 32 - 1 }
+    ensures choice { IfOk result (λ chosen. chosen.choice ≡ choice_of names.now (asked request.now)) }
+    ensures found { IfOk result (λ chosen. chosen.found ≡ survey_of chosen.choice world.old journal.now) }
+{
+    let choice = choice_of(alloc, names, request)?;
+    let found = look_through(alloc, &choice, world, journal)?;
+    Ok(Chosen { choice, found })
+}
+
+// Draws what is chosen of a journal, by a network and the blocks of its programs.
 fn draw_net(
     alloc: Global,
     picture: Picture,
+    chosen: &Chosen,
     blocks: &[Block],
     mut net: Net,
     journal: &[JournalLine],
 ) -> Result<Vec<u8>, AllocError>
-    requires { length journal.now < 2 ^ 32 - 1 }
+    requires few { length journal.now < 2 ^ 32 - 1 }
+    requires found { chosen.now.found ≡ survey_of chosen.now.choice net.world journal.now }
     ensures { IfOk result (λ ladder.
-        ladder.items ≡ picture_bytes picture net.names blocks.now net.world journal.now) }
+        ladder.items ≡ picture_bytes picture net.names blocks.now net.world chosen.now.choice journal.now) }
 {
-    let ladder = draw(alloc, picture, &net.names, blocks, &mut net.world, journal);
-    // by name, since what drops at a return is proved part by part
+    let Chosen { choice, found } = chosen;
+    let Net { names, world, .. } = &mut net;
+    let ladder = draw(alloc, picture, names, blocks, choice, found, world, journal);
     drop(net);
     ladder
 }

@@ -1,10 +1,22 @@
 //! Laws of the program's words, over the definitions alone: each function's contract is the law's sentence.
 
-ghost use Rattle.mc_ladder_top.specs.Words.{WordsAskForPictures};
+ghost use Rattle.mc_ladder_top.specs.Words.{WordsAskForBoxes, WordsAskForPictures, WordsAskForSettles};
 
 /// Without words a ladder is drawn in UTF-8, with the flag `--ascii` in ASCII, and with `--svg` as SVG, however often the
-/// flag stands there; a `--` after it says nothing. Both flags together ask for no picture. A word of another kind isn't
+/// flag stands there; a `--` after it says nothing. Both flags together ask for nothing. A word of another kind isn't
 /// taken, nor is another flag, `--help` among them.
 pub fn words_ask_for_pictures()
     ensures { WordsAskForPictures }
+{}
+
+/// The option `--settles A-B`, whose value may stand after a `=`, too,, asks for the settles from A to B alone: once, with
+/// numbers from 1 on of which the second is no less.
+pub fn words_ask_for_settles()
+    ensures { WordsAskForSettles }
+{}
+
+/// The option `--box NAME` asks for what concerns the box of that name alone, and, where it stands more than once, for
+/// what concerns one of these boxes. Without a name it isn't taken.
+pub fn words_ask_for_boxes()
+    ensures { WordsAskForBoxes }
 {}

@@ -2,6 +2,7 @@
 //! journal.
 #![tactic(auto)]
 
+mod choosing;
 mod drawing;
 pub mod laws;
 mod picture;
@@ -10,4 +11,4 @@ mod words;
 
 pub use picture::Picture;
 pub use top::ladder_top;
-pub use words::read_picture;
+pub use words::{Request, read_request};

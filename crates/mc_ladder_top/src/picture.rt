@@ -1,9 +1,11 @@
 // The forms in which a ladder is drawn.
 
 ghost use Rattle.std.specs.Prelude.{◌≡◌, ◌-◌, ◌<◌, ◌^◌, length, IfOk};
+ghost use Rattle.mc_ladder_choice.specs.Surveys.{survey_of};
 ghost use Rattle.mc_ladder_top.specs.Drawn.{picture_bytes};
 
 use mc_ladder::{Style, draw_ladder};
+use mc_ladder_choice::{Choice, Survey};
 use mc_ladder_svg::draw_svg;
 use mc_program_lines::Block;
 use mc_script::JournalLine;
@@ -19,21 +21,26 @@ pub enum Picture {
     Svg,
 }
 
-// Draws a journal, from the first world of a network on.
+// Draws what is chosen of a journal, of which this was found before, from the first world of a network on.
 pub fn draw(
     alloc: Global,
     picture: Picture,
     names: &Names,
     blocks: &[Block],
+    choice: &Choice,
+    found: &Survey,
     world: &mut World,
     journal: &[JournalLine],
 ) -> Result<Vec<u8>, AllocError>
-    requires { length journal.now < 2 ^ 32 - 1 }
+    requires few { length journal.now < 2 ^ 32 - 1 }
+    requires found { found.now ≡ survey_of choice.now world.old journal.now }
     ensures { IfOk result (λ drawn.
-        drawn.items ≡ picture_bytes picture names.now blocks.now world.old journal.now) }
+        drawn.items ≡ picture_bytes picture names.now blocks.now world.old choice.now journal.now) }
 {
     match picture {
-        Picture::Text(style) => draw_ladder(alloc, style, names, blocks, world, journal),
-        Picture::Svg => draw_svg(alloc, names, blocks, world, journal),
+        Picture::Text(style) => {
+            draw_ladder(alloc, style, names, blocks, choice, found, world, journal)
+        }
+        Picture::Svg => draw_svg(alloc, names, blocks, choice, found, world, journal),
     }
 }

@@ -1,33 +1,52 @@
 // What the words of the command line ask for.
 
-ghost use Rattle.std.specs.Prelude.{◌≡◌, ◌≢◌, IfNone, IfOk, IfSome, None};
-ghost use Rattle.clap.specs.Words.{app_of, kind_of};
-ghost use Rattle.mc_ladder_top.specs.Words.{AreTaken, AskFor, ladder_command, picture_of};
+ghost use Rattle.std.specs.Prelude.{◌≡◌, ◌≢◌, ◌<◌, [], IfNone, IfOk, IfSome, None, Some, length, map, option_map, position};
+ghost use Rattle.std.specs.Option.{unwrap_or};
+ghost use Rattle.clap.specs.Words.{all_of, app_of, found_of, kind_of, rows_of};
+ghost use Rattle.mc_ladder_top.specs.Requests.{asked};
+ghost use Rattle.mc_ladder_top.specs.Words.{AreTaken, AskFor, is_dash, ladder_command, picture_of, request_by, settles_of, span_around, span_between, span_of};
 
 use crate::picture::Picture;
 use clap::error::ErrorKind;
-use clap::{Arg, ArgAction, Command, Error};
+use clap::{Arg, ArgAction, ArgMatches, Command, Error};
 use mc_ladder::Style;
+use mc_ladder_choice::Span;
+use mc_text::read_number;
 use std::alloc::{AllocError, Global};
 
-/// The picture for which the words ask: text in ASCII where the flag `--ascii` stands among them, once or more often, SVG
-/// where the flag `--svg` does, and else text in UTF-8. None where both stand there, or another word; an error where
-/// memory is wanting.
-pub fn read_picture(alloc: Global, words: &[String]) -> Result<Option<Picture>, AllocError>
-    ensures some { IfOk result (λ read. IfSome read (AskFor words.now)) }
+/// What is asked for: the form of the ladder, the settles that are drawn, where not all, and the names of the boxes,
+/// where not all.
+#[derive(Drop)]
+pub struct Request<'a> {
+    pub picture: Picture,
+    pub settles: Option<Span>,
+    pub boxes: Vec<&'a str>,
+}
+
+/// What the words ask for: a ladder as text in ASCII where the flag `--ascii` stands among them, once or more often, as
+/// SVG where the flag `--svg` does, and else as text in UTF-8; after `--settles A-B` of the settles from A to B alone,
+/// which are counted from 1; after `--box NAME`, once or more often, of what concerns these boxes alone. None where both
+/// flags stand there, or another word; an error where memory is wanting.
+pub fn read_request<'a>(
+    alloc: Global,
+    words: &'a [String],
+) -> Result<Option<Request<'a>>, AllocError>
+    ensures some { IfOk result (λ read. IfSome read (λ request. AskFor words.now (asked request))) }
     ensures none { IfOk result (λ read. IfNone read (¬ AreTaken words.now)) }
 {
     match ladder_command(alloc)?.try_get_matches_from(words) {
         Ok(matches) => {
             let ascii = matches.get_count("ascii");
             let svg = matches.get_count("svg");
-            Ok(picture_of(ascii > 0, svg > 0))
+            let settles = settles_of(values_of(&matches, "settles"));
+            let boxes = Vec::from_slice(alloc, values_of(&matches, "box"))?;
+            Ok(request_by(picture_of(ascii > 0, svg > 0), settles, boxes))
         }
         Err(error) => none_unless_memory(&error),
     }
 }
 
-// The command line: two counted flags.
+// The command line: two counted flags and two options.
 fn ladder_command<'a>(alloc: Global) -> Result<Command<'a>, AllocError>
     ensures { IfOk result (λ command. app_of command ≡ ladder_command) }
 {
@@ -35,14 +54,28 @@ fn ladder_command<'a>(alloc: Global) -> Result<Command<'a>, AllocError>
         .long("ascii")
         .action(ArgAction::Count);
     let svg = Arg::new(alloc, "svg").long("svg").action(ArgAction::Count);
+    let settles = Arg::new(alloc, "settles")
+        .long("settles")
+        .action(ArgAction::Append);
+    let boxes = Arg::new(alloc, "box").long("box").action(ArgAction::Append);
     Command::new(alloc, "medialadder")
         .no_binary_name(true)
         .disable_help_flag(true)
         .arg(ascii)?
-        .arg(svg)
+        .arg(svg)?
+        .arg(settles)?
+        .arg(boxes)
 }
 
-// The picture for which these flags ask. SVG has no ASCII form.
+// The values of an option, of all its uses.
+fn values_of<'m, 'a>(matches: &'m ArgMatches<'a>, name: &str) -> &'m [&'a str]
+    ensures { map (λ value. value.now) result.now
+        ≡ unwrap_or (all_of name.now (rows_of (found_of matches.now))) [] }
+{
+    matches.get_strs(name).unwrap_or(&[])
+}
+
+// The form for which these flags ask. SVG has no ASCII form.
 fn picture_of(ascii: bool, svg: bool) -> Option<Picture>
     ensures { result ≡ picture_of ascii svg }
 {
@@ -54,8 +87,71 @@ fn picture_of(ascii: bool, svg: bool) -> Option<Picture>
     }
 }
 
+// The settles that these words name; all where there is no word.
+fn settles_of(words: &[&str]) -> Option<Option<Span>>
+    ensures { result ≡ settles_of (map (λ word. word.now) words.now) }
+{
+    match words {
+        [] => Some(None),
+        [word] => Some(Some(span_of(word.as_bytes())?)),
+        _ => None,
+    }
+}
+
+// The settles from one number to another, with a dash between them.
+fn span_of(word: &[u8]) -> Option<Span>
+    ensures { result ≡ span_of word.now }
+{
+    match dash_in(word) {
+        Some(dash) => span_around(word, dash),
+        None => None,
+    }
+}
+
+// The place of the first dash.
+fn dash_in(word: &[u8]) -> Option<usize>
+    ensures { result ≡ position is_dash word.now }
+{
+    word.iter().position(|byte| *byte == b'-')
+}
+
+// The same around a dash.
+fn span_around(word: &[u8], dash: usize) -> Option<Span>
+    requires { dash < length word.now }
+    ensures { result ≡ span_around word.now (Some dash) }
+{
+    span_between(read_number(&word[..dash]), read_number(&word[dash + 1..]))
+}
+
+fn span_between(first: Option<u32>, last: Option<u32>) -> Option<Span>
+    ensures { result ≡ span_between first last }
+{
+    match (first, last) {
+        (Some(first), Some(last)) if 1 <= first && first <= last => Some(Span { first, last }),
+        _ => None,
+    }
+}
+
+// What is asked for, if for anything.
+fn request_by<'a>(
+    picture: Option<Picture>,
+    settles: Option<Option<Span>>,
+    boxes: Vec<&'a str>,
+) -> Option<Request<'a>>
+    ensures { option_map (λ request. asked request) result
+        ≡ request_by picture settles (map (λ name. name.now) boxes.items) }
+{
+    let picture = picture?;
+    let settles = settles?;
+    Some(Request {
+        picture,
+        settles,
+        boxes,
+    })
+}
+
 // What stands for an error of the parser: want of memory is one, and a refusal of the words is none.
-fn none_unless_memory(error: &Error) -> Result<Option<Picture>, AllocError>
+fn none_unless_memory<'a>(error: &Error) -> Result<Option<Request<'a>>, AllocError>
     ensures { IfOk result (λ read. (read ≡ None) × (kind_of error.now ≢ ErrorKind.OutOfMemory)) }
 {
     if matches!(error.kind(), ErrorKind::OutOfMemory) {

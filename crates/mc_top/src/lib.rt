@@ -19,6 +19,8 @@ mod viewer;
 pub use checking::{TailFault, TailPlace};
 pub use mc_seq::SettleStop;
 pub use mc_words::{Mode, read_mode};
+pub use print::print_no_box;
+pub use reasons::no_box_reason;
 pub use report::Report;
 pub use run::{Run, run_script};
 pub use top::{

@@ -17,9 +17,12 @@ use std::{env, io};
 const HELP: &str =
     "medialadder: reads a text with its journal from standard input, and draws the journal as a call ladder:
 medialadder: a column for each box, time downwards, and an arrow for each signal that a box took.
-medialadder:   medialadder            draws in UTF-8
-medialadder:   medialadder --ascii    draws in ASCII
-medialadder:   medialadder --svg      draws as SVG
+medialadder:   medialadder                  draws in UTF-8
+medialadder:   medialadder --ascii          draws in ASCII
+medialadder:   medialadder --svg            draws as SVG
+medialadder: Any of these words may stand beside them:
+medialadder:   --settles A-B                draws the settles from A to B alone, which are counted from 1
+medialadder:   --box NAME                   draws what concerns the box NAME alone; with more of them, what concerns one
 medialadder: 'mediactl run --journal' prints a journal. Append it to its text, and both can be drawn.
 ";
 
@@ -40,8 +43,17 @@ fn tell(rt: &HostRuntime, reason: &Reason) {
             rt,
             "medialadder: the words after the program's name are none that it knows.\n",
         ),
+        Reason::NoBox { place, .. } => tell_no_box(rt, place),
         _ => tell_reason(rt, reason),
     }
+}
+
+// That the text has no box of a name. A name is shown as it was given.
+fn tell_no_box(rt: &HostRuntime, name: &[u8]) {
+    let mut stderr = rt.stderr();
+    let _ = stderr.write_all(b"medialadder: the text declares no box ");
+    let _ = stderr.write_all(name);
+    let _ = stderr.write_all(b".\n");
 }
 
 // How the program is called, after a line of complaint or none.

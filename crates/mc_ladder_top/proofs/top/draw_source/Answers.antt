@@ -3,13 +3,14 @@ use Rattle.mc_top.proofs.Explaining.{explains_weaker, told_for}
 use Rattle.mc_top.specs.Reasons.{IsFaultOf, IsFaultOfTold}
 use Rattle.mc_top.specs.Top.{IsTextOf}
 use Rattle.mc_ladder_top.specs.Top.{checking}
+use Rattle.mc_ladder_top.specs.Requests.{asked}
 use Rattle.mc_ladder_top.proofs.EndsDrawing.{drawing_told}
 use Rattle.mc_ladder_top.proofs.top.draw_source.Goals as goal
 
 pub returns-in-Ok-clause-ends : goal.returns-in-Ok-clause-ends
 returns-in-Ok-clause-ends g c =
     let read : IsTextOf Journal (g.S.Source.left c.args.source.now) c.deref.result.now = rw c.deref.ensures.value c.in-Ok.ensures.text in
-    drawing_told c.args.picture (g.S.Source.left c.args.source.now) (g.K.Sink.written c.args.sink.now) (g.K.Sink.written c.draw_text.new.sink) c.deref.result.now c.draw_text.result
+    drawing_told (asked c.args.request.now) (g.S.Source.left c.args.source.now) (g.K.Sink.written c.args.sink.now) (g.K.Sink.written c.draw_text.new.sink) c.deref.result.now c.draw_text.result
     read c.draw_text.ensures.ends
 
 pub returns-in-Ok-clause-reason : goal.returns-in-Ok-clause-reason

@@ -1,11 +1,12 @@
-use Rattle.std.proofs.Common.{inr, rules}
+use Rattle.std.proofs.Common.{inl, inr, rules}
 use Rattle.mc_top.proofs.Told.{not_failed}
 use Rattle.mc_ladder_top.specs.Words.{AreTaken}
+use Rattle.mc_ladder_top.specs.Requests.{asked}
 use Rattle.mc_ladder_top.proofs.EndsDrawing.{completes_drawing}
 use Rattle.mc_ladder_top.proofs.top.ladder_top.Goals as goal
 
 pub returns-in_default-clause-complete : goal.returns-in_default-clause-complete
-returns-in_default-clause-complete g c = λ text takes told can no_read no_write. inr c.give_up.ensures.status
+returns-in_default-clause-complete g c = λ text takes told can no_read no_write. inl (inr c.give_up.ensures.status)
 
 pub returns-in_default-read-clause-complete : goal.returns-in_default-read-clause-complete
 returns-in_default-read-clause-complete g c =
@@ -14,6 +15,6 @@ returns-in_default-read-clause-complete g c =
 
 pub returns-clause-complete : goal.returns-clause-complete
 returns-clause-complete g c = λ text takes told can no_read no_write.
-    completes_drawing c.in-Some.picture (g.S.Source.left c.args.source.now) (g.K.Sink.written c.args.sink.now) (g.K.Sink.written c.draw_source.new.sink) text c.draw_source.result
+    completes_drawing (asked c.in-Some.request) (g.S.Source.left c.args.source.now) (g.K.Sink.written c.args.sink.now) (g.K.Sink.written c.draw_source.new.sink) text c.draw_source.result
     c.draw_source.ensures.statuses c.draw_source.ensures.status c.draw_source.ensures.ends told can
     (not_failed _ _ _ _ c.draw_source.ensures.read_fault no_read) (not_failed _ _ _ _ c.draw_source.ensures.write_fault no_write)

@@ -4,7 +4,7 @@ use Rattle.clap.specs.Words.{App, app_of, new_app, rule_of, with_rule}
 use Rattle.clap.specs.Simple.{app_of_fields, on_top}
 use Rattle.clap.specs.declared.builder.command.Command.{Command}
 use Rattle.clap.specs.declared.builder.command.Command.TheViews.{out-Command}
-use Rattle.mc_ladder_top.specs.Words.{flag}
+use Rattle.mc_ladder_top.specs.Words.{flag, valued}
 use Rattle.mc_ladder_top.proofs.words.ladder_command.Goals as goal
 
 abbrev unnamed : App → App
@@ -26,7 +26,11 @@ pub returns : goal.returns
 returns c =
     let ascii : rule_of c.action-ascii.result ≡ flag (codes "ascii") = search rules in
     let svg : rule_of c.action-svg.result ≡ flag (codes "svg") = search rules in
+    let settles : rule_of c.action-settles.result ≡ valued (codes "settles") = search rules in
+    let boxes : rule_of c.action-boxes.result ≡ valued (codes "box") = search rules in
     let begun : app_of c.disable_help_flag.result ≡ bare = is_helpless _ _ c.disable_help_flag.ensures
     ∙ ap helpless (is_unnamed _ _ c.no_binary_name.ensures ∙ ap unnamed c.new-3.ensures.app) in
     let one : app_of c.in_ok-arg.field-0 ≡ with_rule bare (flag (codes "ascii")) = c.in_ok-arg.ensures.shape (search rules) ∙ ap₂ with_rule begun ascii in
-    IfOk-weaker c.arg-2.result _ _ (λ r h. h.shape (search rules) ∙ ap₂ with_rule one svg) c.arg-2.ensures
+    let two : app_of c.in_ok-arg-2.field-0 ≡ with_rule (with_rule bare (flag (codes "ascii"))) (flag (codes "svg")) = c.in_ok-arg-2.ensures.shape (search rules) ∙ ap₂ with_rule one svg in
+    let three : app_of c.in_ok-arg-3.field-0 ≡ with_rule (with_rule (with_rule bare (flag (codes "ascii"))) (flag (codes "svg"))) (valued (codes "settles")) = c.in_ok-arg-3.ensures.shape (search rules) ∙ ap₂ with_rule two settles in
+    IfOk-weaker c.arg-4.result _ _ (λ r h. h.shape (search rules) ∙ ap₂ with_rule three boxes) c.arg-4.ensures

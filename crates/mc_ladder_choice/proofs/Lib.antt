@@ -1,0 +1,4 @@
+pub mod Added
+pub mod Shown
+pub mod Surveyed
+pub mod Walked

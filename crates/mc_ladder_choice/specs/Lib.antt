@@ -1,0 +1,4 @@
+pub mod Boxes
+pub mod Choices
+pub mod Entries
+pub mod Surveys
