@@ -1,0 +1,4 @@
+mod Chains
+mod Given
+mod Lanes
+mod Rows
