@@ -51,15 +51,15 @@ drew request text net journal output old new status declares sound known has set
 
 -- with a ladder
 pub ends_drew : (request : Requested) (told old new : Option (List ℕ)) (done : Done) → done.due ≡ 0 → Drew request told old new done.status done.journal.items → EndsDrawing request told old new done
-ends_drew request told old new done zero drawn = record { drew = λ is. drawn; no_box = λ nine. absurd (grind (arith, zero, nine)); refused = λ other no. absurd (other zero) }
+ends_drew request told old new done zero drawn = record { drew = λ is. drawn; no_box = λ nine. absurd (grind (arith, zero, nine)); refused = λ other past. absurd (other zero) }
 
 -- with a name that no box has
 pub ends_unknown : (request : Requested) (told old new : Option (List ℕ)) (done : Done) → done.due ≡ 9 → RefusesName request told old new done.status done.journal.items → EndsDrawing request told old new done
-ends_unknown request told old new done nine refuses = record { drew = λ zero. absurd (grind (arith, zero, nine)); no_box = λ is. refuses; refused = λ other no. absurd (no nine) }
+ends_unknown request told old new done nine refuses = record { drew = λ zero. absurd (grind (arith, zero, nine)); no_box = λ is. refuses; refused = λ other past. absurd (past nine) }
 
 -- or as a check does
 pub ends_else : (request : Requested) (told old new : Option (List ℕ)) (done : Done) → (done.due ≡ 0 → ⊥) → (done.due ≡ 9 → ⊥) → EndsAs checking told old new done → EndsDrawing request told old new done
-ends_else request told old new done other no ends = record { drew = λ zero. absurd (other zero); no_box = λ nine. absurd (no nine); refused = λ is none. ends }
+ends_else request told old new done other past ends = record { drew = λ zero. absurd (other zero); no_box = λ nine. absurd (past nine); refused = λ is there. ends }
 
 -- ---- what was read of what a source has left
 
@@ -96,7 +96,7 @@ pub drawing_told : (request : Requested) (told old new : Option (List ℕ)) (tex
 drawing_told request told old new text done read ends = record {
   drew = λ zero. drew_told request told old new text done.status done.journal.items read (ends.drew zero);
   no_box = λ nine. refuses_told request told old new text done.status done.journal.items read (ends.no_box nine);
-  refused = λ other no. ends_told checking told old new text done.status done.due done.journal.items read (ends.refused other no);
+  refused = λ other past. ends_told checking told old new text done.status done.due done.journal.items read (ends.refused other past);
 }
 
 -- ---- a journal that is good
@@ -112,7 +112,7 @@ completes_drawing request told old new text done dues either ends is can not_fou
     by false true is_none is_unknown = let nine : done.due ≡ 9 = grind (arith, is_unknown) in grind (arith, either, nine, not_five)
     by false false some others =
         let other : done.due ≡ 0 → ⊥ = λ zero. grind (arith, some, zero) in
-        let no : done.due ≡ 9 → ⊥ = λ nine. grind (arith, others, nine) in
+        let past : done.due ≡ 9 → ⊥ = λ nine. grind (arith, others, nine) in
         let all : (done.due ≡ 0) ⊎ (done.due ≡ 1) ⊎ (done.due ≡ 3) ⊎ (done.due ≡ 4) ⊎ (done.due ≡ 6) ⊎ (done.due ≡ 7) ⊎ (done.due ≡ 8) ⊎ (done.due ≡ 9) = grind (arith, dues) in
-        let checked = completes checking told old new text done.status done.due done.journal.items all either (ends.refused other no) is can not_four not_five in
+        let checked = completes checking told old new text done.status done.due done.journal.items all either (ends.refused other past) is can not_four not_five in
         grind (arith, checked)

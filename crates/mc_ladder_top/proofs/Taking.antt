@@ -4,10 +4,14 @@ use Rattle.std.specs.Prelude.{IfSome, String, option_map}
 use Rattle.std.specs.Option.{unwrap_or}
 use Rattle.std.specs.declared.alloc.Global.{Global}
 use Rattle.std.specs.declared.option.Option.{Option}
-use Rattle.clap.specs.Words.{App, HasKind, HasMatchesOf, IsAmong, Row, Text, all_of, count_of, fault_of, found_of, is_simple, is_simple_and_free, kind_of, matches_of, rows_of}
+use Rattle.clap.specs.Words.{App, HasKind, HasMatchesOf, IsAmong, Row, Text, all_of, count_of, fault_of, found_of, is_simple, is_simple_and_free, kind_of, matched_of, matches_of, raw_values, rows_of}
+use Rattle.clap.proofs.WalkLemmas.{raw_values-rows}
+use Rattle.clap.specs.declared.parser.matches.Found.{Found}
 use Rattle.clap.specs.declared.error.Error.{Error}
 use Rattle.clap.specs.declared.error.kind.ErrorKind.TheVariants.{OutOfMemory}
 use Rattle.clap.specs.declared.parser.matches.ArgMatches.{ArgMatches}
+use Rattle.mc_ladder_choice.specs.declared.choice.Span.{Span}
+use Rattle.mc_ladder_top.specs.declared.picture.Picture.{Picture}
 use Rattle.mc_ladder_top.specs.Words.{AreTaken, AskFor, AskForAny, ladder_command, picture_of, request_by, settles_of}
 use Rattle.mc_ladder_top.specs.Requests.{Requested, asked}
 use Rattle.mc_ladder_top.specs.declared.words.Request.{Request}
@@ -48,10 +52,20 @@ asks_for_it words m ascii svg settles boxes request (takes, rows) ascii_is svg_i
   sym (is ∙ (by_values (rows_of (found_of m)) ascii svg settles boxes ascii_is svg_is settles_are boxes_are ∙ ap rows_ask rows)),
 )
 
+pub by_parts : (picture shown : Option Picture) (settles named : Option (Option Span)) (boxes : List Text) → picture ≡ shown → settles ≡ named
+    → request_by picture settles boxes ≡ request_by shown named boxes
+by_parts picture shown settles named boxes p s = ap₂ (λ (a : Option Picture) (b : Option (Option Span)). request_by a b boxes) p s
+
 pub asked_some : (words : List (String Global)) (read : Option Request) (request : Option Requested) → option_map (λ r. asked r) read ≡ request → AskForAny (map string_bytes words) request
     → IfSome read (λ r. AskFor words (asked r))
 asked_some words None request is asks = tt
 asked_some words (Some r) request is asks = subst (AskForAny (map string_bytes words)) (sym is) asks
+
+-- where they ask for something, they are taken
+pub asked_taken : (words read_words : List (String Global)) (read : Option Request) (request : Request) → read_words ≡ words → read ≡ Some request → IfSome read (λ r. AskFor read_words (asked r))
+    → AreTaken words
+asked_taken words read_words read request same is asks =
+    (asked request, subst (λ (w : List (String Global)). AskFor w (asked request)) same (subst (λ (o : Option Request). IfSome o (λ r. AskFor read_words (asked r))) is asks))
 
 -- where they ask for nothing, they aren't taken
 pub asked_none : (words : List (String Global)) (read : Option Request) (request : Option Requested) → option_map (λ r. asked r) read ≡ request → AskForAny (map string_bytes words) request
@@ -59,12 +73,19 @@ pub asked_none : (words : List (String Global)) (read : Option Request) (request
 asked_none words None request is asks = λ taken. let no : None ≡ Some taken.0 = is ∙ (sym asks.1 ∙ taken.1.1) in cc
 asked_none words (Some r) request is asks = tt
 
--- the values of an option that was met, or none
-pub values_are : (found : Option (Bor (List (Bor (List ℕ))))) (none values : Bor (List (Bor (List ℕ)))) (all : Option (List Text)) → values ≡ unwrap_or found none → none.now ≡ []
-    → option_map (λ v. map (λ value. value.now) v.now) found ≡ all → map (λ value. value.now) values.now ≡ unwrap_or all []
-values_are None none values all is empty e =
-    ap (λ v. map (λ value. value.now) v.now) is ∙ (ap (λ v. map (λ value. value.now) v) empty ∙ ap (λ (o : Option (List Text)). unwrap_or o []) e)
-values_are (Some v) none values all is empty e = ap (λ v. map (λ value. value.now) v.now) is ∙ ap (λ (o : Option (List Text)). unwrap_or o []) e
+-- the values of an option that was met
+pub values_met : (found : Found) (id : Text) (met : Option (Bor (List (Bor Text)))) (values : Bor (List (Bor Text)))
+    → option_map (λ v. map (λ value. value.now) v.now) met ≡ option_map raw_values (matched_of found id) → met ≡ Some values
+    → map (λ value. value.now) values.now ≡ unwrap_or (all_of id (rows_of found)) []
+values_met found id met values are is =
+    ap (λ (o : Option (List Text)). unwrap_or o []) (sym (ap (option_map (λ v. map (λ value. value.now) v.now)) is) ∙ (are ∙ raw_values-rows found id))
+
+-- and of one that wasn't
+pub values_not_met : (found : Found) (id : Text) (met : Option (Bor (List (Bor Text))))
+    → option_map (λ v. map (λ value. value.now) v.now) met ≡ option_map raw_values (matched_of found id) → met ≡ None
+    → [] ≡ unwrap_or (all_of id (rows_of found)) []
+values_not_met found id met are is =
+    ap (λ (o : Option (List Text)). unwrap_or o []) (sym (ap (option_map (λ v. map (λ value. value.now) v.now)) is) ∙ (are ∙ raw_values-rows found id))
 
 -- where it gives an error that isn't want of memory, they aren't taken
 pub refused : (app : App) (words : List (String Global)) (e : Error) → app ≡ ladder_command → (is_simple_and_free app ≡ true → HasKind (fault_of app (map string_bytes words)) e)

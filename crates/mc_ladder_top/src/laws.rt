@@ -9,7 +9,7 @@ pub fn words_ask_for_pictures()
     ensures { WordsAskForPictures }
 {}
 
-/// The option `--settles A-B`, whose value may stand after a `=`, too,, asks for the settles from A to B alone: once, with
+/// The option `--settles A-B`, whose value may stand after a `=`, too, asks for the settles from A to B alone: once, with
 /// numbers from 1 on of which the second is no less.
 pub fn words_ask_for_settles()
     ensures { WordsAskForSettles }

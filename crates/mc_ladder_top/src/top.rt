@@ -165,8 +165,9 @@ fn draw_source<S: Source, K: Sink>(
 /// Reads the text that the source has left, with the journal after its commands, checks both as `check` does, and writes
 /// the ladder of the journal.
 ///
-/// The order is: words, reading, the text, the boxes that are asked for, the journal, writing. Nothing is written before the ladder is drawn. At most
-/// one byte more than the limit of a text with its journal is read, and nothing where the words are no command line.
+/// The order is: words, reading, the text, the boxes that are asked for, the journal, writing. Nothing is written before
+/// the ladder is drawn. At most one byte more than the limit of a text with its journal is read, and nothing where the
+/// words are no command line.
 pub fn ladder_top<S: Source, K: Sink>(
     alloc: Global,
     words: Vec<String>,

@@ -38,8 +38,8 @@ pub fn read_request<'a>(
         Ok(matches) => {
             let ascii = matches.get_count("ascii");
             let svg = matches.get_count("svg");
-            let settles = settles_of(values_of(&matches, "settles"));
-            let boxes = Vec::from_slice(alloc, values_of(&matches, "box"))?;
+            let settles = settles_of(&values_of(alloc, &matches, "settles")?);
+            let boxes = values_of(alloc, &matches, "box")?;
             Ok(request_by(picture_of(ascii > 0, svg > 0), settles, boxes))
         }
         Err(error) => none_unless_memory(&error),
@@ -68,11 +68,18 @@ fn ladder_command<'a>(alloc: Global) -> Result<Command<'a>, AllocError>
 }
 
 // The values of an option, of all its uses.
-fn values_of<'m, 'a>(matches: &'m ArgMatches<'a>, name: &str) -> &'m [&'a str]
-    ensures { map (λ value. value.now) result.now
-        ≡ unwrap_or (all_of name.now (rows_of (found_of matches.now))) [] }
+fn values_of<'a>(
+    alloc: Global,
+    matches: &ArgMatches<'a>,
+    name: &str,
+) -> Result<Vec<&'a str>, AllocError>
+    ensures { IfOk result (λ values. map (λ value. value.now) values.items
+        ≡ unwrap_or (all_of name.now (rows_of (found_of matches.now))) []) }
 {
-    matches.get_strs(name).unwrap_or(&[])
+    match matches.get_strs(name) {
+        Some(values) => Vec::from_slice(alloc, values),
+        None => Ok(Vec::new(alloc)),
+    }
 }
 
 // The form for which these flags ask. SVG has no ASCII form.
@@ -139,7 +146,7 @@ fn request_by<'a>(
     boxes: Vec<&'a str>,
 ) -> Option<Request<'a>>
     ensures { option_map (λ request. asked request) result
-        ≡ request_by picture settles (map (λ name. name.now) boxes.items) }
+        ≡ request_by picture settles (map (λ name. name.now) boxes.entry.items) }
 {
     let picture = picture?;
     let settles = settles?;

@@ -1,4 +1,7 @@
+use Rattle.std.proofs.Common.{◌∙◌, ap}
 use Rattle.std.proofs.lemmas.Result.{IfOk-weaker}
+use Rattle.mc_ladder_choice.specs.Choices.{ChoiceState}
+use Rattle.mc_ladder_top.specs.Drawn.{picture_bytes}
 use Rattle.mc_ladder_top.proofs.drawing.draw_journal.Goals as goal
 
 pub returns : goal.returns
@@ -8,6 +11,7 @@ returns c = IfOk-weaker c.draw_net.result _ _
       blocks = c.in_ok-blocks.blocks.items;
       declares = c.in_ok-net.ensures;
       gives = c.in_ok-blocks.ensures;
-      drawn = rw c.deref.ensures.value at is;
+      drawn = (rw c.deref.ensures.value at is) ∙ ap (λ (choice : ChoiceState). picture_bytes c.args.request.now.picture c.in_ok-net.net.names c.in_ok-blocks.blocks.items c.in_ok-net.net.world choice c.args.journal.now)
+          (c.in_ok-chosen.ensures.choice c.in_ok-net.net c.in_ok-net.ensures);
     })
     c.draw_net.ensures

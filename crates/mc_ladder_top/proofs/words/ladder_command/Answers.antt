@@ -29,7 +29,7 @@ returns c =
     let settles : rule_of c.action-settles.result ≡ valued (codes "settles") = search rules in
     let boxes : rule_of c.action-boxes.result ≡ valued (codes "box") = search rules in
     let begun : app_of c.disable_help_flag.result ≡ bare = is_helpless _ _ c.disable_help_flag.ensures
-    ∙ ap helpless (is_unnamed _ _ c.no_binary_name.ensures ∙ ap unnamed c.new-3.ensures.app) in
+    ∙ ap helpless (is_unnamed _ _ c.no_binary_name.ensures ∙ ap unnamed c.new-5.ensures.app) in
     let one : app_of c.in_ok-arg.field-0 ≡ with_rule bare (flag (codes "ascii")) = c.in_ok-arg.ensures.shape (search rules) ∙ ap₂ with_rule begun ascii in
     let two : app_of c.in_ok-arg-2.field-0 ≡ with_rule (with_rule bare (flag (codes "ascii"))) (flag (codes "svg")) = c.in_ok-arg-2.ensures.shape (search rules) ∙ ap₂ with_rule one svg in
     let three : app_of c.in_ok-arg-3.field-0 ≡ with_rule (with_rule (with_rule bare (flag (codes "ascii"))) (flag (codes "svg"))) (valued (codes "settles")) = c.in_ok-arg-3.ensures.shape (search rules) ∙ ap₂ with_rule two settles in
