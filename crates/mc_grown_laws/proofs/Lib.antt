@@ -1,4 +1,4 @@
 mod GrownRuns
 mod JoinedPaths
 mod Settled
-mod Shapes
+pub mod Shapes

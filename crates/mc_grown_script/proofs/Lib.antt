@@ -1,0 +1,5 @@
+pub mod Lawful
+pub mod Names
+pub mod Viewing
+mod Running
+mod Stopping

@@ -1,0 +1,4 @@
+pub mod Printed
+pub mod Progress
+pub mod ScriptRuns
+pub mod Scripts

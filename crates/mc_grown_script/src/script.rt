@@ -1,0 +1,251 @@
+// A script, stage by stage.
+
+ghost use Rattle.std.specs.Prelude.{◌≡◌, ◌++◌, ◌<◌, ◌≤◌, ◌^◌, length, map, IfOk, OnOk};
+ghost use Rattle.mc_growth.specs.Growths.{grown_by_all};
+ghost use Rattle.mc_stages.specs.Plans.{AreLawful, MayAskAll, MayCommand, NamesEnough, batch_of, grown_at_end, growths_of};
+ghost use Rattle.mc_grown_script.specs.Progress.{CameOf, CameOfBatch, EndsAt, EndsByFault, IsNamedFault};
+ghost use Rattle.mc_grown_script.specs.Scripts.{first_state};
+ghost use Rattle.mc_grown_script.specs.ScriptRuns.{EndsAs};
+ghost use Rattle.mc_network.specs.declared.limit.TheConstants.{NETWORK_LIMIT};
+ghost use Rattle.mc_replay.specs.Journals.{lines_for};
+ghost use Rattle.mc_script.specs.declared.command.JournalLine.TheVariants.{Turn as Made};
+
+use crate::printing::{print_box_stop, print_slot_stop, put_network};
+use crate::settling::settle_grown;
+use crate::stop::{GrownStop, ScriptRun};
+use mc_box::Turn;
+use mc_grow::Grown;
+use mc_io::Gate;
+use mc_script::JournalLine;
+use mc_seq::{SettleFault, SettleStop};
+use mc_stages::{GrowthFault, StagePlan, grow_all};
+use mc_text::Names;
+use std::alloc::{AllocError, Global};
+use std::marker::Model;
+use std::thread::Threads;
+
+// A script while it runs: its network, and what was kept and printed so far.
+#[derive(Drop)]
+struct Progress {
+    network: Grown,
+    journal: Vec<JournalLine>,
+    output: Vec<u8>,
+}
+
+// What came of a stage: it was settled, or the script stopped.
+#[derive(Drop)]
+enum Outcome {
+    Settled(Progress),
+    Stopped(ScriptRun),
+}
+
+impl Model for Progress {
+    ghost use Rattle.mc_grown_script.specs.Scripts.{ScriptState};
+
+    ghost Value = { ScriptState };
+
+    ghost view = { λ p. record {
+      network = p.network;
+      journal = p.journal.items;
+      output = p.output.items;
+    } };
+}
+
+impl Progress {
+    fn new(alloc: Global, network: Grown) -> Progress
+        ensures { result ≡ first_state network }
+    {
+        Progress {
+            network,
+            journal: Vec::new(alloc),
+            output: Vec::new(alloc),
+        }
+    }
+
+    // A stage is run, and its settle is printed under its number; or it stops.
+    fn run_plan<R: Threads + Sync, G: Gate + Sync>(
+        self,
+        rt: &R,
+        alloc: Global,
+        gate: &G,
+        names: &Names,
+        number: u32,
+        plan: &StagePlan,
+    ) -> Result<Outcome, AllocError>
+        requires asks { MayAskAll self.network (growths_of plan.now) }
+        requires commands { MayCommand (grown_by_all self.network (growths_of plan.now)) (batch_of plan.now) }
+        requires named { NamesEnough names.now (grown_by_all self.network (growths_of plan.now)).world }
+        requires few { length self.network.world.boxes ≤ NETWORK_LIMIT }
+        ensures { IfOk result (λ outcome. CameOf names.now number plan.now self outcome) }
+    {
+        let Progress {
+            network,
+            journal,
+            output,
+        } = self;
+        network.keeps();
+        network.world().keeps();
+        match grow_all(alloc, network, &plan.growths) {
+            Ok(network) => {
+                network.keeps();
+                network.world().keeps();
+                let grown = Progress {
+                    network,
+                    journal,
+                    output,
+                };
+                grown.settle(rt, alloc, gate, names, number, &plan.batch)
+            }
+            Err(GrowthFault::InUse(used)) => {
+                let stop = GrownStop::Cut(used.at);
+                let line = print_slot_stop(alloc, names, stop, used.place)?;
+                let run = end_at(stop, &[], line, journal)?;
+                Ok(Outcome::Stopped(run))
+            }
+            Err(GrowthFault::NoMemory(e)) => Err(e),
+        }
+    }
+
+    // A batch of the network is settled, and that is printed under the settle's number; or it stops.
+    fn settle<R: Threads + Sync, G: Gate + Sync>(
+        self,
+        rt: &R,
+        alloc: Global,
+        gate: &G,
+        names: &Names,
+        number: u32,
+        batch: &[Turn],
+    ) -> Result<Outcome, AllocError>
+        requires commands { MayCommand self.network batch.now }
+        requires named { NamesEnough names.now self.network.world }
+        requires few { length self.network.world.boxes ≤ NETWORK_LIMIT }
+        ensures { IfOk result (λ outcome. CameOfBatch names.now number batch.now self outcome) }
+    {
+        let Progress {
+            network,
+            mut journal,
+            mut output,
+        } = self;
+        network.keeps();
+        network.world().keeps();
+        match settle_grown(rt, alloc, gate, network, batch) {
+            Ok((network, turns)) => {
+                log(&turns, &mut journal)?;
+                put_network(alloc, names, number, &network, &mut output)?;
+                Ok(Outcome::Settled(Progress {
+                    network,
+                    journal,
+                    output,
+                }))
+            }
+            Err(fault) => {
+                let run = stop_by(alloc, names, journal, fault)?;
+                Ok(Outcome::Stopped(run))
+            }
+        }
+    }
+}
+
+// A script whose settle had a fault: the turns up to there are kept, and one line is printed.
+fn stop_by(
+    alloc: Global,
+    names: &Names,
+    journal: Vec<JournalLine>,
+    fault: SettleFault,
+) -> Result<ScriptRun, AllocError>
+    requires { IsNamedFault names.now fault }
+    ensures { IfOk result (λ run. EndsByFault names.now journal.items fault run) }
+{
+    match fault {
+        SettleFault::VersionEnd(stopped) => {
+            let stop = GrownStop::Settle(SettleStop::VersionEnd(stopped.at));
+            let line = print_slot_stop(alloc, names, stop, stopped.place)?;
+            end_at(stop, &stopped.turns, line, journal)
+        }
+        SettleFault::Ring(stopped) => {
+            let stop = GrownStop::Settle(SettleStop::Ring(stopped.at));
+            let line = print_slot_stop(alloc, names, stop, stopped.place)?;
+            end_at(stop, &stopped.turns, line, journal)
+        }
+        SettleFault::Restless(stopped) => {
+            let stop = GrownStop::Settle(SettleStop::Restless(stopped.at));
+            let line = print_box_stop(alloc, names, stop, stopped.at)?;
+            end_at(stop, &stopped.turns, line, journal)
+        }
+        SettleFault::NoMemory(e) => Err(e),
+    }
+}
+
+// Ends a script at a stop, after these turns, with this line.
+fn end_at(
+    stop: GrownStop,
+    turns: &[Turn],
+    line: Vec<u8>,
+    mut journal: Vec<JournalLine>,
+) -> Result<ScriptRun, AllocError>
+    ensures { IfOk result (EndsAt stop line.items turns.now journal.items) }
+{
+    log_turns(turns, &mut journal)?;
+    Ok(ScriptRun {
+        output: line,
+        journal,
+        stop: Some(stop),
+    })
+}
+
+// Keeps turns.
+fn log_turns(turns: &[Turn], journal: &mut Vec<JournalLine>) -> Result<(), AllocError>
+    ensures { OnOk result (journal.new.items ≡ journal.old.items ++ map Made turns.now) }
+{
+    for turn in turns {
+        journal.push(JournalLine::Turn(*turn))?;
+    }
+    Ok(())
+}
+
+// Keeps the turns of a settle, and its mark.
+fn log(turns: &[Turn], journal: &mut Vec<JournalLine>) -> Result<(), AllocError>
+    ensures { OnOk result (journal.new.items ≡ journal.old.items ++ lines_for turns.now) }
+{
+    log_turns(turns, journal)?;
+    journal.push(JournalLine::Settled)?;
+    Ok(())
+}
+
+/// Runs a script: before each settle its joins and cuts are made, then its batch is settled, and the paths of the
+/// network are printed. It ends before that at a cut of a channel that is in use, and where a batch stops; then the line
+/// of the stop is all that it prints. The boxes take turns in any order.
+///
+/// The plans may be asked for one after another, of a network of at most `mc_network::limit::NETWORK_LIMIT` boxes; all
+/// that will ever be in it has names.
+pub fn run_plans<R: Threads + Sync, G: Gate + Sync>(
+    rt: &R,
+    alloc: Global,
+    gate: &G,
+    names: &Names,
+    network: Grown,
+    plans: &[StagePlan],
+) -> Result<ScriptRun, AllocError>
+    requires lawful { AreLawful network plans.now }
+    requires named { NamesEnough names.now (grown_at_end network plans.now).world }
+    requires few_boxes { length network.world.boxes ≤ NETWORK_LIMIT }
+    requires few { length plans.now < 2 ^ 32 }
+    ensures { IfOk result (EndsAs names.now network plans.now) }
+{
+    network.keeps();
+    network.world().keeps();
+    let mut progress = Progress::new(alloc, network);
+    for index in 0..plans.len() {
+        let plan = &plans[index];
+        let number = (index + 1) as u32;
+        match progress.run_plan(rt, alloc, gate, names, number, plan)? {
+            Outcome::Settled(next) => progress = next,
+            Outcome::Stopped(run) => return Ok(run),
+        }
+    }
+    Ok(ScriptRun {
+        output: progress.output,
+        journal: progress.journal,
+        stop: None,
+    })
+}
