@@ -1,7 +1,10 @@
 pub mod Acting
+pub mod Asked
 pub mod ChannelSlots
 pub mod InOrder
 pub mod Lawful
 pub mod Likeness
 pub mod OpenPlans
 pub mod PlansHappen
+pub mod TailCommands
+pub mod TailLines

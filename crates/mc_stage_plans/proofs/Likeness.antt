@@ -72,7 +72,7 @@ slots_named names shape boxes channels cut network who like below =
 
 -- ---- before `grow`
 
-none_out : (n s : ℕ) → is_out (replicate n false) s ≡ false
+pub none_out : (n s : ℕ) → is_out (replicate n false) s ≡ false
 none_out zero s = refl
 none_out (suc n) zero = refl
 none_out (suc n) (suc s) = none_out n s
@@ -198,8 +198,8 @@ joined_outs world medium from to out cut s all known outs (away is) =
     defaults_added out false s ∙ get_or_past out s false (omega (arith, is, all)) ∙ sym (ap (λ (n : ℕ). is_cut cut (Some n)) channel ∙ none_such cut (length world.channels) known)
 
 -- a channel of one tunnel
-abbrev one_tunnel : Medium → (from to near far : ℕ) → ChannelState
-one_tunnel medium from to near far = record { from = from; to = to; tunnels = record { medium = medium; from = near; to = far } ∷ [] }
+abbrev one_tunnel : Medium → (from to low high : ℕ) → ChannelState
+one_tunnel medium from to low high = record { from = from; to = to; tunnels = record { medium = medium; from = low; to = high } ∷ [] }
 
 pub join_like : (d : Declared) (cut : List ℕ) (network : GrownState) (medium : Medium) (from : ℕ) (slot : List ℕ) (to : ℕ) (far_slot : List ℕ) → MayJoin network.world from to → IsLike d cut network
     → IsLike (with_joined d medium from slot to far_slot) cut (with_join network medium from to)
