@@ -9,7 +9,6 @@ use Rattle.mc_growth.specs.Joins.{MayJoin}
 use Rattle.mc_growth.specs.Outs.{MayCut, is_out, sets}
 use Rattle.mc_model.specs.Shapes.{is_allowed}
 use Rattle.mc_model.specs.Worlds.{slot_count}
-use Rattle.mc_script.specs.declared.command.Command.{Command}
 use Rattle.mc_script.specs.declared.command.Command.TheVariants.{Settle, Stimulus}
 use Rattle.mc_stages.specs.Plans.{MayAskAll, MayCommand}
 use Rattle.mc_tail.specs.declared.item.Item.{Item}

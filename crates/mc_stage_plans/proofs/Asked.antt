@@ -1,5 +1,5 @@
 -- What a network that is like what is declared may be asked: each join and cut, and each command, of a line that breaks no rule.
-use Rattle.std.proofs.Common.{◌≡◌, ◌≢◌, ◌⊎◌, inl, inr, ℕ, zero, suc, ◌<◌, ◌≤◌, ◌==◌, ◌&&◌, ◌||◌, Bool, true, false, is_some, List, [], ◌∷◌, ◌++◌, length, nat_le, nat_lt, slice_index_or, Option, Some, None, refl, sym, ap, ◌∙◌, subst, arith}
+use Rattle.std.proofs.Common.{◌≡◌, inl, inr, ℕ, ◌<◌, ◌==◌, ◌&&◌, ◌||◌, Bool, true, false, List, [], ◌∷◌, length, nat_le, nat_lt, slice_index_or, Option, Some, None, refl, sym, ap, ◌∙◌, subst, arith}
 use Rattle.std.specs.Prelude.{IsTrue}
 use Rattle.std.specs.List.{slice_get}
 use Rattle.std.specs.Option.{is_none}
@@ -16,11 +16,11 @@ use Rattle.mc_box.specs.declared.event.Turn.{Turn}
 use Rattle.mc_growth.proofs.Lists.{not_true}
 use Rattle.mc_growth.specs.Growths.{GrownState}
 use Rattle.mc_growth.specs.Joins.{HasRoom, MayJoin}
-use Rattle.mc_growth.specs.Outs.{IsUnprogrammed, MayCut, channel_at, is_out, sets, sets_slot}
+use Rattle.mc_growth.specs.Outs.{IsUnprogrammed, MayCut, channel_at, is_out, sets_slot}
 use Rattle.mc_lines.proofs.FirstBroken.{all_before, all_behind}
 use Rattle.mc_lines.specs.Joins.{also_broken, among_channels, has_program, join_rules, names_programmed}
 use Rattle.mc_lines.specs.Rules.{channel_rules, is_pending, of_slots}
-use Rattle.mc_lines.specs.SoFar.{Declared, DeclaredBox}
+use Rattle.mc_lines.specs.SoFar.{Declared}
 use Rattle.mc_model.specs.Shapes.{is_allowed}
 use Rattle.mc_model.specs.Worlds.{ChannelState, WorldState, box_at, place, places_among, slot_count}
 use Rattle.mc_net.proofs.Enabled.{IsEnabled}
@@ -29,7 +29,7 @@ use Rattle.mc_plan.specs.Plans.{no_channel}
 use Rattle.mc_plan.specs.declared.limit.TheConstants.{CHANNEL_LIMIT}
 use Rattle.mc_program_lines.proofs.Found.{named_within}
 use Rattle.mc_program_lines.proofs.KeptRules.{first_kept, kept_at, others_kept}
-use Rattle.mc_script.specs.Places.{box_named, lacks}
+use Rattle.mc_script.specs.Places.{box_named}
 use Rattle.mc_script.specs.Rules.{least_broken}
 use Rattle.mc_script.specs.declared.command.Command.TheVariants.{Stimulus}
 use Rattle.mc_script.specs.declared.rule.TheConstants.{LIMIT_PASSED, NOT_SETTLED, NO_SUCH_SLOT, WRONG_WORD}
@@ -40,7 +40,7 @@ use Rattle.mc_text.specs.declared.limit.TheConstants.{SLOT_LIMIT}
 use Rattle.mc_stage_plans.proofs.Acting.{MayTurn}
 use Rattle.mc_stage_plans.proofs.ChannelSlots.{box_of_end, channel_found, end_there}
 use Rattle.mc_stage_plans.proofs.InOrder.{boxes_apart}
-use Rattle.mc_stage_plans.proofs.Likeness.{AreLike, IsLike, slots_named}
+use Rattle.mc_stage_plans.proofs.Likeness.{IsLike, slots_named}
 
 -- ---- rules
 
@@ -84,17 +84,20 @@ room_for d cut network who like below room none =
     let same : length (slot_names d.names who) ≡ length (box_at network.world who).slots = slots_named d.names d.shape d.boxes d.channels cut network who like below in
     record { room = omega arith; unprogrammed = unprogrammed_box d cut network who like none }
 
+-- a line that breaks no rule names no box with a program
+none_programmed : (d : Declared) (words : List (List ℕ)) → least_broken (also_broken WRONG_WORD (names_programmed d words) (channel_rules (among_channels d) words)) ≡ None → names_programmed d words ≡ false
+none_programmed d words own = (or_parts _ (names_programmed d words) (kept_at (also_broken WRONG_WORD (names_programmed d words) (channel_rules (among_channels d) words)) 1 _ own refl)).1
+
 pub may_join : (d : Declared) (cut : List ℕ) (network : GrownState) (words : List (List ℕ)) (from to : ℕ) → IsLike d cut network → least_broken (join_rules d words) ≡ None
     → box_named d.names (slice_get words 1) ≡ Some from → box_named d.names (slice_get words 3) ≡ Some to → MayJoin network.world from to
 may_join d cut network words from to like kept a b =
     let near = box_named d.names (slice_get words 1) in
     let far = box_named d.names (slice_get words 3) in
-    let plain_rules = channel_rules (among_channels d) words in
-    let settled = (NOT_SETTLED, is_pending d.commands) ∷ [] in
+    let plain_rules : List (ℕ × Bool) = channel_rules (among_channels d) words in
+    let settled : List (ℕ × Bool) = (NOT_SETTLED, is_pending d.commands) ∷ [] in
     let own : least_broken (also_broken WRONG_WORD (names_programmed d words) (channel_rules (among_channels d) words)) ≡ None = all_before (also_broken WRONG_WORD (names_programmed d words) plain_rules) settled kept in
     let plain : least_broken (channel_rules (among_channels d) words) ≡ None = not_also WRONG_WORD (names_programmed d words) plain_rules own in
-    let wrong = kept_at (also_broken WRONG_WORD (names_programmed d words) plain_rules) 1 _ own refl in
-    let bare : names_programmed d words ≡ false = (or_parts _ (names_programmed d words) wrong).1 in
+    let bare : names_programmed d words ≡ false = none_programmed d words own in
     let both = or_parts (has_program d.shape near) (has_program d.shape far) bare in
     let near_bare : (shape_of d.shape from).programmed ≡ false = rw a at both.0 in
     let far_bare : (shape_of d.shape to).programmed ≡ false = rw b at both.1 in

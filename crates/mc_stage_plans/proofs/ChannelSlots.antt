@@ -1,15 +1,14 @@
 -- The slots of channels: each is at an end of its channel's tunnels, and no other channel has it.
-use Rattle.std.proofs.Common.{◌≡◌, ◌≢◌, ◌⊎◌, inl, inr, ℕ, zero, suc, ◌+◌, ◌-◌, ◌*◌, ◌/◌, ◌<◌, ◌≤◌, ◌==◌, ◌&&◌, ◌||◌, Bool, true, false, List, [], ◌∷◌, ◌++◌, flat_map, length, length-append, position, slice_index_or, Option, Some, None, refl, sym, ap, ◌∙◌, subst, arith}
+use Rattle.std.proofs.Common.{◌≡◌, ◌⊎◌, inl, inr, ℕ, zero, suc, ◌+◌, ◌-◌, ◌*◌, ◌/◌, ◌<◌, ◌==◌, ◌&&◌, ◌||◌, Bool, true, false, List, [], ◌∷◌, flat_map, length, length-append, position, slice_index_or, Some, refl, sym, ap, ◌∙◌, subst, arith}
 use Rattle.std.proofs.Math.ListN.{get_or}
 use Rattle.std.proofs.lemmas.Bool.{cases_lt}
 use Rattle.std.proofs.lemmas.Grind.{common_steps}
 use Rattle.std.proofs.lemmas.List.{get_or_append_left, get_or-append_right}
 use Rattle.std.specs.List.{list_any}
 use Rattle.mc_growth.proofs.Lists.{not_true, position_is}
-use Rattle.mc_growth.specs.Outs.{channel_at}
 use Rattle.mc_laws.proofs.Numbers.{some_same}
-use Rattle.mc_laws.proofs.TunnelPlaces.{two_each, within_slots}
-use Rattle.mc_model.specs.Worlds.{ChannelState, TunnelPlace, WorldState, is_place, no_tunnel, place, places, places_among, places_of, places_within, slot_count, tunnels_from, tunnels_within}
+use Rattle.mc_laws.proofs.TunnelPlaces.{within_slots}
+use Rattle.mc_model.specs.Worlds.{ChannelState, TunnelPlace, is_place, no_tunnel, places, places_among, places_of, places_within, tunnels_from, tunnels_within}
 use Rattle.mc_model.specs.declared.channel.Tunnel.{Tunnel}
 use Rattle.mc_plan.proofs.Places.{found_once}
 use Rattle.mc_plan.specs.LaidOut.{AreInOrder, place_at}

@@ -1,5 +1,5 @@
 -- The channels that lines declare lead from box to box, and the slots of each box are in order there.
-use Rattle.std.proofs.Common.{◌≡◌, ◌≢◌, ◌⊎◌, inl, inr, ℕ, zero, suc, ◌-◌, ◌<◌, ◌≤◌, ◌+◌, ◌==◌, Bool, true, false, not, if◌then◌else◌, List, [], ◌∷◌, ◌++◌, drop, flat_map, length, length-append, map, slice_index_or, slice_set, Option, Some, None, refl, sym, ap, ◌∙◌, subst, append_assoc, arith, nat_lt}
+use Rattle.std.proofs.Common.{◌≡◌, ◌≢◌, inl, inr, ℕ, zero, suc, ◌-◌, ◌<◌, ◌≤◌, ◌+◌, ◌==◌, Bool, true, false, not, if◌then◌else◌, List, [], ◌∷◌, ◌++◌, drop, flat_map, length, length-append, map, slice_index_or, slice_set, Option, Some, None, refl, sym, ap, ◌∙◌, subst, append_assoc, arith, nat_lt}
 use Rattle.std.proofs.Math.ListN.{get_or}
 use Rattle.std.proofs.lemmas.Bool.{cases_lt}
 use Rattle.std.proofs.lemmas.List.{get_or-append-add}
@@ -26,7 +26,7 @@ use Rattle.mc_script.specs.declared.keyword.CommandWord.{CommandWord}
 use Rattle.mc_script.specs.declared.rule.TheConstants.{SAME_BOX}
 use Rattle.mc_lines.specs.Meaning.{after_by, also_after, channel_after, codec_number, command_after, device_in, line_after, program_link_after, programmed_shape, unless_skipped, when_after, with_block, with_joined, with_new_box, with_new_codec, with_new_feature, with_send_line, with_widened, words_after}
 use Rattle.mc_lines.specs.Rules.{channel_rules, is_program_link, is_skipped, kind_of, line_fault, line_words_rules, open_block, passes_limit, rules_by, spelt_medium, text_limit, words_rules}
-use Rattle.mc_lines.specs.SoFar.{Declared, nothing}
+use Rattle.mc_lines.specs.SoFar.{Declared}
 use Rattle.mc_lines.specs.declared.section.Keyword.{Keyword}
 use Rattle.mc_lines.specs.declared.section.Keyword.TheVariants as keyword
 use Rattle.mc_lines.specs.declared.section.Section.TheVariants as section

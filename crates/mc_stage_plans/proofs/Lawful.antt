@@ -7,7 +7,7 @@ use Rattle.mc_box.specs.Boxes.{BoxState, first_slot, no_box, with_new_slot}
 use Rattle.mc_box.specs.declared.setup.SlotSetup.{SlotSetup}
 use Rattle.mc_box.specs.declared.event.Turn.{Turn}
 use Rattle.mc_growth.specs.Growths.{Cut as ACut, GrownState, Growth, Join as AJoin, grown_by, grown_by_all}
-use Rattle.mc_growth.specs.Joins.{away_box, joined, near_box}
+use Rattle.mc_growth.specs.Joins.{away_box, near_box}
 use Rattle.mc_model.specs.Worlds.{WorldState, box_at}
 use Rattle.mc_script.specs.declared.command.Command.TheVariants.{Settle, Stimulus}
 use Rattle.mc_stages.specs.Plans.{AreLawful, MayAskAll, MayCommand, batch_of, grown_at_end, growths_of}

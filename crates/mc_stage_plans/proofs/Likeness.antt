@@ -1,10 +1,7 @@
 -- What is declared, and the network of that time: they are of the same boxes, slots and channels, and the same channels are out.
-use Rattle.std.proofs.Common.{◌≡◌, ◌≢◌, ◌⊎◌, inl, inr, ℕ, zero, suc, ◌+◌, ◌<◌, ◌≤◌, ◌==◌, ◌||◌, Bool, true, false, List, [], ◌∷◌, ◌++◌, length, length-append, map, replicate, slice_index_or, slice_set, Some, refl, sym, ap, ◌∙◌, subst, zero-add, arith}
-use Rattle.std.specs.Prelude.{count_by}
+use Rattle.std.proofs.Common.{◌≡◌, ◌≢◌, inl, inr, ℕ, zero, suc, ◌+◌, ◌<◌, ◌==◌, ◌||◌, Bool, true, false, List, [], ◌∷◌, ◌++◌, length, length-append, map, replicate, Some, refl, sym, ap, ◌∙◌, subst, zero-add, arith}
 use Rattle.std.specs.List.{All, enumerate_from, list_any}
-use Rattle.std.proofs.Math.ListN.{get_or}
 use Rattle.std.proofs.lemmas.Bool.{cases_eq}
-use Rattle.std.proofs.lemmas.Grind.{common_steps}
 use Rattle.std.proofs.lemmas.List.{get_or-map, get_or_past, get_or-set_other, get_or-set_same, length-map, length-set, map-append}
 use Rattle.std.proofs.lemmas.List.Elements.{All-head, All-nil, All-push, All-tail, All-weaker}
 use Rattle.std.proofs.lemmas.List.FromFn.{get_or-enumerate_from, length-enumerate_from}
@@ -12,13 +9,13 @@ use Rattle.mc_signal.specs.Choice.{codecs_of}
 use Rattle.mc_signal.specs.declared.Medium.{Medium}
 use Rattle.mc_signal.specs.declared.codec_list.CodecList.{CodecList}
 use Rattle.mc_slot.specs.declared.Slot.{Slot}
-use Rattle.mc_text.specs.NameLists.{NameLists, slot_names, with_slot_name}
+use Rattle.mc_text.specs.NameLists.{NameLists, slot_names}
 use Rattle.mc_box.specs.BoxShapes.{BoxShapeState, box_shape, no_shape, shape_of}
 use Rattle.mc_box.specs.Boxes.{BoxState, first_slot, with_new_slot}
 use Rattle.mc_box.specs.declared.setup.SlotSetup.{SlotSetup}
 use Rattle.mc_growth.proofs.Joined.{SlotKind, away, before, box_away, box_else, box_near, count_joined, kind_of, length_boxes, near, tunnel_away, tunnel_before, tunnel_near}
 use Rattle.mc_growth.proofs.Lists.{defaults_added, length_two}
-use Rattle.mc_growth.specs.Growths.{Cut as ACut, GrownState, Join as AJoin, grown_from, with_cut, with_join}
+use Rattle.mc_growth.specs.Growths.{GrownState, Join as AJoin, grown_from, with_cut, with_join}
 use Rattle.mc_growth.specs.Joins.{MayJoin, away_slot, joined, joining, near_slot}
 use Rattle.mc_growth.specs.Outs.{channel_at, flags_without, is_of, is_out}
 use Rattle.mc_lines.proofs.Joining.{in_form_with_channel}
@@ -34,8 +31,7 @@ use Rattle.mc_net.proofs.MadeNets.{nets_are_named}
 use Rattle.mc_net.proofs.Runnable.{IsRunnable, says_finished, says_runnable}
 use Rattle.mc_net.proofs.Shaped.{AreShapes}
 use Rattle.mc_net.proofs.Unfinished.{none_open}
-use Rattle.mc_net.specs.Nets.{DeclaresNet, IsFirstWorld, NamesAll, with_programs}
-use Rattle.mc_net.specs.Texts.{Says}
+use Rattle.mc_net.specs.Nets.{DeclaresNet, NamesAll, with_programs}
 use Rattle.mc_net.specs.declared.net.Net.{Net}
 use Rattle.mc_plan.specs.Layouts.{with_program}
 use Rattle.mc_plan.specs.Plans.{channel_between, slots_of, world_of}

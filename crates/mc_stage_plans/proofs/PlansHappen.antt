@@ -1,7 +1,7 @@
 -- The plans that a text makes may be asked for, all has names, and they are few.
-use Rattle.std.proofs.Common.{◌≡◌, ℕ, ◌+◌, ◌<◌, ◌≤◌, Bool, true, false, nat_lt, List, [], ◌∷◌, length, map, refl, sym, ap, ◌∙◌, subst, arith}
+use Rattle.std.proofs.Common.{◌≡◌, ℕ, ◌+◌, ◌<◌, ◌≤◌, Bool, true, false, List, [], ◌∷◌, length, map, refl, sym, ap, ◌∙◌, subst, arith}
 use Rattle.std.specs.Prelude.{IsTrue}
-use Rattle.std.specs.List.{All, list_all}
+use Rattle.std.specs.List.{All}
 use Rattle.std.proofs.lemmas.List.{length-map}
 use Rattle.std.proofs.lemmas.List.Elements.{All-head, All-tail, All-weaker}
 use Rattle.mc_signal.specs.Choice.{codecs_of}
@@ -12,7 +12,7 @@ use Rattle.mc_box.specs.declared.event.Event.{Event}
 use Rattle.mc_box.specs.declared.event.Event.TheVariants as event
 use Rattle.mc_box.specs.declared.event.MediaChange.TheVariants.{Hear, Talk}
 use Rattle.mc_box.specs.declared.event.Turn.{Turn}
-use Rattle.mc_growth.specs.Growths.{GrownState, grown_from}
+use Rattle.mc_growth.specs.Growths.{grown_from}
 use Rattle.mc_lines.specs.SoFar.{Declared}
 use Rattle.mc_lines.specs.declared.limit.TheConstants.{COMMAND_LIMIT}
 use Rattle.mc_lines.specs.declared.tail.Tail.TheVariants.{Grow}
@@ -21,16 +21,14 @@ use Rattle.mc_model.specs.Worlds.{WorldState, box_at, slot_count}
 use Rattle.mc_net.proofs.Batches.{few_batches}
 use Rattle.mc_net.proofs.MadeNets.{nets_are_named}
 use Rattle.mc_net.proofs.Runnable.{IsRunnable, says_runnable}
-use Rattle.mc_net.specs.Nets.{DeclaresNet, IsSayable, batch_turns, batches_of}
+use Rattle.mc_net.specs.Nets.{DeclaresNet, IsSayable, batch_turns}
 use Rattle.mc_net.specs.declared.net.Net.{Net}
 use Rattle.mc_script.specs.Printed.{IsNamedEvent}
-use Rattle.mc_stages.specs.Plans.{MayCommand, NamesEnough, batch_of, grown_at_end}
-use Rattle.mc_stages.specs.declared.plan.StagePlan.{StagePlan}
+use Rattle.mc_stages.specs.Plans.{MayCommand, NamesEnough, grown_at_end}
 use Rattle.mc_tail.specs.Tails.{head, tail_start}
-use Rattle.mc_tail.specs.declared.tail.TailText.{TailText}
-use Rattle.mc_text.specs.NameLists.{NameLists, slot_names}
-use Rattle.mc_stage_plans.specs.PlanLaws.{ArePlanned, PlansAreFew, PlansAreNamed, PlansMayHappen}
-use Rattle.mc_stage_plans.specs.Planned.{settled_parts, turns_in}
+use Rattle.mc_text.specs.NameLists.{NameLists}
+use Rattle.mc_stage_plans.specs.PlanLaws.{PlansAreFew, PlansAreNamed, PlansMayHappen}
+use Rattle.mc_stage_plans.specs.Planned.{settled_parts}
 use Rattle.mc_stage_plans.proofs.Acting.{after_items, lawful_parts}
 use Rattle.mc_stage_plans.proofs.Asked.{turn_allowed}
 use Rattle.mc_stage_plans.proofs.Lawful.{few_plans, items_come, lawful_plans}

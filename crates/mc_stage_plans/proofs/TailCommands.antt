@@ -1,5 +1,5 @@
 -- What a command's line after `grow` spells: a command that its box's shape enables, and of which no slot's channel was cut.
-use Rattle.std.proofs.Common.{◌≡◌, ℕ, ◌==◌, ◌&&◌, ◌||◌, Bool, false, List, Option, Some, None, refl, ap, ◌∙◌, subst, sym}
+use Rattle.std.proofs.Common.{◌≡◌, ℕ, Bool, false, List, Option, Some, None, refl, subst, sym}
 use Rattle.std.specs.List.{slice_get}
 use Rattle.std.specs.Option.{option_and_then, option_map}
 use Rattle.std.proofs.lemmas.Bool.{or_parts}
@@ -9,10 +9,6 @@ use Rattle.mc_box.specs.declared.event.Change.TheVariants.{End as NewEnd, Link a
 use Rattle.mc_box.specs.declared.event.Event.{Event}
 use Rattle.mc_box.specs.declared.event.Event.TheVariants as event
 use Rattle.mc_box.specs.declared.event.MediaChange.TheVariants.{Hear as Hears, Talk as Talks}
-use Rattle.mc_lines.proofs.FirstBroken.{all_before}
-use Rattle.mc_lines.specs.Rules.{command_line_rules, is_unfinished}
-use Rattle.mc_lines.specs.SoFar.{Declared}
-use Rattle.mc_lines.specs.declared.limit.TheConstants.{COMMAND_LIMIT}
 use Rattle.mc_model.specs.Worlds.{ChannelState}
 use Rattle.mc_program_lines.proofs.Found.{chained, mapped}
 use Rattle.mc_program_lines.proofs.KeptRules.{kept_at}

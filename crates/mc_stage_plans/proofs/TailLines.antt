@@ -1,13 +1,13 @@
 -- After each line after `grow` that breaks no rule, each item may come after those before it, and what is declared is that of the network then.
-use Rattle.std.proofs.Common.{◌≡◌, ◌≢◌, ℕ, zero, suc, ◌+◌, ◌-◌, ◌<◌, ◌≤◌, Bool, true, false, not, nat_le, nat_lt, List, [], ◌∷◌, ◌++◌, drop, length, length-append, slice_index_or, Option, Some, None, refl, sym, ap, ◌∙◌, subst, arith}
+use Rattle.std.proofs.Common.{◌≡◌, ℕ, zero, suc, ◌+◌, ◌-◌, ◌<◌, ◌≤◌, Bool, true, false, not, nat_le, nat_lt, List, [], ◌∷◌, ◌++◌, drop, length, length-append, slice_index_or, Option, Some, None, refl, sym, ap, ◌∙◌, subst, arith}
 use Rattle.std.specs.List.{list_any, slice_get}
 use Rattle.std.specs.Option.{option_map, unwrap_or}
 use Rattle.std.proofs.lemmas.List.{get_or_at}
 use Rattle.mc_signal.specs.declared.Medium.{Medium}
 use Rattle.mc_text.specs.Lines.{words}
-use Rattle.mc_growth.specs.Growths.{GrownState, with_cut, with_join}
+use Rattle.mc_growth.specs.Growths.{GrownState}
 use Rattle.mc_lines.proofs.FirstBroken.{all_before, has_room}
-use Rattle.mc_lines.specs.Joins.{join_rules, with_command}
+use Rattle.mc_lines.specs.Joins.{join_rules}
 use Rattle.mc_lines.specs.Meaning.{channel_after, with_joined}
 use Rattle.mc_lines.specs.Rules.{command_line_rules, is_pending, is_skipped, is_unfinished, passes_limit, spelt_medium, text_limit}
 use Rattle.mc_lines.specs.SoFar.{Declared}
@@ -28,7 +28,7 @@ use Rattle.mc_script.specs.declared.rule.TheConstants.{LIMIT_PASSED, NO_SUCH_SLO
 use Rattle.mc_tail.specs.Meaning.{join_of, line_command, line_cut, line_join, tail_after, tail_line_after, tail_words_after, with_channel_cut, with_channel_joined, with_line}
 use Rattle.mc_tail.specs.Rules.{cut_rules, tail_command_rules, tail_kind_of, tail_line_fault, tail_rules, tail_words_rules}
 use Rattle.mc_tail.specs.SoFar.{TailState, channel_named, names_out}
-use Rattle.mc_tail.specs.Tails.{AreSoundTail, SaysTail, bytes_before_tail, tail_by, tail_lines, tail_start, tail_state_after}
+use Rattle.mc_tail.specs.Tails.{AreSoundTail, SaysTail, bytes_before_tail, tail_by, tail_lines, tail_start}
 use Rattle.mc_tail.specs.declared.item.Item.{Item}
 use Rattle.mc_tail.specs.declared.item.Item.TheVariants.{Cut, Join, Line}
 use Rattle.mc_tail.specs.declared.keyword.TailKeyword.{TailKeyword}
@@ -38,7 +38,7 @@ use Rattle.mc_stage_plans.proofs.Acting.{MayCome, MayComeAll, after_items, after
 use Rattle.mc_stage_plans.proofs.Asked.{cut_settled, join_settled, may_cut, may_join, may_turn, named_below, not_also}
 use Rattle.mc_stage_plans.proofs.Lawful.{parts_more}
 use Rattle.mc_stage_plans.proofs.Likeness.{IsLike, cut_like, join_like}
-use Rattle.mc_stage_plans.proofs.TailCommands.{CommandNamesNone, command_names}
+use Rattle.mc_stage_plans.proofs.TailCommands.{command_names}
 
 -- what lines keep, from a network on, of which so many batches came before
 pub record Follows (network : GrownState) (count : ℕ) (t : TailState) : Type 0 where
