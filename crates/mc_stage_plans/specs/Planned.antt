@@ -27,7 +27,7 @@ abbrev pub before_next : {A : Type 0} → List A → List (List A) → List (Lis
 before_next items [] = []
 before_next items (part ∷ parts) = (items ++ part) ∷ parts
 
--- one part for each settle, with the items before it; those after the last settle are in none
+-- one part for each settle, with the items since the one before; those after the last settle are in none
 abbrev pub settled_parts : List Item → List (List Item)
 settled_parts [] = []
 settled_parts (Line Settle ∷ items) = [] ∷ settled_parts items
