@@ -3,7 +3,7 @@ use Rattle.std.proofs.Common.{◌≡◌, ◌++◌, ◌∷◌, [], ℕ, List, map
 use Rattle.mc_box.specs.declared.event.Turn.{Turn}
 use Rattle.mc_growth.specs.Growths.{GrownState, MayGrowAll, grown_by_all}
 use Rattle.mc_stages.specs.Plans.{batch_of, growths_of}
-use Rattle.mc_grown_script.specs.Printed.{network_text, place_word, stop_line, stop_word}
+use Rattle.mc_grown_script.specs.Printed.{network_text, stop_line, stop_word}
 use Rattle.mc_grown_script.specs.Progress.{CameOf, CameOfBatch, EndsAt, EndsByFault, Settling, Staging, StopsBatch, Stopping, box_line, slot_line}
 use Rattle.mc_grown_script.specs.Scripts.{ScriptState}
 use Rattle.mc_grown_script.specs.ScriptRuns.{StopsSettle}
@@ -24,6 +24,7 @@ use Rattle.mc_seq.specs.declared.fault.SettleFault.{SettleFault}
 use Rattle.mc_seq.specs.declared.fault.SettleFault.TheVariants.{NoMemory, Restless as NeverRests, Ring as AtRing, VersionEnd as EndsVersion}
 use Rattle.mc_seq.specs.declared.stopping.SettleStop.{SettleStop}
 use Rattle.mc_seq.specs.declared.stopping.SettleStop.TheVariants.{Restless, Ring, VersionEnd}
+use Rattle.mc_settle_text.specs.Words.{place_word}
 use Rattle.mc_table.specs.Words.{line_of}
 use Rattle.mc_text.specs.NameLists.{NameLists, slot_word}
 

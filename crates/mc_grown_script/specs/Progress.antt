@@ -1,9 +1,9 @@
 -- What comes of a stage of a script.
-use Rattle.std.specs.Prelude.{◌≡◌, ◌<◌, ℕ, List, [], ◌∷◌, ◌++◌, length, map, Some}
+use Rattle.std.specs.Prelude.{◌≡◌, ℕ, List, [], ◌∷◌, ◌++◌, map, Some}
 use Rattle.mc_box.specs.declared.event.Turn.{Turn}
 use Rattle.mc_growth.specs.Growths.{IsStage, Stage, grown_by_all}
 use Rattle.mc_stages.specs.Plans.{batch_of, growths_of}
-use Rattle.mc_grown_script.specs.Printed.{box_word, network_text, stop_line, stop_word}
+use Rattle.mc_grown_script.specs.Printed.{network_text, stop_line, stop_word}
 use Rattle.mc_grown_script.specs.Scripts.{ScriptState}
 use Rattle.mc_grown_script.specs.ScriptRuns.{StopsSettle, StopsStage}
 use Rattle.mc_stages.specs.declared.plan.StagePlan.{StagePlan}
@@ -26,8 +26,9 @@ use Rattle.mc_seq.specs.declared.fault.SettleFault.TheVariants.{
 }
 use Rattle.mc_seq.specs.declared.stopping.SettleStop.{SettleStop}
 use Rattle.mc_seq.specs.declared.stopping.SettleStop.TheVariants.{Restless, Ring, VersionEnd}
+use Rattle.mc_settle_text.specs.Words.{box_word}
 use Rattle.mc_table.specs.Words.{line_of}
-use Rattle.mc_text.specs.NameLists.{NameLists, slot_names, slot_word}
+use Rattle.mc_text.specs.NameLists.{NameLists, slot_word}
 
 -- ---- a settle
 
@@ -84,17 +85,6 @@ CameOf names number plan old (Settled next) = Staging names number plan old next
 CameOf names number plan old (Stopped run) = Stopping names plan old run
 
 -- ---- stops
-
--- a place has a name
-abbrev pub IsNamedPlace : NameLists → ℕ × ℕ → Type 0
-IsNamedPlace names at = (at.0 < length names.boxes) × (at.1 < length (slot_names names at.0))
-
--- so has that of a fault, where it has one
-abbrev pub IsNamedFault : NameLists → SettleFault → Type 0
-IsNamedFault names (EndsVersion stopped) = IsNamedPlace names stopped.place
-IsNamedFault names (AtRing stopped) = IsNamedPlace names stopped.place
-IsNamedFault names (NeverRests stopped) = stopped.at < length names.boxes
-IsNamedFault names (NoMemory e) = Unit {0}
 
 -- the line of a stop at a slot's place, and at a box
 abbrev pub slot_line : NameLists → GrownStop → ℕ × ℕ → List ℕ

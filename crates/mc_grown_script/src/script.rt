@@ -1,16 +1,15 @@
 // A script, stage by stage.
 
-ghost use Rattle.std.specs.Prelude.{◌≡◌, ◌++◌, ◌<◌, ◌≤◌, ◌^◌, length, map, IfOk, OnOk};
+ghost use Rattle.std.specs.Prelude.{◌≡◌, ◌<◌, ◌≤◌, ◌^◌, length, IfOk};
 ghost use Rattle.mc_growth.specs.Growths.{grown_by_all};
 ghost use Rattle.mc_stages.specs.Plans.{AreLawful, MayAskAll, MayCommand, NamesEnough, batch_of, grown_at_end, growths_of};
-ghost use Rattle.mc_grown_script.specs.Progress.{CameOf, CameOfBatch, EndsAt, EndsByFault, IsNamedFault};
+ghost use Rattle.mc_grown_script.specs.Progress.{CameOf, CameOfBatch, EndsAt, EndsByFault};
+ghost use Rattle.mc_settle_text.specs.Names.{IsNamedFault};
 ghost use Rattle.mc_grown_script.specs.Scripts.{first_state};
 ghost use Rattle.mc_grown_script.specs.ScriptRuns.{EndsAs};
 ghost use Rattle.mc_network.specs.declared.limit.TheConstants.{NETWORK_LIMIT};
-ghost use Rattle.mc_replay.specs.Journals.{lines_for};
-ghost use Rattle.mc_script.specs.declared.command.JournalLine.TheVariants.{Turn as Made};
 
-use crate::printing::{print_box_stop, print_slot_stop, put_network};
+use crate::printing::{put_network, stop_word};
 use crate::settling::settle_grown;
 use crate::stop::{GrownStop, ScriptRun};
 use mc_box::Turn;
@@ -18,6 +17,7 @@ use mc_grow::Grown;
 use mc_io::Gate;
 use mc_script::JournalLine;
 use mc_seq::{SettleFault, SettleStop};
+use mc_settle_text::{keep_settle, keep_turns, print_box_stop, print_slot_stop};
 use mc_stages::{GrowthFault, StagePlan, grow_all};
 use mc_text::Names;
 use std::alloc::{AllocError, Global};
@@ -98,7 +98,7 @@ impl Progress {
             }
             Err(GrowthFault::InUse(used)) => {
                 let stop = GrownStop::Cut(used.at);
-                let line = print_slot_stop(alloc, names, stop, used.place)?;
+                let line = print_slot_stop(alloc, names, stop_word(stop), used.place)?;
                 let run = end_at(stop, &[], line, journal)?;
                 Ok(Outcome::Stopped(run))
             }
@@ -130,7 +130,7 @@ impl Progress {
         network.world().keeps();
         match settle_grown(rt, alloc, gate, network, batch) {
             Ok((network, turns)) => {
-                log(&turns, &mut journal)?;
+                keep_settle(&turns, &mut journal)?;
                 put_network(alloc, names, number, &network, &mut output)?;
                 Ok(Outcome::Settled(Progress {
                     network,
@@ -159,17 +159,17 @@ fn stop_by(
     match fault {
         SettleFault::VersionEnd(stopped) => {
             let stop = GrownStop::Settle(SettleStop::VersionEnd(stopped.at));
-            let line = print_slot_stop(alloc, names, stop, stopped.place)?;
+            let line = print_slot_stop(alloc, names, stop_word(stop), stopped.place)?;
             end_at(stop, &stopped.turns, line, journal)
         }
         SettleFault::Ring(stopped) => {
             let stop = GrownStop::Settle(SettleStop::Ring(stopped.at));
-            let line = print_slot_stop(alloc, names, stop, stopped.place)?;
+            let line = print_slot_stop(alloc, names, stop_word(stop), stopped.place)?;
             end_at(stop, &stopped.turns, line, journal)
         }
         SettleFault::Restless(stopped) => {
             let stop = GrownStop::Settle(SettleStop::Restless(stopped.at));
-            let line = print_box_stop(alloc, names, stop, stopped.at)?;
+            let line = print_box_stop(alloc, names, stop_word(stop), stopped.at)?;
             end_at(stop, &stopped.turns, line, journal)
         }
         SettleFault::NoMemory(e) => Err(e),
@@ -185,31 +185,12 @@ fn end_at(
 ) -> Result<ScriptRun, AllocError>
     ensures { IfOk result (EndsAt stop line.items turns.now journal.items) }
 {
-    log_turns(turns, &mut journal)?;
+    keep_turns(turns, &mut journal)?;
     Ok(ScriptRun {
         output: line,
         journal,
         stop: Some(stop),
     })
-}
-
-// Keeps turns.
-fn log_turns(turns: &[Turn], journal: &mut Vec<JournalLine>) -> Result<(), AllocError>
-    ensures { OnOk result (journal.new.items ≡ journal.old.items ++ map Made turns.now) }
-{
-    for turn in turns {
-        journal.push(JournalLine::Turn(*turn))?;
-    }
-    Ok(())
-}
-
-// Keeps the turns of a settle, and its mark.
-fn log(turns: &[Turn], journal: &mut Vec<JournalLine>) -> Result<(), AllocError>
-    ensures { OnOk result (journal.new.items ≡ journal.old.items ++ lines_for turns.now) }
-{
-    log_turns(turns, journal)?;
-    journal.push(JournalLine::Settled)?;
-    Ok(())
 }
 
 /// Runs a script: before each settle its joins and cuts are made, then its batch is settled, and the paths of the

@@ -22,7 +22,8 @@ use Rattle.mc_lines.specs.declared.tail.Tail.TheVariants.{Nothing, Journal}
 use Rattle.mc_net.specs.declared.net.Net.{Net}
 use Rattle.mc_replay.proofs.Holds.{journals_hold}
 use Rattle.mc_top.specs.Behind.{HasJournal, HasJournalFault}
-use Rattle.mc_top.specs.Printed.{checked_text, fault_line, journal_fault_line, journal_text, no_box_line, run_text, script_text, stop_line, with_journal}
+use Rattle.mc_top.specs.Printed.{checked_text, fault_line, journal_fault_line, journal_text, no_box_line, run_text, script_text, with_journal}
+use Rattle.mc_settle_text.specs.Stops.{stop_line}
 use Rattle.mc_top.specs.Statuses.{IsDueForText, due_by, keeps_journal, stop_status}
 use Rattle.mc_top.specs.Top.{Delivers, Ends, StopsScript, ToldJournal}
 use Rattle.mc_script.specs.declared.command.JournalLine.{JournalLine}

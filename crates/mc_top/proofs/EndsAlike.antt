@@ -15,7 +15,8 @@ use Rattle.mc_top.specs.Behind.{HasJournal, HasJournalFault, has_bad_tail, tail_
 use Rattle.mc_top.specs.Drawn.{DrawnJournalIsOne, IsDrawnJournal}
 use Rattle.mc_top.specs.EndsAlike.{CheckEndsAlike, EndAlike, GoodIsNotRefused, Judges, OneEndsAlike, PrintAlike}
 use Rattle.mc_top.specs.Modes.{checks}
-use Rattle.mc_top.specs.Printed.{checked_text, fault_line, journal_fault_line, journal_text, run_text, stop_line}
+use Rattle.mc_top.specs.Printed.{checked_text, fault_line, journal_fault_line, journal_text, run_text}
+use Rattle.mc_settle_text.specs.Stops.{stop_line}
 use Rattle.mc_top.specs.Statuses.{judges_text, stop_status}
 use Rattle.mc_top.specs.Top.{Delivers, Refused, RefusesCheck, StopsScript, Worked}
 use Rattle.mc_top.specs.declared.report.Report.TheVariants.{Paths}

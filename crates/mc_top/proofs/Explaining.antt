@@ -20,7 +20,8 @@ use Rattle.mc_top.specs.Behind.{IsLineOfFault}
 use Rattle.mc_top.specs.Modes.{CanRun, IsWithinLimits, tail_of, text_for}
 use Rattle.mc_model.specs.Worlds.{WorldState}
 use Rattle.mc_text.specs.NameLists.{NameLists}
-use Rattle.mc_top.specs.Printed.{fault_line, feature_words, journal_fault_line, no_box_line, run_text, stop_place}
+use Rattle.mc_top.specs.Printed.{fault_line, feature_words, journal_fault_line, no_box_line, run_text}
+use Rattle.mc_settle_text.specs.Stops.{stop_place}
 use Rattle.mc_top.specs.Statuses.{due_by}
 use Rattle.mc_top.specs.declared.report.Report.{Report}
 use Rattle.mc_top.specs.declared.run.Run.{Run as Ran}

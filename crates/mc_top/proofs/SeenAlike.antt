@@ -28,7 +28,8 @@ use Rattle.mc_settings.specs.Settings.{settings_of}
 use Rattle.mc_script.specs.Meaning.{goal_word}
 use Rattle.mc_table.specs.Words.{line_of, medium_word}
 use Rattle.mc_text.specs.NameLists.{NameLists}
-use Rattle.mc_top.specs.Printed.{hears_line, hears_lines, path_line, path_text, place_word, settle_text, state_word}
+use Rattle.mc_settle_text.specs.Paths.{hears_line, hears_lines, path_line, path_text, settle_text}
+use Rattle.mc_settle_text.specs.Words.{place_word, state_word}
 
 -- ---- seen alike
 

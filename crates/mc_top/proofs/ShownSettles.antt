@@ -21,11 +21,13 @@ use Rattle.mc_script.specs.declared.command.JournalLine.{JournalLine}
 use Rattle.mc_script.specs.declared.command.JournalLine.TheVariants.{Turn as Made, Settled}
 use Rattle.mc_table.specs.Shown.{IsNamedView, print_settle}
 use Rattle.mc_text.specs.NameLists.{NameLists}
-use Rattle.mc_top.specs.Printed.{journal_text, settle_text}
+use Rattle.mc_top.specs.Printed.{journal_text}
+use Rattle.mc_settle_text.specs.Paths.{settle_text}
 use Rattle.mc_top.specs.Shown.{ShowsPaths, shown_text}
 use Rattle.mc_top.proofs.Running.{IsAfterSettle, after_settle}
 use Rattle.mc_top.proofs.TextAlone.{segment_text}
-use Rattle.mc_top.proofs.Viewing.{settle_is, views_named}
+use Rattle.mc_settle_text.proofs.Shown.{settle_is, views_named}
+use Rattle.mc_top.proofs.Viewing.{has_names}
 use Rattle.mc_view.specs.declared.PathView.{PathView}
 
 -- ---- replaying
@@ -63,7 +65,7 @@ at_mark names number world last lines rest (views ∷ shown) after holds prints 
     record {
       named =
           All-cons (All (IsNamedView names)) views shown
-          (subst (λ (list : List PathView). All (IsNamedView names) list) (sym are.0) (views_named names last after.named after.sound (quiet_paths last after.sound after.quiet)))
+          (subst (λ (list : List PathView). All (IsNamedView names) list) (sym are.0) (views_named names last (has_names names last after.sound after.named) after.sound (quiet_paths last after.sound after.quiet)))
           others.named;
       text =
           ap (λ (text : List ℕ). text ++ shown_text names (number + 1) shown) (ap (λ (list : List PathView). print_settle names number list) are.0 ∙ settle_is names number last holds)

@@ -2,14 +2,9 @@
 use Rattle.std.proofs.Common.{◌≡◌, ◌<◌, ◌++◌, ◌∷◌, [], ℕ, ◌+◌, IfOk, IfSome, Ok, Err, Option, None, Some, Result, List, Vec, Global, codes, drop, length, map, refl, ap, sym, ◌∙◌, subst, inl, slice_index_or}
 use Rattle.std.specs.declared.alloc.AllocError.{AllocError}
 use Rattle.mc_box.specs.declared.event.Turn.{Turn}
-use Rattle.mc_box.proofs.Options.{then_some}
-use Rattle.mc_laws.proofs.Numbers.{number_is}
-use Rattle.mc_laws.proofs.ShapesKept.{run_keeps_shape}
 use Rattle.mc_model.specs.Shapes.{HasShape}
-use Rattle.mc_model.specs.Sound.{IsSound}
-use Rattle.mc_model.specs.Steps.{heard_local}
-use Rattle.mc_model.specs.Worlds.{ChannelState, WorldState, number, place, places_among, slot_count}
-use Rattle.mc_net.specs.Nets.{NamesAll, batch_turns}
+use Rattle.mc_model.specs.Worlds.{ChannelState, WorldState, place, places_among}
+use Rattle.mc_net.specs.Nets.{batch_turns}
 use Rattle.mc_script.specs.declared.command.Batch.{Batch}
 use Rattle.mc_script.specs.declared.command.JournalLine.{JournalLine}
 use Rattle.mc_script.specs.declared.command.JournalLine.TheVariants.{Turn as Made}
@@ -25,55 +20,16 @@ use Rattle.mc_table.specs.Words.{line_of}
 use Rattle.mc_text.specs.NameLists.{NameLists, slot_word}
 use Rattle.mc_top.specs.Drawn.{FollowsDraws, StopsBy, StopsDrawn}
 use Rattle.mc_top.specs.Journals.{IsJournalTo, IsStoppedJournal}
-use Rattle.mc_top.specs.Outcomes.{EndsBy, IsNamedFault, IsNamedPlace, Stopping}
-use Rattle.mc_top.specs.Printed.{box_word, place_word, report_text, script_text, stop_line, stop_word}
+use Rattle.mc_top.specs.Outcomes.{EndsBy, Stopping}
+use Rattle.mc_top.specs.Printed.{report_text, script_text}
+use Rattle.mc_settle_text.specs.Stops.{stop_line, stop_word}
+use Rattle.mc_settle_text.specs.Words.{box_word, place_word}
 use Rattle.mc_top.specs.Scripts.{ScriptState}
 use Rattle.mc_top.specs.declared.report.Report.{Report}
 use Rattle.mc_top.specs.declared.run.Run.{Run}
 use Rattle.mc_seq.specs.declared.stopping.SettleStop.{SettleStop}
 use Rattle.mc_seq.specs.declared.stopping.SettleStop.TheVariants.{Restless, Ring, VersionEnd}
 use Rattle.mc_top.proofs.Running.{GoesOn, next_left}
-
--- ---- names
-
--- the place of each slot has a name
-place_named : (names : NameLists) (world : WorldState) (s : ℕ) → IsSound world → NamesAll names world → s < slot_count world → IsNamedPlace names (place world s)
-place_named names world s sound all inside =
-    let who : (place world s).0 < length world.boxes = sound.numbered.placed s inside in (
-      subst (λ (n : ℕ). (place world s).0 < n) (sym all.boxes) who,
-      subst (λ (n : ℕ). (place world s).1 < n) (sym (all.slots (place world s).0 who)) (sound.numbered.slots s inside),
-    )
-
--- a slot of a later world is one of the first
-slot_stays : (world last : WorldState) (s : ℕ) → HasShape last world → s < slot_count last → s < slot_count world
-slot_stays world last s shape inside = subst (λ (channels : List ChannelState). s < length (places_among channels)) shape.channels inside
-
--- so has that of a slot at which a settle stops at the last version
-version_named : (names : NameLists) (world : WorldState) (batch : List Turn) (stop : Stopped) → IsSound world → NamesAll names world → Stops world batch (EndsVersion stop) → IsNamedPlace names stop.place
-version_named names world batch stop sound all (stops, there) =
-    let one = then_some (number stops.last stops.meets.turn.who) (heard_local stops.meets.turn.event) stop.at stops.meets.slot in
-    let shape = run_keeps_shape world stops.last stop.turns.items sound stops.stopped.runs in
-    subst (IsNamedPlace names) (sym there)
-    (place_named names world stop.at sound all (slot_stays world stops.last stop.at shape (number_is stops.last stops.meets.turn.who one.0 stop.at one.2).0))
-
--- or at a ring
-ring_named : (names : NameLists) (world : WorldState) (batch : List Turn) (stop : Stopped) → IsSound world → NamesAll names world → Stops world batch (AtRing stop) → IsNamedPlace names stop.place
-ring_named names world batch stop sound all (stops, there) =
-    let shape = run_keeps_shape world stops.last stop.turns.items sound stops.stopped.runs in
-    subst (IsNamedPlace names) (sym there) (place_named names world stop.at sound all (slot_stays world stops.last stop.at shape stops.least.inside))
-
--- the box of a settle that doesn't come to rest has a name
-restless_named : (names : NameLists) (world : WorldState) (batch : List Turn) (stop : StoppedBox) → IsSound world → NamesAll names world → Stops world batch (NeverRests stop) → stop.at < length names.boxes
-restless_named names world batch stop sound all stops =
-    let shape = run_keeps_shape world stops.last stop.turns.items sound stops.stopped.runs in
-    subst (λ (n : ℕ). stop.at < n) (shape.boxes ∙ sym all.boxes) stops.restless.first.inside
-
--- so whatever a settle stops at is named
-pub fault_named : (names : NameLists) (world : WorldState) (batch : List Turn) (fault : SettleFault) → IsSound world → NamesAll names world → Stops world batch fault → IsNamedFault names fault
-fault_named names world batch (EndsVersion stop) sound all stops = version_named names world batch stop sound all stops
-fault_named names world batch (AtRing stop) sound all stops = ring_named names world batch stop sound all stops
-fault_named names world batch (NeverRests stop) sound all stops = restless_named names world batch stop sound all stops
-fault_named names world batch (NoMemory e) sound all stops = tt
 
 -- ---- what a settle stops with
 
@@ -126,7 +82,7 @@ stops_ring names batch old stop run (stops, there) drawn journal output is = rec
 
 -- at a box whose program doesn't come to rest
 stops_restless : (names : NameLists) (batch : List Turn) (old : ScriptState) (stop : StoppedBox) (run : Run) → Stops old.world batch (NeverRests stop) → StopsDrawn old.draws old.world batch (NeverRests stop)
-    → run.journal.items ≡ old.journal ++ map Made stop.turns.items → run.output.items ≡ line_of (codes "restless" ∷ box_word names stop.at ∷ []) → run.stop ≡ Some (Restless stop.at)
+    → run.journal.items ≡ old.journal ++ map Made stop.turns.items → run.output.items ≡ line_of (stop_word (Restless stop.at) ∷ box_word names stop.at ∷ []) → run.stop ≡ Some (Restless stop.at)
     → Stopping names batch old run
 stops_restless names batch old stop run stops drawn journal output is = record {
   turns = stop.turns.items;

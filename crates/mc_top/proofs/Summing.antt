@@ -17,7 +17,7 @@ use Rattle.mc_top.specs.Shown.{print_report}
 use Rattle.mc_top.specs.Summaries.{closed_paths, flowing_paths, hearing_path_ends, summary_text}
 use Rattle.mc_top.specs.declared.report.Report.{Report}
 use Rattle.mc_top.specs.declared.report.Report.TheVariants.{Conference, Paths, Summary}
-use Rattle.mc_top.proofs.Viewing.{both_flow, heard_is, settle_is}
+use Rattle.mc_settle_text.proofs.Shown.{both_flow, heard_is, settle_is}
 use Rattle.mc_view.specs.declared.PathView.{PathView}
 
 -- ---- sums

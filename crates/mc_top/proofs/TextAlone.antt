@@ -20,7 +20,8 @@ use Rattle.mc_script.specs.declared.command.JournalLine.TheVariants.{Turn as Mad
 use Rattle.mc_text.specs.NameLists.{NameLists}
 use Rattle.mc_replay.specs.Journals.{IsJournal, lines_for}
 use Rattle.mc_top.specs.Modes.{output_of, report_of, tail_of, tells_why}
-use Rattle.mc_top.specs.Printed.{at_settles, journal_text, opening_text, report_text, script_text, settle_text}
+use Rattle.mc_top.specs.Printed.{at_settles, journal_text, opening_text, report_text, script_text}
+use Rattle.mc_settle_text.specs.Paths.{settle_text}
 use Rattle.mc_top.specs.TextAlone.{CallsPrintSame, HasNoConference, SettlesText, TextAloneDecides}
 use Rattle.mc_top.specs.Top.{Worked}
 use Rattle.mc_top.specs.declared.report.Report.{Report}

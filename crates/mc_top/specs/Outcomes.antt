@@ -1,5 +1,5 @@
 -- What comes of a batch of a script.
-use Rattle.std.specs.Prelude.{◌≡◌, ◌<◌, ℕ, List, [], ◌∷◌, ◌++◌, length, map, Some, IfSome}
+use Rattle.std.specs.Prelude.{◌≡◌, ℕ, List, [], ◌∷◌, ◌++◌, map, Some, IfSome}
 use Rattle.mc_model.specs.Settles.{IsStopped}
 use Rattle.mc_model.specs.Worlds.{WorldState}
 use Rattle.mc_box.specs.declared.event.Turn.{Turn}
@@ -7,12 +7,14 @@ use Rattle.mc_seq.specs.ShiftLimit.{KeepsShiftLimit}
 use Rattle.mc_seq.specs.declared.fault.SettleFault.{SettleFault}
 use Rattle.mc_seq.specs.declared.fault.SettleFault.TheVariants.{NoMemory, Restless as NeverRests, Ring as AtRing, VersionEnd as EndsVersion}
 use Rattle.mc_table.specs.Words.{line_of}
-use Rattle.mc_text.specs.NameLists.{NameLists, slot_names, slot_word}
+use Rattle.mc_text.specs.NameLists.{NameLists, slot_word}
 use Rattle.mc_script.specs.declared.command.JournalLine.{JournalLine}
 use Rattle.mc_script.specs.declared.command.JournalLine.TheVariants.{Turn as Made}
 use Rattle.mc_top.specs.Drawn.{StopsBy}
 use Rattle.mc_top.specs.Journals.{IsCause}
-use Rattle.mc_top.specs.Printed.{box_word, report_text, stop_line, stop_word}
+use Rattle.mc_top.specs.Printed.{report_text}
+use Rattle.mc_settle_text.specs.Stops.{stop_line, stop_word}
+use Rattle.mc_settle_text.specs.Words.{box_word}
 use Rattle.mc_top.specs.Scripts.{ScriptState, Settling}
 use Rattle.mc_top.specs.declared.report.Report.{Report}
 use Rattle.mc_top.specs.declared.run.Outcome.{Outcome}
@@ -38,17 +40,6 @@ pub record Stopping (names : NameLists) (batch : List Turn) (old : ScriptState) 
 abbrev pub CameOf : Report → NameLists → (number : ℕ) → (batch : List Turn) → ScriptState → Outcome → Type 0
 CameOf report names number batch old (Settled next) = Settling (report_text report names) number batch old next
 CameOf report names number batch old (Stopped run) = Stopping names batch old run
-
--- a place has a name
-abbrev pub IsNamedPlace : NameLists → ℕ × ℕ → Type 0
-IsNamedPlace names at = (at.0 < length names.boxes) × (at.1 < length (slot_names names at.0))
-
--- so has that of a fault, where it has one
-abbrev pub IsNamedFault : NameLists → SettleFault → Type 0
-IsNamedFault names (EndsVersion stopped) = IsNamedPlace names stopped.place
-IsNamedFault names (AtRing stopped) = IsNamedPlace names stopped.place
-IsNamedFault names (NeverRests stopped) = stopped.at < length names.boxes
-IsNamedFault names (NoMemory e) = Unit {0}
 
 -- a script ended at this stop: turns were kept after its journal, and one line is what it prints
 pub record EndsAt (stop : SettleStop) (place : List ℕ) (turns : List Turn) (before : List JournalLine)

@@ -1,5 +1,5 @@
 -- What is printed at the settles of a journal, and for a faulty text or journal.
-use Rattle.std.specs.Prelude.{ℕ, ◌+◌, Bool, true, false, List, [], ◌∷◌, ◌++◌, codes, if◌then◌else◌, length, map, slice_index_or, Option, Some, None}
+use Rattle.std.specs.Prelude.{ℕ, ◌+◌, Bool, true, false, List, [], ◌∷◌, ◌++◌, codes, if◌then◌else◌, length, map, Option, Some, None}
 use Rattle.std.specs.Fmt.{decimal}
 use Rattle.std.specs.List.{flat_map, range_with_len}
 use Rattle.mc_box.specs.BoxShapes.{is_feature}
@@ -8,15 +8,17 @@ use Rattle.mc_cause.specs.Causes.{why}
 use Rattle.mc_conf.specs.Printed.{print_conf}
 use Rattle.mc_slot.specs.declared.State.{State}
 use Rattle.mc_slot.specs.declared.State.TheVariants.{Flowing}
-use Rattle.mc_model.specs.PathTable.{path_state, low_hears, high_hears}
-use Rattle.mc_model.specs.Paths.{PathEnds, paths, end_goal}
-use Rattle.mc_model.specs.Worlds.{WorldState, box_at, tunnel_of, place}
+use Rattle.mc_model.specs.PathTable.{path_state}
+use Rattle.mc_model.specs.Paths.{PathEnds, paths}
+use Rattle.mc_model.specs.Worlds.{WorldState, box_at}
 use Rattle.mc_path.specs.Views.{view_of}
-use Rattle.mc_text.specs.NameLists.{NameLists, slot_word}
-use Rattle.mc_script.specs.Meaning.{goal_word}
+use Rattle.mc_settle_text.specs.Paths.{settle_text}
+use Rattle.mc_settle_text.specs.Stops.{stop_line}
+use Rattle.mc_settle_text.specs.Words.{box_word, place_word}
+use Rattle.mc_text.specs.NameLists.{NameLists}
 use Rattle.mc_journal.specs.Printed.{print_journal}
 use Rattle.mc_table.specs.Whys.{why_word}
-use Rattle.mc_table.specs.Words.{codec_word, line_of, medium_word}
+use Rattle.mc_table.specs.Words.{line_of}
 use Rattle.mc_replay.specs.Journals.{next_world}
 use Rattle.mc_script.specs.declared.command.JournalLine.{JournalLine}
 use Rattle.mc_script.specs.declared.command.JournalLine.TheVariants.{Turn as Made, Settled}
@@ -24,51 +26,6 @@ use Rattle.mc_top.specs.Summaries.{heading_text, summary_text}
 use Rattle.mc_top.specs.declared.report.Report.{Report}
 use Rattle.mc_top.specs.declared.report.Report.TheVariants.{Conference, Paths, Summary}
 use Rattle.mc_seq.specs.declared.stopping.SettleStop.{SettleStop}
-use Rattle.mc_seq.specs.declared.stopping.SettleStop.TheVariants.{Restless, Ring, VersionEnd}
-
--- ---- words
-
-abbrev pub state_word : State → List ℕ
-state_word Flowing = codes "flowing"
-state_word state = codes "closed"
-
--- a box by its number
-abbrev pub box_word : NameLists → ℕ → List ℕ
-box_word names who = slice_index_or names.boxes who []
-
--- a slot by its number, as `box/slot`
-abbrev pub place_word : NameLists → WorldState → ℕ → List ℕ
-place_word names world s = slot_word names (place world s).0 (place world s).1
-
--- ---- lines
-
-abbrev pub path_line : NameLists → WorldState → PathEnds → List ℕ
-path_line names world path = line_of (
-    codes "path"
-    ∷ place_word names world path.low
-    ∷ place_word names world path.high
-    ∷ goal_word (end_goal world path.low)
-    ∷ goal_word (end_goal world path.high)
-    ∷ state_word (path_state world path)
-    ∷ medium_word (tunnel_of world path.low).medium
-    ∷ [])
-
-abbrev pub hears_line : NameLists → WorldState → ℕ → Option ℕ → List ℕ
-hears_line names world s codec = line_of (codes "hears" ∷ place_word names world s ∷ codec_word names codec ∷ [])
-
--- who hears what, where the path flows
-abbrev pub hears_lines : State → NameLists → WorldState → PathEnds → List ℕ
-hears_lines Flowing names world path =
-    hears_line names world path.low (low_hears world path) ++ hears_line names world path.high (high_hears world path)
-hears_lines state names world path = []
-
-abbrev pub path_text : NameLists → WorldState → PathEnds → List ℕ
-path_text names world path = path_line names world path ++ hears_lines (path_state world path) names world path
-
--- a settle by its number: each path once, in the order of the lower end slots
-abbrev pub settle_text : NameLists → ℕ → WorldState → List ℕ
-settle_text names number world =
-    line_of (codes "settle" ∷ decimal number ∷ []) ++ flat_map (path_text names world) (paths world)
 
 -- ---- journals
 
@@ -142,24 +99,6 @@ abbrev pub opening_text : Report → WorldState → List ℕ
 opening_text Paths world = []
 opening_text (Summary number size) world = heading_text number size world
 opening_text (Conference who) world = []
-
--- ---- a stop
-
--- the word for why a script stopped
-abbrev pub stop_word : SettleStop → List ℕ
-stop_word (VersionEnd at) = codes "version"
-stop_word (Ring at) = codes "ring"
-stop_word (Restless at) = codes "restless"
-
--- where it stopped: a slot by its place in the first world, or a box
-abbrev pub stop_place : NameLists → WorldState → SettleStop → List ℕ
-stop_place names world (VersionEnd at) = place_word names world at
-stop_place names world (Ring at) = place_word names world at
-stop_place names world (Restless at) = box_word names at
-
--- the one line for a script that stopped
-abbrev pub stop_line : NameLists → WorldState → SettleStop → List ℕ
-stop_line names world stop = line_of (stop_word stop ∷ stop_place names world stop ∷ [])
 
 -- what is printed for a journal from a world: what is reported at its settles, or for a stop that line alone
 abbrev pub script_text : Report → NameLists → WorldState → Option SettleStop → List JournalLine → List ℕ

@@ -18,7 +18,8 @@ use Rattle.mc_script.specs.declared.command.JournalLine.{JournalLine}
 use Rattle.mc_table.specs.Words.{line_of}
 use Rattle.mc_top.specs.Behind.{IsLineOfFault}
 use Rattle.mc_top.specs.Modes.{tail_of, text_for}
-use Rattle.mc_top.specs.Printed.{fault_line, feature_words, journal_fault_line, no_box_line, stop_word}
+use Rattle.mc_top.specs.Printed.{fault_line, feature_words, journal_fault_line, no_box_line}
+use Rattle.mc_settle_text.specs.Stops.{stop_word}
 use Rattle.mc_top.specs.declared.status.TheConstants.{WORKED, FAULTY_TEXT, VERSION_END, USAGE, NO_MEMORY, READ_FAULT, RESTLESS, RING, WRITE_FAULT, JOURNAL_FAULT, NO_BOX}
 use Rattle.mc_seq.specs.declared.stopping.SettleStop.{SettleStop}
 use Rattle.mc_top.specs.declared.top.Done.{Done}

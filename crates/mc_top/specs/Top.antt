@@ -17,7 +17,8 @@ use Rattle.mc_top.specs.Behind.{HasJournal, HasJournalFault}
 use Rattle.mc_top.specs.Drawn.{FollowsDraws, IsDrawnJournal}
 use Rattle.mc_top.specs.Journals.{IsStoppedJournal, ShowsCause}
 use Rattle.mc_top.specs.Modes.{checks, draws_from, has_box, output_of, reads, tail_of}
-use Rattle.mc_top.specs.Printed.{fault_line, journal_fault_line, no_box_line, stop_line}
+use Rattle.mc_top.specs.Printed.{fault_line, journal_fault_line, no_box_line}
+use Rattle.mc_settle_text.specs.Stops.{stop_line}
 use Rattle.mc_top.specs.Statuses.{keeps_journal, stop_status}
 use Rattle.mc_scene.specs.Generated.{generated}
 use Rattle.mc_scene.specs.Scenes.{scene_text}

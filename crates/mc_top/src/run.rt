@@ -1,5 +1,5 @@
 // A script, settle by settle.
-ghost use Rattle.std.specs.Prelude.{◌≡◌, ◌++◌, ◌∷◌, ◌<◌, ◌≤◌, [], All, IsTrue, codes, length, map, None, Some, IfErr, IfOk, OnOk};
+ghost use Rattle.std.specs.Prelude.{◌≡◌, ◌++◌, ◌<◌, ◌≤◌, All, IsTrue, length, map, None, Some, IfOk, OnOk};
 ghost use Rattle.mc_journal.specs.Printed.{IsNamedLine};
 ghost use Rattle.mc_model.specs.Paths.{paths};
 ghost use Rattle.mc_model.specs.Settles.{is_quiet};
@@ -8,25 +8,27 @@ ghost use Rattle.mc_net.specs.Nets.{NamesAll, batch_turns};
 ghost use Rattle.mc_lines.specs.declared.limit.TheConstants.{COMMAND_LIMIT};
 ghost use Rattle.mc_script.specs.declared.command.JournalLine.TheVariants.{Turn as Made};
 ghost use Rattle.mc_path.specs.Views.{view_of};
-ghost use Rattle.mc_table.specs.Words.{line_of};
-ghost use Rattle.mc_text.specs.NameLists.{slot_names, slot_word};
+ghost use Rattle.mc_text.specs.NameLists.{slot_word};
 ghost use Rattle.mc_top.specs.Drawn.{FollowsDraws, draws_state};
-ghost use Rattle.mc_replay.specs.Journals.{HoldsAtSettles, lines_for};
+ghost use Rattle.mc_replay.specs.Journals.{HoldsAtSettles};
 ghost use Rattle.mc_replay.specs.Segments.{EachKeepsShiftLimit};
 ghost use Rattle.mc_top.specs.Journals.{IsJournalTo, ShowsCause};
-ghost use Rattle.mc_top.specs.Outcomes.{CameOf, EndsAt, EndsBy, IsNamedFault};
-ghost use Rattle.mc_top.specs.Printed.{box_word, script_text, stop_word, with_journal};
+ghost use Rattle.mc_top.specs.Outcomes.{CameOf, EndsAt, EndsBy};
+ghost use Rattle.mc_settle_text.specs.Names.{IsNamedFault, IsNamedPlace};
+ghost use Rattle.mc_top.specs.Printed.{script_text, with_journal};
+ghost use Rattle.mc_settle_text.specs.Words.{box_word};
 ghost use Rattle.mc_top.specs.Scripts.{first_state, network_draws, network_world};
 ghost use Rattle.mc_top.specs.Shown.{HasNamedBox, print_report};
 ghost use Rattle.mc_seq.specs.declared.stopping.SettleStop.TheVariants.{Restless};
 
-use crate::print::{print_restless, print_stop, put_journal};
+use crate::print::put_journal;
 use crate::report::{Report, print_opening, put_report};
 use crate::script_network::ScriptNetwork;
 use mc_box::Turn;
 use mc_io::Gate;
 use mc_script::{Batch, JournalLine};
 use mc_seq::{SettleFault, SettleStop, Stopped, StoppedBox};
+use mc_settle_text::{keep_settle, keep_turns, print_box_stop, print_slot_stop, stop_word};
 use mc_text::limit::BOX_LIMIT;
 use mc_text::{Draws, Names};
 use mc_world::World;
@@ -105,7 +107,7 @@ impl Progress {
         network.keeps();
         match network.settle(rt, alloc, gate, batch) {
             Ok((network, turns)) => {
-                log(&turns, &mut journal)?;
+                keep_settle(&turns, &mut journal)?;
                 print_settle(alloc, report, names, number, &network, &mut output)?;
                 Ok(Outcome::Settled(Progress {
                     network,
@@ -173,12 +175,11 @@ fn stop_at(
     stop: SettleStop,
     stopped: Stopped,
 ) -> Result<Run, AllocError>
-    requires who { stopped.place.0 < length names.now.boxes }
-    requires local { stopped.place.1 < length (slot_names names.now stopped.place.0) }
+    requires { IsNamedPlace names.now stopped.place }
     ensures { IfOk result (λ run. EndsAt stop (slot_word names.now stopped.place.0 stopped.place.1)
         stopped.turns.items journal.items run) }
 {
-    let output = print_stop(alloc, names, stop, stopped.place)?;
+    let output = print_slot_stop(alloc, names, stop_word(stop), stopped.place)?;
     end_at(stop, &stopped.turns, output, journal)
 }
 
@@ -193,13 +194,9 @@ fn stop_restless(
     ensures { IfOk result (λ run. EndsAt (Restless stopped.at) (box_word names.now stopped.at)
         stopped.turns.items journal.items run) }
 {
-    let output = print_restless(alloc, names, stopped.at)?;
-    end_at(
-        SettleStop::Restless(stopped.at),
-        &stopped.turns,
-        output,
-        journal,
-    )
+    let stop = SettleStop::Restless(stopped.at);
+    let output = print_box_stop(alloc, names, stop_word(stop), stopped.at)?;
+    end_at(stop, &stopped.turns, output, journal)
 }
 
 // Ends a script at a stop, after these turns.
@@ -213,31 +210,12 @@ fn end_at(
     ensures output { IfOk result (λ run. run.output ≡ output) }
     ensures stop { IfOk result (λ run. run.stop ≡ Some stop) }
 {
-    log_turns(turns, &mut journal)?;
+    keep_turns(turns, &mut journal)?;
     Ok(Run {
         output,
         journal,
         stop: Some(stop),
     })
-}
-
-// Keeps turns.
-fn log_turns(turns: &[Turn], journal: &mut Vec<JournalLine>) -> Result<(), AllocError>
-    ensures { OnOk result (journal.new.items ≡ journal.old.items ++ map Made turns.now) }
-{
-    for turn in turns {
-        journal.push(JournalLine::Turn(*turn))?;
-    }
-    Ok(())
-}
-
-// Keeps the turns of a settle, and its mark.
-fn log(turns: &[Turn], journal: &mut Vec<JournalLine>) -> Result<(), AllocError>
-    ensures { OnOk result (journal.new.items ≡ journal.old.items ++ lines_for turns.now) }
-{
-    log_turns(turns, journal)?;
-    journal.push(JournalLine::Settled)?;
-    Ok(())
 }
 
 /// Runs a script: settles its batches one after the other, and prints what is to be reported after each. It ends before

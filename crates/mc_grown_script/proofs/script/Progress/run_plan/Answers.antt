@@ -1,4 +1,4 @@
-use Rattle.std.proofs.Common.{List, [], ap, arith, length, map, subst, ◌∙◌}
+use Rattle.std.proofs.Common.{List, ℕ, [], ◌∷◌, ap, arith, length, map, subst, ◌∙◌}
 use Rattle.std.proofs.lemmas.Result.{IfOk-weaker}
 use Rattle.mc_box.specs.declared.event.Turn.{Turn}
 use Rattle.mc_growth.specs.Growths.{GrownState, MayGrowAll, grown_by_all}
@@ -10,6 +10,8 @@ use Rattle.mc_stages.specs.declared.growing.GrowthFault.TheVariants.{InUse}
 use Rattle.mc_stages.specs.declared.plan.ChannelChange.{ChannelChange}
 use Rattle.mc_grown_script.specs.declared.stop.GrownStop.TheVariants.{Cut}
 use Rattle.mc_model.specs.Sound.{IsSound}
+use Rattle.mc_table.specs.Words.{line_of}
+use Rattle.mc_text.specs.NameLists.{slot_word}
 use Rattle.mc_grown_script.proofs.Names.{boxes_stay, cut_named}
 use Rattle.mc_grown_script.proofs.Stopping.{came_of, stopped_at_cut}
 use Rattle.mc_grown_script.proofs.script.Progress.run_plan.Goals as goal
@@ -37,21 +39,13 @@ returns-in-Ok g c =
     (subst (λ (batch : List Turn). CameOfBatch c.args.names.now c.args.number batch mid outcome) c.deref-in-Ok.ensures.value came))
     c.settle.ensures
 
-pub print_slot_stop-requires-clause-who : goal.print_slot_stop-requires-clause-who
-print_slot_stop-requires-clause-who g c =
+pub print_slot_stop-requires : goal.print_slot_stop-requires
+print_slot_stop-requires g c =
     let refused : CutsShort c.self.inside.network (map growth_of c.deref.result.now) (InUse c.in-Err-InUse.used) = rw c.in-Err-InUse.field-0-is at c.in-Err-InUse.ensures.refused in
     let here = subst (λ (s : ScriptState). CutsShort s.network (map growth_of c.deref.result.now) (InUse c.in-Err-InUse.used)) c.self.view_is refused in
     let short = subst (λ (l : List ChannelChange). CutsShort c.args.self.network (map growth_of l) (InUse c.in-Err-InUse.used)) c.deref.ensures.value here in
-    (cut_named c.args.names.now c.args.self.network (growths_of c.args.plan.now) c.in-Err-InUse.used
-    (subst (λ (s : ScriptState). IsSound s.network.world) c.self.view_is (subst IsSound c.world.ensures c.keeps-2.ensures.sound)) c.requires.asks c.requires.named short).0
-
-pub print_slot_stop-requires-clause-local : goal.print_slot_stop-requires-clause-local
-print_slot_stop-requires-clause-local g c =
-    let refused : CutsShort c.self.inside.network (map growth_of c.deref.result.now) (InUse c.in-Err-InUse.used) = rw c.in-Err-InUse.field-0-is at c.in-Err-InUse.ensures.refused in
-    let here = subst (λ (s : ScriptState). CutsShort s.network (map growth_of c.deref.result.now) (InUse c.in-Err-InUse.used)) c.self.view_is refused in
-    let short = subst (λ (l : List ChannelChange). CutsShort c.args.self.network (map growth_of l) (InUse c.in-Err-InUse.used)) c.deref.ensures.value here in
-    (cut_named c.args.names.now c.args.self.network (growths_of c.args.plan.now) c.in-Err-InUse.used
-    (subst (λ (s : ScriptState). IsSound s.network.world) c.self.view_is (subst IsSound c.world.ensures c.keeps-2.ensures.sound)) c.requires.asks c.requires.named short).1
+    cut_named c.args.names.now c.args.self.network (growths_of c.args.plan.now) c.in-Err-InUse.used
+    (subst (λ (s : ScriptState). IsSound s.network.world) c.self.view_is (subst IsSound c.world.ensures c.keeps-2.ensures.sound)) c.requires.asks c.requires.named short
 
 pub returns-in_ok-run-in-Err-InUse : goal.returns-in_ok-run-in-Err-InUse
 returns-in_ok-run-in-Err-InUse g c =
@@ -59,6 +53,8 @@ returns-in_ok-run-in-Err-InUse g c =
     let here = subst (λ (s : ScriptState). CutsShort s.network (map growth_of c.deref.result.now) (InUse c.in-Err-InUse.used)) c.self.view_is refused in
     let short = subst (λ (l : List ChannelChange). CutsShort c.args.self.network (map growth_of l) (InUse c.in-Err-InUse.used)) c.deref.ensures.value here in
     stopped_at_cut c.args.names.now c.args.plan.now c.args.self c.in-Err-InUse.used.at c.in-Err-InUse.used.place c.in_ok-line-in-Err-InUse.line.items
-    c.in_ok-run-in-Err-InUse.run' short.0 short.1 c.in_ok-line-in-Err-InUse.ensures
+    c.in_ok-run-in-Err-InUse.run' short.0 short.1
+    (c.in_ok-line-in-Err-InUse.ensures
+    ∙ ap (λ (word : List ℕ). line_of (word ∷ slot_word c.args.names.now c.in-Err-InUse.used.place.0 c.in-Err-InUse.used.place.1 ∷ [])) c.stop_word.ensures)
     (subst (λ (s : ScriptState). EndsAt (Cut c.in-Err-InUse.used.at) c.in_ok-line-in-Err-InUse.line.items [] s.journal c.in_ok-run-in-Err-InUse.run') c.self.view_is
     c.in_ok-run-in-Err-InUse.ensures)

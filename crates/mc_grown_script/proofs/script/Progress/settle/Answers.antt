@@ -7,7 +7,8 @@ use Rattle.mc_grown_script.specs.Scripts.{ScriptState}
 use Rattle.mc_model.specs.PathTable.{PathHolds}
 use Rattle.mc_model.specs.Sound.{IsSound}
 use Rattle.mc_rounds.specs.Stops.{Stops}
-use Rattle.mc_grown_script.proofs.Names.{after_settle, fault_named}
+use Rattle.mc_grown_script.proofs.Names.{after_settle, has_names}
+use Rattle.mc_settle_text.proofs.Named.{fault_named}
 use Rattle.mc_grown_script.proofs.Stopping.{stops_by}
 use Rattle.mc_grown_script.proofs.script.Progress.settle.Goals as goal
 
@@ -25,8 +26,10 @@ put_network-requires-clause-holds g c =
 
 pub stop_by-requires : goal.stop_by-requires
 stop_by-requires g c =
-    fault_named c.args.names.now c.self.inside.network.world c.args.batch.now c.in-Err.fault (subst IsSound c.world.ensures c.keeps-2.ensures.sound)
-    (subst (λ (s : ScriptState). NamesEnough c.args.names.now s.network.world) (sym c.self.view_is) c.requires.named) c.in-Err.ensures.stops
+    let sound = subst IsSound c.world.ensures c.keeps-2.ensures.sound in
+    fault_named c.args.names.now c.self.inside.network.world c.args.batch.now c.in-Err.fault sound
+    (has_names c.args.names.now c.self.inside.network.world sound
+    (subst (λ (s : ScriptState). NamesEnough c.args.names.now s.network.world) (sym c.self.view_is) c.requires.named)) c.in-Err.ensures.stops
 
 pub returns-in_ok-run-in-Err : goal.returns-in_ok-run-in-Err
 returns-in_ok-run-in-Err g c =

@@ -6,7 +6,9 @@ use Rattle.mc_top.specs.Outcomes.{Stopping}
 use Rattle.mc_top.specs.Printed.{report_text}
 use Rattle.mc_top.specs.Scripts.{ScriptState, Settling, network_draws, network_world}
 use Rattle.mc_top.proofs.Running.{IsAfterSettle, after_settle}
-use Rattle.mc_top.proofs.Stopping.{fault_named, stops_by}
+use Rattle.mc_settle_text.proofs.Named.{fault_named}
+use Rattle.mc_top.proofs.Stopping.{stops_by}
+use Rattle.mc_top.proofs.Viewing.{has_names}
 use Rattle.mc_top.proofs.Summing.{report_is}
 use Rattle.mc_top.proofs.run.Progress.settle.Goals as goal
 
@@ -28,14 +30,14 @@ returns-in_ok-print_settle-in-Ok g c =
     subst (λ (s : ScriptState). Settling (report_text c.args.report c.args.names.now) c.args.number c.args.batch.now s (record {
       world = last;
       draws = network_draws c.in-Ok.network;
-      journal = c.log.new.journal.items;
+      journal = c.keep_settle.new.journal.items;
       output = c.print_settle.new.output.items;
     })) c.self.view_is (record {
       turns = c.in-Ok.turns.items;
       settled = settled;
       shift_limit = c.in-Ok.ensures.shift_limit;
       scheduled = c.in-Ok.ensures.scheduled;
-      journal = c.in_ok-log-in-Ok.ensures
+      journal = c.in_ok-keep_settle-in-Ok.ensures
           ∙ ap (λ (turns : List Turn). c.self.inside.journal.items ++ lines_for turns) c.deref.ensures.value;
       output = c.in_ok-print_settle-in-Ok.ensures
           ∙ ap (λ (text : List ℕ). c.self.inside.output.items ++ text) (report_is c.args.report c.args.names.now c.args.number last holds);
@@ -43,7 +45,8 @@ returns-in_ok-print_settle-in-Ok g c =
 
 pub stop_by-requires : goal.stop_by-requires
 stop_by-requires g c =
-    fault_named c.args.names.now (network_world c.self.inside.network) c.args.batch.now c.in-Err.fault c.keeps.ensures.sound (rw (← c.self.view_is) at c.requires.named) c.in-Err.ensures.stops
+    fault_named c.args.names.now (network_world c.self.inside.network) c.args.batch.now c.in-Err.fault c.keeps.ensures.sound
+    (has_names c.args.names.now (network_world c.self.inside.network) c.keeps.ensures.sound (rw (← c.self.view_is) at c.requires.named)) c.in-Err.ensures.stops
 
 pub returns-in_ok-run-in-Err : goal.returns-in_ok-run-in-Err
 returns-in_ok-run-in-Err g c =
