@@ -5,7 +5,7 @@ use Rattle.mc_explain.specs.Hints.{hints}
 use Rattle.mc_explain.specs.Quotes.{quote, told_line}
 use Rattle.mc_explain.specs.Sentences.{journal_rule, text_rule}
 use Rattle.mc_explain.specs.declared.reason.Reason.{Reason}
-use Rattle.mc_explain.specs.declared.reason.Reason.TheVariants.{FaultyJournal, FaultyText, Help, NoBox, NoMemory, ReadFault, Restless, Ring, Usage, VersionEnd, Worked, WriteFault}
+use Rattle.mc_explain.specs.declared.reason.Reason.TheVariants.{ChannelInUse, FaultyJournal, FaultyText, Help, NoBox, NoMemory, ReadFault, Restless, Ring, Usage, VersionEnd, Worked, WriteFault}
 use Rattle.mc_lines.specs.declared.detail.Detail.{Detail}
 use Rattle.mc_replay.specs.declared.rule.TheConstants.{NOT_ENABLED, NOT_NEXT}
 use Rattle.mc_text.specs.Lines.{has_bytes}
@@ -23,6 +23,7 @@ commands =
     ∷ codes "  mediactl scene pbx            prints the paths of one phone that speaks with two others in turn"
     ∷ codes "  mediactl scene prepaid        prints the paths of a prepaid call that a voice interrupts"
     ∷ codes "  mediactl conf BOX             runs the text, and prints whom a mixer at the feature BOX would let each party hear"
+    ∷ codes "  mediactl grow                 runs the text, in which channels join and are cut after a line grow"
     ∷ codes "N is a number from 0 to 2147483647, and SIZE one from 1 to 50."
     ∷ codes "With --journal each turn is printed after the paths. The manual page mediactl(1) says more."
     ∷ []
@@ -86,6 +87,10 @@ sentences (Ring place settle) =
 sentences (Restless place settle) =
     stop settle place.items (codes
     "the program of this box made 256 steps in this settle, which is the most, and could make one more. Look at its when lines: they may lead round in a circle.")
+    ∷ []
+sentences (ChannelInUse place settle) =
+    stop settle place.items (codes
+    "a slot that is to be cut off must be closed, with goal close. Set both ends of its channel to close, and settle before the cut.")
     ∷ []
 sentences (FaultyJournal number turn line text) = journal_fault number turn line ∷ []
 sentences (NoBox place features) = no_box place.items features.items ∷ []

@@ -49,6 +49,9 @@ forms =
     ∷ (codes "talk", codes "talk DEVICE SLOT on, or talk DEVICE SLOT off, after begin")
     ∷ (codes "tell", codes "tell FEATURE WORD after begin, for a feature with a program")
     ∷ (codes "settle", codes "settle, after begin")
+    ∷ (codes "grow", codes "grow, after the commands, under grow alone")
+    ∷ (codes "join", codes "join MEDIUM BOX SLOT BOX SLOT after grow, with audio or video for MEDIUM")
+    ∷ (codes "cut", codes "cut BOX SLOT, after grow")
     ∷ []
 
 abbrev pub form_of : List ℕ → List ℕ

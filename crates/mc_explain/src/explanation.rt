@@ -13,7 +13,7 @@ use mc_replay::rule::{NOT_ENABLED, NOT_NEXT};
 use std::alloc::{AllocError, Global};
 
 // How the program is called.
-const COMMANDS: [&str; 10] = [
+const COMMANDS: [&str; 11] = [
     "  mediactl run [--journal]      settles the text on standard input, and prints its paths",
     "  mediactl one N [--journal]    the same, in an order that the number N draws",
     "  mediactl check                checks the journal that stands after the text on standard input",
@@ -22,6 +22,7 @@ const COMMANDS: [&str; 10] = [
     "  mediactl scene pbx            prints the paths of one phone that speaks with two others in turn",
     "  mediactl scene prepaid        prints the paths of a prepaid call that a voice interrupts",
     "  mediactl conf BOX             runs the text, and prints whom a mixer at the feature BOX would let each party hear",
+    "  mediactl grow                 runs the text, in which channels join and are cut after a line grow",
     "N is a number from 0 to 2147483647, and SIZE one from 1 to 50.",
     "With --journal each turn is printed after the paths. The manual page mediactl(1) says more.",
 ];
@@ -112,6 +113,13 @@ fn put_sentences(alloc: Global, reason: &Reason, out: &mut Vec<u8>) -> Result<()
             *settle,
             place,
             "the program of this box made 256 steps in this settle, which is the most, and could make one more. Look at its when lines: they may lead round in a circle.",
+            out,
+        ),
+        Reason::ChannelInUse { place, settle } => put_stop(
+            alloc,
+            *settle,
+            place,
+            "a slot that is to be cut off must be closed, with goal close. Set both ends of its channel to close, and settle before the cut.",
             out,
         ),
         Reason::FaultyJournal {

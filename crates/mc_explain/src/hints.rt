@@ -19,7 +19,7 @@ use mc_text::{Words, next_word};
 use std::alloc::{AllocError, Global};
 
 // The forms of the lines that a word opens.
-const FORMS: [(&str, &str); 19] = [
+const FORMS: [(&str, &str); 22] = [
     ("media", "media 1, or media 2: the first line alone"),
     ("codec", "codec NAME"),
     ("dev", "dev NAME CODEC .., or dev NAME VERSION CODEC .."),
@@ -66,6 +66,12 @@ const FORMS: [(&str, &str); 19] = [
         "tell FEATURE WORD after begin, for a feature with a program",
     ),
     ("settle", "settle, after begin"),
+    ("grow", "grow, after the commands, under grow alone"),
+    (
+        "join",
+        "join MEDIUM BOX SLOT BOX SLOT after grow, with audio or video for MEDIUM",
+    ),
+    ("cut", "cut BOX SLOT, after grow"),
 ];
 
 /// Appends what helps with a rule that a line breaks: the word at fault or the limit, and the form of such a line. Want

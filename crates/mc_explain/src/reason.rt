@@ -42,6 +42,12 @@ pub enum Reason {
         place: Vec<u8>,
         settle: usize,
     },
+    /// A channel was to be cut while a slot of it isn't closed, or has another goal than close: the slot's word, and the
+    /// number of the settle that the cut stands before.
+    ChannelInUse {
+        place: Vec<u8>,
+        settle: usize,
+    },
     /// The journal has a fault: the number of its rule, one more than the turns before it, the number of the line in the
     /// text that the journal follows, from 1, and the line's bytes. There are none at the end of the journal.
     FaultyJournal {

@@ -32,3 +32,6 @@ pub const JOURNAL_FAULT: u8 = 8;
 
 /// The text declares no feature of the name that the words have.
 pub const NO_BOX: u8 = 9;
+
+/// A script stopped at a cut of a channel that is in use.
+pub const CHANNEL_IN_USE: u8 = 10;

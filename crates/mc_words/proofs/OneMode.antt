@@ -4,7 +4,7 @@ use Rattle.std.specs.Prelude.{string_bytes}
 use Rattle.std.proofs.lemmas.Grind.{common_steps}
 use Rattle.mc_text.specs.Spelling.{is_name, number_of}
 use Rattle.mc_words.proofs.BoxNames.{bytes_tell_name}
-use Rattle.mc_words.specs.Commands.{AsksFor, Spells, SpellsWithin, WordsAskForOneMode, bytes_of, check_word, plain_words, prints_journal, scene_word}
+use Rattle.mc_words.specs.Commands.{AsksFor, GrowingIsNoMode, Spells, SpellsGrow, SpellsWithin, WordsAskForOneMode, bytes_of, check_word, plain_words, prints_journal, scene_word}
 use Rattle.mc_words.specs.declared.words.Mode.{Mode}
 use Rattle.mc_words.specs.declared.words.Mode.TheVariants as mode
 use Rattle.mc_scene.specs.declared.limit.TheConstants.{NUMBER_LIMIT, SIZE_LIMIT}
@@ -117,6 +117,25 @@ spells_one (mode.Conf name) (mode.Scene scene) words first one two same = let cl
 
 pub asks_for_one : WordsAskForOneMode
 asks_for_one words m other one two = spells_one m other (plain_words (map string_bytes words)) (same_word m other _ one.0 two.0) one.0 two.0 (one.1 ∙ sym two.1)
+
+-- no mode's first word is that of a script that grows
+grow_apart : (m : Mode) → codes "grow" ≡ mode_word m → ⊥
+grow_apart (mode.Run journal) first = let clash : codes "grow" ≡ codes "run" = first in cc
+grow_apart (mode.One state journal) first = let clash : codes "grow" ≡ codes "one" = first in cc
+grow_apart (mode.Check false) first = let clash : codes "grow" ≡ codes "check" = first in cc
+grow_apart (mode.Check true) first = let clash : codes "grow" ≡ codes "why" = first in cc
+grow_apart (mode.Gen number size) first = let clash : codes "grow" ≡ codes "gen" = first in cc
+grow_apart (mode.Scene scene) first = let clash : codes "grow" ≡ codes "scene" = first in cc
+grow_apart (mode.Conf name) first = absurd (letters_apart 99 103 (omega arith) (sym (first_letter (codes "grow") (codes "conf") first)))
+
+grow_spells_none : (m : Mode) (words : List (List ℕ)) → SpellsGrow words → Spells m words → ⊥
+grow_spells_none m words grows spells =
+    let both : codes "grow" ∷ [] ≡ mode_word m ∷ (begins m words spells).0 = sym grows ∙ (begins m words spells).1 in
+    let same : codes "grow" ≡ mode_word m = cc (both) in
+    grow_apart m same
+
+pub growing_no_mode : GrowingIsNoMode
+growing_no_mode words m grows asks = grow_spells_none m (plain_words (map string_bytes words)) grows.spelt asks.0
 
 -- where no number is spelt, nothing is generated
 pub no_number : (first second third : List ℕ) (journal : Bool) → first ≡ codes "gen" → ((number : ℕ) → SpellsWithin NUMBER_LIMIT second number → ⊥) → (m : Mode) → AsksFor m journal (first ∷ second ∷ third ∷ []) → ⊥

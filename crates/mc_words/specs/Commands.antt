@@ -79,3 +79,19 @@ IsCommand words mode = Asks (map string_bytes words) mode
 abbrev pub WordsAskForOneMode : Type 0
 WordsAskForOneMode =
     (words : List (String Global)) (mode other : Mode) → IsCommand words mode → IsCommand words other → mode ≡ other
+
+-- ---- scripts of networks that grow
+
+-- plain words ask for a script in which channels join and are cut
+abbrev pub SpellsGrow : List (List ℕ) → Type 0
+SpellsGrow words = words ≡ codes "grow" ∷ []
+
+-- the words of the command line do, and no flag stands among them
+pub record AsksToGrow (words : List (String Global)) : Type 0 where
+  pub spelt : SpellsGrow (plain_words (map string_bytes words))
+  pub no_journal : has_journal_flag (map string_bytes words) ≡ false
+  pub no_other : HasNoOtherFlag (map string_bytes words)
+
+-- such words ask for no mode
+abbrev pub GrowingIsNoMode : Type 0
+GrowingIsNoMode = (words : List (String Global)) (mode : Mode) → AsksToGrow words → IsCommand words mode → ⊥

@@ -10,4 +10,4 @@ mod words;
 
 pub use box_name::BoxName;
 pub use help::asks_for_help;
-pub use words::{Mode, read_mode};
+pub use words::{Mode, asks_to_grow, read_mode};

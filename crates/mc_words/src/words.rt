@@ -1,12 +1,12 @@
 // What the words of the command line ask for.
 
-ghost use Rattle.std.specs.Prelude.{◌≡◌, ◌≤◌, ◌∷◌, [], ℕ, IfNone, IfOk, IfSome, IsFalse, IsTrue, option_map};
+ghost use Rattle.std.specs.Prelude.{◌≡◌, ◌↔◌, ◌≤◌, ◌∷◌, [], ℕ, List, Option, IfNone, IfOk, IfSome, IsFalse, IsTrue, option_map};
 ghost use Rattle.mc_words.specs.declared.words.Mode.{Mode};
-ghost use Rattle.mc_words.specs.Commands.{AsksFor, IsCommand, SpellsWithin, bytes_of, name_for, prints_journal, scene_word};
+ghost use Rattle.mc_words.specs.Commands.{AsksFor, AsksToGrow, IsCommand, SpellsGrow, SpellsWithin, bytes_of, name_for, prints_journal, scene_word};
 ghost use Rattle.mc_text.specs.Spelling.{is_name};
 ghost use Rattle.mc_words.specs.Arguments.{words_met};
 
-use crate::arguments::read_arguments;
+use crate::arguments::{Arguments, read_arguments};
 use crate::box_name::BoxName;
 use mc_scene::Scene;
 use mc_scene::limit::{NUMBER_LIMIT, SIZE_LIMIT};
@@ -73,6 +73,32 @@ pub fn read_mode(alloc: Global, words: &[String]) -> Result<Option<Mode>, AllocE
         arguments.third,
         arguments.journal,
     ))
+}
+
+/// Whether the words ask for a script in which channels join and are cut. An error where memory is wanting. They are read
+/// as those of a mode are.
+pub fn asks_to_grow(alloc: Global, words: &[String]) -> Result<bool, AllocError>
+    ensures { IfOk result (λ asks. IsTrue asks ↔ AsksToGrow words.now) }
+{
+    match read_arguments(alloc, words)? {
+        Some(arguments) => {
+            Ok(!arguments.journal && spells_grow(arguments.first, arguments.second))
+        }
+        None => Ok(false),
+    }
+}
+
+// Whether the first plain word says that the script grows, and there is no second one.
+fn spells_grow(first: Option<&str>, second: Option<&str>) -> bool
+    ensures { (third : Option (List ℕ)) → IsTrue result ↔ SpellsGrow (words_met
+        (option_map (λ s. s.now) first.entry)
+        (option_map (λ s. s.now) second.entry)
+        third) }
+{
+    match (first, second) {
+        (Some(first), None) => first == "grow",
+        _ => false,
+    }
 }
 
 // The mode that plain words ask for.
