@@ -10,4 +10,4 @@ mod words;
 pub use line::put_line;
 pub use settle::{print_settle, put_settle};
 pub use summary::print_summary;
-pub use whys::print_whys;
+pub use whys::{print_whys, why_at, why_word};

@@ -9,8 +9,8 @@ use mc_text::Names;
 use mc_view::{EndView, PathView};
 use std::alloc::{AllocError, Global};
 
-// The word for a turn, or that there was none.
-fn why_word(alloc: Global, why: Option<u32>) -> Result<Vec<u8>, AllocError>
+/// The word for a turn, or that there was none.
+pub fn why_word(alloc: Global, why: Option<u32>) -> Result<Vec<u8>, AllocError>
     ensures { IfOk result (λ word. word.items ≡ why_word why) }
 {
     let word = match why {
@@ -37,8 +37,8 @@ fn put_why(
     put_line(b"why", &[place.as_slice(), why.as_slice()], out)
 }
 
-// Why a slot is closed, by its number.
-fn why_at(whys: &[Option<u32>], slot: u32) -> Option<u32>
+/// Why a slot is closed, by its number.
+pub fn why_at(whys: &[Option<u32>], slot: u32) -> Option<u32>
     ensures { result ≡ slice_index_or whys.now slot None }
 {
     match whys.get(slot as usize) {
