@@ -80,7 +80,7 @@ function lay_out() {
   const lines = picture.querySelector(":scope > path.v").getAttribute("d");
   const bottom = +picture.getAttribute("height") - 8;
   const heads = drawn("svg", { width, height: 44, viewBox: "0 0 " + width + " 44" });
-  heads.append(...picture.querySelectorAll(":scope > .hd"));
+  heads.append(...picture.querySelectorAll(":scope > .hd, :scope > text"));
   const top = make("div", "heads");
   top.append(heads);
   const made = [top];
@@ -133,6 +133,7 @@ function find_stops() {
 
 // ---- the network: a box below the other, in the order of their columns, with tunnels at the left, and links within
 
+const LEGEND = 24;
 const HEAD = 28;
 const LINE = 24;
 const GAP = 10;
@@ -162,11 +163,19 @@ const arcs_ends = () => {
   return ends;
 };
 
+// What the words of a slot's line are.
+function legend() {
+  const line = make("p", "legend");
+  line.append(make("b", "", "slot"), make("span", "fl", "state"), make("span", "", "goal or link"), make("span", "coming op", "◄ under way to it"));
+  return line;
+}
+
 function lay_out_network() {
+  map.append(legend());
   // a box has the column of its head, if it has one
   const heads = [...document.querySelectorAll(".hd")].map((head) => [head.textContent, +head.dataset.c]);
   const column_of = new Map(heads);
-  let y = 6;
+  let y = LEGEND;
   data.boxes.forEach(([who, name, kind]) => {
     const column = column_of.has(name) ? column_of.get(name) : -2;
     const own = data.slots.map((_, slot) => slot).filter((slot) => data.slots[slot][0] === who);
@@ -191,6 +200,7 @@ function lay_out_network() {
   const deep = depths();
   const left = 14 + DEPTH * (1 + Math.max(0, ...deep));
   map.style.cssText = "height:" + y + "px;--left:" + (left + 10) + "px";
+  document.body.style.setProperty("--map", y + "px");
   const sketch = drawn("svg", { width: left + 40, height: y });
   arcs_ends().forEach(([from, to], tunnel) => {
     const x = left - DEPTH * (1 + deep[tunnel]);
@@ -315,7 +325,7 @@ function show_row() {
     element.classList.add(name);
     chosen.push(element);
   };
-  let words = "before the first turn";
+  let words = "before " + (stops[0] ? ids[stops[1]].replace("-", " ") : "the first turn");
   if (row) {
     mark(row.row, "now");
     mark(row.number, "now");
@@ -349,7 +359,7 @@ function bring_into_view(shown) {
   const of = boxes_of(shown);
   const first = Math.min(...of.map((it) => it.top));
   const last_line = Math.max(...of.map((it) => it.bottom));
-  if (first < network.scrollTop || last_line > network.scrollTop + network.clientHeight - 40) network.scrollTop = first - 20;
+  if (first < network.scrollTop || last_line > network.scrollTop + network.clientHeight - 40) network.scrollTop = first - LEGEND;
 }
 
 // Browsers allow few changes of the address in a second, so it follows once no more steps come.

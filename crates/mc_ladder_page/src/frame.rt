@@ -39,6 +39,8 @@ input{flex:1;min-width:80px;accent-color:var(--asked)}\n\
 .map .silent{stroke:var(--dim);stroke-width:4}\n\
 .map .heard{stroke:var(--heard);stroke-width:4}\n\
 .map circle.silent,.map circle.heard{stroke-width:3}\n\
+.legend{position:absolute;top:0;left:var(--left);right:19px;margin:0;padding-left:15px;display:flex;gap:8px;font:11px/24px ui-monospace,\"DejaVu Sans Mono\",Menlo,Consolas,monospace;color:var(--dim)}\n\
+.legend .coming{margin-left:auto}\n\
 .box{content-visibility:auto;position:absolute;left:calc(var(--left) - 10px);right:10px;padding-bottom:4px;background:var(--ground);border:1px solid var(--line);border-radius:4px}\n\
 .box.feature{border-radius:13px}\n\
 .box button{border:0;background:none;color:inherit;font:bold 13px/24px ui-monospace,\"DejaVu Sans Mono\",Menlo,Consolas,monospace;padding:2px 8px 0 24px;text-align:left;width:100%;height:28px;cursor:pointer}\n\
@@ -55,13 +57,16 @@ kbd{font:inherit;border:1px solid var(--line);border-radius:3px;padding:0 4px}\n
 :focus-visible{outline:3px solid var(--asked);outline-offset:1px}\n\
 @media (max-width:800px){\n\
 .keys{display:none}\n\
-body{grid-template:minmax(0,38%) minmax(0,1fr) auto/minmax(0,1fr)}\n\
+body{grid-template:minmax(0,min(38%,var(--map,38%))) minmax(0,1fr) auto/minmax(0,1fr)}\n\
 #network{grid-row:1;border-left:0;border-bottom:1px solid var(--line)}\n\
 #ladder{grid-row:2}\n\
 header{grid-row:3;grid-column:1;flex-wrap:wrap;border-top:1px solid var(--line);border-bottom:0;gap:6px}\n\
 header button{min-width:44px;min-height:40px}\n\
 #words{flex:1 0 100%;white-space:normal;font-size:12px;min-height:4.2em;max-height:4.2em}\n\
 .box p{font-size:11px;gap:6px}\n\
+}\n\
+@media (pointer:coarse){\n\
+.keys{display:none}\n\
 }\n\
 @media (prefers-color-scheme:dark){\n\
 :root{--ground:#0f1318;--ink:#e3e8ee;--dim:#a0a9b5;--line:#3a434e;--soft:#191f27;--asked:#7db1ff;--closes:#ff938a;--heard:#5fd08a;--mark:#3b3410}\n\
@@ -156,7 +161,7 @@ const all = [...picture.querySelectorAll(\":scope > g[id]\")];\n\
 const lines = picture.querySelector(\":scope > path.v\").getAttribute(\"d\");\n\
 const bottom = +picture.getAttribute(\"height\") - 8;\n\
 const heads = drawn(\"svg\", { width, height: 44, viewBox: \"0 0 \" + width + \" 44\" });\n\
-heads.append(...picture.querySelectorAll(\":scope > .hd\"));\n\
+heads.append(...picture.querySelectorAll(\":scope > .hd, :scope > text\"));\n\
 const top = make(\"div\", \"heads\");\n\
 top.append(heads);\n\
 const made = [top];\n\
@@ -199,6 +204,7 @@ function find_stops() {\n\
 const drawn_rows = ids.map((_, k) => k).filter((k) => rows.has(ids[k]));\n\
 stops = [drawn_rows.length ? drawn_rows[0] - 1 : 0, ...drawn_rows];\n\
 }\n\
+const LEGEND = 24;\n\
 const HEAD = 28;\n\
 const LINE = 24;\n\
 const GAP = 10;\n\
@@ -225,10 +231,16 @@ const ends = [];\n\
 for (let slot = 0; slot < slot_count; slot += 2) ends.push([heights[slot], heights[slot + 1]].sort((a, b) => a - b));\n\
 return ends;\n\
 };\n\
+function legend() {\n\
+const line = make(\"p\", \"legend\");\n\
+line.append(make(\"b\", \"\", \"slot\"), make(\"span\", \"fl\", \"state\"), make(\"span\", \"\", \"goal or link\"), make(\"span\", \"coming op\", \"\xe2\x97\x84 under way to it\"));\n\
+return line;\n\
+}\n\
 function lay_out_network() {\n\
+map.append(legend());\n\
 const heads = [...document.querySelectorAll(\".hd\")].map((head) => [head.textContent, +head.dataset.c]);\n\
 const column_of = new Map(heads);\n\
-let y = 6;\n\
+let y = LEGEND;\n\
 data.boxes.forEach(([who, name, kind]) => {\n\
 const column = column_of.has(name) ? column_of.get(name) : -2;\n\
 const own = data.slots.map((_, slot) => slot).filter((slot) => data.slots[slot][0] === who);\n\
@@ -253,6 +265,7 @@ map.append(box);\n\
 const deep = depths();\n\
 const left = 14 + DEPTH * (1 + Math.max(0, ...deep));\n\
 map.style.cssText = \"height:\" + y + \"px;--left:\" + (left + 10) + \"px\";\n\
+document.body.style.setProperty(\"--map\", y + \"px\");\n\
 const sketch = drawn(\"svg\", { width: left + 40, height: y });\n\
 arcs_ends().forEach(([from, to], tunnel) => {\n\
 const x = left - DEPTH * (1 + deep[tunnel]);\n\
@@ -362,7 +375,7 @@ const mark = (element, name) => {\n\
 element.classList.add(name);\n\
 chosen.push(element);\n\
 };\n\
-let words = \"before the first turn\";\n\
+let words = \"before \" + (stops[0] ? ids[stops[1]].replace(\"-\", \" \") : \"the first turn\");\n\
 if (row) {\n\
 mark(row.row, \"now\");\n\
 mark(row.number, \"now\");\n\
@@ -394,7 +407,7 @@ else if (right > ladder.scrollLeft + ladder.clientWidth) ladder.scrollLeft = rig
 const of = boxes_of(shown);\n\
 const first = Math.min(...of.map((it) => it.top));\n\
 const last_line = Math.max(...of.map((it) => it.bottom));\n\
-if (first < network.scrollTop || last_line > network.scrollTop + network.clientHeight - 40) network.scrollTop = first - 20;\n\
+if (first < network.scrollTop || last_line > network.scrollTop + network.clientHeight - 40) network.scrollTop = first - LEGEND;\n\
 }\n\
 let waits = 0;\n\
 function tell_address() {\n\
