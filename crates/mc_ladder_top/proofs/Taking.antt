@@ -33,23 +33,23 @@ taken app words m is passes matches =
 -- what the rows of a parse ask for
 abbrev rows_ask : List Row → Option Requested
 rows_ask rows =
-    request_by (picture_of (nat_lt 0 (count_of (codes "ascii") rows)) (nat_lt 0 (count_of (codes "svg") rows))) (settles_of (unwrap_or (all_of (codes "settles") rows) [])) (unwrap_or (all_of (codes "box") rows) [])
+    request_by (picture_of (nat_lt 0 (count_of (codes "ascii") rows)) (nat_lt 0 (count_of (codes "svg") rows)) (nat_lt 0 (count_of (codes "html") rows))) (settles_of (unwrap_or (all_of (codes "settles") rows) [])) (unwrap_or (all_of (codes "box") rows) [])
 
-by_values : (rows : List Row) (ascii svg : ℕ) (settles boxes : List Text) → ascii ≡ count_of (codes "ascii") rows → svg ≡ count_of (codes "svg") rows
-    → settles ≡ unwrap_or (all_of (codes "settles") rows) [] → boxes ≡ unwrap_or (all_of (codes "box") rows) []
-    → request_by (picture_of (nat_lt 0 ascii) (nat_lt 0 svg)) (settles_of settles) boxes ≡ rows_ask rows
-by_values rows ascii svg settles boxes a s t b = rw (a, s, t, b) refl
+by_values : (rows : List Row) (ascii svg html : ℕ) (settles boxes : List Text) → ascii ≡ count_of (codes "ascii") rows → svg ≡ count_of (codes "svg") rows
+    → html ≡ count_of (codes "html") rows → settles ≡ unwrap_or (all_of (codes "settles") rows) [] → boxes ≡ unwrap_or (all_of (codes "box") rows) []
+    → request_by (picture_of (nat_lt 0 ascii) (nat_lt 0 svg) (nat_lt 0 html)) (settles_of settles) boxes ≡ rows_ask rows
+by_values rows ascii svg html settles boxes a s h t b = rw (a, s, h, t, b) refl
 
 -- so they ask for this, if for anything
-pub asks_for_it : (words : List (String Global)) (m : ArgMatches) (ascii svg : ℕ) (settles boxes : List Text) (request : Option Requested)
+pub asks_for_it : (words : List (String Global)) (m : ArgMatches) (ascii svg html : ℕ) (settles boxes : List Text) (request : Option Requested)
     → (fault_of ladder_command (map string_bytes words) ≡ []) × (rows_of (found_of m) ≡ matches_of ladder_command (map string_bytes words))
     → ascii ≡ count_of (codes "ascii") (rows_of (found_of m)) → svg ≡ count_of (codes "svg") (rows_of (found_of m))
-    → settles ≡ unwrap_or (all_of (codes "settles") (rows_of (found_of m))) [] → boxes ≡ unwrap_or (all_of (codes "box") (rows_of (found_of m))) []
-    → request ≡ request_by (picture_of (nat_lt 0 ascii) (nat_lt 0 svg)) (settles_of settles) boxes
+    → html ≡ count_of (codes "html") (rows_of (found_of m)) → settles ≡ unwrap_or (all_of (codes "settles") (rows_of (found_of m))) [] → boxes ≡ unwrap_or (all_of (codes "box") (rows_of (found_of m))) []
+    → request ≡ request_by (picture_of (nat_lt 0 ascii) (nat_lt 0 svg) (nat_lt 0 html)) (settles_of settles) boxes
     → AskForAny (map string_bytes words) request
-asks_for_it words m ascii svg settles boxes request (takes, rows) ascii_is svg_is settles_are boxes_are is = (
+asks_for_it words m ascii svg html settles boxes request (takes, rows) ascii_is svg_is html_is settles_are boxes_are is = (
   takes,
-  sym (is ∙ (by_values (rows_of (found_of m)) ascii svg settles boxes ascii_is svg_is settles_are boxes_are ∙ ap rows_ask rows)),
+  sym (is ∙ (by_values (rows_of (found_of m)) ascii svg html settles boxes ascii_is svg_is html_is settles_are boxes_are ∙ ap rows_ask rows)),
 )
 
 pub by_parts : (picture shown : Option Picture) (settles named : Option (Option Span)) (boxes : List Text) → picture ≡ shown → settles ≡ named
@@ -66,6 +66,12 @@ pub asked_taken : (words read_words : List (String Global)) (read : Option Reque
     → AreTaken words
 asked_taken words read_words read request same is asks =
     (asked request, subst (λ (w : List (String Global)). AskFor w (asked request)) same (subst (λ (o : Option Request). IfSome o (λ r. AskFor read_words (asked r))) is asks))
+
+-- where nothing was read of them, they aren't
+pub not_taken : (words read_words : List (String Global)) (read : Option Request) → read_words ≡ words → read ≡ None → IfNone read (AreTaken read_words → ⊥)
+    → AreTaken words → ⊥
+not_taken words read_words read same is none =
+    subst (λ (w : List (String Global)). AreTaken w → ⊥) same (subst (λ (o : Option Request). IfNone o (AreTaken read_words → ⊥)) is none)
 
 -- where they ask for nothing, they aren't taken
 pub asked_none : (words : List (String Global)) (read : Option Request) (request : Option Requested) → option_map (λ r. asked r) read ≡ request → AskForAny (map string_bytes words) request

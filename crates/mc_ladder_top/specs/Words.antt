@@ -10,7 +10,7 @@ use Rattle.mc_text.specs.Spelling.{number_of}
 use Rattle.mc_ladder.specs.declared.glyph.Style.TheVariants.{Utf8, Ascii}
 use Rattle.mc_ladder_choice.specs.declared.choice.Span.{Span}
 use Rattle.mc_ladder_top.specs.declared.picture.Picture.{Picture}
-use Rattle.mc_ladder_top.specs.declared.picture.Picture.TheVariants.{Text as AsText, Svg}
+use Rattle.mc_ladder_top.specs.declared.picture.Picture.TheVariants.{Text as AsText, Svg, Page}
 use Rattle.mc_ladder_top.specs.Requests.{Requested}
 
 -- a flag that is counted
@@ -21,13 +21,13 @@ flag name = record (new_rule name) { long = Some name; action = Some Count }
 abbrev pub valued : Text → Rule
 valued name = record (new_rule name) { long = Some name; action = Some Append }
 
--- the program's command line: two counted flags and two options, without help
+-- the program's command line: three counted flags and two options, without help
 abbrev pub ladder_command : App
 ladder_command =
     let named = new_app (codes "medialadder") in
     let bare : App = record named { top = record named.top { no_binary_name = true; disable_help_flag = true } } in
-    with_rule (with_rule (with_rule (with_rule bare (flag (codes "ascii"))) (flag (codes "svg"))) (valued (codes "settles")))
-    (valued (codes "box"))
+    let flags = with_rule (with_rule (with_rule bare (flag (codes "ascii"))) (flag (codes "svg"))) (flag (codes "html")) in
+    with_rule (with_rule flags (valued (codes "settles"))) (valued (codes "box"))
 
 -- a flag was met
 abbrev pub asks_for : Text → List Text → Bool
@@ -37,12 +37,15 @@ asks_for name words = nat_lt 0 (count_of name (matches_of ladder_command words))
 abbrev pub values_of : Text → List Text → List Text
 values_of name words = unwrap_or (all_of name (matches_of ladder_command words)) []
 
--- a ladder is drawn in ASCII, as SVG, or else in UTF-8; SVG has no ASCII form
-abbrev pub picture_of : (ascii svg : Bool) → Option Picture
-picture_of true true = None
-picture_of true false = Some (AsText Ascii)
-picture_of false true = Some Svg
-picture_of false false = Some (AsText Utf8)
+-- a ladder is drawn in ASCII, as SVG, as a page, or else in UTF-8; two of the three flags ask for nothing
+abbrev pub picture_of : (ascii svg html : Bool) → Option Picture
+picture_of false false false = Some (AsText Utf8)
+picture_of true false false = Some (AsText Ascii)
+picture_of false true false = Some Svg
+picture_of false false true = Some Page
+picture_of true true html = None
+picture_of true false true = None
+picture_of false true true = None
 
 -- ---- settles
 
@@ -81,7 +84,8 @@ request_by (Some picture) (Some settles) names =
 -- what words ask for that the command line takes
 abbrev pub request_of : List Text → Option Requested
 request_of words =
-    request_by (picture_of (asks_for (codes "ascii") words) (asks_for (codes "svg") words))
+    request_by
+    (picture_of (asks_for (codes "ascii") words) (asks_for (codes "svg") words) (asks_for (codes "html") words))
     (settles_of (values_of (codes "settles") words))
     (values_of (codes "box") words)
 
@@ -124,14 +128,17 @@ of_settles span = codes "--settles" ∷ span ∷ []
 abbrev pub of_box : Text → List Text
 of_box name = codes "--box" ∷ name ∷ []
 
--- what the words ask for: none for UTF-8, a flag for ASCII, also where it stands twice, and another for SVG. Both together
--- ask for nothing, and neither a word of another kind nor another flag is taken
+-- what the words ask for: none for UTF-8, a flag for ASCII, also where it stands twice, another for SVG, and one for a
+-- page. Two of them together ask for nothing, and neither a word of another kind nor another flag is taken
 pub record WordsAskForPictures : Type 0 where
   pub none : AskForAny [] (all_as (AsText Utf8))
   pub ascii : AskForAny (codes "--ascii" ∷ []) (all_as (AsText Ascii))
   pub twice : AskForAny flag_twice (all_as (AsText Ascii))
   pub svg : AskForAny (codes "--svg" ∷ []) (all_as Svg)
+  pub html : AskForAny (codes "--html" ∷ []) (all_as Page)
   pub both : AskForAny (codes "--svg" ∷ codes "--ascii" ∷ []) None
+  pub html_svg : AskForAny (codes "--html" ∷ codes "--svg" ∷ []) None
+  pub html_ascii : AskForAny (codes "--ascii" ∷ codes "--html" ∷ []) None
   pub help : fault_of ladder_command (codes "--help" ∷ []) ≢ []
   pub other : fault_of ladder_command (codes "run" ∷ []) ≢ []
 
@@ -139,6 +146,7 @@ pub record WordsAskForPictures : Type 0 where
 pub record WordsAskForSettles : Type 0 where
   pub some : AskForAny (of_settles (codes "3-12")) (settles_as (AsText Utf8) 3 12)
   pub one : AskForAny (codes "--svg" ∷ codes "--settles=2-2" ∷ []) (settles_as Svg 2 2)
+  pub html : AskForAny (codes "--html" ∷ codes "--settles=2-2" ∷ []) (settles_as Page 2 2)
   pub none : AskForAny (of_settles (codes "0-1")) None
   pub order : AskForAny (of_settles (codes "7-3")) None
   pub number : AskForAny (of_settles (codes "3")) None

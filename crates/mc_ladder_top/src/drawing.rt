@@ -1,8 +1,9 @@
 // The ladder of the journal after a text.
 
 ghost use Rattle.std.specs.Prelude.{◌≡◌, ◌-◌, ◌<◌, ◌≤◌, ◌^◌, false, length, map, IfErr, IfOk};
-ghost use Rattle.mc_ladder_top.specs.Drawn.{IsInGrammar, IsLadder, picture_bytes};
+ghost use Rattle.mc_ladder_top.specs.Drawn.{IsInGrammar, IsLadder, framed, ladder_bytes};
 ghost use Rattle.mc_ladder_top.specs.Requests.{asked, choice_of};
+ghost use Rattle.mc_ladder_top.specs.declared.picture.Picture.TheVariants.{Page};
 ghost use Rattle.mc_ladder_choice.specs.Surveys.{survey_of};
 ghost use Rattle.mc_lines.specs.Rules.{read_limit};
 ghost use Rattle.mc_lines.specs.declared.tail.Tail.TheVariants.{Journal};
@@ -17,6 +18,7 @@ use crate::choosing::choice_of;
 use crate::picture::{Picture, draw};
 use crate::words::Request;
 use mc_ladder_choice::{Choice, Survey, look_through};
+use mc_ladder_page::draw_page;
 use mc_net::{Net, NetFault, Tail, read_blocks, read_net};
 use mc_program_lines::Block;
 use mc_script::JournalLine;
@@ -57,7 +59,7 @@ pub fn draw_checked(
 }
 
 // Draws the journal after a text. The check has used up the network that was read for it, so the text is read anew: once
-// to look through the journal, and once to draw.
+// to look through the journal, once to draw the ladder, and once for the page round it, if there is one.
 fn draw_journal(
     alloc: Global,
     request: &Request,
@@ -71,7 +73,8 @@ fn draw_journal(
     let chosen = choose_in_text(alloc, request, text, journal)?;
     let blocks = blocks_of(alloc, text)?;
     let net = net_of(alloc, text)?;
-    draw_net(alloc, request.picture, &chosen, &blocks, net, journal)
+    let ladder = draw_net(alloc, request.picture, &chosen, &blocks, net, journal)?;
+    framed(alloc, request.picture, text, &blocks, journal, ladder)
 }
 
 // What is chosen of a journal, and what was found of it.
@@ -145,13 +148,54 @@ fn draw_net(
     requires few { length journal.now < 2 ^ 32 - 1 }
     requires found { chosen.now.found ≡ survey_of chosen.now.choice net.world journal.now }
     ensures { IfOk result (λ ladder.
-        ladder.items ≡ picture_bytes picture net.names blocks.now net.world chosen.now.choice journal.now) }
+        ladder.items ≡ ladder_bytes picture net.names blocks.now net.world chosen.now.choice journal.now) }
 {
     let Chosen { choice, found } = chosen;
     let Net { names, world, .. } = &mut net;
     let ladder = draw(alloc, picture, names, blocks, choice, found, world, journal);
     drop(net);
     ladder
+}
+
+// A ladder as it is handed out: in a page, if one is asked for.
+fn framed(
+    alloc: Global,
+    picture: Picture,
+    text: &[u8],
+    blocks: &[Block],
+    journal: &[JournalLine],
+    ladder: Vec<u8>,
+) -> Result<Vec<u8>, AllocError>
+    requires declared { IsInGrammar text.now }
+    requires few { length journal.now < 2 ^ 32 - 1 }
+    ensures { IfOk result (λ drawn. (net : Net) → DeclaresNet Journal text.now net
+        → drawn.items ≡ framed picture net.names blocks.now net.world journal.now ladder.items) }
+{
+    match picture {
+        Picture::Text(_) | Picture::Svg => Ok(ladder),
+        Picture::Page => {
+            let net = net_of(alloc, text)?;
+            page_by_net(alloc, &ladder, blocks, net, journal)
+        }
+    }
+}
+
+// The page of a journal with its ladder, by a network and the blocks of its programs.
+fn page_by_net(
+    alloc: Global,
+    ladder: &[u8],
+    blocks: &[Block],
+    mut net: Net,
+    journal: &[JournalLine],
+) -> Result<Vec<u8>, AllocError>
+    requires { length journal.now < 2 ^ 32 - 1 }
+    ensures { IfOk result (λ page.
+        page.items ≡ framed Page net.names blocks.now net.world journal.now ladder.now) }
+{
+    let Net { names, world, .. } = &mut net;
+    let page = draw_page(alloc, ladder, names, blocks, world, journal);
+    drop(net);
+    page
 }
 
 // The network of a text in the grammar.

@@ -2,9 +2,9 @@
 
 ghost use Rattle.mc_ladder_top.specs.Words.{WordsAskForBoxes, WordsAskForPictures, WordsAskForSettles};
 
-/// Without words a ladder is drawn in UTF-8, with the flag `--ascii` in ASCII, and with `--svg` as SVG, however often the
-/// flag stands there; a `--` after it says nothing. Both flags together ask for nothing. A word of another kind isn't
-/// taken, nor is another flag, `--help` among them.
+/// Without words a ladder is drawn in UTF-8, with the flag `--ascii` in ASCII, with `--svg` as SVG, and with `--html` as
+/// a page, however often the flag stands there; a `--` after it says nothing. Two of these flags together ask for nothing.
+/// A word of another kind isn't taken, nor is another flag, `--help` among them.
 pub fn words_ask_for_pictures()
     ensures { WordsAskForPictures }
 {}

@@ -2,7 +2,7 @@
 
 ghost use Rattle.std.specs.Prelude.{◌≡◌, ◌-◌, ◌<◌, ◌^◌, length, IfOk};
 ghost use Rattle.mc_ladder_choice.specs.Surveys.{survey_of};
-ghost use Rattle.mc_ladder_top.specs.Drawn.{picture_bytes};
+ghost use Rattle.mc_ladder_top.specs.Drawn.{ladder_bytes};
 
 use mc_ladder::{Style, draw_ladder};
 use mc_ladder_choice::{Choice, Survey};
@@ -19,9 +19,12 @@ pub enum Picture {
     /// As text, in these bytes.
     Text(Style),
     Svg,
+    /// As SVG in a page, which tells beside it what stands after each row.
+    Page,
 }
 
-// Draws what is chosen of a journal, of which this was found before, from the first world of a network on.
+// Draws what is chosen of a journal, of which this was found before, from the first world of a network on: for a page the
+// ladder alone.
 pub fn draw(
     alloc: Global,
     picture: Picture,
@@ -35,12 +38,14 @@ pub fn draw(
     requires few { length journal.now < 2 ^ 32 - 1 }
     requires found { found.now ≡ survey_of choice.now world.old journal.now }
     ensures { IfOk result (λ drawn.
-        drawn.items ≡ picture_bytes picture names.now blocks.now world.old choice.now journal.now) }
+        drawn.items ≡ ladder_bytes picture names.now blocks.now world.old choice.now journal.now) }
 {
     match picture {
         Picture::Text(style) => {
             draw_ladder(alloc, style, names, blocks, choice, found, world, journal)
         }
-        Picture::Svg => draw_svg(alloc, names, blocks, choice, found, world, journal),
+        Picture::Svg | Picture::Page => {
+            draw_svg(alloc, names, blocks, choice, found, world, journal)
+        }
     }
 }

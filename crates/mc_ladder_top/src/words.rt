@@ -1,10 +1,10 @@
 // What the words of the command line ask for.
 
-ghost use Rattle.std.specs.Prelude.{◌≡◌, ◌≢◌, ◌<◌, [], IfNone, IfOk, IfSome, None, Some, length, map, option_map, position};
+ghost use Rattle.std.specs.Prelude.{◌≡◌, ◌≢◌, ◌<◌, [], IfNone, IfOk, IfSome, None, Some, false, length, map, option_map, position};
 ghost use Rattle.std.specs.Option.{unwrap_or};
-ghost use Rattle.clap.specs.Words.{all_of, app_of, found_of, kind_of, rows_of};
+ghost use Rattle.clap.specs.Words.{all_of, app_of, found_of, kind_of, rows_of, rule_of};
 ghost use Rattle.mc_ladder_top.specs.Requests.{asked};
-ghost use Rattle.mc_ladder_top.specs.Words.{AreTaken, AskFor, is_dash, ladder_command, picture_of, request_by, settles_of, span_around, span_between, span_of};
+ghost use Rattle.mc_ladder_top.specs.Words.{AreTaken, AskFor, flag, is_dash, ladder_command, picture_of, request_by, settles_of, span_around, span_between, span_of, valued};
 
 use crate::picture::Picture;
 use clap::error::ErrorKind;
@@ -24,9 +24,9 @@ pub struct Request<'a> {
 }
 
 /// What the words ask for: a ladder as text in ASCII where the flag `--ascii` stands among them, once or more often, as
-/// SVG where the flag `--svg` does, and else as text in UTF-8; after `--settles A-B` of the settles from A to B alone,
-/// which are counted from 1; after `--box NAME`, once or more often, of what concerns these boxes alone. None where both
-/// flags stand there, or another word; an error where memory is wanting.
+/// SVG where the flag `--svg` does, as a page where the flag `--html` does, and else as text in UTF-8; after `--settles A-B` of the settles from A to B alone,
+/// which are counted from 1; after `--box NAME`, once or more often, of what concerns these boxes alone. None where two
+/// of these flags stand there, or another word; an error where memory is wanting.
 pub fn read_request<'a>(
     alloc: Global,
     words: &'a [String],
@@ -38,31 +38,46 @@ pub fn read_request<'a>(
         Ok(matches) => {
             let ascii = matches.get_count("ascii");
             let svg = matches.get_count("svg");
+            let html = matches.get_count("html");
             let settles = settles_of(&values_of(alloc, &matches, "settles")?);
             let boxes = values_of(alloc, &matches, "box")?;
-            Ok(request_by(picture_of(ascii > 0, svg > 0), settles, boxes))
+            Ok(request_by(picture_of(ascii > 0, svg > 0, html > 0), settles, boxes))
         }
         Err(error) => none_unless_memory(&error),
     }
 }
 
-// The command line: two counted flags and two options.
+// A flag that is counted.
+fn flag<'a>(alloc: Global, name: &'a str) -> Arg<'a>
+    ensures rule { rule_of result ≡ flag name.entry.now }
+    ensures local { result.global ≡ false }
+{
+    Arg::new(alloc, name).long(name).action(ArgAction::Count)
+}
+
+// An option, each use of which has a value.
+fn valued<'a>(alloc: Global, name: &'a str) -> Arg<'a>
+    ensures rule { rule_of result ≡ valued name.entry.now }
+    ensures local { result.global ≡ false }
+{
+    Arg::new(alloc, name).long(name).action(ArgAction::Append)
+}
+
+// The command line: three counted flags and two options.
 fn ladder_command<'a>(alloc: Global) -> Result<Command<'a>, AllocError>
     ensures { IfOk result (λ command. app_of command ≡ ladder_command) }
 {
-    let ascii = Arg::new(alloc, "ascii")
-        .long("ascii")
-        .action(ArgAction::Count);
-    let svg = Arg::new(alloc, "svg").long("svg").action(ArgAction::Count);
-    let settles = Arg::new(alloc, "settles")
-        .long("settles")
-        .action(ArgAction::Append);
-    let boxes = Arg::new(alloc, "box").long("box").action(ArgAction::Append);
+    let ascii = flag(alloc, "ascii");
+    let svg = flag(alloc, "svg");
+    let html = flag(alloc, "html");
+    let settles = valued(alloc, "settles");
+    let boxes = valued(alloc, "box");
     Command::new(alloc, "medialadder")
         .no_binary_name(true)
         .disable_help_flag(true)
         .arg(ascii)?
         .arg(svg)?
+        .arg(html)?
         .arg(settles)?
         .arg(boxes)
 }
@@ -82,15 +97,16 @@ fn values_of<'a>(
     }
 }
 
-// The form for which these flags ask. SVG has no ASCII form.
-fn picture_of(ascii: bool, svg: bool) -> Option<Picture>
-    ensures { result ≡ picture_of ascii svg }
+// The form for which these flags ask, of which one may be there.
+fn picture_of(ascii: bool, svg: bool, html: bool) -> Option<Picture>
+    ensures { result ≡ picture_of ascii svg html }
 {
-    match (ascii, svg) {
-        (true, true) => None,
-        (true, false) => Some(Picture::Text(Style::Ascii)),
-        (false, true) => Some(Picture::Svg),
-        (false, false) => Some(Picture::Text(Style::Utf8)),
+    match (ascii, svg, html) {
+        (false, false, false) => Some(Picture::Text(Style::Utf8)),
+        (true, false, false) => Some(Picture::Text(Style::Ascii)),
+        (false, true, false) => Some(Picture::Svg),
+        (false, false, true) => Some(Picture::Page),
+        _ => None,
     }
 }
 

@@ -20,6 +20,7 @@ medialadder: a column for each box, time downwards, and an arrow for each signal
 medialadder:   medialadder                  draws in UTF-8
 medialadder:   medialadder --ascii          draws in ASCII
 medialadder:   medialadder --svg            draws as SVG
+medialadder:   medialadder --html           draws a page for a browser, with what stands after each turn
 medialadder: Any of these words may stand beside them:
 medialadder:   --settles A-B                draws the settles from A to B alone, which are counted from 1
 medialadder:   --box NAME                   draws what concerns the box NAME alone; with more of them, what concerns one

@@ -5,4 +5,4 @@ use Rattle.mc_ladder_top.proofs.laws.words_ask_for_settles.Goals as goal
 
 pub returns : goal.returns
 unfolding defaults_fault walk_fault walked
-returns c = record { some = (refl, refl); one = (refl, refl); none = (refl, refl); order = (refl, refl); number = (refl, refl); again = (refl, refl) }
+returns c = record { some = (refl, refl); one = (refl, refl); html = (refl, refl); none = (refl, refl); order = (refl, refl); number = (refl, refl); again = (refl, refl) }

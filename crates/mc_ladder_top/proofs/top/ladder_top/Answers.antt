@@ -1,18 +1,20 @@
-use Rattle.std.proofs.Common.{inl, inr, rules}
+use Rattle.std.proofs.Common.{inl, inr}
 use Rattle.mc_top.proofs.Told.{not_failed}
-use Rattle.mc_ladder_top.specs.Words.{AreTaken}
 use Rattle.mc_ladder_top.specs.Requests.{asked}
 use Rattle.mc_ladder_top.proofs.EndsDrawing.{completes_drawing}
-use Rattle.mc_ladder_top.proofs.Taking.{asked_taken}
+use Rattle.mc_ladder_top.proofs.Taking.{asked_taken, not_taken}
 use Rattle.mc_ladder_top.proofs.top.ladder_top.Goals as goal
 
 pub returns-in_default-clause-complete : goal.returns-in_default-clause-complete
 returns-in_default-clause-complete g c = λ text takes told can no_read no_write. inr (inl c.give_up.ensures.status)
 
 pub returns-in_default-read-clause-complete : goal.returns-in_default-read-clause-complete
-returns-in_default-read-clause-complete g c =
-    let none : AreTaken c.args.words.items → ⊥ = search rules in
-    λ text takes told can no_read no_write. absurd (none takes)
+returns-in_default-read-clause-complete g c = λ text takes told can no_read no_write.
+    absurd (not_taken c.args.words.items c.deref.result.now c.in-Ok.read c.deref.ensures.value c.in_default-read.is c.in-Ok.ensures.none takes)
+
+pub returns-in_default-read-clause-usage : goal.returns-in_default-read-clause-usage
+returns-in_default-read-clause-usage g c = λ due.
+    not_taken c.args.words.items c.deref.result.now c.in-Ok.read c.deref.ensures.value c.in_default-read.is c.in-Ok.ensures.none
 
 pub returns-clause-complete : goal.returns-clause-complete
 returns-clause-complete g c = λ text takes told can no_read no_write.

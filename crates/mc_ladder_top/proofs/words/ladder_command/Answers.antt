@@ -22,15 +22,20 @@ is_helpless old new e = ap app_of_fields e
 abbrev bare : App
 bare = helpless (unnamed (new_app (codes "medialadder")))
 
+abbrev flags : App
+flags = with_rule (with_rule (with_rule bare (flag (codes "ascii"))) (flag (codes "svg"))) (flag (codes "html"))
+
 pub returns : goal.returns
 returns c =
-    let ascii : rule_of c.action-ascii.result ≡ flag (codes "ascii") = search rules in
-    let svg : rule_of c.action-svg.result ≡ flag (codes "svg") = search rules in
-    let settles : rule_of c.action-settles.result ≡ valued (codes "settles") = search rules in
-    let boxes : rule_of c.action-boxes.result ≡ valued (codes "box") = search rules in
+    let ascii : rule_of c.flag-ascii.result ≡ flag (codes "ascii") = c.flag-ascii.ensures.rule in
+    let svg : rule_of c.flag-svg.result ≡ flag (codes "svg") = c.flag-svg.ensures.rule in
+    let html : rule_of c.flag-html.result ≡ flag (codes "html") = c.flag-html.ensures.rule in
+    let settles : rule_of c.valued-settles.result ≡ valued (codes "settles") = c.valued-settles.ensures.rule in
+    let boxes : rule_of c.valued-boxes.result ≡ valued (codes "box") = c.valued-boxes.ensures.rule in
     let begun : app_of c.disable_help_flag.result ≡ bare = is_helpless _ _ c.disable_help_flag.ensures
-    ∙ ap helpless (is_unnamed _ _ c.no_binary_name.ensures ∙ ap unnamed c.new-5.ensures.app) in
+    ∙ ap helpless (is_unnamed _ _ c.no_binary_name.ensures ∙ ap unnamed c.new.ensures.app) in
     let one : app_of c.in_ok-arg.field-0 ≡ with_rule bare (flag (codes "ascii")) = c.in_ok-arg.ensures.shape (search rules) ∙ ap₂ with_rule begun ascii in
     let two : app_of c.in_ok-arg-2.field-0 ≡ with_rule (with_rule bare (flag (codes "ascii"))) (flag (codes "svg")) = c.in_ok-arg-2.ensures.shape (search rules) ∙ ap₂ with_rule one svg in
-    let three : app_of c.in_ok-arg-3.field-0 ≡ with_rule (with_rule (with_rule bare (flag (codes "ascii"))) (flag (codes "svg"))) (valued (codes "settles")) = c.in_ok-arg-3.ensures.shape (search rules) ∙ ap₂ with_rule two settles in
-    IfOk-weaker c.arg-4.result _ _ (λ r h. h.shape (search rules) ∙ ap₂ with_rule three boxes) c.arg-4.ensures
+    let three : app_of c.in_ok-arg-3.field-0 ≡ flags = c.in_ok-arg-3.ensures.shape (search rules) ∙ ap₂ with_rule two html in
+    let four : app_of c.in_ok-arg-4.field-0 ≡ with_rule flags (valued (codes "settles")) = c.in_ok-arg-4.ensures.shape (search rules) ∙ ap₂ with_rule three settles in
+    IfOk-weaker c.arg-5.result _ _ (λ r h. h.shape (search rules) ∙ ap₂ with_rule four boxes) c.arg-5.ensures
