@@ -9,6 +9,7 @@ use Rattle.mc_script.specs.declared.command.JournalLine.{JournalLine}
 use Rattle.mc_script.specs.declared.command.JournalLine.TheVariants.{Turn as Made, Settled}
 use Rattle.mc_view.specs.declared.PathView.{PathView}
 use Rattle.mc_ladder_choice.specs.declared.choice.Span.{Span}
+use Rattle.mc_ladder_choice.specs.declared.count.Count.{Count}
 use Rattle.mc_ladder_choice.specs.Boxes.{is_among, path_boxes, turn_boxes}
 use Rattle.mc_ladder_choice.specs.Entries.{Entry, entries_of}
 
@@ -41,10 +42,12 @@ abbrev pub takes_line : ChoiceState → WorldState → JournalLine → Bool
 takes_line choice world (Made turn) = concerns choice (turn_boxes world turn)
 takes_line choice world Settled = true
 
--- an entry is drawn where its settle is, which is the next one that ends
+-- a line after so many others is drawn where its settle is, which is the next one that ends
+abbrev pub takes : ChoiceState → WorldState → Count → JournalLine → Bool
+takes choice world count line = is_within choice.settles (count.settles + 1) && takes_line choice world line
+
 abbrev pub is_chosen : ChoiceState → Entry → Bool
-is_chosen choice entry =
-    is_within choice.settles (entry.count.settles + 1) && takes_line choice entry.world entry.line
+is_chosen choice entry = takes choice entry.world entry.count entry.line
 
 -- the entries of a journal that are drawn, in their order
 abbrev pub chosen : ChoiceState → WorldState → List JournalLine → List Entry

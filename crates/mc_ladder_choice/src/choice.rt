@@ -3,8 +3,7 @@
 ghost use Rattle.std.specs.Prelude.{◌≡◌, ◌+◌, ◌<◌, ◌^◌, ◌++◌, if◌then◌else◌, [], ◌∷◌, filter, IfOk, OnOk};
 ghost use Rattle.std.specs.List.{list_any};
 ghost use Rattle.mc_ladder_choice.specs.Boxes.{is_among};
-ghost use Rattle.mc_ladder_choice.specs.Choices.{concerns, is_chosen, is_of_all_boxes, is_whole, is_within, shown_paths, takes_line, takes_path};
-ghost use Rattle.mc_ladder_choice.specs.Entries.{entry_at};
+ghost use Rattle.mc_ladder_choice.specs.Choices.{concerns, is_of_all_boxes, is_whole, is_within, shown_paths, takes, takes_line, takes_path};
 
 use crate::boxes::{is_among, path_boxes, turn_boxes};
 use crate::count::Count;
@@ -87,7 +86,7 @@ impl Choice {
         line: &JournalLine,
     ) -> Result<bool, AllocError>
         requires { count.settles + 1 < 2 ^ 32 }
-        ensures { IfOk result (λ takes. takes ≡ is_chosen self.now (entry_at world.now count line.now)) }
+        ensures { IfOk result (λ drawn. drawn ≡ takes self.now world.now count line.now) }
     {
         if !is_within(self.settles, count.settles + 1) {
             return Ok(false);

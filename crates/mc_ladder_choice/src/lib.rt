@@ -3,6 +3,7 @@
 
 mod boxes;
 mod choice;
+mod closings;
 mod count;
 mod making;
 mod survey;
@@ -10,5 +11,5 @@ mod survey;
 pub use boxes::{add_new, is_among, path_boxes};
 pub use choice::{Choice, Span};
 pub use count::Count;
-pub use making::{make, pass};
+pub use making::{make, make_noted, pass};
 pub use survey::{Survey, look_through};

@@ -2,28 +2,31 @@
 
 ghost use Rattle.std.specs.Prelude.{◌≡◌, ◌-◌, ◌+◌, ◌<◌, ◌^◌, ◌&&◌, if◌then◌else◌, [], length, IfOk, OnOk};
 ghost use Rattle.std.specs.List.{flat_map};
+ghost use Rattle.mc_cause.specs.CauseLaws.{NoneCloses};
 ghost use Rattle.mc_ladder_choice.specs.Boxes.{path_boxes, with_all_new};
 ghost use Rattle.mc_ladder_choice.specs.Choices.{is_chosen, is_of_all_boxes};
-ghost use Rattle.mc_ladder_choice.specs.Entries.{entry_at};
-ghost use Rattle.mc_ladder_choice.specs.Surveys.{entry_boxes, is_turn, line_boxes, survey_of};
+ghost use Rattle.mc_ladder_choice.specs.Surveys.{drawn_boxes, is_turn, line_boxes, survey_of};
 
 use crate::boxes::{add_all_new, path_boxes, turn_boxes};
 use crate::choice::Choice;
+use crate::closings::{mark_taken, unmarked};
 use crate::count::Count;
 use crate::making::pass;
+use mc_cause::Whys;
 use mc_script::JournalLine;
 use mc_view::PathView;
 use mc_world::World;
 use std::alloc::{AllocError, Global};
 use std::marker::Model;
 
-/// How many turns of a journal are drawn, and how many it has; and the boxes that are asked for, and after them those that
-/// take part in what is drawn with them.
+/// How many turns of a journal are drawn, and how many it has; the boxes that are asked for, and after them those that take
+/// part in what is drawn with them; and of each turn, by its number from 1, whether a closed path that is drawn names it.
 #[derive(Drop)]
 pub struct Survey {
     pub drawn: u32,
     pub turns: u32,
     pub boxes: Vec<u32>,
+    pub closings: Vec<bool>,
 }
 
 impl Model for Survey {
@@ -31,7 +34,12 @@ impl Model for Survey {
 
     ghost Value = { SurveyState };
 
-    ghost view = { λ s. record { drawn = s.drawn; turns = s.turns; boxes = s.boxes.items } };
+    ghost view = { λ s. record {
+      drawn = s.drawn;
+      turns = s.turns;
+      boxes = s.boxes.items;
+      closings = s.closings.items;
+    } };
 }
 
 // Whether a line is a turn.
@@ -101,16 +109,15 @@ fn add_line_boxes(
 }
 
 // The same, where boxes are asked for.
-fn add_entry_boxes(
+fn add_drawn_boxes(
     alloc: Global,
     choice: &Choice,
     world: &World,
-    count: Count,
     line: &JournalLine,
     boxes: &mut Vec<u32>,
 ) -> Result<(), AllocError>
     ensures { OnOk result (boxes.new.items
-        ≡ with_all_new boxes.old.items (entry_boxes choice.now (entry_at world.now count line.now))) }
+        ≡ with_all_new boxes.old.items (drawn_boxes choice.now world.now line.now)) }
 {
     if choice.is_of_all_boxes() {
         return Ok(());
@@ -124,43 +131,48 @@ fn add_taken_boxes(
     takes: bool,
     choice: &Choice,
     world: &World,
-    count: Count,
     line: &JournalLine,
     boxes: &mut Vec<u32>,
 ) -> Result<(), AllocError>
     ensures { OnOk result (boxes.new.items ≡ with_all_new boxes.old.items
-        (if takes then entry_boxes choice.now (entry_at world.now count line.now) else [])) }
+        (if takes then drawn_boxes choice.now world.now line.now else [])) }
 {
     if takes {
-        add_entry_boxes(alloc, choice, world, count, line, boxes)
+        add_drawn_boxes(alloc, choice, world, line, boxes)
     } else {
         Ok(())
     }
 }
 
-/// Looks through a journal, from the first world of a network on, for what is drawn of it.
+/// Looks through a journal, from the first world of a network on, for what is drawn of it. No slot of the world waits for a
+/// closeack, as in each first world.
 pub fn look_through(
     alloc: Global,
     choice: &Choice,
     world: &mut World,
     journal: &[JournalLine],
 ) -> Result<Survey, AllocError>
-    requires { length journal.now < 2 ^ 32 - 1 }
+    requires few { length journal.now < 2 ^ 32 - 1 }
+    requires none { NoneCloses world.old }
     ensures { IfOk result (λ found. found ≡ survey_of choice.now world.old journal.now) }
 {
     let mut count = Count::new();
     let mut drawn = 0;
     let mut boxes = Vec::from_slice(alloc, &choice.boxes)?;
+    let mut closings = unmarked(alloc, journal.len() + 1)?;
+    let mut whys = Whys::new(alloc, world)?;
     for line in journal {
         let takes = choice.takes(alloc, world, count, line)?;
         drawn += drawn_by(takes, line);
-        add_taken_boxes(alloc, takes, choice, world, count, line, &mut boxes)?;
-        pass(world, line)?;
+        add_taken_boxes(alloc, takes, choice, world, line, &mut boxes)?;
+        mark_taken(alloc, takes, choice, world, &whys, line, &mut closings)?;
+        pass(world, &mut whys, line)?;
         count = count.after(line);
     }
     Ok(Survey {
         drawn,
         turns: count.turns,
         boxes,
+        closings,
     })
 }
