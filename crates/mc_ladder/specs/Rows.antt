@@ -14,6 +14,7 @@ use Rattle.mc_ladder.specs.declared.arrow.Arrow.{Arrow}
 use Rattle.mc_ladder.specs.declared.glyph.Glyph.{Glyph}
 use Rattle.mc_ladder.specs.declared.glyph.Glyph.TheVariants.{Square, Down, Up}
 use Rattle.mc_ladder.specs.declared.glyph.Style.{Style}
+use Rattle.mc_ladder.specs.declared.margin.Label.{Label}
 use Rattle.mc_ladder.specs.declared.mark.Mark.{Mark}
 use Rattle.mc_ladder.specs.declared.taking.Taking.{Taking}
 use Rattle.mc_ladder.specs.Arrows.{arrow_lanes}
@@ -43,19 +44,19 @@ take_tail frame names world taken =
     ++ 32 ∷ (signal_text names world taken.signal taken.dropped ++ 10 ∷ [])
 
 -- the number, and the arrow
-abbrev pub take_lanes : Style → List ℕ → WorldState → Taking → (number : ℕ) → List ℕ
-take_lanes style columns world taken number =
-    numbered style number
+abbrev pub take_lanes : Style → List ℕ → WorldState → Taking → Label → List ℕ
+take_lanes style columns world taken label =
+    numbered style label
     ++ arrow_lanes style (length columns) (arrow_of columns world taken) (signal_word taken.signal)
 
-abbrev pub take_row : FrameState → NameLists → WorldState → Taking → (number : ℕ) → List ℕ
-take_row frame names world taken number =
-    take_lanes frame.style frame.columns world taken number ++ take_tail frame names world taken
+abbrev pub take_row : FrameState → NameLists → WorldState → Taking → Label → List ℕ
+take_row frame names world taken label =
+    take_lanes frame.style frame.columns world taken label ++ take_tail frame names world taken
 
 -- where no signal waits, which no turn of a good journal takes, there is no row
-abbrev pub taken_row : FrameState → NameLists → WorldState → Option Taking → (number : ℕ) → List ℕ
-taken_row frame names world None number = []
-taken_row frame names world (Some taken) number = take_row frame names world taken number
+abbrev pub taken_row : FrameState → NameLists → WorldState → Option Taking → Label → List ℕ
+taken_row frame names world None label = []
+taken_row frame names world (Some taken) label = take_row frame names world taken label
 
 -- ---- any other turn
 
@@ -101,13 +102,13 @@ abbrev pub mark_of : List ℕ → Turn → Mark
 mark_of columns turn = record { at = column_of columns turn.who; glyph = mark_glyph_of turn.event }
 
 -- the number, and the mark
-abbrev pub command_lanes : Style → List ℕ → Turn → (number : ℕ) → List ℕ
-command_lanes style columns turn number =
-    numbered style number ++ mark_lanes style (length columns) (mark_of columns turn) (command_word turn.event)
+abbrev pub command_lanes : Style → List ℕ → Turn → Label → List ℕ
+command_lanes style columns turn label =
+    numbered style label ++ mark_lanes style (length columns) (mark_of columns turn) (command_word turn.event)
 
-abbrev pub command_row : FrameState → NameLists → Turn → (state : List ℕ) → (number : ℕ) → List ℕ
-command_row frame names turn state number =
-    command_lanes frame.style frame.columns turn number ++ command_tail frame names turn state
+abbrev pub command_row : FrameState → NameLists → Turn → (state : List ℕ) → Label → List ℕ
+command_row frame names turn state label =
+    command_lanes frame.style frame.columns turn label ++ command_tail frame names turn state
 
 -- ---- the state of a program
 
@@ -128,13 +129,13 @@ state_word blocks who (Some at) = state_among blocks who at
 
 -- ---- a turn
 
-abbrev pub row_by : FrameState → NameLists → List BlockState → WorldState → Turn → Event → (number : ℕ) → List ℕ
-row_by frame names blocks world turn (Take local) number =
-    taken_row frame names world (taking_of world turn.who local) number
-row_by frame names blocks world turn Shift number =
-    command_row frame names turn (state_word blocks turn.who (state_at (next_world world turn) turn.who)) number
-row_by frame names blocks world turn event number = command_row frame names turn [] number
+abbrev pub row_by : FrameState → NameLists → List BlockState → WorldState → Turn → Event → Label → List ℕ
+row_by frame names blocks world turn (Take local) label =
+    taken_row frame names world (taking_of world turn.who local) label
+row_by frame names blocks world turn Shift label =
+    command_row frame names turn (state_word blocks turn.who (state_at (next_world world turn) turn.who)) label
+row_by frame names blocks world turn event label = command_row frame names turn [] label
 
--- the row of a turn of a world, with the turn's number
-abbrev pub turn_row : FrameState → NameLists → List BlockState → WorldState → Turn → (number : ℕ) → List ℕ
-turn_row frame names blocks world turn number = row_by frame names blocks world turn turn.event number
+-- the row of a turn of a world, with the turn's label
+abbrev pub turn_row : FrameState → NameLists → List BlockState → WorldState → Turn → Label → List ℕ
+turn_row frame names blocks world turn label = row_by frame names blocks world turn turn.event label

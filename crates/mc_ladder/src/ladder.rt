@@ -1,17 +1,21 @@
 // A whole ladder.
 
 ghost use Rattle.std.specs.Prelude.{◌≡◌, ◌+◌, ◌-◌, ◌<◌, ◌^◌, ◌++◌, if◌then◌else◌, [], length, IfOk, OnOk};
-ghost use Rattle.mc_ladder.specs.Ladders.{count_line, drawn_frame, heads_due, ladder_text, line_rows, rows_of, within_after, world_after};
-ghost use Rattle.mc_ladder_choice.specs.Choices.{chosen, is_chosen};
-ghost use Rattle.mc_ladder_choice.specs.Entries.{entry_at};
+ghost use Rattle.mc_ladder.specs.Ladders.{count_line, drawn_frame, heads_due, label_of, ladder_text, line_rows, rows_of, within_after, world_after};
+ghost use Rattle.mc_cause.specs.CauseLaws.{NoneCloses};
+ghost use Rattle.mc_cause.specs.Carried.{AreOfSlots};
+ghost use Rattle.mc_ladder_choice.specs.Choices.{chosen, takes};
+ghost use Rattle.mc_ladder_choice.specs.Noted.{NotesLine};
 ghost use Rattle.mc_ladder_choice.specs.Surveys.{survey_of};
 
 use crate::column::drawn_columns;
 use crate::frame::Frame;
 use crate::glyph::Style;
 use crate::heads::put_heads;
+use crate::margin::{Label, is_marked};
 use crate::settle::put_settle;
 use crate::turn::put_turn;
+use mc_cause::Whys;
 use mc_ladder_choice::{Choice, Count, Survey, pass};
 use mc_program_lines::Block;
 use mc_script::JournalLine;
@@ -39,6 +43,16 @@ fn put_due_heads(
     }
 }
 
+// The label of a turn, by its number.
+fn label_of(closings: &[bool], number: u32) -> Label
+    ensures { result ≡ label_of closings.now number }
+{
+    Label {
+        number,
+        closing: is_marked(closings, number),
+    }
+}
+
 // How many turns of a settle are drawn, after one line more.
 fn within_after(within: u32, line: &JournalLine) -> u32
     requires { within + 1 < 2 ^ 32 }
@@ -50,14 +64,16 @@ fn within_after(within: u32, line: &JournalLine) -> u32
     }
 }
 
-// Appends what is drawn for a line of a journal, and makes its turn.
+// Appends what is drawn for a line of a journal, makes its turn, and notes why slots are closed.
 fn put_rows(
     alloc: Global,
     frame: &Frame,
     names: &Names,
     blocks: &[Block],
     choice: &Choice,
+    closings: &[bool],
     world: &mut World,
+    whys: &mut Whys,
     count: Count,
     within: u32,
     line: &JournalLine,
@@ -65,9 +81,13 @@ fn put_rows(
 ) -> Result<(), AllocError>
     requires turns { count.turns + 1 < 2 ^ 32 }
     requires settles { count.settles + 1 < 2 ^ 32 }
+    requires few { whys.old.turns + 1 < 2 ^ 32 }
+    requires slots { AreOfSlots world.old whys.old }
     ensures rows { OnOk result (out.new.items
-        ≡ out.old.items ++ line_rows frame.now names.now blocks.now choice.now world.old count within line.now) }
+        ≡ out.old.items ++ line_rows frame.now names.now blocks.now choice.now closings.now world.old whys.old.whys count
+        within line.now) }
     ensures made { OnOk result (world.new ≡ world_after world.old line.now) }
+    ensures notes { OnOk result (NotesLine world.old world.new line.now whys.old whys.new) }
 {
     match line {
         JournalLine::Turn(turn) => {
@@ -78,14 +98,17 @@ fn put_rows(
                 names,
                 blocks,
                 world,
+                whys,
                 *turn,
-                count.turns + 1,
+                label_of(closings, count.turns + 1),
                 out,
             )
         }
         JournalLine::Settled => {
             let views = choice.shown_paths(alloc, world)?;
-            put_settle(alloc, frame, names, world, &views, count.settles + 1, out)
+            let all = whys.all(alloc)?;
+            let number = count.settles + 1;
+            put_settle(alloc, frame, names, world, &all, &views, number, out)
         }
     }
 }
@@ -97,7 +120,9 @@ fn put_chosen(
     names: &Names,
     blocks: &[Block],
     choice: &Choice,
+    closings: &[bool],
     world: &mut World,
+    whys: &mut Whys,
     count: Count,
     within: u32,
     line: &JournalLine,
@@ -106,20 +131,24 @@ fn put_chosen(
     requires turns { count.turns + 1 < 2 ^ 32 }
     requires settles { count.settles + 1 < 2 ^ 32 }
     requires within { within + 1 < 2 ^ 32 }
+    requires few { whys.old.turns + 1 < 2 ^ 32 }
+    requires slots { AreOfSlots world.old whys.old }
     ensures rows { OnOk result (out.new.items ≡ out.old.items
-        ++ (if is_chosen choice.now (entry_at world.old count line.now)
-        then line_rows frame.now names.now blocks.now choice.now world.old count within line.now else [])) }
+        ++ (if takes choice.now world.old count line.now
+        then line_rows frame.now names.now blocks.now choice.now closings.now world.old whys.old.whys count within line.now
+        else [])) }
     ensures made { OnOk result (world.new ≡ world_after world.old line.now) }
-    ensures within { IfOk result (λ next. next ≡ (if is_chosen choice.now (entry_at world.old count line.now)
+    ensures notes { OnOk result (NotesLine world.old world.new line.now whys.old whys.new) }
+    ensures within { IfOk result (λ next. next ≡ (if takes choice.now world.old count line.now
         then within_after within line.now else within)) }
 {
     if choice.takes(alloc, world, count, line)? {
         put_rows(
-            alloc, frame, names, blocks, choice, world, count, within, line, out,
+            alloc, frame, names, blocks, choice, closings, world, whys, count, within, line, out,
         )?;
         Ok(within_after(within, line))
     } else {
-        pass(world, line)?;
+        pass(world, whys, line)?;
         Ok(within)
     }
 }
@@ -131,19 +160,23 @@ fn put_lines(
     names: &Names,
     blocks: &[Block],
     choice: &Choice,
+    closings: &[bool],
     world: &mut World,
     journal: &[JournalLine],
     out: &mut Vec<u8>,
 ) -> Result<(), AllocError>
-    requires { length journal.now < 2 ^ 32 - 1 }
+    requires few { length journal.now < 2 ^ 32 - 1 }
+    requires none { NoneCloses world.old }
     ensures { OnOk result (out.new.items ≡ out.old.items
-        ++ rows_of frame.now names.now blocks.now choice.now 0 (chosen choice.now world.old journal.now)) }
+        ++ rows_of frame.now names.now blocks.now choice.now closings.now 0 (chosen choice.now world.old journal.now)) }
 {
     let mut count = Count::new();
     let mut within = 0;
+    let mut whys = Whys::new(alloc, world)?;
     for line in journal {
         within = put_chosen(
-            alloc, frame, names, blocks, choice, world, count, within, line, out,
+            alloc, frame, names, blocks, choice, closings, world, &mut whys, count, within, line,
+            out,
         )?;
         count = count.after(line);
     }
@@ -184,7 +217,7 @@ fn drawn_frame(
 
 /// The ladder of what is drawn of a journal, of which this was found before: the rows of its turns and settles, from the
 /// first world of a network on, whose boxes, slots, codecs and told words have these names, and whose programs these
-/// blocks declare.
+/// blocks declare. No slot of the world waits for a closeack, as in each first world.
 pub fn draw_ladder(
     alloc: Global,
     style: Style,
@@ -196,6 +229,7 @@ pub fn draw_ladder(
     journal: &[JournalLine],
 ) -> Result<Vec<u8>, AllocError>
     requires few { length journal.now < 2 ^ 32 - 1 }
+    requires none { NoneCloses world.old }
     requires found { found.now ≡ survey_of choice.now world.old journal.now }
     ensures { IfOk result (λ text. text.items
         ≡ ladder_text style names.now blocks.now world.old choice.now journal.now) }
@@ -204,7 +238,15 @@ pub fn draw_ladder(
     let mut out = Vec::new(alloc);
     put_count(alloc, choice, found, &mut out)?;
     put_lines(
-        alloc, &frame, names, blocks, choice, world, journal, &mut out,
+        alloc,
+        &frame,
+        names,
+        blocks,
+        choice,
+        &found.closings,
+        world,
+        journal,
+        &mut out,
     )?;
     Ok(out)
 }

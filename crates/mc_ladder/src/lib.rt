@@ -23,6 +23,7 @@ pub use column::{column_of, columns_of, drawn_columns};
 pub use frame::Frame;
 pub use glyph::{Glyph, Style};
 pub use ladder::draw_ladder;
+pub use margin::{Label, is_marked};
 pub use mark::Mark;
 pub use mc_ladder_choice::make;
 pub use path::{Ends, ends_of, is_stop, path_columns};

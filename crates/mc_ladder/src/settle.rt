@@ -1,10 +1,11 @@
-// A settle: between two rules, each path, and who hears what on it.
+// A settle: between two rules, each path, and who hears what on it, or which turn closed it.
 
 ghost use Rattle.std.specs.Prelude.{◌≡◌, ◌++◌, ◌∷◌, [], codes, IfOk, OnOk};
 ghost use Rattle.std.specs.Fmt.{decimal};
 ghost use Rattle.std.specs.List.{flat_map};
-ghost use Rattle.mc_ladder.specs.Settling.{bare_row, hears_rows, path_row, path_rows, route_lanes, rule_row, settle_rows, titled_rule};
+ghost use Rattle.mc_ladder.specs.Settling.{bare_row, end_rows, path_row, path_rows, route_lanes, rule_row, settle_rows, titled_rule};
 ghost use Rattle.mc_table.specs.Shown.{end_word, hearing_line, view_line};
+ghost use Rattle.mc_table.specs.Whys.{why_line};
 ghost use Rattle.mc_table.specs.Words.{flow_word, line_of, medium_word};
 
 use crate::frame::Frame;
@@ -14,7 +15,7 @@ use crate::path::{ends_of, path_columns, put_path};
 use crate::place::{codec_word, slot_place};
 use mc_script::goal_word;
 use mc_signal::Medium;
-use mc_table::put_line;
+use mc_table::{put_line, why_at, why_word};
 use mc_text::Names;
 use mc_view::{EndView, PathView};
 use mc_world::World;
@@ -83,6 +84,21 @@ fn put_hears_line(
     )
 }
 
+// Appends the line that tells why an end's slot is closed.
+fn put_why_line(
+    alloc: Global,
+    names: &Names,
+    whys: &[Option<u32>],
+    end: &EndView,
+    out: &mut Vec<u8>,
+) -> Result<(), AllocError>
+    ensures { OnOk result (out.new.items ≡ out.old.items ++ why_line names.now whys.now end.now) }
+{
+    let place = end_word(alloc, names, end)?;
+    let turn = why_word(alloc, why_at(whys, end.slot))?;
+    put_line(b"why", &[place.as_slice(), turn.as_slice()], out)
+}
+
 // Appends a path over the columns.
 fn put_route(
     alloc: Global,
@@ -130,21 +146,41 @@ fn put_hears_row(
     put_hears_line(alloc, names, end, out)
 }
 
-// Appends the rows with what the ends of a path hear, where it flows.
-fn put_hears_rows(
+// Appends a row with the turn that closed an end.
+fn put_why_row(
     alloc: Global,
     frame: &Frame,
     names: &Names,
+    whys: &[Option<u32>],
+    end: &EndView,
+    out: &mut Vec<u8>,
+) -> Result<(), AllocError>
+    ensures { OnOk result (out.new.items ≡ out.old.items ++ bare_row frame.now (why_line names.now whys.now end.now)) }
+{
+    put_cells(frame.style, Glyph::Blank, MARGIN, out)?;
+    put_bare(frame.style, frame.columns.len(), out)?;
+    put_why_line(alloc, names, whys, end, out)
+}
+
+// Appends the rows with what is told of both ends of a path.
+fn put_end_rows(
+    alloc: Global,
+    frame: &Frame,
+    names: &Names,
+    whys: &[Option<u32>],
     view: &PathView,
     out: &mut Vec<u8>,
 ) -> Result<(), AllocError>
-    ensures { OnOk result (out.new.items ≡ out.old.items ++ hears_rows frame.now names.now view.now.flowing view.now) }
+    ensures { OnOk result (out.new.items
+        ≡ out.old.items ++ end_rows frame.now names.now view.now.flowing whys.now view.now) }
 {
-    if !view.flowing {
-        return Ok(());
+    if view.flowing {
+        put_hears_row(alloc, frame, names, &view.low, out)?;
+        put_hears_row(alloc, frame, names, &view.high, out)
+    } else {
+        put_why_row(alloc, frame, names, whys, &view.low, out)?;
+        put_why_row(alloc, frame, names, whys, &view.high, out)
     }
-    put_hears_row(alloc, frame, names, &view.low, out)?;
-    put_hears_row(alloc, frame, names, &view.high, out)
 }
 
 // Appends the rows of a path.
@@ -153,13 +189,15 @@ fn put_path_rows(
     frame: &Frame,
     names: &Names,
     world: &World,
+    whys: &[Option<u32>],
     view: &PathView,
     out: &mut Vec<u8>,
 ) -> Result<(), AllocError>
-    ensures { OnOk result (out.new.items ≡ out.old.items ++ path_rows frame.now names.now world.now view.now) }
+    ensures { OnOk result (out.new.items
+        ≡ out.old.items ++ path_rows frame.now names.now world.now whys.now view.now) }
 {
     put_path_row(alloc, frame.style, &frame.columns, names, world, view, out)?;
-    put_hears_rows(alloc, frame, names, view, out)
+    put_end_rows(alloc, frame, names, whys, view, out)
 }
 
 // Appends the rows of paths, in their order.
@@ -168,14 +206,15 @@ fn put_all_rows(
     frame: &Frame,
     names: &Names,
     world: &World,
+    whys: &[Option<u32>],
     views: &[PathView],
     out: &mut Vec<u8>,
 ) -> Result<(), AllocError>
     ensures { OnOk result (out.new.items
-        ≡ out.old.items ++ flat_map (path_rows frame.now names.now world.now) views.now) }
+        ≡ out.old.items ++ flat_map (path_rows frame.now names.now world.now whys.now) views.now) }
 {
     for view in views {
-        put_path_rows(alloc, frame, names, world, view, out)?;
+        put_path_rows(alloc, frame, names, world, whys, view, out)?;
     }
     Ok(())
 }
@@ -205,14 +244,15 @@ pub fn put_settle(
     frame: &Frame,
     names: &Names,
     world: &World,
+    whys: &[Option<u32>],
     views: &[PathView],
     number: u32,
     out: &mut Vec<u8>,
 ) -> Result<(), AllocError>
     ensures { OnOk result (out.new.items
-        ≡ out.old.items ++ settle_rows frame.now names.now world.now views.now number) }
+        ≡ out.old.items ++ settle_rows frame.now names.now world.now whys.now views.now number) }
 {
     put_title(alloc, frame, number, out)?;
-    put_all_rows(alloc, frame, names, world, views, out)?;
+    put_all_rows(alloc, frame, names, world, whys, views, out)?;
     put_end(frame, out)
 }

@@ -1,14 +1,17 @@
 // The row of a turn.
 
-ghost use Rattle.std.specs.Prelude.{◌≡◌, ◌++◌, [], slice_index_or, OnOk};
+ghost use Rattle.std.specs.Prelude.{◌≡◌, ◌+◌, ◌<◌, ◌^◌, ◌++◌, [], slice_index_or, OnOk};
+ghost use Rattle.mc_cause.specs.Carried.{AreOfSlots};
 ghost use Rattle.mc_ladder.specs.Rows.{arrow_of, command_lanes, command_rest, command_row, command_tail, command_word, mark_glyph_of, mark_of, next_world, state_among, state_at, state_word, switch_text, take_lanes, take_row, take_tail, taken_row, turn_row};
+ghost use Rattle.mc_ladder_choice.specs.Noted.{NotesLine};
 ghost use Rattle.mc_script.specs.Meaning.{switch_word};
+ghost use Rattle.mc_script.specs.declared.command.JournalLine.TheVariants.{Turn as Made};
 
 use crate::arrow::{Arrow, put_arrow};
 use crate::column::column_of;
 use crate::frame::Frame;
 use crate::glyph::{Glyph, Style};
-use crate::margin::put_number;
+use crate::margin::{Label, put_number};
 use crate::mark::{Mark, put_mark};
 use crate::place::{
     box_word, place_of, place_word, put_box_place, put_take_place, slot_word, told_word,
@@ -16,7 +19,8 @@ use crate::place::{
 use crate::signal::{put_signal, put_word, signal_word};
 use crate::taking::{Taking, taking_of};
 use mc_box::{Change, Event, MediaChange, Turn};
-use mc_ladder_choice::make;
+use mc_cause::Whys;
+use mc_ladder_choice::make_noted;
 use mc_program_lines::Block;
 use mc_script::goal_word;
 use mc_text::Names;
@@ -63,13 +67,13 @@ fn put_take_lanes(
     columns: &[u32],
     world: &World,
     taken: &Taking,
-    number: u32,
+    label: Label,
     out: &mut Vec<u8>,
 ) -> Result<(), AllocError>
-    ensures { OnOk result (out.new.items ≡ out.old.items ++ take_lanes style columns.now world.now taken.now number) }
+    ensures { OnOk result (out.new.items ≡ out.old.items ++ take_lanes style columns.now world.now taken.now label) }
 {
     let arrow = arrow_of(columns, world, taken);
-    put_number(alloc, style, number, out)?;
+    put_number(alloc, style, label, out)?;
     put_arrow(style, columns.len(), arrow, signal_word(&taken.signal), out)
 }
 
@@ -80,20 +84,12 @@ fn put_take(
     names: &Names,
     world: &World,
     taken: &Taking,
-    number: u32,
+    label: Label,
     out: &mut Vec<u8>,
 ) -> Result<(), AllocError>
-    ensures { OnOk result (out.new.items ≡ out.old.items ++ take_row frame.now names.now world.now taken.now number) }
+    ensures { OnOk result (out.new.items ≡ out.old.items ++ take_row frame.now names.now world.now taken.now label) }
 {
-    put_take_lanes(
-        alloc,
-        frame.style,
-        &frame.columns,
-        world,
-        taken,
-        number,
-        out,
-    )?;
+    put_take_lanes(alloc, frame.style, &frame.columns, world, taken, label, out)?;
     put_take_tail(alloc, frame, names, world, taken, out)
 }
 
@@ -104,13 +100,13 @@ fn put_taken(
     names: &Names,
     world: &World,
     taken: Option<Taking>,
-    number: u32,
+    label: Label,
     out: &mut Vec<u8>,
 ) -> Result<(), AllocError>
-    ensures { OnOk result (out.new.items ≡ out.old.items ++ taken_row frame.now names.now world.now taken number) }
+    ensures { OnOk result (out.new.items ≡ out.old.items ++ taken_row frame.now names.now world.now taken label) }
 {
     match taken {
-        Some(taken) => put_take(alloc, frame, names, world, &taken, number, out),
+        Some(taken) => put_take(alloc, frame, names, world, &taken, label, out),
         None => Ok(()),
     }
 }
@@ -226,12 +222,12 @@ fn put_command_lanes(
     style: Style,
     columns: &[u32],
     turn: Turn,
-    number: u32,
+    label: Label,
     out: &mut Vec<u8>,
 ) -> Result<(), AllocError>
-    ensures { OnOk result (out.new.items ≡ out.old.items ++ command_lanes style columns.now turn number) }
+    ensures { OnOk result (out.new.items ≡ out.old.items ++ command_lanes style columns.now turn label) }
 {
-    put_number(alloc, style, number, out)?;
+    put_number(alloc, style, label, out)?;
     put_mark(
         style,
         columns.len(),
@@ -248,12 +244,12 @@ fn put_command(
     names: &Names,
     turn: Turn,
     state: &[u8],
-    number: u32,
+    label: Label,
     out: &mut Vec<u8>,
 ) -> Result<(), AllocError>
-    ensures { OnOk result (out.new.items ≡ out.old.items ++ command_row frame.now names.now turn state.now number) }
+    ensures { OnOk result (out.new.items ≡ out.old.items ++ command_row frame.now names.now turn state.now label) }
 {
-    put_command_lanes(alloc, frame.style, &frame.columns, turn, number, out)?;
+    put_command_lanes(alloc, frame.style, &frame.columns, turn, label, out)?;
     put_command_tail(frame, names, turn, state, out)
 }
 
@@ -303,35 +299,39 @@ pub fn state_word(blocks: &[Block], who: u32, at: Option<u32>) -> &[u8]
 
 // ---- a turn
 
-// Appends the row of a turn, and makes the turn.
+// Appends the row of a turn, makes the turn, and notes why slots are closed.
 pub fn put_turn(
     alloc: Global,
     frame: &Frame,
     names: &Names,
     blocks: &[Block],
     world: &mut World,
+    whys: &mut Whys,
     turn: Turn,
-    number: u32,
+    label: Label,
     out: &mut Vec<u8>,
 ) -> Result<(), AllocError>
+    requires few { whys.old.turns + 1 < 2 ^ 32 }
+    requires slots { AreOfSlots world.old whys.old }
     ensures row { OnOk result (out.new.items
-        ≡ out.old.items ++ turn_row frame.now names.now blocks.now world.old turn number) }
+        ≡ out.old.items ++ turn_row frame.now names.now blocks.now world.old turn label) }
     ensures made { OnOk result (world.new ≡ next_world world.old turn) }
+    ensures notes { OnOk result (NotesLine world.old world.new (Made turn) whys.old whys.new) }
 {
     match turn.event {
         Event::Take(local) => {
             let taken = taking_of(world, turn.who, local);
-            put_taken(alloc, frame, names, world, taken, number, out)?;
-            make(world, turn)
+            put_taken(alloc, frame, names, world, taken, label, out)?;
+            make_noted(world, whys, turn)
         }
         Event::Shift => {
-            make(world, turn)?;
+            make_noted(world, whys, turn)?;
             let state = state_word(blocks, turn.who, state_at(world, turn.who));
-            put_command(alloc, frame, names, turn, state, number, out)
+            put_command(alloc, frame, names, turn, state, label, out)
         }
         _ => {
-            put_command(alloc, frame, names, turn, b"", number, out)?;
-            make(world, turn)
+            put_command(alloc, frame, names, turn, b"", label, out)?;
+            make_noted(world, whys, turn)
         }
     }
 }
