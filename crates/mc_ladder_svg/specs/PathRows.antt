@@ -1,9 +1,10 @@
--- A path at a settle: its line, what its ends are for, and who hears what.
-use Rattle.std.specs.Prelude.{ℕ, ◌+◌, ◌-◌, ◌*◌, ◌==◌, ◌||◌, not, Bool, true, false, is_some, if◌then◌else◌, List, [], ◌∷◌, ◌++◌, codes, length}
+-- A path at a settle: its line, what its ends are for, and who hears what, or which turn closed it.
+use Rattle.std.specs.Prelude.{ℕ, ◌+◌, ◌-◌, ◌*◌, ◌==◌, ◌||◌, not, Bool, true, false, is_some, if◌then◌else◌, List, [], ◌∷◌, ◌++◌, codes, length, slice_index_or, Option, None}
 use Rattle.std.specs.Fmt.{decimal}
 use Rattle.std.specs.List.{concat}
 use Rattle.mc_model.specs.Worlds.{WorldState}
 use Rattle.mc_script.specs.Meaning.{goal_word, slot_name}
+use Rattle.mc_table.specs.Whys.{why_word}
 use Rattle.mc_table.specs.Words.{codec_word, flow_word, medium_word}
 use Rattle.mc_text.specs.NameLists.{NameLists}
 use Rattle.mc_view.specs.declared.EndView.{EndView}
@@ -32,7 +33,7 @@ goal_words names end = slot_name names end.who end.local ++ spaced (goal_word en
 abbrev pub goal_label : NameLists → Side → (x : ℕ) → EndView → List ℕ
 goal_label names side x end = text_beside (codes "o d") side x 10 (goal_words names end)
 
--- what an end hears, below it, where the path flows
+-- what an end hears, where the path flows
 abbrev pub hears_words : NameLists → EndView → List ℕ
 hears_words names end = codes "hears" ++ spaced (codec_word names end.hears)
 
@@ -41,23 +42,29 @@ abbrev pub hears_class : (heard : Bool) → List ℕ
 hears_class true = codes "o"
 hears_class false = codes "o d"
 
-abbrev pub hears_label : NameLists → (flowing : Bool) → Side → (x : ℕ) → EndView → List ℕ
-hears_label names true side x end = text_beside (hears_class (is_some end.hears)) side x 39 (hears_words names end)
-hears_label names false side x end = []
+-- from which turn the close came by which an end became closed, there, where the path doesn't
+abbrev pub why_words : List (Option ℕ) → EndView → List ℕ
+why_words whys end = codes "why" ++ spaced (why_word (slice_index_or whys end.slot None))
 
-abbrev pub end_labels_at : NameLists → (flowing : Bool) → Side → (x : ℕ) → EndView → List ℕ
-end_labels_at names flowing side x end = goal_label names side x end ++ hears_label names flowing side x end
+-- what is told of an end below it
+abbrev pub told_label : NameLists → (flowing : Bool) → List (Option ℕ) → Side → (x : ℕ) → EndView → List ℕ
+told_label names true whys side x end =
+    text_beside (hears_class (is_some end.hears)) side x 39 (hears_words names end)
+told_label names false whys side x end = text_beside (codes "o d") side x 39 (why_words whys end)
+
+abbrev pub end_labels_at : NameLists → (flowing : Bool) → List (Option ℕ) → Side → (x : ℕ) → EndView → List ℕ
+end_labels_at names flowing whys side x end = goal_label names side x end ++ told_label names flowing whys side x end
 
 -- the words of an end stand 10 px from the line of its box
-abbrev pub end_labels : NameLists → (flowing : Bool) → Side → (column : ℕ) → EndView → List ℕ
-end_labels names flowing side column end = end_labels_at names flowing side (beside side (x_of column) 10) end
+abbrev pub end_labels : NameLists → (flowing : Bool) → List (Option ℕ) → Side → (column : ℕ) → EndView → List ℕ
+end_labels names flowing whys side column end = end_labels_at names flowing whys side (beside side (x_of column) 10) end
 
-abbrev pub low_labels : NameLists → Ends → EndView → List ℕ
-low_labels names ends end = end_labels names ends.flowing (low_side ends) ends.low end
+abbrev pub low_labels : NameLists → List (Option ℕ) → Ends → EndView → List ℕ
+low_labels names whys ends end = end_labels names ends.flowing whys (low_side ends) ends.low end
 
 -- those of the higher end stand at the other side
-abbrev pub high_labels : NameLists → Ends → EndView → List ℕ
-high_labels names ends end = end_labels names ends.flowing (opposite (low_side ends)) ends.high end
+abbrev pub high_labels : NameLists → List (Option ℕ) → Ends → EndView → List ℕ
+high_labels names whys ends end = end_labels names ends.flowing whys (opposite (low_side ends)) ends.high end
 
 -- ---- the whole path
 
@@ -75,9 +82,9 @@ flow_words view = flow_word view.flowing ++ spaced (medium_word view.medium)
 abbrev pub flow_label : (columns : ℕ) → Ends → PathView → List ℕ
 flow_label columns ends view = text_at (codes "o m") (flow_x columns ends) 10 (flow_words view)
 
-abbrev pub path_labels : (columns : ℕ) → NameLists → Ends → PathView → List ℕ
-path_labels columns names ends view =
-    low_labels names ends view.low ++ high_labels names ends view.high ++ flow_label columns ends view
+abbrev pub path_labels : (columns : ℕ) → NameLists → List (Option ℕ) → Ends → PathView → List ℕ
+path_labels columns names whys ends view =
+    low_labels names whys ends view.low ++ high_labels names whys ends view.high ++ flow_label columns ends view
 
 -- its line, the boxes that link it, and its ends
 abbrev pub path_drawn : Ends → List ℕ → List ℕ
@@ -108,13 +115,13 @@ abbrev pub path_opening : (columns : ℕ) → List ℕ → PathView → (before 
 path_opening columns stops view before = path_class (is_heard view) ++ path_boxes columns stops ++ path_place before
 
 -- a path by the columns of its ends and of its slots
-abbrev pub path_between : (columns : ℕ) → NameLists → Ends → List ℕ → PathView → (before : ℕ) → List ℕ
-path_between columns names ends stops view before =
-    path_opening columns stops view before ++ path_drawn ends stops ++ path_labels columns names ends view
+abbrev pub path_between : (columns : ℕ) → NameLists → List (Option ℕ) → Ends → List ℕ → PathView → (before : ℕ) → List ℕ
+path_between columns names whys ends stops view before =
+    path_opening columns stops view before ++ path_drawn ends stops ++ path_labels columns names whys ends view
     ++ codes "</g>\n"
 
--- a path that has so many before it
-abbrev pub path_row : List ℕ → NameLists → WorldState → PathView → (before : ℕ) → List ℕ
-path_row columns names world view before =
-    path_between (length columns) names (ends_of columns view)
+-- a path that has so many before it. Why all slots are closed is told by a list
+abbrev pub path_row : List ℕ → NameLists → WorldState → List (Option ℕ) → PathView → (before : ℕ) → List ℕ
+path_row columns names world whys view before =
+    path_between (length columns) names whys (ends_of columns view)
     (stops_drawn columns world view.low.slot (ends_of columns view)) view before

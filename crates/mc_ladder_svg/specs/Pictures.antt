@@ -1,5 +1,5 @@
 -- A whole picture: for each turn of a journal that is drawn its row, and for each settle its paths, in the order of the journal.
-use Rattle.std.specs.Prelude.{ℕ, ◌+◌, if◌then◌else◌, List, [], ◌∷◌, ◌++◌, codes, length}
+use Rattle.std.specs.Prelude.{ℕ, ◌+◌, Bool, false, if◌then◌else◌, List, [], ◌∷◌, ◌++◌, codes, length, Option}
 use Rattle.std.specs.Fmt.{decimal}
 use Rattle.mc_model.specs.Worlds.{WorldState}
 use Rattle.mc_program_lines.specs.Programs.{BlockState}
@@ -11,6 +11,7 @@ use Rattle.mc_ladder_choice.specs.Entries.{Entry}
 use Rattle.mc_ladder_choice.specs.Surveys.{SurveyState, survey_of}
 use Rattle.mc_ladder_choice.specs.declared.count.Count.{Count}
 use Rattle.mc_ladder.specs.Columns.{drawn_columns}
+use Rattle.mc_ladder.specs.Margins.{is_marked}
 use Rattle.mc_ladder_svg.specs.Elements.{text_at}
 use Rattle.mc_ladder_svg.specs.Heads.{heads}
 use Rattle.mc_ladder_svg.specs.Measures.{settle_height}
@@ -27,27 +28,31 @@ abbrev pub line_height : ChoiceState → WorldState → JournalLine → ℕ
 line_height choice world (Made turn) = 26
 line_height choice world Settled = settle_height (length (shown_paths choice world))
 
--- what is drawn for a line, from a height on
-abbrev pub line_rows : List ℕ → NameLists → List BlockState → ChoiceState → WorldState → Count → (y : ℕ) → JournalLine
-    → List ℕ
-line_rows columns names blocks choice world count y (Made turn) =
-    turn_row columns names blocks world turn (record { number = count.turns + 1; y = y })
-line_rows columns names blocks choice world count y Settled =
-    settle_block columns names world (shown_paths choice world) (record { number = count.settles + 1; y = y })
+-- what is drawn for a line, from a height on, where it is known which turns are marked, and why all slots are closed
+abbrev pub line_rows : List ℕ → NameLists → List BlockState → ChoiceState → (closings : List Bool) → WorldState
+    → (whys : List (Option ℕ)) → Count → (y : ℕ) → JournalLine → List ℕ
+line_rows columns names blocks choice closings world whys count y (Made turn) =
+    turn_row columns names blocks world turn
+    (record { number = count.turns + 1; y = y; closing = is_marked closings (count.turns + 1) })
+line_rows columns names blocks choice closings world whys count y Settled =
+    settle_block columns names world whys (shown_paths choice world)
+    (record { number = count.settles + 1; y = y; closing = false })
 
-abbrev pub entry_rows : List ℕ → NameLists → List BlockState → ChoiceState → (y : ℕ) → Entry → List ℕ
-entry_rows columns names blocks choice y entry =
-    line_rows columns names blocks choice entry.world entry.count y entry.line
+abbrev pub entry_rows : List ℕ → NameLists → List BlockState → ChoiceState → (closings : List Bool) → (y : ℕ) → Entry
+    → List ℕ
+entry_rows columns names blocks choice closings y entry =
+    line_rows columns names blocks choice closings entry.world entry.whys entry.count y entry.line
 
 abbrev pub entry_height : ChoiceState → Entry → ℕ
 entry_height choice entry = line_height choice entry.world entry.line
 
 -- what is drawn for these entries, one below another
-abbrev pub rows_of : List ℕ → NameLists → List BlockState → ChoiceState → (y : ℕ) → List Entry → List ℕ
-rows_of columns names blocks choice y [] = []
-rows_of columns names blocks choice y (entry ∷ entries) =
-    entry_rows columns names blocks choice y entry
-    ++ rows_of columns names blocks choice (y + entry_height choice entry) entries
+abbrev pub rows_of : List ℕ → NameLists → List BlockState → ChoiceState → (closings : List Bool) → (y : ℕ) → List Entry
+    → List ℕ
+rows_of columns names blocks choice closings y [] = []
+rows_of columns names blocks choice closings y (entry ∷ entries) =
+    entry_rows columns names blocks choice closings y entry
+    ++ rows_of columns names blocks choice closings (y + entry_height choice entry) entries
 
 -- the height at which the last of them ends
 abbrev pub end_of : ChoiceState → (y : ℕ) → List Entry → ℕ
@@ -79,7 +84,7 @@ abbrev pub ladder_by : (columns : List ℕ) → NameLists → List BlockState �
     → List JournalLine → List ℕ
 ladder_by columns names blocks world choice found journal =
     picture (length columns) (top_row columns names world choice found)
-    (rows_of columns names blocks choice first_y (chosen choice world journal))
+    (rows_of columns names blocks choice found.closings first_y (chosen choice world journal))
     (end_of choice first_y (chosen choice world journal))
 
 -- the same by the survey

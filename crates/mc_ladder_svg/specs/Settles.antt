@@ -1,5 +1,5 @@
 -- A settle: each path, between two rules.
-use Rattle.std.specs.Prelude.{ℕ, ◌+◌, ◌-◌, List, [], ◌∷◌, ◌++◌, codes, length}
+use Rattle.std.specs.Prelude.{ℕ, ◌+◌, ◌-◌, List, [], ◌∷◌, ◌++◌, codes, length, Option}
 use Rattle.std.specs.Fmt.{decimal}
 use Rattle.std.specs.List.{concat}
 use Rattle.mc_model.specs.Worlds.{WorldState}
@@ -34,10 +34,10 @@ abbrev pub settle_opening : (columns paths : ℕ) → Row → List ℕ
 settle_opening columns paths row = opening_by columns (width_of columns) (settle_height paths - 8) row
 
 -- each path, where so many stand before the first
-abbrev pub paths_drawn : List ℕ → NameLists → WorldState → (before : ℕ) → List PathView → List ℕ
-paths_drawn columns names world before [] = []
-paths_drawn columns names world before (view ∷ views) =
-    path_row columns names world view before ++ paths_drawn columns names world (before + 1) views
+abbrev pub paths_drawn : List ℕ → NameLists → WorldState → List (Option ℕ) → (before : ℕ) → List PathView → List ℕ
+paths_drawn columns names world whys before [] = []
+paths_drawn columns names world whys before (view ∷ views) =
+    path_row columns names world whys view before ++ paths_drawn columns names world whys (before + 1) views
 
 -- from the end of the last path on
 abbrev pub settle_end : Row → List ℕ
@@ -48,7 +48,7 @@ settle_end row = concat (
     ∷ line (codes "</text></g>")
     ∷ [])
 
--- a settle with these paths
-abbrev pub settle_block : List ℕ → NameLists → WorldState → List PathView → Row → List ℕ
-settle_block columns names world views row =
-    settle_opening (length columns) (length views) row ++ paths_drawn columns names world 0 views ++ settle_end row
+-- a settle with these paths. Why all slots are closed is told by a list
+abbrev pub settle_block : List ℕ → NameLists → WorldState → List (Option ℕ) → List PathView → Row → List ℕ
+settle_block columns names world whys views row =
+    settle_opening (length columns) (length views) row ++ paths_drawn columns names world whys 0 views ++ settle_end row

@@ -1,5 +1,5 @@
 -- What each turn's row has: its place and its number.
-use Rattle.std.specs.Prelude.{ℕ, List, [], ◌∷◌, ◌++◌, codes}
+use Rattle.std.specs.Prelude.{ℕ, Bool, true, false, List, [], ◌∷◌, ◌++◌, codes}
 use Rattle.std.specs.Fmt.{decimal}
 use Rattle.std.specs.List.{concat}
 use Rattle.mc_ladder_svg.specs.declared.row.Row.{Row}
@@ -13,10 +13,15 @@ row_start number class = codes "<g id=\"turn-" ++ (decimal number ++ (codes "\" 
 abbrev pub row_place : (y : ℕ) → List ℕ
 row_place y = concat (codes "\" transform=\"translate(0," ∷ decimal y ∷ codes ")\"><title>" ∷ [])
 
--- its end, and its number
+-- after the number of a turn that a closed path names
+abbrev pub closing_mark : (closing : Bool) → List ℕ
+closing_mark true = codes "<text class=\"cl h s\" x=\"55\" y=\"21\">*</text>"
+closing_mark false = []
+
+-- its end, and its number with its mark
 abbrev pub row_end : Row → List ℕ
 row_end row = concat (
     line (codes "</g>")
     ∷ codes "<g transform=\"translate(0," ∷ decimal row.y ∷ codes ")\"><text class=\"d e\" x=\"52\" y=\"21\">"
-    ∷ decimal row.number ∷ line (codes "</text></g>")
+    ∷ decimal row.number ∷ codes "</text>" ∷ closing_mark row.closing ∷ line (codes "</g>")
     ∷ [])

@@ -1,8 +1,11 @@
 // A whole picture.
 
 ghost use Rattle.std.specs.Prelude.{◌≡◌, ◌+◌, ◌-◌, ◌<◌, ◌≤◌, ◌^◌, ◌++◌, if◌then◌else◌, [], length, IfOk, OnOk};
-ghost use Rattle.mc_ladder_choice.specs.Choices.{chosen, is_chosen};
-ghost use Rattle.mc_ladder_choice.specs.Entries.{entry_at, world_after};
+ghost use Rattle.mc_cause.specs.CauseLaws.{NoneCloses};
+ghost use Rattle.mc_cause.specs.Carried.{AreOfSlots};
+ghost use Rattle.mc_ladder_choice.specs.Choices.{chosen, takes};
+ghost use Rattle.mc_ladder_choice.specs.Entries.{world_after};
+ghost use Rattle.mc_ladder_choice.specs.Noted.{NotesLine};
 ghost use Rattle.mc_ladder_choice.specs.Surveys.{survey_of};
 ghost use Rattle.mc_ladder_svg.specs.Heads.{heads};
 ghost use Rattle.mc_ladder_svg.specs.Pictures.{count_note, count_text, count_words, end_of, first_y, ladder_by, ladder_svg, line_height, line_rows, picture, rows_of, top_row};
@@ -14,7 +17,8 @@ use crate::row::Row;
 use crate::settle::put_settle;
 use crate::sheet::put_opening;
 use crate::turn::put_turn;
-use mc_ladder::drawn_columns;
+use mc_cause::Whys;
+use mc_ladder::{drawn_columns, is_marked};
 use mc_ladder_choice::{Choice, Count, Survey, pass};
 use mc_program_lines::Block;
 use mc_script::JournalLine;
@@ -22,14 +26,17 @@ use mc_text::Names;
 use mc_world::World;
 use std::alloc::{AllocError, Global};
 
-// Appends what is drawn for a line of a journal, from a height on, and makes its turn. Answers the height of the next row.
+// Appends what is drawn for a line of a journal, from a height on, makes its turn, and notes why slots are closed. Answers
+// the height of the next row.
 fn put_rows(
     alloc: Global,
     columns: &[u32],
     names: &Names,
     blocks: &[Block],
     choice: &Choice,
+    closings: &[bool],
     world: &mut World,
+    whys: &mut Whys,
     count: Count,
     y: u128,
     line: &JournalLine,
@@ -38,28 +45,36 @@ fn put_rows(
     requires turns { count.turns + 1 < 2 ^ 32 }
     requires settles { count.settles + 1 < 2 ^ 32 }
     requires y { y < 2 ^ 120 }
+    requires noted { whys.old.turns + 1 < 2 ^ 32 }
+    requires slots { AreOfSlots world.old whys.old }
     ensures rows { OnOk result (out.new.items
-        ≡ out.old.items ++ line_rows columns.now names.now blocks.now choice.now world.old count y line.now) }
+        ≡ out.old.items ++ line_rows columns.now names.now blocks.now choice.now closings.now world.old whys.old.whys
+        count y line.now) }
     ensures made { OnOk result (world.new ≡ world_after world.old line.now) }
+    ensures notes { OnOk result (NotesLine world.old world.new line.now whys.old whys.new) }
     ensures next { IfOk result (λ next. next ≡ y + line_height choice.now world.old line.now) }
     ensures few { IfOk result (λ next. next < y + 2 ^ 72) }
 {
     match line {
         JournalLine::Turn(turn) => {
+            let number = count.turns + 1;
             let row = Row {
-                number: count.turns + 1,
+                number,
                 y,
+                closing: is_marked(closings, number),
             };
-            put_turn(alloc, columns, names, blocks, world, *turn, row, out)?;
+            put_turn(alloc, columns, names, blocks, world, whys, *turn, row, out)?;
             Ok(y + TURN)
         }
         JournalLine::Settled => {
             let row = Row {
                 number: count.settles + 1,
                 y,
+                closing: false,
             };
             let views = choice.shown_paths(alloc, world)?;
-            put_settle(alloc, columns, names, world, &views, row, out)?;
+            let all = whys.all(alloc)?;
+            put_settle(alloc, columns, names, world, &all, &views, row, out)?;
             Ok(y + settle_height(views.len()))
         }
     }
@@ -72,7 +87,9 @@ fn put_chosen(
     names: &Names,
     blocks: &[Block],
     choice: &Choice,
+    closings: &[bool],
     world: &mut World,
+    whys: &mut Whys,
     count: Count,
     y: u128,
     line: &JournalLine,
@@ -81,20 +98,24 @@ fn put_chosen(
     requires turns { count.turns + 1 < 2 ^ 32 }
     requires settles { count.settles + 1 < 2 ^ 32 }
     requires y { y < 2 ^ 120 }
+    requires noted { whys.old.turns + 1 < 2 ^ 32 }
+    requires slots { AreOfSlots world.old whys.old }
     ensures rows { OnOk result (out.new.items ≡ out.old.items
-        ++ (if is_chosen choice.now (entry_at world.old count line.now)
-        then line_rows columns.now names.now blocks.now choice.now world.old count y line.now else [])) }
+        ++ (if takes choice.now world.old count line.now
+        then line_rows columns.now names.now blocks.now choice.now closings.now world.old whys.old.whys count y line.now
+        else [])) }
     ensures made { OnOk result (world.new ≡ world_after world.old line.now) }
-    ensures next { IfOk result (λ next. next ≡ (if is_chosen choice.now (entry_at world.old count line.now)
+    ensures notes { OnOk result (NotesLine world.old world.new line.now whys.old whys.new) }
+    ensures next { IfOk result (λ next. next ≡ (if takes choice.now world.old count line.now
         then y + line_height choice.now world.old line.now else y)) }
     ensures few { IfOk result (λ next. next < y + 2 ^ 72) }
 {
     if choice.takes(alloc, world, count, line)? {
         put_rows(
-            alloc, columns, names, blocks, choice, world, count, y, line, out,
+            alloc, columns, names, blocks, choice, closings, world, whys, count, y, line, out,
         )
     } else {
-        pass(world, line)?;
+        pass(world, whys, line)?;
         Ok(y)
     }
 }
@@ -106,21 +127,25 @@ fn put_lines(
     names: &Names,
     blocks: &[Block],
     choice: &Choice,
+    closings: &[bool],
     world: &mut World,
     journal: &[JournalLine],
     out: &mut Vec<u8>,
 ) -> Result<u128, AllocError>
-    requires { length journal.now < 2 ^ 32 - 1 }
+    requires few { length journal.now < 2 ^ 32 - 1 }
+    requires none { NoneCloses world.old }
     ensures rows { OnOk result (out.new.items ≡ out.old.items
-        ++ rows_of columns.now names.now blocks.now choice.now first_y (chosen choice.now world.old journal.now)) }
+        ++ rows_of columns.now names.now blocks.now choice.now closings.now first_y
+        (chosen choice.now world.old journal.now)) }
     ensures end { IfOk result (λ end. end ≡ end_of choice.now first_y (chosen choice.now world.old journal.now)) }
     ensures few { IfOk result (λ end. end < 2 ^ 120) }
 {
     let mut count = Count::new();
     let mut y = HEADS;
+    let mut whys = Whys::new(alloc, world)?;
     for line in journal {
         y = put_chosen(
-            alloc, columns, names, blocks, choice, world, count, y, line, out,
+            alloc, columns, names, blocks, choice, closings, world, &mut whys, count, y, line, out,
         )?;
         count = count.after(line);
     }
@@ -217,14 +242,23 @@ fn draw_by(
     world: &mut World,
     journal: &[JournalLine],
 ) -> Result<Vec<u8>, AllocError>
-    requires { length journal.now < 2 ^ 32 - 1 }
+    requires few { length journal.now < 2 ^ 32 - 1 }
+    requires none { NoneCloses world.old }
     ensures { IfOk result (λ text. text.items
         ≡ ladder_by columns.now names.now blocks.now world.old choice.now found.now journal.now) }
 {
     let heads = top_row(alloc, names, world, columns, choice, found)?;
     let mut rows = Vec::new(alloc);
     let end = put_lines(
-        alloc, columns, names, blocks, choice, world, journal, &mut rows,
+        alloc,
+        columns,
+        names,
+        blocks,
+        choice,
+        &found.closings,
+        world,
+        journal,
+        &mut rows,
     )?;
     let mut out = Vec::new(alloc);
     put_picture(alloc, columns, &heads, &rows, end, &mut out)?;
@@ -233,7 +267,7 @@ fn draw_by(
 
 /// The ladder of what is drawn of a journal, of which this was found before, as SVG: the rows of its turns and settles,
 /// from the first world of a network on, whose boxes, slots, codecs and told words have these names, and whose programs
-/// these blocks declare.
+/// these blocks declare. No slot of the world waits for a closeack, as in each first world.
 pub fn draw_svg(
     alloc: Global,
     names: &Names,
@@ -244,6 +278,7 @@ pub fn draw_svg(
     journal: &[JournalLine],
 ) -> Result<Vec<u8>, AllocError>
     requires few { length journal.now < 2 ^ 32 - 1 }
+    requires none { NoneCloses world.old }
     requires found { found.now ≡ survey_of choice.now world.old journal.now }
     ensures { IfOk result (λ text. text.items
         ≡ ladder_svg names.now blocks.now world.old choice.now journal.now) }

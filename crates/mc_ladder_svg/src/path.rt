@@ -1,7 +1,8 @@
-// A path at a settle: its line, what its ends are for, and who hears what.
+// A path at a settle: its line, what its ends are for, and who hears what, or which turn closed it.
 
-ghost use Rattle.std.specs.Prelude.{◌≡◌, ◌≤◌, ◌<◌, ◌+◌, ◌*◌, ◌^◌, ◌++◌, IfOk, OnOk};
-ghost use Rattle.mc_ladder_svg.specs.PathRows.{end_labels, end_labels_at, flow_label, flow_words, flow_x, goal_label, goal_words, hears_class, hears_label, hears_words, high_labels, is_heard, low_labels, low_side, path_between, path_boxes, path_class, path_drawn, path_labels, path_opening, path_place, path_row, stop_class};
+ghost use Rattle.std.specs.Prelude.{◌≡◌, ◌≤◌, ◌<◌, ◌+◌, ◌*◌, ◌^◌, ◌++◌, is_some, IfOk, OnOk};
+ghost use Rattle.mc_ladder_svg.specs.Elements.{text_beside};
+ghost use Rattle.mc_ladder_svg.specs.PathRows.{end_labels, end_labels_at, flow_label, flow_words, flow_x, goal_label, goal_words, hears_class, hears_words, high_labels, is_heard, low_labels, low_side, path_between, path_boxes, path_class, path_drawn, path_labels, path_opening, path_place, path_row, stop_class, told_label, why_words};
 
 use crate::element::{put_beside, put_box_class, put_bytes, put_text};
 use crate::mark::is_last;
@@ -9,6 +10,7 @@ use crate::measure::{COLUMN, PATH, Side, x_of};
 use crate::route::{is_turned, left_of, put_ends, put_links, put_route, stops_drawn};
 use mc_ladder::{Ends, codec_word, ends_of, flow_word, is_stop, medium_word, put_word, slot_word};
 use mc_script::goal_word;
+use mc_table::{why_at, why_word};
 use mc_text::Names;
 use mc_view::{EndView, PathView};
 use mc_world::World;
@@ -67,31 +69,51 @@ fn hears_class(heard: bool) -> &'static str
     if heard { "o" } else { "o d" }
 }
 
-// Appends what an end hears below the line of the path, where the path flows.
+// From which turn the close came by which an end became closed.
+fn why_words(alloc: Global, whys: &[Option<u32>], end: &EndView) -> Result<Vec<u8>, AllocError>
+    ensures { IfOk result (λ words. words.items ≡ why_words whys.now end.now) }
+{
+    let mut words = Vec::from_slice(alloc, b"why")?;
+    let turn = why_word(alloc, why_at(whys, end.slot))?;
+    put_word(&turn, &mut words)?;
+    Ok(words)
+}
+
+// Appends what an end hears below the line of the path.
 fn put_hears(
     alloc: Global,
     names: &Names,
-    flowing: bool,
     side: Side,
     x: u128,
     end: &EndView,
     out: &mut Vec<u8>,
 ) -> Result<(), AllocError>
-    ensures { OnOk result (out.new.items ≡ out.old.items ++ hears_label names.now flowing side x end.now) }
+    ensures { OnOk result (out.new.items
+        ≡ out.old.items ++ text_beside (hears_class (is_some end.now.hears)) side x 39 (hears_words names.now end.now)) }
 {
-    if !flowing {
-        return Ok(());
-    }
     let words = hears_words(alloc, names, end)?;
-    put_beside(
-        alloc,
-        hears_class(end.hears.is_some()),
-        side,
-        x,
-        39,
-        &words,
-        out,
-    )
+    let class = hears_class(end.hears.is_some());
+    put_beside(alloc, class, side, x, 39, &words, out)
+}
+
+// Appends what is told of an end below the line of the path.
+fn put_told(
+    alloc: Global,
+    names: &Names,
+    flowing: bool,
+    whys: &[Option<u32>],
+    side: Side,
+    x: u128,
+    end: &EndView,
+    out: &mut Vec<u8>,
+) -> Result<(), AllocError>
+    ensures { OnOk result (out.new.items ≡ out.old.items ++ told_label names.now flowing whys.now side x end.now) }
+{
+    if flowing {
+        return put_hears(alloc, names, side, x, end, out);
+    }
+    let words = why_words(alloc, whys, end)?;
+    put_beside(alloc, "o d", side, x, 39, &words, out)
 }
 
 // Appends the words of an end, from a place on.
@@ -99,15 +121,16 @@ fn put_end_at(
     alloc: Global,
     names: &Names,
     flowing: bool,
+    whys: &[Option<u32>],
     side: Side,
     x: u128,
     end: &EndView,
     out: &mut Vec<u8>,
 ) -> Result<(), AllocError>
-    ensures { OnOk result (out.new.items ≡ out.old.items ++ end_labels_at names.now flowing side x end.now) }
+    ensures { OnOk result (out.new.items ≡ out.old.items ++ end_labels_at names.now flowing whys.now side x end.now) }
 {
     put_goal(alloc, names, side, x, end, out)?;
-    put_hears(alloc, names, flowing, side, x, end, out)
+    put_told(alloc, names, flowing, whys, side, x, end, out)
 }
 
 // Appends the words of an end, beside the line of its box.
@@ -115,15 +138,16 @@ fn put_end(
     alloc: Global,
     names: &Names,
     flowing: bool,
+    whys: &[Option<u32>],
     side: Side,
     column: usize,
     end: &EndView,
     out: &mut Vec<u8>,
 ) -> Result<(), AllocError>
-    ensures { OnOk result (out.new.items ≡ out.old.items ++ end_labels names.now flowing side column end.now) }
+    ensures { OnOk result (out.new.items ≡ out.old.items ++ end_labels names.now flowing whys.now side column end.now) }
 {
     let x = side.beside(x_of(column), 10);
-    put_end_at(alloc, names, flowing, side, x, end, out)
+    put_end_at(alloc, names, flowing, whys, side, x, end, out)
 }
 
 // ---- the whole path
@@ -170,16 +194,18 @@ fn put_flow(
 fn put_low_end(
     alloc: Global,
     names: &Names,
+    whys: &[Option<u32>],
     ends: Ends,
     end: &EndView,
     out: &mut Vec<u8>,
 ) -> Result<(), AllocError>
-    ensures { OnOk result (out.new.items ≡ out.old.items ++ low_labels names.now ends end.now) }
+    ensures { OnOk result (out.new.items ≡ out.old.items ++ low_labels names.now whys.now ends end.now) }
 {
     put_end(
         alloc,
         names,
         ends.flowing,
+        whys,
         low_side(ends),
         ends.low,
         end,
@@ -191,14 +217,15 @@ fn put_low_end(
 fn put_high_end(
     alloc: Global,
     names: &Names,
+    whys: &[Option<u32>],
     ends: Ends,
     end: &EndView,
     out: &mut Vec<u8>,
 ) -> Result<(), AllocError>
-    ensures { OnOk result (out.new.items ≡ out.old.items ++ high_labels names.now ends end.now) }
+    ensures { OnOk result (out.new.items ≡ out.old.items ++ high_labels names.now whys.now ends end.now) }
 {
     let side = low_side(ends).opposite();
-    put_end(alloc, names, ends.flowing, side, ends.high, end, out)
+    put_end(alloc, names, ends.flowing, whys, side, ends.high, end, out)
 }
 
 // Appends the words of a path.
@@ -206,14 +233,15 @@ fn put_labels(
     alloc: Global,
     columns: usize,
     names: &Names,
+    whys: &[Option<u32>],
     ends: Ends,
     view: &PathView,
     out: &mut Vec<u8>,
 ) -> Result<(), AllocError>
-    ensures { OnOk result (out.new.items ≡ out.old.items ++ path_labels columns names.now ends view.now) }
+    ensures { OnOk result (out.new.items ≡ out.old.items ++ path_labels columns names.now whys.now ends view.now) }
 {
-    put_low_end(alloc, names, ends, &view.low, out)?;
-    put_high_end(alloc, names, ends, &view.high, out)?;
+    put_low_end(alloc, names, whys, ends, &view.low, out)?;
+    put_high_end(alloc, names, whys, ends, &view.high, out)?;
     put_flow(alloc, columns, ends, view, out)
 }
 
@@ -317,17 +345,19 @@ fn put_between(
     alloc: Global,
     columns: usize,
     names: &Names,
+    whys: &[Option<u32>],
     ends: Ends,
     stops: &[usize],
     view: &PathView,
     before: usize,
     out: &mut Vec<u8>,
 ) -> Result<(), AllocError>
-    ensures { OnOk result (out.new.items ≡ out.old.items ++ path_between columns names.now ends stops.now view.now before) }
+    ensures { OnOk result (out.new.items
+        ≡ out.old.items ++ path_between columns names.now whys.now ends stops.now view.now before) }
 {
     put_opening(alloc, columns, stops, view, before, out)?;
     put_drawn(alloc, ends, stops, out)?;
-    put_labels(alloc, columns, names, ends, view, out)?;
+    put_labels(alloc, columns, names, whys, ends, view, out)?;
     put_bytes(b"</g>\n", out)
 }
 
@@ -337,13 +367,25 @@ pub fn put_path(
     columns: &[u32],
     names: &Names,
     world: &World,
+    whys: &[Option<u32>],
     view: &PathView,
     before: usize,
     out: &mut Vec<u8>,
 ) -> Result<(), AllocError>
-    ensures { OnOk result (out.new.items ≡ out.old.items ++ path_row columns.now names.now world.now view.now before) }
+    ensures { OnOk result (out.new.items
+        ≡ out.old.items ++ path_row columns.now names.now world.now whys.now view.now before) }
 {
     let ends = ends_of(columns, view);
     let stops = stops_drawn(alloc, columns, world, view.low.slot, ends)?;
-    put_between(alloc, columns.len(), names, ends, &stops, view, before, out)
+    put_between(
+        alloc,
+        columns.len(),
+        names,
+        whys,
+        ends,
+        &stops,
+        view,
+        before,
+        out,
+    )
 }

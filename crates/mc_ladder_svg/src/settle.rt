@@ -16,7 +16,7 @@ use std::alloc::{AllocError, Global};
 fn put_block_tag(alloc: Global, row: Row, out: &mut Vec<u8>) -> Result<(), AllocError>
     ensures { OnOk result (out.new.items ≡ out.old.items ++ block_tag row) }
 {
-    let Row { number, y } = row;
+    let Row { number, y, .. } = row;
     let tag = format!(in alloc;
         "<g id=\"settle-{number}\" class=\"se\" transform=\"translate(0,{y})\"><title>settle {number}</title>"
     )?;
@@ -77,13 +77,15 @@ fn put_paths(
     columns: &[u32],
     names: &Names,
     world: &World,
+    whys: &[Option<u32>],
     views: &[PathView],
     out: &mut Vec<u8>,
 ) -> Result<(), AllocError>
-    ensures { OnOk result (out.new.items ≡ out.old.items ++ paths_drawn columns.now names.now world.now 0 views.now) }
+    ensures { OnOk result (out.new.items
+        ≡ out.old.items ++ paths_drawn columns.now names.now world.now whys.now 0 views.now) }
 {
     for (before, view) in views.iter().enumerate() {
-        put_path(alloc, columns, names, world, view, before, out)?;
+        put_path(alloc, columns, names, world, whys, view, before, out)?;
     }
     Ok(())
 }
@@ -92,7 +94,7 @@ fn put_paths(
 fn put_end(alloc: Global, row: Row, out: &mut Vec<u8>) -> Result<(), AllocError>
     ensures { OnOk result (out.new.items ≡ out.old.items ++ settle_end row) }
 {
-    let Row { number, y } = row;
+    let Row { number, y, .. } = row;
     let tag = format!(in alloc;
         "</g>\n<g transform=\"translate(0,{y})\"><text class=\"h\" x=\"6\" y=\"22\">settle {number}</text></g>\n"
     )?;
@@ -105,13 +107,15 @@ pub fn put_settle(
     columns: &[u32],
     names: &Names,
     world: &World,
+    whys: &[Option<u32>],
     views: &[PathView],
     row: Row,
     out: &mut Vec<u8>,
 ) -> Result<(), AllocError>
-    ensures { OnOk result (out.new.items ≡ out.old.items ++ settle_block columns.now names.now world.now views.now row) }
+    ensures { OnOk result (out.new.items
+        ≡ out.old.items ++ settle_block columns.now names.now world.now whys.now views.now row) }
 {
     put_opening(alloc, columns, views, row, out)?;
-    put_paths(alloc, columns, names, world, views, out)?;
+    put_paths(alloc, columns, names, world, whys, views, out)?;
     put_end(alloc, row, out)
 }

@@ -10,7 +10,7 @@ returns c =
     let rows =
     c.deref-2.ensures.value
     ∙ (c.in_ok-end.ensures.rows
-    ∙ ap (λ (l : List ℕ). l ++ rows_of c.args.columns.now c.args.names.now c.args.blocks.now c.args.choice.now first_y (chosen c.args.choice.now c.args.world.now c.args.journal.now)) c.new-rows.ensures.items) in
+    ∙ ap (λ (l : List ℕ). l ++ rows_of c.args.columns.now c.args.names.now c.args.blocks.now c.args.choice.now c.args.found.now.closings first_y (chosen c.args.choice.now c.args.world.now c.args.journal.now)) c.new-rows.ensures.items) in
     let text = c.in_ok-put_picture.ensures ∙ ap (λ (l : List ℕ). l ++ picture (length c.args.columns.now) c.deref.result.now c.deref-2.result.now c.in_ok-end.end) c.new-out.ensures.items in
     whole c.args.columns.now c.args.names.now c.args.blocks.now c.args.world.now c.args.choice.now c.args.found.now c.args.journal.now c.deref.result.now c.deref-2.result.now
     c.put_picture.new.out.items c.in_ok-end.end heads rows c.in_ok-end.ensures.end text

@@ -3,4 +3,4 @@ use Rattle.mc_ladder_svg.proofs.Chains.{two}
 use Rattle.mc_ladder_svg.proofs.path.put_end_at.Goals as goal
 
 pub returns : goal.returns
-returns c = on_ok_weaker c.put_hears.result (λ last. two _ _ _ _ _ c.in_ok-put_goal.ensures last) c.put_hears.ensures
+returns c = on_ok_weaker c.put_told.result (λ last. two _ _ _ _ _ c.in_ok-put_goal.ensures last) c.put_told.ensures
