@@ -1,6 +1,7 @@
 // The ladder of the journal after a text.
 
 ghost use Rattle.std.specs.Prelude.{◌≡◌, ◌-◌, ◌<◌, ◌≤◌, ◌^◌, false, length, map, IfErr, IfOk};
+ghost use Rattle.mc_cause.specs.CauseLaws.{NoneCloses};
 ghost use Rattle.mc_ladder_top.specs.Drawn.{IsInGrammar, IsLadder, framed, ladder_bytes};
 ghost use Rattle.mc_ladder_top.specs.Requests.{asked, choice_of};
 ghost use Rattle.mc_ladder_top.specs.declared.picture.Picture.TheVariants.{Page};
@@ -109,7 +110,8 @@ fn choose_by_net(
     mut net: Net,
     journal: &[JournalLine],
 ) -> Result<Chosen, AllocError>
-    requires { length journal.now < 2 ^ 32 - 1 }
+    requires few { length journal.now < 2 ^ 32 - 1 }
+    requires none { NoneCloses net.world }
     ensures choice { IfOk result (λ chosen. chosen.choice ≡ choice_of net.names (asked request.now)) }
     ensures found { IfOk result (λ chosen. chosen.found ≡ survey_of chosen.choice net.world journal.now) }
 {
@@ -127,7 +129,8 @@ fn choose(
     world: &mut World,
     journal: &[JournalLine],
 ) -> Result<Chosen, AllocError>
-    requires { length journal.now < 2 ^ 32 - 1 }
+    requires few { length journal.now < 2 ^ 32 - 1 }
+    requires none { NoneCloses world.old }
     ensures choice { IfOk result (λ chosen. chosen.choice ≡ choice_of names.now (asked request.now)) }
     ensures found { IfOk result (λ chosen. chosen.found ≡ survey_of chosen.choice world.old journal.now) }
 {
@@ -146,6 +149,7 @@ fn draw_net(
     journal: &[JournalLine],
 ) -> Result<Vec<u8>, AllocError>
     requires few { length journal.now < 2 ^ 32 - 1 }
+    requires none { NoneCloses net.world }
     requires found { chosen.now.found ≡ survey_of chosen.now.choice net.world journal.now }
     ensures { IfOk result (λ ladder.
         ladder.items ≡ ladder_bytes picture net.names blocks.now net.world chosen.now.choice journal.now) }

@@ -1,6 +1,7 @@
 // The forms in which a ladder is drawn.
 
 ghost use Rattle.std.specs.Prelude.{◌≡◌, ◌-◌, ◌<◌, ◌^◌, length, IfOk};
+ghost use Rattle.mc_cause.specs.CauseLaws.{NoneCloses};
 ghost use Rattle.mc_ladder_choice.specs.Surveys.{survey_of};
 ghost use Rattle.mc_ladder_top.specs.Drawn.{ladder_bytes};
 
@@ -36,6 +37,7 @@ pub fn draw(
     journal: &[JournalLine],
 ) -> Result<Vec<u8>, AllocError>
     requires few { length journal.now < 2 ^ 32 - 1 }
+    requires none { NoneCloses world.old }
     requires found { found.now ≡ survey_of choice.now world.old journal.now }
     ensures { IfOk result (λ drawn.
         drawn.items ≡ ladder_bytes picture names.now blocks.now world.old choice.now journal.now) }

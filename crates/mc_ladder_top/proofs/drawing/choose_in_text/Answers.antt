@@ -4,7 +4,11 @@ use Rattle.mc_ladder_choice.specs.Surveys.{survey_of}
 use Rattle.mc_lines.specs.declared.tail.Tail.TheVariants.{Journal}
 use Rattle.mc_model.specs.Worlds.{WorldState}
 use Rattle.mc_net.proofs.OneNet.{one_net}
+use Rattle.mc_top.proofs.NoneClose.{none_closes}
 use Rattle.mc_ladder_top.proofs.drawing.choose_in_text.Goals as goal
+
+pub choose_by_net-requires-clause-none : goal.choose_by_net-requires-clause-none
+choose_by_net-requires-clause-none c = none_closes c.in_ok-net.ensures.declared c.in_ok-net.net.world c.in_ok-net.ensures.world
 
 pub returns-clause-found : goal.returns-clause-found
 returns-clause-found c = IfOk-weaker c.choose_by_net.result _ _

@@ -2,7 +2,11 @@ use Rattle.std.proofs.Common.{◌∙◌, List, ap, ℕ}
 use Rattle.std.proofs.lemmas.Result.{IfOk-weaker}
 use Rattle.mc_ladder_choice.specs.Choices.{ChoiceState}
 use Rattle.mc_ladder_top.specs.Drawn.{framed, ladder_bytes}
+use Rattle.mc_top.proofs.NoneClose.{none_closes}
 use Rattle.mc_ladder_top.proofs.drawing.draw_journal.Goals as goal
+
+pub draw_net-requires-clause-none : goal.draw_net-requires-clause-none
+draw_net-requires-clause-none c = none_closes c.in_ok-net.ensures.declared c.in_ok-net.net.world c.in_ok-net.ensures.world
 
 pub returns : goal.returns
 returns c = IfOk-weaker c.framed.result _ _
