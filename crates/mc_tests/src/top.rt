@@ -1,6 +1,8 @@
 // Whole calls over sources and sinks in memory: what is written, and the status.
 mod conferences;
+mod drawn_growth;
 mod draws;
+mod grown;
 mod journals;
 mod limits;
 mod media;
