@@ -7,9 +7,9 @@ use std::alloc::{AllocError, Global};
 use std::process::Abort;
 use std::thread::Threads;
 
-const SCRIPTS: u64 = 1_000;
+const SCRIPTS: u64 = 250;
 
-const SETTLES: u32 = 6;
+const SETTLES: u32 = 5;
 
 // The phones are `p0` and so on, and one feature is beside them.
 const PHONES: u32 = 4;
@@ -69,6 +69,13 @@ impl Drawn {
     // It is in, nobody uses it, and it leads there.
     fn is_free(&self, settle: u32, to_feature: bool) -> bool {
         self.is_in(settle) && self.used == Use::Free && (self.far == Far::Feature) == to_feature
+    }
+
+    // Whether a line is of a path that begins at it.
+    fn begins(&self, alloc: Global, line: &[u8]) -> Result<bool, AllocError> {
+        let Drawn { number, phone, .. } = self;
+        let path = format!(in alloc; "path p{phone}/s{number} ")?;
+        Ok(line.starts_with(path.as_bytes()))
     }
 
     // The line that lays it out or joins it, after its first word.
@@ -270,7 +277,7 @@ impl Script {
         for number in 0..self.count {
             self.cut(alloc, number, settle)?;
         }
-        for _ in 0..3 {
+        for _ in 0..2 {
             self.join(alloc, settle)?;
         }
         for number in 0..self.count {
@@ -282,9 +289,7 @@ impl Script {
     // Whether a line is of a path over a channel that isn't in at a settle.
     fn hides(&self, alloc: Global, line: &[u8], settle: u32) -> Result<bool, AllocError> {
         for channel in &self.channels {
-            let Drawn { number, phone, .. } = channel;
-            let path = format!(in alloc; "path p{phone}/s{number} ")?;
-            if !channel.is_in(settle) && line.starts_with(path.as_bytes()) {
+            if !channel.is_in(settle) && channel.begins(alloc, line)? {
                 return Ok(true);
             }
         }
@@ -346,11 +351,36 @@ fn prints_alike<R: Threads + Sync + Abort>(
     Ok(())
 }
 
-#[test]
-fn drawn_networks_print_what_they_print_laid_out_whole(rt: HostRuntime) -> Result<(), AllocError> {
+// The scripts of so many seeds from one on do.
+fn print_alike_from<R: Threads + Sync + Abort + AllocGlobal>(
+    rt: &R,
+    first: u64,
+) -> Result<(), AllocError> {
     for seed in 0..SCRIPTS {
-        let script = script_of(rt.alloc(), seed)?;
-        prints_alike(&rt, rt.alloc(), &script)?;
+        let script = script_of(rt.alloc(), first.wrapping_add(seed))?;
+        prints_alike(rt, rt.alloc(), &script)?;
     }
     Ok(())
+}
+
+// A thousand scripts, in four tests, since each has a minute.
+
+#[test]
+fn drawn_networks_print_what_they_print_laid_out_whole(rt: HostRuntime) -> Result<(), AllocError> {
+    print_alike_from(&rt, 0)
+}
+
+#[test]
+fn a_second_quarter_of_drawn_networks_does(rt: HostRuntime) -> Result<(), AllocError> {
+    print_alike_from(&rt, SCRIPTS)
+}
+
+#[test]
+fn a_third_quarter_of_drawn_networks_does(rt: HostRuntime) -> Result<(), AllocError> {
+    print_alike_from(&rt, 2 * SCRIPTS)
+}
+
+#[test]
+fn the_last_quarter_of_drawn_networks_does(rt: HostRuntime) -> Result<(), AllocError> {
+    print_alike_from(&rt, 3 * SCRIPTS)
 }
