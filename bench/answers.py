@@ -28,7 +28,7 @@ SUMMARY = (rb'gen C C\nboxes C channels C\n' + b''.join(
 # what is printed at each status
 PRINTED = {
     0: re.compile(SETTLES + JOURNAL + b'|' + SUMMARY),
-    1: re.compile(rb'fault (?:[1-9]|1[0-8]) line [1-9][0-9]*\n|version %s\n' % SLOT),
+    1: re.compile(rb'fault (?:[1-9]|1[0-8]|20) line [1-9][0-9]*\n|version %s\n' % SLOT),
     2: re.compile(rb'usage\n'),
     3: re.compile(b''),
     4: re.compile(b''),
@@ -36,6 +36,7 @@ PRINTED = {
     7: re.compile(rb'ring %s\n' % SLOT),
     8: re.compile(rb'fault 3[1-5] turn [1-9][0-9]*\n'),
     9: re.compile(rb'nobox %s\n' % NAME),
+    10: re.compile(rb'cut %s\n' % SLOT),
 }
 # what is told on standard error, line by line
 TOLD = re.compile(rb'(?:mediactl: [ -~]*\n)*')

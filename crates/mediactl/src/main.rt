@@ -1,6 +1,6 @@
 //! `mediactl` does what its words ask for: it settles a text from standard input and prints the paths of its calls
-//! (`run`, `one N`), checks a journal (`check`), or settles a network of its own (`gen N SIZE`, `scene NAME`). Where it
-//! ends with another status than 0, it tells on standard error why.
+//! (`run`, `one N`, `grow`), checks a journal (`check`), or settles a network of its own (`gen N SIZE`, `scene NAME`).
+//! Where it ends with another status than 0, it tells on standard error why.
 #![tactic(auto)]
 
 use mc_explain::{Reason, explain};
