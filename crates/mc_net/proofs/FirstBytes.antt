@@ -32,7 +32,7 @@ bytes_before-cons : (x : List ℕ) (xs : List (List ℕ)) (k : ℕ) → bytes_be
 bytes_before-cons x xs zero = omega arith
 bytes_before-cons x xs (suc k) = let rest = bytes_before-cons x xs k in omega arith
 
-bytes_before-append : (xs ys : List (List ℕ)) → bytes_before (xs ++ ys) (length xs) ≡ extent xs
+pub bytes_before-append : (xs ys : List (List ℕ)) → bytes_before (xs ++ ys) (length xs) ≡ extent xs
 bytes_before-append [] ys = refl
 bytes_before-append (x ∷ xs) ys = let rest = bytes_before-append xs ys in bytes_before-cons x (xs ++ ys) (length xs) ∙ ap (λ (n : ℕ). length x + 1 + n) rest
 
@@ -102,18 +102,18 @@ empty_or_last (x ∷ xs) = by (empty_or_last xs)
     by (inr some) = inr (record { front = x ∷ some.front; last = some.last; is = rw some.is refl })
 
 -- after the same lines, the line with the byte that passes a limit, which may go on among all lines
-record IsPassed (limit : ℕ) (short long : List (List ℕ)) : Type 0 where
-  before : List (List ℕ)
-  line : List ℕ
-  more : List ℕ
-  after : List (List ℕ)
-  others : List (List ℕ)
-  short_is : short ≡ before ++ line ∷ after
-  long_is : long ≡ before ++ (line ++ more) ∷ others
-  reached : extent before ≤ limit
-  passed : limit ≤ extent before + length line
+pub record IsPassed (limit : ℕ) (short long : List (List ℕ)) : Type 0 where
+  pub before : List (List ℕ)
+  pub line : List ℕ
+  pub more : List ℕ
+  pub after : List (List ℕ)
+  pub others : List (List ℕ)
+  pub short_is : short ≡ before ++ line ∷ after
+  pub long_is : long ≡ before ++ (line ++ more) ∷ others
+  pub reached : extent before ≤ limit
+  pub passed : limit ≤ extent before + length line
 
-passed_at : (p : ℕ → Bool) (limit : ℕ) (bytes : List ℕ) → limit < length bytes → IsPassed limit (without_empty_last (slice_split p (take (limit + 1) bytes))) (without_empty_last (slice_split p bytes))
+pub passed_at : (p : ℕ → Bool) (limit : ℕ) (bytes : List ℕ) → limit < length bytes → IsPassed limit (without_empty_last (slice_split p (take (limit + 1) bytes))) (without_empty_last (slice_split p bytes))
 passed_at p limit bytes large = by cut.last refl
   where
     cut : IsCutShort p (limit + 1) bytes
@@ -162,7 +162,7 @@ passed_at p limit bytes large = by cut.last refl
 
 -- ---- faults of the same lines
 
-same_bytes : (short long : List (List ℕ)) (n : ℕ) → ((k : ℕ) → k < n → slice_index_or short k [] ≡ slice_index_or long k []) → (k : ℕ) → k ≤ n → bytes_before short k ≡ bytes_before long k
+pub same_bytes : (short long : List (List ℕ)) (n : ℕ) → ((k : ℕ) → k < n → slice_index_or short k [] ≡ slice_index_or long k []) → (k : ℕ) → k ≤ n → bytes_before short k ≡ bytes_before long k
 same_bytes short long n same zero within = refl
 same_bytes short long n same (suc k) within = rw (same k (omega arith), same_bytes short long n same k (omega arith)) refl
 
@@ -182,7 +182,7 @@ passing tail total before d line has passes =
     let past : passes_limit (text_limit d.tail) total before line ≡ true = subst (λ (t : Tail). passes_limit (text_limit t) total before line ≡ true) (sym has) passes in
     rw past refl
 
-does_pass : (limit total before : ℕ) (line : List ℕ) → limit < total → before ≤ limit → limit ≤ before + length line → passes_limit limit total before line ≡ true
+pub does_pass : (limit total before : ℕ) (line : List ℕ) → limit < total → before ≤ limit → limit ≤ before + length line → passes_limit limit total before line ≡ true
 does_pass limit total before line large reached passed = grind arith
 
 module _ (tail : Tail) (short long : List ℕ) (small : text_limit tail < length short) (large : text_limit tail < length long) (at : IsPassed (text_limit tail) (text_lines tail short) (text_lines tail long)) where
@@ -236,7 +236,7 @@ module _ (tail : Tail) (short long : List ℕ) (small : text_limit tail < length
   same_for_long number line (at_end sound broken) = absurd (not_both (fault_at tail (length short) (text_lines tail short) (length at.before)) 1 (sound (length at.before) short_within) short_fault)
 
   -- and it says nothing
-  says_nothing : (d : Declared) → Says tail short d → ⊥
+  pub says_nothing : (d : Declared) → Says tail short d → ⊥
   says_nothing d says = not_both (fault_at tail (length short) (text_lines tail short) (length at.before)) 1 (says.sound (length at.before) short_within) short_fault
 
 -- ---- two texts with the same lines, both past the limit
@@ -264,7 +264,7 @@ module _ (tail : Tail) (short long : List ℕ) (small : text_limit tail < length
   }
 
   -- both end where their lines do
-  long_end_is : extent (text_lines tail short) ≤ text_limit tail → text_end tail short ≡ text_end tail long
+  pub long_end_is : extent (text_lines tail short) ≤ text_limit tail → text_end tail short ≡ text_end tail long
   long_end_is within =
       let all : bytes_before (text_lines tail short) (length (text_lines tail short)) ≡ extent (text_lines tail short) = all_bytes (text_lines tail short) in
       let one : min (extent (text_lines tail short)) (length short) ≡ extent (text_lines tail short) = min-eq_left (omega arith) in
@@ -289,9 +289,9 @@ up_to_parts test (line ∷ front) = by (test line) refl (up_to_parts test front)
     by false e (inr some) = inr (line ∷ some.0, λ more. rw (e, some.1 more) refl, let within = some.2 in omega arith)
 
 -- the lines of two texts are the same ones, none of which passes the limit
-record AreSameBelow (limit : ℕ) (short long : List (List ℕ)) : Type 0 where
-  same : short ≡ long
-  below : extent short ≤ limit
+pub record AreSameBelow (limit : ℕ) (short long : List (List ℕ)) : Type 0 where
+  pub same : short ≡ long
+  pub below : extent short ≤ limit
 
 cut_below : (test : List ℕ → Bool) (limit : ℕ) (short long : List (List ℕ)) → IsPassed limit short long → AreSameBelow limit (up_to test short) (up_to test long) ⊎ IsPassed limit (up_to test short) (up_to test long)
 cut_below test limit short long at = by (up_to_parts test at.before)
@@ -318,16 +318,16 @@ cut_below test limit short long at = by (up_to_parts test at.before)
         inl (record { same = short_kept ∙ sym long_kept; below = subst (λ (l : List (List ℕ)). extent l ≤ limit) (sym short_kept) below })
 
 module _ (tail : Tail) (text : List ℕ) (large : text_limit tail + 1 < length text) where
-  first_are_large : text_limit tail < length (first_bytes tail text)
+  pub first_are_large : text_limit tail < length (first_bytes tail text)
   first_are_large = let taken : length (first_bytes tail text) ≡ text_limit tail + 1 = length-take-le (text_limit tail + 1) text (omega arith) in omega arith
 
-  all_are_large : text_limit tail < length text
+  pub all_are_large : text_limit tail < length text
   all_are_large = omega arith
 
   passed_there : IsPassed (text_limit tail) (lines (first_bytes tail text)) (lines text)
   passed_there = passed_at is_line_end (text_limit tail) text all_are_large
 
-  cut_there : AreSameBelow (text_limit tail) (text_lines tail (first_bytes tail text)) (text_lines tail text) ⊎ IsPassed (text_limit tail) (text_lines tail (first_bytes tail text)) (text_lines tail text)
+  pub cut_there : AreSameBelow (text_limit tail) (text_lines tail (first_bytes tail text)) (text_lines tail text) ⊎ IsPassed (text_limit tail) (text_lines tail (first_bytes tail text)) (text_lines tail text)
   cut_there = cut_below (ends_commands tail) (text_limit tail) (lines (first_bytes tail text)) (lines text) passed_there
 
 pub faults_of_the_first_bytes : FaultsOfTheFirstBytes

@@ -80,6 +80,13 @@ fn each_stop_is_told_by_its_place(rt: HostRuntime) -> Result<(), AllocError> {
             },
             "mediactl: settle 12 of the script stopped at pbx: the program of this box made 256 steps",
         ),
+        (
+            Reason::ChannelInUse {
+                place: word(rt.alloc(), b"bob/a")?,
+                settle: 2,
+            },
+            "mediactl: settle 2 of the script stopped at bob/a: a slot that is to be cut off must be closed",
+        ),
     ];
     are_told(&rt, rt.alloc(), &table)
 }

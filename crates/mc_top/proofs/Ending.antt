@@ -58,7 +58,7 @@ stopped_by report true stop names world journal = refl
 stopped_by report false stop names world journal = refl
 
 -- the status of work that was done keeps the journal
-kept_zero : (due : ℕ) → due ≡ 0 → keeps_journal due ≡ false → ⊥
+pub kept_zero : (due : ℕ) → due ≡ 0 → keeps_journal due ≡ false → ⊥
 kept_zero due none some = let here : keeps_journal 0 ≡ false = subst (λ (n : ℕ). keeps_journal n ≡ false) none some in cc
 
 -- the work was done, and what it printed was delivered
@@ -155,7 +155,7 @@ ends_ran (Some stop) mode text net old new status due journal output runs declar
     ends_at_stop mode text stop old new status due journal due_is
     (stops_script mode text net stop old new status due journal output runs declared boxed sound ran drawn shows limit (is ∙ stopped_by (report_of mode net.names) (prints_journal mode) stop net.names net.world journal) due_is delivered)
 
-keeps_same : (old : Option (List ℕ)) → Keeps old old
+pub keeps_same : (old : Option (List ℕ)) → Keeps old old
 keeps_same None = tt
 keeps_same (Some bytes) = refl
 

@@ -57,6 +57,7 @@ explains_weaker P Q weaker (reason.FaultyText number line text detail) status ol
 explains_weaker P Q weaker (reason.VersionEnd place settle) status old new journal is = is
 explains_weaker P Q weaker (reason.Ring place settle) status old new journal is = is
 explains_weaker P Q weaker (reason.Restless place settle) status old new journal is = is
+explains_weaker P Q weaker (reason.ChannelInUse place settle) status old new journal is = is
 explains_weaker P Q weaker (reason.FaultyJournal number turn line text) status old new journal (is, printed, tells) = (is, printed, weaker (of_journal line text.items) tells)
 explains_weaker P Q weaker (reason.NoBox place features) status old new journal (is, printed, tells) = (is, printed, weaker (of_box features.items) tells)
 explains_weaker P Q weaker reason.NoMemory status old new journal is = is

@@ -9,6 +9,8 @@ pub mod Explaining
 mod FirstWorlds
 mod GenAlike
 mod GoodJournals
+mod GrownEnds
+mod GrownTexts
 mod LastVersions
 mod LeftRings
 mod MadeTexts

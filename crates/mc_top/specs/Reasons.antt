@@ -20,7 +20,7 @@ use Rattle.mc_top.specs.Behind.{IsLineOfFault}
 use Rattle.mc_top.specs.Modes.{tail_of, text_for}
 use Rattle.mc_top.specs.Printed.{fault_line, feature_words, journal_fault_line, no_box_line}
 use Rattle.mc_settle_text.specs.Stops.{stop_word}
-use Rattle.mc_top.specs.declared.status.TheConstants.{WORKED, FAULTY_TEXT, VERSION_END, USAGE, NO_MEMORY, READ_FAULT, RESTLESS, RING, WRITE_FAULT, JOURNAL_FAULT, NO_BOX}
+use Rattle.mc_top.specs.declared.status.TheConstants.{WORKED, FAULTY_TEXT, VERSION_END, USAGE, NO_MEMORY, READ_FAULT, RESTLESS, RING, WRITE_FAULT, JOURNAL_FAULT, NO_BOX, CHANNEL_IN_USE}
 use Rattle.mc_seq.specs.declared.stopping.SettleStop.{SettleStop}
 use Rattle.mc_top.specs.declared.top.Done.{Done}
 use Rattle.mc_words.specs.Commands.{IsCommand}
@@ -99,6 +99,8 @@ Explains Tells (reason.Ring place settle) status old new journal =
     (status ≡ RING) × TellsStop (codes "ring") place.items settle old new journal
 Explains Tells (reason.Restless place settle) status old new journal =
     (status ≡ RESTLESS) × TellsStop (codes "restless") place.items settle old new journal
+Explains Tells (reason.ChannelInUse place settle) status old new journal =
+    (status ≡ CHANNEL_IN_USE) × TellsStop (codes "cut") place.items settle old new journal
 Explains Tells (reason.FaultyJournal number turn line text) status old new journal =
     (status ≡ JOURNAL_FAULT) × Appends old new (journal_fault_line number turn) × Tells (of_journal line text.items)
 Explains Tells (reason.NoBox place features) status old new journal =

@@ -1,6 +1,8 @@
 -- What is said of the statuses with which a call ends.
 use Rattle.std.specs.Prelude.{ℕ, ◌≡◌, ◌⊎◌, ◌==◌, ◌||◌, Bool, Option, Some, None}
-use Rattle.mc_top.specs.declared.status.TheConstants.{WORKED, FAULTY_TEXT, VERSION_END, USAGE, NO_MEMORY, READ_FAULT, RESTLESS, RING, JOURNAL_FAULT, NO_BOX}
+use Rattle.mc_top.specs.declared.status.TheConstants.{WORKED, FAULTY_TEXT, VERSION_END, USAGE, NO_MEMORY, READ_FAULT, RESTLESS, RING, JOURNAL_FAULT, NO_BOX, CHANNEL_IN_USE}
+use Rattle.mc_grown_script.specs.declared.stop.GrownStop.{GrownStop}
+use Rattle.mc_grown_script.specs.declared.stop.GrownStop.TheVariants.{Cut, Settle}
 use Rattle.mc_seq.specs.declared.stopping.SettleStop.{SettleStop}
 use Rattle.mc_seq.specs.declared.stopping.SettleStop.TheVariants.{Restless, Ring, VersionEnd}
 
@@ -8,7 +10,7 @@ use Rattle.mc_seq.specs.declared.stopping.SettleStop.TheVariants.{Restless, Ring
 abbrev pub IsDue : ℕ → Type 0
 IsDue due =
     (due ≡ WORKED) ⊎ (due ≡ FAULTY_TEXT) ⊎ (due ≡ USAGE) ⊎ (due ≡ NO_MEMORY) ⊎ (due ≡ READ_FAULT) ⊎ (due ≡ RESTLESS)
-    ⊎ (due ≡ RING) ⊎ (due ≡ JOURNAL_FAULT) ⊎ (due ≡ NO_BOX)
+    ⊎ (due ≡ RING) ⊎ (due ≡ JOURNAL_FAULT) ⊎ (due ≡ NO_BOX) ⊎ (due ≡ CHANNEL_IN_USE)
 
 -- the status may be due where the words are a mode's
 abbrev pub IsDueForMode : ℕ → Type 0
@@ -22,6 +24,12 @@ IsDueForText due =
     (due ≡ WORKED) ⊎ (due ≡ FAULTY_TEXT) ⊎ (due ≡ NO_MEMORY) ⊎ (due ≡ RESTLESS) ⊎ (due ≡ RING) ⊎ (due ≡ JOURNAL_FAULT)
     ⊎ (due ≡ NO_BOX)
 
+-- the status may be due where the words are those of a script that grows
+abbrev pub IsDueForGrowing : ℕ → Type 0
+IsDueForGrowing due =
+    (due ≡ WORKED) ⊎ (due ≡ FAULTY_TEXT) ⊎ (due ≡ NO_MEMORY) ⊎ (due ≡ READ_FAULT) ⊎ (due ≡ RESTLESS) ⊎ (due ≡ RING)
+    ⊎ (due ≡ CHANNEL_IN_USE)
+
 -- the text was read, and it was found to have a fault or none
 abbrev pub judges_text : ℕ → Bool
 judges_text due =
@@ -29,7 +37,8 @@ judges_text due =
 
 -- what was settled, checked or made up to a stop, is in the journal
 abbrev pub keeps_journal : ℕ → Bool
-keeps_journal due = due == WORKED || due == VERSION_END || due == RESTLESS || due == RING
+keeps_journal due =
+    due == WORKED || due == VERSION_END || due == RESTLESS || due == RING || due == CHANNEL_IN_USE
 
 -- the status with which a call ends whose script stopped
 abbrev pub stop_status : SettleStop → ℕ
@@ -41,3 +50,19 @@ stop_status (Restless at) = RESTLESS
 abbrev pub due_by : Option SettleStop → ℕ
 due_by None = WORKED
 due_by (Some stop) = stop_status stop
+
+-- ---- scripts of networks that grow
+
+-- the text was read, and it was found to have a fault or none
+abbrev pub judges_growing : ℕ → Bool
+judges_growing due = judges_text due || due == CHANNEL_IN_USE
+
+-- the status with which a call ends whose script stopped
+abbrev pub grown_stop_status : GrownStop → ℕ
+grown_stop_status (Settle stop) = stop_status stop
+grown_stop_status (Cut at) = CHANNEL_IN_USE
+
+-- the status that is due for a script that was run to its end, or to a stop
+abbrev pub grown_due_by : Option GrownStop → ℕ
+grown_due_by None = WORKED
+grown_due_by (Some stop) = grown_stop_status stop

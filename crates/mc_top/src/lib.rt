@@ -4,6 +4,7 @@
 
 mod behind;
 mod checking;
+mod growing;
 pub mod laws;
 mod modes;
 mod print;

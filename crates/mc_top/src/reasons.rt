@@ -6,12 +6,14 @@ ghost use Rattle.mc_top.specs.Printed.{feature_word, feature_words};
 ghost use Rattle.mc_lines.specs.declared.tail.Tail.{Tail};
 ghost use Rattle.mc_replay.specs.Points.{is_mark, marks_in};
 ghost use Rattle.mc_table.specs.Words.{line_of};
+ghost use Rattle.mc_top.specs.Growing.{IsGrowingFaultOf, PrintsGrownStop};
 ghost use Rattle.mc_top.specs.Reasons.{ExplainsDue, HasPlace, IsFaultOf, IsNoBox, PrintsStop};
-ghost use Rattle.mc_top.specs.Statuses.{due_by};
+ghost use Rattle.mc_top.specs.Statuses.{due_by, grown_due_by};
 
 use crate::run::Run;
 use mc_box::Kind;
 use mc_explain::Reason;
+use mc_grown_script::{GrownStop, ScriptRun};
 use mc_script::JournalLine;
 use mc_seq::SettleStop;
 use mc_text::Names;
@@ -38,6 +40,34 @@ pub fn reason_of(alloc: Global, run: &Run) -> Result<Reason, AllocError>
         Some(SettleStop::Restless(_)) => {
             let place = Vec::from_slice(alloc, place_in(b"restless", &run.output))?;
             Ok(Reason::Restless { place, settle })
+        }
+    }
+}
+
+/// The same of a script of a network that grows, which may stop at a cut, too.
+pub fn grown_reason(alloc: Global, run: &ScriptRun) -> Result<Reason, AllocError>
+    requires { PrintsGrownStop run.now.stop run.now.output.items }
+    ensures { IfOk result (λ reason. (text : List ℕ)
+        → ExplainsDue (IsGrowingFaultOf text) reason (grown_due_by run.now.stop) run.now.output.items run.now.journal.items) }
+{
+    let settle = marks_in(&run.journal) + 1;
+    match run.stop {
+        None => Ok(Reason::Worked),
+        Some(GrownStop::Settle(SettleStop::VersionEnd(_))) => {
+            let place = Vec::from_slice(alloc, place_in(b"version", &run.output))?;
+            Ok(Reason::VersionEnd { place, settle })
+        }
+        Some(GrownStop::Settle(SettleStop::Ring(_))) => {
+            let place = Vec::from_slice(alloc, place_in(b"ring", &run.output))?;
+            Ok(Reason::Ring { place, settle })
+        }
+        Some(GrownStop::Settle(SettleStop::Restless(_))) => {
+            let place = Vec::from_slice(alloc, place_in(b"restless", &run.output))?;
+            Ok(Reason::Restless { place, settle })
+        }
+        Some(GrownStop::Cut(_)) => {
+            let place = Vec::from_slice(alloc, place_in(b"cut", &run.output))?;
+            Ok(Reason::ChannelInUse { place, settle })
         }
     }
 }

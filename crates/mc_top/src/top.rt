@@ -10,7 +10,7 @@ ghost use Rattle.mc_net.specs.Nets.{DeclaresNet, NamesAll, batch_turns};
 ghost use Rattle.mc_lines.specs.Rules.{read_limit};
 ghost use Rattle.mc_net.specs.Texts.{IsFault};
 ghost use Rattle.mc_lines.specs.declared.limit.TheConstants.{COMMAND_LIMIT};
-ghost use Rattle.mc_lines.specs.declared.tail.Tail.TheVariants.{Journal};
+ghost use Rattle.mc_lines.specs.declared.tail.Tail.TheVariants.{Grow, Journal};
 ghost use Rattle.mc_net.specs.declared.net.Net.{Net};
 ghost use Rattle.mc_cause.specs.CauseLaws.{NoneCloses};
 ghost use Rattle.mc_replay.specs.Faults.{RefusesLines};
@@ -22,19 +22,21 @@ ghost use Rattle.mc_script.specs.Places.{Fits};
 ghost use Rattle.mc_top.specs.Behind.{HasJournal, HasJournalFault, IsLineOfFault, has_bad_tail, tail_lines};
 ghost use Rattle.mc_top.specs.Refusals.{RefusesCheckBy, RefusesTail};
 ghost use Rattle.mc_top.specs.Drawn.{FollowsDraws};
+ghost use Rattle.mc_top.specs.Growing.{EndsGrownAs, IsGrowingFaultOfTold};
 ghost use Rattle.mc_top.specs.Journals.{IsJournalTo, ShowsCause};
 ghost use Rattle.mc_top.specs.Modes.{AsksToRead, IsWithinLimits, IsWorkable, checks, draws_from, has_box, reads, report_of, tail_of, text_for};
 ghost use Rattle.mc_top.specs.Printed.{checked_text, run_text};
 ghost use Rattle.mc_top.specs.Reasons.{EndsFor, Explains, IsFaultByWords, IsFaultOf, IsFaultOfTold, usage_reason};
-ghost use Rattle.mc_top.specs.Statuses.{IsDue, IsDueForMode, IsDueForText, due_by, judges_text, keeps_journal};
+ghost use Rattle.mc_top.specs.Statuses.{IsDue, IsDueForGrowing, IsDueForMode, IsDueForText, due_by, judges_growing, judges_text, keeps_journal};
 ghost use Rattle.mc_top.specs.Top.{Delivers, EndsAs, GivesUp, HasReadWhole, IsTextFor, PrintsUsage, ReadsFor};
-ghost use Rattle.mc_words.specs.Commands.{IsCommand};
+ghost use Rattle.mc_words.specs.Commands.{AsksToGrow, IsCommand};
 ghost use Rattle.mc_words.specs.Commands.{prints_journal};
 ghost use Rattle.mc_words.specs.declared.words.Mode.{Mode};
 ghost use Rattle.mc_words.specs.declared.words.Mode.TheVariants.{Check, Scene as AScene};
 
 use crate::behind::{journal_behind, journal_line};
 use crate::checking::{TailFault, TailPlace, check_script, tell_script};
+use crate::growing::grow;
 use crate::modes::{draws_from, has_box, report_of, tail_of};
 use crate::print::{print_fault, print_journal_fault, print_no_box};
 use crate::reasons::{no_box_reason, reason_of};
@@ -51,7 +53,7 @@ use mc_replay::ReplayFault;
 use mc_scene::{generated, scene_text};
 use mc_script::{Batch, JournalLine, JournalText};
 use mc_text::Names;
-use mc_words::{Mode, asks_for_help, read_mode};
+use mc_words::{Mode, asks_for_help, asks_to_grow, read_mode};
 use mc_world::World;
 use std::alloc::{AllocError, Global};
 use std::thread::Threads;
@@ -627,6 +629,48 @@ fn usage_reason(words: &[String]) -> Reason
     }
 }
 
+// Does what words ask for that ask for no mode.
+fn without_mode<R: Threads + Sync, S: Source, K: Sink, G: Gate + Sync>(
+    rt: &R,
+    alloc: Global,
+    gate: &G,
+    words: &[String],
+    source: &mut S,
+    sink: &mut K,
+) -> Done
+    requires none { (mode : Mode) → ¬ IsCommand words.now mode }
+    ensures statuses { (result.due ≡ USAGE) ⊎ IsDueForGrowing result.due }
+    ensures status { (result.status ≡ result.due) ⊎ (result.status ≡ WRITE_FAULT) }
+    ensures usage { result.due ≡ USAGE → ¬ AsksToGrow words.now }
+    ensures usage_output { result.due ≡ USAGE → PrintsUsage (K.written sink.old) (K.written sink.new) result }
+    ensures ends { AsksToGrow words.now
+        → EndsGrownAs (S.left source.old) (K.written sink.old) (K.written sink.new) result }
+    ensures no_command { ¬ AsksToGrow words.now
+        → (result.due ≡ USAGE) ⊎ GivesUp (K.written sink.old) (K.written sink.new) result }
+    ensures no_journal { IsFalse (keeps_journal result.due) → result.journal.items ≡ [] }
+    ensures unread { ¬ AsksToGrow words.now → source.new ≡ source.old }
+    ensures read_whole { AsksToGrow words.now → IsTrue (judges_growing result.due)
+        → HasReadWhole Grow (S.left source.old) (S.left source.new) }
+    ensures at_most { AsksToGrow words.now
+        → ConsumesAtMost (S.left source.old) (S.left source.new) (read_limit Grow) }
+    ensures read_fault { S.faults source.new ≡ faults_after (S.faults source.old) (result.due == READ_FAULT) }
+    ensures write_fault { K.faults sink.new ≡ faults_after (K.faults sink.old) (result.status == WRITE_FAULT) }
+    ensures reason { (left : Option (List ℕ)) → Explains (IsFaultByWords words.now left) result.reason result.status
+        (K.written sink.old) (K.written sink.new) result.journal.items }
+    ensures reason_grown { AsksToGrow words.now → Explains (IsGrowingFaultOfTold (S.left source.old)) result.reason
+        result.status (K.written sink.old) (K.written sink.new) result.journal.items }
+    ensures usage_reason { result.due ≡ USAGE → EndsFor (usage_reason words.now) USAGE result }
+{
+    let Ok(grows) = asks_to_grow(alloc, words) else {
+        return give_up(alloc, NO_MEMORY, Reason::NoMemory);
+    };
+    if grows {
+        grow(rt, alloc, gate, source, sink)
+    } else {
+        refuse_words(alloc, words, sink)
+    }
+}
+
 /// Does what the words ask for with the text that the source has left, and writes what is to be printed.
 ///
 /// The order is: words, reading, the text, its settles or the journal after it, writing. Nothing is written before
@@ -649,21 +693,29 @@ pub fn media_top<R: Threads + Sync, S: Source, K: Sink, G: Gate + Sync>(
 
     // USAGE comes exactly where the words are no command.
     ensures usage { result.due ≡ USAGE → (mode : Mode) → ¬ IsCommand words.items mode }
+    ensures usage_grown { result.due ≡ USAGE → ¬ AsksToGrow words.items }
     ensures usage_output { result.due ≡ USAGE → PrintsUsage (K.written sink.old) (K.written sink.new) result }
 
-    // Where they are a mode's, this was printed and kept for its text. Else the only other end is want of memory.
+    // Where they are a mode's, or those of a script that grows, this was printed and kept for its text. Else the only
+    // other end is want of memory.
     ensures ends { (mode : Mode) → IsCommand words.items mode
         → EndsAs mode (text_for mode (S.left source.old)) (K.written sink.old) (K.written sink.new) result }
-    ensures no_command { ((mode : Mode) → ¬ IsCommand words.items mode)
+    ensures ends_grown { AsksToGrow words.items
+        → EndsGrownAs (S.left source.old) (K.written sink.old) (K.written sink.new) result }
+    ensures no_command { ((mode : Mode) → ¬ IsCommand words.items mode) → ¬ AsksToGrow words.items
         → (result.due ≡ USAGE) ⊎ GivesUp (K.written sink.old) (K.written sink.new) result }
     ensures no_journal { IsFalse (keeps_journal result.due) → result.journal.items ≡ [] }
 
     // Without words that ask to read, nothing is read. With them a text is judged only where it was read whole.
-    ensures unread { ¬ AsksToRead words.items → source.new ≡ source.old }
+    ensures unread { ¬ AsksToRead words.items → ¬ AsksToGrow words.items → source.new ≡ source.old }
     ensures read_whole { (mode : Mode) → IsCommand words.items mode → IsTrue (reads mode)
         → IsTrue (judges_text result.due) → HasReadWhole (tail_of mode) (S.left source.old) (S.left source.new) }
+    ensures read_whole_grown { AsksToGrow words.items → IsTrue (judges_growing result.due)
+        → HasReadWhole Grow (S.left source.old) (S.left source.new) }
     ensures at_most { (mode : Mode) → IsCommand words.items mode
         → ConsumesAtMost (S.left source.old) (S.left source.new) (read_limit (tail_of mode)) }
+    ensures at_most_grown { AsksToGrow words.items
+        → ConsumesAtMost (S.left source.old) (S.left source.new) (read_limit Grow) }
 
     // The causes of faults: a call of the source or the sink failed exactly where this is answered.
     ensures read_fault { S.faults source.new ≡ faults_after (S.faults source.old) (result.due == READ_FAULT) }
@@ -673,6 +725,8 @@ pub fn media_top<R: Threads + Sync, S: Source, K: Sink, G: Gate + Sync>(
     // are no command, they are told the commands without a complaint exactly where they ask for help.
     ensures reason { Explains (IsFaultByWords words.items (S.left source.old)) result.reason result.status
         (K.written sink.old) (K.written sink.new) result.journal.items }
+    ensures reason_grown { AsksToGrow words.items → Explains (IsGrowingFaultOfTold (S.left source.old)) result.reason
+        result.status (K.written sink.old) (K.written sink.new) result.journal.items }
     ensures usage_reason { result.due ≡ USAGE → EndsFor (usage_reason words.items) USAGE result }
 
     // Where the work can be done and no fault was counted, it is done, but for want of memory.
@@ -693,7 +747,7 @@ pub fn media_top<R: Threads + Sync, S: Source, K: Sink, G: Gate + Sync>(
         return give_up(alloc, NO_MEMORY, Reason::NoMemory);
     };
     let Some(mode) = read else {
-        return refuse_words(alloc, &words, sink);
+        return without_mode(rt, alloc, gate, &words, source, sink);
     };
     run_mode(rt, alloc, gate, mode, source, sink)
 }

@@ -8,7 +8,7 @@ use Rattle.mc_top.specs.Top.{Ends, HasReadWhole}
 use Rattle.mc_top.proofs.OwnTexts.{false_unless, scene_stated, within_limits, works_on}
 use Rattle.mc_top.proofs.Told.{completes, not_failed}
 use Rattle.mc_top.proofs.top.media_top.Goals as goal
-use Rattle.mc_words.proofs.OneMode.{asks_for_one}
+use Rattle.mc_words.proofs.OneMode.{asks_for_one, growing_no_mode}
 use Rattle.mc_words.specs.declared.words.Mode.{Mode}
 use Rattle.mc_words.specs.declared.words.Mode.TheVariants.{Scene}
 
@@ -22,11 +22,23 @@ returns-clause-ends g c = λ mode is.
     subst (λ (m : Mode). Ends m (text_for m (g.S.Source.left c.args.source.now)) (g.K.Sink.written c.args.sink.now) (g.K.Sink.written c.run_mode.new.sink) c.run_mode.result.status c.run_mode.result.due c.run_mode.result.journal.items) (asks_for_one c.args.words.items c.in-Some.mode mode (rw (c.deref.ensures.value, c.in-Some.is) at c.in-Ok.ensures.some) is)
     c.run_mode.ensures.ends
 
+pub returns-clause-ends_grown : goal.returns-clause-ends_grown
+returns-clause-ends_grown g c = λ grows. absurd (growing_no_mode c.args.words.items c.in-Some.mode grows (rw (c.deref.ensures.value, c.in-Some.is) at c.in-Ok.ensures.some))
+
+pub returns-clause-read_whole_grown : goal.returns-clause-read_whole_grown
+returns-clause-read_whole_grown g c = λ grows. absurd (growing_no_mode c.args.words.items c.in-Some.mode grows (rw (c.deref.ensures.value, c.in-Some.is) at c.in-Ok.ensures.some))
+
+pub returns-clause-at_most_grown : goal.returns-clause-at_most_grown
+returns-clause-at_most_grown g c = λ grows. absurd (growing_no_mode c.args.words.items c.in-Some.mode grows (rw (c.deref.ensures.value, c.in-Some.is) at c.in-Ok.ensures.some))
+
+pub returns-clause-reason_grown : goal.returns-clause-reason_grown
+returns-clause-reason_grown g c = λ grows. absurd (growing_no_mode c.args.words.items c.in-Some.mode grows (rw (c.deref.ensures.value, c.in-Some.is) at c.in-Ok.ensures.some))
+
 pub returns-clause-no_command : goal.returns-clause-no_command
 returns-clause-no_command g c = λ none. absurd (none c.in-Some.mode (rw (c.deref.ensures.value, c.in-Some.is) at c.in-Ok.ensures.some))
 
 pub returns-clause-unread : goal.returns-clause-unread
-returns-clause-unread g c = λ none. c.run_mode.ensures.unread (false_unless (reads c.in-Some.mode) (λ reading. none (c.in-Some.mode, (rw (c.deref.ensures.value, c.in-Some.is) at c.in-Ok.ensures.some), reading)))
+returns-clause-unread g c = λ none no_growing. c.run_mode.ensures.unread (false_unless (reads c.in-Some.mode) (λ reading. none (c.in-Some.mode, (rw (c.deref.ensures.value, c.in-Some.is) at c.in-Ok.ensures.some), reading)))
 
 pub returns-clause-complete : goal.returns-clause-complete
 returns-clause-complete g c = λ mode text is told works no_read no_write.
