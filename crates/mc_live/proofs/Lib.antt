@@ -1,0 +1,3 @@
+mod Halving
+mod Joining
+mod Stepping

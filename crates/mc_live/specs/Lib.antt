@@ -1,0 +1,4 @@
+pub mod Requests
+pub mod Accounts
+pub mod Courses
+pub mod BoxRuns

@@ -1,0 +1,7 @@
+//! The limits of boxes that run freely, which clauses cite.
+
+/// The most turns after which a box makes a further round.
+pub const FURTHER_ROUND_LIMIT: u32 = 4_032;
+
+/// The most requests that a box takes at once: as many as there is room for on its desk.
+pub const ROOM: u32 = 16;
