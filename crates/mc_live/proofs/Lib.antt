@@ -1,3 +1,4 @@
 mod Halving
 mod Joining
 mod Stepping
+mod Asks

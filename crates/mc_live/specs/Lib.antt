@@ -1,4 +1,6 @@
+pub mod Beside
 pub mod Requests
 pub mod Accounts
 pub mod Courses
 pub mod BoxRuns
+pub mod Askers
