@@ -1,0 +1,11 @@
+pub mod AsPlanned
+pub mod ClosedCuts
+pub mod ComingToEnd
+pub mod FullWorlds
+pub mod JoinedSettings
+pub mod LastVersions
+pub mod LeftRings
+pub mod NamedRings
+pub mod Reaching
+pub mod Restless
+pub mod StillRings

@@ -1,0 +1,3 @@
+pub mod Planned
+pub mod RestLaws
+pub mod Rests
