@@ -20,6 +20,7 @@ use Rattle.mc_growth.proofs.Joined.{SlotKind, away, before, kind_of, near, same_
 use Rattle.mc_growth.proofs.JoinedSound.{new_away, new_near}
 use Rattle.mc_laws.proofs.Reaches.{comes_to_end}
 use Rattle.mc_laws.proofs.Resting.{rests_quiet}
+use Rattle.mc_laws.proofs.ShapesKept.{same_shape}
 use Rattle.mc_laws.proofs.StepKeeps.{run_keeps_sound}
 use Rattle.mc_model.specs.Paths.{end_goal_of}
 use Rattle.mc_model.specs.Settles.{IsSettled}
@@ -43,7 +44,7 @@ abbrev pub ClosedAtClose : WorldState → Type 0
 ClosedAtClose world = (s : ℕ) → s < slot_count world → goal_of world s ≡ End ToClose → (slot_of world s).state ≡ Closed
 
 -- it is so in a world of new boxes
-pub new_closed : (world : WorldState) → IsSound world → AreNew world.boxes → ClosedAtClose world
+new_closed : (world : WorldState) → IsSound world → AreNew world.boxes → ClosedAtClose world
 new_closed world sound new s inside goal =
     ap (λ (slot : Slot). slot.state) (new_slot_closed (box_at world (place world s).0) (place world s).1 (new (place world s).0 (sound.numbered.placed s inside)))
 
@@ -113,6 +114,14 @@ pub record CutsClosed (network : GrownState) (plans : List StagePlan) : Type 0 w
   pub set : IsSetAs aim network
   pub closed : ClosedAtClose network.world
   pub cuts : ClosesBeforeCuts aim plans
+
+pub cuts_first : (first : GrownState) (plans : List StagePlan) → IsSound first.world → AreNew first.world.boxes → ClosesBeforeCuts first plans → CutsClosed first plans
+cuts_first first plans sound new cuts = record {
+  aim = first;
+  set = record { shape = same_shape first.world; settings = λ who none. refl };
+  closed = new_closed first.world sound new;
+  cuts = cuts;
+}
 
 pub keeps_closed : Keeps CutsClosed
 keeps_closed network plan plans turns next ready settles now = record {

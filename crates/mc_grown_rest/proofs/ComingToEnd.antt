@@ -1,4 +1,4 @@
--- A script whose plans show that it comes to its end does so: none of its stages stops.
+-- What a script that stops shows of its plans; and that one whose plans show that it comes to its end does so.
 use Rattle.std.proofs.Common.{◌≡◌, inl, inr, Some, None, Option, List, ◌∷◌, refl, subst, ℕ}
 use Rattle.mc_box.specs.declared.event.Turn.{Turn}
 use Rattle.mc_growth.specs.Growths.{GrownState}
@@ -10,18 +10,16 @@ use Rattle.mc_grown_script.specs.declared.stop.GrownStop.{GrownStop}
 use Rattle.mc_grown_script.specs.declared.stop.GrownStop.TheVariants.{Cut, Settle}
 use Rattle.mc_grown_script.specs.declared.stop.ScriptRun.{ScriptRun}
 use Rattle.mc_seq.specs.declared.stopping.SettleStop.TheVariants.{Restless, Ring, VersionEnd}
-use Rattle.mc_laws.proofs.ShapesKept.{same_shape}
-use Rattle.mc_grown_rest.specs.RestLaws.{ScriptsComeToEnd}
-use Rattle.mc_grown_rest.specs.Rests.{PlansAlwaysRest, ClosesBeforeCuts, ComesToEnd, PlansMeetNoLast}
-use Rattle.mc_grown_rest.proofs.AsPlanned.{IsSetAs}
-use Rattle.mc_grown_rest.proofs.ClosedCuts.{CutsClosed, keeps_closed, new_closed, none_refused}
+use Rattle.mc_grown_rest.specs.RestLaws.{ScriptsComeToEnd, StopsShow}
+use Rattle.mc_grown_rest.specs.Rests.{ClosesBeforeCuts, ComesToEnd, PlansMakeNoRing, ProgramsRest, StopShows}
+use Rattle.mc_grown_rest.proofs.ClosedCuts.{CutsClosed, cuts_first, keeps_closed, none_refused}
 use Rattle.mc_grown_rest.specs.Planned.{all_batches}
 use Rattle.mc_grown_rest.proofs.FullWorlds.{full_world}
 use Rattle.mc_grown_rest.proofs.LeftRings.{LeavesNone, keeps_leaves, leaves_first, none_left}
 use Rattle.mc_grown_rest.proofs.NamedRings.{StillNamed, closes_none, keeps_named, named_first}
 use Rattle.mc_grown_rest.proofs.Restless.{StillByWords, Unprogrammed, keeps_unprogrammed, keeps_words, none_restless, still_first, words_rest}
 use Rattle.mc_model.specs.Worlds.{WorldState}
-use Rattle.mc_grown_rest.proofs.LastVersions.{keeps_versions, meets_none}
+use Rattle.mc_grown_rest.proofs.LastVersions.{StillCounts, counts_first, keeps_counts, meets_none, stop_passes}
 use Rattle.mc_grown_rest.proofs.Reaching.{IsReady, Keeps, reaches}
 
 -- the stage at which a script stopped, and what holds there of the network and the plans that are left
@@ -41,48 +39,63 @@ stopped_at P keeps names first plans stop run ready holds stopped =
     (subst (λ (l : List StagePlan). P first l) stopped.plans_are holds) stopped.ran.runs stopped.ran.of_plans in
     record { plan = stopped.plan; later = stopped.later; last = stopped.last; turns = stopped.turns; ready = there.0; holds = there.1; stops = stopped.stops }
 
-never_last : (names : NameLists) (first : GrownState) (plans : List StagePlan) (run : ScriptRun) (at : ℕ) → IsReady first plans → PlansMeetNoLast first plans
-    → StoppedWithin names first plans (Settle (VersionEnd at)) run → ⊥
-never_last names first plans run at ready below stopped =
-    let here = stopped_at PlansMeetNoLast keeps_versions names first plans (Settle (VersionEnd at)) run ready below stopped in
-    meets_none here.last here.plan here.later here.turns at here.ready here.holds here.stops.1
+-- ---- what each stop shows
 
-set_first : (first : GrownState) → IsSetAs first first
-set_first first = record { shape = same_shape first.world; settings = λ who none. refl }
+passes_last : (names : NameLists) (first : GrownState) (plans : List StagePlan) (run : ScriptRun) (at : ℕ) → IsReady first plans
+    → StoppedWithin names first plans (Settle (VersionEnd at)) run → StopShows first plans (Settle (VersionEnd at))
+passes_last names first plans run at ready stopped =
+    let start : WorldState = full_world first plans in
+    let here = stopped_at (StillCounts start (all_batches plans)) (keeps_counts start (all_batches plans)) names first plans (Settle (VersionEnd at)) run ready (counts_first first plans) stopped in
+    stop_passes start (all_batches plans) here.last here.plan here.later here.turns at here.ready here.holds here.stops.1
 
-never_refused : (names : NameLists) (first : GrownState) (plans : List StagePlan) (run : ScriptRun) (at : ℕ) → IsReady first plans → AreNew first.world.boxes → ClosesBeforeCuts first plans
-    → StoppedWithin names first plans (Cut at) run → ⊥
-never_refused names first plans run at ready new cuts stopped =
-    let here = stopped_at CutsClosed keeps_closed names first plans (Cut at) run ready
-    (record { aim = first; set = set_first first; closed = new_closed first.world ready.sound new; cuts = cuts }) stopped in
-    none_refused here.last here.plan here.later at here.ready here.holds here.stops.0
-
-never_ring : (names : NameLists) (first : GrownState) (plans : List StagePlan) (run : ScriptRun) (at : ℕ) → IsReady first plans → PlansAlwaysRest first plans
-    → StoppedWithin names first plans (Settle (Ring at)) run → ⊥
-never_ring names first plans run at ready (inl (unprogrammed, leaves)) stopped =
-    let here = stopped_at LeavesNone keeps_leaves names first plans (Settle (Ring at)) run ready (leaves_first first plans unprogrammed leaves) stopped in
-    none_left here.last here.plan here.later here.turns at here.ready here.holds here.stops.1
-never_ring names first plans run at ready (inr (words, closes)) stopped =
+makes_ring : (names : NameLists) (first : GrownState) (plans : List StagePlan) (run : ScriptRun) (at : ℕ) → IsReady first plans
+    → StoppedWithin names first plans (Settle (Ring at)) run → PlansMakeNoRing first plans → ⊥
+makes_ring names first plans run at ready stopped (inl closes) =
     let start : WorldState = full_world first plans in
     let here = stopped_at (StillNamed start (all_batches plans)) (keeps_named start (all_batches plans)) names first plans (Settle (Ring at)) run ready (named_first first plans) stopped in
     closes_none start (all_batches plans) here.last here.plan here.later here.turns at closes here.ready here.holds here.stops.1
+makes_ring names first plans run at ready stopped (inr (unprogrammed, leaves)) =
+    let here = stopped_at LeavesNone keeps_leaves names first plans (Settle (Ring at)) run ready (leaves_first first plans unprogrammed leaves) stopped in
+    none_left here.last here.plan here.later here.turns at here.ready here.holds here.stops.1
 
-never_restless : (names : NameLists) (first : GrownState) (plans : List StagePlan) (run : ScriptRun) (at : ℕ) → IsReady first plans → PlansAlwaysRest first plans
-    → StoppedWithin names first plans (Settle (Restless at)) run → ⊥
-never_restless names first plans run at ready (inl (unprogrammed, leaves)) stopped =
+goes_on : (names : NameLists) (first : GrownState) (plans : List StagePlan) (run : ScriptRun) (at : ℕ) → IsReady first plans
+    → StoppedWithin names first plans (Settle (Restless at)) run → ProgramsRest first plans → ⊥
+goes_on names first plans run at ready stopped (inl unprogrammed) =
     let here = stopped_at Unprogrammed keeps_unprogrammed names first plans (Settle (Restless at)) run ready unprogrammed stopped in
     none_restless here.last here.plan here.later here.turns at here.ready here.holds here.stops.1
-never_restless names first plans run at ready (inr (words, closes)) stopped =
+goes_on names first plans run at ready stopped (inr words) =
     let here = stopped_at StillByWords keeps_words names first plans (Settle (Restless at)) run ready (still_first first plans words) stopped in
     words_rest here.last here.plan here.later here.turns at here.ready here.holds here.stops.1
+
+cuts_in_use : (names : NameLists) (first : GrownState) (plans : List StagePlan) (run : ScriptRun) (at : ℕ) → IsReady first plans → AreNew first.world.boxes
+    → StoppedWithin names first plans (Cut at) run → ClosesBeforeCuts first plans → ⊥
+cuts_in_use names first plans run at ready new stopped cuts =
+    let here = stopped_at CutsClosed keeps_closed names first plans (Cut at) run ready (cuts_first first plans ready.sound new cuts) stopped in
+    none_refused here.last here.plan here.later at here.ready here.holds here.stops.0
+
+shows : (stop : GrownStop) (names : NameLists) (first : GrownState) (plans : List StagePlan) (run : ScriptRun) → IsReady first plans → AreNew first.world.boxes
+    → StoppedWithin names first plans stop run → StopShows first plans stop
+shows (Settle (VersionEnd at)) names first plans run ready new stopped = passes_last names first plans run at ready stopped
+shows (Settle (Ring at)) names first plans run ready new stopped = makes_ring names first plans run at ready stopped
+shows (Settle (Restless at)) names first plans run ready new stopped = goes_on names first plans run at ready stopped
+shows (Cut at) names first plans run ready new stopped = cuts_in_use names first plans run at ready new stopped
+
+pub stops_show : StopsShow
+stops_show names first plans stop run sound new lawful stopped = shows stop names first plans run (record { sound = sound; lawful = lawful }) new stopped
+
+-- ---- so there is none
+
+-- where the plans show that it comes to its end no stop shows that it doesn't
+none_shown : (stop : GrownStop) (first : GrownState) (plans : List StagePlan) → ComesToEnd first plans → StopShows first plans stop → ⊥
+none_shown (Settle (VersionEnd at)) first plans comes shows = meets_none first plans comes.versions shows
+none_shown (Settle (Ring at)) first plans comes shows = shows comes.rings
+none_shown (Settle (Restless at)) first plans comes shows = shows comes.programs
+none_shown (Cut at) first plans comes shows = shows comes.cuts
 
 ends_by : (stop : Option GrownStop) (names : NameLists) (first : GrownState) (plans : List StagePlan) (run : ScriptRun) → IsReady first plans → AreNew first.world.boxes → ComesToEnd first plans
     → EndsBy names first plans stop run → stop ≡ None
 ends_by None names first plans run ready new comes ends = refl
-ends_by (Some (Cut at)) names first plans run ready new comes ends = absurd (never_refused names first plans run at ready new comes.cuts ends)
-ends_by (Some (Settle (VersionEnd at))) names first plans run ready new comes ends = absurd (never_last names first plans run at ready comes.versions ends)
-ends_by (Some (Settle (Ring at))) names first plans run ready new comes ends = absurd (never_ring names first plans run at ready comes.rests ends)
-ends_by (Some (Settle (Restless at))) names first plans run ready new comes ends = absurd (never_restless names first plans run at ready comes.rests ends)
+ends_by (Some stop) names first plans run ready new comes ends = absurd (none_shown stop first plans comes (shows stop names first plans run ready new ends))
 
 pub scripts_come_to_end : ScriptsComeToEnd
 scripts_come_to_end names first plans run sound new lawful comes ends = ends_by run.stop names first plans run (record { sound = sound; lawful = lawful }) new comes ends

@@ -1,5 +1,5 @@
--- Where versions and Hears stay below the last version, no settle stops there.
-use Rattle.std.proofs.Common.{◌≡◌, ◌+◌, ◌<◌, ℕ, List, [], ◌∷◌, length, refl, ap, ◌∙◌, subst, arith}
+-- A script that stops at the last version: the first version of some slot and its Hears pass it.
+use Rattle.std.proofs.Common.{◌≡◌, ◌+◌, ◌<◌, ℕ, List, [], ◌∷◌, length, refl, ap, sym, ◌∙◌, subst, arith}
 use Rattle.std.specs.List.{flat_map}
 use Rattle.std.proofs.lemmas.List.Sums.{sum_by-cons}
 use Rattle.mc_signal.specs.declared.Medium.{Medium}
@@ -10,6 +10,9 @@ use Rattle.mc_growth.specs.Joins.{MayJoin, joined}
 use Rattle.mc_growth.proofs.Joined.{length_boxes, same_slot, slots_more}
 use Rattle.mc_grown_script.proofs.Lawful.{asks_end, end_after}
 use Rattle.mc_laws.proofs.HearCounts.{settles_count_hears}
+use Rattle.mc_laws.proofs.ShapesKept.{run_keeps_shape, same_shape, shape_both}
+use Rattle.mc_laws.specs.Versions.{PassesLast}
+use Rattle.mc_model.specs.Shapes.{HasShape}
 use Rattle.mc_laws.proofs.LastMet.{last_is_passed}
 use Rattle.mc_laws.proofs.RunVersions.{versions_count_hears}
 use Rattle.mc_model.specs.Settles.{hears_in, hears_of}
@@ -63,28 +66,57 @@ stays_all (growth ∷ growths) network who local sound may here inside =
 hears_more : (who local : ℕ) (plan : StagePlan) (plans : List StagePlan) → hears_in who local (all_batches (plan ∷ plans)) ≡ hears_of who local (batch_of plan) + hears_in who local (all_batches plans)
 hears_more who local plan plans = sum_by-cons (hears_of who local) (batch_of plan) (all_batches plans)
 
--- a settle counts versions up by the Hears of its batch, so the others may still come
-pub keeps_versions : Keeps PlansMeetNoLast
-keeps_versions network plan plans turns next ready settles below who local =
-    let full = full_world network (plan ∷ plans) in
-    let grown = versions_count_hears full (full_world (network_after network plan next) plans) turns (full_sound network (plan ∷ plans) ready)
-    (full_run network plan plans turns next ready settles.settled.runs) who local in
-    let made = settles_count_hears (grown_for network plan).world next (batch_of plan) turns settles.settled who local in
-    let before = below who local in
-    let more = hears_more who local plan plans in
-    omega (arith, grown, made, before, more)
+-- what the plans that are left say of versions is what all plans say
+pub record StillCounts (start : WorldState) (all : List (List Turn)) (network : GrownState) (plans : List StagePlan) : Type 0 where
+  shape : HasShape (full_world network plans) start
+  counts : (who local : ℕ) → version_at (full_world network plans) who local + hears_in who local (all_batches plans) ≡ version_at start who local + hears_in who local all
 
--- and none stops at the last version
-pub meets_none : (network : GrownState) (plan : StagePlan) (plans : List StagePlan) (turns : List Turn) (at : ℕ) → IsReady network (plan ∷ plans) → PlansMeetNoLast network (plan ∷ plans)
-    → StopsAtLast (grown_for network plan).world (batch_of plan) turns at → ⊥
-meets_none network plan plans turns at ready below stops =
+pub counts_first : (first : GrownState) (plans : List StagePlan) → StillCounts (full_world first plans) (all_batches plans) first plans
+counts_first first plans = record { shape = same_shape (full_world first plans); counts = λ who local. refl }
+
+-- a settle counts versions up by the Hears of its batch
+pub keeps_counts : (start : WorldState) (all : List (List Turn)) → Keeps (StillCounts start all)
+keeps_counts start all network plan plans turns next ready settles still =
+    let full = full_world network (plan ∷ plans) in
+    let later = full_world (network_after network plan next) plans in
+    let sound = full_sound network (plan ∷ plans) ready in
+    let goes = full_run network plan plans turns next ready settles.settled.runs in
+    record {
+      shape = shape_both later full start (run_keeps_shape full later turns sound goes) still.shape;
+      counts = λ who local.
+          let grown = versions_count_hears full later turns sound goes who local in
+          let made = settles_count_hears (grown_for network plan).world next (batch_of plan) turns settles.settled who local in
+          let before = still.counts who local in
+          let more = hears_more who local plan plans in
+          omega (arith, grown, made, before, more);
+    }
+
+-- where a settle stops at the last version, some slot passes it
+pub stop_passes : (start : WorldState) (all : List (List Turn)) (network : GrownState) (plan : StagePlan) (plans : List StagePlan) (turns : List Turn) (at : ℕ) → IsReady network (plan ∷ plans)
+    → StillCounts start all network (plan ∷ plans) → StopsAtLast (grown_for network plan).world (batch_of plan) turns at → PassesLast start (λ who local. hears_in who local all)
+stop_passes start all network plan plans turns at ready still stops =
     let grown = grown_for network plan in
     let sound = sound_for network plan plans ready in
     let one = last_is_passed grown.world stops.last (batch_of plan) turns at sound stops.stopped stops.meets in
-    let stays = stays_all (flat_map growths_of plans) grown one.who one.local sound (asks_end plans grown ready.lawful.2) one.here one.inside in
-    let full : version_at (full_world network (plan ∷ plans)) one.who one.local ≡ version_at grown.world one.who one.local =
-    ap (λ (n : GrownState). version_at n.world one.who one.local) (end_after plan plans network) ∙ stays.version in
+    let stays : StaysAt grown.world (full_world network (plan ∷ plans)) one.who one.local =
+    subst (λ (n : GrownState). StaysAt grown.world n.world one.who one.local) (sym (end_after plan plans network))
+    (stays_all (flat_map growths_of plans) grown one.who one.local sound (asks_end plans grown ready.lawful.2) one.here one.inside) in
+    record {
+      who = one.who;
+      local = one.local;
+      here = subst (λ (n : ℕ). one.who < n) still.shape.boxes stays.here;
+      inside = subst (λ (n : ℕ). one.local < n) (still.shape.alike one.who).slots stays.inside;
+      passes =
+          let same = stays.version in
+          let passes = one.passes in
+          let before = still.counts one.who one.local in
+          let more = hears_more one.who one.local plan plans in
+          omega (arith, same, passes, before, more);
+    }
+
+-- and then it isn't so that none does
+pub meets_none : (first : GrownState) (plans : List StagePlan) → PlansMeetNoLast first plans → PassesLast (full_world first plans) (λ who local. hears_in who local (all_batches plans)) → ⊥
+meets_none first plans below one =
+    let most = below one.who one.local in
     let passes = one.passes in
-    let before = below one.who one.local in
-    let more = hears_more one.who one.local plan plans in
-    omega (arith, full, passes, before, more)
+    omega (arith, most, passes)

@@ -5,12 +5,19 @@ use Rattle.mc_model.specs.Sound.{AreNew, IsSound}
 use Rattle.mc_stages.specs.Plans.{AreLawful}
 use Rattle.mc_stages.specs.declared.plan.StagePlan.{StagePlan}
 use Rattle.mc_text.specs.NameLists.{NameLists}
-use Rattle.mc_grown_script.specs.ScriptRuns.{EndsAs}
+use Rattle.mc_grown_script.specs.ScriptRuns.{EndsAs, StoppedWithin}
+use Rattle.mc_grown_script.specs.declared.stop.GrownStop.{GrownStop}
 use Rattle.mc_grown_script.specs.declared.stop.ScriptRun.{ScriptRun}
-use Rattle.mc_grown_rest.specs.Rests.{ComesToEnd}
+use Rattle.mc_grown_rest.specs.Rests.{ComesToEnd, StopShows}
 
--- From a sound network of new boxes, a script whose plans may be asked for comes to its end, if what it says shows so:
--- no settle stops, and no cut is refused
+-- a script that stops shows so of its plans, from a sound network of new boxes, from which they may be asked for
+abbrev pub StopsShow : Type 0
+StopsShow =
+    (names : NameLists) (first : GrownState) (plans : List StagePlan) (stop : GrownStop) (run : ScriptRun)
+    → IsSound first.world → AreNew first.world.boxes → AreLawful first plans
+    → StoppedWithin names first plans stop run → StopShows first plans stop
+
+-- so one of which the plans show that it comes to its end does: no settle of it stops, and no cut is refused
 abbrev pub ScriptsComeToEnd : Type 0
 ScriptsComeToEnd =
     (names : NameLists) (first : GrownState) (plans : List StagePlan) (run : ScriptRun) → IsSound first.world

@@ -5,14 +5,18 @@ use Rattle.mc_slot.specs.declared.Goal.TheVariants.{Close as ToClose}
 use Rattle.mc_slot.specs.declared.SlotGoal.TheVariants.{End}
 use Rattle.mc_box.specs.declared.event.Turn.{Turn}
 use Rattle.mc_box.specs.declared.limit.TheConstants.{LAST_VERSION, SHIFT_LIMIT}
-use Rattle.mc_growth.specs.Growths.{Cut, GrownState, Growth, Join, grown_by}
+use Rattle.mc_growth.specs.Growths.{Cut as ACut, GrownState, Growth, Join as AJoin, grown_by}
 use Rattle.mc_growth.specs.Outs.{channel_at}
 use Rattle.mc_laws.specs.Chains.{ClosesNoChain}
+use Rattle.mc_laws.specs.Versions.{PassesLast}
 use Rattle.mc_laws.specs.Words.{ShiftsByWords}
 use Rattle.mc_model.specs.Paths.{has_ring}
 use Rattle.mc_model.specs.Settles.{hears_in, is_tell_of}
 use Rattle.mc_model.specs.Unprogrammed.{HasNoPrograms}
 use Rattle.mc_model.specs.Worlds.{WorldState, box_at, goal_of, slot_count, version_at}
+use Rattle.mc_grown_script.specs.declared.stop.GrownStop.{GrownStop}
+use Rattle.mc_grown_script.specs.declared.stop.GrownStop.TheVariants.{Cut, Settle}
+use Rattle.mc_seq.specs.declared.stopping.SettleStop.TheVariants.{Restless, Ring, VersionEnd}
 use Rattle.mc_stages.specs.Plans.{growths_of, grown_at_end}
 use Rattle.mc_stages.specs.declared.plan.StagePlan.{StagePlan}
 use Rattle.mc_grown_rest.specs.Planned.{all_batches, commanded_for}
@@ -38,6 +42,11 @@ PlansLeaveNoRing network (plan ∷ plans) =
 abbrev pub PlansCloseNoChain : GrownState → List StagePlan → Type 0
 PlansCloseNoChain first plans = ClosesNoChain (grown_at_end first plans).world (all_batches plans)
 
+-- no settle meets a ring: no chain can be closed, whatever programs do; or no box has a program, and no plan leaves one
+abbrev pub PlansMakeNoRing : GrownState → List StagePlan → Type 0
+PlansMakeNoRing first plans =
+    PlansCloseNoChain first plans ⊎ (HasNoPrograms first.world × PlansLeaveNoRing first plans)
+
 -- ---- programs
 
 -- a batch tells each box fewer words than it may make Shifts in a settle
@@ -50,21 +59,16 @@ pub record RestsByWords (world : WorldState) (batches : List (List Turn)) : Type
   pub untold : (who : ℕ) → (box_at world who).told ≡ None
   pub few : All TellsFew batches
 
--- ---- settles
-
--- Each settle comes to rest: no box has a program, and after no plan do the goals make a ring; or what the plans and
--- the programs name shows it, whatever the programs do
-abbrev pub PlansAlwaysRest : GrownState → List StagePlan → Type 0
-PlansAlwaysRest first plans =
-    (HasNoPrograms first.world × PlansLeaveNoRing first plans)
-    ⊎ (RestsByWords first.world (all_batches plans) × PlansCloseNoChain first plans)
+-- in each settle programs come to rest: there are none, or they go by words, of which few are told
+abbrev pub ProgramsRest : GrownState → List StagePlan → Type 0
+ProgramsRest first plans = HasNoPrograms first.world ⊎ RestsByWords first.world (all_batches plans)
 
 -- ---- cuts
 
 -- where a channel is cut, each of its slots has the goal close
 abbrev pub CutsAtClose : GrownState → Growth → Type 0
-CutsAtClose network (Join medium from to) = Unit {0}
-CutsAtClose network (Cut channel) =
+CutsAtClose network (AJoin medium from to) = Unit {0}
+CutsAtClose network (ACut channel) =
     (s : ℕ) → s < slot_count network.world → channel_at network.world s ≡ channel
     → goal_of network.world s ≡ End ToClose
 
@@ -82,9 +86,20 @@ ClosesBeforeCuts network (plan ∷ plans) =
 
 -- ---- scripts
 
--- what the plans of a script say shows that it comes to its end: no command meets the last version, each settle comes
--- to rest, and each channel is closed before it is cut
+-- what the plans of a script say shows that it comes to its end: no command meets the last version, no settle meets a
+-- ring, programs come to rest, and each channel is closed before it is cut
 pub record ComesToEnd (first : GrownState) (plans : List StagePlan) : Type 0 where
   pub versions : PlansMeetNoLast first plans
-  pub rests : PlansAlwaysRest first plans
+  pub rings : PlansMakeNoRing first plans
+  pub programs : ProgramsRest first plans
   pub cuts : ClosesBeforeCuts first plans
+
+-- What a stop shows of the plans of a script: at the last version, that the first version of some slot and its Hears
+-- over all plans are more than that together; at a ring, at a restless box and at a cut, that what would rule it out
+-- isn't so
+abbrev pub StopShows : GrownState → List StagePlan → GrownStop → Type 0
+StopShows first plans (Settle (VersionEnd at)) =
+    PassesLast (grown_at_end first plans).world (λ who local. hears_in who local (all_batches plans))
+StopShows first plans (Settle (Ring at)) = PlansMakeNoRing first plans → ⊥
+StopShows first plans (Settle (Restless at)) = ProgramsRest first plans → ⊥
+StopShows first plans (Cut at) = ClosesBeforeCuts first plans → ⊥

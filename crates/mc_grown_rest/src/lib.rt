@@ -1,10 +1,17 @@
 //! Which scripts of networks that grow come to their end: by what their plans say, before any of it is run.
 #![tactic(auto)]
 
-ghost use Rattle.mc_grown_rest.specs.RestLaws.{ScriptsComeToEnd};
+ghost use Rattle.mc_grown_rest.specs.RestLaws.{ScriptsComeToEnd, StopsShow};
 
-/// From a sound network of new boxes, a script whose plans may be asked for comes to its end where no command meets a
-/// last version, each settle comes to rest, and each channel is closed before it is cut.
+/// A script that stops shows this of its plans: at the last version some slot's first version and its Hears are more
+/// than that together; at a ring the goals or named links make one; at a restless box not all programs go by words, of
+/// which few are told; and at a cut the commands before it leave another goal than close at a slot of its channel.
+pub fn stops_show()
+    ensures { StopsShow }
+{}
+
+/// So a script comes to its end where no command meets the last version, no settle meets a ring, programs come to rest,
+/// and the commands before each cut leave the goal close at each slot of its channel.
 pub fn scripts_come_to_end()
     ensures { ScriptsComeToEnd }
 {}
