@@ -24,7 +24,7 @@ use Rattle.mc_laws.proofs.ShapesKept.{same_shape}
 use Rattle.mc_laws.proofs.StepKeeps.{run_keeps_sound}
 use Rattle.mc_model.specs.Paths.{end_goal_of}
 use Rattle.mc_model.specs.Settles.{IsSettled}
-use Rattle.mc_model.specs.Sound.{AreNew, IsSound}
+use Rattle.mc_model.specs.Sound.{IsSound}
 use Rattle.mc_model.specs.Worlds.{WorldState, box_at, goal_of, place, slot_count, slot_of}
 use Rattle.mc_path_laws.proofs.Quiet.{quiet_from}
 use Rattle.mc_stages.specs.Plans.{growths_of}
@@ -32,7 +32,8 @@ use Rattle.mc_stages.specs.StageRuns.{IsCutShort, RefusesGrowth}
 use Rattle.mc_stages.specs.declared.plan.StagePlan.{StagePlan}
 use Rattle.mc_stages.proofs.Grows.{asked_all, sound_one, used_inside}
 use Rattle.mc_grown_rest.specs.Planned.{grown_for, commanded_for}
-use Rattle.mc_grown_rest.specs.Rests.{ClosesBeforeCuts, CutsAllAtClose, CutsAtClose}
+use Rattle.mc_grown_rest.specs.RestLaws.{NewAreClosed}
+use Rattle.mc_grown_rest.specs.Rests.{AreClosed, ClosesBeforeCuts, CutsAllAtClose, CutsAtClose}
 use Rattle.mc_grown_rest.proofs.AsPlanned.{IsSetAs, goal_as, set_after, set_one}
 use Rattle.mc_grown_rest.proofs.JoinedSettings.{count_by_shape}
 use Rattle.mc_grown_rest.proofs.Reaching.{IsReady, Keeps, sound_for}
@@ -43,9 +44,8 @@ use Rattle.mc_grown_rest.proofs.Reaching.{IsReady, Keeps, sound_for}
 abbrev pub ClosedAtClose : WorldState → Type 0
 ClosedAtClose world = (s : ℕ) → s < slot_count world → goal_of world s ≡ End ToClose → (slot_of world s).state ≡ Closed
 
--- it is so in a world of new boxes
-new_closed : (world : WorldState) → IsSound world → AreNew world.boxes → ClosedAtClose world
-new_closed world sound new s inside goal =
+pub new_are_closed : NewAreClosed
+new_are_closed world sound new s inside =
     ap (λ (slot : Slot). slot.state) (new_slot_closed (box_at world (place world s).0) (place world s).1 (new (place world s).0 (sound.numbered.placed s inside)))
 
 -- after a settle
@@ -115,11 +115,11 @@ pub record CutsClosed (network : GrownState) (plans : List StagePlan) : Type 0 w
   pub closed : ClosedAtClose network.world
   pub cuts : ClosesBeforeCuts aim plans
 
-pub cuts_first : (first : GrownState) (plans : List StagePlan) → IsSound first.world → AreNew first.world.boxes → ClosesBeforeCuts first plans → CutsClosed first plans
-cuts_first first plans sound new cuts = record {
+pub cuts_first : (first : GrownState) (plans : List StagePlan) → AreClosed first.world → ClosesBeforeCuts first plans → CutsClosed first plans
+cuts_first first plans closed cuts = record {
   aim = first;
   set = record { shape = same_shape first.world; settings = λ who none. refl };
-  closed = new_closed first.world sound new;
+  closed = λ s inside goal. closed s inside;
   cuts = cuts;
 }
 

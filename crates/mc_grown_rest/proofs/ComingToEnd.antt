@@ -2,7 +2,8 @@
 use Rattle.std.proofs.Common.{◌≡◌, inl, inr, Some, None, Option, List, ◌∷◌, refl, subst, ℕ}
 use Rattle.mc_box.specs.declared.event.Turn.{Turn}
 use Rattle.mc_growth.specs.Growths.{GrownState}
-use Rattle.mc_model.specs.Sound.{AreNew}
+use Rattle.mc_model.specs.Sound.{IsSound}
+use Rattle.mc_stages.specs.Plans.{AreLawful}
 use Rattle.mc_stages.specs.declared.plan.StagePlan.{StagePlan}
 use Rattle.mc_text.specs.NameLists.{NameLists}
 use Rattle.mc_grown_script.specs.ScriptRuns.{EndsBy, StopsStage, StoppedWithin}
@@ -11,7 +12,7 @@ use Rattle.mc_grown_script.specs.declared.stop.GrownStop.TheVariants.{Cut, Settl
 use Rattle.mc_grown_script.specs.declared.stop.ScriptRun.{ScriptRun}
 use Rattle.mc_seq.specs.declared.stopping.SettleStop.TheVariants.{Restless, Ring, VersionEnd}
 use Rattle.mc_grown_rest.specs.RestLaws.{ScriptsComeToEnd, StopsShow}
-use Rattle.mc_grown_rest.specs.Rests.{ClosesBeforeCuts, ComesToEnd, PlansMakeNoRing, ProgramsRest, StopShows}
+use Rattle.mc_grown_rest.specs.Rests.{AreClosed, ClosesBeforeCuts, ComesToEnd, PlansMakeNoRing, ProgramsRest, StopShows}
 use Rattle.mc_grown_rest.proofs.ClosedCuts.{CutsClosed, cuts_first, keeps_closed, none_refused}
 use Rattle.mc_grown_rest.specs.Planned.{all_batches}
 use Rattle.mc_grown_rest.proofs.FullWorlds.{full_world}
@@ -67,21 +68,21 @@ goes_on names first plans run at ready stopped (inr words) =
     let here = stopped_at StillByWords keeps_words names first plans (Settle (Restless at)) run ready (still_first first plans words) stopped in
     words_rest here.last here.plan here.later here.turns at here.ready here.holds here.stops.1
 
-cuts_in_use : (names : NameLists) (first : GrownState) (plans : List StagePlan) (run : ScriptRun) (at : ℕ) → IsReady first plans → AreNew first.world.boxes
+cuts_in_use : (names : NameLists) (first : GrownState) (plans : List StagePlan) (run : ScriptRun) (at : ℕ) → IsReady first plans → AreClosed first.world
     → StoppedWithin names first plans (Cut at) run → ClosesBeforeCuts first plans → ⊥
-cuts_in_use names first plans run at ready new stopped cuts =
-    let here = stopped_at CutsClosed keeps_closed names first plans (Cut at) run ready (cuts_first first plans ready.sound new cuts) stopped in
+cuts_in_use names first plans run at ready closed stopped cuts =
+    let here = stopped_at CutsClosed keeps_closed names first plans (Cut at) run ready (cuts_first first plans closed cuts) stopped in
     none_refused here.last here.plan here.later at here.ready here.holds here.stops.0
 
-shows : (stop : GrownStop) (names : NameLists) (first : GrownState) (plans : List StagePlan) (run : ScriptRun) → IsReady first plans → AreNew first.world.boxes
+shows : (stop : GrownStop) (names : NameLists) (first : GrownState) (plans : List StagePlan) (run : ScriptRun) → IsReady first plans → AreClosed first.world
     → StoppedWithin names first plans stop run → StopShows first plans stop
-shows (Settle (VersionEnd at)) names first plans run ready new stopped = passes_last names first plans run at ready stopped
-shows (Settle (Ring at)) names first plans run ready new stopped = makes_ring names first plans run at ready stopped
-shows (Settle (Restless at)) names first plans run ready new stopped = goes_on names first plans run at ready stopped
-shows (Cut at) names first plans run ready new stopped = cuts_in_use names first plans run at ready new stopped
+shows (Settle (VersionEnd at)) names first plans run ready closed stopped = passes_last names first plans run at ready stopped
+shows (Settle (Ring at)) names first plans run ready closed stopped = makes_ring names first plans run at ready stopped
+shows (Settle (Restless at)) names first plans run ready closed stopped = goes_on names first plans run at ready stopped
+shows (Cut at) names first plans run ready closed stopped = cuts_in_use names first plans run at ready closed stopped
 
 pub stops_show : StopsShow
-stops_show names first plans stop run sound new lawful stopped = shows stop names first plans run (record { sound = sound; lawful = lawful }) new stopped
+stops_show names first plans stop run sound closed lawful stopped = shows stop names first plans run (record { sound = sound; lawful = lawful }) closed stopped
 
 -- ---- so there is none
 
@@ -92,10 +93,15 @@ none_shown (Settle (Ring at)) first plans comes shows = shows comes.rings
 none_shown (Settle (Restless at)) first plans comes shows = shows comes.programs
 none_shown (Cut at) first plans comes shows = shows comes.cuts
 
-ends_by : (stop : Option GrownStop) (names : NameLists) (first : GrownState) (plans : List StagePlan) (run : ScriptRun) → IsReady first plans → AreNew first.world.boxes → ComesToEnd first plans
-    → EndsBy names first plans stop run → stop ≡ None
-ends_by None names first plans run ready new comes ends = refl
-ends_by (Some stop) names first plans run ready new comes ends = absurd (none_shown stop first plans comes (shows stop names first plans run ready new ends))
+-- so it doesn't stop
+pub never_stops : (stop : GrownStop) (names : NameLists) (first : GrownState) (plans : List StagePlan) (run : ScriptRun) → IsSound first.world → AreClosed first.world → AreLawful first plans
+    → ComesToEnd first plans → StoppedWithin names first plans stop run → ⊥
+never_stops stop names first plans run sound closed lawful comes stopped = none_shown stop first plans comes (stops_show names first plans stop run sound closed lawful stopped)
+
+ends_by : (stop : Option GrownStop) (names : NameLists) (first : GrownState) (plans : List StagePlan) (run : ScriptRun) → IsSound first.world → AreClosed first.world → AreLawful first plans
+    → ComesToEnd first plans → EndsBy names first plans stop run → stop ≡ None
+ends_by None names first plans run sound closed lawful comes ends = refl
+ends_by (Some stop) names first plans run sound closed lawful comes ends = absurd (never_stops stop names first plans run sound closed lawful comes ends)
 
 pub scripts_come_to_end : ScriptsComeToEnd
-scripts_come_to_end names first plans run sound new lawful comes ends = ends_by run.stop names first plans run (record { sound = sound; lawful = lawful }) new comes ends
+scripts_come_to_end names first plans run sound closed lawful comes ends = ends_by run.stop names first plans run sound closed lawful comes ends

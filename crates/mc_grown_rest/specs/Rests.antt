@@ -3,6 +3,7 @@ use Rattle.std.specs.Prelude.{◌≡◌, ◌⊎◌, ◌+◌, ◌≤◌, ◌<◌,
 use Rattle.std.specs.List.{All}
 use Rattle.mc_slot.specs.declared.Goal.TheVariants.{Close as ToClose}
 use Rattle.mc_slot.specs.declared.SlotGoal.TheVariants.{End}
+use Rattle.mc_slot.specs.declared.State.TheVariants.{Closed}
 use Rattle.mc_box.specs.declared.event.Turn.{Turn}
 use Rattle.mc_box.specs.declared.limit.TheConstants.{LAST_VERSION, SHIFT_LIMIT}
 use Rattle.mc_growth.specs.Growths.{Cut as ACut, GrownState, Growth, Join as AJoin, grown_by}
@@ -13,7 +14,7 @@ use Rattle.mc_laws.specs.Words.{ShiftsByWords}
 use Rattle.mc_model.specs.Paths.{has_ring}
 use Rattle.mc_model.specs.Settles.{hears_in, is_tell_of}
 use Rattle.mc_model.specs.Unprogrammed.{HasNoPrograms}
-use Rattle.mc_model.specs.Worlds.{WorldState, box_at, goal_of, slot_count, version_at}
+use Rattle.mc_model.specs.Worlds.{WorldState, box_at, goal_of, slot_count, slot_of, version_at}
 use Rattle.mc_grown_script.specs.declared.stop.GrownStop.{GrownStop}
 use Rattle.mc_grown_script.specs.declared.stop.GrownStop.TheVariants.{Cut, Settle}
 use Rattle.mc_seq.specs.declared.stopping.SettleStop.TheVariants.{Restless, Ring, VersionEnd}
@@ -85,6 +86,10 @@ ClosesBeforeCuts network (plan ∷ plans) =
     CutsAllAtClose network (growths_of plan) × ClosesBeforeCuts (commanded_for network plan) plans
 
 -- ---- scripts
+
+-- each slot is closed, as in a network of new boxes
+abbrev pub AreClosed : WorldState → Type 0
+AreClosed world = (s : ℕ) → s < slot_count world → (slot_of world s).state ≡ Closed
 
 -- what the plans of a script say shows that it comes to its end: no command meets the last version, no settle meets a
 -- ring, programs come to rest, and each channel is closed before it is cut

@@ -1,7 +1,12 @@
 //! Which scripts of networks that grow come to their end: by what their plans say, before any of it is run.
 #![tactic(auto)]
 
-ghost use Rattle.mc_grown_rest.specs.RestLaws.{ScriptsComeToEnd, StopsShow};
+ghost use Rattle.mc_grown_rest.specs.RestLaws.{NewAreClosed, ScriptsComeToEnd, StopsShow};
+
+/// All slots of a sound network of new boxes are closed, whatever programs the boxes have.
+pub fn new_are_closed()
+    ensures { NewAreClosed }
+{}
 
 /// A script that stops shows this of its plans: at the last version some slot's first version and its Hears are more
 /// than that together; at a ring the goals or named links make one; at a restless box not all programs go by words, of
