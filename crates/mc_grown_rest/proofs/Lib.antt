@@ -1,11 +1,13 @@
 pub mod AsPlanned
 pub mod ClosedCuts
 pub mod ComingToEnd
+pub mod FirstClosed
 pub mod FullWorlds
 pub mod JoinedSettings
 pub mod LastVersions
 pub mod LeftRings
 pub mod NamedRings
+pub mod NeverStopping
 pub mod Reaching
 pub mod Restless
 pub mod StillRings

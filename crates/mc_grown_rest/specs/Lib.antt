@@ -1,3 +1,4 @@
+pub mod GrowingTexts
 pub mod Planned
 pub mod RestLaws
 pub mod Rests
